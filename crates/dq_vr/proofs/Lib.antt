@@ -1,0 +1,3 @@
+mod Entries
+mod Letters
+mod Rising

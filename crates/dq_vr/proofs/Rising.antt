@@ -1,0 +1,42 @@
+-- The tags of the dictionary rise.
+use Rattle.std.proofs.Common.{◌≡◌, ℕ, ◌<◌, Bool, true, false, List, [], ◌∷◌, length, get_or, Some, refl, arith, zero, suc, ◌&&◌, Contains}
+use Rattle.std.proofs.lemmas.Bool.Decides.{nat_tests}
+use Rattle.dq_vr.specs.declared.Tag.{Tag}
+use Rattle.dq_vr.specs.Tag.{is_below}
+use Rattle.dq_vr.specs.Dictionary.{Entry, tag_of, Rises, dictionary, known_vr}
+use Rattle.dq_vr.proofs.Entries.{vr_in-of_entry}
+
+-- each entry's tag is below the next one's
+rising_after : Entry → List Entry → Bool
+rising_after entry [] = true
+rising_after entry (next ∷ others) = is_below (tag_of entry) (tag_of next) && rising_after next others
+
+is_below-trans : (a b c : Tag) → is_below a b ≡ true → is_below b c ≡ true → is_below a c ≡ true
+unfolding is_below
+is_below-trans a b c p q = grind (arith, nat_tests)
+
+both : (a b : Bool) → (a && b) ≡ true → (a ≡ true) × (b ≡ true)
+both true b h = (refl, h)
+both false b h = absurd (cc)
+
+below_later : (entry : Entry) (xs : List Entry) → rising_after entry xs ≡ true → (k : ℕ) (d : Entry) → k < length xs → is_below (tag_of entry) (tag_of (get_or xs k d)) ≡ true
+unfolding rising_after
+below_later entry [] h k d lt = absurd (omega arith)
+below_later entry (x ∷ xs) h zero d lt = (both _ _ h).0
+below_later entry (x ∷ xs) h (suc k) d lt = is_below-trans (tag_of entry) (tag_of x) (tag_of (get_or xs k d)) (both _ _ h).0 (below_later x xs (both _ _ h).1 k d (omega arith))
+
+rises_from : (entry : Entry) (xs : List Entry) → rising_after entry xs ≡ true → Rises (entry ∷ xs)
+unfolding Rises rising_after
+rises_from entry xs h zero zero d lt within = absurd (omega arith)
+rises_from entry xs h zero (suc j) d lt within = below_later entry xs h j d (omega arith)
+rises_from entry xs h (suc i) zero d lt within = absurd (omega arith)
+rises_from entry [] h (suc i) (suc j) d lt within = absurd (omega arith)
+rises_from entry (x ∷ xs) h (suc i) (suc j) d lt within = rises_from x xs (both _ _ h).1 i j d (omega arith) (omega arith)
+
+pub dictionary_rises : Rises dictionary
+unfolding dictionary rising_after is_below
+dictionary_rises = rises_from _ _ refl
+
+pub entries_told : (entry : Entry) → Contains dictionary entry → known_vr (tag_of entry) ≡ Some entry.2
+unfolding known_vr
+entries_told entry (k, within, here) = vr_in-of_entry dictionary dictionary_rises entry k within here

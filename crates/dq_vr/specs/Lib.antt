@@ -1,0 +1,3 @@
+pub mod Dictionary
+pub mod Tag
+pub mod Vr
