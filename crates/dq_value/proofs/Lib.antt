@@ -1,0 +1,7 @@
+mod Cuts
+mod Kept
+mod Moments
+mod Numbers
+mod Pads
+mod Pieces
+mod Spelled

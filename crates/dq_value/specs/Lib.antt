@@ -1,0 +1,7 @@
+pub mod Day
+pub mod Digits
+pub mod Parts
+pub mod Range
+pub mod Time
+pub mod Trimming
+pub mod Uid

@@ -1,0 +1,62 @@
+-- The values that the octets of an element hold (PS3.5 section 6.4).
+use Rattle.std.specs.Prelude.{◌≡◌, ℕ, ◌<◌, length, Bool, true, false, List, [], ◌∷◌, Option, Some, None, map, nat_eq, if◌then◌else◌}
+use Rattle.std.specs.List.{list_any, join_with_byte}
+use Rattle.dq_vr.specs.declared.Vr.{Vr}
+use Rattle.dq_vr.specs.declared.Vr.TheVariants.{LT, ST, UT, UR, UI}
+use Rattle.dq_vr.specs.Vr.{is_text}
+use Rattle.dq_value.specs.Trimming.{trimmed}
+
+-- a backslash, 5CH, stands between values (PS3.5 section 6.4): in UI, and in character strings but for
+-- LT, ST, UT and UR, whose one value may hold it
+unfoldable pub has_separator : Vr → Bool
+has_separator UI = true
+has_separator LT = false
+has_separator ST = false
+has_separator UT = false
+has_separator UR = false
+has_separator vr = is_text vr
+
+-- an octet joins the first of the pieces behind it
+unfoldable pub joined : ℕ → List (List ℕ) → List (List ℕ)
+joined octet [] = (octet ∷ []) ∷ []
+joined octet (piece ∷ pieces) = (octet ∷ piece) ∷ pieces
+
+-- the pieces before, between and behind the separators
+unfoldable pub pieces : ℕ → List ℕ → List (List ℕ)
+pieces separator [] = [] ∷ []
+pieces separator (octet ∷ others) =
+    if nat_eq octet separator then [] ∷ pieces separator others else joined octet (pieces separator others)
+
+-- the values as they stand, padding included, where there are any
+unfoldable pub pieces_of : Vr → List ℕ → List (List ℕ)
+pieces_of vr octets = if has_separator vr then pieces 0x5c octets else octets ∷ []
+
+-- the values as they stand in what is left, which is nothing after the last
+unfoldable pub pieces_left : Vr → Option (List ℕ) → List (List ℕ)
+pieces_left vr None = []
+pieces_left vr (Some octets) = pieces_of vr octets
+
+-- the values in what is left, each trimmed
+unfoldable pub parts_left : Vr → Option (List ℕ) → List (List ℕ)
+parts_left vr rest = map (trimmed vr) (pieces_left vr rest)
+
+-- nothing is left where nothing but padding is there
+unfoldable pub unless_empty : List ℕ → List ℕ → Option (List ℕ)
+unless_empty octets [] = None
+unless_empty octets (_ ∷ _) = Some octets
+
+-- the values of an element, each trimmed: none where nothing but padding is there
+unfoldable pub parts : Vr → List ℕ → List (List ℕ)
+parts vr octets = parts_left vr (unless_empty octets (trimmed vr octets))
+
+-- a list of pieces is a parting of the octets: joined by the separator they are the octets, and none holds it
+pub record IsParting (separator : ℕ) (octets : List ℕ) (found : List (List ℕ)) : Type 0 where
+  pub whole : join_with_byte separator found ≡ octets
+  pub some : 0 < length found
+  pub free : list_any (list_any (λ octet. nat_eq octet separator)) found ≡ false
+
+-- the only one of a list
+abbrev pub sole : {X : Type 0} → List X → Option X
+sole [] = None
+sole (x ∷ []) = Some x
+sole (x ∷ (y ∷ others)) = None

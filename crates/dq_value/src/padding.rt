@@ -1,0 +1,78 @@
+ghost use Rattle.std.specs.Prelude.{◌≡◌, ℕ, List};
+ghost use Rattle.dq_vr.specs.declared.Vr.{Vr};
+ghost use Rattle.dq_value.specs.Trimming.{is_padded, ignores_leading_spaces, is_space, is_pad, without_leading, without_trailing, unpadded, trimmed, IsTrimming};
+
+use dq_vr::Vr;
+
+/// A value without the padding at its end, spaces and 00H, and without its leading spaces where the
+/// VR gives them no meaning (PS3.5 section 6.2). Values of other VRs than the character strings and UI
+/// stay as they are.
+#[tactic(auto, unfolding(crate::specs::Trimming::trimmed, crate::specs::Trimming::unpadded))]
+pub fn trimmed(vr: Vr, octets: &[u8]) -> &[u8]
+    ensures { result.now ≡ trimmed vr octets.now }
+{
+    let octets = if is_padded(vr) {
+        without_padding(octets)
+    } else {
+        octets
+    };
+    if ignores_leading_spaces(vr) {
+        without_leading_spaces(octets)
+    } else {
+        octets
+    }
+}
+
+/// Trimming takes the padding and nothing else, and all of it.
+pub fn trimming_law()
+    ensures trims { (vr : Vr) (octets : List ℕ)
+        → IsTrimming (ignores_leading_spaces vr) (is_padded vr) octets (trimmed vr octets) }
+    ensures again { (vr : Vr) (octets : List ℕ) → trimmed vr (trimmed vr octets) ≡ trimmed vr octets }
+{}
+
+#[tactic(auto, unfolding(crate::specs::Trimming::is_padded))]
+fn is_padded(vr: Vr) -> bool
+    ensures { result ≡ is_padded vr }
+{
+    match vr {
+        Vr::UI => true,
+        _ => vr.is_text(),
+    }
+}
+
+#[tactic(auto, unfolding(crate::specs::Trimming::ignores_leading_spaces))]
+fn ignores_leading_spaces(vr: Vr) -> bool
+    ensures { result ≡ ignores_leading_spaces vr }
+{
+    matches!(vr, Vr::AE | Vr::CS | Vr::DS | Vr::IS | Vr::LO | Vr::SH)
+}
+
+#[tactic(auto, unfolding(crate::specs::Trimming::without_leading))]
+fn without_leading_spaces(octets: &[u8]) -> &[u8]
+    ensures { result.now ≡ without_leading is_space octets.now }
+{
+    let mut kept = octets;
+    while let Some((b' ', others)) = kept.split_first() {
+        kept = others;
+    }
+    kept
+}
+
+fn without_padding(octets: &[u8]) -> &[u8]
+    ensures { result.now ≡ without_trailing is_pad octets.now }
+{
+    let mut kept = octets;
+    while let Some((last, others)) = kept.split_last() {
+        if !is_pad(*last) {
+            break;
+        }
+        kept = others;
+    }
+    kept
+}
+
+fn is_pad(octet: u8) -> bool
+    ensures { result ≡ is_pad octet }
+{
+    octet == b' ' || octet == 0
+}
