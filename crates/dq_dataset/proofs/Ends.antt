@@ -1,0 +1,171 @@
+-- Checking elements or items one after the other, as a loop does.
+use Rattle.std.proofs.Common.{◌≡◌, ℕ, zero, suc, ◌≤◌, ◌<◌, List, ◌∷◌, length, Option, Some, None, Result, Ok, Err, refl, ap, ◌∙◌, arith}
+use Rattle.dq_vr.specs.declared.Tag.{Tag}
+use Rattle.dq_dataset.specs.declared.fault.ReadFault.{ReadFault}
+use Rattle.dq_dataset.specs.declared.header.Syntax.{Syntax}
+use Rattle.dq_dataset.specs.declared.header.Bound.{Bound}
+use Rattle.dq_dataset.specs.declared.header.Header.{Header}
+use Rattle.dq_dataset.specs.declared.data_set.Element.{Element}
+use Rattle.dq_dataset.specs.declared.data_set.Value.{Value}
+use Rattle.dq_dataset.specs.Tree.{ElementList}
+use Rattle.dq_dataset.specs.Reading.{◌>>=◌, Readers, readers, kept, element_by, elements_by, elements_after, item_by, items_by, items_after}
+use Rattle.dq_dataset.specs.Lending.{rest_of, header_of, item_of}
+use Rattle.dq_dataset.proofs.Fields.{ok_is}
+
+pub record ElementsBehind (bound : Bound) (syntax : Syntax) (levels : ℕ) (all : List ℕ) (last : Option Tag) (rest : List ℕ) : Type 0 where
+  pub shorter : length rest ≤ length all
+  pub told : (n : ℕ) → length all < n → (m : ℕ) × (length rest < m)
+      × (rest_of ((readers n).elements bound syntax levels None all) ≡ rest_of ((readers m).elements bound syntax levels last rest))
+
+pub record ItemsBehind (bound : Bound) (syntax : Syntax) (levels : ℕ) (all rest : List ℕ) : Type 0 where
+  pub shorter : length rest ≤ length all
+  pub told : (n : ℕ) → length all < n → (m : ℕ) × (length rest < m)
+      × (rest_of ((readers n).items bound syntax levels all) ≡ rest_of ((readers m).items bound syntax levels rest))
+
+-- ---- elements
+
+rest_of-kept : (f : List Element → List Element) (read : Result (List Element × List ℕ) ReadFault) → rest_of (read >>= λ x. Ok (f x.0, x.1)) ≡ rest_of read
+rest_of-kept f (Ok x) = refl
+rest_of-kept f (Err e) = refl
+
+-- what the header that was found tells of the reading behind it
+after_header : (r : Readers) (bound : Bound) (syntax : Syntax) (levels : ℕ) (read : Result (Option (Header × Value) × List ℕ) ReadFault) (h : Header) (after : List ℕ)
+    → header_of read ≡ Ok (Some h, after) → rest_of (read >>= λ first. elements_after r bound syntax levels first.0 first.1) ≡ rest_of (r.elements bound syntax levels (Some h.tag) after)
+unfolding elements_after
+after_header r bound syntax levels (Ok (None, rest)) h after e =
+    let bad : None ≡ Some h = ap (λ (x : Option Header × List ℕ). x.0) (ok_is (None, rest) (Some h, after) e) in
+    absurd cc
+after_header r bound syntax levels (Ok (Some first, rest)) h after e =
+    let both = ok_is (Some first.0, rest) (Some h, after) e in
+    let header_is : Some first.0 ≡ Some h = ap (λ (x : Option Header × List ℕ). x.0) both in
+    let same : first.0 ≡ h = cc in
+    let rest_is : rest ≡ after = ap (λ (x : Option Header × List ℕ). x.1) both in
+    rest_of-kept (kept first.0 first.1) (r.elements bound syntax levels (Some first.0.tag) rest) ∙ (λ i. rest_of (r.elements bound syntax levels (Some (same i).tag) (rest_is i)))
+after_header r bound syntax levels (Err f) h after e = absurd cc
+
+after_none : (r : Readers) (bound : Bound) (syntax : Syntax) (levels : ℕ) (read : Result (Option (Header × Value) × List ℕ) ReadFault) (after : List ℕ)
+    → header_of read ≡ Ok (None, after) → rest_of (read >>= λ first. elements_after r bound syntax levels first.0 first.1) ≡ Ok after
+unfolding elements_after
+after_none r bound syntax levels (Ok (None, rest)) after e = ap (λ (x : Option Header × List ℕ). Ok x.1) (ok_is (None, rest) (None, after) e)
+after_none r bound syntax levels (Ok (Some first, rest)) after e =
+    let bad : Some first.0 ≡ None = ap (λ (x : Option Header × List ℕ). x.0) (ok_is (Some first.0, rest) (None, after) e) in
+    absurd cc
+after_none r bound syntax levels (Err f) after e = absurd cc
+
+after_fault : (r : Readers) (bound : Bound) (syntax : Syntax) (levels : ℕ) (read : Result (Option (Header × Value) × List ℕ) ReadFault) (f : ReadFault)
+    → header_of read ≡ Err f → rest_of (read >>= λ first. elements_after r bound syntax levels first.0 first.1) ≡ Err f
+after_fault r bound syntax levels (Ok x) f e = absurd cc
+after_fault r bound syntax levels (Err g) f e = cc
+
+module _ (bound : Bound) (syntax : Syntax) (levels : ℕ) (all : List ℕ) where
+  pub elements_start : ElementsBehind bound syntax levels all None all
+  elements_start = record { shorter = omega arith; told = λ n h. (n, h, refl) }
+
+  module _ (last : Option Tag) (rest : List ℕ) where
+    elements_at : (m : ℕ) → length rest < m → (e : Result (List ℕ) ReadFault) → e ≡ rest_of ((readers m).elements bound syntax levels last rest)
+        → (k : ℕ) × (length rest ≤ k) × (e ≡ rest_of (elements_by (readers k) bound syntax levels last rest))
+    unfolding readers
+    elements_at zero h e is = absurd (omega arith)
+    elements_at (suc m) h e is = (m, omega arith, is)
+
+    pub elements_fail : ElementsBehind bound syntax levels all last rest → (e : ReadFault)
+        → ((n : ℕ) → length rest ≤ n → header_of (element_by (readers n) bound syntax levels last rest) ≡ Err e)
+        → (n : ℕ) → length all < n → rest_of ((readers n).elements bound syntax levels None all) ≡ Err e
+    unfolding elements_by
+    elements_fail left e failed n h =
+        let t = left.told n h in
+        let k = elements_at t.0 t.1 (rest_of ((readers n).elements bound syntax levels None all)) t.2 in
+        k.2 ∙ after_fault (readers k.0) bound syntax levels (element_by (readers k.0) bound syntax levels last rest) e (failed k.0 k.1)
+
+    pub elements_end : ElementsBehind bound syntax levels all last rest → (after : List ℕ)
+        → ((n : ℕ) → length rest ≤ n → header_of (element_by (readers n) bound syntax levels last rest) ≡ Ok (None, after))
+        → (n : ℕ) → length all < n → rest_of ((readers n).elements bound syntax levels None all) ≡ Ok after
+    unfolding elements_by
+    elements_end left after ended n h =
+        let t = left.told n h in
+        let k = elements_at t.0 t.1 (rest_of ((readers n).elements bound syntax levels None all)) t.2 in
+        k.2 ∙ after_none (readers k.0) bound syntax levels (element_by (readers k.0) bound syntax levels last rest) after (ended k.0 k.1)
+
+    pub elements_more : ElementsBehind bound syntax levels all last rest → (h : Header) (after : List ℕ)
+        → ((n : ℕ) → length rest ≤ n → header_of (element_by (readers n) bound syntax levels last rest) ≡ Ok (Some h, after))
+        → length after < length rest → ElementsBehind bound syntax levels all (Some h.tag) after
+    unfolding elements_by
+    elements_more left h after found shorter = record {
+      shorter = omega (arith, left.shorter);
+      told = λ n lt.
+          let t = left.told n lt in
+          let k = elements_at t.0 t.1 (rest_of ((readers n).elements bound syntax levels None all)) t.2 in
+          (k.0, omega (arith, k.1), k.2 ∙ after_header (readers k.0) bound syntax levels (element_by (readers k.0) bound syntax levels last rest) h after (found k.0 k.1));
+    }
+
+-- ---- items
+
+rest_of-first : (d : ElementList) (read : Result (List ElementList × List ℕ) ReadFault) → rest_of (read >>= λ x. Ok (d ∷ x.0, x.1)) ≡ rest_of read
+rest_of-first d (Ok x) = refl
+rest_of-first d (Err e) = refl
+
+after_item : (r : Readers) (bound : Bound) (syntax : Syntax) (levels : ℕ) (read : Result (Option ElementList × List ℕ) ReadFault) (after : List ℕ)
+    → item_of read ≡ Ok (Some tt, after) → rest_of (read >>= λ first. items_after r bound syntax levels first.0 first.1) ≡ rest_of (r.items bound syntax levels after)
+unfolding items_after
+after_item r bound syntax levels (Ok (None, rest)) after e =
+    let bad : None ≡ Some tt = ap (λ (x : Option (Unit {0}) × List ℕ). x.0) (ok_is (None, rest) (Some tt, after) e) in
+    absurd cc
+after_item r bound syntax levels (Ok (Some first, rest)) after e =
+    let same : rest ≡ after = ap (λ (x : Option (Unit {0}) × List ℕ). x.1) (ok_is (Some tt, rest) (Some tt, after) e) in
+    rest_of-first first (r.items bound syntax levels rest) ∙ ap (λ (p : List ℕ). rest_of (r.items bound syntax levels p)) same
+after_item r bound syntax levels (Err f) after e = absurd cc
+
+no_item_after : (r : Readers) (bound : Bound) (syntax : Syntax) (levels : ℕ) (read : Result (Option ElementList × List ℕ) ReadFault) (after : List ℕ)
+    → item_of read ≡ Ok (None, after) → rest_of (read >>= λ first. items_after r bound syntax levels first.0 first.1) ≡ Ok after
+unfolding items_after
+no_item_after r bound syntax levels (Ok (None, rest)) after e = ap (λ (x : Option (Unit {0}) × List ℕ). Ok x.1) (ok_is (None, rest) (None, after) e)
+no_item_after r bound syntax levels (Ok (Some first, rest)) after e =
+    let bad : Some tt ≡ None = ap (λ (x : Option (Unit {0}) × List ℕ). x.0) (ok_is (Some tt, rest) (None, after) e) in
+    absurd cc
+no_item_after r bound syntax levels (Err f) after e = absurd cc
+
+item_fault_after : (r : Readers) (bound : Bound) (syntax : Syntax) (levels : ℕ) (read : Result (Option ElementList × List ℕ) ReadFault) (f : ReadFault)
+    → item_of read ≡ Err f → rest_of (read >>= λ first. items_after r bound syntax levels first.0 first.1) ≡ Err f
+item_fault_after r bound syntax levels (Ok x) f e = absurd cc
+item_fault_after r bound syntax levels (Err g) f e = cc
+
+module _ (bound : Bound) (syntax : Syntax) (levels : ℕ) (all : List ℕ) where
+  pub items_start : ItemsBehind bound syntax levels all all
+  items_start = record { shorter = omega arith; told = λ n h. (n, h, refl) }
+
+  module _ (rest : List ℕ) where
+    items_at : (m : ℕ) → length rest < m → (e : Result (List ℕ) ReadFault) → e ≡ rest_of ((readers m).items bound syntax levels rest)
+        → (k : ℕ) × (length rest ≤ k) × (e ≡ rest_of (items_by (readers k) bound syntax levels rest))
+    unfolding readers
+    items_at zero h e is = absurd (omega arith)
+    items_at (suc m) h e is = (m, omega arith, is)
+
+    pub items_fail : ItemsBehind bound syntax levels all rest → (e : ReadFault)
+        → ((n : ℕ) → length rest ≤ n → item_of (item_by (readers n) bound syntax levels rest) ≡ Err e)
+        → (n : ℕ) → length all < n → rest_of ((readers n).items bound syntax levels all) ≡ Err e
+    unfolding items_by
+    items_fail left e failed n h =
+        let t = left.told n h in
+        let k = items_at t.0 t.1 (rest_of ((readers n).items bound syntax levels all)) t.2 in
+        k.2 ∙ item_fault_after (readers k.0) bound syntax levels (item_by (readers k.0) bound syntax levels rest) e (failed k.0 k.1)
+
+    pub items_end : ItemsBehind bound syntax levels all rest → (after : List ℕ)
+        → ((n : ℕ) → length rest ≤ n → item_of (item_by (readers n) bound syntax levels rest) ≡ Ok (None, after))
+        → (n : ℕ) → length all < n → rest_of ((readers n).items bound syntax levels all) ≡ Ok after
+    unfolding items_by
+    items_end left after ended n h =
+        let t = left.told n h in
+        let k = items_at t.0 t.1 (rest_of ((readers n).items bound syntax levels all)) t.2 in
+        k.2 ∙ no_item_after (readers k.0) bound syntax levels (item_by (readers k.0) bound syntax levels rest) after (ended k.0 k.1)
+
+    pub items_more : ItemsBehind bound syntax levels all rest → (after : List ℕ)
+        → ((n : ℕ) → length rest ≤ n → item_of (item_by (readers n) bound syntax levels rest) ≡ Ok (Some tt, after))
+        → length after < length rest → ItemsBehind bound syntax levels all after
+    unfolding items_by
+    items_more left after found shorter = record {
+      shorter = omega (arith, left.shorter);
+      told = λ n lt.
+          let t = left.told n lt in
+          let k = items_at t.0 t.1 (rest_of ((readers n).items bound syntax levels all)) t.2 in
+          (k.0, omega (arith, k.1), k.2 ∙ after_item (readers k.0) bound syntax levels (item_by (readers k.0) bound syntax levels rest) after (found k.0 k.1));
+    }

@@ -1,0 +1,350 @@
+-- Headers, and the ends of elements and items: what is read is spelled so, and what is spelled so is read.
+use Rattle.std.proofs.Common.{◌≡◌, ℕ, suc, ◌^◌, ◌<◌, ◌≤◌, Bool, true, false, not, cond, ltb, eqb, eq-eqb, ◌&&◌, List, [], ◌∷◌, ◌++◌, length, take, Option, Some, None, Result, Ok, refl, sym, ap, subst, ◌∙◌, append_assoc, lit<, arith}
+use Rattle.std.specs.Int.{w16, w32, from_le_bytes, to_le_bytes}
+use Rattle.std.proofs.lemmas.Bool.{le-ltb, eqb-true, eqb-false, ne_eqb}
+use Rattle.std.proofs.lemmas.List.{drop_at, length-append}
+use Rattle.dq_vr.specs.declared.Tag.{Tag}
+use Rattle.dq_vr.specs.declared.Vr.{Vr}
+use Rattle.dq_vr.specs.declared.LengthForm.{LengthForm}
+use Rattle.dq_vr.specs.declared.LengthForm.TheVariants.{Two, Four}
+use Rattle.dq_vr.specs.Dictionary.{known_vr}
+use Rattle.dq_vr.specs.Vr.{length_form_of, vr_with_letters}
+use Rattle.dq_dataset.specs.declared.fault.ReadFault.{ReadFault}
+use Rattle.dq_dataset.specs.declared.fault.ReadFault.TheVariants.{Truncated, BadVr, TagOrder, BadItem, TooDeep}
+use Rattle.dq_dataset.specs.declared.header.Syntax.{Syntax}
+use Rattle.dq_dataset.specs.declared.header.Syntax.TheVariants.{Implicit, Explicit}
+use Rattle.dq_dataset.specs.declared.header.Content.{Content}
+use Rattle.dq_dataset.specs.declared.header.Bound.{Bound}
+use Rattle.dq_dataset.specs.declared.header.Bound.TheVariants.{Filled, Delimited}
+use Rattle.dq_dataset.specs.declared.header.Header.{Header}
+use Rattle.dq_dataset.specs.Rules.{agrees, content_of, vr_of}
+use Rattle.dq_dataset.specs.Reading.{◌>>=◌, check, number_at, tag_at, long_length_at, length_at, vr_or_fault, vr_at, spelling_at, follows, may_nest, length_of, fits, header_at, item_header_at, end_at}
+use Rattle.dq_dataset.specs.Canonical.{tag_octets}
+use Rattle.dq_dataset.specs.Grammar.{IsLengthBehind, IsSpelling, IsHeader, IsPlaced, IsItemHeader, IsEnd, delimiter}
+use Rattle.dq_dataset.proofs.Fields.{IsBytes, bind_ok, check_ok, ok_is, Takes, Takes-then, wide16, wide32, number_takes, number_again, length_takes, length_again, length_four, tag_takes, tag_again}
+
+IsBytes-rest : (b : ℕ) (bytes : List ℕ) → IsBytes (b ∷ bytes) → IsBytes bytes
+IsBytes-rest b bytes h i = h (suc i)
+
+-- ---- the length behind letters
+
+behind_takes : (form : LengthForm) (bytes : List ℕ) (extent : Option ℕ) (rest : List ℕ) → IsBytes bytes → length_at form bytes ≡ Ok (extent, rest)
+    → (behind : List ℕ) × IsLengthBehind form extent behind × Takes bytes behind rest
+unfolding length_at
+behind_takes Two bytes extent rest ok e =
+    let b = bind_ok (number_at w16 bytes) (λ n. Ok (Some n.0, n.1)) (extent, rest) e in
+    let t = number_takes w16 (2 ^ 16) wide16 bytes b.0.0 b.0.1 ok b.1 in
+    subst (λ (p : Option ℕ × List ℕ). (behind : List ℕ) × IsLengthBehind Two p.0 behind × Takes bytes behind p.1) (ok_is (Some b.0.0, b.0.1) (extent, rest) b.2)
+    (to_le_bytes w16 b.0.0, (t.1, refl), t.0)
+behind_takes Four bytes extent rest ok e =
+    let b = bind_ok (number_at w16 bytes) (λ n. long_length_at n.1) (extent, rest) e in
+    let t = number_takes w16 (2 ^ 16) wide16 bytes b.0.0 b.0.1 ok b.1 in
+    let l = length_takes b.0.1 extent rest t.0.rest_fits b.2 in
+    (to_le_bytes w16 b.0.0 ++ l.0, (to_le_bytes w16 b.0.0, refl, l.0, l.1, refl), Takes-then bytes (to_le_bytes w16 b.0.0) b.0.1 l.0 rest t.0 l.2)
+
+reserved_again : (reserved rest : List ℕ) → length reserved ≡ 2 → number_at w16 (reserved ++ rest) ≡ Ok (from_le_bytes w16 (take 2 (reserved ++ rest)), rest)
+reserved_again reserved rest two =
+    let long : ltb (length (reserved ++ rest)) 2 ≡ false = le-ltb _ _ (omega (arith, length-append reserved rest)) in
+    rw (long, drop_at reserved rest 2 two) refl
+
+behind_again : (form : LengthForm) (extent : Option ℕ) (behind rest : List ℕ) → IsLengthBehind form extent behind → length_at form (behind ++ rest) ≡ Ok (extent, rest)
+unfolding length_at
+behind_again Two None behind rest h = absurd h
+behind_again Two (Some n) behind rest (lt, e) = rw (e, number_again w16 (2 ^ 16) wide16 n rest lt) refl
+behind_again Four extent behind rest (reserved, two, four, is, e) =
+    rw (e, append_assoc reserved four rest, reserved_again reserved (four ++ rest) two) (length_again extent four rest is)
+
+-- ---- the VR and the length
+
+vr_named : (a b : ℕ) (bytes : List ℕ) (vr : Vr) (rest : List ℕ) (o : Option Vr) → vr_with_letters (a ∷ b ∷ []) ≡ o → vr_or_fault o bytes ≡ Ok (vr, rest)
+    → (x : ℕ) × (y : ℕ) × (vr_with_letters (x ∷ y ∷ []) ≡ Some vr) × (a ∷ b ∷ bytes ≡ x ∷ y ∷ rest)
+unfolding vr_or_fault
+vr_named a b bytes vr rest None i h = absurd cc
+vr_named a b bytes vr rest (Some v) i h =
+    let same : (v, bytes) ≡ (vr, rest) = ok_is (v, bytes) (vr, rest) h in
+    (a, b, i ∙ ap (λ (p : Vr × List ℕ). Some p.0) same, ap (λ (p : Vr × List ℕ). a ∷ b ∷ p.1) same)
+
+vr_takes : (bytes : List ℕ) (vr : Vr) (rest : List ℕ) → vr_at bytes ≡ Ok (vr, rest) → (a : ℕ) × (b : ℕ) × (vr_with_letters (a ∷ b ∷ []) ≡ Some vr) × (bytes ≡ a ∷ b ∷ rest)
+unfolding vr_at
+vr_takes [] vr rest e = absurd cc
+vr_takes (a ∷ []) vr rest e = absurd cc
+vr_takes (a ∷ b ∷ bytes) vr rest e = vr_named a b bytes vr rest (vr_with_letters (a ∷ b ∷ [])) refl e
+
+vr_again : (a b : ℕ) (rest : List ℕ) (vr : Vr) → vr_with_letters (a ∷ b ∷ []) ≡ Some vr → vr_at (a ∷ b ∷ rest) ≡ Ok (vr, rest)
+unfolding vr_at vr_or_fault
+vr_again a b rest vr e = rw e refl
+
+pub spelling_takes : (syntax : Syntax) (known : Option Vr) (bytes : List ℕ) (spelled : Option Vr) (extent : Option ℕ) (rest : List ℕ) → IsBytes bytes
+    → spelling_at syntax known bytes ≡ Ok ((spelled, extent), rest) → (behind : List ℕ) × IsSpelling syntax known spelled extent behind × Takes bytes behind rest
+unfolding spelling_at
+spelling_takes Implicit known bytes spelled extent rest ok e =
+    let b = bind_ok (long_length_at bytes) (λ n. Ok ((None, n.0), n.1)) ((spelled, extent), rest) e in
+    let l = length_takes bytes b.0.0 b.0.1 ok b.1 in
+    subst (λ (p : (Option Vr × Option ℕ) × List ℕ). (behind : List ℕ) × IsSpelling Implicit known p.0.0 p.0.1 behind × Takes bytes behind p.1) (ok_is ((None, b.0.0), b.0.1) ((spelled, extent), rest) b.2) l
+spelling_takes Explicit known bytes spelled extent rest ok e =
+    let v = bind_ok (vr_at bytes) (λ vr. check (agrees known vr.0) BadVr >>= λ ok. length_at (length_form_of vr.0) vr.1 >>= λ n. Ok ((Some vr.0, n.0), n.1)) ((spelled, extent), rest) e in
+    let c = check_ok (agrees known v.0.0) BadVr (λ ok. length_at (length_form_of v.0.0) v.0.1 >>= λ n. Ok ((Some v.0.0, n.0), n.1)) ((spelled, extent), rest) v.2 in
+    let b = bind_ok (length_at (length_form_of v.0.0) v.0.1) (λ n. Ok ((Some v.0.0, n.0), n.1)) ((spelled, extent), rest) c.1 in
+    let letters = vr_takes bytes v.0.0 v.0.1 v.1 in
+    let rest_ok : IsBytes v.0.1 = IsBytes-rest letters.1 v.0.1 (IsBytes-rest letters.0 (letters.1 ∷ v.0.1) (subst IsBytes letters.3 ok)) in
+    let l = behind_takes (length_form_of v.0.0) v.0.1 b.0.0 b.0.1 rest_ok b.1 in
+    subst (λ (p : (Option Vr × Option ℕ) × List ℕ). (behind : List ℕ) × IsSpelling Explicit known p.0.0 p.0.1 behind × Takes bytes behind p.1) (ok_is ((Some v.0.0, b.0.0), b.0.1) ((spelled, extent), rest) b.2)
+    (letters.0 ∷ letters.1 ∷ l.0, (c.0, letters.0, letters.1, letters.2, l.0, l.1, refl), record { parts = letters.3 ∙ ap (λ (x : List ℕ). letters.0 ∷ letters.1 ∷ x) l.2.parts; rest_fits = l.2.rest_fits })
+
+pub spelling_again : (syntax : Syntax) (known spelled : Option Vr) (extent : Option ℕ) (behind rest : List ℕ) → IsSpelling syntax known spelled extent behind
+    → spelling_at syntax known (behind ++ rest) ≡ Ok ((spelled, extent), rest)
+unfolding spelling_at
+spelling_again Implicit known None extent behind rest h = rw (length_again extent behind rest h) refl
+spelling_again Implicit known (Some vr) extent behind rest h = absurd h
+spelling_again Explicit known None extent behind rest h = absurd h
+spelling_again Explicit known (Some vr) extent behind rest (agreed, a, b, named, more, is, e) =
+    rw (e, vr_again a b (more ++ rest) vr named, agreed, behind_again (length_form_of vr) extent more rest is) refl
+
+behind_long : (form : LengthForm) (extent : Option ℕ) (behind : List ℕ) → IsLengthBehind form extent behind → 2 ≤ length behind
+behind_long Two None behind h = absurd h
+behind_long Two (Some n) behind (lt, e) = omega (arith, ap length e)
+behind_long Four extent behind (reserved, two, four, is, e) = omega (arith, ap length e, length-append reserved four, two)
+
+pub spelling_long : (syntax : Syntax) (known spelled : Option Vr) (extent : Option ℕ) (behind : List ℕ) → IsSpelling syntax known spelled extent behind → 4 ≤ length behind
+spelling_long Implicit known None extent behind h = omega (arith, length_four extent behind h)
+spelling_long Implicit known (Some vr) extent behind h = absurd h
+spelling_long Explicit known None extent behind h = absurd h
+spelling_long Explicit known (Some vr) extent behind (agreed, a, b, named, more, is, e) =
+    omega (arith, ap length e, behind_long (length_form_of vr) extent more is)
+
+-- ---- the header of an element
+
+abbrev header_of : Tag → Content → Header
+header_of tag content = record { tag = tag; vr = vr_of (known_vr tag) content; content = content }
+
+abbrev whole_step : Tag → Content → List ℕ → Unit {0} → Result (Header × List ℕ) ReadFault
+whole_step tag content rest shallow = check (fits (length_of content) rest) Truncated >>= λ whole. Ok (header_of tag content, rest)
+
+abbrev content_step : ℕ → Tag → List ℕ → Content → Result (Header × List ℕ) ReadFault
+content_step levels tag rest content = check (may_nest levels content) TooDeep >>= whole_step tag content rest
+
+abbrev spelling_step : ℕ → Tag → (Option Vr × Option ℕ) × List ℕ → Result (Header × List ℕ) ReadFault
+spelling_step levels tag spelling = content_of (known_vr tag) spelling.0.0 spelling.0.1 >>= content_step levels tag spelling.1
+
+abbrev rises_step : Syntax → ℕ → Tag → List ℕ → Unit {0} → Result (Header × List ℕ) ReadFault
+rises_step syntax levels tag rest rises = spelling_at syntax (known_vr tag) rest >>= spelling_step levels tag
+
+abbrev placed_step : Syntax → ℕ → Option Tag → Tag → List ℕ → Unit {0} → Result (Header × List ℕ) ReadFault
+placed_step syntax levels last tag rest placed = check (follows last tag) TagOrder >>= rises_step syntax levels tag rest
+
+abbrev tag_step : Syntax → ℕ → Option Tag → Tag × List ℕ → Result (Header × List ℕ) ReadFault
+tag_step syntax levels last tag = check (not (eqb tag.0.group 0xFFFE)) BadItem >>= placed_step syntax levels last tag.0 tag.1
+
+not_true : (b : Bool) → not b ≡ true → b ≡ false
+not_true true e = absurd cc
+not_true false e = refl
+
+-- a header that was read
+pub record ReadsHeader (syntax : Syntax) (levels : ℕ) (last : Option Tag) (bytes : List ℕ) (read : Header) (rest : List ℕ) : Type 0 where
+  pub octets : List ℕ
+  pub takes : Takes bytes octets rest
+  pub placed : IsPlaced last read.tag
+  pub header : IsHeader syntax read.tag read.content octets
+  pub vr : read.vr ≡ vr_of (known_vr read.tag) read.content
+  pub nests : may_nest levels read.content ≡ true
+  pub whole : fits (length_of read.content) rest ≡ true
+
+pub header_takes : (syntax : Syntax) (levels : ℕ) (last : Option Tag) (bytes : List ℕ) (header : Header) (rest : List ℕ) → IsBytes bytes
+    → header_at syntax levels last bytes ≡ Ok (header, rest) → ReadsHeader syntax levels last bytes header rest
+unfolding header_at
+header_takes syntax levels last bytes header rest ok e =
+    let a = bind_ok (tag_at bytes) (tag_step syntax levels last) (header, rest) e in
+    let tag = a.0.0 in
+    let b = check_ok (not (eqb tag.group 0xFFFE)) BadItem (placed_step syntax levels last tag a.0.1) (header, rest) a.2 in
+    let c = check_ok (follows last tag) TagOrder (rises_step syntax levels tag a.0.1) (header, rest) b.1 in
+    let d = bind_ok (spelling_at syntax (known_vr tag) a.0.1) (spelling_step levels tag) (header, rest) c.1 in
+    let f = bind_ok (content_of (known_vr tag) d.0.0.0 d.0.0.1) (content_step levels tag d.0.1) (header, rest) d.2 in
+    let g = check_ok (may_nest levels f.0) TooDeep (whole_step tag f.0 d.0.1) (header, rest) f.2 in
+    let h = check_ok (fits (length_of f.0) d.0.1) Truncated (λ whole. Ok (header_of tag f.0, d.0.1)) (header, rest) g.1 in
+    let t = tag_takes bytes tag a.0.1 ok a.1 in
+    let s = spelling_takes syntax (known_vr tag) a.0.1 d.0.0.0 d.0.0.1 d.0.1 t.0.rest_fits d.1 in
+    let found : ReadsHeader syntax levels last bytes (header_of tag f.0) d.0.1 = record {
+      octets = tag_octets tag ++ s.0;
+      takes = Takes-then bytes (tag_octets tag) a.0.1 s.0 d.0.1 t.0 s.2;
+      placed = record { rises = c.0; no_delimiter = eqb-false tag.group 0xFFFE (not_true _ b.0); group = t.1; number = t.2 };
+      header = record { spelled = d.0.0.0; extent = d.0.0.1; allowed = f.1; behind = s.0; spelling = s.1; whole = refl };
+      vr = refl;
+      nests = g.0;
+      whole = h.0;
+    } in
+    subst (λ (p : Header × List ℕ). ReadsHeader syntax levels last bytes p.0 p.1) (ok_is (header_of tag f.0, d.0.1) (header, rest) h.1) found
+
+pub header_again : (syntax : Syntax) (levels : ℕ) (last : Option Tag) (tag : Tag) (content : Content) (octets rest : List ℕ)
+    → IsPlaced last tag → IsHeader syntax tag content octets → may_nest levels content ≡ true → fits (length_of content) rest ≡ true
+    → header_at syntax levels last (octets ++ rest) ≡ Ok (header_of tag content, rest)
+unfolding header_at
+header_again syntax levels last tag content octets rest placed header nests whole =
+    let long : 4 ≤ length (header.behind ++ rest) = omega (arith, length-append header.behind rest, spelling_long syntax (known_vr tag) header.spelled header.extent header.behind header.spelling) in
+    let e : octets ++ rest ≡ tag_octets tag ++ (header.behind ++ rest) = ap (λ (x : List ℕ). x ++ rest) header.whole ∙ append_assoc (tag_octets tag) header.behind rest in
+    let other : eqb tag.group 0xFFFE ≡ false = ne_eqb tag.group 0xFFFE placed.no_delimiter in
+    let allowed = header.allowed in
+    rw (e, tag_again tag (header.behind ++ rest) placed.group placed.number long, other, placed.rises, spelling_again syntax (known_vr tag) header.spelled header.extent header.behind rest header.spelling, allowed, nests, whole) refl
+
+-- a header has at least 8 octets
+pub header_long : (syntax : Syntax) (tag : Tag) (content : Content) (octets : List ℕ) → IsHeader syntax tag content octets → 8 ≤ length octets
+header_long syntax tag content octets header =
+    omega (arith, ap length header.whole, length-append (tag_octets tag) header.behind, spelling_long syntax (known_vr tag) header.spelled header.extent header.behind header.spelling)
+
+-- ---- the header of an item
+
+abbrev item_length_step : Option ℕ × List ℕ → Result (Option ℕ × List ℕ) ReadFault
+item_length_step n = check (fits n.0 n.1) Truncated >>= λ whole. Ok n
+
+abbrev item_step : Tag × List ℕ → Result (Option ℕ × List ℕ) ReadFault
+item_step tag = check (eqb tag.0.group 0xFFFE && eqb tag.0.element 0xE000) BadItem >>= λ is_item. long_length_at tag.1 >>= item_length_step
+
+both_true : (a b : Bool) → (a && b) ≡ true → (a ≡ true) × (b ≡ true)
+both_true true b e = (refl, e)
+both_true false b e = absurd cc
+
+pub delimiter_is : (tag : Tag) (element : ℕ) → (eqb tag.group 0xFFFE && eqb tag.element element) ≡ true → tag ≡ record { group = 0xFFFE; element = element }
+delimiter_is tag element e =
+    let both = both_true _ _ e in
+    let g = eqb-true tag.group 0xFFFE both.0 in
+    let n = eqb-true tag.element element both.1 in
+    λ i. record { group = g i; element = n i }
+
+pub record ReadsItem (bytes : List ℕ) (extent : Option ℕ) (rest : List ℕ) : Type 0 where
+  pub octets : List ℕ
+  pub takes : Takes bytes octets rest
+  pub header : IsItemHeader extent octets
+  pub whole : fits extent rest ≡ true
+
+pub item_takes : (bytes : List ℕ) (extent : Option ℕ) (rest : List ℕ) → IsBytes bytes → item_header_at bytes ≡ Ok (extent, rest) → ReadsItem bytes extent rest
+unfolding item_header_at
+item_takes bytes extent rest ok e =
+    let a = bind_ok (tag_at bytes) item_step (extent, rest) e in
+    let c = check_ok (eqb a.0.0.group 0xFFFE && eqb a.0.0.element 0xE000) BadItem (λ is_item. long_length_at a.0.1 >>= item_length_step) (extent, rest) a.2 in
+    let b = bind_ok (long_length_at a.0.1) item_length_step (extent, rest) c.1 in
+    let w = check_ok (fits b.0.0 b.0.1) Truncated (λ whole. Ok b.0) (extent, rest) b.2 in
+    let t = tag_takes bytes a.0.0 a.0.1 ok a.1 in
+    let l = length_takes a.0.1 b.0.0 b.0.1 t.0.rest_fits b.1 in
+    let is = delimiter_is a.0.0 0xE000 c.0 in
+    let found : ReadsItem bytes b.0.0 b.0.1 = record {
+      octets = tag_octets a.0.0 ++ l.0;
+      takes = Takes-then bytes (tag_octets a.0.0) a.0.1 l.0 b.0.1 t.0 l.2;
+      header = record { four = l.0; is_length = l.1; whole = ap (λ (x : Tag). tag_octets x ++ l.0) is };
+      whole = w.0;
+    } in
+    subst (λ (p : Option ℕ × List ℕ). ReadsItem bytes p.0 p.1) (ok_is b.0 (extent, rest) w.1) found
+
+pub item_again : (extent : Option ℕ) (octets rest : List ℕ) → IsItemHeader extent octets → fits extent rest ≡ true → item_header_at (octets ++ rest) ≡ Ok (extent, rest)
+unfolding item_header_at
+item_again extent octets rest header whole =
+    let item : Tag = record { group = 0xFFFE; element = 0xE000 } in
+    let long : 4 ≤ length (header.four ++ rest) = omega (arith, length-append header.four rest, length_four extent header.four header.is_length) in
+    let e : octets ++ rest ≡ tag_octets item ++ (header.four ++ rest) = ap (λ (x : List ℕ). x ++ rest) header.whole ∙ append_assoc (tag_octets item) header.four rest in
+    rw (e, tag_again item (header.four ++ rest) (lit< tt) (lit< tt) long, length_again extent header.four rest header.is_length, whole) refl
+
+pub item_long : (extent : Option ℕ) (octets : List ℕ) → IsItemHeader extent octets → 8 ≤ length octets
+item_long extent octets header = omega (arith, ap length header.whole, length-append (delimiter 0xE000) header.four, length_four extent header.four header.is_length)
+
+-- ---- ends
+
+-- what may be left behind a bound: nothing where the octets are filled
+abbrev pub Trails : Bound → List ℕ → Type 0
+Trails Filled rest = rest ≡ []
+Trails Delimited rest = Unit {0}
+
+nothing_left : (bytes : List ℕ) → eqb (length bytes) 0 ≡ true → bytes ≡ []
+nothing_left [] e = refl
+nothing_left (b ∷ bytes) e = absurd (omega (arith, eqb-true (length (b ∷ bytes)) 0 e))
+
+some_is : (x y : List ℕ) → Some x ≡ Some y → x ≡ y
+some_is x y e = cc
+
+abbrev ended : Bool → List ℕ → Option (List ℕ)
+ended b bytes = cond b (Some bytes) None
+
+filled_end : (b : Bool) (bytes rest : List ℕ) → ended b bytes ≡ Some rest → (b ≡ true) × (bytes ≡ rest)
+filled_end true bytes rest e = (refl, some_is bytes rest e)
+filled_end false bytes rest e = absurd cc
+
+abbrev zero_step : ℕ × List ℕ → Result (Option (List ℕ)) ReadFault
+zero_step n = check (eqb n.0 0) BadItem >>= λ ok. Ok (Some n.1)
+
+abbrev end_step : ℕ → Tag × List ℕ → Result (Option (List ℕ)) ReadFault
+end_step end tag = cond (eqb tag.0.group 0xFFFE && eqb tag.0.element end) (number_at w32 tag.1 >>= zero_step) (Ok None)
+
+delimited_end : (b : Bool) (r : Result (Option (List ℕ)) ReadFault) (rest : List ℕ) → cond b r (Ok None) ≡ Ok (Some rest) → (b ≡ true) × (r ≡ Ok (Some rest))
+delimited_end true r rest e = (refl, e)
+delimited_end false r rest e = absurd cc
+
+pub record ReadsEnd (bound : Bound) (end : ℕ) (bytes rest : List ℕ) : Type 0 where
+  pub octets : List ℕ
+  pub takes : Takes bytes octets rest
+  pub is_end : IsEnd bound end octets
+  pub trails : Trails bound rest
+
+pub end_takes : (bound : Bound) (end : ℕ) (bytes rest : List ℕ) → IsBytes bytes → end_at bound end bytes ≡ Ok (Some rest) → ReadsEnd bound end bytes rest
+unfolding end_at
+end_takes Filled end bytes rest ok e =
+    let f = filled_end (eqb (length bytes) 0) bytes rest (ok_is _ _ e) in
+    let none = nothing_left bytes f.0 in
+    record { octets = []; takes = record { parts = f.1; rest_fits = subst IsBytes f.1 ok }; is_end = refl; trails = sym f.1 ∙ none }
+end_takes Delimited end bytes rest ok e =
+    let a = bind_ok (tag_at bytes) (end_step end) (Some rest) e in
+    let d = delimited_end (eqb a.0.0.group 0xFFFE && eqb a.0.0.element end) (number_at w32 a.0.1 >>= zero_step) rest a.2 in
+    let n = bind_ok (number_at w32 a.0.1) zero_step (Some rest) d.1 in
+    let z = check_ok (eqb n.0.0 0) BadItem (λ ok. Ok (Some n.0.1)) (Some rest) n.2 in
+    let t = tag_takes bytes a.0.0 a.0.1 ok a.1 in
+    let v = number_takes w32 (2 ^ 32) wide32 a.0.1 n.0.0 n.0.1 t.0.rest_fits n.1 in
+    let is = delimiter_is a.0.0 end d.0 in
+    let zero_is = eqb-true n.0.0 0 z.0 in
+    let both = Takes-then bytes (tag_octets a.0.0) a.0.1 (to_le_bytes w32 n.0.0) n.0.1 t.0 v.0 in
+    let same = some_is n.0.1 rest (ok_is (Some n.0.1) (Some rest) z.1) in
+    record {
+      octets = tag_octets a.0.0 ++ to_le_bytes w32 n.0.0;
+      takes = subst (λ (x : List ℕ). Takes bytes (tag_octets a.0.0 ++ to_le_bytes w32 n.0.0) x) same both;
+      is_end = λ i. tag_octets (is i) ++ to_le_bytes w32 (zero_is i);
+      trails = tt;
+    }
+
+pub end_again : (bound : Bound) (end : ℕ) (octets rest : List ℕ) → end < 2 ^ 16 → IsEnd bound end octets → Trails bound rest → end_at bound end (octets ++ rest) ≡ Ok (Some rest)
+unfolding end_at
+end_again Filled end octets rest lt is trails = rw (is, trails) refl
+end_again Delimited end octets rest lt is trails =
+    let tag : Tag = record { group = 0xFFFE; element = end } in
+    let long : 4 ≤ length (to_le_bytes w32 0 ++ rest) = omega (arith, length-append (to_le_bytes w32 0) rest) in
+    let e : octets ++ rest ≡ tag_octets tag ++ (to_le_bytes w32 0 ++ rest) = ap (λ (x : List ℕ). x ++ rest) is ∙ append_assoc (tag_octets tag) (to_le_bytes w32 0) rest in
+    let same : eqb end end ≡ true = eq-eqb end end refl in
+    rw (e, tag_again tag (to_le_bytes w32 0 ++ rest) (lit< tt) lt long, same, number_again w32 (2 ^ 32) wide32 0 rest (lit< tt)) refl
+
+-- no end stands where another tag does
+pub end_other : (bound : Bound) (end : ℕ) (tag : Tag) (behind : List ℕ) → tag.group < 2 ^ 16 → tag.element < 2 ^ 16 → 4 ≤ length behind
+    → (eqb tag.group 0xFFFE && eqb tag.element end) ≡ false → end_at bound end (tag_octets tag ++ behind) ≡ Ok None
+unfolding end_at
+end_other Filled end tag behind g n long other =
+    let some : eqb (length (tag_octets tag ++ behind)) 0 ≡ false = ne_eqb _ _ (λ e. omega (arith, length-append (tag_octets tag) behind)) in
+    rw some refl
+end_other Delimited end tag behind g n long other = rw (tag_again tag behind g n long, other) refl
+
+-- ---- the length of what was read is no longer than what is left
+
+pub header_fits : (syntax : Syntax) (levels : ℕ) (last : Option Tag) (bytes : List ℕ) (header : Header) (rest : List ℕ)
+    → header_at syntax levels last bytes ≡ Ok (header, rest) → fits (length_of header.content) rest ≡ true
+unfolding header_at
+header_fits syntax levels last bytes header rest e =
+    let a = bind_ok (tag_at bytes) (tag_step syntax levels last) (header, rest) e in
+    let tag = a.0.0 in
+    let b = check_ok (not (eqb tag.group 0xFFFE)) BadItem (placed_step syntax levels last tag a.0.1) (header, rest) a.2 in
+    let c = check_ok (follows last tag) TagOrder (rises_step syntax levels tag a.0.1) (header, rest) b.1 in
+    let d = bind_ok (spelling_at syntax (known_vr tag) a.0.1) (spelling_step levels tag) (header, rest) c.1 in
+    let f = bind_ok (content_of (known_vr tag) d.0.0.0 d.0.0.1) (content_step levels tag d.0.1) (header, rest) d.2 in
+    let g = check_ok (may_nest levels f.0) TooDeep (whole_step tag f.0 d.0.1) (header, rest) f.2 in
+    let h = check_ok (fits (length_of f.0) d.0.1) Truncated (λ whole. Ok (header_of tag f.0, d.0.1)) (header, rest) g.1 in
+    subst (λ (p : Header × List ℕ). fits (length_of p.0.content) p.1 ≡ true) (ok_is (header_of tag f.0, d.0.1) (header, rest) h.1) h.0
+
+pub item_fits : (bytes : List ℕ) (extent : Option ℕ) (rest : List ℕ) → item_header_at bytes ≡ Ok (extent, rest) → fits extent rest ≡ true
+unfolding item_header_at
+item_fits bytes extent rest e =
+    let a = bind_ok (tag_at bytes) item_step (extent, rest) e in
+    let c = check_ok (eqb a.0.0.group 0xFFFE && eqb a.0.0.element 0xE000) BadItem (λ is_item. long_length_at a.0.1 >>= item_length_step) (extent, rest) a.2 in
+    let b = bind_ok (long_length_at a.0.1) item_length_step (extent, rest) c.1 in
+    let w = check_ok (fits b.0.0 b.0.1) Truncated (λ whole. Ok b.0) (extent, rest) b.2 in
+    subst (λ (p : Option ℕ × List ℕ). fits p.0 p.1 ≡ true) (ok_is b.0 (extent, rest) w.1) w.0

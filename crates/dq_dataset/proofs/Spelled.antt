@@ -1,0 +1,109 @@
+-- Writing elements or items one after the other, as a loop does.
+use Rattle.std.proofs.Common.{◌≡◌, ℕ, zero, suc, ◌+◌, ◌≤◌, ◌<◌, List, [], ◌∷◌, ◌++◌, length, get_or, drop, sym, ap, ◌∙◌, append_assoc, arith}
+use Rattle.std.proofs.lemmas.List.{append-nil, drop_all}
+use Rattle.std.proofs.Common.{add-one, drop-cons}
+use Rattle.dq_vr.specs.declared.Tag.{Tag}
+use Rattle.dq_vr.specs.declared.Vr.{Vr}
+use Rattle.dq_dataset.specs.declared.header.Syntax.{Syntax}
+use Rattle.dq_dataset.specs.declared.data_set.Element.{Element}
+use Rattle.dq_dataset.specs.declared.data_set.Value.{Value}
+use Rattle.dq_dataset.specs.declared.data_set.Value.TheVariants.{Octets, Items}
+use Rattle.dq_dataset.specs.Tree.{ElementList, no_elements, item_count, items_count}
+use Rattle.dq_dataset.specs.View.{as_elements, items_of, with_value}
+use Rattle.dq_dataset.specs.Canonical.{canonical, canonical_items, item_header_of, HasLengths, ItemsHaveLengths}
+use Rattle.dq_dataset.specs.Parts.{canonical_element, ElementHasLengths}
+
+abbrev pub count_in : Element → ℕ
+count_in e = item_count (with_value e e.value no_elements)
+
+element_count : (t : Tag) (v : Vr) (x : Value) (rest : ElementList)
+    → item_count (with_value (record { tag = t; vr = v; value = x }) x rest) ≡ count_in (record { tag = t; vr = v; value = x }) + item_count rest
+element_count t v (Octets o) rest = omega arith
+element_count t v (Items ds) rest = omega arith
+
+pub count-cons : (e : Element) (es : List Element) → item_count (as_elements (e ∷ es)) ≡ count_in e + item_count (as_elements es)
+count-cons e es = element_count e.tag e.vr e.value (as_elements es)
+
+abbrev one : Tag → Vr → Value → Element
+one t v x = record { tag = t; vr = v; value = x }
+
+canonical_value : (s : Syntax) (t : Tag) (v : Vr) (x : Value) (rest : ElementList)
+    → canonical s (with_value (one t v x) x rest) ≡ canonical_element s (one t v x) ++ canonical s rest
+canonical_value s t v (Octets o) rest = simp (append_assoc, append-nil)
+canonical_value s t v (Items ds) rest = simp (append_assoc, append-nil)
+
+pub canonical-cons : (s : Syntax) (e : Element) (es : List Element) → canonical s (as_elements (e ∷ es)) ≡ canonical_element s e ++ canonical s (as_elements es)
+canonical-cons s e es = canonical_value s e.tag e.vr e.value (as_elements es)
+
+lengths_value : (s : Syntax) (t : Tag) (v : Vr) (x : Value) (rest : ElementList)
+    → HasLengths s (with_value (one t v x) x rest) → ElementHasLengths s (one t v x) × HasLengths s rest
+lengths_value s t v (Octets o) rest h = ((h.0, tt), h.1)
+lengths_value s t v (Items ds) rest h = ((h.0, h.1, tt), h.2)
+
+pub lengths-cons : (s : Syntax) (e : Element) (es : List Element) → HasLengths s (as_elements (e ∷ es)) → ElementHasLengths s e × HasLengths s (as_elements es)
+lengths-cons s e es h = lengths_value s e.tag e.vr e.value (as_elements es) h
+
+-- what is written, and what is left
+pub record ElementsToWrite (s : Syntax) (all : List Element) (before out : List ℕ) (i : ℕ) : Type 0 where
+  pub lengths : HasLengths s (as_elements (drop i all))
+  pub told : out ++ canonical s (as_elements (drop i all)) ≡ before ++ canonical s (as_elements all)
+
+pub record ItemsToWrite (s : Syntax) (all : List ElementList) (before out : List ℕ) (i : ℕ) : Type 0 where
+  pub lengths : ItemsHaveLengths s (items_of (drop i all))
+  pub told : out ++ canonical_items s (items_of (drop i all)) ≡ before ++ canonical_items s (items_of all)
+
+module _ (s : Syntax) (all : List Element) (before out : List ℕ) (i : ℕ) (left : ElementsToWrite s all before out i) where
+  pub next_element : (e : Element) → i < length all → e ≡ get_or all i e
+      → ElementHasLengths s e × HasLengths s (as_elements (drop (i + 1) all)) × (count_in e ≤ item_count (as_elements (drop i all)))
+  next_element e lt is =
+      let parts : drop i all ≡ e ∷ drop (i + 1) all = rw add-one (drop-cons all i e lt ∙ ap (λ (x : Element). x ∷ drop (suc i) all) (sym is)) in
+      let h = lengths-cons s e (drop (i + 1) all) (rw parts at left.lengths) in
+      (h.0, h.1, rw parts (omega (arith, count-cons e (drop (i + 1) all))))
+
+  pub element_written : (e : Element) → i < length all → e ≡ get_or all i e → ElementsToWrite s all before (out ++ canonical_element s e) (i + 1)
+  element_written e lt is =
+      let parts : drop i all ≡ e ∷ drop (i + 1) all = rw add-one (drop-cons all i e lt ∙ ap (λ (x : Element). x ∷ drop (suc i) all) (sym is)) in
+      record {
+        lengths = (next_element e lt is).1;
+        told = append_assoc out (canonical_element s e) (canonical s (as_elements (drop (i + 1) all)))
+            ∙ ap (λ (x : List ℕ). out ++ x) (sym (canonical-cons s e (drop (i + 1) all)))
+            ∙ ap (λ (x : List Element). out ++ canonical s (as_elements x)) (sym parts) ∙ left.told;
+      }
+
+  pub elements_written : length all ≤ i → out ≡ before ++ canonical s (as_elements all)
+  elements_written le =
+      let none : drop i all ≡ [] = drop_all i all le in
+      sym (append-nil out) ∙ ap (λ (x : List Element). out ++ canonical s (as_elements x)) (sym none) ∙ left.told
+
+module _ (s : Syntax) (all : List ElementList) (before out : List ℕ) (i : ℕ) (left : ItemsToWrite s all before out i) where
+  pub next_item : (d : ElementList) → i < length all → d ≡ get_or all i d
+      → (length (canonical s d) < 0xFFFFFFFF) × HasLengths s d × ItemsHaveLengths s (items_of (drop (i + 1) all)) × (item_count d < items_count (items_of (drop i all)))
+  next_item d lt is =
+      let parts : drop i all ≡ d ∷ drop (i + 1) all = rw add-one (drop-cons all i d lt ∙ ap (λ (x : ElementList). x ∷ drop (suc i) all) (sym is)) in
+      let h = rw parts at left.lengths in
+      (h.0, h.1, h.2, rw parts (omega arith))
+
+  pub item_written : (d : ElementList) → i < length all → d ≡ get_or all i d
+      → ItemsToWrite s all before (out ++ item_header_of (length (canonical s d)) ++ canonical s d) (i + 1)
+  item_written d lt is =
+      let parts : drop i all ≡ d ∷ drop (i + 1) all = rw add-one (drop-cons all i d lt ∙ ap (λ (x : ElementList). x ∷ drop (suc i) all) (sym is)) in
+      let joined : (out ++ item_header_of (length (canonical s d)) ++ canonical s d) ++ canonical_items s (items_of (drop (i + 1) all)) ≡ out ++ canonical_items s (items_of (d ∷ drop (i + 1) all)) = simp append_assoc in
+      record {
+        lengths = (next_item d lt is).2;
+        told = joined ∙ ap (λ (x : List ElementList). out ++ canonical_items s (items_of x)) (sym parts) ∙ left.told;
+      }
+
+  pub items_written : length all ≤ i → out ≡ before ++ canonical_items s (items_of all)
+  items_written le =
+      let none : drop i all ≡ [] = drop_all i all le in
+      sym (append-nil out) ∙ ap (λ (x : List ElementList). out ++ canonical_items s (items_of x)) (sym none) ∙ left.told
+
+pub count-drop : (i : ℕ) (es : List Element) → item_count (as_elements (drop i es)) ≤ item_count (as_elements es)
+count-drop zero es = omega arith
+count-drop (suc i) [] = omega arith
+count-drop (suc i) (e ∷ es) = omega (arith, count-drop i es, count-cons e es)
+
+pub items_count-drop : (i : ℕ) (ds : List ElementList) → items_count (items_of (drop i ds)) ≤ items_count (items_of ds)
+items_count-drop zero ds = omega arith
+items_count-drop (suc i) [] = omega arith
+items_count-drop (suc i) (d ∷ ds) = omega (arith, items_count-drop i ds)

@@ -1,0 +1,144 @@
+-- The canonical spelling of a data set is at most twice as long as any other.
+use Rattle.std.proofs.Common.{◌≡◌, ℕ, ◌+◌, ◌*◌, ◌%◌, ◌^◌, ◌<◌, ◌≤◌, Bool, true, false, cond, ltb, List, [], ◌∷◌, ◌++◌, length, Option, Some, None, refl, sym, ap, subst, arith}
+use Rattle.std.specs.Prelude.{nat_eq}
+use Rattle.std.specs.Int.{w16, w32, to_le_bytes}
+use Rattle.std.proofs.lemmas.List.{length-append}
+use Rattle.dq_vr.specs.declared.Tag.{Tag}
+use Rattle.dq_vr.specs.declared.Vr.{Vr}
+use Rattle.dq_vr.specs.declared.Vr.TheVariants.{UN}
+use Rattle.dq_vr.specs.declared.LengthForm.{LengthForm}
+use Rattle.dq_vr.specs.declared.LengthForm.TheVariants.{Two, Four}
+use Rattle.dq_vr.specs.Dictionary.{known_vr}
+use Rattle.dq_vr.specs.Vr.{length_form_of, letters_of}
+use Rattle.dq_dataset.specs.declared.header.Syntax.{Syntax}
+use Rattle.dq_dataset.specs.declared.header.Syntax.TheVariants.{Implicit, Explicit}
+use Rattle.dq_dataset.specs.declared.header.Content.{Content}
+use Rattle.dq_dataset.specs.declared.header.Bound.{Bound}
+use Rattle.dq_dataset.specs.declared.data_set.Value.{Value}
+use Rattle.dq_dataset.specs.declared.data_set.Value.TheVariants.{Octets, Items}
+use Rattle.dq_dataset.specs.Tree.{ElementList, ItemList, item}
+use Rattle.dq_dataset.specs.View.{items_of, with_value}
+use Rattle.dq_dataset.specs.Rules.{vr_of, padded, pad_of}
+use Rattle.dq_dataset.specs.Canonical.{tag_octets, long_length, vr_and_length, header_of, item_header_of, canonical, canonical_items, HasLengths, ItemsHaveLengths}
+use Rattle.dq_dataset.specs.Grammar.{Spells, no_more, more, SpellsValue, plain, nested, SpellsItems, no_item, one_item, bound_of, IsSpelled}
+use Rattle.dq_dataset.proofs.Headers.{header_long, item_long}
+use Rattle.dq_dataset.proofs.WrittenIsSpelled.{two_letters}
+
+length-letters : (vr : Vr) → length (letters_of vr) ≡ 2
+length-letters vr = ap length (two_letters vr).are
+
+length-long : (n : ℕ) → length (long_length n) ≡ 6
+length-long n = refl
+
+length-choice : (b : Bool) (vr : Vr) (n : ℕ) → length (cond b (letters_of UN ++ long_length n) (letters_of vr ++ to_le_bytes w16 n)) ≤ 8
+length-choice true vr n = omega (arith, length-append (letters_of UN) (long_length n), length-letters UN, length-long n)
+length-choice false vr n = omega (arith, length-append (letters_of vr) (to_le_bytes w16 n), length-letters vr)
+
+length-vr_and_length : (form : LengthForm) (vr : Vr) (n : ℕ) → length (vr_and_length form vr n) ≤ 8
+unfolding vr_and_length
+length-vr_and_length Two vr n = length-choice (ltb 65534 n) vr n
+length-vr_and_length Four vr n = omega (arith, length-append (letters_of vr) (long_length n), length-letters vr, length-long n)
+
+length-header_of : (syntax : Syntax) (tag : Tag) (vr : Vr) (n : ℕ) → length (header_of syntax tag vr n) ≤ 12
+unfolding header_of
+length-header_of Implicit tag vr n = omega (arith, length-append (tag_octets tag) (to_le_bytes w32 n))
+length-header_of Explicit tag vr n = omega (arith, length-append (tag_octets tag) (vr_and_length (length_form_of vr) vr n), length-vr_and_length (length_form_of vr) vr n)
+
+length-item_header_of : (n : ℕ) → length (item_header_of n) ≡ 8
+unfolding item_header_of
+length-item_header_of n = refl
+
+length-padded_by : (b : Bool) (octets : List ℕ) (pad : ℕ) → length (cond b octets (octets ++ pad ∷ [])) ≤ length octets + 1
+length-padded_by true octets pad = omega arith
+length-padded_by false octets pad = rw length-append (omega arith)
+
+length-padded : (vr : Vr) (octets : List ℕ) → length (padded vr octets) ≤ length octets + 1
+length-padded vr octets = length-padded_by (nat_eq (length octets % 2) 0) octets (pad_of vr)
+
+-- the canonical spelling, beside octets that spell the same
+pub record IsShort (to : Syntax) (octets : List ℕ) (d : ElementList) : Type 0 where
+  pub twice : length (canonical to d) ≤ 2 * length octets
+  pub lengths : length octets < 2 ^ 31 → HasLengths to d
+
+record AreShort (to : Syntax) (octets : List ℕ) (items : ItemList) : Type 0 where
+  twice : length (canonical_items to items) ≤ 2 * length octets
+  lengths : length octets < 2 ^ 31 → ItemsHaveLengths to items
+
+abbrev ValueIsShort : Syntax → List ℕ → Value → Type 0
+ValueIsShort to octets (Octets held) = length held ≤ length octets + 1
+ValueIsShort to octets (Items items) = AreShort to octets (items_of items)
+
+with_value_short : (to : Syntax) (tag : Tag) (vr : Vr) (held : Value) (others : ElementList) (header value rest : List ℕ) → 8 ≤ length header → ValueIsShort to value held → IsShort to rest others
+    → IsShort to (header ++ (value ++ rest)) (with_value (record { tag = tag; vr = vr; value = held }) held others)
+with_value_short to tag vr (Octets held) others header value rest long short tail =
+    let all = length-append header (value ++ rest) in
+    let inner = length-append value rest in
+    let h = length-header_of to tag vr (length held) in
+    let c1 = length-append (header_of to tag vr (length held) ++ held) (canonical to others) in
+    let c2 = length-append (header_of to tag vr (length held)) held in
+    let lt = tail.twice in
+    record {
+      twice = omega (arith, all, inner, h, c1, c2, lt);
+      lengths = λ small. (omega (arith, all, inner), tail.lengths (omega (arith, all, inner)));
+    }
+with_value_short to tag vr (Items items) others header value rest long short tail =
+    let octets = canonical_items to (items_of items) in
+    let all = length-append header (value ++ rest) in
+    let inner = length-append value rest in
+    let h = length-header_of to tag vr (length octets) in
+    let c1 = length-append (header_of to tag vr (length octets) ++ octets) (canonical to others) in
+    let c2 = length-append (header_of to tag vr (length octets)) octets in
+    let lt = tail.twice in
+    let it = short.twice in
+    record {
+      twice = omega (arith, all, inner, h, c1, c2, lt, it);
+      lengths = λ small. (omega (arith, all, inner, it), short.lengths (omega (arith, all, inner)), tail.lengths (omega (arith, all, inner)));
+    }
+
+kept_short : (b : Bool) (to : Syntax) (tag : Tag) (vr : Vr) (held : Value) (others : ElementList) (header value rest : List ℕ) → 8 ≤ length header → ValueIsShort to value held → IsShort to rest others
+    → IsShort to (header ++ (value ++ rest)) (cond b others (with_value (record { tag = tag; vr = vr; value = held }) held others))
+kept_short true to tag vr held others header value rest long short tail =
+    let all = length-append header (value ++ rest) in
+    let inner = length-append value rest in
+    record { twice = omega (arith, all, inner, tail.twice); lengths = λ small. tail.lengths (omega (arith, all, inner)) }
+kept_short false to tag vr held others header value rest long short tail = with_value_short to tag vr held others header value rest long short tail
+
+one_item_short : (to : Syntax) (first : ElementList) (others : ItemList) (header value rest : List ℕ) → 8 ≤ length header → IsShort to value first → AreShort to rest others
+    → AreShort to (header ++ (value ++ rest)) (item first others)
+one_item_short to first others header value rest long short tail =
+    let octets = canonical to first in
+    let all = length-append header (value ++ rest) in
+    let inner = length-append value rest in
+    let h = length-item_header_of (length octets) in
+    let c1 = length-append (item_header_of (length octets) ++ octets) (canonical_items to others) in
+    let c2 = length-append (item_header_of (length octets)) octets in
+    let lt = tail.twice in
+    let it = short.twice in
+    record {
+      twice = omega (arith, all, inner, h, c1, c2, lt, it);
+      lengths = λ small. (omega (arith, all, inner, it), short.lengths (omega (arith, all, inner)), tail.lengths (omega (arith, all, inner)));
+    }
+
+mutual
+  elements_short : (to : Syntax) (bound : Bound) (syntax : Syntax) (levels : ℕ) (last : Option Tag) (octets : List ℕ) (d : ElementList) → Spells bound syntax levels last octets d → IsShort to octets d
+  elements_short to bound syntax levels last octets d (no_more _ _ _ _ _ end) = record { twice = omega arith; lengths = λ small. tt }
+  elements_short to bound syntax levels last octets d (more _ _ _ _ _ _ tag content header value rest held others placed is_header value_spelled others_spelled e1 e2) =
+      subst (λ (o : List ℕ). IsShort to o d) (sym e1) (subst (λ (x : ElementList). IsShort to (header ++ (value ++ rest)) x) (sym e2)
+      (kept_short (nat_eq tag.element 0) to tag (vr_of (known_vr tag) content) held others header value rest (header_long syntax tag content header is_header)
+      (value_short to levels (vr_of (known_vr tag) content) content value held value_spelled)
+      (elements_short to bound syntax levels (Some tag) rest others others_spelled)))
+
+  value_short : (to : Syntax) (levels : ℕ) (vr : Vr) (content : Content) (octets : List ℕ) (held : Value) → SpellsValue levels vr content octets held → ValueIsShort to octets held
+  value_short to levels vr content octets held (plain _ _ n _ len) = length-padded vr octets
+  value_short to levels vr content octets held (nested fewer _ inner extent _ items has spells) = items_short to (bound_of extent) inner fewer octets items spells
+
+  items_short : (to : Syntax) (bound : Bound) (syntax : Syntax) (levels : ℕ) (octets : List ℕ) (ds : List ElementList) → SpellsItems bound syntax levels octets ds → AreShort to octets (items_of ds)
+  items_short to bound syntax levels octets ds (no_item _ _ _ _ end) = record { twice = omega arith; lengths = λ small. tt }
+  items_short to bound syntax levels octets ds (one_item _ _ _ _ extent header value rest first others is_header has first_spelled others_spelled e) =
+      subst (λ (o : List ℕ). AreShort to o (item first (items_of others))) (sym e)
+      (one_item_short to first (items_of others) header value rest (item_long extent header is_header)
+      (elements_short to (bound_of extent) syntax levels None value first first_spelled)
+      (items_short to bound syntax levels rest others others_spelled))
+
+pub spelled_is_short : (to syntax : Syntax) (octets : List ℕ) (d : ElementList) → IsSpelled syntax octets d → IsShort to octets d
+spelled_is_short to syntax octets d spells = elements_short to _ _ _ _ octets d spells

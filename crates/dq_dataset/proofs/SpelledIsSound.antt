@@ -1,0 +1,200 @@
+-- What is spelled has the facts of every data set.
+use Rattle.std.proofs.Common.{◌≡◌, eq-eqb, ℕ, suc, ◌-◌, ◌%◌, ◌<◌, Bool, true, false, not, cond, ltb, ◌&&◌, ◌||◌, List, [], ◌∷◌, ◌++◌, length, Option, Some, None, Result, Ok, Err, refl, sym, subst, ◌∙◌, arith, inl, inr, ◌⊎◌}
+use Rattle.std.specs.Prelude.{is_none, nat_eq}
+use Rattle.std.proofs.lemmas.Bool.{eqb-true, eqb-false, ltb-true, lt-ltb}
+use Rattle.std.proofs.lemmas.List.{length-append}
+use Rattle.dq_vr.specs.declared.Tag.{Tag}
+use Rattle.dq_vr.specs.declared.Vr.{Vr}
+use Rattle.dq_vr.specs.Dictionary.{known_vr}
+use Rattle.dq_vr.specs.Tag.{is_below}
+use Rattle.dq_dataset.specs.declared.fault.ReadFault.{ReadFault}
+use Rattle.dq_dataset.specs.declared.fault.ReadFault.TheVariants.{BadUndefined}
+use Rattle.dq_dataset.specs.declared.header.Syntax.{Syntax}
+use Rattle.dq_dataset.specs.declared.header.Syntax.TheVariants.{Implicit, Explicit}
+use Rattle.dq_dataset.specs.declared.header.Content.{Content}
+use Rattle.dq_dataset.specs.declared.header.Content.TheVariants.{Plain, Sequence}
+use Rattle.dq_dataset.specs.declared.header.Bound.{Bound}
+use Rattle.dq_dataset.specs.declared.data_set.Value.{Value}
+use Rattle.dq_dataset.specs.declared.data_set.Value.TheVariants.{Octets, Items}
+use Rattle.dq_dataset.specs.Tree.{ElementList, no_elements, element, sequence}
+use Rattle.dq_dataset.specs.View.{items_of, with_value}
+use Rattle.dq_dataset.specs.Rules.{is_sequence, is_unknown, agrees, content_of, vr_of, padded, pad_of}
+use Rattle.dq_dataset.specs.Reading.{follows}
+use Rattle.dq_dataset.specs.Grammar.{IsHeader, IsPlaced, IsSpelling, Spells, no_more, more, SpellsValue, plain, nested, SpellsItems, no_item, one_item, bound_of, IsSpelled}
+use Rattle.dq_dataset.specs.Facts.{IsElementTag, IsPlain, IsSequence, AreElements, AreItems, IsDataSet}
+
+abbrev done : Content → Result Content ReadFault
+done x = Ok x
+
+same_number : (n : ℕ) → (nat_eq n n && true) ≡ true
+same_number n = rw (eq-eqb n n refl) refl
+
+-- ---- the order of tags
+
+or_true : (a b : Bool) → (a || b) ≡ true → (a ≡ true) ⊎ (b ≡ true)
+or_true true b e = inl refl
+or_true false b e = inr e
+
+or_left : (a b : Bool) → a ≡ true → (a || b) ≡ true
+or_left a b e = rw e refl
+
+or_right : (a b : Bool) → b ≡ true → (a || b) ≡ true
+or_right true b e = refl
+or_right false b e = e
+
+and_true : (a b : Bool) → (a && b) ≡ true → (a ≡ true) × (b ≡ true)
+and_true true b e = (refl, e)
+and_true false b e = absurd cc
+
+IsBelow : Tag → Tag → Type 0
+IsBelow a b = (a.group < b.group) ⊎ ((a.group ≡ b.group) × (a.element < b.element))
+
+below_means : (a b : Tag) → is_below a b ≡ true → IsBelow a b
+unfolding is_below IsBelow
+below_means a b e =
+    elim (or_true _ _ e) [
+      | inl lt ↦ inl (ltb-true a.group b.group lt)
+      | inr both ↦ let p = and_true _ _ both in inr (eqb-true a.group b.group p.0, ltb-true a.element b.element p.1)
+    ]
+
+means_below : (a b : Tag) → IsBelow a b → is_below a b ≡ true
+unfolding is_below IsBelow
+means_below a b (inl lt) = or_left _ _ (lt-ltb a.group b.group lt)
+means_below a b (inr p) = or_right (ltb a.group b.group) _ (rw (p.0, lt-ltb a.element b.element p.1) (same_number b.group))
+
+is_below-trans : (a b c : Tag) → is_below a b ≡ true → is_below b c ≡ true → is_below a c ≡ true
+unfolding IsBelow
+is_below-trans a b c e f =
+    let p = below_means a b e in
+    let q = below_means b c f in
+    means_below a c (elim p [
+      | inl lt ↦ elim q [ inl lt' ↦ inl (omega arith) | inr s ↦ inl (omega (arith, s.0)) ]
+      | inr s ↦ elim q [ inl lt' ↦ inl (omega (arith, s.0)) | inr s' ↦ inr (s.0 ∙ s'.0, omega (arith, s.1, s'.1)) ]
+    ])
+
+pub follows-trans : (last : Option Tag) (tag next : Tag) → follows last tag ≡ true → follows (Some tag) next ≡ true → follows last next ≡ true
+follows-trans None tag next e f = refl
+follows-trans (Some last) tag next e f = is_below-trans last tag next e f
+
+earlier : (last : Option Tag) (tag next : Tag) → follows last tag ≡ true → IsElementTag (Some tag) next → IsElementTag last next
+earlier last tag next e h = record { rises = follows-trans last tag next e h.rises; no_delimiter = h.no_delimiter; no_length = h.no_length; group = h.group; number = h.number }
+
+-- what stands behind a tag stands behind an earlier one
+behind_earlier : (levels : ℕ) (last : Option Tag) (tag : Tag) (d : ElementList) → follows last tag ≡ true → AreElements levels (Some tag) d → AreElements levels last d
+behind_earlier levels last tag no_elements e h = tt
+behind_earlier levels last tag (element t vr octets rest) e h = (earlier last tag t e h.0, h.1, h.2)
+behind_earlier levels last tag (sequence t vr items rest) e h = (earlier last tag t e h.0, h.1, h.2, h.3, h.4)
+
+-- ---- VRs
+
+plain_some : (a b : Bool) (n m : ℕ) → cond a (done (Sequence Explicit (Some n))) (cond b (Ok (Sequence Implicit (Some n))) (Ok (Plain n))) ≡ Ok (Plain m) → b ≡ false
+plain_some true b n m e = absurd cc
+plain_some false true n m e = absurd cc
+plain_some false false n m e = refl
+
+plain_none : (a b c : Bool) (m : ℕ) → cond a (done (Sequence Explicit None)) (cond b (Ok (Sequence Implicit None)) (cond c (Ok (Sequence Implicit None)) (Err BadUndefined))) ≡ Ok (Plain m) → b ≡ false
+plain_none true b c m e = absurd cc
+plain_none false true c m e = absurd cc
+plain_none false false c m e = refl
+
+-- octets stand behind no known sequence
+plain_is_no_sequence : (known spelled : Option Vr) (extent : Option ℕ) (n : ℕ) → content_of known spelled extent ≡ Ok (Plain n) → is_sequence known ≡ false
+unfolding content_of
+plain_is_no_sequence known spelled (Some m) n e = plain_some (is_sequence spelled) (is_sequence known) m n e
+plain_is_no_sequence known spelled None n e = plain_none (is_sequence spelled) (is_sequence known) (is_none known && (is_none spelled || is_unknown spelled)) n e
+
+sequence_some : (a b c : Bool) (n : ℕ) (s : Syntax) (x : Option ℕ) → (b ≡ true) ⊎ ((c || not a) ≡ true)
+    → cond a (done (Sequence Explicit (Some n))) (cond b (Ok (Sequence Implicit (Some n))) (Ok (Plain n))) ≡ Ok (Sequence s x) → (c || b) ≡ true
+sequence_some a true true n s x h e = refl
+sequence_some a true false n s x h e = refl
+sequence_some a false true n s x h e = refl
+sequence_some true false false n s x (inl h) e = absurd cc
+sequence_some true false false n s x (inr h) e = absurd cc
+sequence_some false false false n s x h e = absurd cc
+
+sequence_none : (a b c u : Bool) (s : Syntax) (x : Option ℕ) → (b ≡ true) ⊎ ((c || not a) ≡ true)
+    → cond a (done (Sequence Explicit None)) (cond b (Ok (Sequence Implicit None)) (cond (c && u) (Ok (Sequence Implicit None)) (Err BadUndefined))) ≡ Ok (Sequence s x) → (c || b) ≡ true
+sequence_none a true true u s x h e = refl
+sequence_none a true false u s x h e = refl
+sequence_none a false true u s x h e = refl
+sequence_none true false false u s x (inl h) e = absurd cc
+sequence_none true false false u s x (inr h) e = absurd cc
+sequence_none false false false u s x h e = absurd cc
+
+agrees_means : (b u c a : Bool) → cond b u (c || not a) ≡ true → (b ≡ true) ⊎ ((c || not a) ≡ true)
+agrees_means true u c a e = inl refl
+agrees_means false u c a e = inr e
+
+spelling_agrees : (syntax : Syntax) (known spelled : Option Vr) (extent : Option ℕ) (behind : List ℕ) → IsSpelling syntax known spelled extent behind
+    → (is_sequence known ≡ true) ⊎ ((is_none known || not (is_sequence spelled)) ≡ true)
+unfolding agrees
+spelling_agrees Implicit known None extent behind h = inr (or_right (is_none known) true refl)
+spelling_agrees Implicit known (Some vr) extent behind h = absurd h
+spelling_agrees Explicit known None extent behind h = absurd h
+spelling_agrees Explicit known (Some vr) extent behind h =
+    agrees_means (is_sequence known) (is_sequence (Some vr) || is_unknown (Some vr)) (is_none known) (is_sequence (Some vr)) h.0
+
+-- items stand behind a known sequence or an unknown tag
+sequence_is_allowed : (known spelled : Option Vr) (extent : Option ℕ) (s : Syntax) (x : Option ℕ) → (is_sequence known ≡ true) ⊎ ((is_none known || not (is_sequence spelled)) ≡ true)
+    → content_of known spelled extent ≡ Ok (Sequence s x) → (is_none known || is_sequence known) ≡ true
+unfolding content_of
+sequence_is_allowed known spelled (Some n) s x h e = sequence_some (is_sequence spelled) (is_sequence known) (is_none known) n s x h e
+sequence_is_allowed known spelled None s x h e = sequence_none (is_sequence spelled) (is_sequence known) (is_none known) (is_none spelled || is_unknown spelled) s x h e
+
+-- ---- values
+
+even_by : (b : Bool) (octets : List ℕ) (pad : ℕ) → nat_eq (length octets % 2) 0 ≡ b → length (cond b octets (octets ++ pad ∷ [])) % 2 ≡ 0
+even_by true octets pad e = eqb-true (length octets % 2) 0 e
+even_by false octets pad e = let odd = eqb-false (length octets % 2) 0 e in rw length-append (omega arith)
+
+even-padded : (vr : Vr) (octets : List ℕ) → length (padded vr octets) % 2 ≡ 0
+even-padded vr octets = even_by (nat_eq (length octets % 2) 0) octets (pad_of vr) refl
+
+-- what a value has
+abbrev IsValue : ℕ → Tag → Vr → Value → Type 0
+IsValue levels tag vr (Octets octets) = IsPlain tag vr octets
+IsValue levels tag vr (Items items) = IsSequence tag vr × (0 < levels) × AreItems (levels - 1) (items_of items)
+
+with_value_is : (levels : ℕ) (last : Option Tag) (tag : Tag) (vr : Vr) (held : Value) (others : ElementList) → IsElementTag last tag → IsValue levels tag vr held → AreElements levels (Some tag) others
+    → AreElements levels last (with_value (record { tag = tag; vr = vr; value = held }) held others)
+with_value_is levels last tag vr (Octets octets) others t v rest = (t, v, rest)
+with_value_is levels last tag vr (Items items) others t v rest = (t, v.0, v.1, v.2, rest)
+
+kept_is : (b : Bool) (levels : ℕ) (last : Option Tag) (tag : Tag) (vr : Vr) (held : Value) (others : ElementList) → nat_eq tag.element 0 ≡ b → IsPlaced last tag → IsValue levels tag vr held
+    → AreElements levels (Some tag) others → AreElements levels last (cond b others (with_value (record { tag = tag; vr = vr; value = held }) held others))
+kept_is true levels last tag vr held others e placed v rest = behind_earlier levels last tag others placed.rises rest
+kept_is false levels last tag vr held others e placed v rest =
+    with_value_is levels last tag vr held others
+    (record { rises = placed.rises; no_delimiter = placed.no_delimiter; no_length = eqb-false tag.element 0 e; group = placed.group; number = placed.number }) v rest
+
+mutual
+  pub elements_are : (bound : Bound) (syntax : Syntax) (levels : ℕ) (last : Option Tag) (octets : List ℕ) (d : ElementList) → Spells bound syntax levels last octets d → AreElements levels last d
+  elements_are bound syntax levels last octets d (no_more _ _ _ _ _ end) = tt
+  elements_are bound syntax levels last octets d (more _ _ _ _ _ _ tag content header value rest held others placed is_header value_spelled others_spelled e1 e2) =
+      subst (λ (x : ElementList). AreElements levels last x) (sym e2)
+      (kept_is (nat_eq tag.element 0) levels last tag (vr_of (known_vr tag) content) held others refl placed
+      (value_is syntax tag header (vr_of (known_vr tag) content) levels content value held value_spelled is_header refl)
+      (elements_are bound syntax levels (Some tag) rest others others_spelled))
+
+  value_is : (syntax : Syntax) (tag : Tag) (header : List ℕ) (vr : Vr) (levels : ℕ) (content : Content) (octets : List ℕ) (held : Value) → SpellsValue levels vr content octets held
+      → IsHeader syntax tag content header → vr ≡ vr_of (known_vr tag) content → IsValue levels tag vr held
+  value_is syntax tag header vr levels content octets held (plain _ _ n _ len) is_header e =
+      record { by_dictionary = e; no_sequence = plain_is_no_sequence (known_vr tag) is_header.spelled is_header.extent n is_header.allowed; even = even-padded vr octets }
+  value_is syntax tag header vr levels content octets held (nested fewer _ inner extent _ items has spells) is_header e =
+      let one_less : suc fewer - 1 ≡ fewer = omega arith in (
+        record {
+          is_sq = e;
+          allowed = sequence_is_allowed (known_vr tag) is_header.spelled is_header.extent inner extent (spelling_agrees syntax (known_vr tag) is_header.spelled is_header.extent is_header.behind is_header.spelling) is_header.allowed;
+        },
+        omega arith,
+        rw one_less (items_are (bound_of extent) inner fewer octets items spells),
+      )
+
+  items_are : (bound : Bound) (syntax : Syntax) (levels : ℕ) (octets : List ℕ) (ds : List ElementList) → SpellsItems bound syntax levels octets ds → AreItems levels (items_of ds)
+  items_are bound syntax levels octets ds (no_item _ _ _ _ end) = tt
+  items_are bound syntax levels octets ds (one_item _ _ _ _ extent header value rest first others is_header has first_spelled others_spelled e) =
+      (elements_are (bound_of extent) syntax levels None value first first_spelled, items_are bound syntax levels rest others others_spelled)
+
+-- what is spelled is a data set
+pub spelled_is_sound : (syntax : Syntax) (octets : List ℕ) (d : ElementList) → IsSpelled syntax octets d → IsDataSet d
+spelled_is_sound syntax octets d spells = elements_are _ _ _ _ _ _ spells

@@ -1,0 +1,19 @@
+-- What a reader answers, beside the grammar.
+use Rattle.std.proofs.Common.{ℕ, List, Result, Ok, Err, sym, ◌∙◌, inl, inr}
+use Rattle.std.specs.Prelude.{IfOk}
+use Rattle.dq_dataset.specs.declared.fault.ReadFault.{ReadFault}
+use Rattle.dq_dataset.specs.declared.header.Syntax.{Syntax}
+use Rattle.dq_dataset.specs.Tree.{ElementList}
+use Rattle.dq_dataset.specs.Reading.{Gives, reading}
+use Rattle.dq_dataset.specs.Grammar.{AreOctets, IsSpelled}
+use Rattle.dq_dataset.proofs.ReadIsSpelled.{reading_is_spelled}
+use Rattle.dq_dataset.proofs.SpelledIsRead.{spelled_is_read}
+
+pub found_is_spelled : (syntax : Syntax) (octets : List ℕ) (r : Result ElementList ReadFault) → AreOctets octets → Gives (λ d. d) r (reading syntax octets) → IfOk r (λ d. IsSpelled syntax octets d)
+found_is_spelled syntax octets (Ok d) ok e = reading_is_spelled syntax octets d ok e
+found_is_spelled syntax octets (Err f) ok e = tt
+
+pub spelled_is_given : (syntax : Syntax) (octets : List ℕ) (r : Result ElementList ReadFault) (d : ElementList) → IsSpelled syntax octets d → Gives (λ d. d) r (reading syntax octets) → Gives (λ d. d) r (Ok d)
+spelled_is_given syntax octets (Ok x) d spells e = sym (spelled_is_read syntax octets d spells) ∙ e
+spelled_is_given syntax octets (Err f) d spells (inl memory) = inl memory
+spelled_is_given syntax octets (Err f) d spells (inr e) = inr (sym (spelled_is_read syntax octets d spells) ∙ e)

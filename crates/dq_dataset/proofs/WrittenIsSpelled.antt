@@ -1,0 +1,277 @@
+-- The canonical spelling spells its data set.
+use Rattle.std.proofs.Common.{◌≡◌, ◌≢◌, eq-eqb, ℕ, zero, suc, ◌-◌, ◌%◌, ◌<◌, ◌≤◌, Bool, true, false, cond, ltb, ◌||◌, List, [], ◌∷◌, ◌++◌, length, Option, Some, None, Ok, refl, sym, ap, subst, ◌∙◌, append_assoc, arith}
+use Rattle.std.specs.Prelude.{is_none, unwrap_or}
+use Rattle.std.specs.Int.{w16, w32, to_le_bytes}
+use Rattle.std.proofs.lemmas.Bool.{ltb-false, ne_eqb}
+use Rattle.dq_vr.specs.declared.Tag.{Tag}
+use Rattle.dq_vr.specs.declared.Vr.{Vr}
+use Rattle.dq_vr.specs.declared.Vr.TheVariants.{AE, AS, AT, CS, DA, DS, DT, FD, FL, IS, LO, LT, OB, OD, OF, OL, OV, OW, PN, SH, SL, SQ, SS, ST, SV, TM, UC, UI, UL, UN, UR, US, UT, UV}
+use Rattle.dq_vr.specs.declared.LengthForm.{LengthForm}
+use Rattle.dq_vr.specs.declared.LengthForm.TheVariants.{Two, Four}
+use Rattle.dq_vr.specs.Dictionary.{known_vr}
+use Rattle.dq_vr.specs.Vr.{length_form_of, letters_of, vr_with_letters}
+use Rattle.dq_dataset.specs.declared.header.Syntax.{Syntax}
+use Rattle.dq_dataset.specs.declared.header.Syntax.TheVariants.{Implicit, Explicit}
+use Rattle.dq_dataset.specs.declared.header.Content.TheVariants.{Plain, Sequence}
+use Rattle.dq_dataset.specs.declared.header.Bound.TheVariants.{Filled}
+use Rattle.dq_dataset.specs.declared.data_set.Value.{Value}
+use Rattle.dq_dataset.specs.declared.data_set.Value.TheVariants.{Octets, Items}
+use Rattle.dq_dataset.specs.Tree.{ElementList, no_elements, element, sequence, ItemList, no_items, item}
+use Rattle.dq_dataset.specs.View.{list_of, with_value}
+use Rattle.dq_dataset.specs.Rules.{is_sequence, agrees, content_of, padded}
+use Rattle.dq_dataset.specs.Canonical.{tag_octets, long_length, vr_and_length, header_of, item_header_of, canonical, canonical_items, HasLengths, ItemsHaveLengths}
+use Rattle.dq_dataset.specs.Grammar.{IsLengthBehind, IsSpelling, IsHeader, IsPlaced, IsItemHeader, Spells, no_more, more, SpellsValue, plain, nested, SpellsItems, no_item, one_item, kept_value, IsSpelled}
+use Rattle.dq_dataset.specs.Facts.{IsElementTag, IsPlain, IsSequence, AreElements, AreItems, IsDataSet}
+use Rattle.dq_dataset.specs.Written.{IsReadBack, AreReadBack}
+use Rattle.dq_dataset.proofs.Views.{items_of-list_of}
+
+-- each VR is named by its letters
+abbrev pub LettersName : Type 0
+LettersName = (vr : Vr) → vr_with_letters (letters_of vr) ≡ Some vr
+
+-- the two letters of a VR
+pub record HasLetters (vr : Vr) : Type 0 where
+  pub first : ℕ
+  pub second : ℕ
+  pub are : letters_of vr ≡ first ∷ second ∷ []
+
+pub two_letters : (vr : Vr) → HasLetters vr
+unfolding letters_of
+two_letters AE = record { first = 65; second = 69; are = refl }
+two_letters AS = record { first = 65; second = 83; are = refl }
+two_letters AT = record { first = 65; second = 84; are = refl }
+two_letters CS = record { first = 67; second = 83; are = refl }
+two_letters DA = record { first = 68; second = 65; are = refl }
+two_letters DS = record { first = 68; second = 83; are = refl }
+two_letters DT = record { first = 68; second = 84; are = refl }
+two_letters FD = record { first = 70; second = 68; are = refl }
+two_letters FL = record { first = 70; second = 76; are = refl }
+two_letters IS = record { first = 73; second = 83; are = refl }
+two_letters LO = record { first = 76; second = 79; are = refl }
+two_letters LT = record { first = 76; second = 84; are = refl }
+two_letters OB = record { first = 79; second = 66; are = refl }
+two_letters OD = record { first = 79; second = 68; are = refl }
+two_letters OF = record { first = 79; second = 70; are = refl }
+two_letters OL = record { first = 79; second = 76; are = refl }
+two_letters OV = record { first = 79; second = 86; are = refl }
+two_letters OW = record { first = 79; second = 87; are = refl }
+two_letters PN = record { first = 80; second = 78; are = refl }
+two_letters SH = record { first = 83; second = 72; are = refl }
+two_letters SL = record { first = 83; second = 76; are = refl }
+two_letters SQ = record { first = 83; second = 81; are = refl }
+two_letters SS = record { first = 83; second = 83; are = refl }
+two_letters ST = record { first = 83; second = 84; are = refl }
+two_letters SV = record { first = 83; second = 86; are = refl }
+two_letters TM = record { first = 84; second = 77; are = refl }
+two_letters UC = record { first = 85; second = 67; are = refl }
+two_letters UI = record { first = 85; second = 73; are = refl }
+two_letters UL = record { first = 85; second = 76; are = refl }
+two_letters UN = record { first = 85; second = 78; are = refl }
+two_letters UR = record { first = 85; second = 82; are = refl }
+two_letters US = record { first = 85; second = 83; are = refl }
+two_letters UT = record { first = 85; second = 84; are = refl }
+two_letters UV = record { first = 85; second = 86; are = refl }
+
+-- ---- headers
+
+long_behind : (n : ℕ) → n < 0xFFFFFFFF → IsLengthBehind Four (Some n) (long_length n)
+long_behind n lt = (0 ∷ 0 ∷ [], refl, to_le_bytes w32 n, (lt, refl), refl)
+
+short_behind : (n : ℕ) → n ≤ 65534 → IsLengthBehind Two (Some n) (to_le_bytes w16 n)
+short_behind n le = (omega arith, refl)
+
+or_right : (a b : Bool) → b ≡ true → (a || b) ≡ true
+or_right true b e = refl
+or_right false b e = e
+
+content_plain : (known spelled : Option Vr) (n : ℕ) → is_sequence spelled ≡ false → is_sequence known ≡ false → content_of known spelled (Some n) ≡ Ok (Plain n)
+unfolding content_of
+content_plain known spelled n a b = rw (a, b) refl
+
+content_known : (known : Option Vr) (n : ℕ) → is_sequence known ≡ true → content_of known None (Some n) ≡ Ok (Sequence Implicit (Some n))
+unfolding content_of
+content_known known n e = rw e refl
+
+content_sq : (known : Option Vr) (n : ℕ) → content_of known (Some SQ) (Some n) ≡ Ok (Sequence Explicit (Some n))
+unfolding content_of
+content_sq known n = refl
+
+agrees_un : (known : Option Vr) → is_sequence known ≡ false → agrees known UN ≡ true
+unfolding agrees
+agrees_un known e = rw e (or_right (is_none known) true refl)
+
+agrees_own : (known : Option Vr) → is_sequence known ≡ false → agrees known (unwrap_or known UN) ≡ true
+unfolding agrees
+agrees_own None e = refl
+agrees_own (Some vr) e = rw e refl
+
+own_is_no_sequence : (known : Option Vr) → is_sequence known ≡ false → is_sequence (Some (unwrap_or known UN)) ≡ false
+own_is_no_sequence None e = refl
+own_is_no_sequence (Some vr) e = e
+
+sq_agrees : (b c : Bool) → (c || b) ≡ true → cond b true (c || false) ≡ true
+sq_agrees true c e = refl
+sq_agrees false true e = refl
+sq_agrees false false e = absurd cc
+
+agrees_sq : (known : Option Vr) → (is_none known || is_sequence known) ≡ true → agrees known SQ ≡ true
+unfolding agrees
+agrees_sq known e = sq_agrees (is_sequence known) (is_none known) e
+
+form_un : length_form_of UN ≡ Four
+unfolding length_form_of
+form_un = refl
+
+module _ (named : LettersName) where
+  spelled_as : (known : Option Vr) (vr : Vr) (n : ℕ) (behind : List ℕ) → agrees known vr ≡ true → IsLengthBehind (length_form_of vr) (Some n) behind
+      → IsSpelling Explicit known (Some vr) (Some n) (letters_of vr ++ behind)
+  spelled_as known vr n behind agreed is =
+      let l = two_letters vr in
+      (agreed, l.first, l.second, ap vr_with_letters (sym l.are) ∙ named vr, behind, is, ap (λ (x : List ℕ). x ++ behind) l.are)
+
+  -- in Explicit, where the value fits a length of 2 octets or not
+  plain_short : (tag : Tag) (vr : Vr) (n : ℕ) (b : Bool) → ltb 65534 n ≡ b → length_form_of vr ≡ Two → vr ≡ unwrap_or (known_vr tag) UN → is_sequence (known_vr tag) ≡ false → n < 0xFFFFFFFF
+      → IsHeader Explicit tag (Plain n) (tag_octets tag ++ cond b (letters_of UN ++ long_length n) (letters_of vr ++ to_le_bytes w16 n))
+  plain_short tag vr n true e form own other lt = record {
+    spelled = Some UN;
+    extent = Some n;
+    allowed = content_plain (known_vr tag) (Some UN) n refl other;
+    behind = letters_of UN ++ long_length n;
+    spelling = spelled_as (known_vr tag) UN n (long_length n) (agrees_un (known_vr tag) other) (rw form_un (long_behind n lt));
+    whole = refl;
+  }
+  plain_short tag vr n false e form own other lt = record {
+    spelled = Some vr;
+    extent = Some n;
+    allowed = content_plain (known_vr tag) (Some vr) n (ap (λ (x : Vr). is_sequence (Some x)) own ∙ own_is_no_sequence (known_vr tag) other) other;
+    behind = letters_of vr ++ to_le_bytes w16 n;
+    spelling = spelled_as (known_vr tag) vr n (to_le_bytes w16 n) (ap (agrees (known_vr tag)) own ∙ agrees_own (known_vr tag) other) (rw form (short_behind n (ltb-false 65534 n e)));
+    whole = refl;
+  }
+
+  plain_explicit : (tag : Tag) (vr : Vr) (n : ℕ) (form : LengthForm) → length_form_of vr ≡ form → vr ≡ unwrap_or (known_vr tag) UN → is_sequence (known_vr tag) ≡ false → n < 0xFFFFFFFF
+      → IsHeader Explicit tag (Plain n) (tag_octets tag ++ vr_and_length form vr n)
+  unfolding vr_and_length
+  plain_explicit tag vr n Two form own other lt = plain_short tag vr n (ltb 65534 n) refl form own other lt
+  plain_explicit tag vr n Four form own other lt = record {
+    spelled = Some vr;
+    extent = Some n;
+    allowed = content_plain (known_vr tag) (Some vr) n (ap (λ (x : Vr). is_sequence (Some x)) own ∙ own_is_no_sequence (known_vr tag) other) other;
+    behind = letters_of vr ++ long_length n;
+    spelling = spelled_as (known_vr tag) vr n (long_length n) (ap (agrees (known_vr tag)) own ∙ agrees_own (known_vr tag) other) (rw form (long_behind n lt));
+    whole = refl;
+  }
+
+  plain_header : (syntax : Syntax) (tag : Tag) (vr : Vr) (n : ℕ) → vr ≡ unwrap_or (known_vr tag) UN → is_sequence (known_vr tag) ≡ false → n < 0xFFFFFFFF
+      → IsHeader syntax tag (Plain n) (header_of syntax tag vr n)
+  unfolding header_of
+  plain_header Implicit tag vr n own other lt = record {
+    spelled = None;
+    extent = Some n;
+    allowed = content_plain (known_vr tag) None n refl other;
+    behind = to_le_bytes w32 n;
+    spelling = (lt, refl);
+    whole = refl;
+  }
+  plain_header Explicit tag vr n own other lt = plain_explicit tag vr n (length_form_of vr) refl own other lt
+
+  sequence_header : (syntax : Syntax) (tag : Tag) (n : ℕ) (rest : ElementList) (items : ItemList) → (is_none (known_vr tag) || is_sequence (known_vr tag)) ≡ true → IsReadBack syntax (sequence tag SQ items rest) → n < 0xFFFFFFFF
+      → IsHeader syntax tag (Sequence syntax (Some n)) (header_of syntax tag SQ n)
+  unfolding header_of vr_and_length length_form_of
+  sequence_header Implicit tag n rest items allowed back lt = record {
+    spelled = None;
+    extent = Some n;
+    allowed = content_known (known_vr tag) n back.0;
+    behind = to_le_bytes w32 n;
+    spelling = (lt, refl);
+    whole = refl;
+  }
+  sequence_header Explicit tag n rest items allowed back lt = record {
+    spelled = Some SQ;
+    extent = Some n;
+    allowed = content_sq (known_vr tag) n;
+    behind = letters_of SQ ++ long_length n;
+    spelling = spelled_as (known_vr tag) SQ n (long_length n) (agrees_sq (known_vr tag) allowed) (long_behind n lt);
+    whole = refl;
+  }
+
+  item_header : (n : ℕ) → n < 0xFFFFFFFF → IsItemHeader (Some n) (item_header_of n)
+  unfolding item_header_of
+  item_header n lt = record { four = to_le_bytes w32 n; is_length = (lt, refl); whole = refl }
+
+  -- ---- elements
+
+  placed : (last : Option Tag) (tag : Tag) → IsElementTag last tag → IsPlaced last tag
+  placed last tag h = record { rises = h.rises; no_delimiter = h.no_delimiter; group = h.group; number = h.number }
+
+  padded_even : (vr : Vr) (octets : List ℕ) → length octets % 2 ≡ 0 → padded vr octets ≡ octets
+  padded_even vr octets e = rw (eq-eqb (length octets % 2) 0 e) refl
+
+  even_value : (levels : ℕ) (vr : Vr) (octets : List ℕ) → length octets % 2 ≡ 0 → SpellsValue levels vr (Plain (length octets)) octets (Octets octets)
+  even_value levels vr octets e = subst (λ (x : List ℕ). SpellsValue levels vr (Plain (length octets)) octets (Octets x)) (padded_even vr octets e) (plain levels vr (length octets) octets refl)
+
+  not_dropped : (tag : Tag) (vr : Vr) (held : Value) (rest : ElementList) → tag.element ≢ 0 → with_value (record { tag = tag; vr = vr; value = held }) held rest ≡ kept_value tag vr held rest
+  not_dropped tag vr held rest ne = rw (ne_eqb tag.element 0 ne) refl
+
+  back_rest : (syntax : Syntax) (tag : Tag) (vr : Vr) (items : ItemList) (rest : ElementList) → IsReadBack syntax (sequence tag vr items rest) → IsReadBack syntax rest × AreReadBack syntax items
+  back_rest Implicit tag vr items rest h = (h.2, h.1)
+  back_rest Explicit tag vr items rest h = (tt, tt)
+
+  back_plain : (syntax : Syntax) (tag : Tag) (vr : Vr) (octets : List ℕ) (rest : ElementList) → IsReadBack syntax (element tag vr octets rest) → IsReadBack syntax rest
+  back_plain Implicit tag vr octets rest h = h
+  back_plain Explicit tag vr octets rest h = tt
+
+  back_item : (syntax : Syntax) (d : ElementList) (rest : ItemList) → AreReadBack syntax (item d rest) → IsReadBack syntax d × AreReadBack syntax rest
+  back_item Implicit d rest h = h
+  back_item Explicit d rest h = (tt, tt)
+
+  plain_spelled : (syntax : Syntax) (levels : ℕ) (last : Option Tag) (tag : Tag) (vr : Vr) (octets : List ℕ) (rest : ElementList) → IsElementTag last tag → IsPlain tag vr octets → length octets < 0xFFFFFFFF
+      → Spells Filled syntax levels (Some tag) (canonical syntax rest) rest → Spells Filled syntax levels last (canonical syntax (element tag vr octets rest)) (element tag vr octets rest)
+  plain_spelled syntax levels last tag vr octets rest t p lt spells =
+      more Filled syntax levels last (canonical syntax (element tag vr octets rest)) (element tag vr octets rest) tag (Plain (length octets))
+      (header_of syntax tag vr (length octets)) octets (canonical syntax rest) (Octets octets) rest
+      (placed last tag t) (plain_header syntax tag vr (length octets) p.by_dictionary p.no_sequence lt)
+      (even_value levels (unwrap_or (known_vr tag) UN) octets p.even) spells
+      (append_assoc (header_of syntax tag vr (length octets)) octets (canonical syntax rest))
+      (not_dropped tag vr (Octets octets) rest t.no_length ∙ ap (λ (x : Vr). kept_value tag x (Octets octets) rest) p.by_dictionary)
+
+  nested_spelled : (syntax : Syntax) (levels : ℕ) (last : Option Tag) (tag : Tag) (vr : Vr) (items : ItemList) (rest : ElementList) → IsElementTag last tag → IsSequence tag vr → 0 < levels
+      → length (canonical_items syntax items) < 0xFFFFFFFF → IsReadBack syntax (sequence tag vr items rest)
+      → SpellsItems Filled syntax (levels - 1) (canonical_items syntax items) (list_of items) → Spells Filled syntax levels (Some tag) (canonical syntax rest) rest
+      → Spells Filled syntax levels last (canonical syntax (sequence tag vr items rest)) (sequence tag vr items rest)
+  nested_spelled syntax zero last tag vr items rest t p some lt back inner spells = absurd (omega arith)
+  nested_spelled syntax (suc fewer) last tag vr items rest t p some lt back inner spells =
+      let one_less : suc fewer - 1 ≡ fewer = omega arith in
+      let octets = canonical_items syntax items in
+      let back_sq = subst (λ (x : Vr). IsReadBack syntax (sequence tag x items rest)) p.is_sq back in
+      let head = subst (λ (x : Vr). IsHeader syntax tag (Sequence syntax (Some (length octets))) (header_of syntax tag x (length octets))) (sym p.is_sq)
+      (sequence_header syntax tag (length octets) rest items p.allowed back_sq lt) in
+      let value = nested fewer SQ syntax (Some (length octets)) octets (list_of items) refl (subst (λ (k : ℕ). SpellsItems Filled syntax k octets (list_of items)) one_less inner) in
+      more Filled syntax (suc fewer) last (canonical syntax (sequence tag vr items rest)) (sequence tag vr items rest) tag (Sequence syntax (Some (length octets)))
+      (header_of syntax tag vr (length octets)) octets (canonical syntax rest) (Items (list_of items)) rest
+      (placed last tag t) head value spells
+      (append_assoc (header_of syntax tag vr (length octets)) octets (canonical syntax rest))
+      (ap (λ (x : ItemList). sequence tag vr x rest) (sym (items_of-list_of items)) ∙ not_dropped tag vr (Items (list_of items)) rest t.no_length ∙ ap (λ (x : Vr). kept_value tag x (Items (list_of items)) rest) p.is_sq)
+
+  mutual
+    written : (syntax : Syntax) (levels : ℕ) (last : Option Tag) (d : ElementList) → AreElements levels last d → HasLengths syntax d → IsReadBack syntax d → Spells Filled syntax levels last (canonical syntax d) d
+    written syntax levels last no_elements facts lengths back = no_more Filled syntax levels last [] refl
+    written syntax levels last (element tag vr octets rest) facts lengths back =
+        plain_spelled syntax levels last tag vr octets rest facts.0 facts.1 lengths.0 (written syntax levels (Some tag) rest facts.2 lengths.1 (back_plain syntax tag vr octets rest back))
+    written syntax levels last (sequence tag vr items rest) facts lengths back =
+        nested_spelled syntax levels last tag vr items rest facts.0 facts.1 facts.2 lengths.0 back
+        (items_written syntax (levels - 1) items facts.3 lengths.1 (back_rest syntax tag vr items rest back).1)
+        (written syntax levels (Some tag) rest facts.4 lengths.2 (back_rest syntax tag vr items rest back).0)
+
+    items_written : (syntax : Syntax) (levels : ℕ) (items : ItemList) → AreItems levels items → ItemsHaveLengths syntax items → AreReadBack syntax items
+        → SpellsItems Filled syntax levels (canonical_items syntax items) (list_of items)
+    items_written syntax levels no_items facts lengths back = no_item Filled syntax levels [] refl
+    items_written syntax levels (item d rest) facts lengths back =
+        one_item Filled syntax levels (canonical_items syntax (item d rest)) (Some (length (canonical syntax d))) (item_header_of (length (canonical syntax d))) (canonical syntax d) (canonical_items syntax rest) d (list_of rest)
+        (item_header (length (canonical syntax d)) lengths.0) refl (written syntax levels None d facts.0 lengths.1 (back_item syntax d rest back).0)
+        (items_written syntax levels rest facts.1 lengths.2 (back_item syntax d rest back).1)
+        (append_assoc (item_header_of (length (canonical syntax d))) (canonical syntax d) (canonical_items syntax rest))
+
+  -- what is written spells its data set
+  pub written_is_spelled : (syntax : Syntax) (d : ElementList) → IsDataSet d → HasLengths syntax d → IsReadBack syntax d → IsSpelled syntax (canonical syntax d) d
+  written_is_spelled syntax d facts lengths back = written syntax 16 None d facts lengths back

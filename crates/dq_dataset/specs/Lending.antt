@@ -1,0 +1,65 @@
+-- The elements of one level, as they are spelled (PS3.5 section 7.1).
+use Rattle.std.specs.Prelude.{ℕ, zero, suc, ◌-◌, ◌+◌, List, [], ◌∷◌, length, take, Option, Some, None, Result, Ok, Err, ◌==◌, if◌then◌else◌}
+use Rattle.dq_vr.specs.declared.Tag.{Tag}
+use Rattle.dq_vr.specs.declared.Vr.{Vr}
+use Rattle.dq_dataset.specs.declared.fault.ReadFault.{ReadFault}
+use Rattle.dq_dataset.specs.declared.header.Syntax.{Syntax}
+use Rattle.dq_dataset.specs.declared.header.Header.{Header}
+use Rattle.dq_dataset.specs.declared.data_set.Value.{Value}
+use Rattle.dq_dataset.specs.Reading.{◌>>=◌, length_of, header_at, value_by, readers}
+
+-- An element as it is spelled: its tag, the VR that the data set has, and the octets of its value, without the end of an undefined length.
+pub record Spelled : Type 0 where
+  pub tag : Tag
+  pub vr : Vr
+  pub octets : List ℕ
+
+-- What is left behind what was read.
+abbrev pub rest_of : {X : Type 0} → Result (X × List ℕ) ReadFault → Result (List ℕ) ReadFault
+rest_of read = read >>= λ x. Ok x.1
+
+-- The header that was read, and what is left behind its value.
+abbrev pub header_in : Option (Header × Value) → Option Header
+header_in None = None
+header_in (Some found) = Some found.0
+
+abbrev pub header_of : Result (Option (Header × Value) × List ℕ) ReadFault → Result (Option Header × List ℕ) ReadFault
+header_of read = read >>= λ x. Ok (header_in x.0, x.1)
+
+-- Whether an item was read, and what is left behind it.
+abbrev pub is_there : {X : Type 0} → Option X → Option (Unit {0})
+is_there None = None
+is_there (Some found) = Some tt
+
+abbrev pub item_of : {X : Type 0} → Result (Option X × List ℕ) ReadFault → Result (Option (Unit {0}) × List ℕ) ReadFault
+item_of read = read >>= λ x. Ok (is_there x.0, x.1)
+
+-- The octets of a value before the rest. An end of its own has 8 octets.
+abbrev pub value_octets : Option ℕ → List ℕ → List ℕ → List ℕ
+value_octets (Some n) octets rest = take n octets
+value_octets None octets rest = take (length octets - length rest - 8) octets
+
+-- The next element of the outer level: its header, the octets of its value, and what is left.
+unfoldable pub next_at : Syntax → Option Tag → List ℕ → Result ((Header × List ℕ) × List ℕ) ReadFault
+next_at syntax last octets = do
+  header ← header_at syntax 16 last octets
+  value ← value_by (readers (length header.1 + 1)) 16 header.0.vr header.0.content header.1
+  Ok ((header.0, value_octets (length_of header.0.content) header.1 value.1), value.1)
+
+-- Group lengths are left out, and nothing follows a fault.
+abbrev pub lent_after : (Option Tag → List ℕ → List (Result Spelled ReadFault)) → Result ((Header × List ℕ) × List ℕ) ReadFault → List (Result Spelled ReadFault)
+lent_after more (Err fault) = Err fault ∷ []
+lent_after more (Ok next) =
+    if next.0.0.tag.element == 0 then more (Some next.0.0.tag) next.1
+    else (Ok (record { tag = next.0.0.tag; vr = next.0.0.vr; octets = next.0.1 }) ∷ more (Some next.0.0.tag) next.1)
+
+unfoldable pub lent_in : ℕ → Syntax → Option Tag → List ℕ → List (Result Spelled ReadFault)
+lent_in zero syntax last octets = []
+lent_in (suc n) syntax last octets = if length octets == 0 then [] else lent_after (lent_in n syntax) (next_at syntax last octets)
+
+-- The elements behind the tag last: one for each, up to the end or the first fault.
+abbrev pub lent_from : Syntax → Option Tag → List ℕ → List (Result Spelled ReadFault)
+lent_from syntax last octets = lent_in (length octets) syntax last octets
+
+abbrev pub lent : Syntax → List ℕ → List (Result Spelled ReadFault)
+lent syntax octets = lent_from syntax None octets

@@ -1,0 +1,14 @@
+pub mod Tree
+pub mod View
+pub mod Falls
+pub mod Rules
+pub mod Reading
+pub mod Canonical
+pub mod Parts
+pub mod Grammar
+pub mod Facts
+pub mod Written
+pub mod Lending
+pub mod LentView
+pub mod Agreement
+pub mod formers

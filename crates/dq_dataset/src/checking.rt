@@ -1,0 +1,138 @@
+//! Checking the octets of nested data sets, as reading does, with no memory.
+ghost use Rattle.std.specs.Prelude.{◌≡◌, ℕ, ◌+◌, ◌<◌, ◌≤◌, true, None, length, IfOk, OnSome};
+ghost use Rattle.dq_vr.specs.declared.Vr.{Vr};
+ghost use Rattle.dq_dataset.specs.Reading.{Answers, readers, may_nest, length_of, fits, value_by, element_by, content_by, item_by};
+ghost use Rattle.dq_dataset.specs.Lending.{rest_of, header_of, item_of};
+
+use crate::fault::ReadFault;
+use crate::header::{
+    Bound, Content, Header, ITEM_END, SEQUENCE_END, Syntax, end_at, header_at, item_header_at,
+};
+use dq_vr::Tag;
+
+/// What is left behind the value.
+#[cycle(checking)]
+#[tactic(auto, unfolding(crate::specs::Reading::value_by))]
+pub fn value_end<'a>(levels: u8, content: Content, octets: &'a [u8]) -> Result<&'a [u8], ReadFault>
+    requires nests { may_nest levels content ≡ true }
+    requires whole { fits (length_of content) octets.now ≡ true }
+    ensures value { (vr : Vr) (n : ℕ) → length octets.now < n → Answers (λ x. x.now) result (rest_of (value_by (readers n) levels vr content octets.now)) }
+    ensures shorter { IfOk result (λ x. length x.now ≤ length octets.now) }
+{
+    match content {
+        Content::Plain(length) => Ok(octets.split_at(length as usize).1),
+        Content::Sequence(syntax, Some(length)) => {
+            let (front, rest) = octets.split_at(length as usize);
+            items_end(Bound::Filled, syntax, levels - 1, front)?;
+            Ok(rest)
+        }
+        Content::Sequence(syntax, None) => items_end(Bound::Delimited, syntax, levels - 1, octets),
+    }
+}
+
+/// The header of the next element, and what is left behind its value, or behind the end.
+#[cycle(checking)]
+#[tactic(auto, unfolding(crate::specs::Reading::element_by))]
+fn element_end<'a>(
+    bound: Bound,
+    syntax: Syntax,
+    levels: u8,
+    last: Option<Tag>,
+    octets: &'a [u8],
+) -> Result<(Option<Header>, &'a [u8]), ReadFault>
+    ensures value { (n : ℕ) → length octets.now ≤ n → Answers (λ x. (x.0, x.1.now)) result (header_of (element_by (readers n) bound syntax levels last octets.now)) }
+    ensures shorter { IfOk result (λ x. length x.1.now ≤ length octets.now) }
+    ensures goes_on { IfOk result (λ x. OnSome x.0 (length x.1.now < length octets.now)) }
+{
+    if let Some(rest) = end_at(bound, ITEM_END, octets)? {
+        return Ok((None, rest));
+    }
+    let (header, rest) = header_at(syntax, levels, last, octets)?;
+    let rest = value_end(levels, header.content, rest)?;
+    Ok((Some(header), rest))
+}
+
+#[cycle(checking)]
+fn elements_end<'a>(
+    bound: Bound,
+    syntax: Syntax,
+    levels: u8,
+    octets: &'a [u8],
+) -> Result<&'a [u8], ReadFault>
+    ensures value { (n : ℕ) → length octets.now < n → Answers (λ x. x.now) result (rest_of ((readers n).elements bound syntax levels None octets.now)) }
+    ensures shorter { IfOk result (λ x. length x.now ≤ length octets.now) }
+{
+    let mut last = None;
+    let mut rest = octets;
+    loop {
+        let (found, after) = element_end(bound, syntax, levels, last, rest)?;
+        let Some(header) = found else {
+            return Ok(after);
+        };
+        last = Some(header.tag);
+        rest = after;
+    }
+}
+
+#[cycle(checking)]
+#[tactic(auto, unfolding(crate::specs::Reading::content_by))]
+fn content_end<'a>(
+    syntax: Syntax,
+    levels: u8,
+    extent: Option<u32>,
+    octets: &'a [u8],
+) -> Result<&'a [u8], ReadFault>
+    requires whole { fits extent octets.now ≡ true }
+    ensures value { (n : ℕ) → length octets.now < n → Answers (λ x. x.now) result (rest_of (content_by (readers n) syntax levels extent octets.now)) }
+    ensures shorter { IfOk result (λ x. length x.now ≤ length octets.now) }
+{
+    match extent {
+        Some(length) => {
+            let (front, rest) = octets.split_at(length as usize);
+            elements_end(Bound::Filled, syntax, levels, front)?;
+            Ok(rest)
+        }
+        None => elements_end(Bound::Delimited, syntax, levels, octets),
+    }
+}
+
+/// Whether an item stands here, and what is left behind it, or behind the end.
+#[cycle(checking)]
+#[tactic(auto, unfolding(crate::specs::Reading::item_by))]
+fn item_end<'a>(
+    bound: Bound,
+    syntax: Syntax,
+    levels: u8,
+    octets: &'a [u8],
+) -> Result<(Option<()>, &'a [u8]), ReadFault>
+    ensures value { (n : ℕ) → length octets.now ≤ n → Answers (λ x. (x.0, x.1.now)) result (item_of (item_by (readers n) bound syntax levels octets.now)) }
+    ensures shorter { IfOk result (λ x. length x.1.now ≤ length octets.now) }
+    ensures goes_on { IfOk result (λ x. OnSome x.0 (length x.1.now < length octets.now)) }
+{
+    if let Some(rest) = end_at(bound, SEQUENCE_END, octets)? {
+        return Ok((None, rest));
+    }
+    let (length, rest) = item_header_at(octets)?;
+    let rest = content_end(syntax, levels, length, rest)?;
+    Ok((Some(()), rest))
+}
+
+#[cycle(checking)]
+fn items_end<'a>(
+    bound: Bound,
+    syntax: Syntax,
+    levels: u8,
+    octets: &'a [u8],
+) -> Result<&'a [u8], ReadFault>
+    ensures value { (n : ℕ) → length octets.now < n → Answers (λ x. x.now) result (rest_of ((readers n).items bound syntax levels octets.now)) }
+    ensures shorter { IfOk result (λ x. length x.now ≤ length octets.now) }
+{
+    let mut rest = octets;
+    loop {
+        let (found, after) = item_end(bound, syntax, levels, rest)?;
+        let Some(()) = found else {
+            return Ok(after);
+        };
+        rest = after;
+    }
+}

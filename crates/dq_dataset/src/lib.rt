@@ -1,0 +1,24 @@
+//! Data sets of DICOM, read and written (PS3.5 section 7).
+#![tactic(auto)]
+
+mod checking;
+mod copying;
+mod data_set;
+mod fault;
+mod header;
+pub mod laws;
+mod lending;
+mod listed;
+mod reading;
+mod writing;
+
+pub use data_set::{DataSet, Element, Value};
+pub use fault::ReadFault;
+pub use header::Syntax;
+pub use lending::{Elements, Lent};
+pub use listed::Listed;
+pub use reading::read;
+pub use writing::write;
+
+#[cfg(test)]
+mod tests;

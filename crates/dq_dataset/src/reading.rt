@@ -1,0 +1,204 @@
+//! Reading data sets (PS3.5 section 7).
+ghost use Rattle.std.specs.Prelude.{◌≡◌, ℕ, ◌+◌, ◌<◌, ◌≤◌, ◌^◌, true, None, length, option_map, IfOk, OnSome};
+ghost use Rattle.dq_dataset.specs.Reading.{Gives, readers, reading, may_nest, length_of, fits, value_by, element_by, content_by, item_by};
+ghost use Rattle.dq_dataset.specs.Rules.{padded};
+ghost use Rattle.dq_dataset.specs.Tree.{ElementList};
+ghost use Rattle.dq_dataset.specs.Grammar.{IsSpelled};
+
+use crate::data_set::{DataSet, Element, Value};
+use crate::fault::ReadFault;
+use crate::header::{
+    Bound, Content, Header, ITEM_END, SEQUENCE_END, Syntax, end_at, header_at, item_header_at,
+};
+use crate::listed::Listed;
+use dq_vr::{Tag, Vr};
+use std::alloc::{AllocError, Global};
+
+/// The octets with a pad where they are odd.
+fn padded(alloc: Global, vr: Vr, octets: &[u8]) -> Result<Vec<u8>, AllocError>
+    ensures { IfOk result (λ v. v.items ≡ padded vr octets.now) }
+{
+    let mut value = Vec::from_slice(alloc, octets)?;
+    if octets.len() % 2 != 0 {
+        value.push(if vr.is_text() { b' ' } else { 0 })?;
+    }
+    Ok(value)
+}
+
+#[cycle(reading)]
+#[tactic(auto, unfolding(crate::specs::Reading::value_by))]
+fn value_of<'a>(
+    alloc: Global,
+    levels: u8,
+    vr: Vr,
+    content: Content,
+    octets: &'a [u8],
+) -> Result<(Value, &'a [u8]), ReadFault>
+    requires shallow { levels ≤ 16 }
+    requires nests { may_nest levels content ≡ true }
+    requires whole { fits (length_of content) octets.now ≡ true }
+    ensures value { (n : ℕ) → length octets.now < n → Gives (λ x. (x.0, x.1.now)) result (value_by (readers n) levels vr content octets.now) }
+    ensures shorter { IfOk result (λ x. length x.1.now ≤ length octets.now) }
+{
+    match content {
+        Content::Plain(length) => {
+            let (front, rest) = octets.split_at(length as usize);
+            let value = padded(alloc, vr, front)?;
+            Ok((Value::Octets(Listed::from_inner(value)), rest))
+        }
+        Content::Sequence(syntax, Some(length)) => {
+            let (front, rest) = octets.split_at(length as usize);
+            let (items, _) = items_of(alloc, Bound::Filled, syntax, levels - 1, front)?;
+            Ok((Value::Items(Listed::from_inner(items)), rest))
+        }
+        Content::Sequence(syntax, None) => {
+            let (items, rest) = items_of(alloc, Bound::Delimited, syntax, levels - 1, octets)?;
+            Ok((Value::Items(Listed::from_inner(items)), rest))
+        }
+    }
+}
+
+#[cycle(reading)]
+#[tactic(auto, unfolding(crate::specs::Reading::element_by))]
+fn element_of<'a>(
+    alloc: Global,
+    bound: Bound,
+    syntax: Syntax,
+    levels: u8,
+    last: Option<Tag>,
+    octets: &'a [u8],
+) -> Result<(Option<(Header, Value)>, &'a [u8]), ReadFault>
+    requires { levels ≤ 16 }
+    ensures value { (n : ℕ) → length octets.now ≤ n → Gives (λ x. (x.0, x.1.now)) result (element_by (readers n) bound syntax levels last octets.now) }
+    ensures shorter { IfOk result (λ x. length x.1.now ≤ length octets.now) }
+    ensures goes_on { IfOk result (λ x. OnSome x.0 (length x.1.now < length octets.now)) }
+{
+    if let Some(rest) = end_at(bound, ITEM_END, octets)? {
+        return Ok((None, rest));
+    }
+    let (header, rest) = header_at(syntax, levels, last, octets)?;
+    let (value, rest) = value_of(alloc, levels, header.vr, header.content, rest)?;
+    Ok((Some((header, value)), rest))
+}
+
+#[cycle(reading)]
+fn elements_of<'a>(
+    alloc: Global,
+    bound: Bound,
+    syntax: Syntax,
+    levels: u8,
+    octets: &'a [u8],
+) -> Result<(Vec<Element>, &'a [u8]), ReadFault>
+    requires { levels ≤ 16 }
+    ensures value { (n : ℕ) → length octets.now < n → Gives (λ x. (x.0.items, x.1.now)) result ((readers n).elements bound syntax levels None octets.now) }
+    ensures shorter { IfOk result (λ x. length x.1.now ≤ length octets.now) }
+{
+    let mut elements = Vec::new(alloc);
+    let mut last = None;
+    let mut rest = octets;
+    loop {
+        let (found, after) = element_of(alloc, bound, syntax, levels, last, rest)?;
+        let Some((header, value)) = found else {
+            return Ok((elements, after));
+        };
+        let Header { tag, vr, .. } = header;
+        if tag.element != 0 {
+            elements.push(Element { tag, vr, value })?;
+        }
+        last = Some(tag);
+        rest = after;
+    }
+}
+
+#[cycle(reading)]
+#[tactic(auto, unfolding(crate::specs::Reading::content_by))]
+fn content_of<'a>(
+    alloc: Global,
+    syntax: Syntax,
+    levels: u8,
+    extent: Option<u32>,
+    octets: &'a [u8],
+) -> Result<(Vec<Element>, &'a [u8]), ReadFault>
+    requires shallow { levels ≤ 16 }
+    requires whole { fits extent octets.now ≡ true }
+    ensures value { (n : ℕ) → length octets.now < n → Gives (λ x. (x.0.items, x.1.now)) result (content_by (readers n) syntax levels extent octets.now) }
+    ensures shorter { IfOk result (λ x. length x.1.now ≤ length octets.now) }
+{
+    match extent {
+        Some(length) => {
+            let (front, rest) = octets.split_at(length as usize);
+            let (elements, _) = elements_of(alloc, Bound::Filled, syntax, levels, front)?;
+            Ok((elements, rest))
+        }
+        None => elements_of(alloc, Bound::Delimited, syntax, levels, octets),
+    }
+}
+
+#[cycle(reading)]
+#[tactic(auto, unfolding(crate::specs::Reading::item_by))]
+fn item_of<'a>(
+    alloc: Global,
+    bound: Bound,
+    syntax: Syntax,
+    levels: u8,
+    octets: &'a [u8],
+) -> Result<(Option<DataSet>, &'a [u8]), ReadFault>
+    requires { levels ≤ 16 }
+    ensures value { (n : ℕ) → length octets.now ≤ n → Gives (λ x. (x.0, x.1.now)) result (item_by (readers n) bound syntax levels octets.now) }
+    ensures shorter { IfOk result (λ x. length x.1.now ≤ length octets.now) }
+    ensures goes_on { IfOk result (λ x. OnSome x.0 (length x.1.now < length octets.now)) }
+{
+    if let Some(rest) = end_at(bound, SEQUENCE_END, octets)? {
+        return Ok((None, rest));
+    }
+    let (length, rest) = item_header_at(octets)?;
+    let (elements, rest) = content_of(alloc, syntax, levels, length, rest)?;
+    Ok((Some(DataSet::from_elements(elements)), rest))
+}
+
+#[cycle(reading)]
+fn items_of<'a>(
+    alloc: Global,
+    bound: Bound,
+    syntax: Syntax,
+    levels: u8,
+    octets: &'a [u8],
+) -> Result<(Vec<DataSet>, &'a [u8]), ReadFault>
+    requires { levels ≤ 16 }
+    ensures value { (n : ℕ) → length octets.now < n → Gives (λ x. (x.0.items, x.1.now)) result ((readers n).items bound syntax levels octets.now) }
+    ensures shorter { IfOk result (λ x. length x.1.now ≤ length octets.now) }
+{
+    let mut items = Vec::new(alloc);
+    let mut rest = octets;
+    loop {
+        let (found, after) = item_of(alloc, bound, syntax, levels, rest)?;
+        let Some(item) = found else {
+            return Ok((items, after));
+        };
+        items.push(item)?;
+        rest = after;
+    }
+}
+
+/// The greatest depth of sequences, where one of the outer data set has depth 1.
+pub const DEPTH: u8 = 16;
+
+#[tactic(auto, unfolding(crate::specs::Reading::reading))]
+fn all_of(alloc: Global, octets: &[u8], syntax: Syntax) -> Result<DataSet, ReadFault>
+    ensures { Gives (λ d. d) result (reading syntax octets.now) }
+{
+    let (elements, _) = elements_of(alloc, Bound::Filled, syntax, DEPTH, octets)?;
+    Ok(DataSet::from_elements(elements))
+}
+
+/// The data set that the octets spell, all of them (PS3.5 section 7). Octets that spell none have a first fault.
+pub fn read(alloc: Global, octets: &[u8], syntax: Syntax) -> Result<DataSet, ReadFault>
+    // What is read is spelled so.
+    ensures found { IfOk result (λ d. IsSpelled syntax octets.now d) }
+    // What is spelled so is read, unless memory runs out.
+    ensures only { (d : ElementList) → IsSpelled syntax octets.now d → Gives (λ d. d) result (Ok d) }
+    // Which fault it is, unless memory runs out.
+    ensures exact { Gives (λ d. d) result (reading syntax octets.now) }
+{
+    all_of(alloc, octets, syntax)
+}
