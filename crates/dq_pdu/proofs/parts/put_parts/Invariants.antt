@@ -1,0 +1,6 @@
+use Rattle.std.proofs.Common.{◌≡◌, ◌++◌, take}
+use Rattle.std.specs.List.{flat_map}
+use Rattle.dq_pdu.proofs.parts.put_parts.Given as goal
+
+abbrev pub invariant-loop-part : goal.invariant-loop-part
+invariant-loop-part g l = l.out.items ≡ l.fn.out.items ++ flat_map g.P.Part.octets (take l.part-index l.parts)

@@ -1,0 +1,5 @@
+pub mod Octets
+pub mod Spelling
+pub mod Reading
+pub mod Stream
+pub mod Writing

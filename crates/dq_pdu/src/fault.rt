@@ -1,0 +1,33 @@
+ghost use Rattle.std.specs.Prelude.{◌≡◌};
+ghost use Rattle.dq_pdu.specs.declared.fault.InboxError.TheVariants.{NoMemory};
+
+use std::alloc::AllocError;
+use thiserror::Error;
+
+/// What is wrong with a stream (PS3.8 section 9.3.8): the first fault, in this order.
+#[derive(Clone, Copy, Debug, PartialEq, Eq, Error)]
+pub enum PduFault {
+    #[error("the type of a unit is unknown")]
+    Unrecognized = 1,
+    #[error("a unit is longer than 65,536 octets")]
+    TooLong = 2,
+    #[error("the body of a unit breaks a rule")]
+    Malformed = 3,
+}
+
+/// Why a piece was not taken.
+#[derive(Clone, Copy, Debug, PartialEq, Eq, Error)]
+pub enum InboxError {
+    #[error("memory ran out")]
+    NoMemory = 4,
+    #[error("memory ran out before")]
+    Spent = 5,
+}
+
+impl From<AllocError> for InboxError {
+    ghost from_gives = { λ _ e. e ≡ NoMemory };
+
+    fn from(_e: AllocError) -> InboxError {
+        InboxError::NoMemory
+    }
+}

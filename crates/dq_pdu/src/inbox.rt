@@ -1,0 +1,114 @@
+ghost use Rattle.std.specs.Prelude.{◌≡◌, List, ℕ, ◌++◌, [], ◌↔◌, IfOk, OnOk, OnErr, IsErrOf, IsOk};
+ghost use Rattle.dq_pdu.specs.Stream.{units, holding};
+
+use crate::fault::{InboxError, PduFault};
+use crate::listed::Listed;
+use crate::pdu::Pdu;
+use crate::units::{cut_front, units_of};
+use std::alloc::{AllocError, Global};
+use std::marker::Model;
+use std::mem;
+
+/// What an inbox holds between two pieces.
+#[derive(Debug, Drop)]
+pub(crate) enum Held {
+    /// The octets behind the last unit.
+    Reading(Listed<u8>),
+    /// The stream has a fault.
+    Stopped(PduFault),
+    /// Memory ran out.
+    Spent,
+}
+
+/// Takes a stream in pieces and gives its units (PS3.8 section 9.3).
+#[derive(Debug, Drop)]
+pub struct Inbox {
+    alloc: Global,
+    held: Held,
+}
+
+impl Model for Inbox {
+    ghost use Rattle.dq_pdu.specs.declared.inbox.Held.{Held};
+
+    ghost Value = { Held };
+
+    ghost view = { λ a. a.held };
+}
+
+/// What a piece added to a stream: the units that it completed, and the fault behind them.
+#[derive(Debug, Drop)]
+pub struct Fed {
+    pub pdus: Listed<Pdu>,
+    pub fault: Option<PduFault>,
+}
+
+impl Inbox {
+    /// An inbox that has read nothing. It takes no memory.
+    #[tactic(auto, unfolding(crate::specs::Stream::units_within))]
+    pub fn new(alloc: Global) -> Self
+        ensures { result ≡ holding [] }
+    {
+        Inbox {
+            alloc,
+            held: Held::Reading(Listed::from_inner(Vec::new(alloc))),
+        }
+    }
+
+    /// Takes the next piece of the stream. However a stream is cut into pieces, their units are those of the stream.
+    /// It takes time in proportion to the octets, however small the pieces are.
+    ///
+    /// `NoMemory` where memory ran out, and `Spent` from then on.
+    pub fn feed(&mut self, piece: &[u8]) -> Result<Fed, InboxError>
+        ensures units { (stream : List ℕ) → self.old ≡ holding stream → IfOk result (λ fed.
+            ((units (stream ++ piece.now)).list ≡ (units stream).list ++ fed.pdus)
+            × ((units (stream ++ piece.now)).fault ≡ fed.fault)) }
+        // What is held and the piece behind it.
+        ensures exact { (rest : List ℕ) → self.old ≡ Held.Reading rest → IfOk result (λ fed.
+            ((units (rest ++ piece.now)).list ≡ fed.pdus)
+            × ((units (rest ++ piece.now)).fault ≡ fed.fault)
+            × (self.new ≡ holding (rest ++ piece.now))) }
+        ensures stands { (stream : List ℕ) → self.old ≡ holding stream → OnOk result (self.new ≡ holding (stream ++ piece.now)) }
+        // A fault stays, and no unit comes behind it.
+        ensures stopped { (fault : PduFault) → self.old ≡ Held.Stopped fault → IfOk result (λ fed. (fed.pdus ≡ []) × (fed.fault ≡ Some fault)) }
+        ensures stays { (fault : PduFault) → self.old ≡ Held.Stopped fault → IsOk result × (self.new ≡ Held.Stopped fault) }
+        ensures spent { IsErrOf result InboxError.Spent ↔ (self.old ≡ Held.Spent) }
+        ensures err { OnErr result (self.new ≡ Held.Spent) }
+    {
+        match mem::replace(&mut self.held, Held::Spent) {
+            Held::Spent => Err(InboxError::Spent),
+            Held::Stopped(fault) => {
+                self.held = Held::Stopped(fault);
+                let pdus = Listed::from_inner(Vec::new(self.alloc));
+                Ok(Fed {
+                    pdus,
+                    fault: Some(fault),
+                })
+            }
+            Held::Reading(rest) => {
+                let (held, fed) = read_on(self.alloc, rest, piece)?;
+                self.held = held;
+                Ok(fed)
+            }
+        }
+    }
+}
+
+/// Reads a rest and the piece behind it, and gives what is held from then on.
+fn read_on(alloc: Global, rest: Listed<u8>, piece: &[u8]) -> Result<(Held, Fed), AllocError>
+    ensures held { IfOk result (λ x. x.0 ≡ holding (rest ++ piece.now)) }
+    ensures fed { IfOk result (λ x. ((units (rest ++ piece.now)).list ≡ x.1.pdus) × ((units (rest ++ piece.now)).fault ≡ x.1.fault)) }
+{
+    let mut octets = rest.into_inner();
+    octets.extend_from_slice(piece)?;
+    let (pdus, fault, left) = units_of(alloc, &octets)?;
+    let count = octets.len() - left.len();
+    let pdus = Listed::from_inner(pdus);
+    let held = match fault {
+        Some(fault) => Held::Stopped(fault),
+        None => {
+            cut_front(&mut octets, count);
+            Held::Reading(Listed::from_inner(octets))
+        }
+    };
+    Ok((held, Fed { pdus, fault }))
+}

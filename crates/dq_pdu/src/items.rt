@@ -1,0 +1,105 @@
+//! Items and sub-items, as they are read (PS3.8 section 9.3.2).
+ghost use Rattle.std.specs.Prelude.{◌≡◌, map, length, option_map, IfOk, Some};
+ghost use Rattle.dq_pdu.specs.Octets.{parts_of, bodies, at_most_one, exactly_one, unpadded};
+ghost use Rattle.dq_pdu.specs.Reading.{Gives, item_at};
+
+use crate::listed::Listed;
+use crate::reading::{Item, ReadError};
+use crate::rules::is_padding;
+use std::alloc::{AllocError, Global};
+
+/// The item at the front, and the octets behind it.
+#[tactic(auto, unfolding(crate::specs::Reading::item_at))]
+fn item_at(alloc: Global, octets: &[u8]) -> Result<(Item, &[u8]), ReadError>
+    ensures { Gives (λ x. (x.0, x.1.now)) result (item_at octets.now) }
+{
+    if octets.len() < 4 {
+        return Err(ReadError::Malformed);
+    }
+    let (header, rest) = octets.split_at(4);
+    let size = u16::from_be_bytes([header[2], header[3]]) as usize;
+    if rest.len() < size {
+        return Err(ReadError::Malformed);
+    }
+    let (body, rest) = rest.split_at(size);
+    let item = Item {
+        kind: header[0],
+        octets: Listed::from_inner(Vec::from_slice(alloc, body)?),
+    };
+    Ok((item, rest))
+}
+
+/// The items that fill the octets.
+pub(crate) fn items_of(alloc: Global, octets: &[u8]) -> Result<Vec<Item>, ReadError>
+    ensures { Gives (λ v. v.items) result (parts_of item_at octets.now) }
+{
+    let mut items = Vec::new(alloc);
+    let mut rest = octets;
+    while !rest.is_empty() {
+        let (item, behind) = item_at(alloc, rest)?;
+        items.push(item)?;
+        rest = behind;
+    }
+    Ok(items)
+}
+
+/// The body of the only item of a type, if there is one.
+pub(crate) fn at_most_one(items: &[Item], kind: u8) -> Result<Option<&[u8]>, ReadError>
+    ensures { Gives (option_map (λ x. x.now)) result (at_most_one (bodies kind items.now)) }
+{
+    let mut found: Option<&[u8]> = None;
+    for item in items {
+        if item.kind == kind {
+            if found.is_some() {
+                return Err(ReadError::Malformed);
+            }
+            found = Some(item.octets.inner());
+        }
+    }
+    Ok(found)
+}
+
+/// The body of the only item of a type.
+pub(crate) fn exactly_one(items: &[Item], kind: u8) -> Result<&[u8], ReadError>
+    ensures { Gives (λ x. x.now) result (exactly_one (bodies kind items.now)) }
+{
+    at_most_one(items, kind)?.ok_or(ReadError::Malformed)
+}
+
+/// The octets without the padding at their end (PS3.5 section 9.1).
+fn unpadded(octets: &[u8]) -> &[u8]
+    ensures { result.now ≡ unpadded octets.now }
+{
+    let mut rest = octets;
+    while let [front @ .., last] = rest {
+        if !is_padding(*last) {
+            return rest;
+        }
+        rest = front;
+    }
+    rest
+}
+
+/// A unique identifier without its padding.
+pub(crate) fn name_of(alloc: Global, octets: &[u8]) -> Result<Listed<u8>, AllocError>
+    ensures { IfOk result (λ name. name ≡ unpadded octets.now) }
+{
+    Ok(Listed::from_inner(Vec::from_slice(alloc, unpadded(octets))?))
+}
+
+/// The names in the items of a type, in order.
+pub(crate) fn names_of(
+    alloc: Global,
+    items: &[Item],
+    kind: u8,
+) -> Result<Vec<Listed<u8>>, AllocError>
+    ensures { IfOk result (λ names. names.items ≡ map unpadded (bodies kind items.now)) }
+{
+    let mut names = Vec::new(alloc);
+    for item in items {
+        if item.kind == kind {
+            names.push(name_of(alloc, item.octets.inner())?)?;
+        }
+    }
+    Ok(names)
+}

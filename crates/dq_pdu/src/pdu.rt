@@ -1,0 +1,73 @@
+use crate::listed::Listed;
+
+/// A protocol data unit (PS3.8 section 9.3).
+#[derive(Debug, Drop)]
+pub enum Pdu {
+    /// A-ASSOCIATE-RQ.
+    Request(Request),
+    /// A-ASSOCIATE-AC.
+    Accept(Accept),
+    /// A-ASSOCIATE-RJ: result, source and reason.
+    Reject(u8, u8, u8),
+    /// P-DATA-TF: one or more presentation data values.
+    PData(Listed<Pdv>),
+    /// A-RELEASE-RQ.
+    ReleaseRq,
+    /// A-RELEASE-RP.
+    ReleaseRp,
+    /// A-ABORT: source and reason.
+    Abort(u8, u8),
+}
+
+/// An association request (PS3.8 section 9.3.2).
+#[derive(Debug, Drop)]
+pub struct Request {
+    /// The protocol version, a field of bits.
+    pub version: u16,
+    pub called: [u8; 16],
+    pub calling: [u8; 16],
+    pub reserved: [u8; 32],
+    pub application_context: Option<Listed<u8>>,
+    pub contexts: Listed<ProposedContext>,
+    pub maximum_length: Option<u32>,
+}
+
+/// A presentation context that a request proposes (PS3.8 section 9.3.2.2).
+#[derive(Debug, Drop)]
+pub struct ProposedContext {
+    pub id: u8,
+    pub abstract_syntax: Listed<u8>,
+    pub transfer_syntaxes: Listed<Listed<u8>>,
+}
+
+/// An association's acceptance (PS3.8 section 9.3.3).
+#[derive(Debug, Drop)]
+pub struct Accept {
+    pub version: u16,
+    pub called: [u8; 16],
+    pub calling: [u8; 16],
+    pub reserved: [u8; 32],
+    pub application_context: Option<Listed<u8>>,
+    pub contexts: Listed<AnsweredContext>,
+    pub maximum_length: Option<u32>,
+}
+
+/// A presentation context as an acceptance answers it (PS3.8 section 9.3.3.2).
+#[derive(Debug, Drop)]
+pub struct AnsweredContext {
+    pub id: u8,
+    pub result: u8,
+    pub transfer_syntax: Listed<u8>,
+}
+
+/// A presentation data value: a fragment of a message (PS3.8 section 9.3.5.1, annex E).
+#[derive(Debug, Drop)]
+pub struct Pdv {
+    /// The presentation context's id.
+    pub context: u8,
+    /// Whether the fragment is of a command, or else of a data set.
+    pub command: bool,
+    /// Whether it is the last of the command or the data set.
+    pub last: bool,
+    pub octets: Listed<u8>,
+}

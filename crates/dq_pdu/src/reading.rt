@@ -1,0 +1,75 @@
+ghost use Rattle.std.specs.Prelude.{◌≡◌, IfOk};
+ghost use Rattle.dq_pdu.specs.declared.reading.ReadError.TheVariants.{Memory};
+ghost use Rattle.dq_pdu.specs.Reading.{front};
+
+use crate::bodies::unit_of;
+use crate::fault::PduFault;
+use crate::listed::Listed;
+use crate::pdu::Pdu;
+use std::alloc::{AllocError, AllocFailed, Global};
+
+/// An item or sub-item: its type and its body (PS3.8 section 9.3.2).
+#[derive(Debug, Drop)]
+pub(crate) struct Item {
+    pub kind: u8,
+    pub octets: Listed<u8>,
+}
+
+/// Why a body could not be read.
+#[derive(Clone, Copy, Debug)]
+pub(crate) enum ReadError {
+    Memory,
+    Malformed,
+}
+
+impl From<AllocError> for ReadError {
+    ghost from_gives = { λ _ e. e ≡ Memory };
+
+    fn from(_e: AllocError) -> ReadError {
+        ReadError::Memory
+    }
+}
+
+impl<T: Drop> From<AllocFailed<T>> for ReadError {
+    ghost from_gives = { λ _ e. e ≡ Memory };
+
+    fn from(_e: AllocFailed<T>) -> ReadError {
+        ReadError::Memory
+    }
+}
+
+/// What octets begin with.
+#[derive(Debug, Drop)]
+pub(crate) enum Front {
+    /// Less than a unit.
+    Partial,
+    Faulty(PduFault),
+    /// A unit, and how many octets it takes.
+    Whole(Pdu, usize),
+}
+
+/// What octets begin with: a unit's type, a reserved octet, the length of its body, and its body (PS3.8 section 9.3.1).
+#[tactic(auto, unfolding(crate::specs::Reading::front))]
+pub(crate) fn front_of(alloc: Global, octets: &[u8]) -> Result<Front, AllocError>
+    ensures { IfOk result (λ found. found ≡ front octets.now) }
+{
+    if octets.len() < 6 {
+        return Ok(Front::Partial);
+    }
+    let (header, behind) = octets.split_at(6);
+    if header[0] == 0 || header[0] > 7 {
+        return Ok(Front::Faulty(PduFault::Unrecognized));
+    }
+    let size = u32::from_be_bytes([header[2], header[3], header[4], header[5]]) as usize;
+    if size > 65536 {
+        return Ok(Front::Faulty(PduFault::TooLong));
+    }
+    if behind.len() < size {
+        return Ok(Front::Partial);
+    }
+    match unit_of(alloc, header[0], behind.split_at(size).0) {
+        Ok(pdu) => Ok(Front::Whole(pdu, size + 6)),
+        Err(ReadError::Malformed) => Ok(Front::Faulty(PduFault::Malformed)),
+        Err(ReadError::Memory) => Err(AllocError),
+    }
+}
