@@ -1,0 +1,39 @@
+ghost use Rattle.std.specs.Prelude.{◌≡◌};
+ghost use Rattle.dq_dimse.specs.declared.fault.DimseFault.TheVariants.{NoMemory};
+ghost use Rattle.dq_dimse.specs.Reading.{fault_of};
+
+use dq_dataset::ReadFault;
+use std::alloc::AllocError;
+use thiserror::Error;
+
+/// Why presentation data values are no messages.
+#[derive(Clone, Copy, Debug, PartialEq, Eq, Error)]
+pub enum DimseFault {
+    #[error("a value is of a context that is not accepted, or not of the message begun")]
+    WrongContext = 1,
+    #[error("a data fragment stands where a command is due, or the reverse")]
+    WrongKind = 2,
+    #[error("a command set cannot be read")]
+    BadCommand = 3,
+    #[error("memory ran out")]
+    NoMemory = 4,
+}
+
+impl From<AllocError> for DimseFault {
+    ghost from_gives = { λ _ e. e ≡ NoMemory };
+
+    fn from(_e: AllocError) -> DimseFault {
+        DimseFault::NoMemory
+    }
+}
+
+impl From<ReadFault> for DimseFault {
+    ghost from_gives = { λ e f. f ≡ fault_of e };
+
+    fn from(e: ReadFault) -> DimseFault {
+        match e {
+            ReadFault::NoMemory => DimseFault::NoMemory,
+            _ => DimseFault::BadCommand,
+        }
+    }
+}

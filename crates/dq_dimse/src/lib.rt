@@ -1,0 +1,19 @@
+//! DICOM messages: command sets assembled from presentation data values, and messages cut into units to send
+//! (PS3.7 section 6.3.1, PS3.8 annex E).
+#![tactic(auto)]
+
+mod assembler;
+mod command;
+mod fault;
+pub mod laws;
+mod numbers;
+mod reading;
+mod sending;
+
+pub use assembler::Assembler;
+pub use command::{Command, Message};
+pub use fault::DimseFault;
+pub use sending::write_message;
+
+#[cfg(test)]
+mod tests;
