@@ -1,0 +1,14 @@
+pub mod Titles
+pub mod Growing
+pub mod Answering
+pub mod Taking
+pub mod Standings
+pub mod Pieces
+pub mod Holding
+pub mod Turning
+pub mod Standing
+pub mod Running
+pub mod Separate
+pub mod Aborting
+pub mod Cutting
+pub mod WorkedExamples
