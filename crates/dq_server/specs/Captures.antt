@@ -1,0 +1,64 @@
+-- Captures: the text of a history, an event a line.
+use Rattle.std.specs.Prelude.{◌≡◌, ℕ, ◌-◌, ◌^◌, ◌<◌, ◌≤◌, ◌⊎◌, ◌==◌, Bool, true, not, IsTrue, List, [], ◌∷◌, ◌++◌, length, take, filter, codes, Ok}
+use Rattle.std.specs.Fmt.{decimal}
+use Rattle.std.specs.List.{slice_split}
+use Rattle.hex.specs.Hex.{decode_of}
+use Rattle.dq_core.specs.declared.event.Event.{Event}
+use Rattle.dq_core.specs.declared.event.Event.TheVariants.{Open, Piece, End}
+use Rattle.dq_core.specs.Histories.{is_well_formed}
+
+abbrev pub line_feed : ℕ
+line_feed = 10
+
+abbrev pub number_sign : ℕ
+number_sign = 35
+
+-- Lines end by a line feed. What is behind the last one counts as a line too, empty where nothing is there.
+abbrev pub lines_of : List ℕ → List (List ℕ)
+lines_of text = slice_split (λ octet. octet == line_feed) text
+
+-- An empty line, or one that begins with a number sign, tells nothing.
+abbrev pub is_skipped : List ℕ → Bool
+is_skipped [] = true
+is_skipped (octet ∷ octets) = octet == number_sign
+
+abbrev pub told : List (List ℕ) → List (List ℕ)
+told lines = filter (λ line. not (is_skipped line)) lines
+
+-- the number of a connection: decimal digits, without leading zeros
+abbrev pub IsNumber : List ℕ → ℕ → Type 0
+IsNumber text number = (number < 2 ^ 64) × (text ≡ decimal number)
+
+-- octets: a hyphen for none, else two hexadecimal digits of either case for each
+abbrev pub AreOctets : List ℕ → List ℕ → Type 0
+AreOctets text octets = ((text ≡ codes "-") × (octets ≡ [])) ⊎ ((0 < length text) × (decode_of text ≡ Ok octets))
+
+-- a piece behind its word: the number, a space, and the octets
+abbrev pub SpellsPiece : List ℕ → Event → Type 0
+SpellsPiece text (Open number) = ⊥
+SpellsPiece text (Piece number octets) = (digits : List ℕ) × (hex : List ℕ) × (text ≡ digits ++ codes " " ++ hex) × IsNumber digits number × AreOctets hex octets
+SpellsPiece text (End number) = ⊥
+
+-- `open N`, `piece N HEX` and `end N`, with one space between
+abbrev pub Spells : List ℕ → Event → Type 0
+Spells line (Open number) = (digits : List ℕ) × (line ≡ codes "open " ++ digits) × IsNumber digits number
+Spells line (Piece number octets) = (rest : List ℕ) × (line ≡ codes "piece " ++ rest) × SpellsPiece rest (Piece number octets)
+Spells line (End number) = (digits : List ℕ) × (line ≡ codes "end " ++ digits) × IsNumber digits number
+
+-- each line spells its event
+abbrev pub SpellEach : List (List ℕ) → List Event → Type 0
+SpellEach [] [] = Unit {0}
+SpellEach [] (event ∷ events) = ⊥
+SpellEach (line ∷ lines) [] = ⊥
+SpellEach (line ∷ lines) (event ∷ events) = Spells line event × SpellEach lines events
+
+-- The lines that are not skipped spell the events, and opened numbers rise.
+pub record AreCapture (lines : List (List ℕ)) (events : List Event) : Type 0 where
+  pub spelled : SpellEach (told lines) events
+  pub rising : IsTrue (is_well_formed events)
+
+-- The lines before the one of this number are a capture, and with it they are none. Lines are counted from 1.
+pub record IsFirstBadLine (lines : List (List ℕ)) (number : ℕ) : Type 0 where
+  pub counted : (0 < number) × (number ≤ length lines)
+  pub before : (events : List Event) × AreCapture (take (number - 1) lines) events
+  pub bad : (events : List Event) → AreCapture (take number lines) events → ⊥

@@ -1,0 +1,76 @@
+//! The printed lines of replies.
+
+ghost use Rattle.std.specs.Prelude.{◌≡◌, ℕ, ◌<◌, length, take, IfOk, OnOk, IsErrOf, string_bytes};
+ghost use Rattle.std.specs.List.{flat_map};
+ghost use Rattle.std.specs.Io.KnownBytes.{Appends};
+ghost use Rattle.dq_server.specs.Printing.{octets_text, close_text, printed_line};
+
+use dq_core::Reply;
+use std::alloc::{AllocError, Global};
+use std::io::Write;
+use thiserror::Error;
+
+/// Why replies are not printed.
+#[derive(Clone, Copy, Debug, PartialEq, Eq, Error)]
+pub enum PrintFault {
+    #[error("memory ran out")]
+    NoMemory = 1,
+    #[error("the output cannot be written")]
+    Output = 2,
+}
+
+fn octets_text(alloc: Global, octets: &[u8]) -> Result<String, AllocError>
+    ensures { IfOk result (λ text. string_bytes text ≡ octets_text octets.now) }
+{
+    if octets.is_empty() {
+        String::from_str(alloc, "-")
+    } else {
+        hex::encode(alloc, octets)
+    }
+}
+
+fn close_text(close: bool) -> &'static str
+    ensures { result.now ≡ close_text close }
+{
+    if close { " close" } else { "" }
+}
+
+fn printed_line(alloc: Global, reply: &Reply) -> Result<String, AllocError>
+    ensures { IfOk result (λ line. string_bytes line ≡ printed_line reply.now) }
+{
+    match reply {
+        Reply::Octets {
+            conn,
+            octets,
+            close,
+        } => {
+            let octets = octets_text(alloc, octets.inner().as_slice())?;
+            format!(in alloc; "{conn} {octets}{}\n", close_text(*close))
+        }
+        Reply::Done => String::from_str(alloc, "done\n"),
+        Reply::Ignored => String::from_str(alloc, "ignored\n"),
+    }
+}
+
+/// Prints a line for each reply.
+pub fn print_replies<W: Write>(
+    alloc: Global,
+    replies: &[Reply],
+    output: &mut W,
+) -> Result<(), PrintFault>
+    ensures written { OnOk result (Appends (W.contents output.old) (W.contents output.new) (flat_map printed_line replies.now)) }
+    // Where memory runs out, the lines of the first replies were written whole.
+    ensures no_memory { IsErrOf result PrintFault.NoMemory → (k : ℕ) × (k < length replies.now)
+        × Appends (W.contents output.old) (W.contents output.new) (flat_map printed_line (take k replies.now)) }
+{
+    for reply in replies {
+        let line = match printed_line(alloc, reply) {
+            Ok(line) => line,
+            Err(_) => return Err(PrintFault::NoMemory),
+        };
+        if output.write_all(line.as_bytes()).is_err() {
+            return Err(PrintFault::Output);
+        }
+    }
+    Ok(())
+}

@@ -1,0 +1,54 @@
+//! A bench of trials for data sets, for the suites: it reads octets that lines give, and answers the first fault or the
+//! canonical spellings.
+#![tactic(auto)]
+
+mod cost;
+mod stop;
+mod trial;
+
+use cost::{print_costs, take_memory};
+use std::process::ExitCode;
+use std::rt::Env;
+use std::time::CpuClock;
+use std::{env, io};
+use stop::Stop;
+use trial::run_trials;
+
+/// What the words ask for, with a number of calls.
+#[derive(Clone, Copy, Debug, PartialEq, Eq)]
+enum Request {
+    Cost { is_half: bool, calls: u32 },
+    Memory { calls: u32 },
+}
+
+/// The words are `cost N`, `cost N half` or `memory N`.
+fn request_of(words: &[String]) -> Option<Request> {
+    let calls = words.get(1)?.parse::<u32>().ok()?;
+    let is_half = words.len() == 3 && words[2].as_str() == "half";
+    match words[0].as_str() {
+        "cost" if is_half || words.len() == 2 => Some(Request::Cost { is_half, calls }),
+        "memory" if words.len() == 2 => Some(Request::Memory { calls }),
+        _ => None,
+    }
+}
+
+fn perform<R: Env + AllocGlobal + Input + Print + CpuClock>(rt: &R) -> Result<(), Stop> {
+    let words: Vec<String> = env::args(rt)?.skip(1).collect(rt.alloc())?;
+    if words.is_empty() {
+        return run_trials(rt.alloc(), rt.reader(), &mut io::writer(rt));
+    }
+    match request_of(words.as_slice()).ok_or(Stop::Usage)? {
+        Request::Cost { is_half, calls } => print_costs(rt, is_half, calls),
+        Request::Memory { calls } => take_memory(rt.alloc(), calls),
+    }
+}
+
+fn main(rt: HostRuntime) -> ExitCode {
+    match perform(&rt) {
+        Ok(()) => ExitCode::SUCCESS,
+        Err(stop) => {
+            let _ = stop.tell(&rt);
+            ExitCode::from(stop.status())
+        }
+    }
+}

@@ -1,0 +1,136 @@
+//! Trials: octets that are read as a data set, and the canonical spellings of what was read.
+ghost use Rattle.std.specs.Prelude.{◌≡◌, ◌<◌, ◌^◌, length, string_bytes, IfOk};
+ghost use Rattle.dq_dataset.specs.Reading.{reading};
+ghost use Rattle.dq_trials.specs.Answers.{answer_of, number_of, octets_text, answer_text};
+
+use crate::stop::Stop;
+use dq_dataset::{Listed, ReadFault, Syntax, laws, read, write};
+use hex::FromHexError;
+use std::alloc::{AllocError, Global};
+use std::io::{self, Read, Write};
+
+/// The first fault of octets, or the canonical spellings of the data set that they spell.
+#[derive(Debug, Drop)]
+pub enum Answer {
+    Fault(ReadFault),
+    Spelled {
+        explicit: Listed<u8>,
+        implicit: Listed<u8>,
+    },
+}
+
+fn number_of(fault: ReadFault) -> u8
+    ensures { result ≡ number_of fault }
+{
+    fault as u8
+}
+
+fn octets_text(alloc: Global, octets: &[u8]) -> Result<String, AllocError>
+    ensures { IfOk result (λ text. string_bytes text ≡ octets_text octets.now) }
+{
+    if octets.is_empty() {
+        String::from_str(alloc, "-")
+    } else {
+        hex::encode(alloc, octets)
+    }
+}
+
+fn answer_text(alloc: Global, answer: &Answer) -> Result<String, AllocError>
+    ensures { IfOk result (λ text. string_bytes text ≡ answer_text answer.now) }
+{
+    match answer {
+        Answer::Fault(fault) => format!(in alloc; "fault {}", number_of(*fault)),
+        Answer::Spelled { explicit, implicit } => {
+            let explicit = octets_text(alloc, explicit.inner().as_slice())?;
+            let implicit = octets_text(alloc, implicit.inner().as_slice())?;
+            format!(in alloc; "{explicit} {implicit}")
+        }
+    }
+}
+
+fn answer_to(alloc: Global, octets: &[u8], syntax: Syntax) -> Result<Answer, AllocError>
+    requires { length octets.now < 2 ^ 31 }
+    ensures { IfOk result (λ found. found ≡ answer_of (reading syntax octets.now)) }
+{
+    laws::spelling_law();
+    match read(alloc, octets, syntax) {
+        Ok(data_set) => Ok(Answer::Spelled {
+            explicit: Listed::from_inner(write(alloc, &data_set, Syntax::Explicit)?),
+            implicit: Listed::from_inner(write(alloc, &data_set, Syntax::Implicit)?),
+        }),
+        Err(ReadFault::NoMemory) => Err(AllocError),
+        Err(fault) => Ok(Answer::Fault(fault)),
+    }
+}
+
+/// The text of what the octets are read as: `fault N`, or both canonical spellings in hexadecimal.
+pub fn answered(alloc: Global, octets: &[u8], syntax: Syntax) -> Result<String, AllocError>
+    requires { length octets.now < 2 ^ 31 }
+    ensures { IfOk result (λ text. string_bytes text ≡ answer_text (answer_of (reading syntax octets.now))) }
+{
+    let found = answer_to(alloc, octets, syntax)?;
+    answer_text(alloc, &found)
+}
+
+fn octets_of(alloc: Global, text: &str) -> Result<Option<Vec<u8>>, AllocError> {
+    if text == "-" {
+        return Ok(Some(Vec::new(alloc)));
+    }
+    match hex::decode(alloc, text) {
+        Ok(octets) if !octets.is_empty() => Ok(Some(octets)),
+        Err(FromHexError::OutOfMemory) => Err(AllocError),
+        _ => Ok(None),
+    }
+}
+
+/// A line is `implicit HEX` or `explicit HEX`, with a hyphen for no octets. None is answered for any other line.
+fn answered_line(alloc: Global, line: &str) -> Result<Option<String>, AllocError> {
+    let (syntax, text) = if let Some(text) = line.strip_prefix("implicit ") {
+        (Syntax::Implicit, text)
+    } else if let Some(text) = line.strip_prefix("explicit ") {
+        (Syntax::Explicit, text)
+    } else {
+        return Ok(None);
+    };
+    let Some(octets) = octets_of(alloc, text)? else {
+        return Ok(None);
+    };
+    if octets.len() >= 1 << 31 {
+        return Ok(None);
+    }
+    Ok(Some(answered(alloc, octets.as_slice(), syntax)?))
+}
+
+fn read_input<R: Read + Drop>(alloc: Global, input: R) -> Result<Vec<u8>, Stop> {
+    let mut input = input;
+    let mut octets = Vec::new(alloc);
+    match input.read_to_end(&mut octets) {
+        Ok(_) => Ok(octets),
+        Err(error) if error.kind() == io::ErrorKind::OutOfMemory => Err(Stop::from(AllocError)),
+        Err(_) => Err(Stop::Line(0)),
+    }
+}
+
+/// Answers each line of the input with a line of the output, up to the first line that is bad. Empty lines and lines that
+/// begin with `#` are skipped.
+pub fn run_trials<R: Read + Drop, W: Write>(
+    alloc: Global,
+    input: R,
+    output: &mut W,
+) -> Result<(), Stop> {
+    let octets = read_input(alloc, input)?;
+    let Ok(text) = str::from_utf8(octets.as_slice()) else {
+        return Err(Stop::Line(0));
+    };
+    for (before, line) in text.lines().enumerate() {
+        if line.is_empty() || line.starts_with('#') {
+            continue;
+        }
+        let Some(mut answer) = answered_line(alloc, line)? else {
+            return Err(Stop::Line(before as u64 + 1));
+        };
+        answer.push('\n')?;
+        output.write_all(answer.as_bytes())?;
+    }
+    Ok(())
+}
