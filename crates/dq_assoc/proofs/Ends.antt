@@ -9,7 +9,7 @@ use Rattle.dq_dimse.specs.declared.assembler.Gathered.TheVariants.{Nothing, Frag
 use Rattle.dq_dimse.specs.Messages.{Gathering, messages}
 use Rattle.dq_assoc.specs.Negotiation.{accepted_ids}
 use Rattle.dq_assoc.specs.Table.{Input, Sent}
-use Rattle.dq_assoc.specs.Inputs.{values, behind_values, closing, closing_behind, inputs_read, inputs_of, AreBehind, AreInputs}
+use Rattle.dq_assoc.specs.Inputs.{values, after_values, closing, closing_after, inputs_read, inputs_of, AreBehind, AreInputs}
 
 closing_ends : (pdus : List Pdu) (fault : Option PduFault) → AreBehind (closing pdus fault)
 closing_ends [] None = tt
@@ -22,7 +22,7 @@ closing_ends (ReleaseRq ∷ pdus) fault = refl
 closing_ends (ReleaseRp ∷ pdus) fault = refl
 closing_ends (Abort source reason ∷ pdus) fault = refl
 
-gathered_ends : (gathered : Gathered) (later : List Input) → AreBehind later → AreBehind (closing_behind gathered later)
+gathered_ends : (gathered : Gathered) (later : List Input) → AreBehind later → AreBehind (closing_after gathered later)
 gathered_ends Nothing later ends = ends
 gathered_ends (Fragments context octets) later ends = ends
 gathered_ends (Spent fault) later ends = refl
@@ -32,12 +32,12 @@ sent_ends [] later ends = ends
 sent_ends (message ∷ list) later ends = sent_ends list later ends
 
 read_ends : (read : Gathering) (later : List Input) → AreBehind later → AreBehind (inputs_read read later)
-read_ends read later ends = sent_ends read.list (closing_behind read.gathered later) (gathered_ends read.gathered later ends)
+read_ends read later ends = sent_ends read.list (closing_after read.gathered later) (gathered_ends read.gathered later ends)
 
 pub inputs_end : (pdus : List Pdu) (fault : Option PduFault) → AreInputs (inputs_of pdus fault)
 inputs_end [] None = tt
 inputs_end [] (Some fault) = refl
-inputs_end (request_pdu request ∷ pdus) fault = read_ends (messages (accepted_ids request) (values pdus)) (closing (behind_values pdus) fault) (closing_ends (behind_values pdus) fault)
+inputs_end (request_pdu request ∷ pdus) fault = read_ends (messages (accepted_ids request) (values pdus)) (closing (after_values pdus) fault) (closing_ends (after_values pdus) fault)
 inputs_end (accept_pdu accept ∷ pdus) fault = refl
 inputs_end (Reject result source reason ∷ pdus) fault = refl
 inputs_end (PData pdvs ∷ pdus) fault = refl

@@ -1,4 +1,4 @@
--- What inputs behind a request lead to.
+-- What inputs after a request lead to.
 use Rattle.std.proofs.Common.{◌≡◌, true, false, not, IsTrue, List, [], ◌∷◌, ◌++◌, map, Option, None, Result, IfOk, refl, sym, ap, subst, ◌∙◌}
 use Rattle.std.proofs.lemmas.List.{append-nil}
 use Rattle.std.specs.declared.alloc.AllocError.{AllocError}
@@ -15,7 +15,7 @@ use Rattle.dq_assoc.specs.declared.association.State.TheVariants.{Open}
 use Rattle.dq_assoc.specs.declared.association.Verdict.TheVariants.{Accept}
 use Rattle.dq_assoc.specs.declared.association.Step.{Step}
 use Rattle.dq_assoc.specs.Table.{Input, Sent, line, answer_octets}
-use Rattle.dq_assoc.specs.Inputs.{closer, closing_behind, inputs_read}
+use Rattle.dq_assoc.specs.Inputs.{closer, closing_after, inputs_read}
 use Rattle.dq_assoc.specs.Standing.{state_of, open_outcome, outcome}
 use Rattle.dq_assoc.specs.Taking.{is_spent, is_sound, inputs_from, values_step, standing_from}
 
@@ -26,7 +26,7 @@ pub sent_outcome : (list : List Message) (inputs : List Input) → open_outcome 
 sent_outcome [] inputs = refl
 sent_outcome (message ∷ list) inputs = ap (with_messages (message ∷ [])) (sent_outcome list inputs)
 
-values_end : (list : List Message) (gathered : Gathered) → with_messages list (open_outcome (closing_behind gathered [])) ≡ values_step (record { list = list; gathered = gathered })
+values_end : (list : List Message) (gathered : Gathered) → with_messages list (open_outcome (closing_after gathered [])) ≡ values_step (record { list = list; gathered = gathered })
 values_end list Nothing = ap (λ (l : List Message). values_step (record { list = l; gathered = Nothing })) (append-nil list)
 values_end list (Fragments context octets) = ap (λ (l : List Message). values_step (record { list = l; gathered = Fragments context octets })) (append-nil list)
 values_end list (Spent fault) = ap (λ (l : List Message). values_step (record { list = l; gathered = Spent fault })) (append-nil list)
@@ -35,9 +35,9 @@ pub values_outcome : (assembly : Assembly) (pdvs : List Pdv) → outcome Open (i
 values_outcome assembly pdvs =
     let read = gather_all assembly.ids assembly.gathered pdvs in
     ap (λ (all : List Pdv). open_outcome (inputs_read (gather_all assembly.ids assembly.gathered all) [])) (append-nil pdvs)
-    ∙ sent_outcome read.list (closing_behind read.gathered []) ∙ values_end read.list read.gathered
+    ∙ sent_outcome read.list (closing_after read.gathered []) ∙ values_end read.list read.gathered
 
--- a unit that is no data closes an open association
+-- a PDU that is no data closes an open association
 abbrev pub closing_step : Pdu → Step
 closing_step pdu = record { messages = []; octets = answer_octets (line Open Accept (closer pdu)).answer; close = true }
 
@@ -45,19 +45,19 @@ pub record Closes (assembly : Assembly) (pdu : Pdu) : Type 0 where
   pub step : outcome Open (inputs_from (held.Open assembly) (pdu ∷ []) None) ≡ closing_step pdu
   pub held_is : standing_from (held.Open assembly) (pdu ∷ []) ≡ held.Closed
 
-closes_behind : (gathered : Gathered) (pdu : Pdu) → is_spent gathered ≡ false → open_outcome (closing_behind gathered (closer pdu ∷ [])) ≡ open_outcome (closer pdu ∷ [])
-closes_behind Nothing pdu sound = refl
-closes_behind (Fragments context octets) pdu sound = refl
-closes_behind (Spent fault) pdu sound = absurd cc
+closes_after : (gathered : Gathered) (pdu : Pdu) → is_spent gathered ≡ false → open_outcome (closing_after gathered (closer pdu ∷ [])) ≡ open_outcome (closer pdu ∷ [])
+closes_after Nothing pdu sound = refl
+closes_after (Fragments context octets) pdu sound = refl
+closes_after (Spent fault) pdu sound = absurd cc
 
 pub closes : (assembly : Assembly) (pdu : Pdu) → is_spent assembly.gathered ≡ false → ((pdvs : List Pdv) → pdu ≡ PData pdvs → ⊥) → Closes assembly pdu
-closes assembly (request_pdu request) sound other = record { step = closes_behind assembly.gathered (request_pdu request) sound; held_is = refl }
-closes assembly (accept_pdu accept) sound other = record { step = closes_behind assembly.gathered (accept_pdu accept) sound; held_is = refl }
-closes assembly (Reject result source reason) sound other = record { step = closes_behind assembly.gathered (Reject result source reason) sound; held_is = refl }
+closes assembly (request_pdu request) sound other = record { step = closes_after assembly.gathered (request_pdu request) sound; held_is = refl }
+closes assembly (accept_pdu accept) sound other = record { step = closes_after assembly.gathered (accept_pdu accept) sound; held_is = refl }
+closes assembly (Reject result source reason) sound other = record { step = closes_after assembly.gathered (Reject result source reason) sound; held_is = refl }
 closes assembly (PData pdvs) sound other = absurd (other pdvs refl)
-closes assembly ReleaseRq sound other = record { step = closes_behind assembly.gathered ReleaseRq sound; held_is = refl }
-closes assembly ReleaseRp sound other = record { step = closes_behind assembly.gathered ReleaseRp sound; held_is = refl }
-closes assembly (Abort source reason) sound other = record { step = closes_behind assembly.gathered (Abort source reason) sound; held_is = refl }
+closes assembly ReleaseRq sound other = record { step = closes_after assembly.gathered ReleaseRq sound; held_is = refl }
+closes assembly ReleaseRp sound other = record { step = closes_after assembly.gathered ReleaseRp sound; held_is = refl }
+closes assembly (Abort source reason) sound other = record { step = closes_after assembly.gathered (Abort source reason) sound; held_is = refl }
 
 pub values_taken : (inside old : Held) (assembly : Assembly) (pdu : Pdu) (pdvs : List Pdv) → held.Open assembly ≡ inside → inside ≡ old → pdu ≡ PData pdvs
     → values_step (gather_all assembly.ids assembly.gathered pdvs) ≡ outcome (state_of old) (inputs_from old (pdu ∷ []) None)
@@ -70,7 +70,7 @@ sound_gathered Nothing sound = refl
 sound_gathered (Fragments context octets) sound = refl
 sound_gathered (Spent fault) sound = cc
 
--- what such a unit does to what is held
+-- what such a PDU does to what is held
 pub record ClosesFrom (old : Held) (pdu : Pdu) : Type 0 where
   pub step : closing_step pdu ≡ outcome (state_of old) (inputs_from old (pdu ∷ []) None)
   pub held_is : held.Closed ≡ standing_from old (pdu ∷ [])

@@ -6,7 +6,7 @@ use Rattle.dq_assoc.specs.declared.association.Held.TheVariants as held
 use Rattle.dq_assoc.specs.declared.association.State.TheVariants.{Open}
 use Rattle.dq_assoc.specs.Standing.{state_of, Takes}
 
--- an open association takes every unit
+-- an open association takes every PDU
 pub takes_open : (h : Held) (pdu : Pdu) → state_of h ≡ Open → Takes h pdu
 takes_open held.Waiting pdu e = absurd cc
 takes_open (held.Open assembly) pdu e = tt

@@ -1,4 +1,4 @@
--- One unit, whatever units came before it.
+-- One PDU, whatever PDUs came before it.
 use Rattle.std.proofs.Common.{◌≡◌, List, [], ◌∷◌, ◌++◌, None, Result, Ok, Err, IfOk, OnOk, sym, ap, ◌∙◌}
 use Rattle.std.specs.declared.alloc.AllocError.{AllocError}
 use Rattle.dq_pdu.specs.declared.pdu.Pdu.{Pdu}

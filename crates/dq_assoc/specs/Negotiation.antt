@@ -78,7 +78,7 @@ accepted_in (c ∷ cs) = if is_accepted c then c.id ∷ accepted_in cs else acce
 abbrev pub accepted_ids : Request → List ℕ
 accepted_ids request = accepted_in request.contexts
 
--- the longest unit that is received
+-- the longest PDU that is received
 abbrev pub own_maximum : ℕ
 own_maximum = 65536
 

@@ -1,4 +1,4 @@
--- An association that was given the units of a stream so far, and what one more leads to.
+-- An association that was given the PDUs of a stream so far, and what one more leads to.
 use Rattle.std.specs.Prelude.{ℕ, Bool, true, false, List, [], ◌∷◌}
 use Rattle.dq_pdu.specs.declared.pdu.Pdu.{Pdu}
 use Rattle.dq_pdu.specs.declared.pdu.Pdu.TheVariants.{Request as request_pdu}
@@ -16,7 +16,7 @@ use Rattle.dq_assoc.specs.declared.association.Step.{Step}
 use Rattle.dq_assoc.specs.declared.association.Verdict.TheVariants.{Accept}
 use Rattle.dq_assoc.specs.Negotiation.{accepted_ids}
 use Rattle.dq_assoc.specs.Table.{Input, Sent, Line, line, answer_octets}
-use Rattle.dq_assoc.specs.Inputs.{values, behind_values}
+use Rattle.dq_assoc.specs.Inputs.{values, after_values}
 
 -- the state of the table that an association is in
 abbrev pub state_of : Held → State
@@ -30,18 +30,18 @@ open_if (Spent fault) assembly = held.Closed
 open_if Nothing assembly = held.Open assembly
 open_if (Fragments context octets) assembly = held.Open assembly
 
--- an association with a request that was accepted, the values behind it, and the units behind these
+-- an association with a request that was accepted, the values after it, and the PDUs after these
 abbrev pub opened : List ℕ → List Pdv → List Pdu → Held
 opened ids pdvs [] = let assembly = assembling ids pdvs in open_if assembly.gathered assembly
 opened ids pdvs (pdu ∷ pdus) = held.Closed
 
--- the association that was given the units, and accepted its request
+-- the association that was given the PDUs, and accepted its request
 abbrev pub standing : List Pdu → Held
 standing [] = held.Waiting
-standing (request_pdu request ∷ pdus) = opened (accepted_ids request) (values pdus) (behind_values pdus)
+standing (request_pdu request ∷ pdus) = opened (accepted_ids request) (values pdus) (after_values pdus)
 standing (pdu ∷ pdus) = held.Closed
 
--- the association behind the line of a request
+-- the association after the line of a request
 abbrev pub opens_as : State → Request → Held
 opens_as Open request = standing (request_pdu request ∷ [])
 opens_as Waiting request = held.Waiting
@@ -66,7 +66,7 @@ step_of l = record { messages = []; octets = answer_octets l.answer; close = is_
 abbrev pub with_message : Message → Step → Step
 with_message message later = record { messages = message ∷ later.messages; octets = later.octets; close = later.close }
 
--- the messages among inputs behind a request, and the answer to the input that closes
+-- the messages among inputs after a request, and the answer to the input that closes
 abbrev pub open_outcome : List Input → Step
 open_outcome [] = record { messages = []; octets = []; close = false }
 open_outcome (Sent message ∷ inputs) = with_message message (open_outcome inputs)

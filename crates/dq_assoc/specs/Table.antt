@@ -1,4 +1,4 @@
--- The association table (PS3.8 section 9.2): for each state and input the unit that is answered and the next state.
+-- The association table (PS3.8 section 9.2): for each state and input the PDU that is answered and the next state.
 use Rattle.std.specs.Prelude.{ℕ, Bool, true, false, if◌then◌else◌, List, [], Option, Some, None}
 use Rattle.dq_pdu.specs.declared.pdu.Pdu.{Pdu}
 use Rattle.dq_pdu.specs.declared.pdu.Pdu.TheVariants.{ReleaseRp, Abort}
@@ -11,7 +11,7 @@ use Rattle.dq_assoc.specs.declared.association.Verdict.{Verdict}
 use Rattle.dq_assoc.specs.Negotiation.{acceptance_of, rejection}
 
 -- What an association is given: a request, a message, the peer's release or abort, what has no place before a request
--- (stray), and what breaks the protocol behind one, with the reason of the abort that answers it.
+-- (stray), and what breaks the protocol after one, with the reason of the abort that answers it.
 pub data Input : Type 0 where
   Requested : Request → Input
   Sent : Message → Input
@@ -20,7 +20,7 @@ pub data Input : Type 0 where
   Stray : Input
   Bad : ℕ → Input
 
--- the unit that is answered, and the next state; in Closed the connection is closed
+-- the PDU that is answered, and the next state; in Closed the connection is closed
 pub record Line : Type 0 where
   pub answer : Option Pdu
   pub next : State
@@ -35,15 +35,15 @@ by_user = 0
 abbrev pub by_provider : ℕ
 by_provider = 2
 
--- Its reasons: not specified, and of the provider: unrecognized unit, unexpected unit, invalid parameter.
+-- Its reasons: not specified, and of the provider: unrecognized PDU, unexpected PDU, invalid parameter.
 abbrev pub not_specified : ℕ
 not_specified = 0
 
-abbrev pub unrecognized_unit : ℕ
-unrecognized_unit = 1
+abbrev pub unrecognized_pdu : ℕ
+unrecognized_pdu = 1
 
-abbrev pub unexpected_unit : ℕ
-unexpected_unit = 2
+abbrev pub unexpected_pdu : ℕ
+unexpected_pdu = 2
 
 abbrev pub invalid_parameter : ℕ
 invalid_parameter = 6
@@ -74,8 +74,8 @@ open_line (Sent message) = goes None Open
 open_line Released = goes (Some ReleaseRp) Closed
 open_line PeerAborted = goes None Closed
 open_line (Bad reason) = goes (Some (Abort by_provider reason)) Closed
-open_line (Requested request) = goes (Some (Abort by_provider unexpected_unit)) Closed
-open_line Stray = goes (Some (Abort by_provider unexpected_unit)) Closed
+open_line (Requested request) = goes (Some (Abort by_provider unexpected_pdu)) Closed
+open_line Stray = goes (Some (Abort by_provider unexpected_pdu)) Closed
 
 -- the whole table
 abbrev pub line : State → Verdict → Input → Line

@@ -9,7 +9,8 @@ ghost use Rattle.dq_assoc.specs.Taking.{is_spent, inputs_from, values_step, open
 
 use crate::negotiation;
 use dq_dimse::{Assembler, DimseFault, Message};
-use dq_pdu::{Listed, Pdu, PduFault, Pdv, Request, writable, write_pdu};
+use dq_list::Listed;
+use dq_pdu::{Pdu, PduFault, Pdv, Request, writable, write_pdu};
 use std::alloc::{AllocError, Global};
 use std::marker::Model;
 use std::mem;
@@ -35,7 +36,7 @@ pub enum Verdict {
     Busy,
 }
 
-/// What a unit leads to: messages to be answered first, then octets, and whether the connection is closed.
+/// What a PDU leads to: messages to be answered first, then octets, and whether the connection is closed.
 #[derive(Debug, Drop)]
 pub struct Step {
     pub messages: Listed<Message>,
@@ -43,7 +44,7 @@ pub struct Step {
     pub close: bool,
 }
 
-/// What an association holds between two units.
+/// What an association holds between two PDUs.
 #[derive(Debug, Drop)]
 pub(crate) enum Held {
     Waiting,
@@ -80,16 +81,16 @@ const BY_PROVIDER: u8 = 2;
 /// No reason of an abort.
 const NOT_SPECIFIED: u8 = 0;
 
-/// The type of a unit is unknown.
+/// The type of a PDU is unknown.
 const UNRECOGNIZED_UNIT: u8 = 1;
 
-/// A unit stands where it has no place.
+/// A PDU stands where it has no place.
 const UNEXPECTED_UNIT: u8 = 2;
 
-/// A unit's values are no messages.
+/// A PDU's values are no messages.
 const INVALID_PARAMETER: u8 = 6;
 
-/// A step that closes behind messages: with a unit, if one is answered.
+/// A step that closes after messages: with a PDU, if one is answered.
 fn closing(alloc: Global, messages: Vec<Message>, answer: Option<Pdu>) -> Result<Step, AllocError>
     requires { ForSome answer (λ pdu. IsTrue (is_writable pdu)) }
     ensures { IfOk result (λ step. step ≡ record { messages = messages.items; octets = answer_octets answer; close = true }) }
@@ -120,7 +121,7 @@ fn misplaced_answer(pdu: &Pdu) -> Option<Pdu>
     }
 }
 
-/// The answer of an open association to a unit that closes it.
+/// The answer of an open association to a PDU that closes it.
 fn closing_answer(pdu: &Pdu) -> Option<Pdu>
     ensures answer { result ≡ (line State.Open Verdict.Accept (closer pdu.now)).answer }
     ensures fits { ForSome result (λ pdu. IsTrue (is_writable pdu)) }
@@ -262,7 +263,7 @@ impl Association {
         })
     }
 
-    /// Takes a unit, by what is held alone.
+    /// Takes a PDU, by what is held alone.
     fn take_next(&mut self, pdu: &Pdu) -> Result<Step, AllocError>
         requires { Takes self.old pdu.now }
         ensures step { IfOk result (λ step. step ≡ outcome (state_of self.old) (inputs_from self.old (pdu.now ∷ []) None)) }
@@ -278,10 +279,10 @@ impl Association {
         }
     }
 
-    /// Takes a unit behind the request, or one that stands in its place. After an error the association is dropped.
+    /// Takes a PDU after the request, or one that stands in its place. After an error the association is dropped.
     pub fn take(&mut self, pdu: Pdu) -> Result<Step, AllocError>
         requires { Takes self.old pdu }
-        // Whatever units the association was given, what one more leads to is read off the inputs that it adds.
+        // Whatever PDUs the association was given, what one more leads to is read off the inputs that it adds.
         ensures step { (pdus : List Pdu) → self.old ≡ standing pdus → IfOk result (λ step. (more : List Input)
             × (inputs_of (pdus ++ pdu ∷ []) None ≡ inputs_of pdus None ++ more)
             × (step ≡ outcome (state_of self.old) more)) }

@@ -41,12 +41,12 @@ pub fn table_of_states()
 /// Only the last input closes: a stream has a request, messages and at most one input that closes, or one in the
 /// request's place.
 pub fn the_last_input_closes()
-    ensures units { (pdus : List Pdu) (fault : Option PduFault) → AreInputs (inputs_of pdus fault) }
+    ensures pdus { (pdus : List Pdu) (fault : Option PduFault) → AreInputs (inputs_of pdus fault) }
     ensures stream { (stream : List ℕ) → AreInputs (inputs stream) }
 {}
 
-/// Further units only add to the inputs of units, and what they add follows from where those leave an association.
-pub fn more_units_add()
+/// Further PDUs only add to the inputs of PDUs, and what they add follows from where those leave an association.
+pub fn more_pdus_add()
     ensures inputs { (pdus others : List Pdu) (fault : Option PduFault) →
         inputs_of (pdus ++ others) fault ≡ inputs_of pdus None ++ inputs_from (standing pdus) others fault }
     ensures stands { (pdus others : List Pdu) → standing (pdus ++ others) ≡ standing_from (standing pdus) others }
@@ -57,8 +57,8 @@ pub fn more_units_add()
     ensures fault { (pdus : List Pdu) (fault : PduFault) → inputs_from (standing pdus) [] (Some fault) ≡ fault_inputs (state_of (standing pdus)) fault }
 {}
 
-/// Behind the first unit, what units lead to that are taken one by one is read off the inputs that they add together.
-pub fn units_taken_one_by_one()
+/// After the first PDU, what PDUs lead to that are taken one by one is read off the inputs that they add together.
+pub fn pdus_taken_one_by_one()
     ensures { (first : Pdu) (pdus others : List Pdu) → let held = standing (first ∷ pdus) in
         taken held others ≡ outcome (state_of held) (inputs_from held others None) }
 {}

@@ -5,7 +5,8 @@ ghost use Rattle.dq_pdu.specs.Writing.{is_writable};
 ghost use Rattle.dq_assoc.specs.Negotiation.{same_octets, offers, is_served, result_code, answered, is_accepted, accepted_in, accepted_ids, acceptance_of, is_dicom, has_room, rejection};
 
 use crate::association::Verdict;
-use dq_pdu::{Accept, AnsweredContext, Listed, Pdu, ProposedContext, Request};
+use dq_list::Listed;
+use dq_pdu::{Accept, AnsweredContext, Pdu, ProposedContext, Request};
 use std::alloc::{AllocError, Global};
 
 /// The DICOM application context (PS3.7 annex A.2.1).
@@ -20,7 +21,7 @@ const EXPLICIT_SYNTAX: &[u8] = b"1.2.840.10008.1.2.1";
 /// The SOP class Verification (PS3.4 annex A.4).
 const VERIFICATION: &[u8] = b"1.2.840.10008.1.1";
 
-/// The longest unit that is received (PS3.8 annex D.1).
+/// The longest PDU that is received (PS3.8 annex D.1).
 const OWN_MAXIMUM: u32 = 65536;
 
 /// The result of a presentation context (PS3.8 section 9.3.3.2).

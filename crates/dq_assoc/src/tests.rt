@@ -1,5 +1,6 @@
 use super::*;
-use dq_pdu::{Listed, Pdu, Pdv, ProposedContext, Request};
+use dq_list::Listed;
+use dq_pdu::{Pdu, Pdv, ProposedContext, Request};
 use std::alloc::{AllocError, Global};
 use std::test::*;
 

@@ -10,7 +10,7 @@ use Rattle.dq_dimse.specs.declared.assembler.Gathered.TheVariants.{Nothing, Frag
 use Rattle.dq_dimse.specs.Messages.{messages}
 use Rattle.dq_assoc.specs.Negotiation.{accepted_ids}
 use Rattle.dq_assoc.specs.Table.{Bad}
-use Rattle.dq_assoc.specs.Inputs.{reason_of, values, behind_values, inputs_of}
+use Rattle.dq_assoc.specs.Inputs.{reason_of, values, after_values, inputs_of}
 use Rattle.dq_assoc.specs.Taking.{abort_for}
 use Rattle.dq_assoc.specs.Standing.{standing, state_of, is_closed}
 use Rattle.dq_core.specs.declared.config.Institution.{Institution}
@@ -21,7 +21,7 @@ use Rattle.dq_core.proofs.Growing.{grown}
 use Rattle.dq_core.proofs.Answering.{told-added}
 use Rattle.dq_core.proofs.Taking.{is_over, over-opened, standing-open}
 
--- a fault behind what was gathered adds one input
+-- a fault after what was gathered adds one input
 grown-fault : (ids : List ℕ) (g : Gathered) (pdus : List Pdu) (fault : PduFault) → is_over g pdus ≡ false → grown ids g pdus [] (Some fault) ≡ Bad (reason_of fault) ∷ []
 grown-fault ids (Spent f) pdus fault h = absurd (false≢true (sym h))
 grown-fault ids Nothing [] fault h = refl
@@ -40,7 +40,7 @@ told-abort institutions (request_pdu request ∷ pdus) fault h =
     let ids = accepted_ids request in
     let before : List Pdu = request_pdu request ∷ pdus in
     told-added institutions before [] (Some fault)
-    ∙ ap (answers institutions (request_in (inputs_of before None))) (grown-fault ids (messages ids (values pdus)).gathered (behind_values pdus) fault (sym (over-opened ids (values pdus) (behind_values pdus)) ∙ h))
+    ∙ ap (answers institutions (request_in (inputs_of before None))) (grown-fault ids (messages ids (values pdus)).gathered (after_values pdus) fault (sym (over-opened ids (values pdus) (after_values pdus)) ∙ h))
     ∙ ap (λ state. aborted (abort_for state fault)) (sym (standing-open request pdus h))
 told-abort institutions (accept_pdu a ∷ pdus) fault h = absurd (false≢true (sym h))
 told-abort institutions (Reject a b c ∷ pdus) fault h = absurd (false≢true (sym h))

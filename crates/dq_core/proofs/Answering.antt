@@ -12,22 +12,22 @@ use Rattle.dq_dimse.specs.declared.assembler.Gathered.TheVariants.{Nothing, Frag
 use Rattle.dq_dimse.specs.Messages.{messages}
 use Rattle.dq_assoc.specs.Negotiation.{accepted_ids}
 use Rattle.dq_assoc.specs.Table.{Input, Requested, Sent, Released, PeerAborted, Stray, Bad}
-use Rattle.dq_assoc.specs.Inputs.{values, behind_values, closing, closing_behind, inputs_of}
+use Rattle.dq_assoc.specs.Inputs.{values, after_values, closing, closing_after, inputs_of}
 use Rattle.dq_assoc.specs.Standing.{open_outcome}
 use Rattle.dq_core.specs.declared.config.Institution.{Institution}
 use Rattle.dq_core.specs.Verification.{peer_limit}
-use Rattle.dq_core.specs.Plain.{Answer, answer, then_answer, answers, request_behind, request_in}
+use Rattle.dq_core.specs.Plain.{Answer, answer, then_answer, answers, request_after, request_in}
 use Rattle.dq_core.specs.Slots.{told, served_within}
 use Rattle.dq_core.proofs.Growing.{added, inputs_of-append}
 
--- the request that stands behind inputs
+-- the request that stands after inputs
 abbrev pub behind : Option Request → List Input → Option Request
 behind before [] = before
-behind before (input ∷ inputs) = behind (request_behind before input) inputs
+behind before (input ∷ inputs) = behind (request_after before input) inputs
 
 pub behind-append : (before : Option Request) (xs ys : List Input) → behind before (xs ++ ys) ≡ behind (behind before xs) ys
 behind-append before [] ys = refl
-behind-append before (x ∷ xs) ys = behind-append (request_behind before x) xs ys
+behind-append before (x ∷ xs) ys = behind-append (request_after before x) xs ys
 
 behind-messages : (request : Request) (list : List Message) (inputs : List Input) → behind (Some request) (map Sent list ++ inputs) ≡ behind (Some request) inputs
 behind-messages request [] inputs = refl
@@ -44,7 +44,7 @@ behind-closing request (ReleaseRq ∷ pdus) fault = refl
 behind-closing request (ReleaseRp ∷ pdus) fault = refl
 behind-closing request (Abort a b ∷ pdus) fault = refl
 
-behind-gathered : (request : Request) (g : Gathered) (pdus : List Pdu) (fault : Option PduFault) → behind (Some request) (closing_behind g (closing pdus fault)) ≡ Some request
+behind-gathered : (request : Request) (g : Gathered) (pdus : List Pdu) (fault : Option PduFault) → behind (Some request) (closing_after g (closing pdus fault)) ≡ Some request
 behind-gathered request (Spent f) pdus fault = refl
 behind-gathered request Nothing pdus fault = behind-closing request pdus fault
 behind-gathered request (Fragments context octets) pdus fault = behind-closing request pdus fault
@@ -55,8 +55,8 @@ behind-inputs_of [] None = refl
 behind-inputs_of [] (Some fault) = refl
 behind-inputs_of (request_pdu request ∷ pdus) fault =
     let ids = accepted_ids request in
-    behind-messages request (messages ids (values pdus)).list (closing_behind (messages ids (values pdus)).gathered (closing (behind_values pdus) fault))
-    ∙ behind-gathered request (messages ids (values pdus)).gathered (behind_values pdus) fault
+    behind-messages request (messages ids (values pdus)).list (closing_after (messages ids (values pdus)).gathered (closing (after_values pdus) fault))
+    ∙ behind-gathered request (messages ids (values pdus)).gathered (after_values pdus) fault
 behind-inputs_of (accept_pdu a ∷ pdus) fault = refl
 behind-inputs_of (Reject a b c ∷ pdus) fault = refl
 behind-inputs_of (PData pdvs ∷ pdus) fault = refl
@@ -78,8 +78,8 @@ pub answers-append : (institutions : List Institution) (before : Option Request)
     → answers institutions before (xs ++ ys) ≡ then_answer (answers institutions before xs) (answers institutions (behind before xs) ys)
 answers-append institutions before [] ys = refl
 answers-append institutions before (x ∷ xs) ys =
-    ap (then_answer (answer institutions before x)) (answers-append institutions (request_behind before x) xs ys)
-    ∙ sym (then_answer-assoc (answer institutions before x) (answers institutions (request_behind before x) xs) (answers institutions (behind (request_behind before x) xs) ys))
+    ap (then_answer (answer institutions before x)) (answers-append institutions (request_after before x) xs ys)
+    ∙ sym (then_answer-assoc (answer institutions before x) (answers institutions (request_after before x) xs) (answers institutions (behind (request_after before x) xs) ys))
 
 -- what further PDUs are answered, by the inputs that they add
 pub told-added : (institutions : List Institution) (before later : List Pdu) (fault : Option PduFault)
@@ -115,7 +115,7 @@ told-append institutions before done later fault =
     ∙ ap (λ a. then_answer a (answers institutions (request_in (inputs_of (before ++ done) None)) (added (before ++ done) later fault))) (sym (told-added institutions before done None))
     ∙ ap (then_answer (told institutions before done None)) (sym (told-added institutions (before ++ done) later fault))
 
--- behind a request, the messages are served, and the input that closes is answered
+-- after a request, the messages are served, and the input that closes is answered
 pub answers-open : (institutions : List Institution) (request : Request) (inputs : List Input)
     → answers institutions (Some request) inputs ≡ record { octets = served_within (peer_limit request) (open_outcome inputs).messages ++ (open_outcome inputs).octets; close = (open_outcome inputs).close }
 answers-open institutions request [] = refl

@@ -1,7 +1,7 @@
 -- A piece that comes in two parts.
 use Rattle.std.proofs.Common.{◌≡◌, ℕ, List, ◌++◌, length, drop, None, sym, ap, ◌∙◌, append_assoc}
 use Rattle.std.proofs.Math.Seq.{drop-append_seam}
-use Rattle.dq_pdu.specs.Stream.{units}
+use Rattle.dq_pdu.specs.Stream.{pdus_in}
 use Rattle.dq_assoc.specs.Table.{Input}
 use Rattle.dq_assoc.specs.Inputs.{inputs}
 use Rattle.dq_core.specs.declared.config.Institution.{Institution}
@@ -26,10 +26,10 @@ piece-in_two institutions stream first second a b =
     let whole : inputs (stream ++ (first ++ second)) ≡ inputs stream ++ (a.0 ++ b.0) =
     ap inputs (sym (append_assoc stream first second)) ∙ b.1 ∙ ap (λ xs. xs ++ b.0) a.1 ∙ append_assoc (inputs stream) a.0 b.0 in
     let request_is : behind request a.0 ≡ request_in (inputs (stream ++ first)) =
-    ap (λ r. behind r a.0) (sym (behind-inputs_of (units stream).list (units stream).fault))
+    ap (λ r. behind r a.0) (sym (behind-inputs_of (pdus_in stream).list (pdus_in stream).fault))
     ∙ sym (behind-append None (inputs stream) a.0)
     ∙ ap (behind None) (sym a.1)
-    ∙ behind-inputs_of (units (stream ++ first)).list (units (stream ++ first)).fault in
+    ∙ behind-inputs_of (pdus_in (stream ++ first)).list (pdus_in (stream ++ first)).fault in
     answer-longer institutions stream (first ++ second) (a.0 ++ b.0) whole
     ∙ answers-append institutions request a.0 b.0
     ∙ ap (λ r. then_answer (answers institutions request a.0) (answers institutions r b.0)) request_is

@@ -71,7 +71,7 @@ StandsAt-request request known step new e a l h =
 pub told-none : (institutions : List Institution) (before : List Pdu) → told institutions before [] None ≡ record { octets = []; close = false }
 told-none institutions before = rw (append-nil, drop-length) refl
 
--- an answer, and one behind it
+-- an answer, and one after it
 then-Tells : (p q : List ℕ) (a b : Bool) (x y z : List ℕ) (close : Bool) → y ≡ x ++ p → false ≡ a → z ≡ y ++ q → close ≡ b
     → Tells (then_answer (record { octets = p; close = a }) (record { octets = q; close = b })) x z close
 then-Tells p q true b x y z close e n f h = cc
@@ -80,7 +80,7 @@ then-Tells p q false b x y z close e n f h = record { octets = f ∙ ap (λ o. o
 pub Tells-then : (first later : Answer) (x y z : List ℕ) (close : Bool) → Tells first x y false → Tells later y z close → Tells (then_answer first later) x z close
 Tells-then first later x y z close t u = then-Tells first.octets later.octets first.close later.close x y z close t.octets t.closes u.octets u.closes
 
--- what comes behind a close does not matter
+-- what comes after a close does not matter
 closed-then : (p : List ℕ) (a : Bool) (later : Answer) (x y : List ℕ) → y ≡ x ++ p → true ≡ a → Tells (then_answer (record { octets = p; close = a }) later) x y true
 closed-then p true later x y e h = record { octets = e; closes = refl }
 closed-then p false later x y e h = cc

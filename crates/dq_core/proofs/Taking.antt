@@ -19,20 +19,20 @@ use Rattle.dq_assoc.specs.declared.association.Verdict.{Verdict}
 use Rattle.dq_assoc.specs.declared.association.Verdict.TheVariants.{Accept, Nowhere, Busy}
 use Rattle.dq_assoc.specs.Negotiation.{accepted_ids, is_dicom, has_room, rejection_by, acceptance_of}
 use Rattle.dq_assoc.specs.Table.{Input, Requested, Sent, line, requested_line, goes, stray_line}
-use Rattle.dq_assoc.specs.Inputs.{values, behind_values, closing, closing_behind, inputs_of}
+use Rattle.dq_assoc.specs.Inputs.{values, after_values, closing, closing_after, inputs_of}
 use Rattle.dq_assoc.specs.Standing.{standing, state_of, open_if, opened, is_closed, Takes, outcome, open_outcome}
 use Rattle.dq_core.specs.declared.config.Institution.{Institution}
 use Rattle.dq_core.specs.Verification.{peer_limit}
 use Rattle.dq_core.specs.Plain.{Answer, then_answer, answers, first_answer, request_in}
 use Rattle.dq_core.specs.Slots.{limit_of, told, served_within}
-use Rattle.dq_core.proofs.Growing.{values_behind, units_behind, values-append, behind_values-append, gather_all-append, grown, added, inputs_of-append}
+use Rattle.dq_core.proofs.Growing.{values_after, pdus_after, values-append, after_values-append, gather_all-append, grown, added, inputs_of-append}
 use Rattle.dq_core.proofs.Answering.{answers-open}
 
 abbrev pub is_more : List Pdu → Bool
 is_more [] = false
 is_more (pdu ∷ pdus) = true
 
--- whether values that gathered so, and the units behind them, close
+-- whether values that gathered so, and the PDUs after them, close
 abbrev pub is_over : Gathered → List Pdu → Bool
 is_over (Spent f) pdus = true
 is_over Nothing pdus = is_more pdus
@@ -53,7 +53,7 @@ never_waits_if (Spent f) assembly h = cc
 never_waits_if Nothing assembly h = cc
 never_waits_if (Fragments context octets) assembly h = cc
 
--- an association behind a request is closed exactly where it is over
+-- an association after a request is closed exactly where it is over
 pub over-opened : (ids : List ℕ) (pdvs : List Pdv) (pdus : List Pdu) → is_closed (state_of (opened ids pdvs pdus)) ≡ is_over (messages ids pdvs).gathered pdus
 over-opened ids pdvs (pdu ∷ pdus) = over-more (messages ids pdvs).gathered pdu pdus
 over-opened ids pdvs [] = over-none (messages ids pdvs).gathered (assembling ids pdvs)
@@ -65,7 +65,7 @@ never_waits ids pdvs [] h = never_waits_if (messages ids pdvs).gathered (assembl
 -- an association that awaits its request was given nothing
 pub waits-none : (before : List Pdu) → state_of (standing before) ≡ Waiting → before ≡ []
 waits-none [] h = refl
-waits-none (request_pdu request ∷ pdus) h = absurd (never_waits (accepted_ids request) (values pdus) (behind_values pdus) h)
+waits-none (request_pdu request ∷ pdus) h = absurd (never_waits (accepted_ids request) (values pdus) (after_values pdus) h)
 waits-none (accept_pdu a ∷ pdus) h = cc
 waits-none (Reject a b c ∷ pdus) h = cc
 waits-none (PData pdvs ∷ pdus) h = cc
@@ -83,7 +83,7 @@ opened-open : (ids : List ℕ) (pdvs : List Pdv) (pdus : List Pdu) → is_over (
 opened-open ids pdvs [] h = open_if-open (messages ids pdvs).gathered (assembling ids pdvs) h
 opened-open ids pdvs (pdu ∷ pdus) h = absurd (false≢true (sym (over-more (messages ids pdvs).gathered pdu pdus ∙ h) ∙ refl))
 
--- what closes behind messages
+-- what closes after messages
 closes-behind : (list : List Message) (inputs : List Input) → (open_outcome (map Sent list ++ inputs)).close ≡ (open_outcome inputs).close
 closes-behind [] inputs = refl
 closes-behind (m ∷ list) inputs = closes-behind list inputs
@@ -98,33 +98,33 @@ closes-at (ReleaseRq ∷ pdus) = refl
 closes-at (ReleaseRp ∷ pdus) = refl
 closes-at (Abort a b ∷ pdus) = refl
 
-closes-closing : (g : Gathered) (pdus : List Pdu) → (open_outcome (closing_behind g (closing pdus None))).close ≡ is_over g pdus
+closes-closing : (g : Gathered) (pdus : List Pdu) → (open_outcome (closing_after g (closing pdus None))).close ≡ is_over g pdus
 closes-closing (Spent f) pdus = refl
 closes-closing Nothing pdus = closes-at pdus
 closes-closing (Fragments context octets) pdus = closes-at pdus
 
 -- what later PDUs add closes exactly where the association is then over
 closes-grown : (ids : List ℕ) (g : Gathered) (pdus later : List Pdu) → is_over g pdus ≡ false
-    → (open_outcome (grown ids g pdus later None)).close ≡ is_over (gather_all ids g (values_behind pdus later)).gathered (units_behind pdus later)
+    → (open_outcome (grown ids g pdus later None)).close ≡ is_over (gather_all ids g (values_after pdus later)).gathered (pdus_after pdus later)
 closes-grown ids (Spent f) pdus later h = absurd (false≢true (sym h))
 closes-grown ids Nothing (pdu ∷ pdus) later h = absurd (false≢true (sym h))
 closes-grown ids (Fragments context octets) (pdu ∷ pdus) later h = absurd (false≢true (sym h))
 closes-grown ids Nothing [] later h =
-    closes-behind (gather_all ids Nothing (values later)).list (closing_behind (gather_all ids Nothing (values later)).gathered (closing (behind_values later) None))
-    ∙ closes-closing (gather_all ids Nothing (values later)).gathered (behind_values later)
+    closes-behind (gather_all ids Nothing (values later)).list (closing_after (gather_all ids Nothing (values later)).gathered (closing (after_values later) None))
+    ∙ closes-closing (gather_all ids Nothing (values later)).gathered (after_values later)
 closes-grown ids (Fragments context octets) [] later h =
-    closes-behind (gather_all ids (Fragments context octets) (values later)).list (closing_behind (gather_all ids (Fragments context octets) (values later)).gathered (closing (behind_values later) None))
-    ∙ closes-closing (gather_all ids (Fragments context octets) (values later)).gathered (behind_values later)
+    closes-behind (gather_all ids (Fragments context octets) (values later)).list (closing_after (gather_all ids (Fragments context octets) (values later)).gathered (closing (after_values later) None))
+    ∙ closes-closing (gather_all ids (Fragments context octets) (values later)).gathered (after_values later)
 
 pub standing-open : (request : Request) (pdus : List Pdu) → is_closed (state_of (standing (request_pdu request ∷ pdus))) ≡ false → state_of (standing (request_pdu request ∷ pdus)) ≡ Open
 standing-open request pdus h =
-    opened-open (accepted_ids request) (values pdus) (behind_values pdus) (sym (over-opened (accepted_ids request) (values pdus) (behind_values pdus)) ∙ h)
+    opened-open (accepted_ids request) (values pdus) (after_values pdus) (sym (over-opened (accepted_ids request) (values pdus) (after_values pdus)) ∙ h)
 
 over-append : (ids : List ℕ) (pdus later : List Pdu)
-    → is_over (messages ids (values (pdus ++ later))).gathered (behind_values (pdus ++ later))
-    ≡ is_over (gather_all ids (messages ids (values pdus)).gathered (values_behind (behind_values pdus) later)).gathered (units_behind (behind_values pdus) later)
+    → is_over (messages ids (values (pdus ++ later))).gathered (after_values (pdus ++ later))
+    ≡ is_over (gather_all ids (messages ids (values pdus)).gathered (values_after (after_values pdus) later)).gathered (pdus_after (after_values pdus) later)
 over-append ids pdus later =
-    rw (values-append pdus later, behind_values-append pdus later, gather_all-append ids Nothing (values pdus) (values_behind (behind_values pdus) later)) refl
+    rw (values-append pdus later, after_values-append pdus later, gather_all-append ids Nothing (values pdus) (values_after (after_values pdus) later)) refl
 
 -- what one PDU more leads to closes exactly where the association is then closed
 pub closes-next : (before : List Pdu) (pdu : Pdu) (more : List Input) → Takes (standing before) pdu → is_closed (state_of (standing before)) ≡ false
@@ -142,9 +142,9 @@ closes-next (request_pdu request ∷ pdus) pdu more takes unclosed e =
     let added_is : more ≡ added (request_pdu request ∷ pdus) (pdu ∷ []) None = append_cancel_left (inputs_of (request_pdu request ∷ pdus) None) more (added (request_pdu request ∷ pdus) (pdu ∷ []) None) (sym e ∙ inputs_of-append (request_pdu request ∷ pdus) (pdu ∷ []) None) in
     ap (λ st. (outcome st more).close) (standing-open request pdus unclosed)
     ∙ ap (λ m. (open_outcome m).close) added_is
-    ∙ closes-grown ids (messages ids (values pdus)).gathered (behind_values pdus) (pdu ∷ []) (sym (over-opened ids (values pdus) (behind_values pdus)) ∙ unclosed)
+    ∙ closes-grown ids (messages ids (values pdus)).gathered (after_values pdus) (pdu ∷ []) (sym (over-opened ids (values pdus) (after_values pdus)) ∙ unclosed)
     ∙ sym (over-append ids pdus (pdu ∷ []))
-    ∙ sym (over-opened ids (values (pdus ++ pdu ∷ [])) (behind_values (pdus ++ pdu ∷ [])))
+    ∙ sym (over-opened ids (values (pdus ++ pdu ∷ [])) (after_values (pdus ++ pdu ∷ [])))
 closes-next (accept_pdu a ∷ pdus) pdu more takes unclosed e = absurd takes
 closes-next (Reject a b c ∷ pdus) pdu more takes unclosed e = absurd takes
 closes-next (PData pdvs ∷ pdus) pdu more takes unclosed e = absurd takes

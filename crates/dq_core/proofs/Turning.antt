@@ -4,7 +4,7 @@ use Rattle.std.proofs.Math.ListN.{set}
 use Rattle.std.specs.List.{position, position_or_len, remove, AllByRecursion}
 use Rattle.std.proofs.lemmas.Bool.Decides.{nat_tests}
 use Rattle.std.proofs.lemmas.List.{map-append}
-use Rattle.dq_pdu.specs.Stream.{units_within}
+use Rattle.dq_pdu.specs.Stream.{pdus_within}
 use Rattle.dq_core.specs.declared.config.Institution.{Institution}
 use Rattle.dq_core.specs.declared.event.Event.TheVariants as event
 use Rattle.dq_core.specs.declared.event.Reply.TheVariants as reply
@@ -71,7 +71,7 @@ ends-found institutions number slots new held index h p n =
 
 -- a connection that is opened
 new-held : (number : ℕ) → IsHeld (at number [])
-unfolding units_within
+unfolding pdus_within
 new-held number = record { faultless = refl; not_closed = refl }
 
 held-append : (held : List Connection) (c : Connection) → AllByRecursion IsHeld held → IsHeld c → AllByRecursion IsHeld (held ++ c ∷ [])
@@ -94,7 +94,7 @@ remove-set [] index slot = refl
 remove-set (x ∷ slots) zero slot = refl
 remove-set (x ∷ slots) (suc index) slot = ap (λ slots. x ∷ slots) (remove-set slots index slot)
 
--- the answer to a piece, and the slots behind it
+-- the answer to a piece, and the slots after it
 answers-as : (number : ℕ) (told : Answer) (octets : List ℕ) (close : Bool) → Tells told [] octets close → reply.Octets number octets close ≡ reply.Octets number told.octets told.close
 answers-as number told octets close t = ap (λ o. reply.Octets number o close) t.octets ∙ ap (reply.Octets number told.octets) t.closes
 

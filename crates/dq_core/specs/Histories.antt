@@ -1,7 +1,7 @@
 -- Which history of events a server stands for, and which histories there are.
 use Rattle.std.specs.Prelude.{◌≡◌, ℕ, Bool, true, false, ◌&&◌, nat_lt, IsTrue, List, [], ◌∷◌, map, Option, Some, None, option_map}
 use Rattle.std.specs.List.{AllByRecursion}
-use Rattle.dq_pdu.specs.Stream.{units, holding}
+use Rattle.dq_pdu.specs.Stream.{pdus_in, holding}
 use Rattle.dq_assoc.specs.Inputs.{inputs}
 use Rattle.dq_assoc.specs.Standing.{standing, state_of, is_closed}
 use Rattle.dq_core.specs.declared.config.Institution.{Institution}
@@ -45,14 +45,14 @@ abbrev pub slot_of : Connection → Slot
 slot_of c = record {
   number = c.number;
   inbox = holding c.stream;
-  association = standing (units c.stream).list;
+  association = standing (pdus_in c.stream).list;
   limit = option_map peer_limit (request_in (inputs c.stream));
 }
 
 -- nothing in the stream has closed the connection
 pub record IsHeld (c : Connection) : Type 0 where
-  pub faultless : (units c.stream).fault ≡ None
-  pub not_closed : is_closed (state_of (standing (units c.stream).list)) ≡ false
+  pub faultless : (pdus_in c.stream).fault ≡ None
+  pub not_closed : is_closed (state_of (standing (pdus_in c.stream).list)) ≡ false
 
 -- A server stands for a history: it is not spent, and it holds exactly the connections that the plain server holds.
 pub record StandsFor (server : Standing) (events : List Event) : Type 0 where

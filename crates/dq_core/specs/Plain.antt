@@ -31,7 +31,7 @@ abbrev pub first_answer : List Institution → Input → Answer
 first_answer institutions (Requested request) = answer_by (line Waiting (verdict institutions request) (Requested request))
 first_answer institutions input = answer_by (line Waiting Accept input)
 
--- one input, behind the request that the connection sent before, if any
+-- one input, after the request that the connection sent before, if any
 abbrev pub answer : List Institution → Option Request → Input → Answer
 answer institutions None input = first_answer institutions input
 answer institutions (Some request) input = open_answer request input
@@ -39,22 +39,22 @@ answer institutions (Some request) input = open_answer request input
 abbrev pub then_answer : Answer → Answer → Answer
 then_answer first later = if first.close then first else record { octets = first.octets ++ later.octets; close = later.close }
 
--- the request that stands behind an input
-abbrev pub request_behind : Option Request → Input → Option Request
-request_behind before (Requested request) = Some request
-request_behind before input = before
+-- the request that stands after an input
+abbrev pub request_after : Option Request → Input → Option Request
+request_after before (Requested request) = Some request
+request_after before input = before
 
 -- inputs in order, up to the first that closes
 abbrev pub answers : List Institution → Option Request → List Input → Answer
 answers institutions request [] = record { octets = []; close = false }
-answers institutions request (input ∷ more) = then_answer (answer institutions request input) (answers institutions (request_behind request input) more)
+answers institutions request (input ∷ more) = then_answer (answer institutions request input) (answers institutions (request_after request input) more)
 
 -- the request among the inputs of a stream: the first of them, if it is one
 abbrev pub request_in : List Input → Option Request
 request_in [] = None
-request_in (input ∷ more) = request_behind None input
+request_in (input ∷ more) = request_after None input
 
--- what a piece is answered behind a stream: the inputs that it adds
+-- what a piece is answered after a stream: the inputs that it adds
 abbrev pub piece_answer : List Institution → List ℕ → List ℕ → Answer
 piece_answer institutions stream piece =
     answers institutions (request_in (inputs stream)) (drop (length (inputs stream)) (inputs (stream ++ piece)))
@@ -110,7 +110,7 @@ replies_from institutions held (e ∷ events) = let t = turn institutions held e
 abbrev pub replies : List Institution → List Event → List Reply
 replies institutions events = replies_from institutions [] events
 
--- the connections that are held behind events
+-- the connections that are held after events
 abbrev pub held_from : List Institution → List Connection → List Event → List Connection
 held_from institutions held [] = held
 held_from institutions held (e ∷ events) = held_from institutions (turn institutions held e).held events

@@ -29,7 +29,7 @@ pub record StandsAt (slot : Slot) (before : List Pdu) : Type 0 where
   pub not_closed : is_closed (state_of (standing before)) ≡ false
   pub limit : slot.limit ≡ option_map peer_limit (request_in (inputs_of before None))
 
--- what further PDUs, and the fault behind them, are answered
+-- what further PDUs, and the fault after them, are answered
 abbrev pub told : List Institution → List Pdu → List Pdu → Option PduFault → Answer
 told institutions before more fault =
     answers institutions (request_in (inputs_of before None)) (drop (length (inputs_of before None)) (inputs_of (before ++ more) fault))

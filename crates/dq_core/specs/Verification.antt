@@ -43,7 +43,7 @@ abbrev pub sent_if : ℕ → ℕ → Option Command → List ℕ
 sent_if context limit None = []
 sent_if context limit (Some command) = sent context command None limit
 
--- the longest unit that the requestor takes; 0 is no limit
+-- the longest PDU that the requestor takes; 0 is no limit
 abbrev pub peer_limit : Request → ℕ
 peer_limit request = unwrap_or request.maximum_length 0
 

@@ -6,7 +6,8 @@ ghost use Rattle.dq_assoc.specs.Negotiation.{same_octets};
 ghost use Rattle.dq_core.specs.Routing.{without_leading, without_trailing, stripped, joins, has_route, routed, verdict, built_in};
 
 use dq_assoc::Verdict;
-use dq_pdu::{Listed, Request};
+use dq_list::Listed;
+use dq_pdu::Request;
 use std::alloc::{AllocError, Global};
 use std::marker::Model;
 

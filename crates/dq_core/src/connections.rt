@@ -9,7 +9,7 @@ ghost use Rattle.dq_core.specs.Slots.{AreHeld, Turned};
 use crate::config::Config;
 use crate::event::{Event, Reply};
 use crate::slot::Slot;
-use dq_pdu::Listed;
+use dq_list::Listed;
 use std::alloc::{AllocError, Global};
 
 /// Where the slot with the number stands.

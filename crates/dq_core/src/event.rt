@@ -1,4 +1,4 @@
-use dq_pdu::Listed;
+use dq_list::Listed;
 
 /// What happens to the server. A connection has a number, and opened numbers rise.
 #[derive(Debug, Drop)]
@@ -14,7 +14,7 @@ pub enum Event {
 /// What an event is answered with.
 #[derive(Debug, Drop)]
 pub enum Reply {
-    /// Octets for a connection, and whether it is closed behind them.
+    /// Octets for a connection, and whether it is closed after them.
     Octets {
         conn: u64,
         octets: Listed<u8>,

@@ -7,7 +7,7 @@ use crate::config::Config;
 use crate::connections::{answer_piece, end_connection, open_connection};
 use crate::event::{Event, Reply};
 use crate::slot::Slot;
-use dq_pdu::Listed;
+use dq_list::Listed;
 use std::alloc::{AllocError, Global};
 use std::marker::Model;
 use thiserror::Error;

@@ -7,7 +7,7 @@ ghost use Rattle.dq_core.specs.Slots.{served_within};
 
 use crate::config::{is_same, listed};
 use dq_dimse::{Command, Message, write_message};
-use dq_pdu::Listed;
+use dq_list::Listed;
 use std::alloc::{AllocError, Global};
 
 const C_ECHO: u16 = 0x0030;
@@ -55,7 +55,7 @@ fn response(alloc: Global, command: &Command) -> Result<Option<Command>, AllocEr
     }))
 }
 
-/// Adds the octets that answer a message to a peer that takes units of at most the limit.
+/// Adds the octets that answer a message to a peer that takes PDUs of at most the limit.
 fn serve(alloc: Global, limit: u32, message: &Message, out: &mut Vec<u8>) -> Result<(), AllocError>
     requires { (limit ≡ 0) ⊎ (8 ≤ limit) }
     ensures { OnOk result (out.new.items ≡ out.old.items ++ sent_if message.now.context limit (response message.now.command)) }

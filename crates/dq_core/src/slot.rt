@@ -11,11 +11,12 @@ ghost use Rattle.dq_core.specs.Slots.{limit_of, StandsAt, told, Tells};
 use crate::config::Config;
 use crate::service::serve_all;
 use dq_assoc::{Association, State, abort_for};
-use dq_pdu::{Inbox, Listed, Pdu, PduFault, Request, write_pdu};
+use dq_list::Listed;
+use dq_pdu::{Inbox, Pdu, PduFault, Request, write_pdu};
 use std::alloc::{AllocError, Global};
 use std::marker::Model;
 
-/// The longest unit that a peer takes, in octets: 0 is no limit, and a limit leaves room for a value's header and a
+/// The longest PDU that a peer takes, in octets: 0 is no limit, and a limit leaves room for a value's header and a
 /// fragment (PS3.8 annex D.1).
 #[derive(Debug, Drop)]
 pub(crate) struct PeerLimit {
@@ -65,7 +66,7 @@ pub(crate) struct Slot {
 
 impl Slot {
     /// A connection that is opened. It takes no memory.
-    #[tactic(auto, unfolding(dq_pdu::specs::Stream::units_within))]
+    #[tactic(auto, unfolding(dq_pdu::specs::Stream::pdus_within))]
     pub(crate) fn new(alloc: Global, number: u64) -> Self
         ensures { result ≡ slot_of (record { number = number; stream = [] }) }
     {
@@ -121,7 +122,7 @@ impl Slot {
         Ok(false)
     }
 
-    /// Takes one PDU. Behind a close nothing is taken.
+    /// Takes one PDU. After a close nothing is taken.
     fn take(
         &mut self,
         alloc: Global,
@@ -160,8 +161,8 @@ impl Slot {
         Ok(step.close)
     }
 
-    /// The longest unit that the peer takes, where 0 is no limit.
-    fn unit_limit(&self) -> u32
+    /// The longest PDU that the peer takes, where 0 is no limit.
+    fn pdu_limit(&self) -> u32
         ensures same { result ≡ unwrap_or self.now.limit 0 }
         ensures room { (result ≡ 0) ⊎ (8 ≤ result) }
     {
@@ -179,7 +180,7 @@ impl Slot {
         ensures stands { (before : List Pdu) → StandsAt self.old before → IfOk result (λ close. close ≡ false → StandsAt self.new (before ++ pdu ∷ [])) }
         ensures keeps { (self.new.number ≡ self.old.number) × (self.new.inbox ≡ self.old.inbox) }
     {
-        let limit = self.unit_limit();
+        let limit = self.pdu_limit();
         let step = self.association.take(pdu)?;
         serve_all(alloc, limit, &step.messages, out)?;
         append(out, &step.octets)?;

@@ -1,5 +1,5 @@
 use super::*;
-use dq_pdu::Listed;
+use dq_list::Listed;
 use std::alloc::{AllocError, Global};
 use std::process::Abort;
 use std::test::*;
@@ -149,7 +149,7 @@ fn a_title_without_a_route_is_rejected(rt: HostRuntime) -> Result<(), Fail> {
 }
 
 #[test]
-fn an_unknown_unit_is_aborted(rt: HostRuntime) -> Result<(), Fail> {
+fn an_unknown_pdu_is_aborted(rt: HostRuntime) -> Result<(), Fail> {
     let mut server = started(&rt, rt.alloc())?;
     let reply = server.step(Event::Piece(1, listed(rt.alloc(), &[8, 0, 0, 0, 0, 0])?))?;
     check_octets(&rt, &reply, &ABORT, true);

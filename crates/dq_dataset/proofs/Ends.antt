@@ -28,7 +28,7 @@ rest_of-kept : (f : List Element → List Element) (read : Result (List Element 
 rest_of-kept f (Ok x) = refl
 rest_of-kept f (Err e) = refl
 
--- what the header that was found tells of the reading behind it
+-- what the header that was found tells of the reading after it
 after_header : (r : Readers) (bound : Bound) (syntax : Syntax) (levels : ℕ) (read : Result (Option (Header × Value) × List ℕ) ReadFault) (h : Header) (after : List ℕ)
     → header_of read ≡ Ok (Some h, after) → rest_of (read >>= λ first. elements_after r bound syntax levels first.0 first.1) ≡ rest_of (r.elements bound syntax levels (Some h.tag) after)
 unfolding elements_after

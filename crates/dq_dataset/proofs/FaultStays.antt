@@ -35,7 +35,7 @@ failed f = Err f
 abbrev found : {X : Type 0} → X → Result X ReadFault
 found x = Ok x
 
--- what is read stays, with what follows behind the rest, and so does a fault
+-- what is read stays, with what follows after the rest, and so does a fault
 abbrev Grows : {X : Type 0} → List ℕ → Result (X × List ℕ) ReadFault → Result (X × List ℕ) ReadFault → Type 0
 Grows t (Ok x) s = s ≡ Ok (x.0, x.1 ++ t)
 Grows t (Err f) s = (f ≡ Truncated) ⊎ (s ≡ Err f)
@@ -174,7 +174,7 @@ zero_step n = check (eqb n.0 0) BadItem >>= λ ok. Ok (Some n.1)
 abbrev end_step : ℕ → Tag × List ℕ → Result (Option (List ℕ)) ReadFault
 end_step end tag = cond (eqb tag.0.group 0xFFFE && eqb tag.0.element end) (number_at w32 tag.1 >>= zero_step) (Ok None)
 
--- what a test of the end is followed by, with the octets behind it
+-- what a test of the end is followed by, with the octets after it
 abbrev Ends : {X : Type 0} → List ℕ → (Result (Option X × List ℕ) ReadFault) → (Result (Option X × List ℕ) ReadFault) → Result (Option (List ℕ)) ReadFault → Result (Option (List ℕ)) ReadFault → Type 0
 Ends t more more' r s = Grows t (r >>= λ end. unless_ended end more) (s >>= λ end. unless_ended end more')
 

@@ -26,7 +26,7 @@ use Rattle.dq_dataset.proofs.Fields.{IsBytes, bind_ok, check_ok, ok_is, Takes, T
 IsBytes-rest : (b : ℕ) (bytes : List ℕ) → IsBytes (b ∷ bytes) → IsBytes bytes
 IsBytes-rest b bytes h i = h (suc i)
 
--- ---- the length behind letters
+-- ---- the length after letters
 
 behind_takes : (form : LengthForm) (bytes : List ℕ) (extent : Option ℕ) (rest : List ℕ) → IsBytes bytes → length_at form bytes ≡ Ok (extent, rest)
     → (behind : List ℕ) × IsLengthBehind form extent behind × Takes bytes behind rest
@@ -47,11 +47,11 @@ reserved_again reserved rest two =
     let long : ltb (length (reserved ++ rest)) 2 ≡ false = le-ltb _ _ (omega (arith, length-append reserved rest)) in
     rw (long, drop_at reserved rest 2 two) refl
 
-behind_again : (form : LengthForm) (extent : Option ℕ) (behind rest : List ℕ) → IsLengthBehind form extent behind → length_at form (behind ++ rest) ≡ Ok (extent, rest)
+after_again : (form : LengthForm) (extent : Option ℕ) (behind rest : List ℕ) → IsLengthBehind form extent behind → length_at form (behind ++ rest) ≡ Ok (extent, rest)
 unfolding length_at
-behind_again Two None behind rest h = absurd h
-behind_again Two (Some n) behind rest (lt, e) = rw (e, number_again w16 (2 ^ 16) wide16 n rest lt) refl
-behind_again Four extent behind rest (reserved, two, four, is, e) =
+after_again Two None behind rest h = absurd h
+after_again Two (Some n) behind rest (lt, e) = rw (e, number_again w16 (2 ^ 16) wide16 n rest lt) refl
+after_again Four extent behind rest (reserved, two, four, is, e) =
     rw (e, append_assoc reserved four rest, reserved_again reserved (four ++ rest) two) (length_again extent four rest is)
 
 -- ---- the VR and the length
@@ -98,19 +98,19 @@ spelling_again Implicit known None extent behind rest h = rw (length_again exten
 spelling_again Implicit known (Some vr) extent behind rest h = absurd h
 spelling_again Explicit known None extent behind rest h = absurd h
 spelling_again Explicit known (Some vr) extent behind rest (agreed, a, b, named, more, is, e) =
-    rw (e, vr_again a b (more ++ rest) vr named, agreed, behind_again (length_form_of vr) extent more rest is) refl
+    rw (e, vr_again a b (more ++ rest) vr named, agreed, after_again (length_form_of vr) extent more rest is) refl
 
-behind_long : (form : LengthForm) (extent : Option ℕ) (behind : List ℕ) → IsLengthBehind form extent behind → 2 ≤ length behind
-behind_long Two None behind h = absurd h
-behind_long Two (Some n) behind (lt, e) = omega (arith, ap length e)
-behind_long Four extent behind (reserved, two, four, is, e) = omega (arith, ap length e, length-append reserved four, two)
+after_long : (form : LengthForm) (extent : Option ℕ) (behind : List ℕ) → IsLengthBehind form extent behind → 2 ≤ length behind
+after_long Two None behind h = absurd h
+after_long Two (Some n) behind (lt, e) = omega (arith, ap length e)
+after_long Four extent behind (reserved, two, four, is, e) = omega (arith, ap length e, length-append reserved four, two)
 
 pub spelling_long : (syntax : Syntax) (known spelled : Option Vr) (extent : Option ℕ) (behind : List ℕ) → IsSpelling syntax known spelled extent behind → 4 ≤ length behind
 spelling_long Implicit known None extent behind h = omega (arith, length_four extent behind h)
 spelling_long Implicit known (Some vr) extent behind h = absurd h
 spelling_long Explicit known None extent behind h = absurd h
 spelling_long Explicit known (Some vr) extent behind (agreed, a, b, named, more, is, e) =
-    omega (arith, ap length e, behind_long (length_form_of vr) extent more is)
+    omega (arith, ap length e, after_long (length_form_of vr) extent more is)
 
 -- ---- the header of an element
 
@@ -246,7 +246,7 @@ item_long extent octets header = omega (arith, ap length header.whole, length-ap
 
 -- ---- ends
 
--- what may be left behind a bound: nothing where the octets are filled
+-- what may be left after a bound: nothing where the octets are filled
 abbrev pub Trails : Bound → List ℕ → Type 0
 Trails Filled rest = rest ≡ []
 Trails Delimited rest = Unit {0}

@@ -61,7 +61,7 @@ Lent = List (Result Spelled ReadFault)
 abbrev spelled : Found → Spelled
 spelled found = record { tag = found.0.0.tag; vr = found.0.0.vr; octets = found.0.1 }
 
--- the same list behind an element
+-- the same list after an element
 same_choice : (b : Bool) (x y : Lent) (f : Result Spelled ReadFault) → x ≡ y → cond b x (f ∷ x) ≡ cond b y (f ∷ y)
 same_choice b x y f e = ap (λ (z : Lent). cond b z (f ∷ z)) e
 

@@ -79,11 +79,11 @@ follows-trans (Some last) tag next e f = is_below-trans last tag next e f
 earlier : (last : Option Tag) (tag next : Tag) → follows last tag ≡ true → IsElementTag (Some tag) next → IsElementTag last next
 earlier last tag next e h = record { rises = follows-trans last tag next e h.rises; no_delimiter = h.no_delimiter; no_length = h.no_length; group = h.group; number = h.number }
 
--- what stands behind a tag stands behind an earlier one
-behind_earlier : (levels : ℕ) (last : Option Tag) (tag : Tag) (d : ElementList) → follows last tag ≡ true → AreElements levels (Some tag) d → AreElements levels last d
-behind_earlier levels last tag no_elements e h = tt
-behind_earlier levels last tag (element t vr octets rest) e h = (earlier last tag t e h.0, h.1, h.2)
-behind_earlier levels last tag (sequence t vr items rest) e h = (earlier last tag t e h.0, h.1, h.2, h.3, h.4)
+-- what stands after a tag stands after an earlier one
+after_earlier : (levels : ℕ) (last : Option Tag) (tag : Tag) (d : ElementList) → follows last tag ≡ true → AreElements levels (Some tag) d → AreElements levels last d
+after_earlier levels last tag no_elements e h = tt
+after_earlier levels last tag (element t vr octets rest) e h = (earlier last tag t e h.0, h.1, h.2)
+after_earlier levels last tag (sequence t vr items rest) e h = (earlier last tag t e h.0, h.1, h.2, h.3, h.4)
 
 -- ---- VRs
 
@@ -97,7 +97,7 @@ plain_none true b c m e = absurd cc
 plain_none false true c m e = absurd cc
 plain_none false false c m e = refl
 
--- octets stand behind no known sequence
+-- octets stand after no known sequence
 plain_is_no_sequence : (known spelled : Option Vr) (extent : Option ℕ) (n : ℕ) → content_of known spelled extent ≡ Ok (Plain n) → is_sequence known ≡ false
 unfolding content_of
 plain_is_no_sequence known spelled (Some m) n e = plain_some (is_sequence spelled) (is_sequence known) m n e
@@ -134,7 +134,7 @@ spelling_agrees Explicit known None extent behind h = absurd h
 spelling_agrees Explicit known (Some vr) extent behind h =
     agrees_means (is_sequence known) (is_sequence (Some vr) || is_unknown (Some vr)) (is_none known) (is_sequence (Some vr)) h.0
 
--- items stand behind a known sequence or an unknown tag
+-- items stand after a known sequence or an unknown tag
 sequence_is_allowed : (known spelled : Option Vr) (extent : Option ℕ) (s : Syntax) (x : Option ℕ) → (is_sequence known ≡ true) ⊎ ((is_none known || not (is_sequence spelled)) ≡ true)
     → content_of known spelled extent ≡ Ok (Sequence s x) → (is_none known || is_sequence known) ≡ true
 unfolding content_of
@@ -162,7 +162,7 @@ with_value_is levels last tag vr (Items items) others t v rest = (t, v.0, v.1, v
 
 kept_is : (b : Bool) (levels : ℕ) (last : Option Tag) (tag : Tag) (vr : Vr) (held : Value) (others : ElementList) → nat_eq tag.element 0 ≡ b → IsPlaced last tag → IsValue levels tag vr held
     → AreElements levels (Some tag) others → AreElements levels last (cond b others (with_value (record { tag = tag; vr = vr; value = held }) held others))
-kept_is true levels last tag vr held others e placed v rest = behind_earlier levels last tag others placed.rises rest
+kept_is true levels last tag vr held others e placed v rest = after_earlier levels last tag others placed.rises rest
 kept_is false levels last tag vr held others e placed v rest =
     with_value_is levels last tag vr held others
     (record { rises = placed.rises; no_delimiter = placed.no_delimiter; no_length = eqb-false tag.element 0 e; group = placed.group; number = placed.number }) v rest

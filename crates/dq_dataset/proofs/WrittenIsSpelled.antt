@@ -74,11 +74,11 @@ two_letters UV = record { first = 85; second = 86; are = refl }
 
 -- ---- headers
 
-long_behind : (n : ℕ) → n < 0xFFFFFFFF → IsLengthBehind Four (Some n) (long_length n)
-long_behind n lt = (0 ∷ 0 ∷ [], refl, to_le_bytes w32 n, (lt, refl), refl)
+long_after : (n : ℕ) → n < 0xFFFFFFFF → IsLengthBehind Four (Some n) (long_length n)
+long_after n lt = (0 ∷ 0 ∷ [], refl, to_le_bytes w32 n, (lt, refl), refl)
 
-short_behind : (n : ℕ) → n ≤ 65534 → IsLengthBehind Two (Some n) (to_le_bytes w16 n)
-short_behind n le = (omega arith, refl)
+short_after : (n : ℕ) → n ≤ 65534 → IsLengthBehind Two (Some n) (to_le_bytes w16 n)
+short_after n le = (omega arith, refl)
 
 or_right : (a b : Bool) → b ≡ true → (a || b) ≡ true
 or_right true b e = refl
@@ -137,7 +137,7 @@ module _ (named : LettersName) where
     extent = Some n;
     allowed = content_plain (known_vr tag) (Some UN) n refl other;
     behind = letters_of UN ++ long_length n;
-    spelling = spelled_as (known_vr tag) UN n (long_length n) (agrees_un (known_vr tag) other) (rw form_un (long_behind n lt));
+    spelling = spelled_as (known_vr tag) UN n (long_length n) (agrees_un (known_vr tag) other) (rw form_un (long_after n lt));
     whole = refl;
   }
   plain_short tag vr n false e form own other lt = record {
@@ -145,7 +145,7 @@ module _ (named : LettersName) where
     extent = Some n;
     allowed = content_plain (known_vr tag) (Some vr) n (ap (λ (x : Vr). is_sequence (Some x)) own ∙ own_is_no_sequence (known_vr tag) other) other;
     behind = letters_of vr ++ to_le_bytes w16 n;
-    spelling = spelled_as (known_vr tag) vr n (to_le_bytes w16 n) (ap (agrees (known_vr tag)) own ∙ agrees_own (known_vr tag) other) (rw form (short_behind n (ltb-false 65534 n e)));
+    spelling = spelled_as (known_vr tag) vr n (to_le_bytes w16 n) (ap (agrees (known_vr tag)) own ∙ agrees_own (known_vr tag) other) (rw form (short_after n (ltb-false 65534 n e)));
     whole = refl;
   }
 
@@ -158,7 +158,7 @@ module _ (named : LettersName) where
     extent = Some n;
     allowed = content_plain (known_vr tag) (Some vr) n (ap (λ (x : Vr). is_sequence (Some x)) own ∙ own_is_no_sequence (known_vr tag) other) other;
     behind = letters_of vr ++ long_length n;
-    spelling = spelled_as (known_vr tag) vr n (long_length n) (ap (agrees (known_vr tag)) own ∙ agrees_own (known_vr tag) other) (rw form (long_behind n lt));
+    spelling = spelled_as (known_vr tag) vr n (long_length n) (ap (agrees (known_vr tag)) own ∙ agrees_own (known_vr tag) other) (rw form (long_after n lt));
     whole = refl;
   }
 
@@ -191,7 +191,7 @@ module _ (named : LettersName) where
     extent = Some n;
     allowed = content_sq (known_vr tag) n;
     behind = letters_of SQ ++ long_length n;
-    spelling = spelled_as (known_vr tag) SQ n (long_length n) (agrees_sq (known_vr tag) allowed) (long_behind n lt);
+    spelling = spelled_as (known_vr tag) SQ n (long_length n) (agrees_sq (known_vr tag) allowed) (long_after n lt);
     whole = refl;
   }
 

@@ -31,13 +31,13 @@ abbrev pub IsLength : Option ℕ → List ℕ → Type 0
 IsLength None octets = octets ≡ to_le_bytes w32 0xFFFFFFFF
 IsLength (Some n) octets = (n < 0xFFFFFFFF) × (octets ≡ to_le_bytes w32 n)
 
--- Behind the letters of a VR stand a length of 2 octets, or 2 reserved octets and a length of 4.
+-- After the letters of a VR stand a length of 2 octets, or 2 reserved octets and a length of 4.
 abbrev pub IsLengthBehind : LengthForm → Option ℕ → List ℕ → Type 0
 IsLengthBehind Two None octets = ⊥
 IsLengthBehind Two (Some n) octets = (n < 2 ^ 16) × (octets ≡ to_le_bytes w16 n)
 IsLengthBehind Four extent octets = (reserved : List ℕ) × (length reserved ≡ 2) × (four : List ℕ) × IsLength extent four × (octets ≡ reserved ++ four)
 
--- Behind the tag stand the letters of a VR that the dictionary allows, in Explicit alone, and the length.
+-- After the tag stand the letters of a VR that the dictionary allows, in Explicit alone, and the length.
 abbrev pub IsSpelling : Syntax → Option Vr → Option Vr → Option ℕ → List ℕ → Type 0
 IsSpelling Implicit known None extent octets = IsLength extent octets
 IsSpelling Implicit known (Some vr) extent octets = ⊥
@@ -89,7 +89,7 @@ abbrev pub kept_value : Tag → Vr → Value → ElementList → ElementList
 kept_value tag vr value others = if tag.element == 0 then others else with_value (record { tag = tag; vr = vr; value = value }) value others
 
 mutual
-  -- The octets spell elements behind the tag last, up to where the bound says, with so many more levels of sequences at most.
+  -- The octets spell elements after the tag last, up to where the bound says, with so many more levels of sequences at most.
   pub data Spells : Bound → Syntax → ℕ → Option Tag → List ℕ → ElementList → Type 0 where
     no_more : (bound : Bound) (syntax : Syntax) (levels : ℕ) (last : Option Tag) (octets : List ℕ)
         → IsEnd bound 0xE00D octets → Spells bound syntax levels last octets no_elements

@@ -14,11 +14,11 @@ pub record Spelled : Type 0 where
   pub vr : Vr
   pub octets : List ℕ
 
--- What is left behind what was read.
+-- What is left after what was read.
 abbrev pub rest_of : {X : Type 0} → Result (X × List ℕ) ReadFault → Result (List ℕ) ReadFault
 rest_of read = read >>= λ x. Ok x.1
 
--- The header that was read, and what is left behind its value.
+-- The header that was read, and what is left after its value.
 abbrev pub header_in : Option (Header × Value) → Option Header
 header_in None = None
 header_in (Some found) = Some found.0
@@ -26,7 +26,7 @@ header_in (Some found) = Some found.0
 abbrev pub header_of : Result (Option (Header × Value) × List ℕ) ReadFault → Result (Option Header × List ℕ) ReadFault
 header_of read = read >>= λ x. Ok (header_in x.0, x.1)
 
--- Whether an item was read, and what is left behind it.
+-- Whether an item was read, and what is left after it.
 abbrev pub is_there : {X : Type 0} → Option X → Option (Unit {0})
 is_there None = None
 is_there (Some found) = Some tt
@@ -57,7 +57,7 @@ unfoldable pub lent_in : ℕ → Syntax → Option Tag → List ℕ → List (Re
 lent_in zero syntax last octets = []
 lent_in (suc n) syntax last octets = if length octets == 0 then [] else lent_after (lent_in n syntax) (next_at syntax last octets)
 
--- The elements behind the tag last: one for each, up to the end or the first fault.
+-- The elements after the tag last: one for each, up to the end or the first fault.
 abbrev pub lent_from : Syntax → Option Tag → List ℕ → List (Result Spelled ReadFault)
 lent_from syntax last octets = lent_in (length octets) syntax last octets
 

@@ -11,4 +11,3 @@ pub mod Written
 pub mod Lending
 pub mod LentView
 pub mod Agreement
-pub mod formers

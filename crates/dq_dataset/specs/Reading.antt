@@ -57,7 +57,7 @@ long_length_at octets = do
   n ← number_at w32 octets
   Ok ((if n.0 == 0xFFFFFFFF then None else Some n.0), n.1)
 
--- Behind the letters of a VR: a length of 2 octets, or 2 reserved ones and a length of 4.
+-- After the letters of a VR: a length of 2 octets, or 2 reserved ones and a length of 4.
 unfoldable pub length_at : LengthForm → List ℕ → Result (Option ℕ × List ℕ) ReadFault
 length_at Two octets = do
   n ← number_at w16 octets
@@ -105,7 +105,7 @@ abbrev pub fits : Option ℕ → List ℕ → Bool
 fits None octets = true
 fits (Some n) octets = nat_le n (length octets)
 
--- The header of an element behind the tag last, where so many more levels of sequences are allowed.
+-- The header of an element after the tag last, where so many more levels of sequences are allowed.
 unfoldable pub header_at : Syntax → ℕ → Option Tag → List ℕ → Result (Header × List ℕ) ReadFault
 header_at syntax levels last octets = do
   tag ← tag_at octets
@@ -126,7 +126,7 @@ item_header_at octets = do
   whole ← check (fits n.0 n.1) Truncated
   Ok n
 
--- What is left behind the end that stands here: the octets' own end, or, where the length is undefined, (FFFE,E00D) or (FFFE,E0DD) with length 0.
+-- What is left after the end that stands here: the octets' own end, or, where the length is undefined, (FFFE,E00D) or (FFFE,E0DD) with length 0.
 unfoldable pub end_at : Bound → ℕ → List ℕ → Result (Option (List ℕ)) ReadFault
 end_at Filled end octets = Ok (if length octets == 0 then Some octets else None)
 end_at Delimited end octets = do
@@ -137,7 +137,7 @@ abbrev pub unless_ended : {X : Type 0} → Option (List ℕ) → Result (Option 
 unless_ended (Some rest) more = Ok (None, rest)
 unless_ended None more = more
 
--- How to read on: elements behind the tag last, and items, up to where the bound says, with what is left behind it.
+-- How to read on: elements after the tag last, and items, up to where the bound says, with what is left after it.
 pub record Readers : Type 0 where
   pub elements : Bound → Syntax → ℕ → Option Tag → List ℕ → Result (List Element × List ℕ) ReadFault
   pub items : Bound → Syntax → ℕ → List ℕ → Result (List ElementList × List ℕ) ReadFault

@@ -22,8 +22,8 @@ unfoldable pub agrees : Option Vr → Vr → Bool
 agrees known spelled =
     if is_sequence known then is_sequence (Some spelled) || is_unknown (Some spelled) else (is_none known || not (is_sequence (Some spelled)))
 
--- What the value of a tag holds, by the dictionary's VR, the spelled one and the length. Behind SQ stand items in the same syntax.
--- Items in Implicit stand behind UN for a known sequence and behind UN of undefined length, and where no VR is spelled, so also
+-- What the value of a tag holds, by the dictionary's VR, the spelled one and the length. After SQ stand items in the same syntax.
+-- Items in Implicit stand after UN for a known sequence and after UN of undefined length, and where no VR is spelled, so also
 -- for a known sequence and for an unknown tag of undefined length. No other length may be undefined.
 unfoldable pub content_of : Option Vr → Option Vr → Option ℕ → Result Content ReadFault
 content_of known spelled (Some n) =

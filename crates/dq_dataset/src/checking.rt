@@ -10,7 +10,7 @@ use crate::header::{
 };
 use dq_vr::Tag;
 
-/// What is left behind the value.
+/// What is left after the value.
 #[cycle(checking)]
 #[tactic(auto, unfolding(crate::specs::Reading::value_by))]
 pub fn value_end<'a>(levels: u8, content: Content, octets: &'a [u8]) -> Result<&'a [u8], ReadFault>
@@ -30,7 +30,7 @@ pub fn value_end<'a>(levels: u8, content: Content, octets: &'a [u8]) -> Result<&
     }
 }
 
-/// The header of the next element, and what is left behind its value, or behind the end.
+/// The header of the next element, and what is left after its value, or after the end.
 #[cycle(checking)]
 #[tactic(auto, unfolding(crate::specs::Reading::element_by))]
 fn element_end<'a>(
@@ -96,7 +96,7 @@ fn content_end<'a>(
     }
 }
 
-/// Whether an item stands here, and what is left behind it, or behind the end.
+/// Whether an item stands here, and what is left after it, or after the end.
 #[cycle(checking)]
 #[tactic(auto, unfolding(crate::specs::Reading::item_by))]
 fn item_end<'a>(

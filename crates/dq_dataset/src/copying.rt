@@ -2,7 +2,7 @@
 ghost use Rattle.std.specs.Prelude.{◌≡◌, IfOk};
 
 use crate::data_set::{DataSet, Element, Value};
-use crate::listed::Listed;
+use dq_list::Listed;
 use std::alloc::{AllocError, Global};
 
 impl DataSet {

@@ -3,7 +3,7 @@ ghost use Rattle.std.specs.Prelude.{◌≡◌, find};
 ghost use Rattle.std.specs.Option.{option_copied};
 ghost use Rattle.dq_dataset.specs.View.{has_tag};
 
-use crate::listed::Listed;
+use dq_list::Listed;
 use dq_vr::{Tag, Vr};
 use std::alloc::{AllocError, Global};
 use std::marker::Model;
@@ -103,7 +103,7 @@ impl DataSet {
         find(self.elements(), tag)
     }
 
-    /// Adds an element behind the others. Want of memory changes nothing.
+    /// Adds an element after the others. Want of memory changes nothing.
     pub fn push(&mut self, element: Element) -> Result<(), AllocError>
         requires { IsDataSet (as_elements (elements_of self.old ++ element ∷ [])) }
         ensures ok { OnOk result (elements_of self.new ≡ elements_of self.old ++ element ∷ []) }

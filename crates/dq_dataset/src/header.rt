@@ -158,7 +158,7 @@ fn long_length_at(octets: &[u8]) -> Result<(Option<u32>, &[u8]), ReadFault>
     Ok((length, rest))
 }
 
-/// The length behind the letters of a VR.
+/// The length after the letters of a VR.
 #[tactic(auto, unfolding(crate::specs::Reading::length_at))]
 fn length_at(form: LengthForm, octets: &[u8]) -> Result<(Option<u32>, &[u8]), ReadFault>
     ensures value { Answers (λ x. (x.0, x.1.now)) result (length_at form octets.now) }
@@ -250,7 +250,7 @@ fn fits(length: Option<u32>, octets: &[u8]) -> bool
     }
 }
 
-/// The header of an element behind the tag `last`, where so many more levels of sequences are allowed.
+/// The header of an element after the tag `last`, where so many more levels of sequences are allowed.
 #[tactic(auto, unfolding(crate::specs::Reading::header_at))]
 pub fn header_at(
     syntax: Syntax,
@@ -301,7 +301,7 @@ pub fn item_header_at(octets: &[u8]) -> Result<(Option<u32>, &[u8]), ReadFault>
     Ok((length, rest))
 }
 
-/// What is left behind the end that stands here.
+/// What is left after the end that stands here.
 #[tactic(auto, unfolding(crate::specs::Reading::end_at))]
 pub fn end_at(bound: Bound, end: u16, octets: &[u8]) -> Result<Option<&[u8]>, ReadFault>
     ensures value { Answers option_copied result (end_at bound end octets.now) }

@@ -8,7 +8,6 @@ mod fault;
 mod header;
 pub mod laws;
 mod lending;
-mod listed;
 mod reading;
 mod writing;
 
@@ -16,7 +15,6 @@ pub use data_set::{DataSet, Element, Value};
 pub use fault::ReadFault;
 pub use header::Syntax;
 pub use lending::{Elements, Lent};
-pub use listed::Listed;
 pub use reading::read;
 pub use writing::write;
 

@@ -10,7 +10,7 @@ use crate::fault::ReadFault;
 use crate::header::{
     Bound, Content, Header, ITEM_END, SEQUENCE_END, Syntax, end_at, header_at, item_header_at,
 };
-use crate::listed::Listed;
+use dq_list::Listed;
 use dq_vr::{Tag, Vr};
 use std::alloc::{AllocError, Global};
 

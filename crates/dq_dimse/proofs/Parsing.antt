@@ -1,4 +1,4 @@
--- The computed messages are messages, and what is left behind them is left.
+-- The computed messages are messages, and what is left after them is left.
 use Rattle.std.proofs.Common.{◌≡◌, ℕ, ◌<◌, ◌≤◌, ◌⊎◌, inl, inr, Bool, true, false, cond, ltb, eqb, List, [], ◌∷◌, ◌++◌, length, Option, Some, None, refl, sym, ap, subst, ◌∙◌, append_assoc, arith, length-append, lit≤}
 use Rattle.std.proofs.lemmas.Bool.{ltb-true, ltb-false, eqb-true, eqb-false, false≢true}
 use Rattle.std.proofs.lemmas.List.{append-nil}
@@ -13,7 +13,7 @@ use Rattle.dq_dimse.specs.declared.fault.DimseFault.TheVariants.{WrongContext, W
 use Rattle.dq_dimse.specs.declared.assembler.Gathered.{Gathered}
 use Rattle.dq_dimse.specs.declared.assembler.Gathered.TheVariants.{Nothing, Fragments, Spent}
 use Rattle.dq_dimse.specs.Commands.{command_of}
-use Rattle.dq_dimse.specs.Messages.{command_limit, fragment, joined, AreFragments, IsMessage, AreMessages, IsExpected, FitsNot, AreLeft, Gathering, more, faulty, completed, gathered_with, fragment_gathered, gather, behind_others, gather_all}
+use Rattle.dq_dimse.specs.Messages.{command_limit, fragment, joined, AreFragments, IsMessage, AreMessages, IsExpected, FitsNot, AreLeft, Gathering, more, faulty, completed, gathered_with, fragment_gathered, gather, after_others, gather_all}
 use Rattle.dq_dimse.proofs.Gatherings.{fault_stays}
 
 -- what was gathered are the values in front
@@ -31,7 +31,7 @@ IsMore ids front pdv made = (made.list ≡ []) × Holds ids (front ++ pdv ∷ []
 abbrev IsWhole : List ℕ → List Pdv → Pdv → Gathering → Type 0
 IsWhole ids front pdv made = (message : Message) × (made ≡ record { list = message ∷ []; gathered = Nothing }) × IsMessage ids (front ++ pdv ∷ []) message
 
--- what a value makes behind those in front
+-- what a value makes after those in front
 abbrev Made : List ℕ → List Pdv → Pdv → Gathering → Type 0
 Made ids front pdv made = IsFault ids front pdv made ⊎ (IsMore ids front pdv made ⊎ IsWhole ids front pdv made)
 
@@ -148,20 +148,20 @@ are_left ids front (Spent fault) h = absurd h
 
 after : (ids : List ℕ) (front : List Pdv) (gathered : Gathered) (pdv : Pdv) (pdvs : List Pdv) (made : Gathering) → Holds ids front gathered → Made ids front pdv made
     → ((front : List Pdv) (gathered : Gathered) → Holds ids front gathered → Parsed ids (front ++ pdvs) (gather_all ids gathered pdvs))
-    → Parsed ids (front ++ pdv ∷ pdvs) (behind_others made.list (gather_all ids made.gathered pdvs))
+    → Parsed ids (front ++ pdv ∷ pdvs) (after_others made.list (gather_all ids made.gathered pdvs))
 unfolding Parsed
 after ids front gathered pdv pdvs made h (inl (fault, e, fits)) others =
     let all = front ++ pdv ∷ pdvs in
-    let left : Parsed ids all (behind_others [] (faulty fault)) = (all, refl, (front, pdv, pdvs, refl, begun ids front gathered h, fits)) in
-    subst (λ (m : Gathering). Parsed ids all (behind_others m.list (gather_all ids m.gathered pdvs))) (sym e) (subst (λ (r : Gathering). Parsed ids all (behind_others [] r)) (sym (fault_stays ids fault pdvs)) left)
+    let left : Parsed ids all (after_others [] (faulty fault)) = (all, refl, (front, pdv, pdvs, refl, begun ids front gathered h, fits)) in
+    subst (λ (m : Gathering). Parsed ids all (after_others m.list (gather_all ids m.gathered pdvs))) (sym e) (subst (λ (r : Gathering). Parsed ids all (after_others [] r)) (sym (fault_stays ids fault pdvs)) left)
 after ids front gathered pdv pdvs made h (inr (inl (e, holds))) others =
     let r = gather_all ids made.gathered pdvs in
-    let ih : Parsed ids (front ++ pdv ∷ pdvs) (behind_others [] r) = subst (λ (xs : List Pdv). Parsed ids xs r) (append_assoc front (pdv ∷ []) pdvs) (others (front ++ pdv ∷ []) made.gathered holds) in
-    subst (λ (list : List Message). Parsed ids (front ++ pdv ∷ pdvs) (behind_others list r)) (sym e) ih
+    let ih : Parsed ids (front ++ pdv ∷ pdvs) (after_others [] r) = subst (λ (xs : List Pdv). Parsed ids xs r) (append_assoc front (pdv ∷ []) pdvs) (others (front ++ pdv ∷ []) made.gathered holds) in
+    subst (λ (list : List Message). Parsed ids (front ++ pdv ∷ pdvs) (after_others list r)) (sym e) ih
 after ids front gathered pdv pdvs made h (inr (inr (message, e, is_message))) others =
     let ih = others [] Nothing refl in
-    let whole : Parsed ids (front ++ pdv ∷ pdvs) (behind_others (message ∷ []) (gather_all ids Nothing pdvs)) = (ih.0, (front ++ pdv ∷ [], pdvs, sym (append_assoc front (pdv ∷ []) pdvs), is_message, ih.1), ih.2) in
-    subst (λ (m : Gathering). Parsed ids (front ++ pdv ∷ pdvs) (behind_others m.list (gather_all ids m.gathered pdvs))) (sym e) whole
+    let whole : Parsed ids (front ++ pdv ∷ pdvs) (after_others (message ∷ []) (gather_all ids Nothing pdvs)) = (ih.0, (front ++ pdv ∷ [], pdvs, sym (append_assoc front (pdv ∷ []) pdvs), is_message, ih.1), ih.2) in
+    subst (λ (m : Gathering). Parsed ids (front ++ pdv ∷ pdvs) (after_others m.list (gather_all ids m.gathered pdvs))) (sym e) whole
 
 parse : (ids : List ℕ) (pdvs front : List Pdv) (gathered : Gathered) → Holds ids front gathered → Parsed ids (front ++ pdvs) (gather_all ids gathered pdvs)
 unfolding Parsed

@@ -77,7 +77,7 @@ spells_value : (known : Option Vr) (value : List ℕ) → known ≡ None → len
 spells_value known value e even =
     rw e (subst (λ (x : List ℕ). SpellsValue 16 UN (Plain (length value)) value (Octets x)) (even_stays value even) (plain 16 UN (length value) value refl))
 
--- the elements behind a tag, which one more stands before
+-- the elements after a tag, which one more stands before
 one_more : (last : Option Tag) (number : ℕ) (value rest : List ℕ) (others : ElementList) → follows last (command_tag number) ≡ true → number < 2 ^ 16 → known_vr (command_tag number) ≡ None
     → length value < 0xffff_ffff → length value % 2 ≡ 0 → Spells Filled Implicit 16 (Some (command_tag number)) rest others
     → Spells Filled Implicit 16 last (element number value ++ rest) (kept_value (command_tag number) UN (Octets value) others)

@@ -13,7 +13,7 @@ use Rattle.dq_dimse.specs.declared.fault.DimseFault.TheVariants.{WrongContext, W
 use Rattle.dq_dimse.specs.declared.assembler.Gathered.{Gathered}
 use Rattle.dq_dimse.specs.declared.assembler.Gathered.TheVariants.{Nothing, Fragments, Spent}
 use Rattle.dq_dimse.specs.Commands.{command_of}
-use Rattle.dq_dimse.specs.Messages.{command_limit, joined, AreFragments, IsMessage, AreMessages, IsExpected, IsBad, FitsNot, AreLeft, Gathering, more, faulty, completed, gathered_with, fragment_gathered, gather, behind_others, gather_all, messages}
+use Rattle.dq_dimse.specs.Messages.{command_limit, joined, AreFragments, IsMessage, AreMessages, IsExpected, IsBad, FitsNot, AreLeft, Gathering, more, faulty, completed, gathered_with, fragment_gathered, gather, after_others, gather_all, messages}
 use Rattle.dq_dimse.proofs.Gatherings.{gather_all-append, fault_stays}
 use Rattle.dq_dimse.proofs.Parsing.{joined-push, no_fragments, expected_is}
 
@@ -22,7 +22,7 @@ abbrev state : ℕ → List Pdv → Gathered
 state context [] = Nothing
 state context (x ∷ xs) = Fragments context (joined (x ∷ xs))
 
--- a value of the right context behind fragments
+-- a value of the right context after fragments
 at_state : (ids : List ℕ) (context : ℕ) (front : List Pdv) (pdv : Pdv) → is_among context ids ≡ true → pdv.context ≡ context → gather ids (state context front) pdv ≡ fragment_gathered context (joined front) pdv
 at_state ids context [] pdv a e =
     let among : is_among pdv.context ids ≡ true = ap (λ (n : ℕ). is_among n ids) e ∙ a in
@@ -82,7 +82,7 @@ gather_parts ids context front (x ∷ xs) a p short =
     let e = joined-append (front ++ x ∷ []) xs in
     let n : length (joined ((front ++ x ∷ []) ++ xs)) ≡ length (joined (front ++ x ∷ [])) + length (joined xs) = ap length e ∙ length-append (joined (front ++ x ∷ [])) (joined xs) in
     let first = one_part ids context front x a p.0 (omega arith) in
-    ap (λ (g : Gathering). behind_others g.list (gather_all ids g.gathered xs)) first ∙ gather_parts ids context (front ++ x ∷ []) xs a p.1 long ∙ ap (λ (ys : List Pdv). more (state context ys)) regrouped
+    ap (λ (g : Gathering). after_others g.list (gather_all ids g.gathered xs)) first ∙ gather_parts ids context (front ++ x ∷ []) xs a p.1 long ∙ ap (λ (ys : List Pdv). more (state context ys)) regrouped
 
 gather_fragments : (ids : List ℕ) (context : ℕ) (run : List Pdv) → AreFragments ids context run → gather_all ids Nothing run ≡ more (state context run)
 gather_fragments ids context run f = gather_parts ids context [] run f.accepted (are_parts ids context run f) f.short
@@ -104,8 +104,8 @@ gather_final ids front final message f context_is is_command finished short comm
 
 gather_all_final : (ids : List ℕ) (front : List Pdv) (final : Pdv) (message : Message) → AreFragments ids message.context front → gather ids (state message.context front) final ≡ whole message → gather_all ids Nothing (front ++ final ∷ []) ≡ whole message
 gather_all_final ids front final message f e =
-    gather_all-append ids Nothing front (final ∷ []) ∙ ap (λ (g : Gathering). behind_others g.list (gather_all ids g.gathered (final ∷ []))) (gather_fragments ids message.context front f)
-    ∙ ap (λ (g : Gathering). behind_others [] (behind_others g.list (more g.gathered))) e
+    gather_all-append ids Nothing front (final ∷ []) ∙ ap (λ (g : Gathering). after_others g.list (gather_all ids g.gathered (final ∷ []))) (gather_fragments ids message.context front f)
+    ∙ ap (λ (g : Gathering). after_others [] (after_others g.list (more g.gathered))) e
 
 gather_message : (ids : List ℕ) (run : List Pdv) (message : Message) → IsMessage ids run message → gather_all ids Nothing run ≡ whole message
 gather_message ids run message m =
@@ -158,8 +158,8 @@ gather_misfit ids (x ∷ xs) pdv fault (inr (context, f)) h =
 
 gather_fault : (ids : List ℕ) (front : List Pdv) (pdv : Pdv) (behind : List Pdv) (fault : DimseFault) (g : Gathered) → gather_all ids Nothing front ≡ more g → gather ids g pdv ≡ faulty fault → gather_all ids Nothing (front ++ pdv ∷ behind) ≡ faulty fault
 gather_fault ids front pdv behind fault g e h =
-    gather_all-append ids Nothing front (pdv ∷ behind) ∙ ap (λ (m : Gathering). behind_others m.list (gather_all ids m.gathered (pdv ∷ behind))) e
-    ∙ ap (λ (m : Gathering). behind_others [] (behind_others m.list (gather_all ids m.gathered behind))) h ∙ ap (λ (m : Gathering). behind_others [] (behind_others [] m)) (fault_stays ids fault behind)
+    gather_all-append ids Nothing front (pdv ∷ behind) ∙ ap (λ (m : Gathering). after_others m.list (gather_all ids m.gathered (pdv ∷ behind))) e
+    ∙ ap (λ (m : Gathering). after_others [] (after_others m.list (gather_all ids m.gathered behind))) h ∙ ap (λ (m : Gathering). after_others [] (after_others [] m)) (fault_stays ids fault behind)
 
 some_state : (context : ℕ) (run : List Pdv) → 0 < length run → state context run ≡ Fragments context (joined run)
 some_state context [] some = absurd (omega arith)
@@ -178,8 +178,8 @@ pub only_messages : (ids : List ℕ) (pdvs rest : List Pdv) (list : List Message
     → messages ids pdvs ≡ record { list = list; gathered = gathered }
 only_messages ids pdvs rest [] gathered a left = ap (gather_all ids Nothing) a ∙ gather_left ids rest gathered left
 only_messages ids pdvs rest (message ∷ list) gathered a left =
-    ap (gather_all ids Nothing) a.2 ∙ gather_all-append ids Nothing a.0 a.1 ∙ ap (λ (g : Gathering). behind_others g.list (gather_all ids g.gathered a.1)) (gather_message ids a.0 message a.3)
-    ∙ ap (behind_others (message ∷ [])) (only_messages ids a.1 rest list gathered a.4 left)
+    ap (gather_all ids Nothing) a.2 ∙ gather_all-append ids Nothing a.0 a.1 ∙ ap (λ (g : Gathering). after_others g.list (gather_all ids g.gathered a.1)) (gather_message ids a.0 message a.3)
+    ∙ ap (after_others (message ∷ [])) (only_messages ids a.1 rest list gathered a.4 left)
 
 tail : (x y : Pdv) (xs ys : List Pdv) → x ∷ xs ≡ y ∷ ys → (x ≡ y) × (xs ≡ ys)
 tail x y xs ys e = (cc, cc)

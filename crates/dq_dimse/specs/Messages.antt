@@ -65,7 +65,7 @@ FitsNot ids front pdv WrongKind = IsExpected ids front pdv × (pdv.command ≡ f
 FitsNot ids front pdv BadCommand = IsExpected ids front pdv × (pdv.command ≡ true) × IsBad (joined (front ++ pdv ∷ [])) pdv.last
 FitsNot ids front pdv NoMemory = ⊥
 
--- What is left behind the messages: nothing, fragments of a message to come, or such fragments, a value that goes on
+-- What is left after the messages: nothing, fragments of a message to come, or such fragments, a value that goes on
 -- with no message, and whatever follows it.
 abbrev pub AreLeft : List ℕ → List Pdv → Gathered → Type 0
 AreLeft ids rest Nothing = rest ≡ []
@@ -104,16 +104,16 @@ gather ids Nothing pdv = if is_among pdv.context ids then fragment_gathered pdv.
 gather ids (Fragments context octets) pdv = if pdv.context == context then fragment_gathered context octets pdv else faulty WrongContext
 gather ids (Spent fault) pdv = faulty fault
 
-abbrev pub behind_others : List Message → Gathering → Gathering
-behind_others list later = record { list = list ++ later.list; gathered = later.gathered }
+abbrev pub after_others : List Message → Gathering → Gathering
+after_others list later = record { list = list ++ later.list; gathered = later.gathered }
 
--- the messages of values that come behind what was gathered
+-- the messages of values that come after what was gathered
 abbrev pub gather_all : List ℕ → Gathered → List Pdv → Gathering
 gather_all ids gathered [] = more gathered
 gather_all ids gathered (pdv ∷ pdvs) =
-    let first = gather ids gathered pdv in behind_others first.list (gather_all ids first.gathered pdvs)
+    let first = gather ids gathered pdv in after_others first.list (gather_all ids first.gathered pdvs)
 
--- the messages of a list of values, and the fragments or the fault behind them
+-- the messages of a list of values, and the fragments or the fault after them
 abbrev pub messages : List ℕ → List Pdv → Gathering
 messages ids pdvs = gather_all ids Nothing pdvs
 

@@ -1,4 +1,4 @@
--- A message as it is sent (PS3.7 section 6.3.1 and annex E, PS3.8 annex E): one value in each P-DATA unit.
+-- A message as it is sent (PS3.7 section 6.3.1 and annex E, PS3.8 annex E): one value in each P-DATA PDU.
 use Rattle.std.specs.Prelude.{◌≡◌, ◌<◌, ◌≤◌, ℕ, zero, suc, ◌+◌, ◌-◌, ◌*◌, ◌/◌, ◌%◌, min, Bool, true, false, ◌==◌, nat_le, if◌then◌else◌, List, [], ◌∷◌, ◌++◌, length, take, drop, Option, Some, None}
 use Rattle.std.specs.List.{flat_map}
 use Rattle.std.specs.Int.{w16, w32, to_le_bytes}
@@ -33,13 +33,13 @@ command_elements command =
 abbrev pub command_set : Command → List ℕ
 command_set command = element 0x0000 (to_le_bytes w32 (length (command_elements command))) ++ command_elements command
 
--- the longest unit that is sent to a peer; without a limit of the peer, 16,384 octets
-abbrev pub unit_limit : ℕ → ℕ
-unit_limit limit = if limit == 0 then 16384 else min limit 16384
+-- the longest PDU that is sent to a peer; without a limit of the peer, 16,384 octets
+abbrev pub pdu_limit : ℕ → ℕ
+pdu_limit limit = if limit == 0 then 16384 else min limit 16384
 
 -- the length of a fragment: the largest even number that leaves room for the six octets of a value's header
 abbrev pub fragment_size : ℕ → ℕ
-fragment_size limit = (unit_limit limit - 6) / 2 * 2
+fragment_size limit = (pdu_limit limit - 6) / 2 * 2
 
 -- octets as fragments of a size, the last of which may be shorter; no octets are one empty fragment
 abbrev pub fragments_within : ℕ → ℕ → List ℕ → List (List ℕ)
@@ -49,12 +49,12 @@ fragments_within (suc fuel) size octets = if nat_le (length octets) size then oc
 abbrev pub fragments : ℕ → List ℕ → List (List ℕ)
 fragments size octets = fragments_within (length octets) size octets
 
--- the largest even number that leaves room for a value's header in the longest unit
+-- the largest even number that leaves room for a value's header in the longest PDU
 pub record IsFragmentSize (limit size : ℕ) : Type 0 where
   pub even : size % 2 ≡ 0
   pub some : 0 < size
-  pub room : size + 6 ≤ unit_limit limit
-  pub largest : unit_limit limit < size + 8
+  pub room : size + 6 ≤ pdu_limit limit
+  pub largest : pdu_limit limit < size + 8
 
 -- each fragment but the last has exactly the size, the last is not longer, and only a lone one may be empty
 abbrev pub AreSized : ℕ → List (List ℕ) → Type 0
@@ -67,21 +67,21 @@ pub record AreFragmentsOf (size : ℕ) (octets : List ℕ) (run : List (List ℕ
   pub joined : flat_map (λ (part : List ℕ). part) run ≡ octets
   pub sized : AreSized size run
 
--- a fragment as a unit of one value
-abbrev pub unit_of : ℕ → Bool → Bool → List ℕ → Pdu
-unit_of context command last octets = PData (record { context = context; command = command; last = last; octets = octets } ∷ [])
+-- a fragment as a PDU of one value
+abbrev pub pdu_of : ℕ → Bool → Bool → List ℕ → Pdu
+pdu_of context command last octets = PData (record { context = context; command = command; last = last; octets = octets } ∷ [])
 
--- each fragment as a unit, the last one marked
-abbrev pub units_of : ℕ → Bool → List (List ℕ) → List Pdu
-units_of context command [] = []
-units_of context command (octets ∷ []) = unit_of context command true octets ∷ []
-units_of context command (octets ∷ next ∷ others) = unit_of context command false octets ∷ units_of context command (next ∷ others)
+-- each fragment as a PDU, the last one marked
+abbrev pub pdus_of : ℕ → Bool → List (List ℕ) → List Pdu
+pdus_of context command [] = []
+pdus_of context command (octets ∷ []) = pdu_of context command true octets ∷ []
+pdus_of context command (octets ∷ next ∷ others) = pdu_of context command false octets ∷ pdus_of context command (next ∷ others)
 
--- octets cut into units of fragments of a size
+-- octets cut into PDUs of fragments of a size
 abbrev pub cut_within : ℕ → Bool → ℕ → List ℕ → List ℕ
-cut_within context command size octets = flat_map spelling (units_of context command (fragments size octets))
+cut_within context command size octets = flat_map spelling (pdus_of context command (fragments size octets))
 
--- octets cut into units
+-- octets cut into PDUs
 abbrev pub cut : ℕ → Bool → ℕ → List ℕ → List ℕ
 cut context command limit octets = cut_within context command (fragment_size limit) octets
 
@@ -89,6 +89,6 @@ abbrev pub data_cut : ℕ → ℕ → Option (List ℕ) → List ℕ
 data_cut context limit None = []
 data_cut context limit (Some octets) = cut context false limit octets
 
--- what is sent: the command set, and behind it the data set; they share no unit
+-- what is sent: the command set, and after it the data set; they share no PDU
 abbrev pub sent : ℕ → Command → Option (List ℕ) → ℕ → List ℕ
 sent context command octets limit = cut context true limit (command_set command) ++ data_cut context limit octets

@@ -9,7 +9,8 @@ ghost use Rattle.dq_dimse.specs.Messages.{messages, assembling, faulty, complete
 use crate::command::Message;
 use crate::fault::DimseFault;
 use crate::reading;
-use dq_pdu::{Listed, Pdv};
+use dq_list::Listed;
+use dq_pdu::Pdv;
 use std::alloc::Global;
 use std::marker::Model;
 use std::mem;
@@ -66,7 +67,7 @@ fn completed(
     Ok((Some(message), Gathered::Nothing))
 }
 
-/// A value of the right context behind the fragments so far.
+/// A value of the right context after the fragments so far.
 fn fragment_gathered(
     alloc: Global,
     context: u8,

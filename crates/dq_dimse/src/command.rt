@@ -1,4 +1,4 @@
-use dq_pdu::Listed;
+use dq_list::Listed;
 
 /// What a command set says (PS3.7 annex E).
 #[derive(Debug, Drop)]

@@ -1,4 +1,4 @@
-//! DICOM messages: command sets assembled from presentation data values, and messages cut into units to send
+//! DICOM messages: command sets assembled from presentation data values, and messages cut into PDUs to send
 //! (PS3.7 section 6.3.1, PS3.8 annex E).
 #![tactic(auto)]
 

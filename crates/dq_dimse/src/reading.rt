@@ -9,7 +9,7 @@ use crate::command::Command;
 use crate::fault::DimseFault;
 use crate::numbers;
 use dq_dataset::{DataSet, Syntax, Value, read};
-use dq_pdu::Listed;
+use dq_list::Listed;
 use dq_value::trimmed;
 use dq_vr::{Tag, Vr};
 use std::alloc::{AllocError, Global};

@@ -1,15 +1,15 @@
 //! Messages as they are sent (PS3.7 section 6.3.1 and annex E, PS3.8 annex E).
 ghost use Rattle.std.specs.Prelude.{◌≡◌, ℕ, ◌+◌, ◌<◌, ◌≤◌, ◌++◌, ◌⊎◌, ◌↔◌, length, IsTrue, IsSome, IfOk, OnOk, option_map};
 ghost use Rattle.dq_pdu.specs.Writing.{control_header, spelling};
-ghost use Rattle.dq_dimse.specs.Sending.{padded, element, short_element, instance_element, command_elements, command_set, unit_limit, fragment_size, unit_of, cut_within, cut, data_cut, sent};
+ghost use Rattle.dq_dimse.specs.Sending.{padded, element, short_element, instance_element, command_elements, command_set, pdu_limit, fragment_size, pdu_of, cut_within, cut, data_cut, sent};
 
 use crate::command::Command;
 use crate::numbers;
 use std::alloc::{AllocError, Global};
 
-/// The type of a P-DATA unit (PS3.8 section 9.3.5).
+/// The type of a P-DATA PDU (PS3.8 section 9.3.5).
 const P_DATA: u8 = 4;
-/// The longest body of a unit that is sent.
+/// The longest body of a PDU that is sent.
 const UNIT_LIMIT: u32 = 16_384;
 /// The octets of a value before its fragment.
 const VALUE_HEADER: u32 = 6;
@@ -33,7 +33,7 @@ fn put_short(out: &mut Vec<u8>, number: u16, value: u16) -> Result<(), AllocErro
     put_element(out, number, &value.to_le_bytes())
 }
 
-/// The octets, with a zero octet behind an odd number of them.
+/// The octets, with a zero octet after an odd number of them.
 fn padded(alloc: Global, octets: &[u8]) -> Result<Vec<u8>, AllocError>
     ensures { IfOk result (λ written. written.items ≡ padded octets.now) }
 {
@@ -55,7 +55,7 @@ fn put_instance(alloc: Global, out: &mut Vec<u8>, instance: &[u8]) -> Result<(),
     put_element(out, numbers::AFFECTED_SOP_INSTANCE_UID, &value)
 }
 
-/// The elements of a response behind its group length.
+/// The elements of a response after its group length.
 fn command_elements(alloc: Global, command: &Command) -> Result<Vec<u8>, AllocError>
     ensures { IfOk result (λ written. written.items ≡ command_elements command.now) }
 {
@@ -94,12 +94,12 @@ fn fragment_size(limit: u32) -> usize
     ensures some { 0 < result }
     ensures short { result ≤ 16378 }
 {
-    let unit = if limit == 0 {
+    let limit = if limit == 0 {
         UNIT_LIMIT
     } else {
         limit.min(UNIT_LIMIT)
     };
-    ((unit - VALUE_HEADER) / 2 * 2) as usize
+    ((limit - VALUE_HEADER) / 2 * 2) as usize
 }
 
 /// The control header of a value (PS3.8 annex E.2).
@@ -109,8 +109,8 @@ fn control_header(command: bool, last: bool) -> u8
     u8::from(command) + 2 * u8::from(last)
 }
 
-/// Writes a fragment as a unit of one value.
-fn put_unit(
+/// Writes a fragment as a PDU of one value.
+fn put_pdu(
     out: &mut Vec<u8>,
     context: u8,
     command: bool,
@@ -118,7 +118,7 @@ fn put_unit(
     fragment: &[u8],
 ) -> Result<(), AllocError>
     requires { length fragment.now ≤ 16378 }
-    ensures { OnOk result (out.new.items ≡ out.old.items ++ spelling (unit_of context command last fragment.now)) }
+    ensures { OnOk result (out.new.items ≡ out.old.items ++ spelling (pdu_of context command last fragment.now)) }
 {
     let length = fragment.len() as u32;
     out.extend_from_slice(&[P_DATA, 0])?;
@@ -129,7 +129,7 @@ fn put_unit(
     Ok(())
 }
 
-/// Writes octets, cut into units of fragments of a size.
+/// Writes octets, cut into PDUs of fragments of a size.
 fn put_fragments(
     out: &mut Vec<u8>,
     context: u8,
@@ -144,13 +144,13 @@ fn put_fragments(
     let mut rest = octets;
     while rest.len() > size {
         let (fragment, others) = rest.split_at(size);
-        put_unit(out, context, command, false, fragment)?;
+        put_pdu(out, context, command, false, fragment)?;
         rest = others;
     }
-    put_unit(out, context, command, true, rest)
+    put_pdu(out, context, command, true, rest)
 }
 
-/// Writes octets, cut into units for a peer's limit.
+/// Writes octets, cut into PDUs for a peer's limit.
 fn put_cut(
     out: &mut Vec<u8>,
     context: u8,
@@ -180,7 +180,7 @@ fn put_data(
     }
 }
 
-/// The octets that send a response on a context: its command set and then its data set, cut into units of at most
+/// The octets that send a response on a context: its command set and then its data set, cut into PDUs of at most
 /// the peer's limit, where 0 is no limit (PS3.8 annex E).
 pub fn write_message(
     alloc: Global,

@@ -1,7 +1,8 @@
 ghost use Rattle.std.specs.Prelude.{◌≡◌, ◌≤◌, ◌⊎◌};
 
 use super::*;
-use dq_pdu::{Listed, Pdv};
+use dq_list::Listed;
+use dq_pdu::Pdv;
 use std::alloc::{AllocError, Global};
 use std::test::*;
 
@@ -12,7 +13,7 @@ const ECHO_REQUEST: [u8; 68] = *b"\x00\x00\x00\x00\x04\x00\x00\x00\x38\x00\x00\x
 \x00\x00\x10\x01\x02\x00\x00\x00\x01\x00\
 \x00\x00\x00\x08\x02\x00\x00\x00\x01\x01";
 
-/// The unit that answers it.
+/// The PDU that answers it.
 const ECHO_RESPONSE: [u8; 90] = *b"\x04\x00\x00\x00\x00\x54\x00\x00\x00\x50\x01\x03\
 \x00\x00\x00\x00\x04\x00\x00\x00\x42\x00\x00\x00\
 \x00\x00\x02\x00\x12\x00\x00\x001.2.840.10008.1.1\x00\
@@ -179,7 +180,7 @@ fn sequences_of_undefined_length(rt: HostRuntime) -> Result<(), Fail> {
     Ok(())
 }
 
-/// The request with an element (0000,5010) of so many octets behind it.
+/// The request with an element (0000,5010) of so many octets after it.
 fn with_more(alloc: Global, count: u32) -> Result<Vec<u8>, AllocError> {
     let mut octets = Vec::from_slice(alloc, &ECHO_REQUEST)?;
     octets.extend_from_slice(&[0x00, 0x00, 0x10, 0x50])?;
@@ -241,22 +242,22 @@ fn a_response(rt: HostRuntime) -> Result<(), Fail> {
 }
 
 #[test]
-fn a_response_in_the_smallest_units(rt: HostRuntime) -> Result<(), Fail> {
+fn a_response_in_the_smallest_pdus(rt: HostRuntime) -> Result<(), Fail> {
     let alloc = rt.alloc();
     let written = sent(alloc, 1, None, 8)?;
     assert_eq!(rt; written.len(), 39 * 14);
     let mut joined = Vec::new(alloc);
     let mut count = 0u8;
-    for unit in written.chunks(14) {
+    for pdu in written.chunks(14) {
         count = count.wrapping_add(1);
         let header: &[u8] = if count == 39 {
             b"\x04\x00\x00\x00\x00\x08\x00\x00\x00\x04\x01\x03"
         } else {
             b"\x04\x00\x00\x00\x00\x08\x00\x00\x00\x04\x01\x01"
         };
-        assert!(rt; unit.starts_with(header));
-        assert!(rt; unit.len() == 14);
-        joined.extend_from_slice(&unit[12..])?;
+        assert!(rt; pdu.starts_with(header));
+        assert!(rt; pdu.len() == 14);
+        joined.extend_from_slice(&pdu[12..])?;
     }
     assert_eq!(rt;
         joined.as_slice(),

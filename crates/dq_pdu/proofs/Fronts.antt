@@ -8,12 +8,12 @@ use Rattle.dq_pdu.specs.declared.reading.Front.TheVariants.{Partial, Faulty, Who
 use Rattle.dq_pdu.specs.declared.fault.PduFault.{PduFault}
 use Rattle.dq_pdu.specs.declared.fault.PduFault.TheVariants.{Unrecognized, TooLong, Malformed}
 use Rattle.dq_pdu.specs.declared.pdu.Pdu.{Pdu}
-use Rattle.dq_pdu.specs.Reading.{front, unit_of, is_unrecognized, body_length, whole_or_malformed}
+use Rattle.dq_pdu.specs.Reading.{front, pdu_of, is_unrecognized, body_length, whole_or_malformed}
 use Rattle.dq_pdu.specs.Stream.{fault_of}
 
--- the choice behind the six octets
+-- the choice after the six octets
 abbrev chosen : Bool → Bool → Bool → Option Pdu → ℕ → Front
-chosen unknown long short unit count = cond unknown (Faulty Unrecognized) (cond long (Faulty TooLong) (cond short Partial (whole_or_malformed unit count)))
+chosen unknown long short one_pdu count = cond unknown (Faulty Unrecognized) (cond long (Faulty TooLong) (cond short Partial (whole_or_malformed one_pdu count)))
 
 abbrev chosen_fault : Bool → Bool → Bool → Option PduFault
 chosen_fault unknown long short = cond unknown (Some Unrecognized) (cond long (Some TooLong) (cond short None (Some Malformed)))
@@ -27,11 +27,11 @@ long s = ltb 65536 (body_length s)
 abbrev short : List ℕ → Bool
 short s = ltb (length (drop 6 s)) (body_length s)
 
-abbrev unit : List ℕ → Option Pdu
-unit s = unit_of (get_or s 0 0) (take (body_length s) (drop 6 s))
+abbrev one_pdu : List ℕ → Option Pdu
+one_pdu s = pdu_of (get_or s 0 0) (take (body_length s) (drop 6 s))
 
 abbrev front_chosen : List ℕ → Front
-front_chosen s = chosen (unknown s) (long s) (short s) (unit s) (body_length s + 6)
+front_chosen s = chosen (unknown s) (long s) (short s) (one_pdu s) (body_length s + 6)
 
 pub front-few : (s : List ℕ) → length s < 6 → front s ≡ Partial
 unfolding front
@@ -41,21 +41,21 @@ front-enough : (s : List ℕ) → 6 ≤ length s → front s ≡ front_chosen s
 unfolding front
 front-enough s h = rw (le-ltb (length s) 6 h) refl
 
--- ---- a whole unit
+-- ---- a whole PDU
 
 pub record IsWhole (s : List ℕ) (pdu : Pdu) (count : ℕ) : Type 0 where
   pub six : 6 ≤ length s
   pub known : unknown s ≡ false
   pub fits : body_length s ≤ 65536
   pub enough : body_length s ≤ length (drop 6 s)
-  pub read : unit s ≡ Some pdu
+  pub read : one_pdu s ≡ Some pdu
   pub count_is : count ≡ body_length s + 6
 
 record WasWhole (u l t : Bool) (read : Option Pdu) (n : ℕ) (pdu : Pdu) (count : ℕ) : Type 0 where
   known : u ≡ false
   fits : l ≡ false
   enough : t ≡ false
-  unit_is : read ≡ Some pdu
+  pdu_is : read ≡ Some pdu
   count_is : count ≡ n
 
 was_whole : (u l t : Bool) (read : Option Pdu) (n : ℕ) (pdu : Pdu) (count : ℕ) → chosen u l t read n ≡ Whole pdu count → WasWhole u l t read n pdu count
@@ -63,15 +63,15 @@ was_whole true l t read n pdu count e = absurd cc
 was_whole false true t read n pdu count e = absurd cc
 was_whole false false true read n pdu count e = absurd cc
 was_whole false false false None n pdu count e = absurd cc
-was_whole false false false (Some p) n pdu count e = record { known = refl; fits = refl; enough = refl; unit_is = cc; count_is = cc }
+was_whole false false false (Some p) n pdu count e = record { known = refl; fits = refl; enough = refl; pdu_is = cc; count_is = cc }
 
 pub whole_is : (s : List ℕ) (pdu : Pdu) (count : ℕ) → front s ≡ Whole pdu count → IsWhole s pdu count
 whole_is s pdu count e =
     elim (cases_lt (length s) 6) [
       | inl few ↦ absurd (let p = sym (front-few s few) ∙ e in cc)
       | inr six ↦
-          let w = was_whole (unknown s) (long s) (short s) (unit s) (body_length s + 6) pdu count (sym (front-enough s six) ∙ e) in
-          record { six = six; known = w.known; fits = ltb-false _ _ w.fits; enough = ltb-false _ _ w.enough; read = w.unit_is; count_is = w.count_is }
+          let w = was_whole (unknown s) (long s) (short s) (one_pdu s) (body_length s + 6) pdu count (sym (front-enough s six) ∙ e) in
+          record { six = six; known = w.known; fits = ltb-false _ _ w.fits; enough = ltb-false _ _ w.enough; read = w.pdu_is; count_is = w.count_is }
     ]
 
 pub whole_from : (s : List ℕ) (pdu : Pdu) (count : ℕ) → IsWhole s pdu count → front s ≡ Whole pdu count
@@ -107,14 +107,14 @@ pub fault_of-faulty : (s : List ℕ) (fault : PduFault) → front s ≡ Faulty f
 fault_of-faulty s fault e =
     elim (cases_lt (length s) 6) [
       | inl few ↦ absurd (let p = sym (front-few s few) ∙ e in cc)
-      | inr six ↦ rw (le-ltb (length s) 6 six) (faulty_fault (unknown s) (long s) (short s) (unit s) (body_length s + 6) fault (sym (front-enough s six) ∙ e))
+      | inr six ↦ rw (le-ltb (length s) 6 six) (faulty_fault (unknown s) (long s) (short s) (one_pdu s) (body_length s + 6) fault (sym (front-enough s six) ∙ e))
     ]
 
 pub fault_of-partial : (s : List ℕ) → front s ≡ Partial → fault_of s ≡ None
 fault_of-partial s e =
     elim (cases_lt (length s) 6) [
       | inl few ↦ rw (lt-ltb (length s) 6 few) refl
-      | inr six ↦ rw (le-ltb (length s) 6 six) (partial_fault (unknown s) (long s) (short s) (unit s) (body_length s + 6) (sym (front-enough s six) ∙ e))
+      | inr six ↦ rw (le-ltb (length s) 6 six) (partial_fault (unknown s) (long s) (short s) (one_pdu s) (body_length s + 6) (sym (front-enough s six) ∙ e))
     ]
 
 -- ---- octets that go on
@@ -136,8 +136,8 @@ front-append s t f whole e =
           let behind : drop 6 (s ++ t) ≡ drop 6 s ++ t = drop-append-le 6 s t six in
           let size : take 4 (drop 2 (s ++ t)) ≡ take 4 (drop 2 s) = ap (take 4) (drop-append-le 2 s t (omega arith)) ∙ take-append-le 4 (drop 2 s) t (omega (arith, length-drop 2 s)) in
           let length-is : body_length (s ++ t) ≡ body_length s = ap (from_be_bytes w32) size in
-          let stays : short s ≡ false → (ltb (length (drop 6 s ++ t)) (body_length s) ≡ false) × (unit_of (get_or s 0 0) (take (body_length s) (drop 6 s ++ t)) ≡ unit s) = λ n.
+          let stays : short s ≡ false → (ltb (length (drop 6 s ++ t)) (body_length s) ≡ false) × (pdu_of (get_or s 0 0) (take (body_length s) (drop 6 s ++ t)) ≡ one_pdu s) = λ n.
           let le : body_length s ≤ length (drop 6 s) = ltb-false _ _ n in
-          (le-ltb _ _ (omega (arith, le, length-append (drop 6 s) t)), ap (unit_of (get_or s 0 0)) (take-append-le (body_length s) (drop 6 s) t le)) in
-          front-enough (s ++ t) more ∙ rw (first, length-is, behind) (chosen_stays (unknown s) (long s) (short s) (ltb (length (drop 6 s ++ t)) (body_length s)) (unit s) (unit_of (get_or s 0 0) (take (body_length s) (drop 6 s ++ t))) (body_length s + 6) f stays whole (sym (front-enough s six) ∙ e))
+          (le-ltb _ _ (omega (arith, le, length-append (drop 6 s) t)), ap (pdu_of (get_or s 0 0)) (take-append-le (body_length s) (drop 6 s) t le)) in
+          front-enough (s ++ t) more ∙ rw (first, length-is, behind) (chosen_stays (unknown s) (long s) (short s) (ltb (length (drop 6 s ++ t)) (body_length s)) (one_pdu s) (pdu_of (get_or s 0 0) (take (body_length s) (drop 6 s ++ t))) (body_length s + 6) f stays whole (sym (front-enough s six) ∙ e))
     ]

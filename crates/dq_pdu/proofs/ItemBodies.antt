@@ -6,7 +6,7 @@ use Rattle.dq_pdu.specs.declared.reading.Item.{Item}
 use Rattle.dq_pdu.specs.Octets.{◌>>=◌, bodies, each}
 use Rattle.dq_pdu.proofs.Filling.{with_front, with_front-assoc}
 
--- the item at a place, and those behind it
+-- the item at a place, and those after it
 pub record StandsAt (items : List Item) (i : ℕ) (item : Item) : Type 0 where
   pub within : i < length items
   pub is : item ≡ get_or items i item

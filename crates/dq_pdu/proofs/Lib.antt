@@ -6,7 +6,7 @@ pub mod Given
 pub mod ItemBodies
 pub mod RequestRead
 pub mod Fronts
-pub mod UnitLaws
+pub mod PduLaws
 pub mod InboxLaws
 pub mod PartLaws
 pub mod ItemLaws

@@ -1,4 +1,4 @@
--- Units: what is read is spelled so, what is spelled and taken is read, and octets spell at most one unit.
+-- PDUs: what is read is spelled so, what is spelled and taken is read, and octets spell at most one PDU.
 use Rattle.std.proofs.Common.{◌≡◌, ◌≢◌, ℕ, suc, ◌+◌, ◌≤◌, Bool, true, false, cond, eqb, List, [], ◌∷◌, ◌++◌, length, get_or, take, drop, Option, Some, None, refl, sym, ap, subst, ◌∙◌, append_assoc, arith, length-append, length-drop, inl, inr}
 use Rattle.std.specs.Prelude.{IsTrue, not, option_map, ◌⊎◌}
 use Rattle.std.specs.Int.{w32, from_be_bytes}
@@ -11,7 +11,7 @@ use Rattle.dq_pdu.specs.declared.pdu.Request.{Request}
 use Rattle.dq_pdu.specs.declared.reading.Front.TheVariants.{Whole}
 use Rattle.dq_pdu.specs.Octets.{parts_of, is_empty}
 use Rattle.dq_pdu.specs.Spelling.{IsBody, Spells, is_taken, IsTakenAs}
-use Rattle.dq_pdu.specs.Reading.{provided, pdv_at, request_of, values_of, unit_of, front, body_length, is_unrecognized}
+use Rattle.dq_pdu.specs.Reading.{provided, pdv_at, request_of, values_of, pdu_of, front, body_length, is_unrecognized}
 use Rattle.dq_pdu.proofs.PartLaws.{bind_some, some_is}
 use Rattle.dq_pdu.proofs.ItemLaws.{values_fill, values_read}
 use Rattle.dq_pdu.proofs.ContextLaws.{provided_some, not_nil, filled}
@@ -51,9 +51,9 @@ abort_spelled body h =
     let f = four_octets body h in
     rw f.4 (refl, (refl, f.0, f.1, refl))
 
-pub unit_spelled : (kind : ℕ) (body : List ℕ) (pdu : Pdu) → unit_of kind body ≡ Some pdu → IsTakenBody pdu kind body
-unfolding unit_of
-unit_spelled kind body pdu e =
+pub pdu_spelled : (kind : ℕ) (body : List ℕ) (pdu : Pdu) → pdu_of kind body ≡ Some pdu → IsTakenBody pdu kind body
+unfolding pdu_of
+pdu_spelled kind body pdu e =
     let abort = provided (eqb (length body) 4) (Abort (get_or body 2 0) (get_or body 3 0)) in
     let o7 = cond (eqb kind 7) abort None in
     let o5 = cond (eqb kind 5) (provided (eqb (length body) 4) ReleaseRq) o7 in
@@ -84,32 +84,32 @@ values_again values body some e =
     let full = filled values some in
     rw (e, full) refl
 
-pub unit_read : (pdu : Pdu) (kind : ℕ) (body : List ℕ) → IsTrue (is_taken pdu) → IsBody pdu kind body → unit_of kind body ≡ Some pdu
-unfolding unit_of
-unit_read (request_pdu request) kind body taken is = rw (is.0, request_again request body is.1) refl
-unit_read (accept_pdu accept) kind body taken is = absurd cc
-unit_read (Reject result source reason) kind body taken is = absurd cc
-unit_read (PData values) kind body taken is = ap (λ k. unit_of k body) is.0 ∙ values_again values body is.1 (values_read values body is.2)
-unit_read ReleaseRq kind body taken is = rw (is.0, is.1) refl
-unit_read ReleaseRp kind body taken is = absurd cc
-unit_read (Abort source reason) kind body taken is = rw (is.0, is.3) refl
+pub pdu_read : (pdu : Pdu) (kind : ℕ) (body : List ℕ) → IsTrue (is_taken pdu) → IsBody pdu kind body → pdu_of kind body ≡ Some pdu
+unfolding pdu_of
+pdu_read (request_pdu request) kind body taken is = rw (is.0, request_again request body is.1) refl
+pdu_read (accept_pdu accept) kind body taken is = absurd cc
+pdu_read (Reject result source reason) kind body taken is = absurd cc
+pdu_read (PData values) kind body taken is = ap (λ k. pdu_of k body) is.0 ∙ values_again values body is.1 (values_read values body is.2)
+pdu_read ReleaseRq kind body taken is = rw (is.0, is.1) refl
+pdu_read ReleaseRp kind body taken is = absurd cc
+pdu_read (Abort source reason) kind body taken is = rw (is.0, is.3) refl
 
 -- ---- all seven types
 
-abbrev any_unit_of : ℕ → List ℕ → Option Pdu
-any_unit_of kind body =
+abbrev any_pdu_of : ℕ → List ℕ → Option Pdu
+any_pdu_of kind body =
     cond (eqb kind 2) (option_map accept_pdu (accept_of body)) (
     cond (eqb kind 3) (Some (Reject (get_or body 1 0) (get_or body 2 0) (get_or body 3 0))) (
-    cond (eqb kind 6) (Some ReleaseRp) (unit_of kind body)))
+    cond (eqb kind 6) (Some ReleaseRp) (pdu_of kind body)))
 
-any_read : (pdu : Pdu) (kind : ℕ) (body : List ℕ) → IsBody pdu kind body → any_unit_of kind body ≡ Some pdu
-any_read (request_pdu request) kind body is = rw is.0 (unit_read (request_pdu request) 1 body refl (refl, is.1))
+any_read : (pdu : Pdu) (kind : ℕ) (body : List ℕ) → IsBody pdu kind body → any_pdu_of kind body ≡ Some pdu
+any_read (request_pdu request) kind body is = rw is.0 (pdu_read (request_pdu request) 1 body refl (refl, is.1))
 any_read (accept_pdu accept) kind body is = rw (is.0, accept_read accept body is.1) refl
 any_read (Reject result source reason) kind body is = rw (is.0, is.2) refl
-any_read (PData values) kind body is = rw is.0 (unit_read (PData values) 4 body refl (refl, is.1, is.2))
-any_read ReleaseRq kind body is = rw is.0 (unit_read ReleaseRq 5 body refl (refl, is.1))
+any_read (PData values) kind body is = rw is.0 (pdu_read (PData values) 4 body refl (refl, is.1, is.2))
+any_read ReleaseRq kind body is = rw is.0 (pdu_read ReleaseRq 5 body refl (refl, is.1))
 any_read ReleaseRp kind body is = rw is.0 refl
-any_read (Abort source reason) kind body is = rw is.0 (unit_read (Abort source reason) 7 body refl (refl, is.1, is.2, is.3))
+any_read (Abort source reason) kind body is = rw is.0 (pdu_read (Abort source reason) 7 body refl (refl, is.1, is.2, is.3))
 
 abbrev head : List ℕ → ℕ
 head o = get_or o 0 0
@@ -121,11 +121,11 @@ spells_once octets pdu other p q =
     let behind : p.size ++ p.body ≡ q.size ++ q.body = ap (λ (o : List ℕ). drop 2 o) e in
     let body : p.body ≡ q.body = sym (drop_at p.size p.body 4 p.sized.wide) ∙ ap (drop 4) behind ∙ drop_at q.size q.body 4 q.sized.wide in
     let read = any_read other q.kind q.body q.says in
-    some_is pdu other (sym (any_read pdu p.kind p.body p.says) ∙ ap (λ k. any_unit_of k p.body) kind ∙ ap (any_unit_of q.kind) body ∙ read)
+    some_is pdu other (sym (any_read pdu p.kind p.body p.says) ∙ ap (λ k. any_pdu_of k p.body) kind ∙ ap (any_pdu_of q.kind) body ∙ read)
 
 -- ---- the front of octets
 
-whole_at : (kind reserved : ℕ) (size body behind : List ℕ) (pdu : Pdu) → is_unrecognized kind ≡ false → length size ≡ 4 → from_be_bytes w32 size ≡ length body → length body ≤ 65536 → unit_of kind body ≡ Some pdu
+whole_at : (kind reserved : ℕ) (size body behind : List ℕ) (pdu : Pdu) → is_unrecognized kind ≡ false → length size ≡ 4 → from_be_bytes w32 size ≡ length body → length body ≤ 65536 → pdu_of kind body ≡ Some pdu
     → IsWhole (kind ∷ reserved ∷ (size ++ body) ++ behind) pdu (length body + 6)
 whole_at kind reserved size body behind pdu known four n short e =
     let grouped : (kind ∷ reserved ∷ (size ++ body)) ++ behind ≡ kind ∷ reserved ∷ (size ++ (body ++ behind)) = ap (λ (o : List ℕ). kind ∷ reserved ∷ o) (append_assoc size body behind) in
@@ -153,7 +153,7 @@ known_kind (Abort source reason) kind body is = rw is.0 refl
 pub taken_read : (pdu : Pdu) (octets behind : List ℕ) → IsTakenAs pdu octets → front (octets ++ behind) ≡ Whole pdu (length octets)
 taken_read pdu octets behind t =
     let s = t.1 in
-    let w = whole_at s.kind s.reserved s.size s.body behind pdu (known_kind pdu s.kind s.body s.says) s.sized.wide s.sized.value s.short (unit_read pdu s.kind s.body t.0 s.says) in
+    let w = whole_at s.kind s.reserved s.size s.body behind pdu (known_kind pdu s.kind s.body s.says) s.sized.wide s.sized.value s.short (pdu_read pdu s.kind s.body t.0 s.says) in
     let count : length s.body + 6 ≡ length octets = omega (arith, ap length s.whole, length-append s.size s.body, s.sized.wide) in
     ap (λ (o : List ℕ). front (o ++ behind)) s.whole ∙ whole_from _ pdu (length s.body + 6) w ∙ ap (Whole pdu) count
 
@@ -172,7 +172,7 @@ pub front_taken : (s : List ℕ) (pdu : Pdu) (count : ℕ) → front s ≡ Whole
 front_taken s pdu count e =
     let w = whole_is s pdu count e in
     let n = body_length s in
-    let u = unit_spelled (get_or s 0 0) (take n (drop 6 s)) pdu w.read in
+    let u = pdu_spelled (get_or s 0 0) (take n (drop 6 s)) pdu w.read in
     let long : length (take n (drop 6 s)) ≡ n = length-take-le n (drop 6 s) w.enough in
     rw w.count_is (
       u.0,

@@ -1,4 +1,4 @@
--- What the octets that are written for a unit tell.
+-- What the octets that are written for a PDU tell.
 use Rattle.std.proofs.Common.{◌≡◌, ℕ, ◌≤◌, List, ◌∷◌, ◌++◌, length, ap, arith, length-append}
 use Rattle.dq_pdu.specs.declared.pdu.Pdu.{Pdu}
 use Rattle.dq_pdu.specs.Writing.{body, spelling, IsWritable}

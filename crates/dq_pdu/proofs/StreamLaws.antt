@@ -1,4 +1,4 @@
--- The units of a stream split it, they are the only ones that do, and a longer stream adds to them.
+-- The PDUs of a stream split it, they are the only ones that do, and a longer stream adds to them.
 use Rattle.std.proofs.Common.{◌≡◌, ℕ, zero, suc, ◌+◌, ◌<◌, ◌≤◌, List, [], ◌∷◌, ◌++◌, length, take, drop, Option, Some, None, refl, sym, ap, ◌∙◌, arith, length-drop}
 use Rattle.std.proofs.lemmas.List.{append-nil, take-append-drop, drop_at}
 use Rattle.dq_pdu.specs.declared.reading.Front.{Front}
@@ -6,60 +6,60 @@ use Rattle.dq_pdu.specs.declared.reading.Front.TheVariants.{Partial, Faulty, Who
 use Rattle.dq_pdu.specs.declared.fault.PduFault.{PduFault}
 use Rattle.dq_pdu.specs.declared.pdu.Pdu.{Pdu}
 use Rattle.dq_pdu.specs.Reading.{front}
-use Rattle.dq_pdu.specs.Stream.{Units, Follow, HasNoUnit, Splits, fault_of, units, continued}
+use Rattle.dq_pdu.specs.Stream.{Pdus, Follow, HasNoPdu, Splits, fault_of, pdus_in, continued}
 use Rattle.dq_pdu.proofs.Fronts.{count_within, fault_of-faulty, fault_of-partial}
-use Rattle.dq_pdu.proofs.UnitLaws.{units_partial, units_faulty, units_whole, units-append}
+use Rattle.dq_pdu.proofs.PduLaws.{pdus_partial, pdus_faulty, pdus_whole, pdus_in-append}
 use Rattle.dq_pdu.proofs.SpellLaws.{taken_read, front_taken}
 
--- no unit is read at the front
+-- no PDU is read at the front
 abbrev HasNoFront : List ℕ → Type 0
 HasNoFront rest = (pdu : Pdu) (count : ℕ) → front rest ≡ Whole pdu count → ⊥
 
--- what is known of the units of a stream
-record Known (stream : List ℕ) (found : Units) : Type 0 where
+-- what is known of the PDUs of a stream
+record Known (stream : List ℕ) (found : Pdus) : Type 0 where
   follow : Follow found.list stream found.rest
   ends : HasNoFront found.rest
   fault : found.fault ≡ fault_of found.rest
 
-known_by : (s : List ℕ) (f : Front) → front s ≡ f → ((count : ℕ) → 6 ≤ count → count ≤ length s → Known (drop count s) (units (drop count s))) → Known s (units s)
-known_by s Partial e next = rw (units_partial s e) (record { follow = refl; ends = λ pdu count w. absurd (let z = sym e ∙ w in cc); fault = sym (fault_of-partial s e) })
-known_by s (Faulty fault) e next = rw (units_faulty s fault e) (record { follow = refl; ends = λ pdu count w. absurd (let z = sym e ∙ w in cc); fault = sym (fault_of-faulty s fault e) })
+known_by : (s : List ℕ) (f : Front) → front s ≡ f → ((count : ℕ) → 6 ≤ count → count ≤ length s → Known (drop count s) (pdus_in (drop count s))) → Known s (pdus_in s)
+known_by s Partial e next = rw (pdus_partial s e) (record { follow = refl; ends = λ pdu count w. absurd (let z = sym e ∙ w in cc); fault = sym (fault_of-partial s e) })
+known_by s (Faulty fault) e next = rw (pdus_faulty s fault e) (record { follow = refl; ends = λ pdu count w. absurd (let z = sym e ∙ w in cc); fault = sym (fault_of-faulty s fault e) })
 known_by s (Whole pdu count) e next =
     let w = count_within s pdu count e in
     let k = next count w.0 w.1 in
-    rw (units_whole s pdu count e) (record {
+    rw (pdus_whole s pdu count e) (record {
       follow = (take count s, drop count s, sym (take-append-drop count s), front_taken s pdu count e, k.follow);
       ends = k.ends;
       fault = k.fault;
     })
 
-known_within : (n : ℕ) (s : List ℕ) → length s < n → Known s (units s)
+known_within : (n : ℕ) (s : List ℕ) → length s < n → Known s (pdus_in s)
 known_within zero s h = absurd (omega arith)
 known_within (suc n) s h = known_by s (front s) refl (λ count six le. known_within n (drop count s) (omega (arith, length-drop count s)))
 
-known : (s : List ℕ) → Known s (units s)
+known : (s : List ℕ) → Known s (pdus_in s)
 known s = known_within (length s + 1) s (omega arith)
 
-no_unit : (rest : List ℕ) → HasNoFront rest → HasNoUnit rest
-no_unit rest ends = λ pdu octets behind e t. ends pdu (length octets) (ap front e ∙ taken_read pdu octets behind t)
+no_pdu : (rest : List ℕ) → HasNoFront rest → HasNoPdu rest
+no_pdu rest ends = λ pdu octets behind e t. ends pdu (length octets) (ap front e ∙ taken_read pdu octets behind t)
 
-pub units_split : (stream : List ℕ) → Splits stream (units stream).list (units stream).rest
-units_split stream = record { follow = (known stream).follow; ends = no_unit (units stream).rest (known stream).ends }
+pub pdus_split : (stream : List ℕ) → Splits stream (pdus_in stream).list (pdus_in stream).rest
+pdus_split stream = record { follow = (known stream).follow; ends = no_pdu (pdus_in stream).rest (known stream).ends }
 
-pub units_fault : (stream : List ℕ) → (units stream).fault ≡ fault_of (units stream).rest
-units_fault stream = (known stream).fault
+pub pdus_fault : (stream : List ℕ) → (pdus_in stream).fault ≡ fault_of (pdus_in stream).rest
+pdus_fault stream = (known stream).fault
 
 -- ---- the only ones
 
-abbrev Are : List Pdu → List ℕ → Units → Type 0
+abbrev Are : List Pdu → List ℕ → Pdus → Type 0
 Are pdus rest found = (pdus ≡ found.list) × (rest ≡ found.rest)
 
-none_by : (s : List ℕ) (f : Front) → front s ≡ f → HasNoUnit s → Are [] s (units s)
-none_by s Partial e ends = rw (units_partial s e) (refl, refl)
-none_by s (Faulty fault) e ends = rw (units_faulty s fault e) (refl, refl)
+none_by : (s : List ℕ) (f : Front) → front s ≡ f → HasNoPdu s → Are [] s (pdus_in s)
+none_by s Partial e ends = rw (pdus_partial s e) (refl, refl)
+none_by s (Faulty fault) e ends = rw (pdus_faulty s fault e) (refl, refl)
 none_by s (Whole pdu count) e ends = absurd (ends pdu (take count s) (drop count s) (sym (take-append-drop count s)) (front_taken s pdu count e))
 
-follow_only : (pdus : List Pdu) (s rest : List ℕ) → Follow pdus s rest → HasNoUnit rest → Are pdus rest (units s)
+follow_only : (pdus : List Pdu) (s rest : List ℕ) → Follow pdus s rest → HasNoPdu rest → Are pdus rest (pdus_in s)
 follow_only [] s rest e ends =
     let a = none_by rest (front rest) refl ends in
     rw e a
@@ -69,23 +69,23 @@ follow_only (pdu ∷ pdus) s rest f ends =
     let ih = follow_only pdus behind rest f.4 ends in
     let e : front (octets ++ behind) ≡ Whole pdu (length octets) = taken_read pdu octets behind f.3 in
     let left : drop (length octets) (octets ++ behind) ≡ behind = drop_at octets behind (length octets) refl in
-    rw (f.2, units_whole (octets ++ behind) pdu (length octets) e, left) (ap (λ ps. pdu ∷ ps) ih.0, ih.1)
+    rw (f.2, pdus_whole (octets ++ behind) pdu (length octets) e, left) (ap (λ ps. pdu ∷ ps) ih.0, ih.1)
 
-pub units_only : (stream : List ℕ) (pdus : List Pdu) (rest : List ℕ) → Splits stream pdus rest → (pdus ≡ (units stream).list) × (rest ≡ (units stream).rest)
-units_only stream pdus rest s = follow_only pdus stream rest s.follow s.ends
+pub pdus_only : (stream : List ℕ) (pdus : List Pdu) (rest : List ℕ) → Splits stream pdus rest → (pdus ≡ (pdus_in stream).list) × (rest ≡ (pdus_in stream).rest)
+pdus_only stream pdus rest s = follow_only pdus stream rest s.follow s.ends
 
 -- ---- a longer stream
 
 more_from : (fault : Option PduFault) (list : List Pdu) (rest more : List ℕ) → (added : List Pdu) × ((continued fault list rest more).list ≡ list ++ added)
-more_from None list rest more = ((units (rest ++ more)).list, refl)
+more_from None list rest more = ((pdus_in (rest ++ more)).list, refl)
 more_from (Some fault) list rest more = ([], sym (append-nil list))
 
-pub units_more : (stream more : List ℕ) → (added : List Pdu) × ((units (stream ++ more)).list ≡ (units stream).list ++ added)
-units_more stream more =
-    let a = more_from (units stream).fault (units stream).list (units stream).rest more in
-    (a.0, ap (λ (u : Units). u.list) (units-append stream more) ∙ a.1)
+pub pdus_more : (stream more : List ℕ) → (added : List Pdu) × ((pdus_in (stream ++ more)).list ≡ (pdus_in stream).list ++ added)
+pdus_more stream more =
+    let a = more_from (pdus_in stream).fault (pdus_in stream).list (pdus_in stream).rest more in
+    (a.0, ap (λ (u : Pdus). u.list) (pdus_in-append stream more) ∙ a.1)
 
-pub fault_stays : (stream more : List ℕ) (fault : PduFault) → (units stream).fault ≡ Some fault → ((units (stream ++ more)).list ≡ (units stream).list) × ((units (stream ++ more)).fault ≡ Some fault)
+pub fault_stays : (stream more : List ℕ) (fault : PduFault) → (pdus_in stream).fault ≡ Some fault → ((pdus_in (stream ++ more)).list ≡ (pdus_in stream).list) × ((pdus_in (stream ++ more)).fault ≡ Some fault)
 fault_stays stream more fault e =
-    let u = units-append stream more ∙ ap (λ f. continued f (units stream).list (units stream).rest more) e in
-    (ap (λ (v : Units). v.list) u, ap (λ (v : Units). v.fault) u)
+    let u = pdus_in-append stream more ∙ ap (λ f. continued f (pdus_in stream).list (pdus_in stream).rest more) e in
+    (ap (λ (v : Pdus). v.list) u, ap (λ (v : Pdus). v.fault) u)

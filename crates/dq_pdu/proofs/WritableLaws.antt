@@ -1,4 +1,4 @@
--- A unit has a spelling exactly where the test says so.
+-- A PDU has a spelling exactly where the test says so.
 use Rattle.std.proofs.Common.{◌≡◌, ℕ, ◌≤◌, Bool, true, false, leb, List, length, drop, refl, sym, ap, subst, ◌∙◌, arith, inl, inr}
 use Rattle.std.specs.Prelude.{◌&&◌, ◌↔◌, IsTrue}
 use Rattle.std.specs.Int.{w32, to_be_bytes}

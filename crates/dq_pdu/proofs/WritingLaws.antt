@@ -156,14 +156,14 @@ proposed_written c h e =
       some = not_nil c.transfer_syntaxes q.1;
     }
 
--- what stands behind the three reserved octets
-behind_three : (id : ℕ) (reserved rest other : List ℕ) (a b c : ℕ) → length reserved ≡ 3 → id ∷ a ∷ b ∷ c ∷ other ≡ id ∷ reserved ++ rest → other ≡ rest
-behind_three id reserved rest other a b c h e = ap (drop 4) e ∙ drop_at (id ∷ reserved) rest 4 (omega (arith, h))
+-- what stands after the three reserved octets
+after_three : (id : ℕ) (reserved rest other : List ℕ) (a b c : ℕ) → length reserved ≡ 3 → id ∷ a ∷ b ∷ c ∷ other ≡ id ∷ reserved ++ rest → other ≡ rest
+after_three id reserved rest other a b c h e = ap (drop 4) e ∙ drop_at (id ∷ reserved) rest 4 (omega (arith, h))
 
 pub proposed_tells : (c : ProposedContext) → length (proposed_body c) ≤ 65536 → IsProposed c (proposed_body c) → is_proposable c ≡ true
 proposed_tells c h is =
     let octets = item 48 c.abstract_syntax ++ flat_map (item 64) c.transfer_syntaxes in
-    let rest : octets ≡ is.rest = behind_three c.id is.reserved is.rest octets 0 0 0 is.three is.spelled in
+    let rest : octets ≡ is.rest = after_three c.id is.reserved is.rest octets 0 0 0 is.three is.spelled in
     let items : is.items ≡ proposed_items c = items_once is.items (proposed_items c) octets (subst (Fills IsItem is.items) (sym rest) is.fills) (proposed_fills c h) in
     let abstract : Some (unpadded c.abstract_syntax) ≡ Some c.abstract_syntax = ap (option_map unpadded) (sym (abstract_found c)) ∙ ap (λ (is : List Item). option_map unpadded (exactly_one (bodies 48 is))) (sym items) ∙ is.abstract in
     let transfers : map unpadded c.transfer_syntaxes ≡ c.transfer_syntaxes = ap (map unpadded) (sym (transfers_found c)) ∙ ap (λ (is : List Item). map unpadded (bodies 64 is)) (sym items) ∙ sym is.transfer in

@@ -1,4 +1,4 @@
--- The items that are written behind the fixed fields of a request or an acceptance.
+-- The items that are written after the fixed fields of a request or an acceptance.
 use Rattle.std.proofs.Common.{◌≡◌, ℕ, ◌^◌, ◌<◌, ◌≤◌, true, false, eqb, List, [], ◌∷◌, ◌++◌, length, drop, Option, Some, None, refl, sym, ap, ◌∙◌, arith, length-append}
 use Rattle.std.specs.Prelude.{IfSome, option_map, codes}
 use Rattle.std.specs.Int.{w16, w32, to_be_bytes}
@@ -125,7 +125,7 @@ associate_written version called calling reserved maximum items octets w fills =
   fills = fills;
 }
 
--- the items behind the fixed fields are those that were written
+-- the items after the fixed fields are those that were written
 pub items_are : (version : ℕ) (called calling reserved : List ℕ) (items written : List Item) (octets : List ℕ) → IsAssociate version called calling reserved items (associate version called calling reserved octets) → Fills IsItem written octets → items ≡ written
 items_are version called calling reserved items written octets is fills =
     let fixed = fixed_from version called calling reserved items (associate version called calling reserved octets) is in

@@ -24,7 +24,7 @@ Pairwise R (x ∷ xs) (y ∷ ys) = R x y × Pairwise R xs ys
 Pairwise R [] (y ∷ ys) = ⊥
 Pairwise R (x ∷ xs) [] = ⊥
 
--- The same, computed: a part at the front and what is left behind it, again and again. No more parts than octets.
+-- The same, computed: a part at the front and what is left after it, again and again. No more parts than octets.
 unfoldable pub parts : {A : Type 0} → (List ℕ → Option (A × List ℕ)) → ℕ → List ℕ → Option (List A)
 parts part fuel [] = Some []
 parts part zero (o ∷ os) = None

@@ -84,33 +84,33 @@ values_of body = do
   values ← parts_of pdv_at body
   provided (not (is_empty values)) (PData values)
 
--- the unit of a type that has the body
-unfoldable pub unit_of : ℕ → List ℕ → Option Pdu
-unit_of kind body =
+-- the PDU of a type that has the body
+unfoldable pub pdu_of : ℕ → List ℕ → Option Pdu
+pdu_of kind body =
     if kind == 1 then option_map request_pdu (request_of body)
     else (if kind == 4 then values_of body
     else (if kind == 5 then provided (length body == 4) ReleaseRq
     else (if kind == 7 then provided (length body == 4) (Abort (slice_index body 2) (slice_index body 3))
     else None)))
 
--- a unit of so many octets, or none where the body breaks a rule
+-- a PDU of so many octets, or none where the body breaks a rule
 abbrev pub whole_or_malformed : Option Pdu → ℕ → Front
 whole_or_malformed None count = Faulty Malformed
 whole_or_malformed (Some pdu) count = Whole pdu count
 
--- the length of a unit's body, of its octets
+-- the length of a PDU's body, of its octets
 abbrev pub body_length : List ℕ → ℕ
 body_length octets = from_be_bytes w32 (take 4 (drop 2 octets))
 
--- there are 7 types of unit
+-- there are 7 types of PDU
 abbrev pub is_unrecognized : ℕ → Bool
 is_unrecognized kind = (kind == 0) || nat_lt 7 kind
 
--- what octets begin with: part of a unit, a fault, or a whole unit of so many octets
+-- what octets begin with: part of a PDU, a fault, or a whole PDU of so many octets
 unfoldable pub front : List ℕ → Front
 front octets =
     if nat_lt (length octets) 6 then Partial
     else (if is_unrecognized (slice_index octets 0) then Faulty Unrecognized
     else (if nat_lt 65536 (body_length octets) then Faulty TooLong
     else (if nat_lt (length (drop 6 octets)) (body_length octets) then Partial
-    else whole_or_malformed (unit_of (slice_index octets 0) (take (body_length octets) (drop 6 octets))) (body_length octets + 6))))
+    else whole_or_malformed (pdu_of (slice_index octets 0) (take (body_length octets) (drop 6 octets))) (body_length octets + 6))))

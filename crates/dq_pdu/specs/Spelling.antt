@@ -1,5 +1,5 @@
--- Which octets spell which protocol data unit (PS3.8 section 9.3). Reserved octets and the items that are skipped
--- are free, so a unit has many spellings; octets spell at most one.
+-- Which octets spell which protocol data PDU (PS3.8 section 9.3). Reserved octets and the items that are skipped
+-- are free, so a PDU has many spellings; octets spell at most one.
 use Rattle.std.specs.Prelude.{◌≡◌, ◌≢◌, ℕ, ◌+◌, ◌/◌, ◌%◌, ◌≤◌, Bool, true, false, IsTrue, ◌==◌, List, [], ◌∷◌, ◌++◌, length, map, Option, Some, None, option_map}
 use Rattle.std.specs.Int.{w16, w32}
 use Rattle.dq_pdu.specs.declared.reading.Item.{Item}
@@ -99,7 +99,7 @@ pub record IsAccept (accept : Accept) (body : List ℕ) : Type 0 where
   pub distinct : IsTrue (are_distinct (map (λ (c : AnsweredContext). c.id) accept.contexts))
   pub user : IsUserInformation accept.maximum_length (bodies 80 items)
 
--- the type of a unit, and the body that it may have (PS3.8 sections 9.3.2 to 9.3.8)
+-- the type of a PDU, and the body that it may have (PS3.8 sections 9.3.2 to 9.3.8)
 abbrev pub IsBody : Pdu → ℕ → List ℕ → Type 0
 IsBody (request_pdu request) kind body = (kind ≡ 1) × IsRequest request body
 IsBody (accept_pdu accept) kind body = (kind ≡ 2) × IsAccept accept body
@@ -109,7 +109,7 @@ IsBody ReleaseRq kind body = (kind ≡ 5) × (length body ≡ 4)
 IsBody ReleaseRp kind body = (kind ≡ 6) × (length body ≡ 4)
 IsBody (Abort source reason) kind body = (kind ≡ 7) × (first : ℕ) × (second : ℕ) × (body ≡ first ∷ second ∷ source ∷ reason ∷ [])
 
--- A unit's octets: its type, a reserved octet, the length of the rest in four octets, and its body of at most 65,536.
+-- A PDU's octets: its type, a reserved octet, the length of the rest in four octets, and its body of at most 65,536.
 pub record Spells (pdu : Pdu) (octets : List ℕ) : Type 0 where
   pub kind : ℕ
   pub reserved : ℕ
@@ -120,7 +120,7 @@ pub record Spells (pdu : Pdu) (octets : List ℕ) : Type 0 where
   pub short : length body ≤ 65536
   pub says : IsBody pdu kind body
 
--- Until associations are negotiated in full, the units that answer a requestor are not taken.
+-- Until associations are negotiated in full, the PDUs that answer a requestor are not taken.
 abbrev pub is_taken : Pdu → Bool
 is_taken (accept_pdu accept) = false
 is_taken (Reject result source reason) = false
@@ -130,6 +130,6 @@ is_taken (PData values) = true
 is_taken ReleaseRq = true
 is_taken (Abort source reason) = true
 
--- the octets spell a unit that is taken
+-- the octets spell a PDU that is taken
 abbrev pub IsTakenAs : Pdu → List ℕ → Type 0
 IsTakenAs pdu octets = IsTrue (is_taken pdu) × Spells pdu octets

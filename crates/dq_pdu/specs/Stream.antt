@@ -1,5 +1,5 @@
--- The units of a stream (PS3.8 section 9.3): the only list and rest such that the stream is spellings of the list, in
--- order, and then a rest of which no prefix spells a unit.
+-- The PDUs of a stream (PS3.8 section 9.3): the only list and rest such that the stream is spellings of the list, in
+-- order, and then a rest of which no prefix spells a PDU.
 use Rattle.std.specs.Prelude.{◌≡◌, ℕ, zero, suc, nat_lt, if◌then◌else◌, List, [], ◌∷◌, ◌++◌, length, drop, slice_index, Option, Some, None}
 use Rattle.dq_pdu.specs.declared.pdu.Pdu.{Pdu}
 use Rattle.dq_pdu.specs.declared.fault.PduFault.{PduFault}
@@ -11,19 +11,19 @@ use Rattle.dq_pdu.specs.declared.inbox.Held.TheVariants.{Reading, Stopped}
 use Rattle.dq_pdu.specs.Spelling.{IsTakenAs}
 use Rattle.dq_pdu.specs.Reading.{body_length, is_unrecognized, front}
 
--- the stream is spellings of the units, one after the other, and then the rest
+-- the stream is spellings of the PDUs, one after the other, and then the rest
 abbrev pub Follow : List Pdu → List ℕ → List ℕ → Type 0
 Follow [] stream rest = stream ≡ rest
 Follow (pdu ∷ pdus) stream rest = (octets : List ℕ) × (behind : List ℕ) × (stream ≡ octets ++ behind) × IsTakenAs pdu octets × Follow pdus behind rest
 
--- no prefix of the rest spells a unit
-abbrev pub HasNoUnit : List ℕ → Type 0
-HasNoUnit rest = (pdu : Pdu) (octets behind : List ℕ) → rest ≡ octets ++ behind → IsTakenAs pdu octets → ⊥
+-- no prefix of the rest spells a PDU
+abbrev pub HasNoPdu : List ℕ → Type 0
+HasNoPdu rest = (pdu : Pdu) (octets behind : List ℕ) → rest ≡ octets ++ behind → IsTakenAs pdu octets → ⊥
 
 -- what a stream is split into
 pub record Splits (stream : List ℕ) (pdus : List Pdu) (rest : List ℕ) : Type 0 where
   pub follow : Follow pdus stream rest
-  pub ends : HasNoUnit rest
+  pub ends : HasNoPdu rest
 
 -- The fault that can be read off a rest: its type, then its length, then its body where all of it is there.
 abbrev pub fault_of : List ℕ → Option PduFault
@@ -34,35 +34,35 @@ fault_of rest =
     else (if nat_lt (length (drop 6 rest)) (body_length rest) then None
     else Some Malformed)))
 
--- the units of a stream, the rest behind them, and the fault of the rest
-pub record Units : Type 0 where
+-- the PDUs of a stream, the rest after them, and the fault of the rest
+pub record Pdus : Type 0 where
   pub list : List Pdu
   pub rest : List ℕ
   pub fault : Option PduFault
 
-abbrev pub with_first : Pdu → Units → Units
+abbrev pub with_first : Pdu → Pdus → Pdus
 with_first pdu others = record { list = pdu ∷ others.list; rest = others.rest; fault = others.fault }
 
 -- what stands at the front, and then what follows it
-abbrev pub units_from : Front → List ℕ → (List ℕ → Units) → Units
-units_from Partial stream others = record { list = []; rest = stream; fault = None }
-units_from (Faulty fault) stream others = record { list = []; rest = stream; fault = Some fault }
-units_from (Whole pdu count) stream others = with_first pdu (others (drop count stream))
+abbrev pub pdus_from : Front → List ℕ → (List ℕ → Pdus) → Pdus
+pdus_from Partial stream others = record { list = []; rest = stream; fault = None }
+pdus_from (Faulty fault) stream others = record { list = []; rest = stream; fault = Some fault }
+pdus_from (Whole pdu count) stream others = with_first pdu (others (drop count stream))
 
-unfoldable pub units_within : ℕ → List ℕ → Units
-units_within zero stream = record { list = []; rest = stream; fault = None }
-units_within (suc fuel) stream = units_from (front stream) stream (λ behind. units_within fuel behind)
+unfoldable pub pdus_within : ℕ → List ℕ → Pdus
+pdus_within zero stream = record { list = []; rest = stream; fault = None }
+pdus_within (suc fuel) stream = pdus_from (front stream) stream (λ behind. pdus_within fuel behind)
 
--- the units of a stream, computed: no more of them than octets
-abbrev pub units : List ℕ → Units
-units stream = units_within (length stream) stream
+-- the PDUs of a stream, computed: no more of them than octets
+abbrev pub pdus_in : List ℕ → Pdus
+pdus_in stream = pdus_within (length stream) stream
 
-abbrev pub with_list : List Pdu → Units → Units
+abbrev pub with_list : List Pdu → Pdus → Pdus
 with_list list others = record { list = list ++ others.list; rest = others.rest; fault = others.fault }
 
--- the units of a stream that goes on: a fault stays, and else the rest is read on
-abbrev pub continued : Option PduFault → List Pdu → List ℕ → List ℕ → Units
-continued None list rest more = with_list list (units (rest ++ more))
+-- the PDUs of a stream that goes on: a fault stays, and else the rest is read on
+abbrev pub continued : Option PduFault → List Pdu → List ℕ → List ℕ → Pdus
+continued None list rest more = with_list list (pdus_in (rest ++ more))
 continued (Some fault) list rest more = record { list = list; rest = rest ++ more; fault = Some fault }
 
 -- what an inbox holds once it was fed a stream
@@ -71,4 +71,4 @@ held_at None rest = Reading rest
 held_at (Some fault) rest = Stopped fault
 
 abbrev pub holding : List ℕ → Held
-holding stream = held_at (units stream).fault (units stream).rest
+holding stream = held_at (pdus_in stream).fault (pdus_in stream).rest

@@ -1,4 +1,4 @@
--- The one spelling of a unit that is written (PS3.8 section 9.3): reserved octets are zero, items stand by rising type.
+-- The one spelling of a PDU that is written (PS3.8 section 9.3): reserved octets are zero, items stand by rising type.
 use Rattle.std.specs.Prelude.{◌≡◌, ℕ, ◌+◌, ◌-◌, ◌%◌, ◌^◌, min, Bool, true, not, ◌&&◌, ◌==◌, nat_le, if◌then◌else◌, List, [], ◌∷◌, ◌++◌, length, map, codes, Option, Some, None, IfSome, ◌<◌}
 use Rattle.std.specs.List.{flat_map, list_all}
 use Rattle.std.specs.Int.{w16, w32, to_be_bytes}
@@ -84,15 +84,15 @@ body ReleaseRq = 0 ∷ 0 ∷ 0 ∷ 0 ∷ []
 body ReleaseRp = 0 ∷ 0 ∷ 0 ∷ 0 ∷ []
 body (Abort source reason) = 0 ∷ 0 ∷ source ∷ reason ∷ []
 
--- the octets that are written for a unit
+-- the octets that are written for a PDU
 abbrev pub spelling : Pdu → List ℕ
 spelling pdu = kind pdu ∷ 0 ∷ (to_be_bytes w32 (length (body pdu)) ++ body pdu)
 
--- a unit that has a spelling: the octets that are written for it spell it
+-- a PDU that has a spelling: the octets that are written for it spell it
 abbrev pub IsWritable : Pdu → Type 0
 IsWritable pdu = Spells pdu (spelling pdu)
 
--- the numbers and the fixed fields of a unit are as wide as their types
+-- the numbers and the fixed fields of a PDU are as wide as their types
 pub record AreWide (version : ℕ) (called calling reserved : List ℕ) (maximum : Option ℕ) : Type 0 where
   pub version_two : version < 2 ^ 16
   pub called_sixteen : length called ≡ 16

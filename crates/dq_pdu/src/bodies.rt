@@ -1,13 +1,13 @@
-//! The bodies of units, as they are read (PS3.8 sections 9.3.2 to 9.3.8).
+//! The bodies of PDUs, as they are read (PS3.8 sections 9.3.2 to 9.3.8).
 ghost use Rattle.std.specs.Prelude.{◌≡◌, ◌≤◌, ◌+◌, length, take, drop, option_map, map, IfOk};
 ghost use Rattle.dq_pdu.specs.Octets.{parts_of, bodies, each, unpadded};
-ghost use Rattle.dq_pdu.specs.Reading.{Gives, maximum_in, user_information_of, proposed_of, request_of, pdv_at, values_of, unit_of};
+ghost use Rattle.dq_pdu.specs.Reading.{Gives, maximum_in, user_information_of, proposed_of, request_of, pdv_at, values_of, pdu_of};
 
 use crate::items::{at_most_one, exactly_one, items_of, name_of, names_of};
-use crate::listed::Listed;
 use crate::pdu::{Pdu, Pdv, ProposedContext, Request};
 use crate::reading::{Item, ReadError};
 use crate::rules::are_distinct;
+use dq_list::Listed;
 use std::alloc::{AllocError, Global};
 
 /// The maximum length, from the body of its item (PS3.8 annex D.1).
@@ -118,7 +118,7 @@ fn request_of(alloc: Global, body: &[u8]) -> Result<Request, ReadError>
     })
 }
 
-/// The presentation data value at the front, and the octets behind it (PS3.8 section 9.3.5.1).
+/// The presentation data value at the front, and the octets after it (PS3.8 section 9.3.5.1).
 #[tactic(auto, unfolding(crate::specs::Reading::pdv_at))]
 fn value_at(alloc: Global, octets: &[u8]) -> Result<(Pdv, &[u8]), ReadError>
     ensures { Gives (λ x. (x.0, x.1.now)) result (pdv_at octets.now) }
@@ -155,7 +155,7 @@ fn all_values(alloc: Global, octets: &[u8]) -> Result<Vec<Pdv>, ReadError>
     Ok(values)
 }
 
-/// A P-DATA-TF unit, from its body.
+/// A P-DATA-TF PDU, from its body.
 #[tactic(auto, unfolding(crate::specs::Reading::values_of))]
 fn values_of(alloc: Global, body: &[u8]) -> Result<Pdu, ReadError>
     ensures { Gives (λ x. x) result (values_of body.now) }
@@ -167,10 +167,10 @@ fn values_of(alloc: Global, body: &[u8]) -> Result<Pdu, ReadError>
     Ok(Pdu::PData(Listed::from_inner(values)))
 }
 
-/// The unit of a type, from its body.
-#[tactic(auto, unfolding(crate::specs::Reading::unit_of))]
-pub(crate) fn unit_of(alloc: Global, kind: u8, body: &[u8]) -> Result<Pdu, ReadError>
-    ensures { Gives (λ x. x) result (unit_of kind body.now) }
+/// The PDU of a type, from its body.
+#[tactic(auto, unfolding(crate::specs::Reading::pdu_of))]
+pub(crate) fn pdu_of(alloc: Global, kind: u8, body: &[u8]) -> Result<Pdu, ReadError>
+    ensures { Gives (λ x. x) result (pdu_of kind body.now) }
 {
     match (kind, body) {
         (1, _) => Ok(Pdu::Request(request_of(alloc, body)?)),

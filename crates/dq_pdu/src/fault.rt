@@ -7,11 +7,11 @@ use thiserror::Error;
 /// What is wrong with a stream (PS3.8 section 9.3.8): the first fault, in this order.
 #[derive(Clone, Copy, Debug, PartialEq, Eq, Error)]
 pub enum PduFault {
-    #[error("the type of a unit is unknown")]
+    #[error("the type of a PDU is unknown")]
     Unrecognized = 1,
-    #[error("a unit is longer than 65,536 octets")]
+    #[error("a PDU is longer than 65,536 octets")]
     TooLong = 2,
-    #[error("the body of a unit breaks a rule")]
+    #[error("the body of a PDU breaks a rule")]
     Malformed = 3,
 }
 

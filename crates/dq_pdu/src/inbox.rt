@@ -1,10 +1,10 @@
 ghost use Rattle.std.specs.Prelude.{◌≡◌, List, ℕ, ◌++◌, [], ◌↔◌, IfOk, OnOk, OnErr, IsErrOf, IsOk};
-ghost use Rattle.dq_pdu.specs.Stream.{units, holding};
+ghost use Rattle.dq_pdu.specs.Stream.{pdus_in, holding};
 
 use crate::fault::{InboxError, PduFault};
-use crate::listed::Listed;
 use crate::pdu::Pdu;
-use crate::units::{cut_front, units_of};
+use crate::stream::{cut_front, pdus_of};
+use dq_list::Listed;
 use std::alloc::{AllocError, Global};
 use std::marker::Model;
 use std::mem;
@@ -12,7 +12,7 @@ use std::mem;
 /// What an inbox holds between two pieces.
 #[derive(Debug, Drop)]
 pub(crate) enum Held {
-    /// The octets behind the last unit.
+    /// The octets after the last PDU.
     Reading(Listed<u8>),
     /// The stream has a fault.
     Stopped(PduFault),
@@ -20,7 +20,7 @@ pub(crate) enum Held {
     Spent,
 }
 
-/// Takes a stream in pieces and gives its units (PS3.8 section 9.3).
+/// Takes a stream in pieces and gives its PDUs (PS3.8 section 9.3).
 #[derive(Debug, Drop)]
 pub struct Inbox {
     alloc: Global,
@@ -35,7 +35,7 @@ impl Model for Inbox {
     ghost view = { λ a. a.held };
 }
 
-/// What a piece added to a stream: the units that it completed, and the fault behind them.
+/// What a piece added to a stream: the PDUs that it completed, and the fault after them.
 #[derive(Debug, Drop)]
 pub struct Fed {
     pub pdus: Listed<Pdu>,
@@ -44,7 +44,7 @@ pub struct Fed {
 
 impl Inbox {
     /// An inbox that has read nothing. It takes no memory.
-    #[tactic(auto, unfolding(crate::specs::Stream::units_within))]
+    #[tactic(auto, unfolding(crate::specs::Stream::pdus_within))]
     pub fn new(alloc: Global) -> Self
         ensures { result ≡ holding [] }
     {
@@ -54,21 +54,21 @@ impl Inbox {
         }
     }
 
-    /// Takes the next piece of the stream. However a stream is cut into pieces, their units are those of the stream.
+    /// Takes the next piece of the stream. However a stream is cut into pieces, their PDUs are those of the stream.
     /// It takes time in proportion to the octets, however small the pieces are.
     ///
     /// `NoMemory` where memory ran out, and `Spent` from then on.
     pub fn feed(&mut self, piece: &[u8]) -> Result<Fed, InboxError>
-        ensures units { (stream : List ℕ) → self.old ≡ holding stream → IfOk result (λ fed.
-            ((units (stream ++ piece.now)).list ≡ (units stream).list ++ fed.pdus)
-            × ((units (stream ++ piece.now)).fault ≡ fed.fault)) }
-        // What is held and the piece behind it.
+        ensures pdus { (stream : List ℕ) → self.old ≡ holding stream → IfOk result (λ fed.
+            ((pdus_in (stream ++ piece.now)).list ≡ (pdus_in stream).list ++ fed.pdus)
+            × ((pdus_in (stream ++ piece.now)).fault ≡ fed.fault)) }
+        // What is held and the piece after it.
         ensures exact { (rest : List ℕ) → self.old ≡ Held.Reading rest → IfOk result (λ fed.
-            ((units (rest ++ piece.now)).list ≡ fed.pdus)
-            × ((units (rest ++ piece.now)).fault ≡ fed.fault)
+            ((pdus_in (rest ++ piece.now)).list ≡ fed.pdus)
+            × ((pdus_in (rest ++ piece.now)).fault ≡ fed.fault)
             × (self.new ≡ holding (rest ++ piece.now))) }
         ensures stands { (stream : List ℕ) → self.old ≡ holding stream → OnOk result (self.new ≡ holding (stream ++ piece.now)) }
-        // A fault stays, and no unit comes behind it.
+        // A fault stays, and no PDU comes after it.
         ensures stopped { (fault : PduFault) → self.old ≡ Held.Stopped fault → IfOk result (λ fed. (fed.pdus ≡ []) × (fed.fault ≡ Some fault)) }
         ensures stays { (fault : PduFault) → self.old ≡ Held.Stopped fault → IsOk result × (self.new ≡ Held.Stopped fault) }
         ensures spent { IsErrOf result InboxError.Spent ↔ (self.old ≡ Held.Spent) }
@@ -93,14 +93,14 @@ impl Inbox {
     }
 }
 
-/// Reads a rest and the piece behind it, and gives what is held from then on.
+/// Reads a rest and the piece after it, and gives what is held from then on.
 fn read_on(alloc: Global, rest: Listed<u8>, piece: &[u8]) -> Result<(Held, Fed), AllocError>
     ensures held { IfOk result (λ x. x.0 ≡ holding (rest ++ piece.now)) }
-    ensures fed { IfOk result (λ x. ((units (rest ++ piece.now)).list ≡ x.1.pdus) × ((units (rest ++ piece.now)).fault ≡ x.1.fault)) }
+    ensures fed { IfOk result (λ x. ((pdus_in (rest ++ piece.now)).list ≡ x.1.pdus) × ((pdus_in (rest ++ piece.now)).fault ≡ x.1.fault)) }
 {
     let mut octets = rest.into_inner();
     octets.extend_from_slice(piece)?;
-    let (pdus, fault, left) = units_of(alloc, &octets)?;
+    let (pdus, fault, left) = pdus_of(alloc, &octets)?;
     let count = octets.len() - left.len();
     let pdus = Listed::from_inner(pdus);
     let held = match fault {

@@ -3,12 +3,12 @@ ghost use Rattle.std.specs.Prelude.{◌≡◌, map, length, option_map, IfOk, So
 ghost use Rattle.dq_pdu.specs.Octets.{parts_of, bodies, at_most_one, exactly_one, unpadded};
 ghost use Rattle.dq_pdu.specs.Reading.{Gives, item_at};
 
-use crate::listed::Listed;
 use crate::reading::{Item, ReadError};
 use crate::rules::is_padding;
+use dq_list::Listed;
 use std::alloc::{AllocError, Global};
 
-/// The item at the front, and the octets behind it.
+/// The item at the front, and the octets after it.
 #[tactic(auto, unfolding(crate::specs::Reading::item_at))]
 fn item_at(alloc: Global, octets: &[u8]) -> Result<(Item, &[u8]), ReadError>
     ensures { Gives (λ x. (x.0, x.1.now)) result (item_at octets.now) }

@@ -1,4 +1,4 @@
-//! Protocol data units.
+//! Protocol data PDUs.
 #![tactic(auto)]
 
 mod bodies;
@@ -6,17 +6,15 @@ mod fault;
 mod inbox;
 mod items;
 pub mod laws;
-mod listed;
 mod parts;
 mod pdu;
 mod reading;
 mod rules;
-mod units;
+mod stream;
 mod writing;
 
 pub use fault::{InboxError, PduFault};
 pub use inbox::{Fed, Inbox};
-pub use listed::Listed;
 pub use pdu::{Accept, AnsweredContext, Pdu, Pdv, ProposedContext, Request};
 pub use writing::{writable, write_pdu};
 

@@ -1,14 +1,14 @@
-//! The parts of a unit, as they are written.
+//! The parts of a PDU, as they are written.
 ghost use Rattle.std.specs.Prelude.{◌≡◌, ◌≤◌, ◌<◌, ◌+◌, ◌^◌, ◌∷◌, ◌++◌, ℕ, List, length, OnOk};
 ghost use Rattle.std.specs.Int.{w16, to_be_bytes};
 ghost use Rattle.std.specs.List.{flat_map};
 ghost use Rattle.dq_pdu.specs.Writing.{counted, item, proposed, proposed_body, answered, answered_body, control_header, pdv};
 
-use crate::listed::Listed;
 use crate::pdu::{AnsweredContext, Pdv, ProposedContext};
+use dq_list::Listed;
 use std::alloc::AllocError;
 
-/// A part of a unit that stands in a list of its kind.
+/// A part of a PDU that stands in a list of its kind.
 pub(crate) trait Part {
     ghost octets: { Self → List ℕ };
 

@@ -1,6 +1,6 @@
-use crate::listed::Listed;
+use dq_list::Listed;
 
-/// A protocol data unit (PS3.8 section 9.3).
+/// A protocol data PDU (PS3.8 section 9.3).
 #[derive(Debug, Drop)]
 pub enum Pdu {
     /// A-ASSOCIATE-RQ.

@@ -2,10 +2,10 @@ ghost use Rattle.std.specs.Prelude.{◌≡◌, IfOk};
 ghost use Rattle.dq_pdu.specs.declared.reading.ReadError.TheVariants.{Memory};
 ghost use Rattle.dq_pdu.specs.Reading.{front};
 
-use crate::bodies::unit_of;
+use crate::bodies::pdu_of;
 use crate::fault::PduFault;
-use crate::listed::Listed;
 use crate::pdu::Pdu;
+use dq_list::Listed;
 use std::alloc::{AllocError, AllocFailed, Global};
 
 /// An item or sub-item: its type and its body (PS3.8 section 9.3.2).
@@ -41,14 +41,14 @@ impl<T: Drop> From<AllocFailed<T>> for ReadError {
 /// What octets begin with.
 #[derive(Debug, Drop)]
 pub(crate) enum Front {
-    /// Less than a unit.
+    /// Less than a PDU.
     Partial,
     Faulty(PduFault),
-    /// A unit, and how many octets it takes.
+    /// A PDU, and how many octets it takes.
     Whole(Pdu, usize),
 }
 
-/// What octets begin with: a unit's type, a reserved octet, the length of its body, and its body (PS3.8 section 9.3.1).
+/// What octets begin with: a PDU's type, a reserved octet, the length of its body, and its body (PS3.8 section 9.3.1).
 #[tactic(auto, unfolding(crate::specs::Reading::front))]
 pub(crate) fn front_of(alloc: Global, octets: &[u8]) -> Result<Front, AllocError>
     ensures { IfOk result (λ found. found ≡ front octets.now) }
@@ -67,7 +67,7 @@ pub(crate) fn front_of(alloc: Global, octets: &[u8]) -> Result<Front, AllocError
     if behind.len() < size {
         return Ok(Front::Partial);
     }
-    match unit_of(alloc, header[0], behind.split_at(size).0) {
+    match pdu_of(alloc, header[0], behind.split_at(size).0) {
         Ok(pdu) => Ok(Front::Whole(pdu, size + 6)),
         Err(ReadError::Malformed) => Ok(Front::Faulty(PduFault::Malformed)),
         Err(ReadError::Memory) => Err(AllocError),

@@ -1,11 +1,11 @@
-//! What the parts of a unit have to keep (PS3.8 section 9.3).
+//! What the parts of a PDU have to keep (PS3.8 section 9.3).
 ghost use Rattle.std.specs.Prelude.{◌≡◌, ℕ, map, not};
 ghost use Rattle.std.specs.List.{list_all};
 ghost use Rattle.dq_pdu.specs.Octets.{is_padding, is_among, are_distinct};
 ghost use Rattle.dq_pdu.specs.Writing.{is_bare, is_name, is_odd, is_proposable, is_answerable, has_parts};
 
-use crate::listed::Listed;
 use crate::pdu::{AnsweredContext, Pdu, ProposedContext};
+use dq_list::Listed;
 
 /// A presentation context, by its id.
 pub(crate) trait Identified {
@@ -119,7 +119,7 @@ fn are_answerable(contexts: &[AnsweredContext]) -> bool
     contexts.iter().all(|context| is_answerable(context))
 }
 
-/// Whether a unit has the parts that it needs.
+/// Whether a PDU has the parts that it needs.
 pub(crate) fn has_parts(pdu: &Pdu) -> bool
     ensures { result ≡ has_parts pdu.now }
 {

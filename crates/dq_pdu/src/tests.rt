@@ -1,6 +1,7 @@
 ghost use Rattle.std.specs.Prelude.{◌<◌};
 
 use super::*;
+use dq_list::Listed;
 use std::alloc::Global;
 use std::process::Abort;
 use std::test::*;

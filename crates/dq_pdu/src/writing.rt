@@ -1,10 +1,10 @@
 ghost use Rattle.std.specs.Prelude.{◌≡◌, ◌≤◌, ◌++◌, ℕ, List, length, Some, codes, IsTrue, ◌↔◌, IfOk, OnOk};
 ghost use Rattle.dq_pdu.specs.Writing.{counted, item, application_context, maximum_length, request_information, accept_information, associate, request as request_body, accept as accept_body, kind, body, spelling, is_writable, IsWritable, AreWide, HasWidths};
 
-use crate::listed::Listed;
 use crate::parts::{put_item, put_parts, size_of_parts};
 use crate::pdu::{Accept, Pdu, Request};
 use crate::rules::has_parts;
+use dq_list::Listed;
 use std::alloc::{AllocError, Global};
 
 /// How many octets a name takes as an item, or the greatest `usize`.
@@ -55,7 +55,7 @@ fn size_of_accept(accept: &Accept) -> usize
         .saturating_add(fixed + information)
 }
 
-/// How many octets a unit's body takes, or the greatest `usize`.
+/// How many octets a PDU's body takes, or the greatest `usize`.
 fn size_of_body(pdu: &Pdu) -> usize
     ensures size { result ≡ counted (length (body pdu.now)) }
     ensures widths { HasWidths pdu.now }
@@ -68,7 +68,7 @@ fn size_of_body(pdu: &Pdu) -> usize
     }
 }
 
-/// Whether the unit has a spelling: identifiers end without padding, contexts have odd ids of their own and what they
+/// Whether the PDU has a spelling: identifiers end without padding, contexts have odd ids of their own and what they
 /// need, and the body is no longer than 65,536 octets (PS3.8 section 9.3). It takes no memory.
 pub fn writable(pdu: &Pdu) -> bool
     ensures test { result ≡ is_writable pdu.now }
@@ -174,7 +174,7 @@ fn put_body(out: &mut Vec<u8>, pdu: &Pdu) -> Result<(), AllocError>
     }
 }
 
-/// The type of a unit (PS3.8 section 9.3.1).
+/// The type of a PDU (PS3.8 section 9.3.1).
 fn kind_of(pdu: &Pdu) -> u8
     ensures { result ≡ kind pdu.now }
 {
@@ -189,7 +189,7 @@ fn kind_of(pdu: &Pdu) -> u8
     }
 }
 
-/// The octets of a unit: the one spelling that is written, with zero in the reserved octets and items by rising type
+/// The octets of a PDU: the one spelling that is written, with zero in the reserved octets and items by rising type
 /// (PS3.8 section 9.3). An `Err` where memory ran out.
 #[tactic(auto, using(crate::proofs::Spelled::short_body))]
 pub fn write_pdu(alloc: Global, pdu: &Pdu) -> Result<Vec<u8>, AllocError>

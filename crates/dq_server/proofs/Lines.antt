@@ -23,7 +23,7 @@ SpellsPiece-unsplit text r split none event spells = rw none at (SpellsPiece-spl
 pub other_word : (m n : ℕ) (xs ys : List ℕ) → m ≢ n → m ∷ xs ≡ n ∷ ys → ⊥
 other_word m n xs ys apart same = apart (ap (λ l. get_or l 0 0) same)
 
--- a line that begins with the word of a piece spells what stands behind the word
+-- a line that begins with the word of a piece spells what stands after the word
 piece_line : (line rest : List ℕ) → line ≡ codes "piece " ++ rest → (event : Event) → Spells line event → SpellsPiece rest event
 piece_line line rest begins (Open number) spells = absurd (other_word 112 111 _ _ (omega arith) (sym begins ∙ spells.1))
 piece_line line rest begins (Piece number octets) spells = rw (ap (drop 6) (sym begins ∙ spells.1)) spells.2

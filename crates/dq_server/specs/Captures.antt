@@ -13,7 +13,7 @@ line_feed = 10
 abbrev pub number_sign : ℕ
 number_sign = 35
 
--- Lines end by a line feed. What is behind the last one counts as a line too, empty where nothing is there.
+-- Lines end by a line feed. What is after the last one counts as a line too, empty where nothing is there.
 abbrev pub lines_of : List ℕ → List (List ℕ)
 lines_of text = slice_split (λ octet. octet == line_feed) text
 
@@ -33,7 +33,7 @@ IsNumber text number = (number < 2 ^ 64) × (text ≡ decimal number)
 abbrev pub AreOctets : List ℕ → List ℕ → Type 0
 AreOctets text octets = ((text ≡ codes "-") × (octets ≡ [])) ⊎ ((0 < length text) × (decode_of text ≡ Ok octets))
 
--- a piece behind its word: the number, a space, and the octets
+-- a piece after its word: the number, a space, and the octets
 abbrev pub SpellsPiece : List ℕ → Event → Type 0
 SpellsPiece text (Open number) = ⊥
 SpellsPiece text (Piece number octets) = (digits : List ℕ) × (hex : List ℕ) × (text ≡ digits ++ codes " " ++ hex) × IsNumber digits number × AreOctets hex octets

@@ -6,7 +6,7 @@ ghost use Rattle.dq_core.specs.Histories.{rises_from, newest_after};
 ghost use Rattle.dq_server.specs.Captures.{lines_of, is_skipped, IsNumber, AreOctets, SpellsPiece, Spells, AreCapture, IsFirstBadLine};
 
 use dq_core::Event;
-use dq_pdu::Listed;
+use dq_list::Listed;
 use hex::FromHexError;
 use std::alloc::{AllocError, Global};
 use thiserror::Error;
@@ -21,7 +21,7 @@ pub enum CaptureFault {
     NoMemory,
 }
 
-/// What stands behind a word at the front of a line.
+/// What stands after a word at the front of a line.
 fn behind<'a>(line: &'a str, word: &str) -> Option<&'a str>
     ensures { MatchOption result ((rest : List ℕ) → line.now ≡ word.now ++ rest → ⊥) (λ rest. line.now ≡ word.now ++ rest.now) }
 {

@@ -155,7 +155,7 @@ fn parse<'a>(alloc: Global, line: &'a [&'a str]) -> Result<(), clap::Error>
     }
 }
 
-/// Reads the words of a command line, those behind the program's own name.
+/// Reads the words of a command line, those after the program's own name.
 fn read_words<S: AsStr>(alloc: Global, words: &[S]) -> Result<(), clap::Error>
     ensures ok { IfOk result (λ _. fault_of command (line_of (map S.text words.now)) ≡ []) }
     ensures err { IfErr result (λ error. IsUnderstood (map S.text words.now) → kind_of error ≡ ErrorKind.OutOfMemory) }

@@ -2,7 +2,7 @@ use crate::capture::{CaptureFault, read_capture};
 use crate::printing::{PrintFault, print_replies};
 use crate::program::perform;
 use dq_core::{Event, Reply};
-use dq_pdu::Listed;
+use dq_list::Listed;
 use std::alloc::{AllocError, Global};
 use std::io::{self, Read, Write};
 use std::test::Fail;
@@ -34,7 +34,7 @@ impl Write for Narrow {
     }
 }
 
-/// A reader that is interrupted before each octet, and may fail behind the last.
+/// A reader that is interrupted before each octet, and may fail after the last.
 #[derive(Drop)]
 struct Torn<'a> {
     rest: &'a [u8],

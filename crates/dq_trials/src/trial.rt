@@ -4,7 +4,8 @@ ghost use Rattle.dq_dataset.specs.Reading.{reading};
 ghost use Rattle.dq_trials.specs.Answers.{answer_of, number_of, octets_text, answer_text};
 
 use crate::stop::Stop;
-use dq_dataset::{Listed, ReadFault, Syntax, laws, read, write};
+use dq_dataset::{ReadFault, Syntax, laws, read, write};
+use dq_list::Listed;
 use hex::FromHexError;
 use std::alloc::{AllocError, Global};
 use std::io::{self, Read, Write};

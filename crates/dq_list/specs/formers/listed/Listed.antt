@@ -14,10 +14,10 @@ use Rattle.std.specs.formers.vec.Vec as vec
 use Rattle.std.specs.declared.alloc.Global.{Global}
 use Rattle.std.specs.contracts.alloc.Global as heap
 use Rattle.std.specs.contracts.impls.GlobalAllocator.TheImpl.{ghosts}
-use Rattle.dq_dataset.specs.declared.listed.Listed.TheInside.{Inside}
-use Rattle.dq_dataset.specs.declared.listed.Listed.TheView.{view, invariant}
-use Rattle.dq_dataset.specs.contracts.listed.Listed as C
-use Rattle.dq_dataset.specs.contracts.listed.Listed.TheInside as I
+use Rattle.dq_list.specs.declared.listed.Listed.TheInside.{Inside}
+use Rattle.dq_list.specs.declared.listed.Listed.TheView.{view, invariant}
+use Rattle.dq_list.specs.contracts.listed.Listed as C
+use Rattle.dq_list.specs.contracts.listed.Listed.TheInside as I
 
 abbrev pub the_former : Former {0} → Former {0}
 the_former g = list g

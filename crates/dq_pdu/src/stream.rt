@@ -1,23 +1,23 @@
-//! The units of octets, read one after the other.
+//! The PDUs of octets, read one after the other.
 ghost use Rattle.std.specs.Prelude.{◌≡◌, ◌≤◌, ◌-◌, length, drop, IfOk, vec_len};
-ghost use Rattle.dq_pdu.specs.Stream.{units};
+ghost use Rattle.dq_pdu.specs.Stream.{pdus_in};
 
 use crate::fault::PduFault;
 use crate::pdu::Pdu;
 use crate::reading::{Front, front_of};
 use std::alloc::{AllocError, Global};
 
-/// The units that octets begin with, the fault behind them, and the octets that are left.
-pub(crate) fn units_of(
+/// The PDUs that octets begin with, the fault after them, and the octets that are left.
+pub(crate) fn pdus_of(
     alloc: Global,
     octets: &[u8],
 ) -> Result<(Vec<Pdu>, Option<PduFault>, &[u8]), AllocError>
-    ensures units { IfOk result (λ found. units octets.now ≡ record { list = found.0.items; rest = found.2.now; fault = found.1 }) }
+    ensures pdus { IfOk result (λ found. pdus_in octets.now ≡ record { list = found.0.items; rest = found.2.now; fault = found.1 }) }
     ensures end { IfOk result (λ found. (length found.2.now ≤ length octets.now) × (found.2.now ≡ drop (length octets.now - length found.2.now) octets.now)) }
 {
     let mut pdus = Vec::new(alloc);
     let mut rest = octets;
-    'units: loop {
+    'pdus_in: loop {
         match front_of(alloc, rest)? {
             Front::Partial => return Ok((pdus, None, rest)),
             Front::Faulty(fault) => return Ok((pdus, Some(fault), rest)),

@@ -1,5 +1,5 @@
 use Rattle.dq_assoc.proofs.Histories.{inputs_of-append, standing-append, inputs_from-append}
-use Rattle.dq_assoc.proofs.laws.more_units_add.Goals as goal
+use Rattle.dq_assoc.proofs.laws.more_pdus_add.Goals as goal
 
 pub returns-clause-inputs : goal.returns-clause-inputs
 returns-clause-inputs c = inputs_of-append

@@ -1,0 +1,9 @@
+//! A vector that contracts see as the list of its items.
+#![tactic(auto)]
+
+mod listed;
+
+pub use listed::Listed;
+
+#[cfg(test)]
+mod tests;
