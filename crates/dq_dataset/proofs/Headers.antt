@@ -117,22 +117,22 @@ spelling_long Explicit known (Some vr) extent behind (agreed, a, b, named, more,
 abbrev header_of : Tag → Content → Header
 header_of tag content = record { tag = tag; vr = vr_of (known_vr tag) content; content = content }
 
-abbrev whole_step : Tag → Content → List ℕ → Unit {0} → Result (Header × List ℕ) ReadFault
+abbrev pub whole_step : Tag → Content → List ℕ → Unit {0} → Result (Header × List ℕ) ReadFault
 whole_step tag content rest shallow = check (fits (length_of content) rest) Truncated >>= λ whole. Ok (header_of tag content, rest)
 
-abbrev content_step : ℕ → Tag → List ℕ → Content → Result (Header × List ℕ) ReadFault
+abbrev pub content_step : ℕ → Tag → List ℕ → Content → Result (Header × List ℕ) ReadFault
 content_step levels tag rest content = check (may_nest levels content) TooDeep >>= whole_step tag content rest
 
-abbrev spelling_step : ℕ → Tag → (Option Vr × Option ℕ) × List ℕ → Result (Header × List ℕ) ReadFault
+abbrev pub spelling_step : ℕ → Tag → (Option Vr × Option ℕ) × List ℕ → Result (Header × List ℕ) ReadFault
 spelling_step levels tag spelling = content_of (known_vr tag) spelling.0.0 spelling.0.1 >>= content_step levels tag spelling.1
 
-abbrev rises_step : Syntax → ℕ → Tag → List ℕ → Unit {0} → Result (Header × List ℕ) ReadFault
+abbrev pub rises_step : Syntax → ℕ → Tag → List ℕ → Unit {0} → Result (Header × List ℕ) ReadFault
 rises_step syntax levels tag rest rises = spelling_at syntax (known_vr tag) rest >>= spelling_step levels tag
 
-abbrev placed_step : Syntax → ℕ → Option Tag → Tag → List ℕ → Unit {0} → Result (Header × List ℕ) ReadFault
+abbrev pub placed_step : Syntax → ℕ → Option Tag → Tag → List ℕ → Unit {0} → Result (Header × List ℕ) ReadFault
 placed_step syntax levels last tag rest placed = check (follows last tag) TagOrder >>= rises_step syntax levels tag rest
 
-abbrev tag_step : Syntax → ℕ → Option Tag → Tag × List ℕ → Result (Header × List ℕ) ReadFault
+abbrev pub tag_step : Syntax → ℕ → Option Tag → Tag × List ℕ → Result (Header × List ℕ) ReadFault
 tag_step syntax levels last tag = check (not (eqb tag.0.group 0xFFFE)) BadItem >>= placed_step syntax levels last tag.0 tag.1
 
 not_true : (b : Bool) → not b ≡ true → b ≡ false
@@ -192,10 +192,10 @@ header_long syntax tag content octets header =
 
 -- ---- the header of an item
 
-abbrev item_length_step : Option ℕ × List ℕ → Result (Option ℕ × List ℕ) ReadFault
+abbrev pub item_length_step : Option ℕ × List ℕ → Result (Option ℕ × List ℕ) ReadFault
 item_length_step n = check (fits n.0 n.1) Truncated >>= λ whole. Ok n
 
-abbrev item_step : Tag × List ℕ → Result (Option ℕ × List ℕ) ReadFault
+abbrev pub item_step : Tag × List ℕ → Result (Option ℕ × List ℕ) ReadFault
 item_step tag = check (eqb tag.0.group 0xFFFE && eqb tag.0.element 0xE000) BadItem >>= λ is_item. long_length_at tag.1 >>= item_length_step
 
 both_true : (a b : Bool) → (a && b) ≡ true → (a ≡ true) × (b ≡ true)
@@ -265,10 +265,10 @@ filled_end : (b : Bool) (bytes rest : List ℕ) → ended b bytes ≡ Some rest 
 filled_end true bytes rest e = (refl, some_is bytes rest e)
 filled_end false bytes rest e = absurd cc
 
-abbrev zero_step : ℕ × List ℕ → Result (Option (List ℕ)) ReadFault
+abbrev pub zero_step : ℕ × List ℕ → Result (Option (List ℕ)) ReadFault
 zero_step n = check (eqb n.0 0) BadItem >>= λ ok. Ok (Some n.1)
 
-abbrev end_step : ℕ → Tag × List ℕ → Result (Option (List ℕ)) ReadFault
+abbrev pub end_step : ℕ → Tag × List ℕ → Result (Option (List ℕ)) ReadFault
 end_step end tag = cond (eqb tag.0.group 0xFFFE && eqb tag.0.element end) (number_at w32 tag.1 >>= zero_step) (Ok None)
 
 delimited_end : (b : Bool) (r : Result (Option (List ℕ)) ReadFault) (rest : List ℕ) → cond b r (Ok None) ≡ Ok (Some rest) → (b ≡ true) × (r ≡ Ok (Some rest))

@@ -9,7 +9,7 @@ use Rattle.dq_dataset.specs.declared.header.Header.{Header}
 use Rattle.dq_dataset.specs.declared.data_set.Value.{Value}
 use Rattle.dq_dataset.specs.Reading.{◌>>=◌, length_of, header_at, value_by, readers}
 use Rattle.dq_dataset.specs.Grammar.{AreOctets}
-use Rattle.dq_dataset.specs.Lending.{Spelled, value_octets, next_at, lent_after, lent_in, lent_from}
+use Rattle.dq_dataset.specs.Lending.{Spelled, inner_syntax, spelled_as, value_octets, next_at, lent_after, lent_in, lent_from}
 use Rattle.dq_dataset.proofs.Fields.{bind_ok, ok_is}
 use Rattle.dq_dataset.proofs.Headers.{ReadsHeader, header_takes, header_long}
 use Rattle.dq_dataset.proofs.ReadIsSpelled.{readers_sound, ReadsValue, value_takes}
@@ -58,8 +58,8 @@ next_shorter syntax last octets found ok e =
 abbrev Lent : Type 0
 Lent = List (Result Spelled ReadFault)
 
-abbrev spelled : Found → Spelled
-spelled found = record { tag = found.0.0.tag; vr = found.0.0.vr; octets = found.0.1 }
+abbrev spelled : Syntax → Found → Spelled
+spelled syntax found = spelled_as syntax found.0.0 found.0.1
 
 -- the same list after an element
 same_choice : (b : Bool) (x y : Lent) (f : Result Spelled ReadFault) → x ≡ y → cond b x (f ∷ x) ≡ cond b y (f ∷ y)
@@ -69,11 +69,11 @@ abbrev SameLent : ℕ → Syntax → Type 0
 SameLent n syntax = (m : ℕ) (last : Option Tag) (octets : List ℕ) → AreOctets octets → length octets ≤ n → length octets ≤ m → lent_in n syntax last octets ≡ lent_in m syntax last octets
 
 same_after : (n m : ℕ) (syntax : Syntax) (last : Option Tag) (octets : List ℕ) (r : Result Found ReadFault) → SameLent n syntax → AreOctets octets → length octets ≤ suc n → length octets ≤ suc m → next_at syntax last octets ≡ r
-    → lent_after (lent_in n syntax) r ≡ lent_after (lent_in m syntax) r
+    → lent_after syntax (lent_in n syntax) r ≡ lent_after syntax (lent_in m syntax) r
 same_after n m syntax last octets (Err f) ih ok le le' e = refl
 same_after n m syntax last octets (Ok found) ih ok le le' e =
     let s = next_shorter syntax last octets found ok e in
-    same_choice (eqb found.0.0.tag.element 0) _ _ (Ok (spelled found)) (ih m (Some found.0.0.tag) found.1 s.0 (omega (arith, s.1)) (omega (arith, s.1)))
+    same_choice (eqb found.0.0.tag.element 0) _ _ (Ok (spelled syntax found)) (ih m (Some found.0.0.tag) found.1 s.0 (omega (arith, s.1)) (omega (arith, s.1)))
 
 lent_nothing : (m : ℕ) (syntax : Syntax) (last : Option Tag) (octets : List ℕ) → length octets ≡ 0 → lent_in m syntax last octets ≡ []
 unfolding lent_in
@@ -91,11 +91,11 @@ same_lent (suc n) syntax (suc m) last octets ok le le' =
 -- ---- one step
 
 lent_some : (k : ℕ) (syntax : Syntax) (last : Option Tag) (octets : List ℕ) (r : Result Found ReadFault) → length octets ≡ suc k → next_at syntax last octets ≡ r
-    → lent_from syntax last octets ≡ lent_after (lent_in k syntax) r
+    → lent_from syntax last octets ≡ lent_after syntax (lent_in k syntax) r
 unfolding lent_in
 lent_some k syntax last octets r len e =
     let some : eqb (length octets) 0 ≡ false = ne_eqb (length octets) 0 (λ bad. omega (arith, len)) in
-    ap (λ (n : ℕ). lent_in n syntax last octets) len ∙ ap (λ (b : Bool). cond b [] (lent_after (lent_in k syntax) (next_at syntax last octets))) some ∙ ap (lent_after (lent_in k syntax)) e
+    ap (λ (n : ℕ). lent_in n syntax last octets) len ∙ ap (λ (b : Bool). cond b [] (lent_after syntax (lent_in k syntax) (next_at syntax last octets))) some ∙ ap (lent_after syntax (lent_in k syntax)) e
 
 a_step : (n : ℕ) → 0 < n → (k : ℕ) × (n ≡ suc k)
 a_step zero h = absurd (omega arith)
@@ -108,20 +108,21 @@ pub lent_end : (syntax : Syntax) (last : Option Tag) (octets : List ℕ) → len
 lent_end syntax last octets e = lent_nothing (length octets) syntax last octets e
 
 lent_next : (syntax : Syntax) (last : Option Tag) (octets : List ℕ) (found : Found) → AreOctets octets → 0 < length octets → next_at syntax last octets ≡ Ok found
-    → lent_from syntax last octets ≡ cond (eqb found.0.0.tag.element 0) (lent_from syntax (Some found.0.0.tag) found.1) (Ok (spelled found) ∷ lent_from syntax (Some found.0.0.tag) found.1)
+    → lent_from syntax last octets ≡ cond (eqb found.0.0.tag.element 0) (lent_from syntax (Some found.0.0.tag) found.1) (Ok (spelled syntax found) ∷ lent_from syntax (Some found.0.0.tag) found.1)
 lent_next syntax last octets found ok some e =
     let k = a_step (length octets) some in
     let s = next_shorter syntax last octets found ok e in
     lent_some k.0 syntax last octets (Ok found) k.1 e
-    ∙ same_choice (eqb found.0.0.tag.element 0) _ _ (Ok (spelled found)) (same_lent k.0 syntax (length found.1) (Some found.0.0.tag) found.1 s.0 (omega (arith, s.1, k.1)) (omega arith))
+    ∙ same_choice (eqb found.0.0.tag.element 0) _ _ (Ok (spelled syntax found)) (same_lent k.0 syntax (length found.1) (Some found.0.0.tag) found.1 s.0 (omega (arith, s.1, k.1)) (omega arith))
 
 pub lent_dropped : (syntax : Syntax) (last : Option Tag) (octets : List ℕ) (h : Header) (value rest : List ℕ) → AreOctets octets → 0 < length octets → next_at syntax last octets ≡ Ok ((h, value), rest)
     → h.tag.element ≡ 0 → lent_from syntax last octets ≡ lent_from syntax (Some h.tag) rest
 lent_dropped syntax last octets h value rest ok some e none = lent_next syntax last octets ((h, value), rest) ok some e ∙ rw (eq-eqb h.tag.element 0 none) refl
 
-pub lent_element : (syntax : Syntax) (last : Option Tag) (octets : List ℕ) (h : Header) (value rest : List ℕ) → AreOctets octets → 0 < length octets → next_at syntax last octets ≡ Ok ((h, value), rest)
-    → h.tag.element ≢ 0 → lent_from syntax last octets ≡ Ok (record { tag = h.tag; vr = h.vr; octets = value }) ∷ lent_from syntax (Some h.tag) rest
-lent_element syntax last octets h value rest ok some e ne = lent_next syntax last octets ((h, value), rest) ok some e ∙ rw (ne_eqb h.tag.element 0 ne) refl
+pub lent_element : (syntax : Syntax) (last : Option Tag) (octets : List ℕ) (h : Header) (value rest : List ℕ) (inner : Syntax) → AreOctets octets → 0 < length octets
+    → next_at syntax last octets ≡ Ok ((h, value), rest) → h.tag.element ≢ 0 → inner ≡ inner_syntax syntax h.content
+    → lent_from syntax last octets ≡ Ok (record { tag = h.tag; vr = h.vr; syntax = inner; octets = value }) ∷ lent_from syntax (Some h.tag) rest
+lent_element syntax last octets h value rest inner ok some e ne is = rw is (lent_next syntax last octets ((h, value), rest) ok some e ∙ rw (ne_eqb h.tag.element 0 ne) refl)
 
 pub not_empty : (b : Bool) (octets : List ℕ) → b ≡ eqb (length octets) 0 → b ≡ false → 0 < length octets
 not_empty b [] e f = absurd cc

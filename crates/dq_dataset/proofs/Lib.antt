@@ -16,3 +16,9 @@ pub mod SameReaders
 pub mod LentAgrees
 pub mod Copies
 pub mod FaultStays
+pub mod Edits
+pub mod HeaderFaults
+pub mod FaultyIsRead
+pub mod ReadIsFaulty
+pub mod LentFaults
+pub mod Lengths

@@ -23,16 +23,16 @@ use Rattle.dq_dataset.proofs.Views.{as_elements-elements_of, elements_of-with_va
 use Rattle.dq_dataset.proofs.Fields.{length_four}
 use Rattle.dq_dataset.proofs.Headers.{header_again, header_long, spelling_long, item_again, item_long, Trails, end_again, end_other}
 
-extent_fits : (extent : Option ℕ) (octets rest : List ℕ) → HasExtent extent octets → fits extent (octets ++ rest) ≡ true
+pub extent_fits : (extent : Option ℕ) (octets rest : List ℕ) → HasExtent extent octets → fits extent (octets ++ rest) ≡ true
 extent_fits None octets rest has = refl
 extent_fits (Some n) octets rest has = le-leb n (length (octets ++ rest)) (omega (arith, length-append octets rest))
 
 -- a sequence may be nested here, and the length is no longer than what is left
-value_nests : (levels : ℕ) (vr : Vr) (content : Content) (octets : List ℕ) (held : Value) → SpellsValue levels vr content octets held → may_nest levels content ≡ true
+pub value_nests : (levels : ℕ) (vr : Vr) (content : Content) (octets : List ℕ) (held : Value) → SpellsValue levels vr content octets held → may_nest levels content ≡ true
 value_nests levels vr content octets held (plain _ _ n _ len) = refl
 value_nests levels vr content octets held (nested fewer _ syntax extent _ items has spells) = lt-ltb 0 (suc fewer) (omega arith)
 
-value_fits : (levels : ℕ) (vr : Vr) (content : Content) (octets : List ℕ) (held : Value) (rest : List ℕ) → SpellsValue levels vr content octets held → fits (length_of content) (octets ++ rest) ≡ true
+pub value_fits : (levels : ℕ) (vr : Vr) (content : Content) (octets : List ℕ) (held : Value) (rest : List ℕ) → SpellsValue levels vr content octets held → fits (length_of content) (octets ++ rest) ≡ true
 value_fits levels vr content octets held rest (plain _ _ n _ len) = extent_fits (Some n) octets rest len
 value_fits levels vr content octets held rest (nested fewer _ syntax extent _ items has spells) = extent_fits extent octets rest has
 
@@ -42,15 +42,15 @@ a_step_is_left P k zero lt h = absurd (omega arith)
 a_step_is_left P k (suc m) lt h = h m (omega arith)
 
 -- reading the octets with what follows them
-abbrev ElementsAgain : Bound → Syntax → ℕ → Option Tag → List ℕ → ElementList → Type 0
+abbrev pub ElementsAgain : Bound → Syntax → ℕ → Option Tag → List ℕ → ElementList → Type 0
 ElementsAgain bound syntax levels last octets d =
     (t : List ℕ) → Trails bound t → (m : ℕ) → length (octets ++ t) ≤ m → (readers (suc m)).elements bound syntax levels last (octets ++ t) ≡ Ok (elements_of d, t)
 
-abbrev ItemsAgain : Bound → Syntax → ℕ → List ℕ → List ElementList → Type 0
+abbrev pub ItemsAgain : Bound → Syntax → ℕ → List ℕ → List ElementList → Type 0
 ItemsAgain bound syntax levels octets ds =
     (t : List ℕ) → Trails bound t → (m : ℕ) → length (octets ++ t) ≤ m → (readers (suc m)).items bound syntax levels (octets ++ t) ≡ Ok (ds, t)
 
-abbrev ValueAgain : ℕ → Vr → Content → List ℕ → Value → Type 0
+abbrev pub ValueAgain : ℕ → Vr → Content → List ℕ → Value → Type 0
 ValueAgain levels vr content octets held =
     (t : List ℕ) (m : ℕ) → length (octets ++ t) ≤ m → value_by (readers (suc m)) levels vr content (octets ++ t) ≡ Ok (held, t)
 
@@ -98,7 +98,7 @@ no_more_again : (bound : Bound) (syntax : Syntax) (levels : ℕ) (last : Option 
 unfolding readers elements_by element_by elements_after
 no_more_again bound syntax levels last octets end t trails m le = rw (end_again bound 0xE00D octets t (lit< tt) end trails) refl
 
-content_again : (syntax : Syntax) (levels : ℕ) (extent : Option ℕ) (octets : List ℕ) (d : ElementList) → HasExtent extent octets → ElementsAgain (bound_of extent) syntax levels None octets d
+pub content_again : (syntax : Syntax) (levels : ℕ) (extent : Option ℕ) (octets : List ℕ) (d : ElementList) → HasExtent extent octets → ElementsAgain (bound_of extent) syntax levels None octets d
     → (t : List ℕ) (m : ℕ) → length (octets ++ t) ≤ m → content_by (readers (suc m)) syntax levels extent (octets ++ t) ≡ Ok (elements_of d, t)
 unfolding content_by
 content_again syntax levels None octets d has again t m le = again t tt m le
@@ -137,7 +137,7 @@ unfolding value_by
 plain_again levels vr n octets len t m le = rw (take_at octets t n len, drop_at octets t n len) refl
 
 mutual
-  elements_again : (bound : Bound) (syntax : Syntax) (levels : ℕ) (last : Option Tag) (octets : List ℕ) (d : ElementList) → Spells bound syntax levels last octets d
+  pub elements_again : (bound : Bound) (syntax : Syntax) (levels : ℕ) (last : Option Tag) (octets : List ℕ) (d : ElementList) → Spells bound syntax levels last octets d
       → ElementsAgain bound syntax levels last octets d
   elements_again bound syntax levels last octets d (no_more _ _ _ _ _ end) = no_more_again bound syntax levels last octets end
   elements_again bound syntax levels last octets d (more _ _ _ _ _ _ tag content header value rest held others placed is_header value_spelled others_spelled e1 e2) =
@@ -147,12 +147,12 @@ mutual
       (value_again levels (vr_of (known_vr tag) content) content value held value_spelled)
       (elements_again bound syntax levels (Some tag) rest others others_spelled)))
 
-  value_again : (levels : ℕ) (vr : Vr) (content : Content) (octets : List ℕ) (held : Value) → SpellsValue levels vr content octets held → ValueAgain levels vr content octets held
+  pub value_again : (levels : ℕ) (vr : Vr) (content : Content) (octets : List ℕ) (held : Value) → SpellsValue levels vr content octets held → ValueAgain levels vr content octets held
   value_again levels vr content octets held (plain _ _ n _ len) = plain_again levels vr n octets len
   value_again levels vr content octets held (nested fewer _ syntax extent _ items has spells) =
       nested_again fewer vr syntax extent octets items has (items_again (bound_of extent) syntax fewer octets items spells)
 
-  items_again : (bound : Bound) (syntax : Syntax) (levels : ℕ) (octets : List ℕ) (ds : List ElementList) → SpellsItems bound syntax levels octets ds → ItemsAgain bound syntax levels octets ds
+  pub items_again : (bound : Bound) (syntax : Syntax) (levels : ℕ) (octets : List ℕ) (ds : List ElementList) → SpellsItems bound syntax levels octets ds → ItemsAgain bound syntax levels octets ds
   items_again bound syntax levels octets ds (no_item _ _ _ _ end) = no_item_again bound syntax levels octets end
   items_again bound syntax levels octets ds (one_item _ _ _ _ extent header value rest first others is_header has first_spelled others_spelled e) =
       subst (λ (o : List ℕ). ItemsAgain bound syntax levels o (first ∷ others)) (sym e)

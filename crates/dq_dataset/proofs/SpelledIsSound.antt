@@ -31,7 +31,7 @@ same_number n = rw (eq-eqb n n refl) refl
 
 -- ---- the order of tags
 
-or_true : (a b : Bool) → (a || b) ≡ true → (a ≡ true) ⊎ (b ≡ true)
+pub or_true : (a b : Bool) → (a || b) ≡ true → (a ≡ true) ⊎ (b ≡ true)
 or_true true b e = inl refl
 or_true false b e = inr e
 
@@ -42,28 +42,27 @@ or_right : (a b : Bool) → b ≡ true → (a || b) ≡ true
 or_right true b e = refl
 or_right false b e = e
 
-and_true : (a b : Bool) → (a && b) ≡ true → (a ≡ true) × (b ≡ true)
+pub and_true : (a b : Bool) → (a && b) ≡ true → (a ≡ true) × (b ≡ true)
 and_true true b e = (refl, e)
 and_true false b e = absurd cc
 
-IsBelow : Tag → Tag → Type 0
+abbrev pub IsBelow : Tag → Tag → Type 0
 IsBelow a b = (a.group < b.group) ⊎ ((a.group ≡ b.group) × (a.element < b.element))
 
-below_means : (a b : Tag) → is_below a b ≡ true → IsBelow a b
-unfolding is_below IsBelow
+pub below_means : (a b : Tag) → is_below a b ≡ true → IsBelow a b
+unfolding is_below
 below_means a b e =
     elim (or_true _ _ e) [
       | inl lt ↦ inl (ltb-true a.group b.group lt)
       | inr both ↦ let p = and_true _ _ both in inr (eqb-true a.group b.group p.0, ltb-true a.element b.element p.1)
     ]
 
-means_below : (a b : Tag) → IsBelow a b → is_below a b ≡ true
-unfolding is_below IsBelow
+pub means_below : (a b : Tag) → IsBelow a b → is_below a b ≡ true
+unfolding is_below
 means_below a b (inl lt) = or_left _ _ (lt-ltb a.group b.group lt)
 means_below a b (inr p) = or_right (ltb a.group b.group) _ (rw (p.0, lt-ltb a.element b.element p.1) (same_number b.group))
 
 is_below-trans : (a b c : Tag) → is_below a b ≡ true → is_below b c ≡ true → is_below a c ≡ true
-unfolding IsBelow
 is_below-trans a b c e f =
     let p = below_means a b e in
     let q = below_means b c f in
@@ -80,7 +79,7 @@ earlier : (last : Option Tag) (tag next : Tag) → follows last tag ≡ true →
 earlier last tag next e h = record { rises = follows-trans last tag next e h.rises; no_delimiter = h.no_delimiter; no_length = h.no_length; group = h.group; number = h.number }
 
 -- what stands after a tag stands after an earlier one
-after_earlier : (levels : ℕ) (last : Option Tag) (tag : Tag) (d : ElementList) → follows last tag ≡ true → AreElements levels (Some tag) d → AreElements levels last d
+pub after_earlier : (levels : ℕ) (last : Option Tag) (tag : Tag) (d : ElementList) → follows last tag ≡ true → AreElements levels (Some tag) d → AreElements levels last d
 after_earlier levels last tag no_elements e h = tt
 after_earlier levels last tag (element t vr octets rest) e h = (earlier last tag t e h.0, h.1, h.2)
 after_earlier levels last tag (sequence t vr items rest) e h = (earlier last tag t e h.0, h.1, h.2, h.3, h.4)
@@ -151,11 +150,11 @@ even-padded : (vr : Vr) (octets : List ℕ) → length (padded vr octets) % 2 �
 even-padded vr octets = even_by (nat_eq (length octets % 2) 0) octets (pad_of vr) refl
 
 -- what a value has
-abbrev IsValue : ℕ → Tag → Vr → Value → Type 0
+abbrev pub IsValue : ℕ → Tag → Vr → Value → Type 0
 IsValue levels tag vr (Octets octets) = IsPlain tag vr octets
 IsValue levels tag vr (Items items) = IsSequence tag vr × (0 < levels) × AreItems (levels - 1) (items_of items)
 
-with_value_is : (levels : ℕ) (last : Option Tag) (tag : Tag) (vr : Vr) (held : Value) (others : ElementList) → IsElementTag last tag → IsValue levels tag vr held → AreElements levels (Some tag) others
+pub with_value_is : (levels : ℕ) (last : Option Tag) (tag : Tag) (vr : Vr) (held : Value) (others : ElementList) → IsElementTag last tag → IsValue levels tag vr held → AreElements levels (Some tag) others
     → AreElements levels last (with_value (record { tag = tag; vr = vr; value = held }) held others)
 with_value_is levels last tag vr (Octets octets) others t v rest = (t, v, rest)
 with_value_is levels last tag vr (Items items) others t v rest = (t, v.0, v.1, v.2, rest)

@@ -1,17 +1,26 @@
 -- What a reader answers, beside the grammar.
-use Rattle.std.proofs.Common.{ℕ, List, Result, Ok, Err, sym, ◌∙◌, inl, inr}
-use Rattle.std.specs.Prelude.{IfOk}
+use Rattle.std.proofs.Common.{◌≡◌, ◌⊎◌, ℕ, List, Result, Ok, Err, sym, ◌∙◌, inl, inr}
+use Rattle.std.specs.Prelude.{IfOk, IfErr}
 use Rattle.dq_dataset.specs.declared.fault.ReadFault.{ReadFault}
 use Rattle.dq_dataset.specs.declared.header.Syntax.{Syntax}
 use Rattle.dq_dataset.specs.Tree.{ElementList}
 use Rattle.dq_dataset.specs.Reading.{Gives, reading}
+use Rattle.dq_dataset.specs.declared.fault.ReadFault.TheVariants.{NoMemory}
+use Rattle.dq_dataset.specs.Faults.{IsFaulty}
 use Rattle.dq_dataset.specs.Grammar.{AreOctets, IsSpelled}
 use Rattle.dq_dataset.proofs.ReadIsSpelled.{reading_is_spelled}
+use Rattle.dq_dataset.proofs.ReadIsFaulty.{read_is_faulty}
 use Rattle.dq_dataset.proofs.SpelledIsRead.{spelled_is_read}
 
 pub found_is_spelled : (syntax : Syntax) (octets : List ℕ) (r : Result ElementList ReadFault) → AreOctets octets → Gives (λ d. d) r (reading syntax octets) → IfOk r (λ d. IsSpelled syntax octets d)
 found_is_spelled syntax octets (Ok d) ok e = reading_is_spelled syntax octets d ok e
 found_is_spelled syntax octets (Err f) ok e = tt
+
+pub err_is_faulty : (syntax : Syntax) (octets : List ℕ) (r : Result ElementList ReadFault) → AreOctets octets → Gives (λ d. d) r (reading syntax octets)
+    → IfErr r (λ f. (f ≡ NoMemory) ⊎ IsFaulty syntax octets f)
+err_is_faulty syntax octets (Ok d) ok e = tt
+err_is_faulty syntax octets (Err f) ok (inl memory) = inl memory
+err_is_faulty syntax octets (Err f) ok (inr e) = inr (read_is_faulty syntax octets f ok e)
 
 pub spelled_is_given : (syntax : Syntax) (octets : List ℕ) (r : Result ElementList ReadFault) (d : ElementList) → IsSpelled syntax octets d → Gives (λ d. d) r (reading syntax octets) → Gives (λ d. d) r (Ok d)
 spelled_is_given syntax octets (Ok x) d spells e = sym (spelled_is_read syntax octets d spells) ∙ e

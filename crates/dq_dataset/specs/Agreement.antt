@@ -1,45 +1,59 @@
--- What is lent agrees with what is read.
-use Rattle.std.specs.Prelude.{◌≡◌, List, [], ◌∷◌, ℕ, Result, Ok, Err}
+-- What is lent of octets, beside the grammar: one for each element, and then the first fault.
+use Rattle.std.specs.Prelude.{◌≡◌, List, [], ◌∷◌, ◌++◌, ℕ, Option, None, Result, Ok, Err, ◌⊎◌}
+use Rattle.dq_vr.specs.declared.Tag.{Tag}
 use Rattle.dq_vr.specs.declared.Vr.{Vr}
+use Rattle.dq_vr.specs.Dictionary.{known_vr}
+use Rattle.std.specs.Prelude.{Some}
 use Rattle.dq_dataset.specs.declared.fault.ReadFault.{ReadFault}
 use Rattle.dq_dataset.specs.declared.header.Syntax.{Syntax}
+use Rattle.dq_dataset.specs.declared.header.Content.{Content}
 use Rattle.dq_dataset.specs.declared.header.Bound.TheVariants.{Filled}
 use Rattle.dq_dataset.specs.declared.data_set.Element.{Element}
 use Rattle.dq_dataset.specs.declared.data_set.Value.{Value}
 use Rattle.dq_dataset.specs.declared.data_set.Value.TheVariants.{Octets, Items}
-use Rattle.dq_dataset.specs.Tree.{ElementList}
+use Rattle.dq_dataset.specs.Tree.{ElementList, no_elements}
 use Rattle.dq_dataset.specs.View.{elements_of}
-use Rattle.dq_dataset.specs.Rules.{padded}
-use Rattle.dq_dataset.specs.Grammar.{SpellsItems}
+use Rattle.dq_dataset.specs.Rules.{padded, vr_of}
+use Rattle.dq_dataset.specs.Grammar.{IsPlaced, IsHeader, SpellsValue, SpellsItems, kept_value, IsSpelled}
+use Rattle.dq_dataset.specs.Faults.{HasFault}
 use Rattle.dq_dataset.specs.Lending.{Spelled}
 
--- The octets are those of the value before its pad, or spell its items, up to the last one.
-abbrev pub IsLentValue : Vr → List ℕ → Value → Type 0
-IsLentValue vr octets (Octets held) = held ≡ padded vr octets
-IsLentValue vr octets (Items items) = (syntax : Syntax) × SpellsItems Filled syntax 15 octets items
+-- The octets are those of the value before its pad, or spell its items, up to the last one, in the syntax that is lent.
+abbrev pub IsLentValue : Spelled → Value → Type 0
+IsLentValue spelled (Octets held) = held ≡ padded spelled.vr spelled.octets
+IsLentValue spelled (Items items) = SpellsItems Filled spelled.syntax 15 spelled.octets items
 
 pub record IsLent (spelled : Spelled) (element : Element) : Type 0 where
   pub tag : spelled.tag ≡ element.tag
   pub vr : spelled.vr ≡ element.vr
-  pub value : IsLentValue spelled.vr spelled.octets element.value
+  pub value : IsLentValue spelled element.value
 
--- One is lent for each element, in order.
-abbrev pub Lends : List (Result Spelled ReadFault) → List Element → Type 0
-Lends [] [] = Unit {0}
-Lends [] (e ∷ es) = ⊥
-Lends (Ok x ∷ xs) [] = ⊥
-Lends (Ok x ∷ xs) (e ∷ es) = IsLent x e × Lends xs es
-Lends (Err f ∷ xs) [] = ⊥
-Lends (Err f ∷ xs) (e ∷ es) = ⊥
+-- One is lent for each element, in order, and then the last ones.
+abbrev pub Lends : List (Result Spelled ReadFault) → List Element → List (Result Spelled ReadFault) → Type 0
+Lends xs [] last = xs ≡ last
+Lends [] (e ∷ es) last = ⊥
+Lends (Ok x ∷ xs) (e ∷ es) last = IsLent x e × Lends xs es last
+Lends (Err f ∷ xs) (e ∷ es) last = ⊥
 
--- The fault comes last, and no other does.
-abbrev pub EndsIn : ReadFault → List (Result Spelled ReadFault) → Type 0
-EndsIn f [] = ⊥
-EndsIn f (Ok x ∷ xs) = EndsIn f xs
-EndsIn f (Err g ∷ []) = g ≡ f
-EndsIn f (Err g ∷ x ∷ xs) = ⊥
+-- After the tag last stands no element at the front of the octets.
+abbrev pub NoElement : Syntax → Option Tag → List ℕ → Type 0
+NoElement syntax last octets =
+    (tag : Tag) (content : Content) (header value rest : List ℕ) (held : Value) → IsPlaced last tag → IsHeader syntax tag content header
+    → SpellsValue 16 (vr_of (known_vr tag) content) content value held → octets ≡ header ++ (value ++ rest) → ⊥
 
--- Each element of the data set, or elements up to the first fault.
-abbrev pub AgreesWith : List (Result Spelled ReadFault) → Result ElementList ReadFault → Type 0
-AgreesWith lent (Ok d) = Lends lent (elements_of d)
-AgreesWith lent (Err f) = EndsIn f lent
+-- The octets begin with these elements, all that stand before the first fault.
+pub data FaultAfter : Syntax → Option Tag → List ℕ → ElementList → ReadFault → Type 0 where
+  at_once : (syntax : Syntax) (last : Option Tag) (octets : List ℕ) (fault : ReadFault)
+      → NoElement syntax last octets → HasFault Filled syntax 16 last octets fault → FaultAfter syntax last octets no_elements fault
+  after_one : (syntax : Syntax) (last : Option Tag) (octets : List ℕ) (all : ElementList) (fault : ReadFault)
+      (tag : Tag) (content : Content) (header value rest : List ℕ) (held : Value) (others : ElementList)
+      → IsPlaced last tag → IsHeader syntax tag content header → SpellsValue 16 (vr_of (known_vr tag) content) content value held
+      → FaultAfter syntax (Some tag) rest others fault
+      → octets ≡ header ++ (value ++ rest) → all ≡ kept_value tag (vr_of (known_vr tag) content) held others
+      → FaultAfter syntax last octets all fault
+
+-- One is lent for each element of the data set, or for each before the first fault, and then that fault.
+abbrev pub AgreesWith : Syntax → List ℕ → List (Result Spelled ReadFault) → Type 0
+AgreesWith syntax octets lent =
+    ((d : ElementList) × IsSpelled syntax octets d × Lends lent (elements_of d) [])
+    ⊎ ((d : ElementList) × (fault : ReadFault) × FaultAfter syntax None octets d fault × Lends lent (elements_of d) (Err fault ∷ []))

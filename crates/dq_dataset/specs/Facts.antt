@@ -6,8 +6,7 @@ use Rattle.dq_vr.specs.declared.Vr.{Vr}
 use Rattle.dq_vr.specs.declared.Vr.TheVariants.{SQ, UN}
 use Rattle.dq_vr.specs.Dictionary.{known_vr}
 use Rattle.dq_dataset.specs.Tree.{ElementList, no_elements, element, sequence, ItemList, no_items, item}
-use Rattle.dq_dataset.specs.Rules.{is_sequence}
-use Rattle.dq_dataset.specs.Reading.{follows}
+use Rattle.dq_dataset.specs.Rules.{is_sequence, follows}
 
 -- The tag is that of an element, above the one before it.
 pub record IsElementTag (last : Option Tag) (tag : Tag) : Type 0 where

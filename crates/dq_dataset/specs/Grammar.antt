@@ -17,8 +17,7 @@ use Rattle.dq_dataset.specs.declared.data_set.Value.{Value}
 use Rattle.dq_dataset.specs.declared.data_set.Value.TheVariants.{Octets, Items}
 use Rattle.dq_dataset.specs.Tree.{ElementList, no_elements}
 use Rattle.dq_dataset.specs.View.{with_value}
-use Rattle.dq_dataset.specs.Rules.{agrees, content_of, vr_of, padded}
-use Rattle.dq_dataset.specs.Reading.{follows}
+use Rattle.dq_dataset.specs.Rules.{agrees, content_of, vr_of, padded, follows}
 use Rattle.dq_dataset.specs.Canonical.{tag_octets}
 
 abbrev pub AreOctets : List ℕ → Type 0

@@ -4,14 +4,18 @@ use Rattle.dq_vr.specs.declared.Tag.{Tag}
 use Rattle.dq_vr.specs.declared.Vr.{Vr}
 use Rattle.dq_dataset.specs.declared.fault.ReadFault.{ReadFault}
 use Rattle.dq_dataset.specs.declared.header.Syntax.{Syntax}
+use Rattle.dq_dataset.specs.declared.header.Content.{Content}
+use Rattle.dq_dataset.specs.declared.header.Content.TheVariants.{Plain, Sequence}
 use Rattle.dq_dataset.specs.declared.header.Header.{Header}
 use Rattle.dq_dataset.specs.declared.data_set.Value.{Value}
 use Rattle.dq_dataset.specs.Reading.{◌>>=◌, length_of, header_at, value_by, readers}
 
--- An element as it is spelled: its tag, the VR that the data set has, and the octets of its value, without the end of an undefined length.
+-- An element as it is spelled: its tag, the VR that the data set has, the syntax in which its items are spelled, where it has
+-- items, and the octets of its value, without the end of an undefined length.
 pub record Spelled : Type 0 where
   pub tag : Tag
   pub vr : Vr
+  pub syntax : Syntax
   pub octets : List ℕ
 
 -- What is left after what was read.
@@ -39,6 +43,11 @@ abbrev pub value_octets : Option ℕ → List ℕ → List ℕ → List ℕ
 value_octets (Some n) octets rest = take n octets
 value_octets None octets rest = take (length octets - length rest - 8) octets
 
+-- The syntax of a value's items. Other values have that of their data set.
+abbrev pub inner_syntax : Syntax → Content → Syntax
+inner_syntax outer (Plain n) = outer
+inner_syntax outer (Sequence inner extent) = inner
+
 -- The next element of the outer level: its header, the octets of its value, and what is left.
 unfoldable pub next_at : Syntax → Option Tag → List ℕ → Result ((Header × List ℕ) × List ℕ) ReadFault
 next_at syntax last octets = do
@@ -46,16 +55,19 @@ next_at syntax last octets = do
   value ← value_by (readers (length header.1 + 1)) 16 header.0.vr header.0.content header.1
   Ok ((header.0, value_octets (length_of header.0.content) header.1 value.1), value.1)
 
+abbrev pub spelled_as : Syntax → Header → List ℕ → Spelled
+spelled_as outer header octets = record { tag = header.tag; vr = header.vr; syntax = inner_syntax outer header.content; octets = octets }
+
 -- Group lengths are left out, and nothing follows a fault.
-abbrev pub lent_after : (Option Tag → List ℕ → List (Result Spelled ReadFault)) → Result ((Header × List ℕ) × List ℕ) ReadFault → List (Result Spelled ReadFault)
-lent_after more (Err fault) = Err fault ∷ []
-lent_after more (Ok next) =
+abbrev pub lent_after : Syntax → (Option Tag → List ℕ → List (Result Spelled ReadFault)) → Result ((Header × List ℕ) × List ℕ) ReadFault → List (Result Spelled ReadFault)
+lent_after syntax more (Err fault) = Err fault ∷ []
+lent_after syntax more (Ok next) =
     if next.0.0.tag.element == 0 then more (Some next.0.0.tag) next.1
-    else (Ok (record { tag = next.0.0.tag; vr = next.0.0.vr; octets = next.0.1 }) ∷ more (Some next.0.0.tag) next.1)
+    else (Ok (spelled_as syntax next.0.0 next.0.1) ∷ more (Some next.0.0.tag) next.1)
 
 unfoldable pub lent_in : ℕ → Syntax → Option Tag → List ℕ → List (Result Spelled ReadFault)
 lent_in zero syntax last octets = []
-lent_in (suc n) syntax last octets = if length octets == 0 then [] else lent_after (lent_in n syntax) (next_at syntax last octets)
+lent_in (suc n) syntax last octets = if length octets == 0 then [] else lent_after syntax (lent_in n syntax) (next_at syntax last octets)
 
 -- The elements after the tag last: one for each, up to the end or the first fault.
 abbrev pub lent_from : Syntax → Option Tag → List ℕ → List (Result Spelled ReadFault)

@@ -5,5 +5,5 @@ use Rattle.dq_dataset.specs.declared.lending.Lent.{Lent}
 use Rattle.dq_dataset.specs.Lending.{Spelled}
 
 abbrev pub lent_view : Result Lent ReadFault → Result Spelled ReadFault
-lent_view (Ok e) = Ok (record { tag = e.tag; vr = e.vr; octets = e.octets.now })
+lent_view (Ok e) = Ok (record { tag = e.tag; vr = e.vr; syntax = e.syntax; octets = e.octets.now })
 lent_view (Err fault) = Err fault

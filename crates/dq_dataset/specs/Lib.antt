@@ -7,7 +7,9 @@ pub mod Canonical
 pub mod Parts
 pub mod Grammar
 pub mod Facts
+pub mod Faults
 pub mod Written
 pub mod Lending
 pub mod LentView
 pub mod Agreement
+pub mod Editing

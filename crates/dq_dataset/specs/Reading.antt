@@ -1,12 +1,12 @@
--- Reading from left to right, with the first fault that is met (PS3.5 sections 7.1, 7.2 and 7.5).
-use Rattle.std.specs.Prelude.{◌≡◌, ℕ, zero, suc, ◌-◌, ◌+◌, Bool, true, not, List, [], ◌∷◌, length, take, drop, Option, Some, None, Result, Ok, Err, nat_lt, nat_le, ◌==◌, ◌&&◌, if◌then◌else◌, ◌⊎◌}
+-- A device of the proofs: what reading from left to right computes. What is to be believed are Grammar (which octets spell a
+-- data set) and Faults (which have which first fault), and laws say that it answers exactly those.
+use Rattle.std.specs.Prelude.{◌≡◌, ℕ, zero, suc, ◌-◌, ◌+◌, Bool, true, not, List, [], ◌∷◌, length, take, drop, Option, Some, None, Result, Ok, Err, nat_lt, ◌==◌, ◌&&◌, if◌then◌else◌, ◌⊎◌}
 use Rattle.std.specs.Int.{Width, w16, w32, byte_len, from_le_bytes}
 use Rattle.dq_vr.specs.declared.Tag.{Tag}
 use Rattle.dq_vr.specs.declared.Vr.{Vr}
 use Rattle.dq_vr.specs.declared.LengthForm.{LengthForm}
 use Rattle.dq_vr.specs.declared.LengthForm.TheVariants.{Two, Four}
 use Rattle.dq_vr.specs.Dictionary.{known_vr}
-use Rattle.dq_vr.specs.Tag.{is_below}
 use Rattle.dq_vr.specs.Vr.{length_form_of, vr_with_letters}
 use Rattle.dq_dataset.specs.declared.fault.ReadFault.{ReadFault}
 use Rattle.dq_dataset.specs.declared.fault.ReadFault.TheVariants.{Truncated, BadVr, TagOrder, BadItem, TooDeep, NoMemory}
@@ -21,6 +21,7 @@ use Rattle.dq_dataset.specs.declared.data_set.Element.{Element}
 use Rattle.dq_dataset.specs.declared.data_set.Value.{Value}
 use Rattle.dq_dataset.specs.declared.data_set.Value.TheVariants.{Octets, Items}
 use Rattle.dq_dataset.specs.Rules.{agrees, content_of, vr_of, padded}
+pub use Rattle.dq_dataset.specs.Rules.{follows, fits}
 use Rattle.dq_dataset.specs.Tree.{ElementList}
 use Rattle.dq_dataset.specs.View.{as_elements}
 
@@ -86,11 +87,6 @@ spelling_at Explicit known octets = do
   n ← length_at (length_form_of vr.0) vr.1
   Ok ((Some vr.0, n.0), n.1)
 
--- Tags rise.
-abbrev pub follows : Option Tag → Tag → Bool
-follows None tag = true
-follows (Some last) tag = is_below last tag
-
 -- A value holds items where another sequence may be nested.
 abbrev pub may_nest : ℕ → Content → Bool
 may_nest levels (Plain n) = true
@@ -99,11 +95,6 @@ may_nest levels (Sequence syntax n) = nat_lt 0 levels
 abbrev pub length_of : Content → Option ℕ
 length_of (Plain n) = Some n
 length_of (Sequence syntax n) = n
-
--- A defined length stays within what is left of the octets that enclose it.
-abbrev pub fits : Option ℕ → List ℕ → Bool
-fits None octets = true
-fits (Some n) octets = nat_le n (length octets)
 
 -- The header of an element after the tag last, where so many more levels of sequences are allowed.
 unfoldable pub header_at : Syntax → ℕ → Option Tag → List ℕ → Result (Header × List ℕ) ReadFault

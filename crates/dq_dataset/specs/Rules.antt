@@ -1,7 +1,9 @@
 -- The VR of an element in a data set, and what its value holds (PS3.5 sections 6.2.2, 7.1 and 7.5).
-use Rattle.std.specs.Prelude.{ℕ, Bool, true, false, not, Option, Some, None, is_none, unwrap_or, Result, Ok, Err, List, [], ◌∷◌, ◌++◌, length, ◌%◌, ◌==◌, ◌||◌, ◌&&◌, if◌then◌else◌}
+use Rattle.std.specs.Prelude.{ℕ, Bool, true, false, not, Option, Some, None, is_none, unwrap_or, Result, Ok, Err, List, [], ◌∷◌, ◌++◌, length, nat_le, ◌%◌, ◌==◌, ◌||◌, ◌&&◌, if◌then◌else◌}
+use Rattle.dq_vr.specs.declared.Tag.{Tag}
 use Rattle.dq_vr.specs.declared.Vr.{Vr}
 use Rattle.dq_vr.specs.declared.Vr.TheVariants.{SQ, UN}
+use Rattle.dq_vr.specs.Tag.{is_below}
 use Rattle.dq_vr.specs.Vr.{is_text}
 use Rattle.dq_dataset.specs.declared.fault.ReadFault.{ReadFault}
 use Rattle.dq_dataset.specs.declared.fault.ReadFault.TheVariants.{BadUndefined}
@@ -43,3 +45,13 @@ pad_of vr = if is_text vr then 0x20 else 0
 
 abbrev pub padded : Vr → List ℕ → List ℕ
 padded vr value = if length value % 2 == 0 then value else value ++ pad_of vr ∷ []
+
+-- Tags rise.
+abbrev pub follows : Option Tag → Tag → Bool
+follows None tag = true
+follows (Some last) tag = is_below last tag
+
+-- A defined length stays within what is left of the octets that enclose it.
+abbrev pub fits : Option ℕ → List ℕ → Bool
+fits None octets = true
+fits (Some n) octets = nat_le n (length octets)

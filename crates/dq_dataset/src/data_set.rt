@@ -98,7 +98,8 @@ impl DataSet {
 
     /// The element with the tag.
     pub fn get(&self, tag: Tag) -> Option<&Element>
-        ensures { option_copied result ≡ find (has_tag tag) (elements_of self.now) }
+        ensures found { option_copied result ≡ find (has_tag tag) (elements_of self.now) }
+        ensures facts { IsDataSet self.now }
     {
         find(self.elements(), tag)
     }

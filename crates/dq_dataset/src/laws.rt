@@ -1,5 +1,5 @@
 //! Laws of the definitions, which the contracts of functions with no body name.
-ghost use Rattle.std.specs.Prelude.{◌≡◌, ◌≢◌, ◌<◌, ◌^◌, ◌++◌, List, ℕ, length};
+ghost use Rattle.std.specs.Prelude.{◌≡◌, ◌≢◌, ◌⊎◌, ◌<◌, ◌^◌, ◌++◌, List, ℕ, length, None};
 ghost use Rattle.dq_dataset.specs.declared.fault.ReadFault.{ReadFault};
 ghost use Rattle.dq_dataset.specs.declared.fault.ReadFault.TheVariants.{Truncated};
 ghost use Rattle.dq_dataset.specs.declared.header.Syntax.{Syntax};
@@ -7,10 +7,13 @@ ghost use Rattle.dq_dataset.specs.Tree.{ElementList};
 ghost use Rattle.dq_dataset.specs.Reading.{reading};
 ghost use Rattle.dq_dataset.specs.Grammar.{AreOctets, IsSpelled};
 ghost use Rattle.dq_dataset.specs.Facts.{IsDataSet};
+ghost use Rattle.dq_dataset.specs.Faults.{IsFaulty};
 ghost use Rattle.dq_dataset.specs.Canonical.{canonical, HasLengths};
 ghost use Rattle.dq_dataset.specs.Written.{IsReadBack};
+ghost use Rattle.dq_dataset.specs.Editing.{cut_out, merged};
 ghost use Rattle.dq_dataset.specs.Lending.{lent};
-ghost use Rattle.dq_dataset.specs.Agreement.{AgreesWith};
+ghost use Rattle.dq_dataset.specs.Agreement.{FaultAfter, AgreesWith};
+ghost use Rattle.dq_vr.specs.declared.Tag.{Tag};
 
 use dq_vr::Vr;
 
@@ -36,13 +39,37 @@ pub fn written_law()
     Vr::letters_law();
 }
 
-/// The fault is the first in the order of the octets: but for octets that are missing, it stays whatever octets follow.
+/// Octets spell a data set or have a first fault, and reading answers which. But for octets that are missing, the fault
+/// stays whatever octets follow.
 pub fn fault_law()
-    ensures { (syntax : Syntax) (octets more : List ℕ) (fault : ReadFault) → AreOctets octets → fault ≢ Truncated
+    // Octets spell a data set, or have a fault.
+    ensures some { (syntax : Syntax) (octets : List ℕ) → AreOctets octets → ((d : ElementList) × IsSpelled syntax octets d) ⊎ ((fault : ReadFault) × IsFaulty syntax octets fault) }
+    // Not both, and no two faults.
+    ensures no_other { (syntax : Syntax) (octets : List ℕ) (d : ElementList) (fault : ReadFault) → IsSpelled syntax octets d → IsFaulty syntax octets fault → ⊥ }
+    ensures one { (syntax : Syntax) (octets : List ℕ) (f g : ReadFault) → IsFaulty syntax octets f → IsFaulty syntax octets g → f ≡ g }
+    // Reading answers it.
+    ensures read { (syntax : Syntax) (octets : List ℕ) (fault : ReadFault) → IsFaulty syntax octets fault → reading syntax octets ≡ Err fault }
+    ensures faulty { (syntax : Syntax) (octets : List ℕ) (fault : ReadFault) → AreOctets octets → reading syntax octets ≡ Err fault → IsFaulty syntax octets fault }
+    // It stays.
+    ensures stays_faulty { (syntax : Syntax) (octets more : List ℕ) (fault : ReadFault) → AreOctets (octets ++ more) → fault ≢ Truncated
+        → IsFaulty syntax octets fault → IsFaulty syntax (octets ++ more) fault }
+    ensures stays { (syntax : Syntax) (octets more : List ℕ) (fault : ReadFault) → AreOctets octets → fault ≢ Truncated
         → reading syntax octets ≡ Err fault → reading syntax (octets ++ more) ≡ Err fault }
 {}
 
-/// What is lent of one level agrees with what is read.
+/// What is lent of one level: one for each element that is spelled, and then the first fault, if there is one.
 pub fn lending_law()
-    ensures { (syntax : Syntax) (octets : List ℕ) → AreOctets octets → AgreesWith (lent syntax octets) (reading syntax octets) }
+    ensures lent { (syntax : Syntax) (octets : List ℕ) → AreOctets octets → AgreesWith syntax octets (lent syntax octets) }
+    // The elements before the first fault are those of a data set that the front of the octets spells.
+    ensures front { (syntax : Syntax) (octets : List ℕ) (d : ElementList) (fault : ReadFault) → FaultAfter syntax None octets d fault
+        → (front : List ℕ) × (rest : List ℕ) × (octets ≡ front ++ rest) × IsSpelled syntax front d }
+    ensures fault { (syntax : Syntax) (octets : List ℕ) (d : ElementList) (fault : ReadFault) → FaultAfter syntax None octets d fault → IsFaulty syntax octets fault }
+{}
+
+/// What is cut out of a data set, and what is merged from two, is a data set, and has lengths that can be written.
+pub fn editing_law()
+    ensures cut { (tags : List Tag) (d : ElementList) → IsDataSet d → IsDataSet (cut_out tags d) }
+    ensures cut_lengths { (syntax : Syntax) (tags : List Tag) (d : ElementList) → HasLengths syntax d → HasLengths syntax (cut_out tags d) }
+    ensures merged { (kept sent : ElementList) → IsDataSet kept → IsDataSet sent → IsDataSet (merged kept sent) }
+    ensures merged_lengths { (syntax : Syntax) (kept sent : ElementList) → HasLengths syntax kept → HasLengths syntax sent → HasLengths syntax (merged kept sent) }
 {}

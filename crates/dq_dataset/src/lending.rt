@@ -1,21 +1,23 @@
 //! The elements of one level, lent from the octets that spell them (PS3.5 section 7.1).
 ghost use Rattle.std.specs.Prelude.{◌≡◌, ◌+◌, ◌<◌, length, IfOk};
-ghost use Rattle.dq_dataset.specs.Reading.{Answers, reading};
+ghost use Rattle.dq_dataset.specs.Reading.{Answers};
 ghost use Rattle.dq_dataset.specs.Agreement.{AgreesWith};
-ghost use Rattle.dq_dataset.specs.Lending.{next_at, lent};
+ghost use Rattle.dq_dataset.specs.Lending.{next_at, inner_syntax, lent};
 
 use crate::checking::value_end;
 use crate::fault::ReadFault;
-use crate::header::{Header, Syntax, header_at, length_of};
+use crate::header::{Content, Header, Syntax, header_at, length_of};
 use crate::reading::DEPTH;
 use dq_vr::{Tag, Vr};
 use std::marker::Model;
 
-/// An element, with the octets of its value as spelled, without the end of an undefined length.
+/// An element, with the octets of its value as spelled, without the end of an undefined length, and the syntax in which
+/// they spell items where the VR is SQ.
 #[derive(Clone, Copy, Debug, PartialEq, Eq)]
 pub struct Lent<'a> {
     pub tag: Tag,
     pub vr: Vr,
+    pub syntax: Syntax,
     pub octets: &'a [u8],
 }
 
@@ -59,11 +61,22 @@ fn next_at<'a>(syntax: Syntax, last: Option<Tag>, octets: &'a [u8]) -> Result<Ne
     Ok(((header, value), rest))
 }
 
+/// The syntax of a value's items.
+fn inner_syntax(outer: Syntax, content: Content) -> Syntax
+    ensures { result ≡ inner_syntax outer content }
+{
+    match content {
+        Content::Plain(_) => outer,
+        Content::Sequence(inner, _) => inner,
+    }
+}
+
 impl<'a> Elements<'a> {
+    /// The elements that the octets spell in the syntax.
     pub fn new(octets: &'a [u8], syntax: Syntax) -> Elements<'a>
         ensures lent { result ≡ lent syntax octets.now }
-        // One for each element of the data set that is read, or those before the first fault, and that fault.
-        ensures agrees { AgreesWith result (reading syntax octets.now) }
+        // One for each element of the data set, or for each before the first fault, and then that fault.
+        ensures agrees { AgreesWith syntax octets.now result }
     {
         Elements {
             syntax,
@@ -91,11 +104,17 @@ impl<'a> Iterator for Elements<'a> {
                     return Some(Err(fault));
                 }
                 Ok(((header, octets), rest)) => {
-                    let Header { tag, vr, .. } = header;
+                    let Header { tag, vr, content } = header;
                     self.last = Some(tag);
                     self.rest = rest;
                     if tag.element != 0 {
-                        return Some(Ok(Lent { tag, vr, octets }));
+                        let syntax = inner_syntax(self.syntax, content);
+                        return Some(Ok(Lent {
+                            tag,
+                            vr,
+                            syntax,
+                            octets,
+                        }));
                     }
                 }
             }

@@ -2,8 +2,10 @@
 #![tactic(auto)]
 
 mod checking;
+mod comparing;
 mod copying;
 mod data_set;
+mod editing;
 mod fault;
 mod header;
 pub mod laws;

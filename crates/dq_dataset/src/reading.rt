@@ -1,9 +1,11 @@
 //! Reading data sets (PS3.5 section 7).
-ghost use Rattle.std.specs.Prelude.{◌≡◌, ℕ, ◌+◌, ◌<◌, ◌≤◌, ◌^◌, true, None, length, option_map, IfOk, OnSome};
+ghost use Rattle.std.specs.Prelude.{◌≡◌, ℕ, ◌+◌, ◌<◌, ◌≤◌, ◌^◌, true, None, length, option_map, IfOk, IfErr, OnSome, ◌⊎◌};
 ghost use Rattle.dq_dataset.specs.Reading.{Gives, readers, reading, may_nest, length_of, fits, value_by, element_by, content_by, item_by};
 ghost use Rattle.dq_dataset.specs.Rules.{padded};
 ghost use Rattle.dq_dataset.specs.Tree.{ElementList};
 ghost use Rattle.dq_dataset.specs.Grammar.{IsSpelled};
+ghost use Rattle.dq_dataset.specs.Faults.{IsFaulty};
+ghost use Rattle.dq_dataset.specs.declared.fault.ReadFault.TheVariants.{NoMemory};
 
 use crate::data_set::{DataSet, Element, Value};
 use crate::fault::ReadFault;
@@ -197,7 +199,9 @@ pub fn read(alloc: Global, octets: &[u8], syntax: Syntax) -> Result<DataSet, Rea
     ensures found { IfOk result (λ d. IsSpelled syntax octets.now d) }
     // What is spelled so is read, unless memory runs out.
     ensures only { (d : ElementList) → IsSpelled syntax octets.now d → Gives (λ d. d) result (Ok d) }
-    // Which fault it is, unless memory runs out.
+    // An error is want of memory, or exactly the first fault.
+    ensures fault { IfErr result (λ f. (f ≡ NoMemory) ⊎ IsFaulty syntax octets.now f) }
+    // The same, computed.
     ensures exact { Gives (λ d. d) result (reading syntax octets.now) }
 {
     all_of(alloc, octets, syntax)

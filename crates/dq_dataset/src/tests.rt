@@ -1,6 +1,7 @@
 //! Each call once. The worked examples, the faults and the data sets of real clients are lines that a suite plays.
 use super::*;
-use dq_vr::{Tag, Vr};
+use dq_list::Listed;
+use dq_vr::{Tag, Vr, tags};
 use std::alloc::Global;
 use std::test::*;
 
@@ -58,6 +59,7 @@ fn lends_the_elements_of_one_level(rt: HostRuntime) -> Result<(), Fail> {
     let second = second.ok().ok_or("a fault")?;
     assert_eq!(rt; second.tag, attributes);
     assert_eq!(rt; second.vr, Vr::SQ);
+    assert_eq!(rt; second.syntax, Syntax::Implicit);
     assert_eq!(rt;
         second.octets,
         octets_of(rt.alloc(), "feff00e000000000")?.as_slice()
@@ -83,7 +85,35 @@ fn builds_a_data_set(rt: HostRuntime) -> Result<(), Fail> {
     })?;
     let found = data_set.get(tag).ok_or("no element")?.copied(rt.alloc())?;
     assert_eq!(rt; found.vr, Vr::LO);
+    assert!(rt; data_set.get(tag).ok_or("no element")?.is_same(&found));
     assert_eq!(rt; data_set.copied(rt.alloc())?.elements().len(), 1);
     assert_eq!(rt; data_set.into_elements().len(), 1);
+    Ok(())
+}
+
+fn data_set_of(alloc: Global, text: &str) -> Result<DataSet, Fail> {
+    let octets = octets_of(alloc, text)?;
+    Ok(read(alloc, &octets, Syntax::Implicit)?)
+}
+
+// Name and ID of a patient are kept; another ID and a birth date are sent.
+#[test]
+fn cuts_out_and_merges(rt: HostRuntime) -> Result<(), Fail> {
+    let alloc = rt.alloc();
+    let kept = data_set_of(alloc, "1000100002000000412010002000020000003120")?;
+    let sent = data_set_of(
+        alloc,
+        "1000200002000000322010003000080000003230323430373035",
+    )?;
+    let all = data_set_of(
+        alloc,
+        "100010000200000041201000200002000000322010003000080000003230323430373035",
+    )?;
+    let merged = kept.merged(alloc, &sent)?;
+    assert!(rt; merged.is_same(&all));
+    assert!(rt; !merged.is_same(&kept));
+    let part = merged.cut_out(alloc, &[tags::PATIENT_NAME])?;
+    assert_eq!(rt; part.elements().len(), 1);
+    assert!(rt; part.get(tags::PATIENT_NAME).is_some());
     Ok(())
 }

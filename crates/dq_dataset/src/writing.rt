@@ -1,9 +1,11 @@
 //! Writing data sets (PS3.5 section 7): defined lengths, and no group lengths.
-ghost use Rattle.std.specs.Prelude.{◌≡◌, ◌<◌, ◌++◌, length, OnOk, IfOk};
+ghost use Rattle.std.specs.Prelude.{◌≡◌, ◌-◌, ◌+◌, ◌<◌, ◌≤◌, ◌++◌, length, take, drop, vec_len, OnOk, IfOk};
+ghost use Rattle.std.specs.Int.{w32, to_le_bytes};
 ghost use Rattle.dq_vr.specs.Vr.{length_form_of};
 ghost use Rattle.dq_dataset.specs.View.{as_elements, items_of};
 ghost use Rattle.dq_dataset.specs.Canonical.{tag_octets, vr_and_length, header_of, item_header_of, canonical, canonical_items, HasLengths, ItemsHaveLengths};
-ghost use Rattle.dq_dataset.specs.Parts.{canonical_element, ElementHasLengths};
+ghost use Rattle.dq_dataset.specs.Facts.{IsDataSet};
+ghost use Rattle.dq_dataset.specs.Parts.{canonical_element, ElementHasLengths, HasSequenceVr};
 
 use crate::data_set::{DataSet, Element, Value};
 use crate::header::{DELIMITERS, ITEM, Syntax};
@@ -64,14 +66,21 @@ fn put_item_header(out: &mut Vec<u8>, length: u32) -> Result<(), AllocError>
     out.extend_from_slice(&length.to_le_bytes())
 }
 
+/// Writes how many octets stand from `start` on into the four octets before it.
+fn put_length_before(out: &mut Vec<u8>, start: usize)
+    requires place { 4 ≤ start }
+    requires within { start ≤ vec_len out.old }
+    requires short { vec_len out.old < start + 0xFFFFFFFF }
+    ensures { out.new.items ≡ take (start - 4) out.old.items ++ (to_le_bytes w32 (vec_len out.old - start) ++ drop start out.old.items) }
+{
+    let length = (out.len() - start) as u32;
+    out[start - 4..start].copy_from_slice(&length.to_le_bytes());
+}
+
 #[cycle(writing)]
-fn put_element(
-    alloc: Global,
-    out: &mut Vec<u8>,
-    syntax: Syntax,
-    element: &Element,
-) -> Result<(), AllocError>
-    requires { ElementHasLengths syntax element.now }
+fn put_element(out: &mut Vec<u8>, syntax: Syntax, element: &Element) -> Result<(), AllocError>
+    requires lengths { ElementHasLengths syntax element.now }
+    requires sequence { HasSequenceVr element.now }
     ensures { OnOk result (out.new.items ≡ out.old.items ++ canonical_element syntax element.now) }
 {
     match &element.value {
@@ -81,45 +90,37 @@ fn put_element(
             out.extend_from_slice(octets)
         }
         Value::Items(items) => {
-            let mut octets = Vec::new(alloc);
-            put_items(alloc, &mut octets, syntax, items.inner())?;
-            put_header(out, syntax, element.tag, element.vr, octets.len() as u32)?;
-            out.extend_from_slice(&octets)
+            put_header(out, syntax, element.tag, element.vr, 0)?;
+            let start = out.len();
+            put_items(out, syntax, items.inner())?;
+            put_length_before(out, start);
+            Ok(())
         }
     }
 }
 
 #[cycle(writing)]
-fn put_elements(
-    alloc: Global,
-    out: &mut Vec<u8>,
-    syntax: Syntax,
-    elements: &[Element],
-) -> Result<(), AllocError>
-    requires { HasLengths syntax (as_elements elements.now) }
+fn put_elements(out: &mut Vec<u8>, syntax: Syntax, elements: &[Element]) -> Result<(), AllocError>
+    requires lengths { HasLengths syntax (as_elements elements.now) }
+    requires facts { IsDataSet (as_elements elements.now) }
     ensures { OnOk result (out.new.items ≡ out.old.items ++ canonical syntax (as_elements elements.now)) }
 {
     for element in elements {
-        put_element(alloc, out, syntax, element)?;
+        put_element(out, syntax, element)?;
     }
     Ok(())
 }
 
 #[cycle(writing)]
-fn put_items(
-    alloc: Global,
-    out: &mut Vec<u8>,
-    syntax: Syntax,
-    items: &[DataSet],
-) -> Result<(), AllocError>
+fn put_items(out: &mut Vec<u8>, syntax: Syntax, items: &[DataSet]) -> Result<(), AllocError>
     requires { ItemsHaveLengths syntax (items_of items.now) }
     ensures { OnOk result (out.new.items ≡ out.old.items ++ canonical_items syntax (items_of items.now)) }
 {
     for item in items {
-        let mut octets = Vec::new(alloc);
-        put_elements(alloc, &mut octets, syntax, item.elements())?;
-        put_item_header(out, octets.len() as u32)?;
-        out.extend_from_slice(&octets)?;
+        put_item_header(out, 0)?;
+        let start = out.len();
+        put_elements(out, syntax, item.elements())?;
+        put_length_before(out, start);
     }
     Ok(())
 }
@@ -130,6 +131,6 @@ pub fn write(alloc: Global, data_set: &DataSet, syntax: Syntax) -> Result<Vec<u8
     ensures { IfOk result (λ v. v.items ≡ canonical syntax data_set.now) }
 {
     let mut out = Vec::new(alloc);
-    put_elements(alloc, &mut out, syntax, data_set.elements())?;
+    put_elements(&mut out, syntax, data_set.elements())?;
     Ok(out)
 }

@@ -6,7 +6,7 @@ mod cost;
 mod stop;
 mod trial;
 
-use cost::{print_costs, take_memory};
+use cost::{Shape, print_costs, take_memory};
 use std::process::ExitCode;
 use std::rt::Env;
 use std::time::CpuClock;
@@ -17,17 +17,29 @@ use trial::run_trials;
 /// What the words ask for, with a number of calls.
 #[derive(Clone, Copy, Debug, PartialEq, Eq)]
 enum Request {
-    Cost { is_half: bool, calls: u32 },
-    Memory { calls: u32 },
+    Cost {
+        shape: Shape,
+        is_half: bool,
+        calls: u32,
+    },
+    Memory {
+        shape: Shape,
+        calls: u32,
+    },
 }
 
-/// The words are `cost N`, `cost N half` or `memory N`.
+/// The words are `cost SHAPE N`, `cost SHAPE N half` or `memory SHAPE N`.
 fn request_of(words: &[String]) -> Option<Request> {
-    let calls = words.get(1)?.parse::<u32>().ok()?;
-    let is_half = words.len() == 3 && words[2].as_str() == "half";
+    let shape = Shape::of(words.get(1)?.as_str())?;
+    let calls = words.get(2)?.parse::<u32>().ok()?;
+    let is_half = words.len() == 4 && words[3].as_str() == "half";
     match words[0].as_str() {
-        "cost" if is_half || words.len() == 2 => Some(Request::Cost { is_half, calls }),
-        "memory" if words.len() == 2 => Some(Request::Memory { calls }),
+        "cost" if is_half || words.len() == 3 => Some(Request::Cost {
+            shape,
+            is_half,
+            calls,
+        }),
+        "memory" if words.len() == 3 => Some(Request::Memory { shape, calls }),
         _ => None,
     }
 }
@@ -38,8 +50,12 @@ fn perform<R: Env + AllocGlobal + Input + Print + CpuClock>(rt: &R) -> Result<()
         return run_trials(rt.alloc(), rt.reader(), &mut io::writer(rt));
     }
     match request_of(words.as_slice()).ok_or(Stop::Usage)? {
-        Request::Cost { is_half, calls } => print_costs(rt, is_half, calls),
-        Request::Memory { calls } => take_memory(rt.alloc(), calls),
+        Request::Cost {
+            shape,
+            is_half,
+            calls,
+        } => print_costs(rt, shape, is_half, calls),
+        Request::Memory { shape, calls } => take_memory(rt.alloc(), shape, calls),
     }
 }
 

@@ -55,10 +55,13 @@ fn answer_to(alloc: Global, octets: &[u8], syntax: Syntax) -> Result<Answer, All
 {
     laws::spelling_law();
     match read(alloc, octets, syntax) {
-        Ok(data_set) => Ok(Answer::Spelled {
-            explicit: Listed::from_inner(write(alloc, &data_set, Syntax::Explicit)?),
-            implicit: Listed::from_inner(write(alloc, &data_set, Syntax::Implicit)?),
-        }),
+        Ok(data_set) => {
+            let copy = data_set.copied(alloc)?;
+            Ok(Answer::Spelled {
+                explicit: Listed::from_inner(write(alloc, &copy, Syntax::Explicit)?),
+                implicit: Listed::from_inner(write(alloc, &data_set, Syntax::Implicit)?),
+            })
+        }
         Err(ReadFault::NoMemory) => Err(AllocError),
         Err(fault) => Ok(Answer::Fault(fault)),
     }

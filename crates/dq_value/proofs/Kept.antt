@@ -5,21 +5,21 @@ use Rattle.dq_vr.specs.declared.Vr.{Vr}
 use Rattle.dq_value.specs.Trimming.{is_padded, ignores_leading_spaces, is_space, is_pad, without_leading, kept_before, without_trailing, unpadded, trimmed, first_is, last_is, IsTrimming}
 
 -- some octets before and behind are taken, which pass their tests
-record Leads (test : ℕ → Bool) (octets kept : List ℕ) : Type 0 where
-  before : List ℕ
-  whole : octets ≡ before ++ kept
-  all : list_all test before ≡ true
+pub record Leads (test : ℕ → Bool) (octets kept : List ℕ) : Type 0 where
+  pub before : List ℕ
+  pub whole : octets ≡ before ++ kept
+  pub all : list_all test before ≡ true
 
-record Trails (test : ℕ → Bool) (octets kept : List ℕ) : Type 0 where
-  after : List ℕ
-  whole : octets ≡ kept ++ after
-  all : list_all test after ≡ true
+pub record Trails (test : ℕ → Bool) (octets kept : List ℕ) : Type 0 where
+  pub after : List ℕ
+  pub whole : octets ≡ kept ++ after
+  pub all : list_all test after ≡ true
 
 leads-case : (b : Bool) (test : ℕ → Bool) (x : ℕ) (xs rest : List ℕ) → test x ≡ b → Leads test xs rest → Leads test (x ∷ xs) (cond b rest (x ∷ xs))
 leads-case true test x xs rest passes inner = record { before = x ∷ inner.before; whole = ap (λ ys. x ∷ ys) inner.whole; all = rw passes inner.all }
 leads-case false test x xs rest fails inner = record { before = []; whole = refl; all = refl }
 
-leads : (test : ℕ → Bool) (xs : List ℕ) → Leads test xs (without_leading test xs)
+pub leads : (test : ℕ → Bool) (xs : List ℕ) → Leads test xs (without_leading test xs)
 unfolding without_leading
 leads test [] = record { before = []; whole = refl; all = refl }
 leads test (x ∷ xs) = leads-case (test x) test x xs (without_leading test xs) refl (leads test xs)
@@ -28,7 +28,7 @@ first-case : (b : Bool) (test : ℕ → Bool) (x : ℕ) (xs rest : List ℕ) →
 first-case true test x xs rest passes inner = inner
 first-case false test x xs rest fails inner = fails
 
-first_kept : (test : ℕ → Bool) (xs : List ℕ) → first_is test (without_leading test xs) ≡ false
+pub first_kept : (test : ℕ → Bool) (xs : List ℕ) → first_is test (without_leading test xs) ≡ false
 unfolding without_leading
 first_kept test [] = refl
 first_kept test (x ∷ xs) = first-case (test x) test x xs (without_leading test xs) refl (first_kept test xs)
@@ -41,7 +41,7 @@ stays-case : (b : Bool) (other : ℕ → Bool) (x : ℕ) (xs rest : List ℕ) �
 stays-case true other x xs rest whole inner = inner
 stays-case false other x xs rest whole inner = whole
 
-last_stays : (test other : ℕ → Bool) (xs : List ℕ) → last_is other xs ≡ false → last_is other (without_leading test xs) ≡ false
+pub last_stays : (test other : ℕ → Bool) (xs : List ℕ) → last_is other xs ≡ false → last_is other (without_leading test xs) ≡ false
 unfolding without_leading
 last_stays test other [] h = refl
 last_stays test other (x ∷ xs) h = stays-case (test x) other x xs (without_leading test xs) h (last_stays test other xs (last_later other x xs h))
@@ -55,7 +55,7 @@ unfolding kept_before
 trails-next test x xs [] inner = trails-case (test x) test x xs refl inner
 trails-next test x xs (y ∷ ys) inner = record { after = inner.after; whole = ap (λ zs. x ∷ zs) inner.whole; all = inner.all }
 
-trails : (test : ℕ → Bool) (xs : List ℕ) → Trails test xs (without_trailing test xs)
+pub trails : (test : ℕ → Bool) (xs : List ℕ) → Trails test xs (without_trailing test xs)
 unfolding without_trailing
 trails test [] = record { after = []; whole = refl; all = refl }
 trails test (x ∷ xs) = trails-next test x xs (without_trailing test xs) (trails test xs)
@@ -69,17 +69,17 @@ unfolding kept_before
 last-next test x [] inner = last-case (test x) test x refl
 last-next test x (y ∷ ys) inner = inner
 
-last_kept : (test : ℕ → Bool) (xs : List ℕ) → last_is test (without_trailing test xs) ≡ false
+pub last_kept : (test : ℕ → Bool) (xs : List ℕ) → last_is test (without_trailing test xs) ≡ false
 unfolding without_trailing
 last_kept test [] = refl
 last_kept test (x ∷ xs) = last-next test x (without_trailing test xs) (last_kept test xs)
 
-leading_same : (test : ℕ → Bool) (xs : List ℕ) → first_is test xs ≡ false → without_leading test xs ≡ xs
+pub leading_same : (test : ℕ → Bool) (xs : List ℕ) → first_is test xs ≡ false → without_leading test xs ≡ xs
 unfolding without_leading
 leading_same test [] h = refl
 leading_same test (x ∷ xs) h = rw h refl
 
-trailing_same : (test : ℕ → Bool) (xs : List ℕ) → last_is test xs ≡ false → without_trailing test xs ≡ xs
+pub trailing_same : (test : ℕ → Bool) (xs : List ℕ) → last_is test xs ≡ false → without_trailing test xs ≡ xs
 unfolding without_trailing kept_before
 trailing_same test [] h = refl
 trailing_same test (x ∷ []) h = rw h refl

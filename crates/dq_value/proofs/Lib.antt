@@ -4,4 +4,5 @@ mod Moments
 mod Numbers
 mod Pads
 mod Pieces
+mod Spaces
 mod Spelled

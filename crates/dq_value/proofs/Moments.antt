@@ -7,12 +7,7 @@ use Rattle.jiff_core.specs.Calendar.{days_in_month, is_leap_year}
 use Rattle.dq_value.specs.Digits.{number, digits, ◌>>=◌}
 use Rattle.dq_value.specs.Day.{Ymd, SpellsDate, is_in_calendar, date_in, digits_of_date, spelled_date}
 use Rattle.dq_value.specs.Time.{Span, IsClock, SpellsTime, to_hour, to_minute, to_second, to_fraction, unit_of, has_fraction, span, span_from, field, hour_start, minute_start, second_start, hour_span, minute_span, second_span, fraction_span, micros_at, spelled_minute, spelled_second, spelled_fraction}
-use Rattle.dq_value.proofs.Spelled.{number-digits, number-only}
-
-length-digits : (count n : ℕ) → length (digits count n) ≡ count
-unfolding digits
-length-digits zero n = refl
-length-digits (suc count) n = simp length-append (rw (length-digits count (n / 10)) (omega arith))
+use Rattle.dq_value.proofs.Spelled.{length-digits, number-digits, number-only}
 
 take_front : (n : ℕ) (xs ys : List ℕ) → length xs ≡ n → take n (xs ++ ys) ≡ xs
 take_front n xs ys e = ap (λ m. take m (xs ++ ys)) (sym e) ∙ take-append_seam xs ys
@@ -46,7 +41,7 @@ spelled_read : (year : ℕ) (date : Ymd) → date.0 ≡ pos year → year < 1000
 spelled_read year (y, m, d) same four good =
     let bounds = calendar_bounds y m d (days_in_month y m) (days_bound y m) good in
     date_at (digits 4 year) (digits 2 m) (digits 2 d) year m d (length-digits 4 year) (length-digits 2 m) (length-digits 2 d)
-    (number-digits 4 year four) (number-digits 2 m bounds.0) (number-digits 2 d bounds.1) (rw same at good)
+    (number-digits 4 year (omega arith) four) (number-digits 2 m (omega arith) bounds.0) (number-digits 2 d (omega arith) bounds.1) (rw same at good)
     ∙ ap (λ z. Some (z, m, d)) (sym same)
 
 pub date_read : (octets : List ℕ) (date : Ymd) → SpellsDate octets date → date_in octets ≡ Some date
@@ -132,7 +127,7 @@ module _ (h m s : ℕ) (clock : IsClock h m s) where
   unfolding hour_start
   hour_at rest =
       let hours = clock.hours in
-      rw (field_at 0 23 h (digits 2 h ++ rest) (digits 2 h) rest refl (length-digits 2 h) (number-digits 2 h (omega arith)) hours) refl
+      rw (field_at 0 23 h (digits 2 h ++ rest) (digits 2 h) rest refl (length-digits 2 h) (number-digits 2 h (omega arith) (omega arith)) hours) refl
 
   minute_at : (rest : List ℕ) → minute_start (digits 2 h ++ (digits 2 m ++ rest)) ≡ Some (h * 3_600_000_000 + m * 60_000_000)
   unfolding minute_start
@@ -140,7 +135,7 @@ module _ (h m s : ℕ) (clock : IsClock h m s) where
       let minutes = clock.minutes in
       let octets = digits 2 h ++ (digits 2 m ++ rest) in
       let at = drop_front 2 (digits 2 h) (digits 2 m ++ rest) (length-digits 2 h) in
-      rw (hour_at (digits 2 m ++ rest), field_at 2 59 m octets (digits 2 m) rest at (length-digits 2 m) (number-digits 2 m (omega arith)) minutes) refl
+      rw (hour_at (digits 2 m ++ rest), field_at 2 59 m octets (digits 2 m) rest at (length-digits 2 m) (number-digits 2 m (omega arith) (omega arith)) minutes) refl
 
   behind_minute : (rest : List ℕ) → drop 4 (digits 2 h ++ (digits 2 m ++ rest)) ≡ rest
   behind_minute rest =
@@ -153,7 +148,7 @@ module _ (h m s : ℕ) (clock : IsClock h m s) where
   second_at rest =
       let seconds = clock.seconds in
       let octets = digits 2 h ++ (digits 2 m ++ (digits 2 s ++ rest)) in
-      rw (minute_at (digits 2 s ++ rest), field_at 4 60 s octets (digits 2 s) rest (behind_minute (digits 2 s ++ rest)) (length-digits 2 s) (number-digits 2 s (omega arith)) seconds) refl
+      rw (minute_at (digits 2 s ++ rest), field_at 4 60 s octets (digits 2 s) rest (behind_minute (digits 2 s ++ rest)) (length-digits 2 s) (number-digits 2 s (omega arith) (omega arith)) seconds) refl
 
   behind_second : (rest : List ℕ) → drop 6 (digits 2 h ++ (digits 2 m ++ (digits 2 s ++ rest))) ≡ rest
   behind_second rest =
@@ -202,7 +197,7 @@ module _ (h m s : ℕ) (clock : IsClock h m s) where
       let cut : drop 7 octets ≡ digits count fraction = sym (drop-drop 1 6 octets) ∙ ap (drop 1) at_six in
       let micros : h * 3_600_000_000 + m * 60_000_000 + s * 1_000_000 ≡ micros_at h m s = omega arith in
       let unit : unit_of (digits count fraction) ≡ 10 ^ (6 - count) = ap (λ n. 10 ^ (6 - n)) (length-digits count fraction) in
-      fraction_case octets (digits count fraction) (h * 3_600_000_000 + m * 60_000_000 + s * 1_000_000) fraction (omega arith) (omega arith) point cut (second_at behind) (number-digits count fraction small)
+      fraction_case octets (digits count fraction) (h * 3_600_000_000 + m * 60_000_000 + s * 1_000_000) fraction (omega arith) (omega arith) point cut (second_at behind) (number-digits count fraction (omega arith) small)
       ∙ ap (λ u. span_from (h * 3_600_000_000 + m * 60_000_000 + s * 1_000_000 + fraction * u) u) unit
       ∙ ap (λ n. span_from (n + fraction * 10 ^ (6 - count)) (10 ^ (6 - count))) micros
 

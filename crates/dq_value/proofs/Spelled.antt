@@ -2,6 +2,7 @@
 use Rattle.std.proofs.Common.{◌≡◌, ℕ, zero, suc, ◌+◌, ◌-◌, ◌*◌, ◌/◌, ◌%◌, ◌^◌, ◌<◌, ◌≤◌, Bool, true, false, cond, List, [], ◌∷◌, ◌++◌, length, Option, Some, None, refl, sym, ap, ◌∙◌, arith}
 use Rattle.std.proofs.Math.Nat.{pow-suc, pow-succ', div-one, div-div-eq-div-mul, lt-div-mul-add, one-le-pow}
 use Rattle.std.proofs.lemmas.Bool.Decides.{nat_tests}
+use Rattle.std.proofs.lemmas.List.{length-append}
 use Rattle.dq_value.specs.Digits.{is_digit, number_after, number, digits}
 
 -- one more digit behind a number
@@ -25,16 +26,29 @@ with_last n r small =
     let back : 48 + r - 48 ≡ r = omega arith in
     rw (shown, back) refl
 
-pub number-digits : (count n : ℕ) → n < 10 ^ count → number (digits count n) ≡ Some n
-unfolding number number_after digits
-number-digits zero n small = ap Some (omega arith)
-number-digits (suc count) n small =
+after-digits : (count n : ℕ) → n < 10 ^ count → number_after 0 (digits count n) ≡ Some n
+unfolding number_after digits
+after-digits zero n small = ap Some (omega arith)
+after-digits (suc count) n small =
     let front : n / 10 < 10 ^ count = omega (arith, pow-succ' 10 count) in
     let whole : 10 * (n / 10) + n % 10 ≡ n = omega arith in
     number_after-push 0 (48 + n % 10) (digits count (n / 10))
-    ∙ ap (with_digit (48 + n % 10)) (number-digits count (n / 10) front)
+    ∙ ap (with_digit (48 + n % 10)) (after-digits count (n / 10) front)
     ∙ with_last (n / 10) (n % 10) (omega arith)
     ∙ ap Some whole
+
+pub length-digits : (count n : ℕ) → length (digits count n) ≡ count
+unfolding digits
+length-digits zero n = refl
+length-digits (suc count) n = simp length-append (rw (length-digits count (n / 10)) (omega arith))
+
+pub number-some : (octets : List ℕ) → 0 < length octets → number octets ≡ number_after 0 octets
+unfolding number
+number-some [] some = absurd (omega arith)
+number-some (octet ∷ others) some = refl
+
+pub number-digits : (count n : ℕ) → 0 < count → n < 10 ^ count → number (digits count n) ≡ Some n
+number-digits count n some small = number-some (digits count n) (omega (arith, length-digits count n)) ∙ after-digits count n small
 
 -- the first digit
 digits-cons : (count n : ℕ) → digits (suc count) n ≡ (48 + n / 10 ^ count % 10) ∷ digits count n
@@ -81,6 +95,8 @@ below_power n p some e =
 
 pub number-only : (octets : List ℕ) (n : ℕ) → number octets ≡ Some n → (octets ≡ digits (length octets) n) × (n < 10 ^ length octets)
 unfolding number
-number-only octets n e =
+number-only [] n e = absurd cc
+number-only (x ∷ xs) n e =
+    let octets = x ∷ xs in
     let found = number_after-only octets 0 n e in
     (found.0, below_power n (10 ^ length octets) (one-le-pow (length octets) 10 (omega arith)) found.1)

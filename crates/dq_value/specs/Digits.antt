@@ -14,9 +14,10 @@ number_after before [] = Some before
 number_after before (octet ∷ others) =
     if is_digit octet then number_after (10 * before + (octet - 0x30)) others else None
 
--- the number that digits alone spell
+-- the number that digits alone spell: no digits are no number
 unfoldable pub number : List ℕ → Option ℕ
-number octets = number_after 0 octets
+number [] = None
+number (octet ∷ others) = number_after 0 (octet ∷ others)
 
 -- the last digits of a number, that of the highest power of ten first
 unfoldable pub digits : ℕ → ℕ → List ℕ

@@ -3,5 +3,6 @@ pub mod Digits
 pub mod Parts
 pub mod Range
 pub mod Time
+pub mod Title
 pub mod Trimming
 pub mod Uid

@@ -1,5 +1,5 @@
 -- The values that the octets of an element hold (PS3.5 section 6.4).
-use Rattle.std.specs.Prelude.{◌≡◌, ℕ, ◌<◌, length, Bool, true, false, List, [], ◌∷◌, Option, Some, None, map, nat_eq, if◌then◌else◌}
+use Rattle.std.specs.Prelude.{◌≡◌, ℕ, ◌<◌, length, Bool, true, false, List, [], ◌∷◌, Option, Some, None, map, nat_eq, ◌==◌, if◌then◌else◌}
 use Rattle.std.specs.List.{list_any, join_with_byte}
 use Rattle.dq_vr.specs.declared.Vr.{Vr}
 use Rattle.dq_vr.specs.declared.Vr.TheVariants.{LT, ST, UT, UR, UI}
@@ -40,14 +40,9 @@ pieces_left vr (Some octets) = pieces_of vr octets
 unfoldable pub parts_left : Vr → Option (List ℕ) → List (List ℕ)
 parts_left vr rest = map (trimmed vr) (pieces_left vr rest)
 
--- nothing is left where nothing but padding is there
-unfoldable pub unless_empty : List ℕ → List ℕ → Option (List ℕ)
-unless_empty octets [] = None
-unless_empty octets (_ ∷ _) = Some octets
-
--- the values of an element, each trimmed: none where nothing but padding is there
+-- the values of an element: none where nothing but padding is there, else each piece, trimmed
 unfoldable pub parts : Vr → List ℕ → List (List ℕ)
-parts vr octets = parts_left vr (unless_empty octets (trimmed vr octets))
+parts vr octets = if length (trimmed vr octets) == 0 then [] else map (trimmed vr) (pieces_of vr octets)
 
 -- a list of pieces is a parting of the octets: joined by the separator they are the octets, and none holds it
 pub record IsParting (separator : ℕ) (octets : List ℕ) (found : List (List ℕ)) : Type 0 where

@@ -8,6 +8,7 @@ mod multiplicity;
 mod padding;
 mod ranges;
 mod times;
+mod titles;
 mod uids;
 
 pub use dates::{date_law, date_of};
@@ -16,6 +17,7 @@ pub use multiplicity::{Parts, parting_law, sole_value, values};
 pub use padding::{trimmed, trimming_law};
 pub use ranges::{range_law, range_of};
 pub use times::{time_law, time_of};
+pub use titles::{stripped, stripping_law};
 pub use uids::is_uid;
 
 #[cfg(test)]

@@ -23,7 +23,7 @@ impl<'a> Model for Parts<'a> {
 
 /// The values that the octets of an element hold (PS3.5 section 6.4): none where nothing but padding is
 /// there, else the pieces between backslashes where the VR has several values, each trimmed.
-#[tactic(auto, unfolding(crate::specs::Parts::parts, crate::specs::Parts::unless_empty))]
+#[tactic(auto, unfolding(crate::specs::Parts::parts, crate::specs::Parts::parts_left, crate::specs::Parts::pieces_left))]
 pub fn values(vr: Vr, octets: &[u8]) -> Parts<'_>
     ensures { result ≡ parts vr octets.now }
 {

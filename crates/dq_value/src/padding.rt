@@ -48,7 +48,7 @@ fn ignores_leading_spaces(vr: Vr) -> bool
 }
 
 #[tactic(auto, unfolding(crate::specs::Trimming::without_leading))]
-fn without_leading_spaces(octets: &[u8]) -> &[u8]
+pub(crate) fn without_leading_spaces(octets: &[u8]) -> &[u8]
     ensures { result.now ≡ without_leading is_space octets.now }
 {
     let mut kept = octets;

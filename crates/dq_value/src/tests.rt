@@ -26,6 +26,13 @@ fn padding_is_taken_by_the_vr(rt: HostRuntime) {
     }
 }
 
+// Leading and trailing spaces of an AE have no meaning (PS3.5 table 6.2-1).
+#[test]
+fn titles_are_stripped_of_spaces(rt: HostRuntime) {
+    assert_eq!(rt; stripped(b"  CT 1\t  "), b"CT 1\t".as_slice());
+    assert_eq!(rt; stripped(b"    "), b"".as_slice());
+}
+
 // A backslash parts values, but for LT, ST, UT, UR and binary VRs (PS3.5 section 6.4). The parts stand
 // here with a bar behind each.
 #[test]

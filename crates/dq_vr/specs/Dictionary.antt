@@ -1,188 +1,346 @@
 -- The data elements that this server knows, with the value representation (VR) that the data dictionary
 -- gives each (PS3.6, chapter 6, the columns Tag and VR).
-use Rattle.std.specs.Prelude.{ℕ, List, [], ◌∷◌, Option, Some, None, nat_eq, AllPairs, IsTrue, if◌then◌else◌, ◌&&◌}
+use Rattle.std.specs.Prelude.{List, [], ◌∷◌, Option, Some, None, nat_eq, AllPairs, IsTrue, if◌then◌else◌, ◌&&◌}
 use Rattle.dq_vr.specs.declared.Tag.{Tag}
 use Rattle.dq_vr.specs.declared.Vr.{Vr}
 use Rattle.dq_vr.specs.Tag.{is_below}
+use Rattle.dq_vr.specs.Tags.{
+  specific_character_set,
+  image_type,
+  instance_creation_date,
+  instance_creation_time,
+  instance_creator_uid,
+  sop_class_uid,
+  sop_instance_uid,
+  study_date,
+  series_date,
+  acquisition_date,
+  content_date,
+  acquisition_date_time,
+  study_time,
+  series_time,
+  acquisition_time,
+  content_time,
+  accession_number,
+  query_retrieve_level,
+  retrieve_ae_title,
+  instance_availability,
+  modality,
+  modalities_in_study,
+  sop_classes_in_study,
+  conversion_type,
+  manufacturer,
+  institution_name,
+  institution_address,
+  referring_physician_name,
+  code_value,
+  coding_scheme_designator,
+  coding_scheme_version,
+  code_meaning,
+  timezone_offset_from_utc,
+  station_name,
+  study_description,
+  procedure_code_sequence,
+  series_description,
+  institutional_department_name,
+  physicians_of_record,
+  performing_physician_name,
+  name_of_physicians_reading_study,
+  operators_name,
+  admitting_diagnoses_description,
+  manufacturer_model_name,
+  referenced_study_sequence,
+  referenced_performed_procedure_step_sequence,
+  referenced_series_sequence,
+  referenced_patient_sequence,
+  referenced_image_sequence,
+  referenced_sop_class_uid,
+  referenced_sop_instance_uid,
+  referenced_sop_sequence,
+  derivation_description,
+  source_image_sequence,
+  patient_name,
+  patient_id,
+  issuer_of_patient_id,
+  patient_birth_date,
+  patient_birth_time,
+  patient_sex,
+  other_patient_ids,
+  other_patient_names,
+  patient_age,
+  patient_size,
+  patient_weight,
+  medical_alerts,
+  allergies,
+  ethnic_group,
+  occupation,
+  additional_patient_history,
+  pregnancy_status,
+  patient_comments,
+  body_part_examined,
+  slice_thickness,
+  kvp,
+  repetition_time,
+  echo_time,
+  device_serial_number,
+  software_versions,
+  protocol_name,
+  x_ray_tube_current,
+  patient_position,
+  study_instance_uid,
+  series_instance_uid,
+  study_id,
+  series_number,
+  acquisition_number,
+  instance_number,
+  image_position_patient,
+  image_orientation_patient,
+  frame_of_reference_uid,
+  laterality,
+  slice_location,
+  number_of_study_related_series,
+  number_of_study_related_instances,
+  number_of_series_related_instances,
+  image_comments,
+  samples_per_pixel,
+  photometric_interpretation,
+  number_of_frames,
+  rows,
+  columns,
+  pixel_spacing,
+  bits_allocated,
+  bits_stored,
+  high_bit,
+  pixel_representation,
+  window_center,
+  window_width,
+  rescale_intercept,
+  rescale_slope,
+  requesting_physician,
+  requesting_service,
+  requested_procedure_description,
+  requested_procedure_code_sequence,
+  admission_id,
+  special_needs,
+  current_patient_location,
+  patient_state,
+  scheduled_station_ae_title,
+  scheduled_procedure_step_start_date,
+  scheduled_procedure_step_start_time,
+  scheduled_procedure_step_end_date,
+  scheduled_procedure_step_end_time,
+  scheduled_performing_physician_name,
+  scheduled_procedure_step_description,
+  scheduled_protocol_code_sequence,
+  scheduled_procedure_step_id,
+  scheduled_station_name,
+  scheduled_procedure_step_location,
+  pre_medication,
+  scheduled_procedure_step_status,
+  scheduled_procedure_step_sequence,
+  referenced_non_image_composite_sop_instance_sequence,
+  performed_station_ae_title,
+  performed_station_name,
+  performed_location,
+  performed_procedure_step_start_date,
+  performed_procedure_step_start_time,
+  performed_procedure_step_end_date,
+  performed_procedure_step_end_time,
+  performed_procedure_step_status,
+  performed_procedure_step_id,
+  performed_procedure_step_description,
+  performed_procedure_type_description,
+  performed_protocol_code_sequence,
+  scheduled_step_attributes_sequence,
+  request_attributes_sequence,
+  comments_on_the_performed_procedure_step,
+  performed_procedure_step_discontinuation_reason_code_sequence,
+  performed_series_sequence,
+  requested_procedure_id,
+  reason_for_the_requested_procedure,
+  requested_procedure_priority,
+  patient_transport_arrangements,
+  requested_procedure_comments,
+  placer_order_number_imaging_service_request,
+  filler_order_number_imaging_service_request,
+  imaging_service_request_comments,
+  pixel_data,
+}
 use Rattle.dq_vr.specs.declared.Vr.TheVariants.{AE, AS, CS, DA, DS, DT, IS, LO, LT, OW, PN, SH, SQ, ST, TM, UI, US}
 
--- group, element, VR
+-- A tag and its VR.
 abbrev pub Entry : Type 0
-Entry = ℕ × ℕ × Vr
+Entry = Tag × Vr
 
 unfoldable pub dictionary : List Entry
 dictionary =
-    (0x0008, 0x0005, CS) ∷
-    (0x0008, 0x0008, CS) ∷
-    (0x0008, 0x0012, DA) ∷
-    (0x0008, 0x0013, TM) ∷
-    (0x0008, 0x0014, UI) ∷
-    (0x0008, 0x0016, UI) ∷
-    (0x0008, 0x0018, UI) ∷
-    (0x0008, 0x0020, DA) ∷
-    (0x0008, 0x0021, DA) ∷
-    (0x0008, 0x0022, DA) ∷
-    (0x0008, 0x0023, DA) ∷
-    (0x0008, 0x002a, DT) ∷
-    (0x0008, 0x0030, TM) ∷
-    (0x0008, 0x0031, TM) ∷
-    (0x0008, 0x0032, TM) ∷
-    (0x0008, 0x0033, TM) ∷
-    (0x0008, 0x0050, SH) ∷
-    (0x0008, 0x0052, CS) ∷
-    (0x0008, 0x0054, AE) ∷
-    (0x0008, 0x0056, CS) ∷
-    (0x0008, 0x0060, CS) ∷
-    (0x0008, 0x0061, CS) ∷
-    (0x0008, 0x0062, UI) ∷
-    (0x0008, 0x0064, CS) ∷
-    (0x0008, 0x0070, LO) ∷
-    (0x0008, 0x0080, LO) ∷
-    (0x0008, 0x0081, ST) ∷
-    (0x0008, 0x0090, PN) ∷
-    (0x0008, 0x0100, SH) ∷
-    (0x0008, 0x0102, SH) ∷
-    (0x0008, 0x0103, SH) ∷
-    (0x0008, 0x0104, LO) ∷
-    (0x0008, 0x0201, SH) ∷
-    (0x0008, 0x1010, SH) ∷
-    (0x0008, 0x1030, LO) ∷
-    (0x0008, 0x1032, SQ) ∷
-    (0x0008, 0x103e, LO) ∷
-    (0x0008, 0x1040, LO) ∷
-    (0x0008, 0x1048, PN) ∷
-    (0x0008, 0x1050, PN) ∷
-    (0x0008, 0x1060, PN) ∷
-    (0x0008, 0x1070, PN) ∷
-    (0x0008, 0x1080, LO) ∷
-    (0x0008, 0x1090, LO) ∷
-    (0x0008, 0x1110, SQ) ∷
-    (0x0008, 0x1111, SQ) ∷
-    (0x0008, 0x1115, SQ) ∷
-    (0x0008, 0x1120, SQ) ∷
-    (0x0008, 0x1140, SQ) ∷
-    (0x0008, 0x1150, UI) ∷
-    (0x0008, 0x1155, UI) ∷
-    (0x0008, 0x1199, SQ) ∷
-    (0x0008, 0x2111, ST) ∷
-    (0x0008, 0x2112, SQ) ∷
-    (0x0010, 0x0010, PN) ∷
-    (0x0010, 0x0020, LO) ∷
-    (0x0010, 0x0021, LO) ∷
-    (0x0010, 0x0030, DA) ∷
-    (0x0010, 0x0032, TM) ∷
-    (0x0010, 0x0040, CS) ∷
-    (0x0010, 0x1000, LO) ∷
-    (0x0010, 0x1001, PN) ∷
-    (0x0010, 0x1010, AS) ∷
-    (0x0010, 0x1020, DS) ∷
-    (0x0010, 0x1030, DS) ∷
-    (0x0010, 0x2000, LO) ∷
-    (0x0010, 0x2110, LO) ∷
-    (0x0010, 0x2160, SH) ∷
-    (0x0010, 0x2180, SH) ∷
-    (0x0010, 0x21b0, LT) ∷
-    (0x0010, 0x21c0, US) ∷
-    (0x0010, 0x4000, LT) ∷
-    (0x0018, 0x0015, CS) ∷
-    (0x0018, 0x0050, DS) ∷
-    (0x0018, 0x0060, DS) ∷
-    (0x0018, 0x0080, DS) ∷
-    (0x0018, 0x0081, DS) ∷
-    (0x0018, 0x1000, LO) ∷
-    (0x0018, 0x1020, LO) ∷
-    (0x0018, 0x1030, LO) ∷
-    (0x0018, 0x1151, IS) ∷
-    (0x0018, 0x5100, CS) ∷
-    (0x0020, 0x000d, UI) ∷
-    (0x0020, 0x000e, UI) ∷
-    (0x0020, 0x0010, SH) ∷
-    (0x0020, 0x0011, IS) ∷
-    (0x0020, 0x0012, IS) ∷
-    (0x0020, 0x0013, IS) ∷
-    (0x0020, 0x0032, DS) ∷
-    (0x0020, 0x0037, DS) ∷
-    (0x0020, 0x0052, UI) ∷
-    (0x0020, 0x0060, CS) ∷
-    (0x0020, 0x1041, DS) ∷
-    (0x0020, 0x1206, IS) ∷
-    (0x0020, 0x1208, IS) ∷
-    (0x0020, 0x1209, IS) ∷
-    (0x0020, 0x4000, LT) ∷
-    (0x0028, 0x0002, US) ∷
-    (0x0028, 0x0004, CS) ∷
-    (0x0028, 0x0008, IS) ∷
-    (0x0028, 0x0010, US) ∷
-    (0x0028, 0x0011, US) ∷
-    (0x0028, 0x0030, DS) ∷
-    (0x0028, 0x0100, US) ∷
-    (0x0028, 0x0101, US) ∷
-    (0x0028, 0x0102, US) ∷
-    (0x0028, 0x0103, US) ∷
-    (0x0028, 0x1050, DS) ∷
-    (0x0028, 0x1051, DS) ∷
-    (0x0028, 0x1052, DS) ∷
-    (0x0028, 0x1053, DS) ∷
-    (0x0032, 0x1032, PN) ∷
-    (0x0032, 0x1033, LO) ∷
-    (0x0032, 0x1060, LO) ∷
-    (0x0032, 0x1064, SQ) ∷
-    (0x0038, 0x0010, LO) ∷
-    (0x0038, 0x0050, LO) ∷
-    (0x0038, 0x0300, LO) ∷
-    (0x0038, 0x0500, LO) ∷
-    (0x0040, 0x0001, AE) ∷
-    (0x0040, 0x0002, DA) ∷
-    (0x0040, 0x0003, TM) ∷
-    (0x0040, 0x0004, DA) ∷
-    (0x0040, 0x0005, TM) ∷
-    (0x0040, 0x0006, PN) ∷
-    (0x0040, 0x0007, LO) ∷
-    (0x0040, 0x0008, SQ) ∷
-    (0x0040, 0x0009, SH) ∷
-    (0x0040, 0x0010, SH) ∷
-    (0x0040, 0x0011, SH) ∷
-    (0x0040, 0x0012, LO) ∷
-    (0x0040, 0x0020, CS) ∷
-    (0x0040, 0x0100, SQ) ∷
-    (0x0040, 0x0220, SQ) ∷
-    (0x0040, 0x0241, AE) ∷
-    (0x0040, 0x0242, SH) ∷
-    (0x0040, 0x0243, SH) ∷
-    (0x0040, 0x0244, DA) ∷
-    (0x0040, 0x0245, TM) ∷
-    (0x0040, 0x0250, DA) ∷
-    (0x0040, 0x0251, TM) ∷
-    (0x0040, 0x0252, CS) ∷
-    (0x0040, 0x0253, SH) ∷
-    (0x0040, 0x0254, LO) ∷
-    (0x0040, 0x0255, LO) ∷
-    (0x0040, 0x0260, SQ) ∷
-    (0x0040, 0x0270, SQ) ∷
-    (0x0040, 0x0275, SQ) ∷
-    (0x0040, 0x0280, ST) ∷
-    (0x0040, 0x0281, SQ) ∷
-    (0x0040, 0x0340, SQ) ∷
-    (0x0040, 0x1001, SH) ∷
-    (0x0040, 0x1002, LO) ∷
-    (0x0040, 0x1003, SH) ∷
-    (0x0040, 0x1004, LO) ∷
-    (0x0040, 0x1400, LT) ∷
-    (0x0040, 0x2016, LO) ∷
-    (0x0040, 0x2017, LO) ∷
-    (0x0040, 0x2400, LT) ∷
-    (0x7fe0, 0x0010, OW) ∷
+    (specific_character_set, CS) ∷
+    (image_type, CS) ∷
+    (instance_creation_date, DA) ∷
+    (instance_creation_time, TM) ∷
+    (instance_creator_uid, UI) ∷
+    (sop_class_uid, UI) ∷
+    (sop_instance_uid, UI) ∷
+    (study_date, DA) ∷
+    (series_date, DA) ∷
+    (acquisition_date, DA) ∷
+    (content_date, DA) ∷
+    (acquisition_date_time, DT) ∷
+    (study_time, TM) ∷
+    (series_time, TM) ∷
+    (acquisition_time, TM) ∷
+    (content_time, TM) ∷
+    (accession_number, SH) ∷
+    (query_retrieve_level, CS) ∷
+    (retrieve_ae_title, AE) ∷
+    (instance_availability, CS) ∷
+    (modality, CS) ∷
+    (modalities_in_study, CS) ∷
+    (sop_classes_in_study, UI) ∷
+    (conversion_type, CS) ∷
+    (manufacturer, LO) ∷
+    (institution_name, LO) ∷
+    (institution_address, ST) ∷
+    (referring_physician_name, PN) ∷
+    (code_value, SH) ∷
+    (coding_scheme_designator, SH) ∷
+    (coding_scheme_version, SH) ∷
+    (code_meaning, LO) ∷
+    (timezone_offset_from_utc, SH) ∷
+    (station_name, SH) ∷
+    (study_description, LO) ∷
+    (procedure_code_sequence, SQ) ∷
+    (series_description, LO) ∷
+    (institutional_department_name, LO) ∷
+    (physicians_of_record, PN) ∷
+    (performing_physician_name, PN) ∷
+    (name_of_physicians_reading_study, PN) ∷
+    (operators_name, PN) ∷
+    (admitting_diagnoses_description, LO) ∷
+    (manufacturer_model_name, LO) ∷
+    (referenced_study_sequence, SQ) ∷
+    (referenced_performed_procedure_step_sequence, SQ) ∷
+    (referenced_series_sequence, SQ) ∷
+    (referenced_patient_sequence, SQ) ∷
+    (referenced_image_sequence, SQ) ∷
+    (referenced_sop_class_uid, UI) ∷
+    (referenced_sop_instance_uid, UI) ∷
+    (referenced_sop_sequence, SQ) ∷
+    (derivation_description, ST) ∷
+    (source_image_sequence, SQ) ∷
+    (patient_name, PN) ∷
+    (patient_id, LO) ∷
+    (issuer_of_patient_id, LO) ∷
+    (patient_birth_date, DA) ∷
+    (patient_birth_time, TM) ∷
+    (patient_sex, CS) ∷
+    (other_patient_ids, LO) ∷
+    (other_patient_names, PN) ∷
+    (patient_age, AS) ∷
+    (patient_size, DS) ∷
+    (patient_weight, DS) ∷
+    (medical_alerts, LO) ∷
+    (allergies, LO) ∷
+    (ethnic_group, SH) ∷
+    (occupation, SH) ∷
+    (additional_patient_history, LT) ∷
+    (pregnancy_status, US) ∷
+    (patient_comments, LT) ∷
+    (body_part_examined, CS) ∷
+    (slice_thickness, DS) ∷
+    (kvp, DS) ∷
+    (repetition_time, DS) ∷
+    (echo_time, DS) ∷
+    (device_serial_number, LO) ∷
+    (software_versions, LO) ∷
+    (protocol_name, LO) ∷
+    (x_ray_tube_current, IS) ∷
+    (patient_position, CS) ∷
+    (study_instance_uid, UI) ∷
+    (series_instance_uid, UI) ∷
+    (study_id, SH) ∷
+    (series_number, IS) ∷
+    (acquisition_number, IS) ∷
+    (instance_number, IS) ∷
+    (image_position_patient, DS) ∷
+    (image_orientation_patient, DS) ∷
+    (frame_of_reference_uid, UI) ∷
+    (laterality, CS) ∷
+    (slice_location, DS) ∷
+    (number_of_study_related_series, IS) ∷
+    (number_of_study_related_instances, IS) ∷
+    (number_of_series_related_instances, IS) ∷
+    (image_comments, LT) ∷
+    (samples_per_pixel, US) ∷
+    (photometric_interpretation, CS) ∷
+    (number_of_frames, IS) ∷
+    (rows, US) ∷
+    (columns, US) ∷
+    (pixel_spacing, DS) ∷
+    (bits_allocated, US) ∷
+    (bits_stored, US) ∷
+    (high_bit, US) ∷
+    (pixel_representation, US) ∷
+    (window_center, DS) ∷
+    (window_width, DS) ∷
+    (rescale_intercept, DS) ∷
+    (rescale_slope, DS) ∷
+    (requesting_physician, PN) ∷
+    (requesting_service, LO) ∷
+    (requested_procedure_description, LO) ∷
+    (requested_procedure_code_sequence, SQ) ∷
+    (admission_id, LO) ∷
+    (special_needs, LO) ∷
+    (current_patient_location, LO) ∷
+    (patient_state, LO) ∷
+    (scheduled_station_ae_title, AE) ∷
+    (scheduled_procedure_step_start_date, DA) ∷
+    (scheduled_procedure_step_start_time, TM) ∷
+    (scheduled_procedure_step_end_date, DA) ∷
+    (scheduled_procedure_step_end_time, TM) ∷
+    (scheduled_performing_physician_name, PN) ∷
+    (scheduled_procedure_step_description, LO) ∷
+    (scheduled_protocol_code_sequence, SQ) ∷
+    (scheduled_procedure_step_id, SH) ∷
+    (scheduled_station_name, SH) ∷
+    (scheduled_procedure_step_location, SH) ∷
+    (pre_medication, LO) ∷
+    (scheduled_procedure_step_status, CS) ∷
+    (scheduled_procedure_step_sequence, SQ) ∷
+    (referenced_non_image_composite_sop_instance_sequence, SQ) ∷
+    (performed_station_ae_title, AE) ∷
+    (performed_station_name, SH) ∷
+    (performed_location, SH) ∷
+    (performed_procedure_step_start_date, DA) ∷
+    (performed_procedure_step_start_time, TM) ∷
+    (performed_procedure_step_end_date, DA) ∷
+    (performed_procedure_step_end_time, TM) ∷
+    (performed_procedure_step_status, CS) ∷
+    (performed_procedure_step_id, SH) ∷
+    (performed_procedure_step_description, LO) ∷
+    (performed_procedure_type_description, LO) ∷
+    (performed_protocol_code_sequence, SQ) ∷
+    (scheduled_step_attributes_sequence, SQ) ∷
+    (request_attributes_sequence, SQ) ∷
+    (comments_on_the_performed_procedure_step, ST) ∷
+    (performed_procedure_step_discontinuation_reason_code_sequence, SQ) ∷
+    (performed_series_sequence, SQ) ∷
+    (requested_procedure_id, SH) ∷
+    (reason_for_the_requested_procedure, LO) ∷
+    (requested_procedure_priority, SH) ∷
+    (patient_transport_arrangements, LO) ∷
+    (requested_procedure_comments, LT) ∷
+    (placer_order_number_imaging_service_request, LO) ∷
+    (filler_order_number_imaging_service_request, LO) ∷
+    (imaging_service_request_comments, LT) ∷
+    (pixel_data, OW) ∷
     []
-
--- the tag of an entry
-abbrev pub tag_of : Entry → Tag
-tag_of entry = record { group = entry.0; element = entry.1 }
 
 -- the VR that a list of entries gives a tag, by its first entry for the tag
 unfoldable pub vr_in : List Entry → Tag → Option Vr
 vr_in [] tag = None
 vr_in (entry ∷ others) tag =
-    if nat_eq entry.0 tag.group && nat_eq entry.1 tag.element then Some entry.2 else vr_in others tag
+    if nat_eq entry.0.group tag.group && nat_eq entry.0.element tag.element then Some entry.1 else vr_in others tag
 
 -- the VR of a known tag
 unfoldable pub known_vr : Tag → Option Vr
@@ -190,4 +348,4 @@ known_vr tag = vr_in dictionary tag
 
 -- each entry's tag is below the tags of all later ones
 unfoldable pub Rises : List Entry → Type 0
-Rises entries = AllPairs (λ earlier later. IsTrue (is_below (tag_of earlier) (tag_of later))) entries
+Rises entries = AllPairs (λ earlier later. IsTrue (is_below earlier.0 later.0)) entries

@@ -1,3 +1,4 @@
 pub mod Dictionary
 pub mod Tag
+pub mod Tags
 pub mod Vr

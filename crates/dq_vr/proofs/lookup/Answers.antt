@@ -1,10 +1,14 @@
 use Rattle.dq_vr.specs.Dictionary.{dictionary, known_vr}
-use Rattle.dq_vr.proofs.Rising.{dictionary_rises}
+use Rattle.dq_vr.proofs.Rising.{dictionary_rises, dictionary_short}
 use Rattle.dq_vr.proofs.lookup.Goals as goal
 
-pub vr_in-requires : goal.vr_in-requires
+pub vr_in-requires-clause-rises : goal.vr_in-requires-clause-rises
 unfolding dictionary
-vr_in-requires c = dictionary_rises
+vr_in-requires-clause-rises c = dictionary_rises
+
+pub vr_in-requires-clause-tags : goal.vr_in-requires-clause-tags
+unfolding dictionary
+vr_in-requires-clause-tags c = dictionary_short
 
 pub returns : goal.returns
 unfolding known_vr dictionary

@@ -1,0 +1,217 @@
+-- What is cut out of a data set, and what is merged from two.
+use Rattle.std.proofs.Common.{◌≡◌, ℕ, suc, ◌-◌, ◌<◌, Bool, true, false, cond, ◌&&◌, ◌||◌, List, [], ◌∷◌, ◌++◌, length, get_or, take, drop, Option, Some, None, refl, sym, ap, subst, ◌∙◌, append_assoc, ◌+◌, arith, inl, inr, ◌⊎◌}
+use Rattle.std.specs.Prelude.{filter, nat_lt, nat_eq}
+use Rattle.std.proofs.lemmas.List.{take_all, take_more}
+use Rattle.std.proofs.lemmas.Bool.Decides.{nat_tests}
+use Rattle.dq_vr.specs.declared.Tag.{Tag}
+use Rattle.dq_vr.specs.declared.Vr.{Vr}
+use Rattle.dq_vr.specs.Tag.{is_below}
+use Rattle.dq_dataset.specs.declared.header.Syntax.{Syntax}
+use Rattle.dq_dataset.specs.declared.data_set.Element.{Element}
+use Rattle.dq_dataset.specs.declared.data_set.Value.{Value}
+use Rattle.dq_dataset.specs.declared.data_set.Value.TheVariants.{Octets, Items}
+use Rattle.dq_dataset.specs.Tree.{ElementList}
+use Rattle.dq_dataset.specs.View.{as_elements, elements_of, with_value, has_tag}
+use Rattle.dq_dataset.specs.Reading.{follows}
+use Rattle.dq_dataset.specs.Facts.{IsElementTag, AreElements, IsDataSet}
+use Rattle.dq_dataset.specs.Canonical.{HasLengths}
+use Rattle.dq_dataset.specs.Parts.{ElementHasLengths}
+use Rattle.dq_dataset.specs.Editing.{is_listed, cut_out, elements_below, elements_above, merged_elements, merged}
+use Rattle.dq_dataset.proofs.SpelledIsSound.{after_earlier, IsValue, with_value_is}
+use Rattle.dq_dataset.proofs.Spelled.{lengths-cons}
+use Rattle.dq_dataset.proofs.Views.{as_elements-elements_of, elements_of-as_elements}
+
+-- ---- tags
+
+below-asym : (a b : Tag) → is_below a b ≡ true → is_below b a ≡ false
+unfolding is_below
+below-asym a b h = grind (arith, nat_tests)
+
+below-other : (a b : Tag) → is_below a b ≡ false → (nat_eq a.group b.group && nat_eq a.element b.element) ≡ false → is_below b a ≡ true
+unfolding is_below
+below-other a b h k = grind (arith, nat_tests)
+
+same_tags : (a b : Tag) → (nat_eq a.group b.group && nat_eq a.element b.element) ≡ true → a ≡ b
+same_tags a b h =
+    let group : a.group ≡ b.group = grind (arith, nat_tests) in
+    let number : a.element ≡ b.element = grind (arith, nat_tests) in
+    λ i. record { group = group i; element = number i }
+
+-- ---- one element before others
+
+value_parts : (levels : ℕ) (last : Option Tag) (tag : Tag) (vr : Vr) (held : Value) (others : ElementList) → AreElements levels last (with_value (record { tag = tag; vr = vr; value = held }) held others)
+    → IsElementTag last tag × IsValue levels tag vr held × AreElements levels (Some tag) others
+value_parts levels last tag vr (Octets octets) others h = h
+value_parts levels last tag vr (Items items) others h = (h.0, (h.1, h.2, h.3), h.4)
+
+pub facts-parts : (levels : ℕ) (last : Option Tag) (e : Element) (es : List Element) → AreElements levels last (as_elements (e ∷ es))
+    → IsElementTag last e.tag × IsValue levels e.tag e.vr e.value × AreElements levels (Some e.tag) (as_elements es)
+facts-parts levels last e es h = value_parts levels last e.tag e.vr e.value (as_elements es) h
+
+facts-cons : (levels : ℕ) (last : Option Tag) (e : Element) (es : List Element) → IsElementTag last e.tag → IsValue levels e.tag e.vr e.value → AreElements levels (Some e.tag) (as_elements es)
+    → AreElements levels last (as_elements (e ∷ es))
+facts-cons levels last e es t v rest = with_value_is levels last e.tag e.vr e.value (as_elements es) t v rest
+
+lengths_join : (s : Syntax) (t : Tag) (v : Vr) (x : Value) (rest : ElementList) → ElementHasLengths s (record { tag = t; vr = v; value = x }) → HasLengths s rest
+    → HasLengths s (with_value (record { tag = t; vr = v; value = x }) x rest)
+lengths_join s t v (Octets o) rest h k = (h.0, k)
+lengths_join s t v (Items ds) rest h k = (h.0, h.1, k)
+
+lengths-join : (s : Syntax) (e : Element) (es : List Element) → ElementHasLengths s e → HasLengths s (as_elements es) → HasLengths s (as_elements (e ∷ es))
+lengths-join s e es h k = lengths_join s e.tag e.vr e.value (as_elements es) h k
+
+-- ---- some of the elements, in order
+
+filter_by : (b : Bool) (levels : ℕ) (last : Option Tag) (e : Element) (es : List Element) → IsElementTag last e.tag → IsValue levels e.tag e.vr e.value → AreElements levels (Some e.tag) (as_elements es)
+    → AreElements levels last (as_elements (cond b (e ∷ es) es))
+filter_by true levels last e es t v rest = facts-cons levels last e es t v rest
+filter_by false levels last e es t v rest = after_earlier levels last e.tag (as_elements es) t.rises rest
+
+pub facts-filter : (p : Element → Bool) (levels : ℕ) (last : Option Tag) (es : List Element) → AreElements levels last (as_elements es) → AreElements levels last (as_elements (filter p es))
+facts-filter p levels last [] h = tt
+facts-filter p levels last (e ∷ es) h =
+    let parts = facts-parts levels last e es h in
+    filter_by (p e) levels last e (filter p es) parts.0 parts.1 (facts-filter p levels (Some e.tag) es parts.2)
+
+lengths_by : (b : Bool) (s : Syntax) (e : Element) (es : List Element) → ElementHasLengths s e → HasLengths s (as_elements es) → HasLengths s (as_elements (cond b (e ∷ es) es))
+lengths_by true s e es h k = lengths-join s e es h k
+lengths_by false s e es h k = k
+
+lengths-filter : (p : Element → Bool) (s : Syntax) (es : List Element) → HasLengths s (as_elements es) → HasLengths s (as_elements (filter p es))
+lengths-filter p s [] h = tt
+lengths-filter p s (e ∷ es) h =
+    let parts = lengths-cons s e es h in
+    lengths_by (p e) s e (filter p es) parts.0 (lengths-filter p s es parts.1)
+
+pub cut_is : (tags : List Tag) (d : ElementList) → IsDataSet d → IsDataSet (cut_out tags d)
+cut_is tags d h = facts-filter (is_listed tags) 16 None (elements_of d) (rw as_elements-elements_of h)
+
+pub cut_has_lengths : (s : Syntax) (tags : List Tag) (d : ElementList) → HasLengths s d → HasLengths s (cut_out tags d)
+cut_has_lengths s tags d h = lengths-filter (is_listed tags) s (elements_of d) (rw as_elements-elements_of h)
+
+-- ---- merging, an element at a time
+
+all_above : (levels : ℕ) (tag : Tag) (es : List Element) → AreElements levels (Some tag) (as_elements es) → (elements_below tag es ≡ []) × (elements_above tag es ≡ es)
+all_above levels tag [] h = (refl, refl)
+all_above levels tag (e ∷ es) h =
+    let parts = facts-parts levels (Some tag) e es h in
+    let above : is_below tag e.tag ≡ true = parts.0.rises in
+    let later = all_above levels tag es (after_earlier levels (Some tag) e.tag (as_elements es) above parts.2) in
+    (rw (below-asym tag e.tag above) later.0, rw above (ap (λ (xs : List Element). e ∷ xs) later.1))
+
+pub next_is_kept : (first : Element) (rest : List Element) (new : Element) (others : List Element) → is_below first.tag new.tag ≡ true
+    → merged_elements (first ∷ rest) (new ∷ others) ≡ first ∷ merged_elements rest (new ∷ others)
+next_is_kept first rest new others h = rw (h, below-asym first.tag new.tag h) refl
+
+next_is_new_by : (new : Element) (kept others below above : List Element) → below ≡ [] → above ≡ kept → below ++ new ∷ merged_elements above others ≡ new ∷ merged_elements kept others
+next_is_new_by new kept others below above b a = rw (b, a) refl
+
+irreflexive : (a : Tag) → is_below a a ≡ false
+unfolding is_below
+irreflexive a = grind (arith, nat_tests)
+
+pub next_replaces : (first : Element) (rest : List Element) (new : Element) (others : List Element) → IsDataSet (as_elements (first ∷ rest))
+    → (nat_eq first.tag.group new.tag.group && nat_eq first.tag.element new.tag.element) ≡ true → merged_elements (first ∷ rest) (new ∷ others) ≡ new ∷ merged_elements rest others
+next_replaces first rest new others h same =
+    let one : first.tag ≡ new.tag = same_tags first.tag new.tag same in
+    let rises = facts-parts 16 None first rest h in
+    let above = all_above 16 new.tag rest (subst (λ (t : Tag). AreElements 16 (Some t) (as_elements rest)) one rises.2) in
+    let no : is_below first.tag new.tag ≡ false = rw one (irreflexive new.tag) in
+    let no' : is_below new.tag first.tag ≡ false = rw one (irreflexive new.tag) in
+    rw (no, no') (next_is_new_by new rest others (elements_below new.tag rest) (elements_above new.tag rest) above.0 above.1)
+
+pub next_joins : (first : Element) (rest : List Element) (new : Element) (others : List Element) → IsDataSet (as_elements (first ∷ rest)) → is_below first.tag new.tag ≡ false
+    → (nat_eq first.tag.group new.tag.group && nat_eq first.tag.element new.tag.element) ≡ false → merged_elements (first ∷ rest) (new ∷ others) ≡ new ∷ merged_elements (first ∷ rest) others
+next_joins first rest new others h not_below other =
+    let after : is_below new.tag first.tag ≡ true = below-other first.tag new.tag not_below other in
+    let rises = facts-parts 16 None first rest h in
+    let tag_is = rises.0 in
+    let placed : IsElementTag (Some new.tag) first.tag = record { rises = after; no_delimiter = tag_is.no_delimiter; no_length = tag_is.no_length; group = tag_is.group; number = tag_is.number } in
+    let above = all_above 16 new.tag (first ∷ rest) (facts-cons 16 (Some new.tag) first rest placed rises.1 rises.2) in
+    next_is_new_by new (first ∷ rest) others (elements_below new.tag (first ∷ rest)) (elements_above new.tag (first ∷ rest)) above.0 above.1
+
+-- the first of a slice, and the others
+pub first_and_rest : {A : Type 0} (xs : List A) (x : A) → 0 < length xs → x ≡ get_or xs 0 x → xs ≡ x ∷ take (length xs - 1) (drop 1 xs)
+first_and_rest [] x lt is = absurd (omega arith)
+first_and_rest (y ∷ ys) x lt is =
+    let one_less : length (y ∷ ys) - 1 ≡ length ys = omega arith in
+    rw (one_less, take_all (length ys) ys (omega arith)) (ap (λ (z : _). z ∷ ys) (sym is))
+
+-- comparing goes on behind two that are the same
+pub same_so_far : {A : Type 0} (items others left rest : List A) (i : ℕ) (x y : A) → i < length items → x ≡ get_or items i x → others ≡ take i items ++ left → left ≡ y ∷ rest → x ≡ y
+    → others ≡ take (i + 1) items ++ rest
+same_so_far {A} items others left rest i x y lt is before parts same =
+    let next : take (i + 1) items ≡ take i items ++ x ∷ [] = take_more items i x lt ∙ ap (λ (z : A). take i items ++ z ∷ []) (sym is) in
+    rw (next, append_assoc) (before ∙ ap (λ (z : List A). take i items ++ z) (parts ∙ ap (λ (z : A). z ∷ rest) (sym same)))
+
+-- the same of slices
+pub kept_first : (kept sent : List Element) (first : Element) (rest : List Element) (new : Element) (others : List Element) → kept ≡ first ∷ rest → sent ≡ new ∷ others
+    → is_below first.tag new.tag ≡ true → merged_elements kept sent ≡ first ∷ merged_elements rest sent
+kept_first kept sent first rest new others k s h = rw (k, s) (next_is_kept first rest new others h)
+
+pub replaced_first : (kept sent : List Element) (first : Element) (rest : List Element) (new : Element) (others : List Element) → kept ≡ first ∷ rest → sent ≡ new ∷ others
+    → IsDataSet (as_elements kept) → (nat_eq first.tag.group new.tag.group && nat_eq first.tag.element new.tag.element) ≡ true → merged_elements kept sent ≡ new ∷ merged_elements rest others
+replaced_first kept sent first rest new others k s h same = rw (k, s) (next_replaces first rest new others (rw k at h) same)
+
+pub joined_first : (kept sent : List Element) (first : Element) (rest : List Element) (new : Element) (others : List Element) → kept ≡ first ∷ rest → sent ≡ new ∷ others
+    → IsDataSet (as_elements kept) → is_below first.tag new.tag ≡ false → (nat_eq first.tag.group new.tag.group && nat_eq first.tag.element new.tag.element) ≡ false
+    → merged_elements kept sent ≡ new ∷ merged_elements kept others
+joined_first kept sent first rest new others k s h below other = rw (k, s) (next_joins first rest new others (rw k at h) below other)
+
+-- ---- what is merged is a data set
+
+with_last : (last next : Option Tag) (tag : Tag) → follows next tag ≡ true → IsElementTag last tag → IsElementTag next tag
+with_last last next tag rises h = record { rises = rises; no_delimiter = h.no_delimiter; no_length = h.no_length; group = h.group; number = h.number }
+
+before_by : (b : Bool) (levels : ℕ) (last : Option Tag) (x : Element) (below : List Element) (e : Element) (rest : List Element) → is_below x.tag e.tag ≡ b → IsElementTag last x.tag
+    → IsValue levels x.tag x.vr x.value → IsElementTag last e.tag → (IsElementTag (Some x.tag) e.tag → AreElements levels (Some x.tag) (as_elements (below ++ e ∷ rest)))
+    → AreElements levels last (as_elements (below ++ e ∷ rest)) → AreElements levels last (as_elements (cond b (x ∷ below) below ++ e ∷ rest))
+before_by true levels last x below e rest is tx vx te later others = facts-cons levels last x (below ++ e ∷ rest) tx vx (later (with_last last (Some x.tag) e.tag is te))
+before_by false levels last x below e rest is tx vx te later others = others
+
+before_one : (levels : ℕ) (last : Option Tag) (kept : List Element) (e : Element) (rest : List Element) → AreElements levels last (as_elements kept) → IsElementTag last e.tag
+    → IsValue levels e.tag e.vr e.value → AreElements levels (Some e.tag) (as_elements rest) → AreElements levels last (as_elements (elements_below e.tag kept ++ e ∷ rest))
+before_one levels last [] e rest k t v r = facts-cons levels last e rest t v r
+before_one levels last (x ∷ xs) e rest k t v r =
+    let parts = facts-parts levels last x xs k in
+    before_by (is_below x.tag e.tag) levels last x (elements_below e.tag xs) e rest refl parts.0 parts.1 t (λ placed. before_one levels (Some x.tag) xs e rest parts.2 placed v r)
+    (before_one levels last xs e rest (after_earlier levels last x.tag (as_elements xs) parts.0.rises parts.2) t v r)
+
+above_by : (b : Bool) (levels : ℕ) (last : Option Tag) (tag : Tag) (x : Element) (above : List Element) → is_below tag x.tag ≡ b → IsElementTag last x.tag → IsValue levels x.tag x.vr x.value
+    → AreElements levels (Some x.tag) (as_elements above) → AreElements levels (Some tag) (as_elements above) → AreElements levels (Some tag) (as_elements (cond b (x ∷ above) above))
+above_by true levels last tag x above is t v later others = facts-cons levels (Some tag) x above (with_last last (Some tag) x.tag is t) v later
+above_by false levels last tag x above is t v later others = others
+
+facts-above : (levels : ℕ) (last : Option Tag) (tag : Tag) (es : List Element) → AreElements levels last (as_elements es) → AreElements levels (Some tag) (as_elements (elements_above tag es))
+facts-above levels last tag [] h = tt
+facts-above levels last tag (x ∷ xs) h =
+    let parts = facts-parts levels last x xs h in
+    above_by (is_below tag x.tag) levels last tag x (elements_above tag xs) refl parts.0 parts.1 (facts-filter (λ e. is_below tag e.tag) levels (Some x.tag) xs parts.2)
+    (facts-above levels (Some x.tag) tag xs parts.2)
+
+facts-merged : (levels : ℕ) (last : Option Tag) (kept sent : List Element) → AreElements levels last (as_elements kept) → AreElements levels last (as_elements sent)
+    → AreElements levels last (as_elements (merged_elements kept sent))
+facts-merged levels last kept [] k s = k
+facts-merged levels last kept (e ∷ sent) k s =
+    let parts = facts-parts levels last e sent s in
+    before_one levels last kept e (merged_elements (elements_above e.tag kept) sent) k parts.0 parts.1
+    (facts-merged levels (Some e.tag) (elements_above e.tag kept) sent (facts-above levels last e.tag kept k) parts.2)
+
+pub merged_is : (kept sent : ElementList) → IsDataSet kept → IsDataSet sent → IsDataSet (merged kept sent)
+merged_is kept sent k s = facts-merged 16 None (elements_of kept) (elements_of sent) (rw as_elements-elements_of k) (rw as_elements-elements_of s)
+
+lengths-append : (s : Syntax) (xs ys : List Element) → HasLengths s (as_elements xs) → HasLengths s (as_elements ys) → HasLengths s (as_elements (xs ++ ys))
+lengths-append s [] ys h k = k
+lengths-append s (x ∷ xs) ys h k =
+    let parts = lengths-cons s x xs h in
+    lengths-join s x (xs ++ ys) parts.0 (lengths-append s xs ys parts.1 k)
+
+lengths-merged : (s : Syntax) (kept sent : List Element) → HasLengths s (as_elements kept) → HasLengths s (as_elements sent) → HasLengths s (as_elements (merged_elements kept sent))
+lengths-merged s kept [] k h = k
+lengths-merged s kept (e ∷ sent) k h =
+    let parts = lengths-cons s e sent h in
+    lengths-append s (elements_below e.tag kept) (e ∷ merged_elements (elements_above e.tag kept) sent) (lengths-filter (λ x. is_below x.tag e.tag) s kept k)
+    (lengths-join s e (merged_elements (elements_above e.tag kept) sent) parts.0 (lengths-merged s (elements_above e.tag kept) sent (lengths-filter (λ x. is_below e.tag x.tag) s kept k) parts.1))
+
+pub merged_has_lengths : (s : Syntax) (kept sent : ElementList) → HasLengths s kept → HasLengths s sent → HasLengths s (merged kept sent)
+merged_has_lengths s kept sent k h = lengths-merged s (elements_of kept) (elements_of sent) (rw as_elements-elements_of k) (rw as_elements-elements_of h)

@@ -1,0 +1,301 @@
+-- The faults at a header, in their order, are those that reading meets.
+use Rattle.std.proofs.Common.{◌≡◌, ℕ, zero, suc, ◌-◌, ◌<◌, ◌≤◌, Bool, true, false, not, cond, ltb, eqb, ◌&&◌, ◌||◌, List, [], ◌∷◌, ◌++◌, length, take, drop, Option, Some, None, Result, Ok, Err, refl, sym, ap, subst, ◌∙◌, arith, inl, inr, ◌⊎◌}
+use Rattle.std.specs.Prelude.{is_none}
+use Rattle.std.specs.Int.{Width, w16, w32, byte_len, from_le_bytes}
+use Rattle.std.proofs.lemmas.Bool.{ltb-true, ltb-false, lt-ltb, le-ltb, ne_eqb, eqb-true}
+use Rattle.dq_vr.specs.declared.Tag.{Tag}
+use Rattle.dq_vr.specs.declared.Vr.{Vr}
+use Rattle.dq_vr.specs.declared.LengthForm.{LengthForm}
+use Rattle.dq_vr.specs.declared.LengthForm.TheVariants.{Two, Four}
+use Rattle.dq_vr.specs.Dictionary.{known_vr}
+use Rattle.dq_vr.specs.Vr.{length_form_of, vr_with_letters}
+use Rattle.dq_dataset.specs.declared.fault.ReadFault.{ReadFault}
+use Rattle.dq_dataset.specs.declared.fault.ReadFault.TheVariants.{Truncated, BadVr, TagOrder, BadItem, BadUndefined, TooDeep}
+use Rattle.dq_dataset.specs.declared.header.Syntax.{Syntax}
+use Rattle.dq_dataset.specs.declared.header.Syntax.TheVariants.{Implicit, Explicit}
+use Rattle.dq_dataset.specs.declared.header.Bound.{Bound}
+use Rattle.dq_dataset.specs.declared.header.Bound.TheVariants.{Filled, Delimited}
+use Rattle.dq_dataset.specs.declared.header.Content.{Content}
+use Rattle.dq_dataset.specs.declared.header.Content.TheVariants.{Plain, Sequence}
+use Rattle.dq_dataset.specs.declared.header.Header.{Header}
+use Rattle.dq_dataset.specs.Rules.{is_sequence, is_unknown, agrees, content_of, vr_of}
+use Rattle.dq_dataset.specs.Reading.{◌>>=◌, check, number_at, tag_at, long_length_at, length_at, vr_or_fault, vr_at, spelling_at, follows, may_nest, length_of, fits, header_at, item_header_at, end_at}
+use Rattle.dq_dataset.specs.Faults.{number_in, tag_in, vr_in, defined, size_by, header_size, extent_by, extent_in, first_of, is_allowed, holds_items, faults_of_content, faults_of_header, header_faults, item_faults, ends_here}
+use Rattle.dq_dataset.proofs.Headers.{content_step, spelling_step, rises_step, placed_step, tag_step, item_length_step, item_step, zero_step, end_step}
+
+abbrev pub fault_of : {X : Type 0} → Result X ReadFault → Option ReadFault
+fault_of (Ok x) = None
+fault_of (Err fault) = Some fault
+
+abbrev failed : ReadFault → Result (Option (List ℕ)) ReadFault
+failed f = Err f
+
+pub fault_same : {f g : ReadFault} → failed f ≡ failed g → f ≡ g
+fault_same e = cc
+
+other_end : (n : ℕ) → n ≡ 0xE0DD → n ≡ 0xE000 → ⊥
+other_end n p q = absurd (omega arith)
+
+-- ---- eight octets at least
+
+abbrev eight : ℕ → ℕ → ℕ → ℕ → ℕ → ℕ → ℕ → ℕ → List ℕ → List ℕ
+eight a b c d e f g h rest = a ∷ b ∷ c ∷ d ∷ e ∷ f ∷ g ∷ h ∷ rest
+
+by_eight : (P : List ℕ → Type 0) → ((a b c d e f g h : ℕ) (rest : List ℕ) → P (eight a b c d e f g h rest)) → (octets : List ℕ) → 8 ≤ length octets → P octets
+by_eight P each [] le = absurd (omega arith)
+by_eight P each (a ∷ []) le = absurd (omega arith)
+by_eight P each (a ∷ b ∷ []) le = absurd (omega arith)
+by_eight P each (a ∷ b ∷ c ∷ []) le = absurd (omega arith)
+by_eight P each (a ∷ b ∷ c ∷ d ∷ []) le = absurd (omega arith)
+by_eight P each (a ∷ b ∷ c ∷ d ∷ e ∷ []) le = absurd (omega arith)
+by_eight P each (a ∷ b ∷ c ∷ d ∷ e ∷ f ∷ []) le = absurd (omega arith)
+by_eight P each (a ∷ b ∷ c ∷ d ∷ e ∷ f ∷ g ∷ []) le = absurd (omega arith)
+by_eight P each (a ∷ b ∷ c ∷ d ∷ e ∷ f ∷ g ∷ h ∷ rest) le = each a b c d e f g h rest
+
+number_of : (w : Width) (octets : List ℕ) → byte_len w ≤ length octets → number_at w octets ≡ Ok (from_le_bytes w (take (byte_len w) octets), drop (byte_len w) octets)
+number_of w octets le = rw (le-ltb (length octets) (byte_len w) le) refl
+
+tag_of : (a b c d e f g h : ℕ) (rest : List ℕ) → tag_at (eight a b c d e f g h rest) ≡ Ok (tag_in (eight a b c d e f g h rest), e ∷ f ∷ g ∷ h ∷ rest)
+unfolding tag_at
+tag_of a b c d e f g h rest =
+    rw (
+      le-ltb (length (eight a b c d e f g h rest)) 8 (omega arith),
+      number_of w16 (eight a b c d e f g h rest) (omega arith),
+      number_of w16 (c ∷ d ∷ e ∷ f ∷ g ∷ h ∷ rest) (omega arith),
+    ) refl
+
+no_tag : (octets : List ℕ) → ltb (length octets) 8 ≡ true → tag_at octets ≡ Err Truncated
+unfolding tag_at
+no_tag octets short = rw short refl
+
+long_length : (octets : List ℕ) → 4 ≤ length octets → long_length_at octets ≡ Ok (defined (number_in w32 0 octets), drop 4 octets)
+unfolding long_length_at
+long_length octets le = rw (number_of w32 octets le) refl
+
+-- ---- what follows the length
+
+fits_fault : {X : Type 0} (x : X) (b : Bool) → fault_of (check b Truncated >>= λ whole. Ok x) ≡ first_of ((not b, Truncated) ∷ [])
+fits_fault x true = refl
+fits_fault x false = refl
+
+nest_faults : (levels : ℕ) (tag : Tag) (syntax : Syntax) (extent : Option ℕ) (rest : List ℕ)
+    → fault_of (content_step levels tag rest (Sequence syntax extent)) ≡ first_of ((eqb levels 0, TooDeep) ∷ (not (fits extent rest), Truncated) ∷ [])
+nest_faults zero tag syntax extent rest = refl
+nest_faults (suc n) tag syntax extent rest =
+    let some : ltb 0 (suc n) ≡ true = lt-ltb 0 (suc n) (omega arith) in
+    let other : eqb (suc n) 0 ≡ false = ne_eqb (suc n) 0 (λ e. omega (arith, e)) in
+    rw (some, other) (fits_fault _ (fits extent rest))
+
+abbrev content : Content → Result Content ReadFault
+content x = Ok x
+
+some_faults : (levels : ℕ) (tag : Tag) (n : ℕ) (rest : List ℕ) (a b : Bool)
+    → fault_of (cond a (content (Sequence Explicit (Some n))) (cond b (Ok (Sequence Implicit (Some n))) (Ok (Plain n))) >>= content_step levels tag rest)
+    ≡ first_of (((a || (b || false)) && eqb levels 0, TooDeep) ∷ (not (fits (Some n) rest), Truncated) ∷ [])
+some_faults levels tag n rest true b = nest_faults levels tag Explicit (Some n) rest
+some_faults levels tag n rest false true = nest_faults levels tag Implicit (Some n) rest
+some_faults levels tag n rest false false = fits_fault _ (fits (Some n) rest)
+
+none_faults : (levels : ℕ) (tag : Tag) (rest : List ℕ) (a b c : Bool)
+    → fault_of (cond a (content (Sequence Explicit None)) (cond b (Ok (Sequence Implicit None)) (cond c (Ok (Sequence Implicit None)) (Err BadUndefined))) >>= content_step levels tag rest)
+    ≡ first_of ((not (a || (b || c)), BadUndefined) ∷ ((a || (b || c)) && eqb levels 0, TooDeep) ∷ (false, Truncated) ∷ [])
+none_faults levels tag rest true b c = nest_faults levels tag Explicit None rest
+none_faults levels tag rest false true c = nest_faults levels tag Implicit None rest
+none_faults levels tag rest false false true = nest_faults levels tag Implicit None rest
+none_faults levels tag rest false false false = refl
+
+content_faults : (levels : ℕ) (tag : Tag) (spelled : Option Vr) (extent : Option ℕ) (rest : List ℕ)
+    → fault_of (content_of (known_vr tag) spelled extent >>= content_step levels tag rest) ≡ first_of (faults_of_content levels (known_vr tag) spelled extent rest)
+unfolding content_of
+content_faults levels tag spelled (Some n) rest = some_faults levels tag n rest (is_sequence spelled) (is_sequence (known_vr tag))
+content_faults levels tag spelled None rest =
+    none_faults levels tag rest (is_sequence spelled) (is_sequence (known_vr tag)) (is_none (known_vr tag) && (is_none spelled || is_unknown spelled))
+
+-- ---- the header of an element
+
+gate : {Y : Type 0} (b : Bool) (f : ReadFault) (k : Unit {0} → Result Y ReadFault) (others : List (Bool × ReadFault)) → fault_of (k tt) ≡ first_of others
+    → fault_of (check b f >>= k) ≡ first_of ((not b, f) ∷ others)
+gate true f k others h = h
+gate false f k others h = refl
+
+gate_not : {Y : Type 0} (b : Bool) (f : ReadFault) (k : Unit {0} → Result Y ReadFault) (others : List (Bool × ReadFault)) → fault_of (k tt) ≡ first_of others
+    → fault_of (check (not b) f >>= k) ≡ first_of ((b, f) ∷ others)
+gate_not true f k others h = refl
+gate_not false f k others h = h
+
+abbrev from_vr : Syntax → ℕ → Tag → List ℕ → List (Bool × ReadFault)
+from_vr syntax levels tag octets =
+    (not (is_allowed syntax (known_vr tag) (vr_in syntax octets)), BadVr) ∷
+    (ltb (length octets) (header_size (vr_in syntax octets)), Truncated) ∷
+    faults_of_content levels (known_vr tag) (vr_in syntax octets) (extent_in (vr_in syntax octets) octets) (drop (header_size (vr_in syntax octets)) octets)
+
+module _ (levels : ℕ) (tag : Tag) (a b c d e f g h : ℕ) (rest : List ℕ) where
+  abbrev all : List ℕ
+  all = eight a b c d e f g h rest
+
+  eight_at_least : ltb (length all) 8 ≡ false
+  eight_at_least = le-ltb (length all) 8 (omega arith)
+
+  implicit_faults : fault_of (spelling_at Implicit (known_vr tag) (e ∷ f ∷ g ∷ h ∷ rest) >>= spelling_step levels tag)
+      ≡ first_of ((not true, BadVr) ∷ (ltb (length all) 8, Truncated) ∷ faults_of_content levels (known_vr tag) None (defined (number_in w32 4 all)) rest)
+  unfolding spelling_at
+  implicit_faults = rw (long_length (e ∷ f ∷ g ∷ h ∷ rest) (omega arith), eight_at_least) (content_faults levels tag None (defined (number_in w32 4 all)) rest)
+
+  abbrev explicit_step : Vr → Option ℕ × List ℕ → Result ((Option Vr × Option ℕ) × List ℕ) ReadFault
+  explicit_step vr n = Ok ((Some vr, n.0), n.1)
+
+  short_rest : (vr : Vr) (short : Bool) → ltb (length rest) 4 ≡ short
+      → fault_of ((long_length_at rest >>= explicit_step vr) >>= spelling_step levels tag)
+      ≡ first_of ((ltb (length all) 12, Truncated) ∷ faults_of_content levels (known_vr tag) (Some vr) (defined (number_in w32 8 all)) (drop 4 rest))
+  unfolding long_length_at
+  short_rest vr true is =
+      let short : ltb (length all) 12 ≡ true = lt-ltb (length all) 12 (omega (arith, ltb-true (length rest) 4 is)) in
+      rw (is, short) refl
+  short_rest vr false is =
+      let long : ltb (length all) 12 ≡ false = le-ltb (length all) 12 (omega (arith, ltb-false (length rest) 4 is)) in
+      rw (is, long) (content_faults levels tag (Some vr) (defined (number_in w32 8 all)) (drop 4 rest))
+
+  by_form : (vr : Vr) (agreed : Bool) (form : LengthForm)
+      → fault_of ((check agreed BadVr >>= λ ok. length_at form (g ∷ h ∷ rest) >>= explicit_step vr) >>= spelling_step levels tag)
+      ≡ first_of ((not agreed, BadVr) ∷ (ltb (length all) (size_by form), Truncated) ∷ faults_of_content levels (known_vr tag) (Some vr) (extent_by form all) (drop (size_by form) all))
+  unfolding length_at
+  by_form vr false form = refl
+  by_form vr true Two = rw (number_of w16 (g ∷ h ∷ rest) (omega arith), eight_at_least) (content_faults levels tag (Some vr) (Some (number_in w16 6 all)) rest)
+  by_form vr true Four = rw (number_of w16 (g ∷ h ∷ rest) (omega arith)) (short_rest vr (ltb (length rest) 4) refl)
+
+  explicit_faults : (o : Option Vr)
+      → fault_of ((vr_or_fault o (g ∷ h ∷ rest) >>= λ vr. check (agrees (known_vr tag) vr.0) BadVr >>= λ ok. length_at (length_form_of vr.0) vr.1 >>= explicit_step vr.0) >>= spelling_step levels tag)
+      ≡ first_of ((not (is_allowed Explicit (known_vr tag) o), BadVr) ∷ (ltb (length all) (header_size o), Truncated) ∷ faults_of_content levels (known_vr tag) o (extent_in o all) (drop (header_size o) all))
+  unfolding vr_or_fault
+  explicit_faults None = refl
+  explicit_faults (Some vr) = by_form vr (agrees (known_vr tag) vr) (length_form_of vr)
+
+  spelling_faults : (syntax : Syntax)
+      → fault_of (spelling_at syntax (known_vr tag) (e ∷ f ∷ g ∷ h ∷ rest) >>= spelling_step levels tag)
+      ≡ first_of (from_vr syntax levels tag all)
+  unfolding spelling_at vr_at
+  spelling_faults Implicit = implicit_faults
+  spelling_faults Explicit = explicit_faults (vr_with_letters (e ∷ f ∷ []))
+
+long_header : (syntax : Syntax) (levels : ℕ) (last : Option Tag) (a b c d e f g h : ℕ) (rest : List ℕ)
+    → fault_of (header_at syntax levels last (eight a b c d e f g h rest)) ≡ first_of (header_faults syntax levels last (eight a b c d e f g h rest))
+unfolding header_at
+long_header syntax levels last a b c d e f g h rest =
+    let tag = tag_in (eight a b c d e f g h rest) in
+    rw (tag_of a b c d e f g h rest, le-ltb (length (eight a b c d e f g h rest)) 8 (omega arith))
+    (gate_not (eqb tag.group 0xFFFE) BadItem (placed_step syntax levels last tag (e ∷ f ∷ g ∷ h ∷ rest))
+    ((not (follows last tag), TagOrder) ∷ from_vr syntax levels tag (eight a b c d e f g h rest))
+    (gate (follows last tag) TagOrder (rises_step syntax levels tag (e ∷ f ∷ g ∷ h ∷ rest)) (from_vr syntax levels tag (eight a b c d e f g h rest)) (spelling_faults levels tag a b c d e f g h rest syntax)))
+
+header_by : (syntax : Syntax) (levels : ℕ) (last : Option Tag) (octets : List ℕ) (b : Bool) → ltb (length octets) 8 ≡ b
+    → fault_of (header_at syntax levels last octets) ≡ first_of (header_faults syntax levels last octets)
+unfolding header_at
+header_by syntax levels last octets true short = rw (no_tag octets short, short) refl
+header_by syntax levels last octets false long =
+    by_eight (λ octets. fault_of (header_at syntax levels last octets) ≡ first_of (header_faults syntax levels last octets)) (long_header syntax levels last) octets (ltb-false (length octets) 8 long)
+
+pub header_faults_are : (syntax : Syntax) (levels : ℕ) (last : Option Tag) (octets : List ℕ)
+    → fault_of (header_at syntax levels last octets) ≡ first_of (header_faults syntax levels last octets)
+header_faults_are syntax levels last octets = header_by syntax levels last octets (ltb (length octets) 8) refl
+
+-- ---- the header of an item
+
+long_item : (a b c d e f g h : ℕ) (rest : List ℕ) → fault_of (item_header_at (eight a b c d e f g h rest)) ≡ first_of (item_faults (eight a b c d e f g h rest))
+unfolding item_header_at
+long_item a b c d e f g h rest =
+    let tag = tag_in (eight a b c d e f g h rest) in
+    let extent = defined (number_in w32 4 (eight a b c d e f g h rest)) in
+    rw (tag_of a b c d e f g h rest, le-ltb (length (eight a b c d e f g h rest)) 8 (omega arith), long_length (e ∷ f ∷ g ∷ h ∷ rest) (omega arith))
+    (gate (eqb tag.group 0xFFFE && eqb tag.element 0xE000) BadItem _ ((not (fits extent rest), Truncated) ∷ []) (fits_fault _ (fits extent rest)))
+
+item_by_length : (octets : List ℕ) (b : Bool) → ltb (length octets) 8 ≡ b → fault_of (item_header_at octets) ≡ first_of (item_faults octets)
+unfolding item_header_at
+item_by_length octets true short = rw (no_tag octets short, short) refl
+item_by_length octets false long = by_eight (λ octets. fault_of (item_header_at octets) ≡ first_of (item_faults octets)) long_item octets (ltb-false (length octets) 8 long)
+
+pub item_faults_are : (octets : List ℕ) → fault_of (item_header_at octets) ≡ first_of (item_faults octets)
+item_faults_are octets = item_by_length octets (ltb (length octets) 8) refl
+
+-- ---- ends
+
+-- where nothing ends: no end, too few octets, or an end with another length than 0
+abbrev pub NoEnd : Bound → ℕ → List ℕ → Type 0
+NoEnd bound element octets =
+    (end_at bound element octets ≡ Ok None)
+    ⊎ (((end_at bound element octets ≡ Err Truncated) × (ltb (length octets) 8 ≡ true))
+    ⊎ ((end_at bound element octets ≡ Err BadItem) × (ltb (length octets) 8 ≡ false) × (eqb (tag_in octets).group 0xFFFE ≡ true) × (eqb (tag_in octets).element element ≡ true)))
+
+abbrev AnEnd : Bound → ℕ → List ℕ → Type 0
+AnEnd bound element octets = (rest : List ℕ) × (end_at bound element octets ≡ Ok (Some rest))
+
+abbrev Ending : Bool → Bound → ℕ → List ℕ → Type 0
+Ending true bound element octets = AnEnd bound element octets
+Ending false bound element octets = NoEnd bound element octets
+
+abbrev end_says : List ℕ → Bool → Bool → Bool → Result (Option (List ℕ)) ReadFault
+end_says rest x y z = cond (x && y) (check z BadItem >>= λ ok. Ok (Some rest)) (Ok None)
+
+module _ (element a b c d e f g h : ℕ) (rest : List ℕ) where
+  abbrev whole : List ℕ
+  whole = eight a b c d e f g h rest
+
+  end_is_said : end_at Delimited element whole ≡ end_says rest (eqb (tag_in whole).group 0xFFFE) (eqb (tag_in whole).element element) (eqb (number_in w32 4 whole) 0)
+  unfolding end_at
+  end_is_said = rw (tag_of a b c d e f g h rest, number_of w32 (e ∷ f ∷ g ∷ h ∷ rest) (omega arith)) refl
+
+  ending_by : (x y z : Bool) → end_at Delimited element whole ≡ end_says rest x y z → eqb (tag_in whole).group 0xFFFE ≡ x → eqb (tag_in whole).element element ≡ y
+      → Ending ((x && y) && z) Delimited element whole
+  ending_by true true true is p q = (rest, is)
+  ending_by true true false is p q = inr (inr (is, le-ltb (length whole) 8 (omega arith), p, q))
+  ending_by true false z is p q = inl is
+  ending_by false y z is p q = inl is
+
+  long_ending : Ending (ends_here Delimited element whole) Delimited element whole
+  long_ending =
+      rw (le-ltb (length whole) 8 (omega arith))
+      (ending_by (eqb (tag_in whole).group 0xFFFE) (eqb (tag_in whole).element element) (eqb (number_in w32 4 whole) 0) end_is_said refl refl)
+
+filled_by : (element : ℕ) (octets : List ℕ) (b : Bool) → end_at Filled element octets ≡ Ok (cond b (Some octets) None) → Ending b Filled element octets
+filled_by element octets true is = (octets, is)
+filled_by element octets false is = inl is
+
+missing_end : (element : ℕ) (octets : List ℕ) → ltb (length octets) 8 ≡ true → end_at Delimited element octets ≡ Err Truncated
+unfolding end_at
+missing_end element octets short = rw (no_tag octets short) refl
+
+delimited_by : (element : ℕ) (octets : List ℕ) (b : Bool) → ltb (length octets) 8 ≡ b → Ending (ends_here Delimited element octets) Delimited element octets
+delimited_by element octets true short = rw short (inr (inl (missing_end element octets short, short)))
+delimited_by element octets false long =
+    by_eight (λ octets. Ending (ends_here Delimited element octets) Delimited element octets) (long_ending element) octets (ltb-false (length octets) 8 long)
+
+ending : (bound : Bound) (element : ℕ) (octets : List ℕ) → Ending (ends_here bound element octets) bound element octets
+unfolding end_at
+ending Filled element octets = filled_by element octets (eqb (length octets) 0) refl
+ending Delimited element octets = delimited_by element octets (ltb (length octets) 8) refl
+
+pub no_end_here : (bound : Bound) (element : ℕ) (octets : List ℕ) → ends_here bound element octets ≡ false → NoEnd bound element octets
+no_end_here bound element octets other = subst (λ (b : Bool). Ending b bound element octets) other (ending bound element octets)
+
+pub an_end_here : (bound : Bound) (element : ℕ) (octets : List ℕ) → ends_here bound element octets ≡ true → (rest : List ℕ) × (end_at bound element octets ≡ Ok (Some rest))
+an_end_here bound element octets here = subst (λ (b : Bool). Ending b bound element octets) here (ending bound element octets)
+
+-- an end that is no end is the first fault at a header, be it an element's or an item's
+pub end_fault_first : (bound : Bound) (syntax : Syntax) (levels : ℕ) (last : Option Tag) (octets : List ℕ) (f : ReadFault) → NoEnd bound 0xE00D octets → end_at bound 0xE00D octets ≡ Err f
+    → first_of (header_faults syntax levels last octets) ≡ Some f
+end_fault_first bound syntax levels last octets f (inl none) is = let bad : Ok None ≡ Err f = sym none ∙ is in absurd cc
+end_fault_first bound syntax levels last octets f (inr (inl short)) is =
+    let same : Truncated ≡ f = fault_same (sym short.0 ∙ is) in
+    rw short.1 (ap (λ (x : ReadFault). Some x) same)
+end_fault_first bound syntax levels last octets f (inr (inr bad)) is =
+    let same : BadItem ≡ f = fault_same (sym bad.0 ∙ is) in
+    rw (bad.1, bad.2) (ap (λ (x : ReadFault). Some x) same)
+
+pub end_fault_item : (bound : Bound) (octets : List ℕ) (f : ReadFault) → NoEnd bound 0xE0DD octets → end_at bound 0xE0DD octets ≡ Err f → first_of (item_faults octets) ≡ Some f
+end_fault_item bound octets f (inl none) is = let bad : Ok None ≡ Err f = sym none ∙ is in absurd cc
+end_fault_item bound octets f (inr (inl short)) is =
+    let same : Truncated ≡ f = fault_same (sym short.0 ∙ is) in
+    rw short.1 (ap (λ (x : ReadFault). Some x) same)
+end_fault_item bound octets f (inr (inr bad)) is =
+    let same : BadItem ≡ f = fault_same (sym bad.0 ∙ is) in
+    let other : eqb (tag_in octets).element 0xE000 ≡ false = ne_eqb (tag_in octets).element 0xE000 (other_end (tag_in octets).element (eqb-true (tag_in octets).element 0xE0DD bad.3)) in
+    rw (bad.1, bad.2, other) (ap (λ (x : ReadFault). Some x) same)

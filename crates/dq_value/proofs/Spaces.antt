@@ -1,0 +1,81 @@
+-- Titles without the spaces at their ends.
+use Rattle.std.proofs.Common.{◌≡◌, ℕ, true, false, cond, eqb, List, [], ◌∷◌, ◌++◌, append_assoc, append-nil, refl, sym, ap, ◌∙◌}
+use Rattle.std.proofs.lemmas.Bool.{and_parts}
+use Rattle.std.specs.List.{list_all}
+use Rattle.dq_value.specs.Trimming.{is_space, without_leading, without_trailing, kept_before, first_is, last_is}
+use Rattle.dq_value.specs.Title.{IsStripped, stripped}
+use Rattle.dq_value.proofs.Kept.{leads, trails, first_kept, last_stays, last_kept, leading_same, trailing_same}
+use Rattle.dq_value.proofs.Pads.{without_trailing-push}
+
+-- a space at the end is taken
+pub space_taken : (octets : List ℕ) → without_trailing is_space (octets ++ 32 ∷ []) ≡ without_trailing is_space octets
+space_taken octets = without_trailing-push is_space 32 octets
+
+-- any other octet at the end stays
+pub other_kept : (octets : List ℕ) (last : ℕ) → eqb last 32 ≡ false → without_trailing is_space (octets ++ last ∷ []) ≡ octets ++ last ∷ []
+other_kept octets last differs = without_trailing-push is_space last octets ∙ ap (λ b. cond b (without_trailing is_space octets) (octets ++ last ∷ [])) differs
+
+pub strips : (title : List ℕ) → IsStripped title (stripped title)
+unfolding stripped
+strips title =
+    let behind = trails is_space title in
+    let front = leads is_space (without_trailing is_space title) in
+    record {
+      before = front.before;
+      after = behind.after;
+      whole = behind.whole ∙ ap (λ ys. ys ++ behind.after) front.whole ∙ append_assoc front.before (without_leading is_space (without_trailing is_space title)) behind.after;
+      spaces_before = front.all;
+      spaces_after = behind.all;
+      no_space_first = first_kept is_space (without_trailing is_space title);
+      no_space_last = last_stays is_space is_space (without_trailing is_space title) (last_kept is_space title);
+    }
+
+-- spaces before are taken
+leading_taken : (before rest : List ℕ) → list_all is_space before ≡ true → without_leading is_space (before ++ rest) ≡ without_leading is_space rest
+unfolding without_leading
+leading_taken [] rest h = refl
+leading_taken (x ∷ before) rest h =
+    let (here, more) = and_parts (is_space x) (list_all is_space before) h in
+    rw here (leading_taken before rest more)
+
+-- and spaces after: nothing but spaces is nothing, and what ends otherwise stays
+all_taken : (after : List ℕ) → list_all is_space after ≡ true → without_trailing is_space after ≡ []
+unfolding without_trailing kept_before
+all_taken [] h = refl
+all_taken (x ∷ after) h =
+    let (here, more) = and_parts (is_space x) (list_all is_space after) h in
+    rw (all_taken after more, here) refl
+
+trailing_taken : (rest after : List ℕ) → list_all is_space after ≡ true → without_trailing is_space (rest ++ after) ≡ without_trailing is_space rest
+unfolding without_trailing
+trailing_taken [] after h = all_taken after h
+trailing_taken (x ∷ rest) after h = ap (kept_before is_space x) (trailing_taken rest after h)
+
+last_after : (before kept : List ℕ) (x : ℕ) → last_is is_space (x ∷ kept) ≡ false → last_is is_space (before ++ x ∷ kept) ≡ false
+last_after [] kept x h = h
+last_after (y ∷ []) kept x h = h
+last_after (y ∷ z ∷ before) kept x h = last_after (z ∷ before) kept x h
+
+cleared : (before kept : List ℕ) → list_all is_space before ≡ true → first_is is_space kept ≡ false → last_is is_space kept ≡ false
+    → without_leading is_space (without_trailing is_space (before ++ kept)) ≡ kept
+unfolding without_leading
+cleared before [] spaces first last = ap (λ ys. without_leading is_space (without_trailing is_space ys)) (append-nil before) ∙ ap (without_leading is_space) (all_taken before spaces)
+cleared before (x ∷ kept) spaces first last =
+    ap (without_leading is_space) (trailing_same is_space (before ++ x ∷ kept) (last_after before kept x last))
+    ∙ leading_taken before (x ∷ kept) spaces
+    ∙ leading_same is_space (x ∷ kept) first
+
+pub alone : (title kept : List ℕ) → IsStripped title kept → kept ≡ stripped title
+unfolding stripped
+alone title kept given =
+    sym (
+    ap (λ ys. without_leading is_space (without_trailing is_space ys)) (given.whole ∙ sym (append_assoc given.before kept given.after))
+    ∙ ap (without_leading is_space) (trailing_taken (given.before ++ kept) given.after given.spaces_after)
+    ∙ cleared given.before kept given.spaces_before given.no_space_first given.no_space_last)
+
+pub again : (title : List ℕ) → stripped (stripped title) ≡ stripped title
+unfolding stripped
+again title =
+    let once = strips title in
+    ap (without_leading is_space) (trailing_same is_space (without_leading is_space (without_trailing is_space title)) once.no_space_last)
+    ∙ leading_same is_space (without_leading is_space (without_trailing is_space title)) once.no_space_first
