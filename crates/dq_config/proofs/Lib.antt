@@ -1,0 +1,5 @@
+mod Faults
+mod Literals
+mod Sizes
+mod Sound
+mod Wholes

@@ -1,0 +1,4 @@
+pub mod Conditions
+pub mod Document
+pub mod Limits
+pub mod Routing
