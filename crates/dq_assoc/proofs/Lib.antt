@@ -1,9 +1,12 @@
+mod Acceptances
 mod Contexts
 mod Ends
-mod Gatherings
-mod Histories
+mod FromHere
+mod InTurn
 mod OneByOne
-mod Outcomes
+mod OnePdu
 pub mod Places
-mod Taken
-pub mod Aborts
+pub mod ShortPdus
+mod Sound
+mod Streams
+mod Values

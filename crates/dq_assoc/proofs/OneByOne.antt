@@ -1,94 +1,86 @@
 -- PDUs that are taken one by one lead to what their inputs lead to together.
-use Rattle.std.proofs.Common.{◌≡◌, ℕ, Bool, true, false, cond, List, [], ◌∷◌, ◌++◌, map, None, refl, sym, ap, subst, ◌∙◌}
-use Rattle.std.proofs.lemmas.List.{append-nil}
+use Rattle.std.proofs.Common.{◌≡◌, ◌≢◌, Bool, true, false, IsTrue, cond, List, [], ◌∷◌, ◌++◌, map, Option, Some, None, refl, sym, ap, ◌∙◌}
 use Rattle.dq_pdu.specs.declared.pdu.Pdu.{Pdu}
-use Rattle.dq_pdu.specs.declared.pdu.Pdu.TheVariants.{Request as request_pdu, Accept as accept_pdu, Reject, PData, ReleaseRq, ReleaseRp, Abort}
-use Rattle.dq_pdu.specs.declared.pdu.Pdv.{Pdv}
+use Rattle.dq_pdu.specs.declared.role.Role.{Role}
+use Rattle.dq_pdu.specs.declared.role.Role.TheVariants.{Asks, Carries, Ends}
+use Rattle.dq_pdu.specs.declared.role.Ending.TheVariants.{ReleaseAsked, AbortSent, OutOfPlace}
+use Rattle.dq_pdu.specs.Roles.{role_of}
 use Rattle.dq_dimse.specs.declared.command.Message.{Message}
-use Rattle.dq_dimse.specs.declared.assembler.Gathered.{Gathered}
-use Rattle.dq_dimse.specs.declared.assembler.Gathered.TheVariants.{Nothing, Fragments, Spent}
-use Rattle.dq_dimse.specs.Messages.{Gathering, gather_all, messages, Assembly}
+use Rattle.dq_dimse.specs.declared.fault.DimseFault.{DimseFault}
+use Rattle.dq_dimse.specs.Assembling.{Assembly, messages_from, assembly_from, spent_by}
+use Rattle.dq_dimse.proofs.Assemblies.{messages_from-fault}
+use Rattle.dq_assoc.specs.declared.agreement.Agreement.{Agreement}
 use Rattle.dq_assoc.specs.declared.association.Held.{Held}
 use Rattle.dq_assoc.specs.declared.association.Held.TheVariants as held
-use Rattle.dq_assoc.specs.declared.association.State.TheVariants.{Open}
+use Rattle.dq_assoc.specs.declared.association.State.TheVariants.{Waiting}
 use Rattle.dq_assoc.specs.declared.association.Step.{Step}
-use Rattle.dq_assoc.specs.Negotiation.{accepted_ids}
 use Rattle.dq_assoc.specs.Table.{Input, Sent}
-use Rattle.dq_assoc.specs.Inputs.{values, after_values, closing, closing_after, inputs_read}
-use Rattle.dq_assoc.specs.Standing.{state_of, open_outcome, outcome, standing}
-use Rattle.dq_assoc.specs.Taking.{is_spent, inputs_from, values_step, opened_with, standing_from, after_step, taken}
-use Rattle.dq_assoc.proofs.Gatherings.{gather_all-append}
-use Rattle.dq_assoc.proofs.Outcomes.{sent_outcome, values_outcome, Closes, closes}
-use Rattle.dq_assoc.proofs.Histories.{add_to, opened_is}
+use Rattle.dq_assoc.specs.Inputs.{closing_input, inputs_past}
+use Rattle.dq_assoc.specs.After.{state_of, is_sound, open_if, association_by, inputs_by}
+use Rattle.dq_assoc.specs.Steps.{no_step, with_message, open_outcome, outcome, then_step, joined_step}
+use Rattle.dq_assoc.proofs.FromHere.{inputs-cons}
+use Rattle.dq_assoc.proofs.Sound.{sound-by, read-nil}
 
-closed_takes : (qs : List Pdu) → taken held.Closed qs ≡ open_outcome []
-closed_takes [] = refl
-closed_takes (q ∷ qs) = closed_takes qs
+with-then : (b : Bool) (message : Message) (s later : Step)
+    → cond b (with_message message s) (record { messages = message ∷ (s.messages ++ later.messages); octets = s.octets ++ later.octets; close = later.close })
+    ≡ with_message message (cond b s (record { messages = s.messages ++ later.messages; octets = s.octets ++ later.octets; close = later.close }))
+with-then true message s later = refl
+with-then false message s later = refl
 
-after_close : (first later : Step) → first.close ≡ true → after_step first later ≡ first
-after_close first later e = ap (λ (b : Bool). cond b first (record { messages = first.messages ++ later.messages; octets = first.octets ++ later.octets; close = later.close })) e
+-- messages and the end after them, and what comes later
+messages-then : (a : Agreement) (s : Assembly) (list : List Message) (f : Option DimseFault) (later : List Input)
+    → then_step (open_outcome (map Sent list ++ inputs_past f [])) (outcome (state_of (open_if f a s)) later)
+    ≡ open_outcome ((map Sent list ++ inputs_past f []) ++ later)
+messages-then a s [] None later = refl
+messages-then a s [] (Some d) later = refl
+messages-then a s (message ∷ list) f later =
+    let first = open_outcome (map Sent list ++ inputs_past f []) in
+    with-then first.close message first (outcome (state_of (open_if f a s)) later) ∙ ap (with_message message) (messages-then a s list f later)
 
--- the step of values, and what comes after it
-join : (ids : List ℕ) (list : List Message) (gathered : Gathered) (qs : List Pdu) → let next = opened_with ids gathered [] in
-    after_step (values_step (record { list = list; gathered = gathered })) (outcome (state_of next) (inputs_from next qs None))
-    ≡ open_outcome ((map Sent list ++ closing_after gathered []) ++ inputs_from next qs None)
-join ids list Nothing qs =
-    let later = inputs_from (opened_with ids Nothing []) qs None in
-    sym (sent_outcome list later) ∙ ap (λ (l : List Input). open_outcome (l ++ later)) (sym (append-nil (map Sent list)))
-join ids list (Fragments context octets) qs =
-    let later = inputs_from (opened_with ids (Fragments context octets) []) qs None in
-    sym (sent_outcome list later) ∙ ap (λ (l : List Input). open_outcome (l ++ later)) (sym (append-nil (map Sent list)))
-join ids list (Spent fault) qs =
-    let end = closing_after (Spent fault) [] in
-    ap (λ (l : List Message). values_step (record { list = l; gathered = Spent fault })) (sym (append-nil list))
-    ∙ sym (sent_outcome list end) ∙ ap open_outcome (sym (append-nil (map Sent list ++ end)))
+-- one PDU, and the inputs that come later
+one-then : (h : Held) (role : Role) (later : List Input) → IsTrue (is_sound h) → state_of h ≢ Waiting
+    → then_step (outcome (state_of h) (inputs_by h (role ∷ []) None)) (outcome (state_of (association_by h (role ∷ []))) later)
+    ≡ outcome (state_of h) (inputs_by h (role ∷ []) None ++ later)
+one-then held.Waiting role later sound begun = absurd (begun refl)
+one-then (held.Open a s) (Carries pdvs) later sound begun =
+    let all = pdvs ++ [] in
+    let read = messages_from s all in
+    let next = assembly_from s all in
+    ap (λ (f : Option DimseFault). then_step (open_outcome (map Sent read.list ++ inputs_past read.fault [])) (outcome (state_of (open_if f a next)) later))
+    (sym (messages_from-fault s all))
+    ∙ messages-then a next read.list read.fault later
+one-then (held.Open a s) (Asks request) later sound begun =
+    rw (read-nil s sound (closing_input (Asks request) ∷ [])) refl
+one-then (held.Open a s) (Ends ReleaseAsked) later sound begun =
+    rw (read-nil s sound (closing_input (Ends ReleaseAsked) ∷ [])) refl
+one-then (held.Open a s) (Ends AbortSent) later sound begun =
+    rw (read-nil s sound (closing_input (Ends AbortSent) ∷ [])) refl
+one-then (held.Open a s) (Ends OutOfPlace) later sound begun =
+    rw (read-nil s sound (closing_input (Ends OutOfPlace) ∷ [])) refl
+one-then held.Closed role later sound begun = refl
 
--- PDUs after an association that is open, or was closed by its values
-abbrev Agrees : List ℕ → List Pdu → Gathered → Type 0
-Agrees ids qs gathered = let next = opened_with ids gathered [] in taken next qs ≡ outcome (state_of next) (inputs_from next qs None)
+none-then : (h : Held) → IsTrue (is_sound h) → state_of h ≢ Waiting → no_step (state_of h) ≡ outcome (state_of h) (inputs_by h [] None)
+none-then held.Waiting sound begun = absurd (begun refl)
+none-then (held.Open a s) sound begun = ap open_outcome (sym (read-nil s sound []))
+none-then held.Closed sound begun = refl
 
-next_closes : (assembly : Assembly) (q : Pdu) (later : Step) → Closes assembly q → after_step (outcome Open (inputs_from (held.Open assembly) (q ∷ []) None)) later ≡ outcome Open (inputs_from (held.Open assembly) (q ∷ []) None)
-next_closes assembly q later done = after_close _ later (ap (λ (s : Step). s.close) done.step)
+begun-if : (a : Agreement) (s : Assembly) (f : Option DimseFault) → state_of (open_if f a s) ≢ Waiting
+begun-if a s None = λ e. absurd cc
+begun-if a s (Some d) = λ e. absurd cc
 
-next_agrees : (ids : List ℕ) (gathered : Gathered) (q : Pdu) (qs : List Pdu) → is_spent gathered ≡ false → ((g : Gathered) → Agrees ids qs g)
-    → let next = held.Open (record { ids = ids; gathered = gathered }) in taken next (q ∷ qs) ≡ outcome Open (inputs_from next (q ∷ qs) None)
-next_agrees ids gathered (PData pdvs) qs sound agrees =
-    let read = gather_all ids gathered pdvs in
-    let next = held.Open (record { ids = ids; gathered = gathered }) in
-    ap (λ (s : Step). after_step s (taken (standing_from next (PData pdvs ∷ [])) qs)) (values_outcome (record { ids = ids; gathered = gathered }) pdvs)
-    ∙ ap (λ (all : List Pdv). after_step (values_step read) (taken (opened_with ids (gather_all ids gathered all).gathered []) qs)) (append-nil pdvs)
-    ∙ ap (after_step (values_step read)) (agrees read.gathered)
-    ∙ join ids read.list read.gathered qs
-    ∙ ap open_outcome (sym (ap (λ (r : Gathering). inputs_read r (closing (after_values qs) None)) (gather_all-append ids gathered pdvs (values qs)) ∙ add_to ids read.list read.gathered qs None))
-next_agrees ids gathered (request_pdu request) qs sound agrees = next_closes (record { ids = ids; gathered = gathered }) (request_pdu request) _ (closes _ (request_pdu request) sound (λ _ e. cc))
-next_agrees ids gathered (accept_pdu accept) qs sound agrees = next_closes (record { ids = ids; gathered = gathered }) (accept_pdu accept) _ (closes _ (accept_pdu accept) sound (λ _ e. cc))
-next_agrees ids gathered (Reject result source reason) qs sound agrees = next_closes (record { ids = ids; gathered = gathered }) (Reject result source reason) _ (closes _ (Reject result source reason) sound (λ _ e. cc))
-next_agrees ids gathered ReleaseRq qs sound agrees = next_closes (record { ids = ids; gathered = gathered }) ReleaseRq _ (closes _ ReleaseRq sound (λ _ e. cc))
-next_agrees ids gathered ReleaseRp qs sound agrees = next_closes (record { ids = ids; gathered = gathered }) ReleaseRp _ (closes _ ReleaseRp sound (λ _ e. cc))
-next_agrees ids gathered (Abort source reason) qs sound agrees = next_closes (record { ids = ids; gathered = gathered }) (Abort source reason) _ (closes _ (Abort source reason) sound (λ _ e. cc))
+begun-next : (h : Held) (role : Role) → state_of h ≢ Waiting → state_of (association_by h (role ∷ [])) ≢ Waiting
+begun-next held.Waiting role begun = absurd (begun refl)
+begun-next (held.Open a s) (Carries pdvs) begun = begun-if a (assembly_from s (pdvs ++ [])) (spent_by (assembly_from s (pdvs ++ [])))
+begun-next (held.Open a s) (Asks request) begun = λ e. absurd cc
+begun-next (held.Open a s) (Ends ending) begun = λ e. absurd cc
+begun-next held.Closed role begun = λ e. absurd cc
 
-all_agree : (ids : List ℕ) (qs : List Pdu) (gathered : Gathered) → Agrees ids qs gathered
-all_agree ids [] Nothing = refl
-all_agree ids [] (Fragments context octets) = refl
-all_agree ids [] (Spent fault) = refl
-all_agree ids (q ∷ qs) Nothing = next_agrees ids Nothing q qs refl (λ g. all_agree ids qs g)
-all_agree ids (q ∷ qs) (Fragments context octets) = next_agrees ids (Fragments context octets) q qs refl (λ g. all_agree ids qs g)
-all_agree ids (q ∷ qs) (Spent fault) = closed_takes (q ∷ qs)
-
-opened_agrees : (ids : List ℕ) (gathered : Gathered) (left qs : List Pdu) → let next = opened_with ids gathered left in taken next qs ≡ outcome (state_of next) (inputs_from next qs None)
-opened_agrees ids gathered [] qs = all_agree ids qs gathered
-opened_agrees ids gathered (pdu ∷ left) qs = closed_takes qs
-
--- what PDUs after the first lead to
-pub one_by_one : (first : Pdu) (pdus qs : List Pdu) → taken (standing (first ∷ pdus)) qs ≡ outcome (state_of (standing (first ∷ pdus))) (inputs_from (standing (first ∷ pdus)) qs None)
-one_by_one (request_pdu request) pdus qs =
-    let ids = accepted_ids request in
-    let is = sym (opened_is ids (values pdus) (after_values pdus)) in
-    let P : Held → Type 0 = λ h. taken h qs ≡ outcome (state_of h) (inputs_from h qs None) in
-    subst P is (opened_agrees ids (messages ids (values pdus)).gathered (after_values pdus) qs)
-one_by_one (accept_pdu accept) pdus qs = closed_takes qs
-one_by_one (Reject result source reason) pdus qs = closed_takes qs
-one_by_one (PData pdvs) pdus qs = closed_takes qs
-one_by_one ReleaseRq pdus qs = closed_takes qs
-one_by_one ReleaseRp pdus qs = closed_takes qs
-one_by_one (Abort source reason) pdus qs = closed_takes qs
+pub one-by-one : (h : Held) (pdus : List Pdu) → IsTrue (is_sound h) → state_of h ≢ Waiting
+    → joined_step h pdus ≡ outcome (state_of h) (inputs_by h (map role_of pdus) None)
+one-by-one h [] sound begun = none-then h sound begun
+one-by-one h (pdu ∷ pdus) sound begun =
+    let role = role_of pdu in
+    let next = association_by h (role ∷ []) in
+    ap (then_step (outcome (state_of h) (inputs_by h (role ∷ []) None))) (one-by-one next pdus (sound-by h (role ∷ []) sound) (begun-next h role begun))
+    ∙ one-then h role (inputs_by next (map role_of pdus) None) sound begun
+    ∙ ap (outcome (state_of h)) (sym (inputs-cons h role (map role_of pdus) None))

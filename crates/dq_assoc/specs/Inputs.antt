@@ -1,29 +1,33 @@
--- The inputs of an association, from the PDUs of its stream: first a request, the peer's abort or a stray PDU; after
--- a request the messages, and the first input that closes.
+-- The inputs of an association, from the PDUs of its stream: first a request, the peer's abort or a
+-- stray PDU; after a request the messages, and the first input that closes (PS3.8 section 9.2).
 use Rattle.std.specs.Prelude.{◌≡◌, ℕ, List, [], ◌∷◌, ◌++◌, map, Option, Some, None}
 use Rattle.dq_pdu.specs.declared.pdu.Pdu.{Pdu}
-use Rattle.dq_pdu.specs.declared.pdu.Pdu.TheVariants.{Request as request_pdu, PData, ReleaseRq, Abort}
 use Rattle.dq_pdu.specs.declared.pdu.Pdv.{Pdv}
+use Rattle.dq_pdu.specs.declared.role.Role.{Role}
+use Rattle.dq_pdu.specs.declared.role.Role.TheVariants.{Asks, Carries, Ends}
+use Rattle.dq_pdu.specs.declared.role.Ending.TheVariants.{ReleaseAsked, AbortSent, OutOfPlace}
 use Rattle.dq_pdu.specs.declared.fault.PduFault.{PduFault}
 use Rattle.dq_pdu.specs.declared.fault.PduFault.TheVariants.{Unrecognized, TooLong, Malformed}
+use Rattle.dq_pdu.specs.Roles.{role_of}
 use Rattle.dq_pdu.specs.Stream.{pdus_in}
-use Rattle.dq_dimse.specs.declared.assembler.Gathered.{Gathered}
-use Rattle.dq_dimse.specs.declared.assembler.Gathered.TheVariants.{Nothing, Fragments, Spent}
-use Rattle.dq_dimse.specs.Messages.{Gathering, messages}
-use Rattle.dq_assoc.specs.Negotiation.{accepted_ids}
+use Rattle.dq_dimse.specs.declared.fault.DimseFault.{DimseFault}
+use Rattle.dq_dimse.specs.Assembling.{Messages, messages}
+use Rattle.dq_assoc.specs.Negotiation.{agreement_of, ids_of}
 use Rattle.dq_assoc.specs.Table.{Input, Requested, Sent, Released, PeerAborted, Stray, Bad, unrecognized_pdu, unexpected_pdu, invalid_parameter}
 
 -- the values of the P-DATA PDUs at the front
-abbrev pub values : List Pdu → List Pdv
+abbrev pub values : List Role → List Pdv
 values [] = []
-values (PData pdvs ∷ pdus) = pdvs ++ values pdus
-values (pdu ∷ pdus) = []
+values (Carries pdvs ∷ roles) = pdvs ++ values roles
+values (Asks request ∷ roles) = []
+values (Ends ending ∷ roles) = []
 
 -- the PDUs after them
-abbrev pub after_values : List Pdu → List Pdu
+abbrev pub after_values : List Role → List Role
 after_values [] = []
-after_values (PData pdvs ∷ pdus) = after_values pdus
-after_values (pdu ∷ pdus) = pdu ∷ pdus
+after_values (Carries pdvs ∷ roles) = after_values roles
+after_values (Asks request ∷ roles) = Asks request ∷ roles
+after_values (Ends ending ∷ roles) = Ends ending ∷ roles
 
 -- the reason of the abort that answers a fault of the stream
 abbrev pub reason_of : PduFault → ℕ
@@ -31,63 +35,74 @@ reason_of Unrecognized = unrecognized_pdu
 reason_of TooLong = invalid_parameter
 reason_of Malformed = invalid_parameter
 
--- what a PDU that is no data closes with after a request
-abbrev pub closer : Pdu → Input
-closer ReleaseRq = Released
-closer (Abort source reason) = PeerAborted
-closer pdu = Bad unexpected_pdu
+-- what a PDU that carries no values closes with after a request
+abbrev pub closing_input : Role → Input
+closing_input (Ends ReleaseAsked) = Released
+closing_input (Ends AbortSent) = PeerAborted
+closing_input (Ends OutOfPlace) = Bad unexpected_pdu
+closing_input (Asks request) = Bad unexpected_pdu
+closing_input (Carries pdvs) = Bad unexpected_pdu
 
 -- what the PDU or the fault that ends the values closes with
-abbrev pub closing : List Pdu → Option PduFault → List Input
-closing [] None = []
-closing [] (Some fault) = Bad (reason_of fault) ∷ []
-closing (pdu ∷ pdus) fault = closer pdu ∷ []
+abbrev pub closing_inputs : List Role → Option PduFault → List Input
+closing_inputs [] None = []
+closing_inputs [] (Some fault) = Bad (reason_of fault) ∷ []
+closing_inputs (role ∷ roles) fault = closing_input role ∷ []
 
 -- values that are no messages close before what comes after them
-abbrev pub closing_after : Gathered → List Input → List Input
-closing_after (Spent fault) later = Bad invalid_parameter ∷ []
-closing_after Nothing later = later
-closing_after (Fragments context octets) later = later
+abbrev pub inputs_past : Option DimseFault → List Input → List Input
+inputs_past None later = later
+inputs_past (Some fault) later = Bad invalid_parameter ∷ []
 
 -- the messages of values, and what closes after them
-abbrev pub inputs_read : Gathering → List Input → List Input
-inputs_read read later = map Sent read.list ++ closing_after read.gathered later
+abbrev pub inputs_of_messages : Messages → List Input → List Input
+inputs_of_messages read later = map Sent read.list ++ inputs_past read.fault later
 
 -- the inputs after a request, whose accepted contexts have the ids
-abbrev pub inputs_after : List ℕ → List Pdu → Option PduFault → List Input
-inputs_after ids pdus fault = inputs_read (messages ids (values pdus)) (closing (after_values pdus) fault)
+abbrev pub inputs_after : List ℕ → List Role → Option PduFault → List Input
+inputs_after ids roles fault =
+    inputs_of_messages (messages ids (values roles)) (closing_inputs (after_values roles) fault)
 
 -- what a PDU that is no request is in a request's place
-abbrev pub misplaced : Pdu → Input
-misplaced (Abort source reason) = PeerAborted
-misplaced pdu = Stray
+abbrev pub misplaced_input : Role → Input
+misplaced_input (Ends AbortSent) = PeerAborted
+misplaced_input (Ends ReleaseAsked) = Stray
+misplaced_input (Ends OutOfPlace) = Stray
+misplaced_input (Carries pdvs) = Stray
+misplaced_input (Asks request) = Stray
 
+abbrev pub inputs_of_roles : List Role → Option PduFault → List Input
+inputs_of_roles [] None = []
+inputs_of_roles [] (Some fault) = Stray ∷ []
+inputs_of_roles (Asks request ∷ roles) fault =
+    Requested request ∷ inputs_after (ids_of (agreement_of request)) roles fault
+inputs_of_roles (Carries pdvs ∷ roles) fault = misplaced_input (Carries pdvs) ∷ []
+inputs_of_roles (Ends ending ∷ roles) fault = misplaced_input (Ends ending) ∷ []
+
+-- the inputs of PDUs, and of a fault after them
 abbrev pub inputs_of : List Pdu → Option PduFault → List Input
-inputs_of [] None = []
-inputs_of [] (Some fault) = Stray ∷ []
-inputs_of (request_pdu request ∷ pdus) fault = Requested request ∷ inputs_after (accepted_ids request) pdus fault
-inputs_of (pdu ∷ pdus) fault = misplaced pdu ∷ []
+inputs_of pdus fault = inputs_of_roles (map role_of pdus) fault
+
+-- the inputs of a stream of octets
+abbrev pub inputs : List ℕ → List Input
+inputs stream = inputs_of (pdus_in stream).list (pdus_in stream).fault
 
 -- after a request: messages, and then at most one input, which closes
-abbrev pub AreBehind : List Input → Type 0
-AreBehind [] = Unit {0}
-AreBehind (Sent message ∷ inputs) = AreBehind inputs
-AreBehind (Released ∷ inputs) = inputs ≡ []
-AreBehind (PeerAborted ∷ inputs) = inputs ≡ []
-AreBehind (Bad reason ∷ inputs) = inputs ≡ []
-AreBehind (Requested request ∷ inputs) = ⊥
-AreBehind (Stray ∷ inputs) = ⊥
+abbrev pub AreAfterRequest : List Input → Type 0
+AreAfterRequest [] = Unit {0}
+AreAfterRequest (Sent message ∷ inputs) = AreAfterRequest inputs
+AreAfterRequest (Released ∷ inputs) = inputs ≡ []
+AreAfterRequest (PeerAborted ∷ inputs) = inputs ≡ []
+AreAfterRequest (Bad reason ∷ inputs) = inputs ≡ []
+AreAfterRequest (Requested request ∷ inputs) = ⊥
+AreAfterRequest (Stray ∷ inputs) = ⊥
 
 -- a request and what comes after it, or one input that closes in its place
 abbrev pub AreInputs : List Input → Type 0
 AreInputs [] = Unit {0}
-AreInputs (Requested request ∷ inputs) = AreBehind inputs
+AreInputs (Requested request ∷ inputs) = AreAfterRequest inputs
 AreInputs (PeerAborted ∷ inputs) = inputs ≡ []
 AreInputs (Stray ∷ inputs) = inputs ≡ []
 AreInputs (Sent message ∷ inputs) = ⊥
 AreInputs (Released ∷ inputs) = ⊥
 AreInputs (Bad reason ∷ inputs) = ⊥
-
--- the inputs of a stream of octets
-abbrev pub inputs : List ℕ → List Input
-inputs stream = inputs_of (pdus_in stream).list (pdus_in stream).fault

@@ -1,5 +1,7 @@
+pub mod Classes
+pub mod PeerLimits
 pub mod Negotiation
 pub mod Table
 pub mod Inputs
-pub mod Standing
-pub mod Taking
+pub mod After
+pub mod Steps

@@ -1,86 +1,115 @@
--- The answer to an association request (PS3.8 sections 7.1.1, 9.3.2 to 9.3.4; PS3.7 annex D.3).
-use Rattle.std.specs.Prelude.{ℕ, ◌%◌, Bool, true, false, not, ◌||◌, ◌==◌, nat_le, if◌then◌else◌, List, [], ◌∷◌, map, codes, Option, Some, None}
-use Rattle.std.specs.List.{list_any}
+-- The answer to an association request (PS3.8 sections 7.1.1, 9.3.2 to 9.3.4; PS3.7 annex D.3), and
+-- what an association agrees on.
+use Rattle.std.specs.Prelude.{ℕ, ◌%◌, Bool, false, not, ◌==◌, if◌then◌else◌, List, map, codes, find, Option, Some, None, is_some, unwrap_or, Result, Ok, Err}
+use Rattle.std.specs.List.{list_any, filter_map}
+use Rattle.std.specs.Result.{result_ok}
 use Rattle.std.specs.Str.{bytes_eq}
+use Rattle.dq_dataset.specs.declared.header.Syntax.{Syntax}
+use Rattle.dq_dataset.specs.declared.header.Syntax.TheVariants.{Implicit, Explicit}
 use Rattle.dq_pdu.specs.declared.pdu.Pdu.{Pdu}
 use Rattle.dq_pdu.specs.declared.pdu.Pdu.TheVariants.{Accept as accept_pdu, Reject}
 use Rattle.dq_pdu.specs.declared.pdu.Request.{Request}
 use Rattle.dq_pdu.specs.declared.pdu.ProposedContext.{ProposedContext}
 use Rattle.dq_pdu.specs.declared.pdu.AnsweredContext.{AnsweredContext}
-use Rattle.dq_assoc.specs.declared.negotiation.ContextResult.{ContextResult}
-use Rattle.dq_assoc.specs.declared.negotiation.ContextResult.TheVariants.{Acceptance, AbstractSyntaxNotSupported, TransferSyntaxesNotSupported}
+use Rattle.dq_assoc.specs.declared.classes.SopClass.{SopClass}
+use Rattle.dq_assoc.specs.declared.agreement.AgreedContext.{AgreedContext}
+use Rattle.dq_assoc.specs.declared.agreement.Agreement.{Agreement}
+use Rattle.dq_assoc.specs.declared.negotiation.ContextRefusal.{ContextRefusal}
+use Rattle.dq_assoc.specs.declared.negotiation.ContextRefusal.TheVariants.{AbstractSyntaxNotSupported, TransferSyntaxesNotSupported}
 use Rattle.dq_assoc.specs.declared.association.Verdict.{Verdict}
 use Rattle.dq_assoc.specs.declared.association.Verdict.TheVariants.{Accept, Nowhere, Busy}
+use Rattle.dq_assoc.specs.Classes.{class_of}
+use Rattle.dq_assoc.specs.PeerLimits.{has_room}
 
 -- The DICOM application context (PS3.7 annex A.2.1).
 abbrev pub dicom_context : List ℕ
 dicom_context = codes "1.2.840.10008.3.1.1.1"
 
 -- Implicit and Explicit VR Little Endian (PS3.5 annex A.1 and A.2).
-abbrev pub implicit_syntax : List ℕ
-implicit_syntax = codes "1.2.840.10008.1.2"
+abbrev pub syntax_uid : Syntax → List ℕ
+syntax_uid Implicit = codes "1.2.840.10008.1.2"
+syntax_uid Explicit = codes "1.2.840.10008.1.2.1"
 
-abbrev pub explicit_syntax : List ℕ
-explicit_syntax = codes "1.2.840.10008.1.2.1"
-
--- The SOP class Verification (PS3.4 annex A.4).
-abbrev pub verification : List ℕ
-verification = codes "1.2.840.10008.1.1"
-
--- whether two texts are equal
-abbrev pub same_octets : List ℕ → List ℕ → Bool
-same_octets xs ys = bytes_eq xs ys
-
--- one of the texts is the text
 abbrev pub offers : List (List ℕ) → List ℕ → Bool
-offers syntaxes syntax = list_any (λ (offered : List ℕ). same_octets offered syntax) syntaxes
+offers syntaxes syntax = list_any (λ (offered : List ℕ). bytes_eq offered syntax) syntaxes
 
--- The classes that are served. More come with the services.
-abbrev pub is_served : List ℕ → Bool
-is_served class = same_octets class verification
+-- Explicit where it is offered, else Implicit where that is offered
+abbrev pub preferred_syntax : List (List ℕ) → Option Syntax
+preferred_syntax offered =
+    if offers offered (syntax_uid Explicit) then Some Explicit
+    else (if offers offered (syntax_uid Implicit) then Some Implicit else None)
 
--- The results of a presentation context (PS3.8 section 9.3.3.2).
-abbrev pub acceptance : ℕ
-acceptance = 0
+abbrev pub accepted_context : ℕ → SopClass → Syntax → AgreedContext
+accepted_context id class syntax = record { id = id; class = class; syntax = syntax }
 
-abbrev pub abstract_syntax_not_supported : ℕ
-abstract_syntax_not_supported = 3
+abbrev pub context_result_of : ℕ → Option SopClass → Option Syntax
+    → Result AgreedContext ContextRefusal
+context_result_of id None syntax = Err AbstractSyntaxNotSupported
+context_result_of id (Some class) None = Err TransferSyntaxesNotSupported
+context_result_of id (Some class) (Some syntax) = Ok (accepted_context id class syntax)
 
-abbrev pub transfer_syntaxes_not_supported : ℕ
-transfer_syntaxes_not_supported = 4
+-- what a proposed context comes to: its class is looked at before its transfer syntaxes
+abbrev pub context_result : ProposedContext → Result AgreedContext ContextRefusal
+context_result c =
+    context_result_of c.id (class_of c.abstract_syntax) (preferred_syntax c.transfer_syntaxes)
 
--- the code of a result
-abbrev pub result_code : ContextResult → ℕ
-result_code Acceptance = acceptance
-result_code AbstractSyntaxNotSupported = abstract_syntax_not_supported
-result_code TransferSyntaxesNotSupported = transfer_syntaxes_not_supported
-
-abbrev pub answered_as : ℕ → ℕ → List ℕ → AnsweredContext
-answered_as id reason syntax = record { id = id; result = reason; transfer_syntax = syntax }
-
--- A context of a class that is served gets Explicit where it is offered, else Implicit where that is offered. One that
--- is refused names Implicit.
-abbrev pub answered : ProposedContext → AnsweredContext
-answered c =
-    if not (is_served c.abstract_syntax) then answered_as c.id abstract_syntax_not_supported implicit_syntax
-    else (if offers c.transfer_syntaxes explicit_syntax then answered_as c.id acceptance explicit_syntax
-    else (if offers c.transfer_syntaxes implicit_syntax then answered_as c.id acceptance implicit_syntax
-    else answered_as c.id transfer_syntaxes_not_supported implicit_syntax))
+-- the context that is agreed on, if it is accepted
+abbrev pub agreed_context : ProposedContext → Option AgreedContext
+agreed_context c = result_ok (context_result c)
 
 abbrev pub is_accepted : ProposedContext → Bool
-is_accepted c = (answered c).result == acceptance
+is_accepted c = is_some (agreed_context c)
 
--- the ids of the contexts that are accepted, in order
-abbrev pub accepted_in : List ProposedContext → List ℕ
-accepted_in [] = []
-accepted_in (c ∷ cs) = if is_accepted c then c.id ∷ accepted_in cs else accepted_in cs
+-- The results of a presentation context (PS3.8 table 9-18).
+abbrev pub acceptance : ℕ
+acceptance = 0x00
 
-abbrev pub accepted_ids : Request → List ℕ
-accepted_ids request = accepted_in request.contexts
+abbrev pub abstract_syntax_not_supported : ℕ
+abstract_syntax_not_supported = 0x03
+
+abbrev pub transfer_syntaxes_not_supported : ℕ
+transfer_syntaxes_not_supported = 0x04
+
+abbrev pub result_of_refusal : ContextRefusal → ℕ
+result_of_refusal AbstractSyntaxNotSupported = abstract_syntax_not_supported
+result_of_refusal TransferSyntaxesNotSupported = transfer_syntaxes_not_supported
+
+abbrev pub answer_with : ℕ → ℕ → Syntax → AnsweredContext
+answer_with id reason syntax =
+    record { id = id; result = reason; transfer_syntax = syntax_uid syntax }
+
+-- the answer names the syntax that is agreed on; one that refuses names Implicit
+abbrev pub answer_of : ℕ → Result AgreedContext ContextRefusal → AnsweredContext
+answer_of id (Ok agreed) = answer_with id acceptance agreed.syntax
+answer_of id (Err refusal) = answer_with id (result_of_refusal refusal) Implicit
+
+abbrev pub answered_context : ProposedContext → AnsweredContext
+answered_context c = answer_of c.id (context_result c)
+
+-- the longest PDU that a peer takes; 0, and none, is no limit (PS3.8 annex D.1)
+abbrev pub peer_limit : Request → ℕ
+peer_limit request = unwrap_or request.maximum_length 0
+
+-- What a request agrees on once it is accepted: the contexts that are accepted, in order, the
+-- called title as it was received, and the peer's limit.
+abbrev pub agreement_of : Request → Agreement
+agreement_of request = record {
+  contexts = filter_map agreed_context request.contexts;
+  called = request.called;
+  limit = peer_limit request;
+}
+
+-- the ids of the contexts
+abbrev pub ids_of : Agreement → List ℕ
+ids_of agreement = map (λ (c : AgreedContext). c.id) agreement.contexts
+
+-- the context with the id
+abbrev pub context_of : Agreement → ℕ → Option AgreedContext
+context_of agreement id = find (λ (c : AgreedContext). c.id == id) agreement.contexts
 
 -- the longest PDU that is received
 abbrev pub own_maximum : ℕ
-own_maximum = 65536
+own_maximum = 0x10000
 
 -- version 1, both titles and the reserved octets as received, and each context answered in order
 abbrev pub acceptance_of : Request → Pdu
@@ -90,29 +119,58 @@ acceptance_of request = accept_pdu (record {
   calling = request.calling;
   reserved = request.reserved;
   application_context = Some dicom_context;
-  contexts = map answered request.contexts;
+  contexts = map answered_context request.contexts;
   maximum_length = Some own_maximum;
 })
 
 -- whether the application context is that of DICOM
 abbrev pub is_dicom : Option (List ℕ) → Bool
 is_dicom None = false
-is_dicom (Some name) = same_octets name dicom_context
+is_dicom (Some name) = bytes_eq name dicom_context
 
--- no limit, or room for a value's header and a fragment of two octets
-abbrev pub has_room : Option ℕ → Bool
-has_room None = true
-has_room (Some maximum) = (maximum == 0) || nat_le 8 maximum
+-- The results, sources and reasons of a rejection (PS3.8 table 9-21).
+abbrev pub permanent : ℕ
+permanent = 0x01
 
--- What a request is rejected with, in this order: result, source and reason (PS3.8 section 9.3.4). Version 1 is bit 0.
-abbrev pub rejection_by : Verdict → Option Pdu
-rejection_by Accept = None
-rejection_by Nowhere = Some (Reject 1 1 1)
-rejection_by Busy = Some (Reject 2 3 2)
+abbrev pub transient : ℕ
+transient = 0x02
 
+abbrev pub service_user : ℕ
+service_user = 0x01
+
+abbrev pub association_provider : ℕ
+association_provider = 0x02
+
+abbrev pub presentation_provider : ℕ
+presentation_provider = 0x03
+
+abbrev pub no_reason : ℕ
+no_reason = 0x01
+
+abbrev pub application_context_not_supported : ℕ
+application_context_not_supported = 0x02
+
+abbrev pub protocol_version_not_supported : ℕ
+protocol_version_not_supported = 0x02
+
+abbrev pub local_limit_exceeded : ℕ
+local_limit_exceeded = 0x02
+
+-- no institution has the titles: which of them is unknown is not told
+abbrev pub unknown_rejection : Pdu
+unknown_rejection = Reject permanent service_user no_reason
+
+abbrev pub verdict_rejection : Verdict → Option Pdu
+verdict_rejection Accept = None
+verdict_rejection Nowhere = Some unknown_rejection
+verdict_rejection Busy = Some (Reject transient presentation_provider local_limit_exceeded)
+
+-- What a request is rejected with, in this order. Version 1 is bit 0.
 abbrev pub rejection : Request → Verdict → Option Pdu
 rejection request verdict =
-    if not (request.version % 2 == 1) then Some (Reject 1 2 2)
-    else (if not (is_dicom request.application_context) then Some (Reject 1 1 2)
-    else (if not (has_room request.maximum_length) then Some (Reject 1 1 1)
-    else rejection_by verdict))
+    if not (request.version % 2 == 1)
+    then Some (Reject permanent association_provider protocol_version_not_supported)
+    else (if not (is_dicom request.application_context)
+    then Some (Reject permanent service_user application_context_not_supported)
+    else (if not (has_room request.maximum_length) then Some unknown_rejection
+    else verdict_rejection verdict))

@@ -1,4 +1,6 @@
--- The association table (PS3.8 section 9.2): for each state and input the PDU that is answered and the next state.
+-- The association table (PS3.8 section 9.2): for each state and input the PDU that is answered and
+-- the next state. The states are Waiting (Sta2), Open (Sta6) and Closed (Sta13, or Sta1 where the
+-- connection is closed at once).
 use Rattle.std.specs.Prelude.{ℕ, Bool, true, false, if◌then◌else◌, List, [], Option, Some, None}
 use Rattle.dq_pdu.specs.declared.pdu.Pdu.{Pdu}
 use Rattle.dq_pdu.specs.declared.pdu.Pdu.TheVariants.{ReleaseRp, Abort}
@@ -10,8 +12,9 @@ use Rattle.dq_assoc.specs.declared.association.State.TheVariants.{Waiting, Open,
 use Rattle.dq_assoc.specs.declared.association.Verdict.{Verdict}
 use Rattle.dq_assoc.specs.Negotiation.{acceptance_of, rejection}
 
--- What an association is given: a request, a message, the peer's release or abort, what has no place before a request
--- (stray), and what breaks the protocol after one, with the reason of the abort that answers it.
+-- What an association is given: a request, a message, the peer's release or abort, what has no
+-- place before a request (stray), and what breaks the protocol after one, with the reason of the
+-- abort that answers it.
 pub data Input : Type 0 where
   Requested : Request → Input
   Sent : Message → Input
@@ -28,38 +31,45 @@ pub record Line : Type 0 where
 abbrev pub goes : Option Pdu → State → Line
 goes answer next = record { answer = answer; next = next }
 
--- The source of an abort: the service user, or the service provider (PS3.8 section 9.3.8).
+-- The sources of an abort (PS3.8 table 9-26).
 abbrev pub by_user : ℕ
-by_user = 0
+by_user = 0x00
 
 abbrev pub by_provider : ℕ
-by_provider = 2
+by_provider = 0x02
 
--- Its reasons: not specified, and of the provider: unrecognized PDU, unexpected PDU, invalid parameter.
+-- Its reasons, all but the first of the provider (PS3.8 table 9-26).
 abbrev pub not_specified : ℕ
-not_specified = 0
+not_specified = 0x00
 
 abbrev pub unrecognized_pdu : ℕ
-unrecognized_pdu = 1
+unrecognized_pdu = 0x01
 
 abbrev pub unexpected_pdu : ℕ
-unexpected_pdu = 2
+unexpected_pdu = 0x02
 
 abbrev pub invalid_parameter : ℕ
-invalid_parameter = 6
+invalid_parameter = 0x06
 
--- What stands in a request's place, and a request whose acceptance no octets spell, is aborted.
+-- AA-1: what stands in a request's place, and a request whose acceptance no octets spell, is
+-- aborted.
 abbrev pub stray_line : Line
 stray_line = goes (Some (Abort by_user not_specified)) Closed
 
+-- AE-6 and AE-7: a request is accepted
 abbrev pub accepted_line : Pdu → Line
 accepted_line answer = if is_writable answer then goes (Some answer) Open else stray_line
 
+-- AE-6, AE-8: or rejected
 abbrev pub requested_line : Request → Option Pdu → Line
 requested_line request None = accepted_line (acceptance_of request)
 requested_line request (Some answer) = goes (Some answer) Closed
 
--- the lines of Waiting
+-- AA-8: an open association is aborted, with the reason
+abbrev pub abort_line : ℕ → Line
+abort_line reason = goes (Some (Abort by_provider reason)) Closed
+
+-- the lines of Waiting; AA-2 at the peer's abort
 abbrev pub waiting_line : Verdict → Input → Line
 waiting_line verdict (Requested request) = requested_line request (rejection request verdict)
 waiting_line verdict PeerAborted = goes None Closed
@@ -68,14 +78,15 @@ waiting_line verdict (Sent message) = stray_line
 waiting_line verdict Released = stray_line
 waiting_line verdict (Bad reason) = stray_line
 
--- the lines of Open; a message is answered by its service
+-- The lines of Open: DT-2 at a message, which its service answers; AR-2 and AR-4 at the peer's
+-- release; AA-3 at its abort.
 abbrev pub open_line : Input → Line
 open_line (Sent message) = goes None Open
 open_line Released = goes (Some ReleaseRp) Closed
 open_line PeerAborted = goes None Closed
-open_line (Bad reason) = goes (Some (Abort by_provider reason)) Closed
-open_line (Requested request) = goes (Some (Abort by_provider unexpected_pdu)) Closed
-open_line Stray = goes (Some (Abort by_provider unexpected_pdu)) Closed
+open_line (Bad reason) = abort_line reason
+open_line (Requested request) = abort_line unexpected_pdu
+open_line Stray = abort_line unexpected_pdu
 
 -- the whole table
 abbrev pub line : State → Verdict → Input → Line

@@ -1,16 +1,19 @@
-ghost use Rattle.std.specs.Prelude.{◌≡◌, ◌∷◌, [], ◌++◌, List, Bool, true, false, IsTrue, IfOk, OnOk, Some, None};
-ghost use Rattle.std.specs.Option.{ForSome};
-ghost use Rattle.dq_pdu.specs.Writing.{is_writable, IsWritable};
-ghost use Rattle.dq_dimse.specs.Messages.{gather_all};
-ghost use Rattle.dq_assoc.specs.Table.{Input, Requested, line, answer_octets};
-ghost use Rattle.dq_assoc.specs.Inputs.{misplaced, closer, reason_of, inputs_of};
-ghost use Rattle.dq_assoc.specs.Standing.{standing, state_of, step_of, outcome, opens_as, Takes};
-ghost use Rattle.dq_assoc.specs.Taking.{is_spent, inputs_from, values_step, opened_with, standing_from, fault_inputs, abort_for};
+ghost use Rattle.std.specs.Prelude.{◌≡◌, ◌∷◌, [], ◌++◌, List, Option, true, false, if◌then◌else◌, IfOk, OnOk, Some, None, is_some};
+ghost use Rattle.std.specs.Option.{ForSome, option_copied};
+ghost use Rattle.dq_pdu.specs.declared.fault.PduFault.{PduFault};
+ghost use Rattle.dq_pdu.specs.Writing.{IsWritable};
+ghost use Rattle.dq_dimse.specs.Assembling.{spent_by, messages_from, assembly_from};
+ghost use Rattle.dq_assoc.specs.Negotiation.{agreement_of};
+ghost use Rattle.dq_assoc.specs.Table.{Requested, line, answer_octets};
+ghost use Rattle.dq_assoc.specs.Inputs.{misplaced_input, closing_input, reason_of};
+ghost use Rattle.dq_assoc.specs.After.{state_of, is_closed, agreement_in, AssociationAfter, association_at, association_by, open_if, inputs_by, inputs_from, TakesRole, Takes};
+ghost use Rattle.dq_assoc.specs.Steps.{step_of, values_step, fault_answer, after_messages, outcome};
 
+use crate::agreement::Agreement;
 use crate::negotiation;
 use dq_dimse::{Assembler, DimseFault, Message};
 use dq_list::Listed;
-use dq_pdu::{Pdu, PduFault, Pdv, Request, writable, write_pdu};
+use dq_pdu::{Ending, Pdu, PduFault, Pdv, Request, Role, writable, write_pdu};
 use std::alloc::{AllocError, Global};
 use std::marker::Model;
 use std::mem;
@@ -18,10 +21,11 @@ use std::mem;
 /// The state of an association (PS3.8 section 9.2).
 #[derive(Clone, Copy, Debug, PartialEq, Eq)]
 pub enum State {
-    /// Awaiting the request.
+    /// Sta2: awaiting the request.
     Waiting,
-    /// Ready for data transfer.
+    /// Sta6: ready for data transfer.
     Open,
+    /// Sta13, or Sta1: the connection is to be closed.
     Closed,
 }
 
@@ -36,7 +40,8 @@ pub enum Verdict {
     Busy,
 }
 
-/// What a PDU leads to: messages to be answered first, then octets, and whether the connection is closed.
+/// What a PDU leads to: messages to be answered first, then octets, and whether the connection is
+/// closed.
 #[derive(Debug, Drop)]
 pub struct Step {
     pub messages: Listed<Message>,
@@ -48,7 +53,7 @@ pub struct Step {
 #[derive(Debug, Drop)]
 pub(crate) enum Held {
     Waiting,
-    Open(Assembler),
+    Open(Agreement, Assembler),
     Closed,
 }
 
@@ -65,71 +70,91 @@ impl Model for Association {
 
     ghost Value = { Held };
 
-    ghost use Rattle.dq_assoc.specs.Taking.{is_sound};
+    ghost use Rattle.dq_assoc.specs.After.{is_sound};
 
     ghost view = { λ a. a.held };
 
     ghost invariant = { λ a. IsTrue (is_sound a.held) };
 }
 
-/// An abort by the service user (PS3.8 section 9.3.8).
-const BY_USER: u8 = 0;
+/// The sources of an abort (PS3.8 table 9-26).
+const BY_USER: u8 = 0x00;
 
-/// An abort by the service provider.
-const BY_PROVIDER: u8 = 2;
+const BY_PROVIDER: u8 = 0x02;
 
-/// No reason of an abort.
-const NOT_SPECIFIED: u8 = 0;
+/// The reasons of an abort, all but the first of the provider (PS3.8 table 9-26).
+const NOT_SPECIFIED: u8 = 0x00;
 
-/// The type of a PDU is unknown.
-const UNRECOGNIZED_UNIT: u8 = 1;
+const UNRECOGNIZED_PDU: u8 = 0x01;
 
-/// A PDU stands where it has no place.
-const UNEXPECTED_UNIT: u8 = 2;
+const UNEXPECTED_PDU: u8 = 0x02;
 
-/// A PDU's values are no messages.
-const INVALID_PARAMETER: u8 = 6;
+const INVALID_PARAMETER: u8 = 0x06;
 
 /// A step that closes after messages: with a PDU, if one is answered.
-fn closing(alloc: Global, messages: Vec<Message>, answer: Option<Pdu>) -> Result<Step, AllocError>
-    requires { ForSome answer (λ pdu. IsTrue (is_writable pdu)) }
-    ensures { IfOk result (λ step. step ≡ record { messages = messages.items; octets = answer_octets answer; close = true }) }
+fn closing_step(
+    alloc: Global,
+    messages: Listed<Message>,
+    answer: Option<Pdu>,
+) -> Result<Step, AllocError>
+    requires { ForSome answer IsWritable }
+    ensures { IfOk result (λ step. step ≡ record {
+      messages = messages;
+      octets = answer_octets answer;
+      close = true;
+    }) }
 {
     let octets = match &answer {
         None => Vec::new(alloc),
-        Some(pdu) => {
-            let is_writable = writable(pdu);
-            prove!(is_writable);
-            write_pdu(alloc, pdu)?
-        }
+        Some(pdu) => write_pdu(alloc, pdu)?,
     };
     Ok(Step {
-        messages: Listed::from_inner(messages),
+        messages,
         octets: Listed::from_inner(octets),
         close: true,
     })
 }
 
-/// The answer to what is no request in a request's place.
-fn misplaced_answer(pdu: &Pdu) -> Option<Pdu>
-    ensures answer { result ≡ (line State.Waiting Verdict.Accept (misplaced pdu.now)).answer }
-    ensures fits { ForSome result (λ pdu. IsTrue (is_writable pdu)) }
+/// A step after messages.
+fn after_messages(mut messages: Vec<Message>, last: Step) -> Result<Step, AllocError>
+    ensures { IfOk result (λ step. step ≡ after_messages messages.items last) }
 {
-    match pdu {
-        Pdu::Abort(..) => None,
+    messages.append(&mut last.messages.into_inner())?;
+    Ok(Step {
+        messages: Listed::from_inner(messages),
+        octets: last.octets,
+        close: last.close,
+    })
+}
+
+/// The answer to what is no request in a request's place.
+#[tactic(auto, using(crate::proofs::ShortPdus::abort_is_writable))]
+fn misplaced_answer(role: &Role) -> Option<Pdu>
+    ensures answer { result
+        ≡ (line State.Waiting Verdict.Accept (misplaced_input role.now)).answer }
+    ensures fits { ForSome result IsWritable }
+{
+    match role {
+        // AA-2
+        Role::Ends(Ending::AbortSent) => None,
+        // AA-1
         _ => Some(Pdu::Abort(BY_USER, NOT_SPECIFIED)),
     }
 }
 
 /// The answer of an open association to a PDU that closes it.
-fn closing_answer(pdu: &Pdu) -> Option<Pdu>
-    ensures answer { result ≡ (line State.Open Verdict.Accept (closer pdu.now)).answer }
-    ensures fits { ForSome result (λ pdu. IsTrue (is_writable pdu)) }
+#[tactic(auto, using(crate::proofs::ShortPdus::short_pdus))]
+fn closing_answer(role: &Role) -> Option<Pdu>
+    ensures answer { result ≡ (line State.Open Verdict.Accept (closing_input role.now)).answer }
+    ensures fits { ForSome result IsWritable }
 {
-    match pdu {
-        Pdu::ReleaseRq => Some(Pdu::ReleaseRp),
-        Pdu::Abort(..) => None,
-        _ => Some(Pdu::Abort(BY_PROVIDER, UNEXPECTED_UNIT)),
+    match role {
+        // AR-2 and AR-4
+        Role::Ends(Ending::ReleaseAsked) => Some(Pdu::ReleaseRp),
+        // AA-3
+        Role::Ends(Ending::AbortSent) => None,
+        // AA-8
+        _ => Some(Pdu::Abort(BY_PROVIDER, UNEXPECTED_PDU)),
     }
 }
 
@@ -138,55 +163,81 @@ fn reason_of(fault: PduFault) -> u8
     ensures { result ≡ reason_of fault }
 {
     match fault {
-        PduFault::Unrecognized => UNRECOGNIZED_UNIT,
+        PduFault::Unrecognized => UNRECOGNIZED_PDU,
         PduFault::TooLong | PduFault::Malformed => INVALID_PARAMETER,
     }
 }
 
-/// The abort that answers a fault of the stream, by the association's state (PS3.8 section 9.3.8).
-#[tactic(auto, using(crate::proofs::Aborts::abort_is_writable))]
-pub fn abort_for(state: State, fault: PduFault) -> Pdu
-    ensures value { result ≡ abort_for state fault }
-    ensures line { (input : Input) → fault_inputs state fault ≡ input ∷ [] → (line state Verdict.Accept input).answer ≡ Some result }
-    ensures fits { IsWritable result }
+/// The answer to a fault of the stream.
+#[tactic(auto, using(crate::proofs::ShortPdus::abort_is_writable))]
+fn fault_answer(state: State, fault: PduFault) -> Option<Pdu>
+    ensures answer { result ≡ fault_answer state fault }
+    ensures fits { ForSome result IsWritable }
 {
     match state {
-        State::Waiting => Pdu::Abort(BY_USER, NOT_SPECIFIED),
-        State::Open | State::Closed => Pdu::Abort(BY_PROVIDER, reason_of(fault)),
+        // AA-1
+        State::Waiting => Some(Pdu::Abort(BY_USER, NOT_SPECIFIED)),
+        // AA-8
+        State::Open => Some(Pdu::Abort(BY_PROVIDER, reason_of(fault))),
+        State::Closed => None,
     }
 }
 
 /// What values lead to: the messages that they complete, and whether they are no messages.
 #[derive(Debug, Drop)]
 struct Read {
-    messages: Vec<Message>,
+    messages: Listed<Message>,
     is_faulty: bool,
+}
+
+/// Gives a value to an assembler, and the message that it completes to `messages`. Answers whether
+/// it is faulty.
+fn take_value(
+    assembler: &mut Assembler,
+    value: &Pdv,
+    messages: &mut Listed<Message>,
+) -> Result<bool, AllocError>
+    ensures messages { OnOk result (
+        messages.new ≡ messages.old ++ (messages_from assembler.old (value.now ∷ [])).list) }
+    ensures fault { IfOk result (λ is_faulty.
+        is_faulty ≡ is_some (messages_from assembler.old (value.now ∷ [])).fault) }
+    ensures next { IfOk result (λ is_faulty. is_faulty ≡ false →
+        assembler.new ≡ assembly_from assembler.old (value.now ∷ [])) }
+{
+    match assembler.take(value) {
+        Ok(None) => Ok(false),
+        Ok(Some(message)) => {
+            messages.push(message)?;
+            Ok(false)
+        }
+        Err(fault) => {
+            if fault == DimseFault::NoMemory {
+                Err(AllocError)
+            } else {
+                Ok(true)
+            }
+        }
+    }
 }
 
 /// Gives values to an assembler, up to one that is faulty.
 fn read_values(alloc: Global, assembler: &mut Assembler, values: &[Pdv]) -> Result<Read, AllocError>
-    requires { is_spent assembler.old.gathered ≡ false }
-    ensures messages { IfOk result (λ read. read.messages.items ≡ (gather_all assembler.old.ids assembler.old.gathered values.now).list) }
-    ensures fault { IfOk result (λ read. read.is_faulty ≡ is_spent (gather_all assembler.old.ids assembler.old.gathered values.now).gathered) }
-    ensures stands { IfOk result (λ read. read.is_faulty ≡ false → assembler.new ≡ record {
-      ids = assembler.old.ids;
-      gathered = (gather_all assembler.old.ids assembler.old.gathered values.now).gathered;
-    }) }
+    requires { spent_by assembler.old ≡ None }
+    ensures messages { IfOk result (λ read.
+        read.messages ≡ (messages_from assembler.old values.now).list) }
+    ensures fault { IfOk result (λ read.
+        read.is_faulty ≡ is_some (messages_from assembler.old values.now).fault) }
+    ensures next { IfOk result (λ read. read.is_faulty ≡ false →
+        assembler.new ≡ assembly_from assembler.old values.now) }
 {
-    let mut messages = Vec::new(alloc);
+    let mut messages = Listed::empty(alloc);
     for value in values {
-        match assembler.take(value) {
-            Ok(None) => {}
-            Ok(Some(message)) => messages.push(message)?,
-            Err(fault) => {
-                if fault == DimseFault::NoMemory {
-                    return Err(AllocError);
-                }
-                return Ok(Read {
-                    messages,
-                    is_faulty: true,
-                });
-            }
+        let is_faulty = take_value(assembler, value, &mut messages)?;
+        if is_faulty {
+            return Ok(Read {
+                messages,
+                is_faulty,
+            });
         }
     }
     Ok(Read {
@@ -198,7 +249,8 @@ fn read_values(alloc: Global, assembler: &mut Assembler, values: &[Pdv]) -> Resu
 impl Association {
     /// An association that awaits its request. It takes no memory.
     pub fn new(alloc: Global) -> Self
-        ensures { result ≡ standing [] }
+        ensures after { AssociationAfter [] result }
+        ensures state { state_of result ≡ State.Waiting }
     {
         Association {
             alloc,
@@ -212,82 +264,198 @@ impl Association {
     {
         match self.held {
             Held::Waiting => State::Waiting,
-            Held::Open(_) => State::Open,
+            Held::Open(..) => State::Open,
             Held::Closed => State::Closed,
         }
     }
 
-    /// Answers the request (PS3.8 sections 9.3.2 to 9.3.4). After an error the association is dropped.
+    /// What an open association agreed on: that of its request.
+    pub fn agreement(&self) -> Option<&Agreement>
+        ensures { option_copied result ≡ agreement_in self.now }
+    {
+        match &self.held {
+            Held::Open(agreement, _) => Some(agreement),
+            Held::Waiting | Held::Closed => None,
+        }
+    }
+
+    /// Answers the request (PS3.8 sections 9.3.2 to 9.3.4). After an error the association is
+    /// dropped.
     pub fn accept(&mut self, request: Request, verdict: Verdict) -> Result<Step, AllocError>
-        requires { self.old ≡ Held.Waiting }
-        ensures step { IfOk result (λ step. step ≡ step_of (line State.Waiting verdict (Requested request))) }
-        ensures stands { OnOk result (self.new ≡ opens_as (line State.Waiting verdict (Requested request)).next request) }
+        requires { state_of self.old ≡ State.Waiting }
+        ensures step { IfOk result (λ step.
+            step ≡ step_of (line State.Waiting verdict (Requested request))) }
+        ensures close { IfOk result (λ step. step.close ≡ is_closed (state_of self.new)) }
+        ensures after { IfOk result (λ step.
+            step.close ≡ false → AssociationAfter (Pdu.Request request ∷ []) self.new) }
+        ensures agreement { IfOk result (λ step.
+            step.close ≡ false → agreement_in self.new ≡ Some (agreement_of request)) }
+        // What PDUs add after the request, they add from here.
+        ensures further { IfOk result (λ step. step.close ≡ false →
+            (pdus : List Pdu) (fault : Option PduFault) →
+            inputs_from self.old (Pdu.Request request ∷ pdus) fault
+            ≡ Requested request ∷ inputs_from self.new pdus fault) }
+    {
+        self.open(request, verdict)
+    }
+
+    /// Answers the request, by the line of the table.
+    #[tactic(auto, using(crate::proofs::ShortPdus::abort_is_writable))]
+    fn open(&mut self, request: Request, verdict: Verdict) -> Result<Step, AllocError>
+        ensures step { IfOk result (λ step.
+            step ≡ step_of (line State.Waiting verdict (Requested request))) }
+        ensures close { IfOk result (λ step. step.close ≡ is_closed (state_of self.new)) }
+        ensures exact { OnOk result (
+            let next = (line State.Waiting verdict (Requested request)).next in
+            self.new ≡ association_at next request) }
     {
         self.held = Held::Closed;
-        let messages = Vec::new(self.alloc);
-        if let Some(refused) = negotiation::rejection(&request, verdict) {
-            return closing(self.alloc, messages, Some(refused));
-        }
+        let messages = Listed::empty(self.alloc);
+        let limit = match negotiation::peer_limit(&request, verdict) {
+            Ok(limit) => limit,
+            // AE-8
+            Err(rejected) => return closing_step(self.alloc, messages, Some(rejected)),
+        };
         let answer = negotiation::acceptance(self.alloc, &request)?;
         if !writable(&answer) {
             let stray = Pdu::Abort(BY_USER, NOT_SPECIFIED);
-            return closing(self.alloc, messages, Some(stray));
+            return closing_step(self.alloc, messages, Some(stray));
         }
+        // AE-7
         let octets = write_pdu(self.alloc, &answer)?;
-        let ids = negotiation::accepted_ids(self.alloc, &request)?;
-        self.held = Held::Open(Assembler::new(self.alloc, Listed::from_inner(ids)));
+        let agreement = negotiation::agreement_of(self.alloc, &request, limit)?;
+        let assembler = Assembler::new(self.alloc, agreement.ids(self.alloc)?);
+        self.held = Held::Open(agreement, assembler);
         Ok(Step {
-            messages: Listed::from_inner(messages),
+            messages,
             octets: Listed::from_inner(octets),
             close: false,
         })
     }
 
     /// Takes values, which are the messages of an open association or close it.
-    fn take_values(&mut self, mut assembler: Assembler, values: &[Pdv]) -> Result<Step, AllocError>
+    #[tactic(auto, using(crate::proofs::ShortPdus::abort_is_writable))]
+    fn take_values(
+        &mut self,
+        agreement: Agreement,
+        mut assembler: Assembler,
+        values: &[Pdv],
+    ) -> Result<Step, AllocError>
         requires closed { self.old ≡ Held.Closed }
-        requires sound { is_spent assembler.gathered ≡ false }
-        ensures step { IfOk result (λ step. step ≡ values_step (gather_all assembler.ids assembler.gathered values.now)) }
-        ensures stands { OnOk result (self.new ≡ opened_with assembler.ids (gather_all assembler.ids assembler.gathered values.now).gathered []) }
+        requires sound { spent_by assembler ≡ None }
+        ensures step { IfOk result (λ step.
+            step ≡ values_step (messages_from assembler values.now)) }
+        ensures close { IfOk result (λ step. step.close ≡ is_closed (state_of self.new)) }
+        ensures exact { OnOk result (
+            let next = assembly_from assembler values.now in
+            self.new ≡ open_if (spent_by next) agreement next) }
     {
         let read = read_values(self.alloc, &mut assembler, values)?;
         if read.is_faulty {
+            // AA-8
             let invalid = Pdu::Abort(BY_PROVIDER, INVALID_PARAMETER);
-            return closing(self.alloc, read.messages, Some(invalid));
+            return closing_step(self.alloc, read.messages, Some(invalid));
         }
-        self.held = Held::Open(assembler);
+        self.held = Held::Open(agreement, assembler);
+        // DT-2
         Ok(Step {
-            messages: Listed::from_inner(read.messages),
-            octets: Listed::from_inner(Vec::new(self.alloc)),
+            messages: read.messages,
+            octets: Listed::empty(self.alloc),
             close: false,
         })
     }
 
-    /// Takes a PDU, by what is held alone.
-    fn take_next(&mut self, pdu: &Pdu) -> Result<Step, AllocError>
-        requires { Takes self.old pdu.now }
-        ensures step { IfOk result (λ step. step ≡ outcome (state_of self.old) (inputs_from self.old (pdu.now ∷ []) None)) }
-        ensures stands { OnOk result (self.new ≡ standing_from self.old (pdu.now ∷ [])) }
+    /// Takes a PDU, by what it is to an association.
+    fn take_role(&mut self, role: &Role) -> Result<Step, AllocError>
+        requires { TakesRole self.old role.now }
+        ensures step { IfOk result (λ step.
+            step ≡ outcome (state_of self.old) (inputs_by self.old (role.now ∷ []) None)) }
+        ensures close { IfOk result (λ step. step.close ≡ is_closed (state_of self.new)) }
+        ensures exact { OnOk result (self.new ≡ association_by self.old (role.now ∷ [])) }
     {
+        let messages = Listed::empty(self.alloc);
         match mem::replace(&mut self.held, Held::Closed) {
             Held::Closed => unreachable!(),
-            Held::Waiting => closing(self.alloc, Vec::new(self.alloc), misplaced_answer(pdu)),
-            Held::Open(assembler) => match pdu {
-                Pdu::PData(values) => self.take_values(assembler, values.inner()),
-                _ => closing(self.alloc, Vec::new(self.alloc), closing_answer(pdu)),
+            Held::Waiting => closing_step(self.alloc, messages, misplaced_answer(role)),
+            Held::Open(agreement, assembler) => match role {
+                Role::Carries(values) => self.take_values(agreement, assembler, values.as_slice()),
+                _ => closing_step(self.alloc, messages, closing_answer(role)),
             },
         }
     }
 
-    /// Takes a PDU after the request, or one that stands in its place. After an error the association is dropped.
+    /// Takes a PDU after the request, or one that stands in its place. After an error the
+    /// association is dropped.
     pub fn take(&mut self, pdu: Pdu) -> Result<Step, AllocError>
         requires { Takes self.old pdu }
-        // Whatever PDUs the association was given, what one more leads to is read off the inputs that it adds.
-        ensures step { (pdus : List Pdu) → self.old ≡ standing pdus → IfOk result (λ step. (more : List Input)
-            × (inputs_of (pdus ++ pdu ∷ []) None ≡ inputs_of pdus None ++ more)
-            × (step ≡ outcome (state_of self.old) more)) }
-        ensures stands { (pdus : List Pdu) → self.old ≡ standing pdus → OnOk result (self.new ≡ standing (pdus ++ pdu ∷ [])) }
+        ensures step { IfOk result (λ step.
+            step ≡ outcome (state_of self.old) (inputs_from self.old (pdu ∷ []) None)) }
+        ensures close { IfOk result (λ step. step.close ≡ is_closed (state_of self.new)) }
+        ensures after { (pdus : List Pdu) → AssociationAfter pdus self.old →
+            OnOk result (AssociationAfter (pdus ++ pdu ∷ []) self.new) }
+        ensures agreement { OnOk result (agreement_in self.new
+            ≡ (if is_closed (state_of self.new) then None else agreement_in self.old)) }
+        // What PDUs add, this one and those after it add from here on.
+        ensures further { OnOk result ((pdus : List Pdu) (fault : Option PduFault) →
+            inputs_from self.old (pdu ∷ pdus) fault
+            ≡ inputs_from self.old (pdu ∷ []) None ++ inputs_from self.new pdus fault) }
     {
-        self.take_next(&pdu)
+        self.take_role(&pdu.into_role())
+    }
+
+    /// Takes PDUs in order after the request, up to one that closes, and then a fault of the
+    /// stream. After an error the association is dropped.
+    pub fn take_all(&mut self, pdus: Vec<Pdu>, fault: Option<PduFault>) -> Result<Step, AllocError>
+        requires { state_of self.old ≡ State.Open }
+        ensures step { IfOk result (λ step.
+            step ≡ outcome State.Open (inputs_from self.old pdus.items fault)) }
+        ensures close { IfOk result (λ step. step.close ≡ is_closed (state_of self.new)) }
+        ensures after { (before : List Pdu) → AssociationAfter before self.old →
+            IfOk result (λ step. step.close ≡ false →
+            (fault ≡ None) × AssociationAfter (before ++ pdus.items) self.new) }
+        ensures agreement { IfOk result (λ step. step.close ≡ false →
+            agreement_in self.new ≡ agreement_in self.old) }
+    {
+        let mut messages = Vec::new(self.alloc);
+        for pdu in pdus {
+            let step = self.take(pdu)?;
+            if step.close {
+                return after_messages(messages, step);
+            }
+            messages.append(&mut step.messages.into_inner())?;
+        }
+        self.end(messages, fault)
+    }
+
+    /// What messages lead to, and then a fault of the stream if there is one.
+    fn end(&mut self, messages: Vec<Message>, fault: Option<PduFault>) -> Result<Step, AllocError>
+        requires { state_of self.old ≡ State.Open }
+        ensures step { IfOk result (λ step. step ≡ after_messages messages.items
+            (outcome State.Open (inputs_from self.old [] fault))) }
+        ensures close { IfOk result (λ step. step.close ≡ is_closed (state_of self.new)) }
+        ensures kept { IfOk result (λ step. step.close ≡ false →
+            (fault ≡ None) × (self.new ≡ self.old)) }
+    {
+        match fault {
+            None => Ok(Step {
+                messages: Listed::from_inner(messages),
+                octets: Listed::empty(self.alloc),
+                close: false,
+            }),
+            Some(fault) => after_messages(messages, self.stop(fault)?),
+        }
+    }
+
+    /// Answers a fault of the stream, and is closed from then on: AA-1 in Sta2, AA-8 in Sta6. One
+    /// that was closed before answers nothing.
+    pub fn stop(&mut self, fault: PduFault) -> Result<Step, AllocError>
+        ensures step { IfOk result (λ step.
+            step ≡ outcome (state_of self.old) (inputs_from self.old [] (Some fault))) }
+        ensures close { IfOk result (λ step. step.close ≡ true) }
+        ensures state { state_of self.new ≡ State.Closed }
+    {
+        let answer = fault_answer(self.state(), fault);
+        self.held = Held::Closed;
+        closing_step(self.alloc, Listed::empty(self.alloc), answer)
     }
 }

@@ -1,12 +1,16 @@
 //! Associations: negotiation, and the table of states (PS3.8 sections 7 and 9).
 #![tactic(auto)]
 
+mod agreement;
 mod association;
+mod classes;
 pub mod laws;
 mod negotiation;
 
-pub use association::{Association, State, Step, Verdict, abort_for};
-pub use negotiation::{ContextResult, is_accepted, is_served, negotiated};
+pub use agreement::{AgreedContext, Agreement, PeerLimit};
+pub use association::{Association, State, Step, Verdict};
+pub use classes::{Service, SopClass};
+pub use negotiation::{ContextRefusal, context_result, is_accepted};
 
 #[cfg(test)]
 mod tests;

@@ -1,10 +1,12 @@
 //! The answer to an association request (PS3.8 sections 7.1.1 and 9.3.2 to 9.3.4, PS3.7 annex D.3).
-ghost use Rattle.std.specs.Prelude.{◌≡◌, map, IsTrue, IfOk};
-ghost use Rattle.std.specs.Option.{ForSome};
-ghost use Rattle.dq_pdu.specs.Writing.{is_writable};
-ghost use Rattle.dq_assoc.specs.Negotiation.{same_octets, offers, is_served, result_code, answered, is_accepted, accepted_in, accepted_ids, acceptance_of, is_dicom, has_room, rejection};
+ghost use Rattle.std.specs.Prelude.{◌≡◌, map, Some, None, IfOk, IfErr, MatchResult};
+ghost use Rattle.dq_pdu.specs.Writing.{IsWritable};
+ghost use Rattle.dq_assoc.specs.Negotiation.{syntax_uid, offers, preferred_syntax, context_result, is_accepted, answered_context, agreement_of, peer_limit, acceptance_of, is_dicom, rejection};
 
+use crate::agreement::{AgreedContext, Agreement, PeerLimit};
 use crate::association::Verdict;
+use crate::classes::SopClass;
+use dq_dataset::Syntax;
 use dq_list::Listed;
 use dq_pdu::{Accept, AnsweredContext, Pdu, ProposedContext, Request};
 use std::alloc::{AllocError, Global};
@@ -18,110 +20,136 @@ const IMPLICIT_SYNTAX: &[u8] = b"1.2.840.10008.1.2";
 /// Explicit VR Little Endian (PS3.5 annex A.2).
 const EXPLICIT_SYNTAX: &[u8] = b"1.2.840.10008.1.2.1";
 
-/// The SOP class Verification (PS3.4 annex A.4).
-const VERIFICATION: &[u8] = b"1.2.840.10008.1.1";
-
 /// The longest PDU that is received (PS3.8 annex D.1).
-const OWN_MAXIMUM: u32 = 65536;
+const OWN_MAXIMUM: u32 = 0x10000;
 
-/// The result of a presentation context (PS3.8 section 9.3.3.2).
+/// The result of a presentation context that is accepted (PS3.8 table 9-18).
+const ACCEPTANCE: u8 = 0x00;
+
+/// Why a presentation context is refused: its result (PS3.8 table 9-18).
 #[derive(Clone, Copy, Debug, PartialEq, Eq)]
-pub enum ContextResult {
-    Acceptance = 0,
-    AbstractSyntaxNotSupported = 3,
-    TransferSyntaxesNotSupported = 4,
+pub enum ContextRefusal {
+    /// Its class is not served.
+    AbstractSyntaxNotSupported = 0x03,
+    /// It offers none of the transfer syntaxes that are taken.
+    TransferSyntaxesNotSupported = 0x04,
 }
 
-/// The classes that are served. More come with the services.
-pub fn is_served(class: &[u8]) -> bool
-    ensures { result ≡ is_served class.now }
+fn syntax_uid(syntax: Syntax) -> &'static [u8]
+    ensures { result.now ≡ syntax_uid syntax }
 {
-    class == VERIFICATION
-}
-
-fn offers(syntaxes: &[Listed<u8>], syntax: &[u8]) -> bool
-    ensures { result ≡ offers syntaxes.now syntax.now }
-{
-    syntaxes
-        .iter()
-        .any(|offered| offered.inner().as_slice() == syntax)
-}
-
-/// The result of a context, and the transfer syntax that its answer names.
-pub fn negotiated(context: &ProposedContext) -> (ContextResult, &'static [u8])
-    ensures code { result_code result.0 ≡ (answered context.now).result }
-    ensures syntax { result.1.now ≡ (answered context.now).transfer_syntax }
-{
-    let offered = context.transfer_syntaxes.inner();
-    if !is_served(context.abstract_syntax.inner()) {
-        (ContextResult::AbstractSyntaxNotSupported, IMPLICIT_SYNTAX)
-    } else if offers(offered, EXPLICIT_SYNTAX) {
-        (ContextResult::Acceptance, EXPLICIT_SYNTAX)
-    } else if offers(offered, IMPLICIT_SYNTAX) {
-        (ContextResult::Acceptance, IMPLICIT_SYNTAX)
-    } else {
-        (ContextResult::TransferSyntaxesNotSupported, IMPLICIT_SYNTAX)
+    match syntax {
+        Syntax::Implicit => IMPLICIT_SYNTAX,
+        Syntax::Explicit => EXPLICIT_SYNTAX,
     }
+}
+
+fn offers(syntaxes: &[Listed<u8>], syntax: Syntax) -> bool
+    ensures { result ≡ offers syntaxes.now (syntax_uid syntax) }
+{
+    let uid = syntax_uid(syntax);
+    syntaxes.iter().any(|offered| offered.as_slice() == uid)
+}
+
+fn preferred_syntax(offered: &[Listed<u8>]) -> Option<Syntax>
+    ensures { result ≡ preferred_syntax offered.now }
+{
+    if offers(offered, Syntax::Explicit) {
+        Some(Syntax::Explicit)
+    } else if offers(offered, Syntax::Implicit) {
+        Some(Syntax::Implicit)
+    } else {
+        None
+    }
+}
+
+/// What a proposed context comes to: the context that is agreed on, in Explicit VR Little Endian
+/// where that is offered, else in Implicit, or why it is refused.
+pub fn context_result(context: &ProposedContext) -> Result<AgreedContext, ContextRefusal>
+    ensures { result ≡ context_result context.now }
+{
+    let Some(class) = SopClass::of(context.abstract_syntax.as_slice()) else {
+        return Err(ContextRefusal::AbstractSyntaxNotSupported);
+    };
+    let Some(syntax) = preferred_syntax(context.transfer_syntaxes.as_slice()) else {
+        return Err(ContextRefusal::TransferSyntaxesNotSupported);
+    };
+    Ok(AgreedContext {
+        id: context.id,
+        class,
+        syntax,
+    })
 }
 
 /// Whether a context is accepted.
 pub fn is_accepted(context: &ProposedContext) -> bool
     ensures { result ≡ is_accepted context.now }
 {
-    negotiated(context).0 == ContextResult::Acceptance
+    context_result(context).is_ok()
 }
 
-/// The ids of the contexts that are accepted, in order.
-pub(crate) fn accepted_ids(alloc: Global, request: &Request) -> Result<Vec<u8>, AllocError>
-    ensures { IfOk result (λ ids. ids.items ≡ accepted_ids request.now) }
+/// What a request agrees on once it is accepted: the contexts that are accepted, in order, its
+/// called title and its limit.
+pub(crate) fn agreement_of(
+    alloc: Global,
+    request: &Request,
+    limit: PeerLimit,
+) -> Result<Agreement, AllocError>
+    requires { limit ≡ peer_limit request.now }
+    ensures { IfOk result (λ agreement. agreement ≡ agreement_of request.now) }
 {
-    let mut ids = Vec::new(alloc);
-    for context in request.contexts.inner() {
-        if is_accepted(context) {
-            ids.push(context.id)?;
+    let mut contexts = Listed::empty(alloc);
+    for context in request.contexts.as_slice() {
+        if let Ok(agreed) = context_result(context) {
+            contexts.push(agreed)?;
         }
     }
-    Ok(ids)
-}
-
-fn answered(alloc: Global, context: &ProposedContext) -> Result<AnsweredContext, AllocError>
-    ensures { IfOk result (λ answer. answer ≡ answered context.now) }
-{
-    let (result, syntax) = negotiated(context);
-    Ok(AnsweredContext {
-        id: context.id,
-        result: result as u8,
-        transfer_syntax: Listed::from_inner(Vec::from_slice(alloc, syntax)?),
+    Ok(Agreement {
+        contexts,
+        called: request.called,
+        limit,
     })
 }
 
-fn all_answered(
+fn answered_context(alloc: Global, context: &ProposedContext) -> Result<AnsweredContext, AllocError>
+    ensures { IfOk result (λ answer. answer ≡ answered_context context.now) }
+{
+    let (result, syntax) = match context_result(context) {
+        Ok(agreed) => (ACCEPTANCE, agreed.syntax),
+        Err(refusal) => (refusal as u8, Syntax::Implicit),
+    };
+    Ok(AnsweredContext {
+        id: context.id,
+        result,
+        transfer_syntax: Listed::copy_of(alloc, syntax_uid(syntax))?,
+    })
+}
+
+fn answered_contexts(
     alloc: Global,
     contexts: &[ProposedContext],
-) -> Result<Vec<AnsweredContext>, AllocError>
-    ensures { IfOk result (λ answers. answers.items ≡ map answered contexts.now) }
+) -> Result<Listed<AnsweredContext>, AllocError>
+    ensures { IfOk result (λ answers. answers ≡ map answered_context contexts.now) }
 {
-    let mut answers = Vec::new(alloc);
+    let mut answers = Listed::empty(alloc);
     for context in contexts {
-        answers.push(answered(alloc, context)?)?;
+        answers.push(answered_context(alloc, context)?)?;
     }
     Ok(answers)
 }
 
-/// The acceptance of a request: version 1, both titles and the reserved octets as received, and each context answered
-/// in order (PS3.8 section 9.3.3).
+/// The acceptance of a request: version 1, both titles and the reserved octets as received, and
+/// each context answered in order (PS3.8 section 9.3.3).
 pub(crate) fn acceptance(alloc: Global, request: &Request) -> Result<Pdu, AllocError>
     ensures { IfOk result (λ answer. answer ≡ acceptance_of request.now) }
 {
-    let name = Vec::from_slice(alloc, DICOM_CONTEXT)?;
-    let contexts = all_answered(alloc, request.contexts.inner())?;
     Ok(Pdu::Accept(Accept {
         version: 1,
         called: request.called,
         calling: request.calling,
         reserved: request.reserved,
-        application_context: Some(Listed::from_inner(name)),
-        contexts: Listed::from_inner(contexts),
+        application_context: Some(Listed::copy_of(alloc, DICOM_CONTEXT)?),
+        contexts: answered_contexts(alloc, request.contexts.as_slice())?,
         maximum_length: Some(OWN_MAXIMUM),
     }))
 }
@@ -131,70 +159,59 @@ fn is_dicom(name: &Option<Listed<u8>>) -> bool
 {
     match name {
         None => false,
-        Some(name) => name.inner().as_slice() == DICOM_CONTEXT,
+        Some(name) => name.as_slice() == DICOM_CONTEXT,
     }
 }
 
-/// Whether the peer takes a value's header and a fragment of two octets.
-fn has_room(maximum: Option<u32>) -> bool
-    ensures { result ≡ has_room maximum }
+/// The results of a rejection: for good, or for now (PS3.8 table 9-21).
+const PERMANENT: u8 = 0x01;
+
+const TRANSIENT: u8 = 0x02;
+
+/// The sources of a rejection: the service user, and the association and presentation parts of the
+/// provider.
+const SERVICE_USER: u8 = 0x01;
+
+const ASSOCIATION_PROVIDER: u8 = 0x02;
+
+const PRESENTATION_PROVIDER: u8 = 0x03;
+
+/// The reasons of a rejection, by source: two of the user's, one of each part of the provider.
+const NO_REASON: u8 = 0x01;
+
+const APPLICATION_CONTEXT_NOT_SUPPORTED: u8 = 0x02;
+
+const PROTOCOL_VERSION_NOT_SUPPORTED: u8 = 0x02;
+
+const LOCAL_LIMIT_EXCEEDED: u8 = 0x02;
+
+/// The rejection of a request, or the peer's limit where there is none: its version, its
+/// application context, its maximum length and then its titles are looked at (PS3.8 section 9.3.4).
+#[tactic(auto, using(crate::proofs::ShortPdus::reject_is_writable))]
+pub(crate) fn peer_limit(request: &Request, verdict: Verdict) -> Result<PeerLimit, Pdu>
+    ensures fits { IfErr result IsWritable }
+    ensures answer { MatchResult result
+        (λ limit. (rejection request.now verdict ≡ None) × (limit ≡ peer_limit request.now))
+        (λ rejected. rejection request.now verdict ≡ Some rejected) }
 {
-    match maximum {
-        None => true,
-        Some(maximum) => maximum == 0 || maximum >= 8,
-    }
-}
-
-/// A rejection for good (PS3.8 section 9.3.4).
-const PERMANENT: u8 = 1;
-
-/// A rejection for now.
-const TRANSIENT: u8 = 2;
-
-/// A rejection by the service user.
-const BY_USER: u8 = 1;
-
-/// A rejection by the service provider's association part.
-const BY_ASSOCIATION_PROVIDER: u8 = 2;
-
-/// A rejection by the service provider's presentation part.
-const BY_PRESENTATION_PROVIDER: u8 = 3;
-
-/// A reason of the service user.
-const NO_REASON: u8 = 1;
-
-/// A reason of the service user.
-const APPLICATION_CONTEXT_NOT_SUPPORTED: u8 = 2;
-
-/// A reason of the association part.
-const PROTOCOL_VERSION_NOT_SUPPORTED: u8 = 2;
-
-/// A reason of the presentation part.
-const LOCAL_LIMIT_EXCEEDED: u8 = 2;
-
-/// What a request is rejected with, if it is: its version, its application context, its maximum length and then its
-/// titles are looked at (PS3.8 section 9.3.4).
-pub(crate) fn rejection(request: &Request, verdict: Verdict) -> Option<Pdu>
-    ensures answer { result ≡ rejection request.now verdict }
-    ensures fits { ForSome result (λ pdu. IsTrue (is_writable pdu)) }
-{
-    let no_reason = Pdu::Reject(PERMANENT, BY_USER, NO_REASON);
     if request.version % 2 == 0 {
         let reason = PROTOCOL_VERSION_NOT_SUPPORTED;
-        Some(Pdu::Reject(PERMANENT, BY_ASSOCIATION_PROVIDER, reason))
-    } else if !is_dicom(&request.application_context) {
+        return Err(Pdu::Reject(PERMANENT, ASSOCIATION_PROVIDER, reason));
+    }
+    if !is_dicom(&request.application_context) {
         let reason = APPLICATION_CONTEXT_NOT_SUPPORTED;
-        Some(Pdu::Reject(PERMANENT, BY_USER, reason))
-    } else if !has_room(request.maximum_length) {
-        Some(no_reason)
-    } else {
-        match verdict {
-            Verdict::Accept => None,
-            Verdict::Nowhere => Some(no_reason),
-            Verdict::Busy => {
-                let reason = LOCAL_LIMIT_EXCEEDED;
-                Some(Pdu::Reject(TRANSIENT, BY_PRESENTATION_PROVIDER, reason))
-            }
+        return Err(Pdu::Reject(PERMANENT, SERVICE_USER, reason));
+    }
+    let unknown = Pdu::Reject(PERMANENT, SERVICE_USER, NO_REASON);
+    let Some(limit) = PeerLimit::of(request.maximum_length) else {
+        return Err(unknown);
+    };
+    match verdict {
+        Verdict::Accept => Ok(limit),
+        Verdict::Nowhere => Err(unknown),
+        Verdict::Busy => {
+            let reason = LOCAL_LIMIT_EXCEEDED;
+            Err(Pdu::Reject(TRANSIENT, PRESENTATION_PROVIDER, reason))
         }
     }
 }

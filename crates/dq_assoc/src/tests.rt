@@ -1,6 +1,7 @@
 use super::*;
+use dq_dataset::Syntax;
 use dq_list::Listed;
-use dq_pdu::{Pdu, Pdv, ProposedContext, Request};
+use dq_pdu::{Pdu, PduFault, Pdv, ProposedContext, Request};
 use std::alloc::{AllocError, Global};
 use std::test::*;
 
@@ -24,7 +25,8 @@ ARCHIVE         MODALITY        \
 \x52\x00\x00\x0f2.25.2718281828\
 \x55\x00\x00\x0aDQARCHIVE1";
 
-/// The answers to four contexts: Explicit where it is offered, else Implicit, or a syntax or a class that is not taken.
+/// The answers to four contexts: Explicit where it is offered, else Implicit, or a syntax or a
+/// class that is not taken.
 const ANSWERS: [u8; 118] = *b"\x21\x00\x00\x1b\x01\x00\x00\x00\x40\x00\x00\x131.2.840.10008.1.2.1\
 \x21\x00\x00\x19\x03\x00\x00\x00\x40\x00\x00\x111.2.840.10008.1.2\
 \x21\x00\x00\x19\x05\x00\x04\x00\x40\x00\x00\x111.2.840.10008.1.2\
@@ -90,12 +92,12 @@ fn accepts_and_releases(rt: HostRuntime) -> Result<(), Fail> {
     let alloc = rt.alloc();
     let mut association = Association::new(alloc);
     let step = association.accept(verification(alloc)?, Verdict::Accept)?;
-    assert_eq!(rt; step.octets.inner().as_slice(), ACCEPTANCE.as_slice());
+    assert_eq!(rt; step.octets.as_slice(), ACCEPTANCE.as_slice());
     assert!(rt; !step.close);
     assert_eq!(rt; association.state(), State::Open);
     let step = association.take(Pdu::ReleaseRq)?;
     assert_eq!(rt;
-        step.octets.inner().as_slice(),
+        step.octets.as_slice(),
         b"\x06\x00\x00\x00\x00\x04\x00\x00\x00\x00".as_slice()
     );
     assert!(rt; step.close);
@@ -119,30 +121,19 @@ fn answers_each_context(rt: HostRuntime) -> Result<(), Fail> {
     Ok(())
 }
 
-#[tactic(auto, using(crate::proofs::Places::takes_open))]
 #[test]
-fn gives_messages_before_a_fault(rt: HostRuntime) -> Result<(), Fail> {
+fn takes_all_up_to_a_fault(rt: HostRuntime) -> Result<(), Fail> {
     let alloc = rt.alloc();
     let mut association = Association::new(alloc);
     let _ = association.accept(verification(alloc)?, Verdict::Accept)?;
     assert_eq!(rt; association.state(), State::Open);
-    let values = vec![in alloc;
-        command(alloc, 1, &ECHO_REQUEST)?,
-        command(alloc, 3, &ECHO_REQUEST)?,
-    ]?;
-    let step = association.take(Pdu::PData(Listed::from_inner(values)))?;
-    let codes = step
-        .messages
-        .inner()
-        .iter()
-        .map(|message| message.command.code);
+    let echo = vec![in alloc; command(alloc, 1, &ECHO_REQUEST)?]?;
+    let pdus = vec![in alloc; Pdu::PData(Listed::from_inner(echo))]?;
+    let step = association.take_all(pdus, Some(PduFault::Unrecognized))?;
+    assert_eq!(rt; step.messages.len(), 1);
     assert_eq!(rt;
-        codes.collect::<Vec<u16>>(alloc)?.as_slice(),
-        [0x0030].as_slice()
-    );
-    assert_eq!(rt;
-        step.octets.inner().as_slice(),
-        b"\x07\x00\x00\x00\x00\x04\x00\x00\x02\x06".as_slice()
+        step.octets.as_slice(),
+        b"\x07\x00\x00\x00\x00\x04\x00\x00\x02\x01".as_slice()
     );
     assert!(rt; step.close);
     Ok(())
@@ -157,7 +148,7 @@ fn aborts_what_is_out_of_place(rt: HostRuntime) -> Result<(), Fail> {
     let values = vec![in alloc; command(alloc, 1, &[])?]?;
     let step = waiting.take(Pdu::PData(Listed::from_inner(values)))?;
     assert_eq!(rt;
-        step.octets.inner().as_slice(),
+        step.octets.as_slice(),
         b"\x07\x00\x00\x00\x00\x04\x00\x00\x00\x00".as_slice()
     );
     let mut open = Association::new(alloc);
@@ -165,9 +156,82 @@ fn aborts_what_is_out_of_place(rt: HostRuntime) -> Result<(), Fail> {
     assert_eq!(rt; open.state(), State::Open);
     let step = open.take(Pdu::ReleaseRp)?;
     assert_eq!(rt;
-        step.octets.inner().as_slice(),
+        step.octets.as_slice(),
         b"\x07\x00\x00\x00\x00\x04\x00\x00\x02\x02".as_slice()
     );
+    Ok(())
+}
+
+#[test]
+fn serves_nine_classes(rt: HostRuntime) -> Result<(), Fail> {
+    let served: [(&[u8], Service); 9] = [
+        (b"1.2.840.10008.1.1", Service::Verification),
+        (b"1.2.840.10008.5.1.4.1.1.1", Service::Storage),
+        (b"1.2.840.10008.5.1.4.1.1.2", Service::Storage),
+        (b"1.2.840.10008.5.1.4.1.1.4", Service::Storage),
+        (b"1.2.840.10008.5.1.4.1.1.6.1", Service::Storage),
+        (b"1.2.840.10008.5.1.4.1.1.7", Service::Storage),
+        (b"1.2.840.10008.5.1.4.1.2.2.1", Service::StudyRootFind),
+        (b"1.2.840.10008.5.1.4.31", Service::WorklistFind),
+        (b"1.2.840.10008.3.1.2.3.3", Service::PerformedProcedureStep),
+    ];
+    for (uid, service) in served {
+        let class = SopClass::of(uid).ok_or("a class that is not served")?;
+        assert_eq!(rt; class.service(), service);
+        assert_eq!(rt; class.uid(), uid);
+    }
+    assert!(rt; SopClass::of(b"1.2.840.10008.5.1.4.1.2.1.1").is_none());
+    Ok(())
+}
+
+#[test]
+fn keeps_what_was_agreed(rt: HostRuntime) -> Result<(), Fail> {
+    let alloc = rt.alloc();
+    let contexts = vec![in alloc;
+        proposed(alloc, 1, b"1.2.3", &[IMPLICIT])?,
+        proposed(
+            alloc,
+            3,
+            b"1.2.840.10008.5.1.4.1.1.2",
+            &[IMPLICIT, EXPLICIT]
+        )?,
+        proposed(alloc, 5, VERIFICATION, &[IMPLICIT])?,
+    ]?;
+    let mut association = Association::new(alloc);
+    assert!(rt; association.agreement().is_none());
+    let _ = association.accept(request(alloc, contexts)?, Verdict::Accept)?;
+    let agreement = association.agreement().ok_or("no agreement")?;
+    assert_eq!(rt; agreement.contexts.len(), 2);
+    let image = AgreedContext {
+        id: 3,
+        class: SopClass::CtImageStorage,
+        syntax: Syntax::Explicit,
+    };
+    assert_eq!(rt; agreement.context(3), Some(image));
+    assert!(rt; agreement.context(1).is_none());
+    assert_eq!(rt; agreement.called, *b"ARCHIVE         ");
+    assert_eq!(rt; agreement.limit.octets(), 16384);
+    assert!(rt; PeerLimit::of(Some(7)).is_none());
+    Ok(())
+}
+
+#[test]
+fn aborts_at_a_fault(rt: HostRuntime) -> Result<(), Fail> {
+    let alloc = rt.alloc();
+    let mut waiting = Association::new(alloc);
+    let step = waiting.stop(PduFault::TooLong)?;
+    assert_eq!(rt;
+        step.octets.as_slice(),
+        b"\x07\x00\x00\x00\x00\x04\x00\x00\x00\x00".as_slice()
+    );
+    let mut open = Association::new(alloc);
+    let _ = open.accept(verification(alloc)?, Verdict::Accept)?;
+    let step = open.stop(PduFault::Unrecognized)?;
+    assert_eq!(rt;
+        step.octets.as_slice(),
+        b"\x07\x00\x00\x00\x00\x04\x00\x00\x02\x01".as_slice()
+    );
+    assert_eq!(rt; open.state(), State::Closed);
     Ok(())
 }
 
@@ -179,7 +243,7 @@ fn aborts_a_request_that_has_no_answer(rt: HostRuntime) -> Result<(), Fail> {
     let even = request(alloc, vec![in alloc; context]?)?;
     let step = association.accept(even, Verdict::Accept)?;
     assert_eq!(rt;
-        step.octets.inner().as_slice(),
+        step.octets.as_slice(),
         b"\x07\x00\x00\x00\x00\x04\x00\x00\x00\x00".as_slice()
     );
     assert!(rt; step.close);

@@ -1,5 +1,7 @@
 -- What is read of octets is the data set that they spell.
-use Rattle.std.proofs.Common.{◌≡◌, Bool, true, false, List, ℕ, Option, Some, None, Result, Ok, Err, refl, ap, ◌∙◌}
+use Rattle.std.proofs.Common.{◌≡◌, Bool, true, false, List, ℕ, Option, Some, None, Result, Ok, Err, refl, sym, ap, subst, ◌∙◌}
+use Rattle.std.specs.Prelude.{not, ◌==◌, nat_lt}
+use Rattle.std.proofs.lemmas.Bool.{ltb-true, lt-ltb}
 use Rattle.std.specs.List.{list_all}
 use Rattle.dq_dataset.specs.declared.fault.ReadFault.{ReadFault}
 use Rattle.dq_dataset.specs.declared.header.Syntax.{Syntax}
@@ -8,10 +10,12 @@ use Rattle.dq_dataset.specs.Tree.{ElementList}
 use Rattle.dq_dataset.specs.View.{elements_of}
 use Rattle.dq_dataset.specs.Reading.{reading}
 use Rattle.dq_dataset.specs.Grammar.{AreOctets, IsSpelled}
-use Rattle.dq_pdu.specs.Octets.{◌>>=◌}
+use Rattle.dq_list.specs.Readers.{◌>>=◌, provided}
 use Rattle.dq_dimse.specs.declared.command.Command.{Command}
-use Rattle.dq_dimse.specs.Commands.{provided, belongs, command_from, read_set, command_of}
-use Rattle.dq_dimse.specs.CommandSets.{IsCommandSet}
+use Rattle.dq_dimse.specs.Commands.{belongs, number_of, identifier_of, id_number, class_number, instance_number, command_from, read_set, command_of}
+use Rattle.dq_dimse.specs.CommandElements.{command_field, command_data_set_type, no_data_set}
+use Rattle.dq_dimse.specs.CommandFields.{response_bit}
+use Rattle.dq_dimse.specs.CommandSets.{SaysCommand, IsCommandSet}
 
 bind_some : {A B : Type 0} (r : Option A) (f : A → Option B) (y : B) → (r >>= f) ≡ Some y → (x : A) × (r ≡ Some x) × (f x ≡ Some y)
 bind_some (Some x) f y e = (x, refl, e)
@@ -24,6 +28,44 @@ provided_some false x y e = absurd cc
 set_read : (r : Result ElementList ReadFault) (set : ElementList) → read_set r ≡ Some set → r ≡ Ok set
 set_read (Ok x) set e = cc
 set_read (Err f) set e = absurd cc
+
+-- ---- the fields
+
+pub says_command : (set : ElementList) (command : Command) → command_from set ≡ Some command → SaysCommand set command
+unfolding command_from
+says_command set command e =
+    let code = bind_some (number_of command_field set) _ command e in
+    let type = bind_some (number_of command_data_set_type set) _ command code.2 in
+    let id = bind_some (number_of (id_number code.0) set) _ command type.2 in
+    let test = provided_some (nat_lt code.0 response_bit) _ command id.2 in
+    subst (SaysCommand set) test.1 (record {
+      code = code.1;
+      is_request = ltb-true code.0 response_bit test.0;
+      id = id.1;
+      data_set_type = type.0;
+      type_is = type.1;
+      with_data = refl;
+      sop_class = refl;
+      sop_instance = refl;
+      no_status = refl;
+    })
+
+pub command_said : (set : ElementList) (command : Command) → SaysCommand set command → command_from set ≡ Some command
+unfolding command_from
+command_said set command h =
+    let made : Bool → List ℕ → List ℕ → ℕ → Command =
+    λ with_data sop_class sop_instance status.
+    record { code = command.code; id = command.id; sop_class = sop_class; sop_instance = sop_instance; with_data = with_data; status = status } in
+    let read : command_from set ≡ Some (made (not (h.data_set_type == no_data_set)) (identifier_of (class_number command.code) set)
+    (identifier_of (instance_number command.code) set) 0) =
+    rw (h.code, h.type_is, h.id, lt-ltb command.code response_bit h.is_request) refl in
+    read
+    ∙ ap (λ (b : Bool). Some (made b (identifier_of (class_number command.code) set) (identifier_of (instance_number command.code) set) 0)) (sym h.with_data)
+    ∙ ap (λ (o : List ℕ). Some (made command.with_data o (identifier_of (instance_number command.code) set) 0)) h.sop_class
+    ∙ ap (λ (o : List ℕ). Some (made command.with_data command.sop_class o 0)) h.sop_instance
+    ∙ ap (λ (n : ℕ). Some (made command.with_data command.sop_class command.sop_instance n)) (sym h.no_status)
+
+-- ---- the octets
 
 -- what is read is spelled, and what is spelled is read
 abbrev pub ReadIsSpelled : Type 0
@@ -42,9 +84,9 @@ is_command_set spelled octets command bytes e =
     record {
       set = set;
       spells = record { spelled = spelled Implicit octets set bytes (set_read (reading Implicit octets) set first.1); own = test.0 };
-      command_is = ap command_from test.1 ∙ second.2;
+      says = says_command set command (ap command_from test.1 ∙ second.2);
     }
 
 pub command_set_read : SpelledIsRead → (octets : List ℕ) (command : Command) → IsCommandSet octets command → command_of octets ≡ Some command
 unfolding command_of
-command_set_read read octets command h = rw (read Implicit octets h.set h.spells.spelled, h.spells.own) h.command_is
+command_set_read read octets command h = rw (read Implicit octets h.set h.spells.spelled, h.spells.own) (command_said h.set command h.says)

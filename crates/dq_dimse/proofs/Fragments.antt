@@ -1,5 +1,6 @@
 -- Fragments of a size.
-use Rattle.std.proofs.Common.{◌≡◌, ℕ, zero, suc, ◌+◌, ◌<◌, ◌≤◌, Bool, true, false, cond, leb, List, [], ◌∷◌, ◌++◌, length, take, drop, refl, sym, ap, ◌∙◌, arith, length-drop, length-take, length-append}
+use Rattle.std.proofs.Common.{◌≡◌, ℕ, zero, suc, ◌+◌, ◌<◌, ◌≤◌, Bool, true, false, cond, leb, List, [], ◌∷◌, ◌++◌, length, take, drop, refl, sym, ap, ◌∙◌}
+use Rattle.std.proofs.Common.{arith, length-drop, length-take, length-append}
 use Rattle.std.specs.List.{flat_map}
 use Rattle.std.proofs.lemmas.Bool.{le-leb, lt-leb, cases_lt}
 use Rattle.std.proofs.lemmas.List.{append-nil, take-append-drop, take_at, drop_at}
@@ -13,36 +14,44 @@ one_fragment : (fuel size : ℕ) (octets : List ℕ) → length octets ≤ size 
 one_fragment zero size octets le = refl
 one_fragment (suc fuel) size octets le = rw (le-leb _ _ le) refl
 
-more_fragments : (fuel size : ℕ) (octets : List ℕ) → size < length octets → fragments_within (suc fuel) size octets ≡ take size octets ∷ fragments_within fuel size (drop size octets)
+more_fragments : (fuel size : ℕ) (octets : List ℕ) → size < length octets
+    → fragments_within (suc fuel) size octets ≡ take size octets ∷ fragments_within fuel size (drop size octets)
 more_fragments fuel size octets lt = rw (lt-leb _ _ lt) refl
 
 pub fragments_join : (fuel size : ℕ) (octets : List ℕ) → together (fragments_within fuel size octets) ≡ octets
 fragments_join zero size octets = append-nil octets
 fragments_join (suc fuel) size octets =
     elim (cases_lt size (length octets)) [
-      | inl lt ↦ ap together (more_fragments fuel size octets lt) ∙ ap (λ (xs : List ℕ). take size octets ++ xs) (fragments_join fuel size (drop size octets)) ∙ take-append-drop size octets
+      | inl lt ↦ ap together (more_fragments fuel size octets lt) ∙ ap (λ (xs : List ℕ). take size octets ++ xs) (fragments_join fuel size (drop size octets))
+          ∙ take-append-drop size octets
       | inr le ↦ ap together (one_fragment (suc fuel) size octets le) ∙ append-nil octets
     ]
 
 -- a fragment before others
-sized_cases : (size : ℕ) (f : List ℕ) (b : Bool) (x y : List ℕ) (ys : List (List ℕ)) → length f ≡ size → 0 < length x → 0 < length y → AreSized size (cond b (x ∷ []) (y ∷ ys)) → AreSized size (f ∷ cond b (x ∷ []) (y ∷ ys))
+sized_cases : (size : ℕ) (f : List ℕ) (b : Bool) (x y : List ℕ) (ys : List (List ℕ)) → length f ≡ size → 0 < length x → 0 < length y
+    → AreSized size (cond b (x ∷ []) (y ∷ ys)) → AreSized size (f ∷ cond b (x ∷ []) (y ∷ ys))
 sized_cases size f true x y ys e p q h = (e, p, h)
 sized_cases size f false x y ys e p q h = (e, q, h)
 
-sized_before : (size : ℕ) (f : List ℕ) (fuel : ℕ) (octets : List ℕ) → length f ≡ size → 0 < length octets → 0 < size → AreSized size (fragments_within fuel size octets) → AreSized size (f ∷ fragments_within fuel size octets)
+sized_before : (size : ℕ) (f : List ℕ) (fuel : ℕ) (octets : List ℕ) → length f ≡ size → 0 < length octets → 0 < size
+    → AreSized size (fragments_within fuel size octets) → AreSized size (f ∷ fragments_within fuel size octets)
 sized_before size f zero octets e some pos h = (e, some, h)
 sized_before size f (suc fuel) octets e some pos h =
-    sized_cases size f (leb (length octets) size) octets (take size octets) (fragments_within fuel size (drop size octets)) e some (omega (arith, length-take size octets)) h
+    sized_cases size f (leb (length octets) size) octets (take size octets) (fragments_within fuel size (drop size octets)) e some
+    (omega (arith, length-take size octets)) h
 
 pub fragments_sized : (fuel size : ℕ) (octets : List ℕ) → 0 < size → length octets ≤ fuel → AreSized size (fragments_within fuel size octets)
 fragments_sized zero size octets some enough = omega arith
 fragments_sized (suc fuel) size octets some enough =
     elim (cases_lt size (length octets)) [
-      | inl lt ↦ rw (more_fragments fuel size octets lt) (sized_before size (take size octets) fuel (drop size octets) (omega (arith, length-take size octets)) (omega (arith, length-drop size octets)) some (fragments_sized fuel size (drop size octets) some (omega (arith, length-drop size octets))))
+      | inl lt ↦ rw (more_fragments fuel size octets lt) (sized_before size (take size octets) fuel (drop size octets)
+          (omega (arith, length-take size octets)) (omega (arith, length-drop size octets)) some
+          (fragments_sized fuel size (drop size octets) some (omega (arith, length-drop size octets))))
       | inr le ↦ rw (one_fragment (suc fuel) size octets le) le
     ]
 
-only_within : (fuel size : ℕ) (octets : List ℕ) (run : List (List ℕ)) → 0 < size → length octets ≤ fuel → together run ≡ octets → AreSized size run → run ≡ fragments_within fuel size octets
+only_within : (fuel size : ℕ) (octets : List ℕ) (run : List (List ℕ)) → 0 < size → length octets ≤ fuel → together run ≡ octets → AreSized size run
+    → run ≡ fragments_within fuel size octets
 only_within fuel size octets [] some enough e h = absurd h
 only_within fuel size octets (f ∷ []) some enough e h =
     let same : f ≡ octets = sym (append-nil f) ∙ e in
@@ -63,7 +72,9 @@ only_within (suc fuel) size octets (f ∷ g ∷ run) some enough e h =
     ap (λ (x : List ℕ). x ∷ g ∷ run) front ∙ ap (λ (xs : List (List ℕ)). take size octets ∷ xs) ih ∙ sym (more_fragments fuel size octets (omega arith))
 
 pub are_fragments : (size : ℕ) (octets : List ℕ) → 0 < size → AreFragmentsOf size octets (fragments_within (length octets) size octets)
-are_fragments size octets some = record { joined = fragments_join (length octets) size octets; sized = fragments_sized (length octets) size octets some (omega arith) }
+are_fragments size octets some =
+    record { joined = fragments_join (length octets) size octets; sized = fragments_sized (length octets) size octets some (omega arith) }
 
-pub only_fragments : (size : ℕ) (octets : List ℕ) (run : List (List ℕ)) → 0 < size → AreFragmentsOf size octets run → run ≡ fragments_within (length octets) size octets
+pub only_fragments : (size : ℕ) (octets : List ℕ) (run : List (List ℕ)) → 0 < size → AreFragmentsOf size octets run
+    → run ≡ fragments_within (length octets) size octets
 only_fragments size octets run some h = only_within (length octets) size octets run some (omega arith) h.joined h.sized

@@ -1,9 +1,8 @@
 -- The computed messages are messages, and what is left after them is left.
-use Rattle.std.proofs.Common.{◌≡◌, ℕ, ◌<◌, ◌≤◌, ◌⊎◌, inl, inr, Bool, true, false, cond, ltb, eqb, List, [], ◌∷◌, ◌++◌, length, Option, Some, None, refl, sym, ap, subst, ◌∙◌, append_assoc, arith, length-append, lit≤}
+use Rattle.std.proofs.Common.{◌≡◌, ℕ, ◌<◌, ◌≤◌, ◌⊎◌, inl, inr, Bool, true, false, cond, ltb, eqb, List, [], ◌∷◌, ◌++◌, length, Option, Some, None, refl, sym}
+use Rattle.std.proofs.Common.{ap, subst, ◌∙◌, append_assoc, arith, length-append, lit≤}
 use Rattle.std.proofs.lemmas.Bool.{ltb-true, ltb-false, eqb-true, eqb-false, false≢true}
 use Rattle.std.proofs.lemmas.List.{append-nil}
-use Rattle.std.proofs.lemmas.List.Concat.{flat_map-append}
-use Rattle.std.proofs.lemmas.List.Elements.{All-append, All-from_recursion}
 use Rattle.dq_pdu.specs.declared.pdu.Pdv.{Pdv}
 use Rattle.dq_pdu.specs.Octets.{is_among}
 use Rattle.dq_dimse.specs.declared.command.Command.{Command}
@@ -11,156 +10,275 @@ use Rattle.dq_dimse.specs.declared.command.Message.{Message}
 use Rattle.dq_dimse.specs.declared.fault.DimseFault.{DimseFault}
 use Rattle.dq_dimse.specs.declared.fault.DimseFault.TheVariants.{WrongContext, WrongKind, BadCommand}
 use Rattle.dq_dimse.specs.declared.assembler.Gathered.{Gathered}
-use Rattle.dq_dimse.specs.declared.assembler.Gathered.TheVariants.{Nothing, Fragments, Spent}
+use Rattle.dq_dimse.specs.declared.assembler.Gathered.TheVariants.{Nothing, CommandPart, DataPart, Spent}
 use Rattle.dq_dimse.specs.Commands.{command_of}
-use Rattle.dq_dimse.specs.Messages.{command_limit, fragment, joined, AreFragments, IsMessage, AreMessages, IsExpected, FitsNot, AreLeft, Gathering, more, faulty, completed, gathered_with, fragment_gathered, gather, after_others, gather_all}
+use Rattle.dq_dimse.specs.Messages.{command_limit, joined, IsCommand, HasOctets, IsDataSet, IsDataPart, IsMessage, AreMessages, AwaitsCommand, AwaitsData}
+use Rattle.dq_dimse.specs.Messages.{Begins, IsExpected, FitsNot, AreLeft}
+use Rattle.dq_dimse.specs.Assembling.{Gathering, gathers, stops_at, completes, begun_with, command_completed, command_gathered, after_command, with_fragment}
+use Rattle.dq_dimse.specs.Assembling.{after_data, gather, after_others, gather_all, fault_in, messages, messages_from}
 use Rattle.dq_dimse.proofs.Gatherings.{fault_stays}
+use Rattle.dq_dimse.proofs.Runs.{joined-push, no_fragments, one_more_fragment, last_fragment, data_context, data_some, expected_is, is_expected}
+use Rattle.dq_dimse.proofs.DataParts.{with_fragment-octets, begun_octets}
 
--- what was gathered are the values in front
+-- a command set and data fragments, of which the message is what was kept
+pub record HoldsData (ids : List ℕ) (front : List Pdv) (message : Message) : Type 0 where
+  pub awaits : AwaitsData ids message.context message.command front
+  pub octets_are : HasOctets message (joined awaits.data_part)
+
+-- what was gathered are the PDVs in front
 abbrev pub Holds : List ℕ → List Pdv → Gathered → Type 0
 Holds ids front Nothing = front ≡ []
-Holds ids front (Fragments context octets) = AreFragments ids context front × (0 < length front) × (joined front ≡ octets)
+Holds ids front (CommandPart context octets) = AwaitsCommand ids context front × (0 < length front) × (joined front ≡ octets)
+Holds ids front (DataPart message) = HoldsData ids front message
 Holds ids front (Spent fault) = ⊥
 
-abbrev IsFault : List ℕ → List Pdv → Pdv → Gathering → Type 0
-IsFault ids front pdv made = (fault : DimseFault) × (made ≡ faulty fault) × FitsNot ids front pdv fault
+record IsFault (ids : List ℕ) (front : List Pdv) (pdv : Pdv) (made : Gathering) : Type 0 where
+  pub fault : DimseFault
+  pub made_is : made ≡ stops_at fault
+  pub command_due : Bool
+  pub begins : Begins ids command_due front
+  pub fits_not : FitsNot ids command_due front pdv fault
 
 abbrev IsMore : List ℕ → List Pdv → Pdv → Gathering → Type 0
 IsMore ids front pdv made = (made.list ≡ []) × Holds ids (front ++ pdv ∷ []) made.gathered
 
 abbrev IsWhole : List ℕ → List Pdv → Pdv → Gathering → Type 0
-IsWhole ids front pdv made = (message : Message) × (made ≡ record { list = message ∷ []; gathered = Nothing }) × IsMessage ids (front ++ pdv ∷ []) message
+IsWhole ids front pdv made = (message : Message) × (made ≡ completes message) × IsMessage ids (front ++ pdv ∷ []) message
 
--- what a value makes after those in front
+-- what a PDV makes after those in front
 abbrev Made : List ℕ → List Pdv → Pdv → Gathering → Type 0
 Made ids front pdv made = IsFault ids front pdv made ⊎ (IsMore ids front pdv made ⊎ IsWhole ids front pdv made)
 
-pub joined-push : (front : List Pdv) (pdv : Pdv) → joined (front ++ pdv ∷ []) ≡ joined front ++ pdv.octets
-joined-push front pdv = flat_map-append fragment front (pdv ∷ []) ∙ ap (λ (xs : List ℕ). joined front ++ xs) (append-nil pdv.octets)
+-- ---- where a command fragment is due
 
--- a value in its place
 record InPlace (ids : List ℕ) (context : ℕ) (front : List Pdv) (pdv : Pdv) : Type 0 where
-  pub fragments : AreFragments ids context front
+  pub awaits : AwaitsCommand ids context front
   pub expected : IsExpected ids front pdv
   pub context_is : pdv.context ≡ context
 
-by_command_of : (ids : List ℕ) (context : ℕ) (front : List Pdv) (pdv : Pdv) → InPlace ids context front pdv → pdv.command ≡ true → length (joined (front ++ pdv ∷ [])) ≤ command_limit → pdv.last ≡ true
-    → (read : Option Command) → command_of (joined (front ++ pdv ∷ [])) ≡ read → Made ids front pdv (completed context read)
-by_command_of ids context front pdv p is_command short finished None e = inl (BadCommand, refl, (p.expected, is_command, inr (short, finished, e)))
-by_command_of ids context front pdv p is_command short finished (Some command) e =
-    inr (inr (
-      record { context = context; command = command; octets = []; over = false },
-      refl,
-      record {
-        front = front;
-        final = pdv;
-        parts = refl;
-        fragments = p.fragments;
-        context_is = p.context_is;
-        is_command = is_command;
-        finished = finished;
-        short = short;
-        command_is = e;
-        no_data = (refl, refl);
-      },
-    ))
+is_fault : (ids : List ℕ) (context : ℕ) (front : List Pdv) (pdv : Pdv) (fault : DimseFault) → AwaitsCommand ids context front
+    → FitsNot ids true front pdv fault → IsFault ids front pdv (stops_at fault)
+is_fault ids context front pdv fault a h = record { fault = fault; made_is = refl; command_due = true; begins = inr (context, a); fits_not = h }
 
-push_fragment : (ids : List ℕ) (context : ℕ) (front : List Pdv) (pdv : Pdv) → InPlace ids context front pdv → pdv.command ≡ true → length (joined (front ++ pdv ∷ [])) ≤ command_limit → pdv.last ≡ false
-    → AreFragments ids context (front ++ pdv ∷ [])
-push_fragment ids context front pdv p is_command short going = record {
-  accepted = p.fragments.accepted;
-  context_is = All-append (λ (x : Pdv). x.context ≡ context) front (pdv ∷ []) p.fragments.context_is (All-from_recursion (λ (x : Pdv). x.context ≡ context) (pdv ∷ []) (p.context_is, tt));
-  commands = All-append (λ (x : Pdv). x.command ≡ true) front (pdv ∷ []) p.fragments.commands (All-from_recursion (λ (x : Pdv). x.command ≡ true) (pdv ∷ []) (is_command, tt));
-  unfinished = All-append (λ (x : Pdv). x.last ≡ false) front (pdv ∷ []) p.fragments.unfinished (All-from_recursion (λ (x : Pdv). x.last ≡ false) (pdv ∷ []) (going, tt));
+is_command : (ids : List ℕ) (context : ℕ) (front : List Pdv) (pdv : Pdv) (command : Command) → InPlace ids context front pdv → pdv.command ≡ true
+    → length (joined (front ++ pdv ∷ [])) ≤ command_limit → pdv.last ≡ true
+    → command_of (joined (front ++ pdv ∷ [])) ≡ Some command → IsCommand ids context (front ++ pdv ∷ []) command
+is_command ids context front pdv command p kind short finished e = record {
+  accepted = p.awaits.accepted;
+  fragments = last_fragment context true front pdv p.awaits.fragments p.context_is kind finished;
   short = short;
+  command_is = e;
 }
 
-by_last : (ids : List ℕ) (context : ℕ) (front : List Pdv) (pdv : Pdv) → InPlace ids context front pdv → pdv.command ≡ true → length (joined (front ++ pdv ∷ [])) ≤ command_limit
-    → (last : Bool) → pdv.last ≡ last → Made ids front pdv (cond last (completed context (command_of (joined (front ++ pdv ∷ [])))) (more (Fragments context (joined (front ++ pdv ∷ [])))))
-by_last ids context front pdv p is_command short true e = by_command_of ids context front pdv p is_command short e (command_of (joined (front ++ pdv ∷ []))) refl
-by_last ids context front pdv p is_command short false e =
-    inr (inl (refl, (push_fragment ids context front pdv p is_command short e, omega (arith, length-append front (pdv ∷ [])), refl)))
+by_data : (ids : List ℕ) (context : ℕ) (front : List Pdv) (pdv : Pdv) (command : Command) → IsCommand ids context (front ++ pdv ∷ []) command
+    → (with_data : Bool) → command.with_data ≡ with_data
+    → Made ids front pdv (cond with_data (gathers (DataPart (begun_with context command))) (completes (begun_with context command)))
+by_data ids context front pdv command is true e = inr (inl (
+  refl,
+  record {
+    awaits = record {
+      commands = front ++ pdv ∷ [];
+      data_part = [];
+      parts = sym
+          (append-nil (front ++ pdv ∷ []));
+      command_is = is;
+      has_data = e;
+      fragments = no_fragments context false;
+    };
+    octets_are = begun_octets context command;
+  },
+))
+by_data ids context front pdv command is false e = inr (inr (
+  begun_with context command,
+  refl,
+  record {
+    commands = front ++ pdv ∷ [];
+    data_part = [];
+    parts = sym (append-nil (front ++ pdv ∷ []));
+    command_is = is;
+    data_is = subst (λ (b : Bool). IsDataPart b (begun_with context command) []) (sym e) (refl, begun_octets context command);
+  },
+))
+
+by_command_of : (ids : List ℕ) (context : ℕ) (front : List Pdv) (pdv : Pdv) → InPlace ids context front pdv → pdv.command ≡ true
+    → length (joined (front ++ pdv ∷ [])) ≤ command_limit → pdv.last ≡ true
+    → (read : Option Command) → command_of (joined (front ++ pdv ∷ [])) ≡ read → Made ids front pdv (command_completed context read)
+by_command_of ids context front pdv p kind short finished None e =
+    inl (is_fault ids context front pdv BadCommand p.awaits (p.expected, kind, refl, inr (short, finished, e)))
+by_command_of ids context front pdv p kind short finished (Some command) e =
+    by_data ids context front pdv command (is_command ids context front pdv command p kind short finished e) command.with_data refl
+
+by_last : (ids : List ℕ) (context : ℕ) (front : List Pdv) (pdv : Pdv) → InPlace ids context front pdv → pdv.command ≡ true
+    → length (joined (front ++ pdv ∷ [])) ≤ command_limit
+    → (last : Bool) → pdv.last ≡ last → Made ids front pdv (cond last (command_completed context (command_of (joined (front ++ pdv ∷ []))))
+    (gathers (CommandPart context (joined (front ++ pdv ∷ [])))))
+by_last ids context front pdv p kind short true e = by_command_of ids context front pdv p kind short e (command_of (joined (front ++ pdv ∷ []))) refl
+by_last ids context front pdv p kind short false e =
+    let more : AwaitsCommand ids context (front ++ pdv ∷ []) = record {
+      accepted = p.awaits.accepted;
+      fragments = one_more_fragment context true front pdv p.awaits.fragments p.context_is kind e;
+      short = short;
+    } in
+    inr (inl (refl, (more, omega (arith, length-append front (pdv ∷ [])), refl)))
 
 by_length : (ids : List ℕ) (context : ℕ) (front : List Pdv) (pdv : Pdv) → InPlace ids context front pdv → pdv.command ≡ true
     → (long : Bool) → ltb command_limit (length (joined (front ++ pdv ∷ []))) ≡ long
-    → Made ids front pdv (cond long (faulty BadCommand) (cond pdv.last (completed context (command_of (joined (front ++ pdv ∷ [])))) (more (Fragments context (joined (front ++ pdv ∷ []))))))
-by_length ids context front pdv p is_command true e = inl (BadCommand, refl, (p.expected, is_command, inl (ltb-true _ _ e)))
-by_length ids context front pdv p is_command false e = by_last ids context front pdv p is_command (ltb-false _ _ e) pdv.last refl
+    → Made ids front pdv (cond long (stops_at BadCommand) (cond pdv.last (command_completed context (command_of (joined (front ++ pdv ∷ []))))
+    (gathers (CommandPart context (joined (front ++ pdv ∷ []))))))
+by_length ids context front pdv p kind true e = inl (is_fault ids context front pdv BadCommand p.awaits (p.expected, kind, refl, inl (ltb-true _ _ e)))
+by_length ids context front pdv p kind false e = by_last ids context front pdv p kind (ltb-false _ _ e) pdv.last refl
 
-by_command : (ids : List ℕ) (context : ℕ) (front : List Pdv) (pdv : Pdv) → InPlace ids context front pdv → (command : Bool) → pdv.command ≡ command
-    → Made ids front pdv (cond command (gathered_with context (joined (front ++ pdv ∷ [])) pdv.last) (faulty WrongKind))
-by_command ids context front pdv p true e = by_length ids context front pdv p e (ltb command_limit (length (joined (front ++ pdv ∷ [])))) refl
-by_command ids context front pdv p false e = inl (WrongKind, refl, (p.expected, e))
+by_kind : (ids : List ℕ) (context : ℕ) (front : List Pdv) (pdv : Pdv) → InPlace ids context front pdv → (kind : Bool) → pdv.command ≡ kind
+    → Made ids front pdv (cond kind (command_gathered context (joined (front ++ pdv ∷ [])) pdv.last) (stops_at WrongKind))
+by_kind ids context front pdv p true e = by_length ids context front pdv p e (ltb command_limit (length (joined (front ++ pdv ∷ [])))) refl
+by_kind ids context front pdv p false e = inl (is_fault ids context front pdv WrongKind p.awaits (p.expected, e))
 
-in_place : (ids : List ℕ) (context : ℕ) (front : List Pdv) (pdv : Pdv) → InPlace ids context front pdv → Made ids front pdv (fragment_gathered context (joined front) pdv)
+in_place : (ids : List ℕ) (context : ℕ) (front : List Pdv) (pdv : Pdv) → InPlace ids context front pdv
+    → Made ids front pdv (after_command context (joined front) pdv)
 in_place ids context front pdv p =
-    subst (λ (octets : List ℕ). Made ids front pdv (cond pdv.command (gathered_with context octets pdv.last) (faulty WrongKind))) (joined-push front pdv) (by_command ids context front pdv p pdv.command refl)
+    subst (λ (octets : List ℕ). Made ids front pdv (cond pdv.command (command_gathered context octets pdv.last) (stops_at WrongKind)))
+    (joined-push front pdv) (by_kind ids context front pdv p pdv.command refl)
 
-pub no_fragments : (ids : List ℕ) (context : ℕ) → is_among context ids ≡ true → AreFragments ids context []
-no_fragments ids context e = record {
-  accepted = e;
-  context_is = All-from_recursion (λ (x : Pdv). x.context ≡ context) [] tt;
-  commands = All-from_recursion (λ (x : Pdv). x.command ≡ true) [] tt;
-  unfinished = All-from_recursion (λ (x : Pdv). x.last ≡ false) [] tt;
-  short = lit≤ tt;
-}
+pub awaits_first : (ids : List ℕ) (context : ℕ) → is_among context ids ≡ true → AwaitsCommand ids context []
+awaits_first ids context e = record { accepted = e; fragments = no_fragments context true; short = lit≤ tt }
 
-begins : (ids : List ℕ) (pdv : Pdv) (accepted : Bool) → is_among pdv.context ids ≡ accepted → Made ids [] pdv (cond accepted (fragment_gathered pdv.context [] pdv) (faulty WrongContext))
-begins ids pdv true e = in_place ids pdv.context [] pdv (record { fragments = no_fragments ids pdv.context e; expected = e; context_is = refl })
-begins ids pdv false e = inl (WrongContext, refl, λ (h : is_among pdv.context ids ≡ true). absurd (false≢true (sym e ∙ h)))
+at_first : (ids : List ℕ) (pdv : Pdv) (accepted : Bool) → is_among pdv.context ids ≡ accepted
+    → Made ids [] pdv (cond accepted (after_command pdv.context [] pdv) (stops_at WrongContext))
+at_first ids pdv true e = in_place ids pdv.context [] pdv (record { awaits = awaits_first ids pdv.context e; expected = e; context_is = refl })
+at_first ids pdv false e =
+    inl (record {
+      fault = WrongContext;
+      made_is = refl;
+      command_due = true;
+      begins = inl refl;
+      fits_not = λ (h : is_among pdv.context ids ≡ true). absurd
+          (false≢true (sym e ∙ h));
+    })
 
--- the context of fragments is that of the first
-pub expected_is : (ids : List ℕ) (context : ℕ) (front : List Pdv) (pdv : Pdv) → AreFragments ids context front → 0 < length front → IsExpected ids front pdv → pdv.context ≡ context
-expected_is ids context [] pdv f some h = absurd (omega arith)
-expected_is ids context (x ∷ xs) pdv f some h = h ∙ f.context_is 0 x (omega arith)
-
-is_expected : (ids : List ℕ) (context : ℕ) (front : List Pdv) (pdv : Pdv) → AreFragments ids context front → 0 < length front → pdv.context ≡ context → IsExpected ids front pdv
-is_expected ids context [] pdv f some e = absurd (omega arith)
-is_expected ids context (x ∷ xs) pdv f some e = e ∙ sym (f.context_is 0 x (omega arith))
-
-goes_on : (ids : List ℕ) (context : ℕ) (front : List Pdv) (pdv : Pdv) → AreFragments ids context front → 0 < length front → (same : Bool) → eqb pdv.context context ≡ same
-    → Made ids front pdv (cond same (fragment_gathered context (joined front) pdv) (faulty WrongContext))
-goes_on ids context front pdv f some true e =
+at_command : (ids : List ℕ) (context : ℕ) (front : List Pdv) (pdv : Pdv) → AwaitsCommand ids context front → 0 < length front → (same : Bool)
+    → eqb pdv.context context ≡ same
+    → Made ids front pdv (cond same (after_command context (joined front) pdv) (stops_at WrongContext))
+at_command ids context front pdv a some true e =
     let is = eqb-true _ _ e in
-    in_place ids context front pdv (record { fragments = f; expected = is_expected ids context front pdv f some is; context_is = is })
-goes_on ids context front pdv f some false e = inl (WrongContext, refl, λ (h : IsExpected ids front pdv). eqb-false _ _ e (expected_is ids context front pdv f some h))
+    in_place ids context front pdv (record { awaits = a; expected = is_expected ids context front pdv a.fragments.context_is some is; context_is = is })
+at_command ids context front pdv a some false e =
+    inl (is_fault ids context front pdv WrongContext a (λ (h : IsExpected ids front pdv). eqb-false _ _ e
+    (expected_is ids context front pdv a.fragments.context_is some h)))
+
+-- ---- where a data fragment is due
+
+data_fault : (ids : List ℕ) (front : List Pdv) (pdv : Pdv) (fault : DimseFault) (message : Message) → HoldsData ids front message
+    → FitsNot ids false front pdv fault → IsFault ids front pdv (stops_at fault)
+data_fault ids front pdv fault message a h =
+    record { fault = fault; made_is = refl; command_due = false; begins = (message.context, message.command, a.awaits); fits_not = h }
+
+pushed : (run commands part : List Pdv) (pdv : Pdv) → run ≡ commands ++ part → run ++ pdv ∷ [] ≡ commands ++ (part ++ pdv ∷ [])
+pushed run commands part pdv e = ap (λ (xs : List Pdv). xs ++ pdv ∷ []) e ∙ append_assoc commands part (pdv ∷ [])
+
+octets_pushed : (message : Message) (part : List Pdv) (pdv : Pdv) → HasOctets message (joined part)
+    → HasOctets (with_fragment message pdv.octets) (joined (part ++ pdv ∷ []))
+octets_pushed message part pdv h =
+    subst (HasOctets (with_fragment message pdv.octets)) (sym (joined-push part pdv)) (with_fragment-octets message (joined part) pdv.octets h)
+
+data_by_last : (ids : List ℕ) (front : List Pdv) (message : Message) (pdv : Pdv) → HoldsData ids front message → pdv.context ≡ message.context
+    → pdv.command ≡ false → (last : Bool) → pdv.last ≡ last
+    → Made ids front pdv (cond last (completes (with_fragment message pdv.octets)) (gathers (DataPart (with_fragment message pdv.octets))))
+data_by_last ids front message pdv h context_is kind true e =
+    let a = h.awaits in
+    let part : IsDataSet (with_fragment message pdv.octets) (a.data_part ++ pdv ∷ []) = record {
+      fragments = last_fragment message.context false a.data_part pdv a.fragments context_is kind e;
+      octets_are = octets_pushed message a.data_part pdv h.octets_are;
+    } in
+    inr (inr (
+      with_fragment message pdv.octets,
+      refl,
+      record {
+        commands = a.commands;
+        data_part = a.data_part ++ pdv ∷ [];
+        parts = pushed front a.commands a.data_part pdv a.parts;
+        command_is = a.command_is;
+        data_is = subst (λ (b : Bool). IsDataPart b (with_fragment message pdv.octets) (a.data_part ++ pdv ∷ [])) (sym a.has_data) part;
+      },
+    ))
+data_by_last ids front message pdv h context_is kind false e =
+    let a = h.awaits in
+    inr (inl (
+      refl,
+      record {
+        awaits = record {
+          commands = a.commands;
+          data_part = a.data_part ++ pdv ∷ [];
+          parts = pushed front a.commands a.data_part pdv a.parts;
+          command_is = a.command_is;
+          has_data = a.has_data;
+          fragments = one_more_fragment message.context false a.data_part pdv a.fragments context_is kind e;
+        };
+        octets_are = octets_pushed message a.data_part pdv h.octets_are;
+      },
+    ))
+
+data_by_kind : (ids : List ℕ) (front : List Pdv) (message : Message) (pdv : Pdv) → HoldsData ids front message → pdv.context ≡ message.context
+    → IsExpected ids front pdv → (kind : Bool) → pdv.command ≡ kind
+    → Made ids front pdv (cond kind (stops_at WrongKind) (cond pdv.last (completes (with_fragment message pdv.octets))
+    (gathers (DataPart (with_fragment message pdv.octets)))))
+data_by_kind ids front message pdv h context_is expected true e = inl (data_fault ids front pdv WrongKind message h (expected, e))
+data_by_kind ids front message pdv h context_is expected false e = data_by_last ids front message pdv h context_is e pdv.last refl
+
+at_data : (ids : List ℕ) (front : List Pdv) (message : Message) (pdv : Pdv) → HoldsData ids front message → (same : Bool)
+    → eqb pdv.context message.context ≡ same
+    → Made ids front pdv (cond same (after_data message pdv) (stops_at WrongContext))
+at_data ids front message pdv h true e =
+    let is = eqb-true _ _ e in
+    let contexts = data_context ids message.context message.command front h.awaits in
+    let some = data_some ids message.context message.command front h.awaits in
+    data_by_kind ids front message pdv h is (is_expected ids message.context front pdv contexts some is) pdv.command refl
+at_data ids front message pdv h false e =
+    let contexts = data_context ids message.context message.command front h.awaits in
+    let some = data_some ids message.context message.command front h.awaits in
+    inl (data_fault ids front pdv WrongContext message h (λ (x : IsExpected ids front pdv). eqb-false _ _ e
+    (expected_is ids message.context front pdv contexts some x)))
+
+-- ---- one PDV
 
 step : (ids : List ℕ) (front : List Pdv) (gathered : Gathered) (pdv : Pdv) → Holds ids front gathered → Made ids front pdv (gather ids gathered pdv)
-step ids front Nothing pdv h = subst (λ (xs : List Pdv). Made ids xs pdv (gather ids Nothing pdv)) (sym h) (begins ids pdv (is_among pdv.context ids) refl)
-step ids front (Fragments context octets) pdv h =
-    subst (λ (xs : List ℕ). Made ids front pdv (gather ids (Fragments context xs) pdv)) h.2 (goes_on ids context front pdv h.0 h.1 (eqb pdv.context context) refl)
+step ids front Nothing pdv h = subst (λ (xs : List Pdv). Made ids xs pdv (gather ids Nothing pdv)) (sym h) (at_first ids pdv (is_among pdv.context ids) refl)
+step ids front (CommandPart context octets) pdv h =
+    subst (λ (xs : List ℕ). Made ids front pdv (gather ids (CommandPart context xs) pdv)) h.2
+    (at_command ids context front pdv h.0 h.1 (eqb pdv.context context) refl)
+step ids front (DataPart message) pdv h = at_data ids front message pdv h (eqb pdv.context message.context) refl
 step ids front (Spent fault) pdv h = absurd h
 
--- ---- values one after the other
+-- ---- PDVs one after the other
 
 Parsed : List ℕ → List Pdv → Gathering → Type 0
-Parsed ids pdvs made = (rest : List Pdv) × AreMessages ids made.list pdvs rest × AreLeft ids rest made.gathered
+Parsed ids pdvs made = (rest : List Pdv) × AreMessages ids made.list pdvs rest × AreLeft ids rest (fault_in made.gathered)
 
-begun : (ids : List ℕ) (front : List Pdv) (gathered : Gathered) → Holds ids front gathered → (front ≡ []) ⊎ ((context : ℕ) × AreFragments ids context front)
-begun ids front Nothing h = inl h
-begun ids front (Fragments context octets) h = inr (context, h.0)
-begun ids front (Spent fault) h = absurd h
-
-are_left : (ids : List ℕ) (front : List Pdv) (gathered : Gathered) → Holds ids front gathered → AreLeft ids front gathered
-are_left ids front Nothing h = h
-are_left ids front (Fragments context octets) h = h
+are_left : (ids : List ℕ) (front : List Pdv) (gathered : Gathered) → Holds ids front gathered → AreLeft ids front (fault_in gathered)
+are_left ids front Nothing h = (true, inl h)
+are_left ids front (CommandPart context octets) h = (true, inr (context, h.0))
+are_left ids front (DataPart message) h = (false, (message.context, message.command, h.awaits))
 are_left ids front (Spent fault) h = absurd h
 
-after : (ids : List ℕ) (front : List Pdv) (gathered : Gathered) (pdv : Pdv) (pdvs : List Pdv) (made : Gathering) → Holds ids front gathered → Made ids front pdv made
+after : (ids : List ℕ) (front : List Pdv) (gathered : Gathered) (pdv : Pdv) (pdvs : List Pdv) (made : Gathering) → Holds ids front gathered
+    → Made ids front pdv made
     → ((front : List Pdv) (gathered : Gathered) → Holds ids front gathered → Parsed ids (front ++ pdvs) (gather_all ids gathered pdvs))
     → Parsed ids (front ++ pdv ∷ pdvs) (after_others made.list (gather_all ids made.gathered pdvs))
 unfolding Parsed
-after ids front gathered pdv pdvs made h (inl (fault, e, fits)) others =
+after ids front gathered pdv pdvs made h (inl f) others =
     let all = front ++ pdv ∷ pdvs in
-    let left : Parsed ids all (after_others [] (faulty fault)) = (all, refl, (front, pdv, pdvs, refl, begun ids front gathered h, fits)) in
-    subst (λ (m : Gathering). Parsed ids all (after_others m.list (gather_all ids m.gathered pdvs))) (sym e) (subst (λ (r : Gathering). Parsed ids all (after_others [] r)) (sym (fault_stays ids fault pdvs)) left)
+    let left : Parsed ids all (after_others [] (stops_at f.fault)) =
+    (all, refl, record { front = front; pdv = pdv; others = pdvs; parts = refl; command_due = f.command_due; begins = f.begins; fits_not = f.fits_not }) in
+    subst (λ (m : Gathering). Parsed ids all (after_others m.list (gather_all ids m.gathered pdvs))) (sym f.made_is)
+    (subst (λ (r : Gathering). Parsed ids all (after_others [] r)) (sym (fault_stays ids f.fault pdvs)) left)
 after ids front gathered pdv pdvs made h (inr (inl (e, holds))) others =
     let r = gather_all ids made.gathered pdvs in
-    let ih : Parsed ids (front ++ pdv ∷ pdvs) (after_others [] r) = subst (λ (xs : List Pdv). Parsed ids xs r) (append_assoc front (pdv ∷ []) pdvs) (others (front ++ pdv ∷ []) made.gathered holds) in
+    let ih : Parsed ids (front ++ pdv ∷ pdvs) (after_others [] r) =
+    subst (λ (xs : List Pdv). Parsed ids xs r) (append_assoc front (pdv ∷ []) pdvs) (others (front ++ pdv ∷ []) made.gathered holds) in
     subst (λ (list : List Message). Parsed ids (front ++ pdv ∷ pdvs) (after_others list r)) (sym e) ih
 after ids front gathered pdv pdvs made h (inr (inr (message, e, is_message))) others =
     let ih = others [] Nothing refl in
-    let whole : Parsed ids (front ++ pdv ∷ pdvs) (after_others (message ∷ []) (gather_all ids Nothing pdvs)) = (ih.0, (front ++ pdv ∷ [], pdvs, sym (append_assoc front (pdv ∷ []) pdvs), is_message, ih.1), ih.2) in
+    let whole : Parsed ids (front ++ pdv ∷ pdvs) (after_others (message ∷ []) (gather_all ids Nothing pdvs)) =
+    (ih.0, (front ++ pdv ∷ [], pdvs, sym (append_assoc front (pdv ∷ []) pdvs), is_message, ih.1), ih.2) in
     subst (λ (m : Gathering). Parsed ids (front ++ pdv ∷ pdvs) (after_others m.list (gather_all ids m.gathered pdvs))) (sym e) whole
 
 parse : (ids : List ℕ) (pdvs front : List Pdv) (gathered : Gathered) → Holds ids front gathered → Parsed ids (front ++ pdvs) (gather_all ids gathered pdvs)
@@ -168,6 +286,7 @@ unfolding Parsed
 parse ids [] front gathered h = (front, append-nil front, are_left ids front gathered h)
 parse ids (pdv ∷ pdvs) front gathered h = after ids front gathered pdv pdvs (gather ids gathered pdv) h (step ids front gathered pdv h) (parse ids pdvs)
 
-pub are_messages : (ids : List ℕ) (pdvs : List Pdv) → (rest : List Pdv) × AreMessages ids (gather_all ids Nothing pdvs).list pdvs rest × AreLeft ids rest (gather_all ids Nothing pdvs).gathered
-unfolding Parsed
+pub are_messages : (ids : List ℕ) (pdvs : List Pdv) → (rest : List Pdv) × AreMessages ids (messages ids pdvs).list pdvs rest × AreLeft ids rest
+    (messages ids pdvs).fault
+unfolding Parsed messages_from
 are_messages ids pdvs = parse ids pdvs [] Nothing refl

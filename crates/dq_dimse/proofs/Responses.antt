@@ -1,5 +1,6 @@
 -- The command set of a response spells its elements.
-use Rattle.std.proofs.Common.{◌≡◌, ℕ, ◌-◌, ◌%◌, ◌^◌, ◌<◌, Bool, true, false, cond, eqb, List, [], ◌∷◌, ◌++◌, length, Option, Some, None, Ok, refl, sym, ap, subst, append_assoc, arith, lit<, eq-eqb, length-append}
+use Rattle.std.proofs.Common.{◌≡◌, ℕ, ◌-◌, ◌%◌, ◌^◌, ◌<◌, Bool, true, false, cond, eqb, List, [], ◌∷◌, ◌++◌, length, Option, Some, None, Ok, refl, sym, ap}
+use Rattle.std.proofs.Common.{subst, append_assoc, arith, lit<, eq-eqb, length-append}
 use Rattle.std.specs.List.{list_all}
 use Rattle.std.specs.Int.{w16, w32, from_le_bytes, to_le_bytes}
 use Rattle.std.proofs.lemmas.Bool.{eqb-true, eqb-false}
@@ -73,16 +74,19 @@ is_header number value unknown short = record {
   whole = refl;
 }
 
-spells_value : (known : Option Vr) (value : List ℕ) → known ≡ None → length value % 2 ≡ 0 → SpellsValue 16 (vr_of known (Plain (length value))) (Plain (length value)) value (Octets value)
+spells_value : (known : Option Vr) (value : List ℕ) → known ≡ None → length value % 2 ≡ 0
+    → SpellsValue 16 (vr_of known (Plain (length value))) (Plain (length value)) value (Octets value)
 spells_value known value e even =
     rw e (subst (λ (x : List ℕ). SpellsValue 16 UN (Plain (length value)) value (Octets x)) (even_stays value even) (plain 16 UN (length value) value refl))
 
 -- the elements after a tag, which one more stands before
-one_more : (last : Option Tag) (number : ℕ) (value rest : List ℕ) (others : ElementList) → follows last (command_tag number) ≡ true → number < 2 ^ 16 → known_vr (command_tag number) ≡ None
+one_more : (last : Option Tag) (number : ℕ) (value rest : List ℕ) (others : ElementList) → follows last (command_tag number) ≡ true → number < 2 ^ 16
+    → known_vr (command_tag number) ≡ None
     → length value < 0xffff_ffff → length value % 2 ≡ 0 → Spells Filled Implicit 16 (Some (command_tag number)) rest others
     → Spells Filled Implicit 16 last (element number value ++ rest) (kept_value (command_tag number) UN (Octets value) others)
 one_more last number value rest others rises small unknown short even spells =
-    more Filled Implicit 16 last (element number value ++ rest) (kept_value (command_tag number) UN (Octets value) others) (command_tag number) (Plain (length value))
+    more Filled Implicit 16 last (element number value ++ rest) (kept_value (command_tag number) UN (Octets value) others) (command_tag number)
+    (Plain (length value))
     (0 ∷ 0 ∷ (to_le_bytes w16 number ++ to_le_bytes w32 (length value))) value rest (Octets value) others
     (record { rises = rises; no_delimiter = λ h. omega arith; group = lit< tt; number = small })
     (is_header number value unknown short) (spells_value (known_vr (command_tag number)) value unknown even) spells
@@ -137,21 +141,26 @@ unknown_1000 : known_vr (command_tag 0x1000) ≡ None
 unfolding known_vr vr_in dictionary
 unknown_1000 = refl
 
-spells_instance : (instance : List ℕ) → length (padded instance) < 0xffff_ffff → Spells Filled Implicit 16 (Some (command_tag 0x0900)) (instance_element instance) (instance_set instance)
+spells_instance : (instance : List ℕ) → length (padded instance) < 0xffff_ffff
+    → Spells Filled Implicit 16 (Some (command_tag 0x0900)) (instance_element instance) (instance_set instance)
 unfolding is_below
 spells_instance [] short = no_more Filled Implicit 16 (Some (command_tag 0x0900)) [] refl
 spells_instance (o ∷ os) short =
     let value = padded (o ∷ os) in
     subst (λ (octets : List ℕ). Spells Filled Implicit 16 (Some (command_tag 0x0900)) octets (instance_set (o ∷ os))) (append-nil (element 0x1000 value))
-    (one_more (Some (command_tag 0x0900)) 0x1000 value [] no_elements refl (lit< tt) unknown_1000 short (padded_even (o ∷ os)) (no_more Filled Implicit 16 (Some (command_tag 0x1000)) [] refl))
+    (one_more (Some (command_tag 0x0900)) 0x1000 value [] no_elements refl (lit< tt) unknown_1000 short (padded_even (o ∷ os))
+    (no_more Filled Implicit 16 (Some (command_tag 0x1000)) [] refl))
 
 regroup : (g a b c d e f : List ℕ) → g ++ (a ++ (b ++ (c ++ (d ++ (e ++ f))))) ≡ g ++ (a ++ b ++ c ++ d ++ e ++ f)
 regroup g a b c d e f = simp append_assoc
 
-short_element_before : (last : Option Tag) (number value : ℕ) (rest : List ℕ) (others : ElementList) → follows last (command_tag number) ≡ true → number < 2 ^ 16 → known_vr (command_tag number) ≡ None
+short_element_before : (last : Option Tag) (number value : ℕ) (rest : List ℕ) (others : ElementList) → follows last (command_tag number) ≡ true
+    → number < 2 ^ 16 → known_vr (command_tag number) ≡ None
     → Spells Filled Implicit 16 (Some (command_tag number)) rest others
-    → Spells Filled Implicit 16 last (element number (to_le_bytes w16 value) ++ rest) (kept_value (command_tag number) UN (Octets (to_le_bytes w16 value)) others)
-short_element_before last number value rest others rises small unknown spells = one_more last number (to_le_bytes w16 value) rest others rises small unknown (lit< tt) refl spells
+    → Spells Filled Implicit 16 last (element number (to_le_bytes w16 value) ++ rest)
+    (kept_value (command_tag number) UN (Octets (to_le_bytes w16 value)) others)
+short_element_before last number value rest others rises small unknown spells =
+    one_more last number (to_le_bytes w16 value) rest others rises small unknown (lit< tt) refl spells
 
 spells_response : (command : Command) → HasFields command → Spells Filled Implicit 16 None (command_set command) (response_set command)
 unfolding is_below
@@ -168,7 +177,8 @@ spells_response command h =
     let at_d = short_element_before (Some (command_tag 0x0120)) 0x0800 (data_set_type command.with_data) (e ++ f) _ refl (lit< tt) unknown_0800 at_e in
     let at_c = short_element_before (Some (command_tag 0x0100)) 0x0120 command.id (d ++ (e ++ f)) _ refl (lit< tt) unknown_0120 at_d in
     let at_b = short_element_before (Some (command_tag 0x0002)) 0x0100 command.code (c ++ (d ++ (e ++ f))) _ refl (lit< tt) unknown_0100 at_c in
-    let at_a = one_more (Some (command_tag 0x0000)) 0x0002 (padded command.sop_class) (b ++ (c ++ (d ++ (e ++ f)))) _ refl (lit< tt) unknown_0002 h.sop_class (padded_even command.sop_class) at_b in
+    let at_a = one_more (Some (command_tag 0x0000)) 0x0002 (padded command.sop_class) (b ++ (c ++ (d ++ (e ++ f)))) _ refl
+    (lit< tt) unknown_0002 h.sop_class (padded_even command.sop_class) at_b in
     let whole = one_more None 0x0000 group_length (a ++ (b ++ (c ++ (d ++ (e ++ f))))) _ refl (lit< tt) unknown_0000 (lit< tt) refl at_a in
     subst (λ (octets : List ℕ). Spells Filled Implicit 16 None octets (response_set command)) (regroup (element 0x0000 group_length) a b c d e f) whole
 
@@ -186,7 +196,8 @@ type_read false = refl
 
 pub says_response : (command : Command) → HasFields command → SaysResponse command (command_set command)
 says_response command h = record {
-  group_length = ap (λ (n : ℕ). element 0x0000 (to_le_bytes w32 n)) (let n : length (command_elements command) ≡ length (command_set command) - 12 = omega arith in n);
+  group_length = ap (λ (n : ℕ). element 0x0000 (to_le_bytes w32 n)) (let n : length (command_elements command) ≡ length
+      (command_set command) - 12 = omega arith in n);
   set = response_set command;
   spells = record { spelled = spells_response command h; own = own_with command command.sop_instance };
   sop_class = trimmed_padded command.sop_class;

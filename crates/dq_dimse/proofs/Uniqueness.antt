@@ -1,9 +1,9 @@
 -- What is messages, one after the other, and then what is left, is computed so.
-use Rattle.std.proofs.Common.{◌≡◌, ℕ, ◌+◌, ◌<◌, ◌≤◌, ◌⊎◌, inl, inr, Bool, true, false, List, [], ◌∷◌, ◌++◌, length, Option, Some, None, refl, sym, ap, subst, ◌∙◌, append_assoc, arith, length-append}
+use Rattle.std.proofs.Common.{◌≡◌, ℕ, ◌+◌, ◌<◌, ◌≤◌, inl, inr, Bool, true, false, List, [], ◌∷◌, ◌++◌, length, Option, Some, None, refl, sym, ap, subst, ◌∙◌}
+use Rattle.std.proofs.Common.{append_assoc, arith, length-append}
 use Rattle.std.specs.List.{AllByRecursion}
 use Rattle.std.proofs.lemmas.Bool.{lt-ltb, le-ltb, eq-eqb, ne_eqb, false≢true}
 use Rattle.std.proofs.lemmas.List.{append-nil}
-use Rattle.std.proofs.lemmas.List.Elements.{recursion_from_All}
 use Rattle.dq_pdu.specs.declared.pdu.Pdv.{Pdv}
 use Rattle.dq_pdu.specs.Octets.{is_among}
 use Rattle.dq_dimse.specs.declared.command.Command.{Command}
@@ -11,201 +11,355 @@ use Rattle.dq_dimse.specs.declared.command.Message.{Message}
 use Rattle.dq_dimse.specs.declared.fault.DimseFault.{DimseFault}
 use Rattle.dq_dimse.specs.declared.fault.DimseFault.TheVariants.{WrongContext, WrongKind, BadCommand, NoMemory}
 use Rattle.dq_dimse.specs.declared.assembler.Gathered.{Gathered}
-use Rattle.dq_dimse.specs.declared.assembler.Gathered.TheVariants.{Nothing, Fragments, Spent}
+use Rattle.dq_dimse.specs.declared.assembler.Gathered.TheVariants.{Nothing, CommandPart, DataPart}
 use Rattle.dq_dimse.specs.Commands.{command_of}
-use Rattle.dq_dimse.specs.Messages.{command_limit, joined, AreFragments, IsMessage, AreMessages, IsExpected, IsBad, FitsNot, AreLeft, Gathering, more, faulty, completed, gathered_with, fragment_gathered, gather, after_others, gather_all, messages}
-use Rattle.dq_dimse.proofs.Gatherings.{gather_all-append, fault_stays}
-use Rattle.dq_dimse.proofs.Parsing.{joined-push, no_fragments, expected_is}
+use Rattle.dq_dimse.specs.Messages.{command_limit, joined, IsCommand, HasOctets, IsDataPart, IsMessage, AreMessages, AwaitsCommand, AwaitsData, Begins}
+use Rattle.dq_dimse.specs.Messages.{IsExpected, IsBad, FitsNot, AreLeft}
+use Rattle.dq_dimse.specs.Assembling.{Gathering, gathers, stops_at, completes, begun_with, command_completed, command_gathered, after_command, with_fragment}
+use Rattle.dq_dimse.specs.Assembling.{after_data, gather, after_others, gather_all, fault_in, Messages, messages, messages_from}
+use Rattle.dq_dimse.proofs.Gatherings.{gather_all-append, gather_one, fault_stays}
+use Rattle.dq_dimse.proofs.Runs.{IsFragment, joined-append, joined-push, each_fragment, data_context, data_some, expected_is, is_expected, same_others}
+use Rattle.dq_dimse.proofs.DataParts.{with_fragment-octets, begun_octets, message_only}
+use Rattle.dq_dimse.proofs.Parsing.{awaits_first}
 
--- what is gathered of fragments
+-- PDVs after others that completed no message
+gathers_on : (ids : List ℕ) (before after : Gathered) (xs ys : List Pdv) → gather_all ids before xs ≡ gathers after
+    → gather_all ids before (xs ++ ys) ≡ gather_all ids after ys
+gathers_on ids before after xs ys e = gather_all-append ids before xs ys ∙ ap (λ (g : Gathering). after_others g.list (gather_all ids g.gathered ys)) e
+
+-- ---- command fragments
+
+-- what is gathered of command fragments
 abbrev state : ℕ → List Pdv → Gathered
 state context [] = Nothing
-state context (x ∷ xs) = Fragments context (joined (x ∷ xs))
+state context (x ∷ xs) = CommandPart context (joined (x ∷ xs))
 
--- a value of the right context after fragments
-at_state : (ids : List ℕ) (context : ℕ) (front : List Pdv) (pdv : Pdv) → is_among context ids ≡ true → pdv.context ≡ context → gather ids (state context front) pdv ≡ fragment_gathered context (joined front) pdv
+-- a PDV of the right context after command fragments
+at_state : (ids : List ℕ) (context : ℕ) (front : List Pdv) (pdv : Pdv) → is_among context ids ≡ true → pdv.context ≡ context
+    → gather ids (state context front) pdv ≡ after_command context (joined front) pdv
 at_state ids context [] pdv a e =
     let among : is_among pdv.context ids ≡ true = ap (λ (n : ℕ). is_among n ids) e ∙ a in
-    let one : gather ids Nothing pdv ≡ fragment_gathered pdv.context [] pdv = rw among refl in
-    one ∙ ap (λ (n : ℕ). fragment_gathered n [] pdv) e
+    let one : gather ids Nothing pdv ≡ after_command pdv.context [] pdv = rw among refl in
+    one ∙ ap (λ (n : ℕ). after_command n [] pdv) e
 at_state ids context (x ∷ xs) pdv a e = rw (eq-eqb pdv.context context e) refl
 
-command_gathered : (context : ℕ) (front : List Pdv) (pdv : Pdv) → pdv.command ≡ true → fragment_gathered context (joined front) pdv ≡ gathered_with context (joined (front ++ pdv ∷ [])) pdv.last
-command_gathered context front pdv e =
-    let one : fragment_gathered context (joined front) pdv ≡ gathered_with context (joined front ++ pdv.octets) pdv.last = rw e refl in
-    one ∙ ap (λ (octets : List ℕ). gathered_with context octets pdv.last) (sym (joined-push front pdv))
+command_after : (context : ℕ) (front : List Pdv) (pdv : Pdv) → pdv.command ≡ true
+    → after_command context (joined front) pdv ≡ command_gathered context (joined (front ++ pdv ∷ [])) pdv.last
+command_after context front pdv e =
+    let one : after_command context (joined front) pdv ≡ command_gathered context (joined front ++ pdv.octets) pdv.last = rw e refl in
+    one ∙ ap (λ (octets : List ℕ). command_gathered context octets pdv.last) (sym (joined-push front pdv))
 
-goes_with : (context : ℕ) (octets : List ℕ) (last : Bool) → length octets ≤ command_limit → last ≡ false → gathered_with context octets last ≡ more (Fragments context octets)
+goes_with : (context : ℕ) (octets : List ℕ) (last : Bool) → length octets ≤ command_limit → last ≡ false
+    → command_gathered context octets last ≡ gathers (CommandPart context octets)
 goes_with context octets last short e = rw (le-ltb command_limit (length octets) short, e) refl
 
-ends_with : (context : ℕ) (octets : List ℕ) (last : Bool) (read : Option Command) → length octets ≤ command_limit → last ≡ true → command_of octets ≡ read → gathered_with context octets last ≡ completed context read
+ends_with : (context : ℕ) (octets : List ℕ) (last : Bool) (read : Option Command) → length octets ≤ command_limit → last ≡ true → command_of octets ≡ read
+    → command_gathered context octets last ≡ command_completed context read
 ends_with context octets last read short e r = rw (le-ltb command_limit (length octets) short, e, r) refl
 
-passes : (context : ℕ) (octets : List ℕ) (last : Bool) → command_limit < length octets → gathered_with context octets last ≡ faulty BadCommand
+passes : (context : ℕ) (octets : List ℕ) (last : Bool) → command_limit < length octets → command_gathered context octets last ≡ stops_at BadCommand
 passes context octets last long = rw (lt-ltb command_limit (length octets) long) refl
 
--- ---- fragments
-
-record IsPart (context : ℕ) (pdv : Pdv) : Type 0 where
-  pub context_is : pdv.context ≡ context
-  pub command : pdv.command ≡ true
-  pub unfinished : pdv.last ≡ false
-
-parts_of_run : (context : ℕ) (run : List Pdv) → AllByRecursion (λ (x : Pdv). x.context ≡ context) run → AllByRecursion (λ (x : Pdv). x.command ≡ true) run → AllByRecursion (λ (x : Pdv). x.last ≡ false) run
-    → AllByRecursion (IsPart context) run
-parts_of_run context [] a b c = tt
-parts_of_run context (x ∷ xs) a b c = (record { context_is = a.0; command = b.0; unfinished = c.0 }, parts_of_run context xs a.1 b.1 c.1)
-
-are_parts : (ids : List ℕ) (context : ℕ) (run : List Pdv) → AreFragments ids context run → AllByRecursion (IsPart context) run
-are_parts ids context run f =
-    parts_of_run context run (recursion_from_All (λ (x : Pdv). x.context ≡ context) run f.context_is) (recursion_from_All (λ (x : Pdv). x.command ≡ true) run f.commands) (recursion_from_All (λ (x : Pdv). x.last ≡ false) run f.unfinished)
-
-joined-append : (xs ys : List Pdv) → joined (xs ++ ys) ≡ joined xs ++ joined ys
-joined-append [] ys = refl
-joined-append (x ∷ xs) ys = ap (λ (zs : List ℕ). x.octets ++ zs) (joined-append xs ys) ∙ sym (append_assoc x.octets (joined xs) (joined ys))
-
-state-push : (context : ℕ) (front : List Pdv) (pdv : Pdv) → Fragments context (joined (front ++ pdv ∷ [])) ≡ state context (front ++ pdv ∷ [])
+state-push : (context : ℕ) (front : List Pdv) (pdv : Pdv) → CommandPart context (joined (front ++ pdv ∷ [])) ≡ state context (front ++ pdv ∷ [])
 state-push context [] pdv = refl
 state-push context (x ∷ xs) pdv = refl
 
-one_part : (ids : List ℕ) (context : ℕ) (front : List Pdv) (pdv : Pdv) → is_among context ids ≡ true → IsPart context pdv → length (joined (front ++ pdv ∷ [])) ≤ command_limit
-    → gather ids (state context front) pdv ≡ more (state context (front ++ pdv ∷ []))
-one_part ids context front pdv a p short =
-    at_state ids context front pdv a p.context_is ∙ command_gathered context front pdv p.command ∙ goes_with context (joined (front ++ pdv ∷ [])) pdv.last short p.unfinished ∙ ap more (state-push context front pdv)
+one_command : (ids : List ℕ) (context : ℕ) (front : List Pdv) (pdv : Pdv) → is_among context ids ≡ true → IsFragment context true pdv
+    → length (joined (front ++ pdv ∷ [])) ≤ command_limit
+    → gather ids (state context front) pdv ≡ gathers (state context (front ++ pdv ∷ []))
+one_command ids context front pdv a p short =
+    at_state ids context front pdv a p.context_is ∙ command_after context front pdv p.kind_is
+    ∙ goes_with context (joined (front ++ pdv ∷ [])) pdv.last short p.unfinished ∙ ap gathers (state-push context front pdv)
 
-gather_parts : (ids : List ℕ) (context : ℕ) (front run : List Pdv) → is_among context ids ≡ true → AllByRecursion (IsPart context) run → length (joined (front ++ run)) ≤ command_limit
-    → gather_all ids (state context front) run ≡ more (state context (front ++ run))
-gather_parts ids context front [] a p short = ap (λ (xs : List Pdv). more (state context xs)) (sym (append-nil front))
-gather_parts ids context front (x ∷ xs) a p short =
+all_commands : (ids : List ℕ) (context : ℕ) (front run : List Pdv) → is_among context ids ≡ true → AllByRecursion (IsFragment context true) run
+    → length (joined (front ++ run)) ≤ command_limit
+    → gather_all ids (state context front) run ≡ gathers (state context (front ++ run))
+all_commands ids context front [] a p short = ap (λ (xs : List Pdv). gathers (state context xs)) (sym (append-nil front))
+all_commands ids context front (x ∷ xs) a p short =
     let regrouped : (front ++ x ∷ []) ++ xs ≡ front ++ x ∷ xs = append_assoc front (x ∷ []) xs in
     let long : length (joined ((front ++ x ∷ []) ++ xs)) ≤ command_limit = rw regrouped short in
     let e = joined-append (front ++ x ∷ []) xs in
-    let n : length (joined ((front ++ x ∷ []) ++ xs)) ≡ length (joined (front ++ x ∷ [])) + length (joined xs) = ap length e ∙ length-append (joined (front ++ x ∷ [])) (joined xs) in
-    let first = one_part ids context front x a p.0 (omega arith) in
-    ap (λ (g : Gathering). after_others g.list (gather_all ids g.gathered xs)) first ∙ gather_parts ids context (front ++ x ∷ []) xs a p.1 long ∙ ap (λ (ys : List Pdv). more (state context ys)) regrouped
+    let n : length (joined ((front ++ x ∷ []) ++ xs)) ≡ length (joined (front ++ x ∷ [])) + length (joined xs) = ap length e
+    ∙ length-append (joined (front ++ x ∷ [])) (joined xs) in
+    let first = one_command ids context front x a p.0 (omega arith) in
+    ap (λ (g : Gathering). after_others g.list (gather_all ids g.gathered xs)) first ∙ all_commands ids context (front ++ x ∷ []) xs a p.1 long
+    ∙ ap (λ (ys : List Pdv). gathers (state context ys)) regrouped
 
-gather_fragments : (ids : List ℕ) (context : ℕ) (run : List Pdv) → AreFragments ids context run → gather_all ids Nothing run ≡ more (state context run)
-gather_fragments ids context run f = gather_parts ids context [] run f.accepted (are_parts ids context run f) f.short
+-- what is gathered of command fragments that are not the last
+commands_gathered : (ids : List ℕ) (context : ℕ) (run : List Pdv) → AwaitsCommand ids context run → gather_all ids Nothing run ≡ gathers (state context run)
+commands_gathered ids context run a = all_commands ids context [] run a.accepted (each_fragment context true run a.fragments) a.short
+
+front_short : (front : List Pdv) (final : Pdv) (run : List Pdv) → run ≡ front ++ final ∷ [] → length (joined run) ≤ command_limit
+    → length (joined front) ≤ command_limit
+front_short front final run e short =
+    let n : length (joined run) ≡ length (joined front ++ final.octets) = ap length (ap joined e ∙ joined-push front final) in
+    omega (arith, length-append (joined front) final.octets)
+
+-- a whole command set
+command_gathered_of : (ids : List ℕ) (context : ℕ) (run : List Pdv) (command : Command) → IsCommand ids context run command
+    → gather_all ids Nothing run ≡ command_completed context (Some command)
+command_gathered_of ids context run command is =
+    let f = is.fragments in
+    let whole : length (joined (f.front ++ f.final ∷ [])) ≤ command_limit = subst (λ (xs : List Pdv). length (joined xs) ≤ command_limit) f.parts is.short in
+    let read : command_of (joined (f.front ++ f.final ∷ [])) ≡ Some command = ap (λ (xs : List Pdv). command_of (joined xs)) (sym f.parts) ∙ is.command_is in
+    let awaits : AwaitsCommand ids context f.front =
+    record { accepted = is.accepted; fragments = f.fragments; short = front_short f.front f.final run f.parts is.short } in
+    ap (gather_all ids Nothing) f.parts ∙ gathers_on ids Nothing (state context f.front) f.front (f.final ∷ []) (commands_gathered ids context f.front awaits)
+    ∙ gather_one ids (state context f.front) f.final ∙ at_state ids context f.front f.final is.accepted f.context_is
+    ∙ command_after context f.front f.final f.kind_is
+    ∙ ends_with context (joined (f.front ++ f.final ∷ [])) f.final.last (Some command) whole f.finished read
+
+with_data : (context : ℕ) (command : Command) → command.with_data ≡ true
+    → command_completed context (Some command) ≡ gathers (DataPart (begun_with context command))
+with_data context command e = rw e refl
+
+without_data : (context : ℕ) (command : Command) → command.with_data ≡ false → command_completed context (Some command) ≡ completes (begun_with context command)
+without_data context command e = rw e refl
+
+-- ---- data fragments
+
+-- a PDV of the right context where a data fragment is due
+at_part : (ids : List ℕ) (message : Message) (pdv : Pdv) → pdv.context ≡ message.context → gather ids (DataPart message) pdv ≡ after_data message pdv
+at_part ids message pdv e = rw (eq-eqb pdv.context message.context e) refl
+
+one_data : (ids : List ℕ) (message : Message) (pdv : Pdv) → IsFragment message.context false pdv
+    → gather ids (DataPart message) pdv ≡ gathers (DataPart (with_fragment message pdv.octets))
+one_data ids message pdv p =
+    let one : after_data message pdv ≡ gathers (DataPart (with_fragment message pdv.octets)) = rw (p.kind_is, p.unfinished) refl in
+    at_part ids message pdv p.context_is ∙ one
+
+-- a message of which more data fragments were gathered
+record HasGathered (ids : List ℕ) (context : ℕ) (command : Command) (octets : List ℕ) (made : Gathering) : Type 0 where
+  pub message : Message
+  pub made_is : made ≡ gathers (DataPart message)
+  pub same_context : message.context ≡ context
+  pub same_command : message.command ≡ command
+  pub octets_are : HasOctets message octets
+
+all_data : (ids : List ℕ) (message : Message) (before : List ℕ) (run : List Pdv) → HasOctets message before
+    → AllByRecursion (IsFragment message.context false) run
+    → HasGathered ids message.context message.command (before ++ joined run) (gather_all ids (DataPart message) run)
+all_data ids message before [] h p =
+    record { message = message; made_is = refl; same_context = refl; same_command = refl; octets_are = subst (HasOctets message) (sym (append-nil before)) h }
+all_data ids message before (x ∷ xs) h p =
+    let grown = with_fragment message x.octets in
+    let later = all_data ids grown (before ++ x.octets) xs (with_fragment-octets message before x.octets h) p.1 in
+    let first = one_data ids message x p.0 in
+    record {
+      message = later.message;
+      made_is = ap (λ (g : Gathering). after_others g.list (gather_all ids g.gathered xs)) first ∙ later.made_is;
+      same_context = later.same_context;
+      same_command = later.same_command;
+      octets_are = subst (HasOctets later.message) (append_assoc before x.octets (joined xs)) later.octets_are;
+    }
+
+-- what is gathered of a command set and data fragments that are not the last
+data_gathered : (ids : List ℕ) (context : ℕ) (command : Command) (run : List Pdv) (a : AwaitsData ids context command run)
+    → HasGathered ids context command (joined a.data_part) (gather_all ids Nothing run)
+data_gathered ids context command run a =
+    let begun = begun_with context command in
+    let g = all_data ids begun [] a.data_part (begun_octets context command) (each_fragment context false a.data_part a.fragments) in
+    let first : gather_all ids Nothing a.commands ≡ gathers (DataPart begun) = command_gathered_of ids context a.commands command a.command_is
+    ∙ with_data context command a.has_data in
+    record {
+      message = g.message;
+      made_is = ap (gather_all ids Nothing) a.parts ∙ gathers_on ids Nothing (DataPart begun) a.commands a.data_part first ∙ g.made_is;
+      same_context = g.same_context;
+      same_command = g.same_command;
+      octets_are = g.octets_are;
+    }
 
 -- ---- a message
 
-abbrev message_of : ℕ → Command → List ℕ → Bool → Message
-message_of context command octets over = record { context = context; command = command; octets = octets; over = over }
+last_data : (ids : List ℕ) (message : Message) (pdv : Pdv) → pdv.context ≡ message.context → pdv.command ≡ false → pdv.last ≡ true
+    → gather ids (DataPart message) pdv ≡ completes (with_fragment message pdv.octets)
+last_data ids message pdv c k l =
+    let one : after_data message pdv ≡ completes (with_fragment message pdv.octets) = rw (k, l) refl in
+    at_part ids message pdv c ∙ one
 
-abbrev whole : Message → Gathering
-whole message = record { list = message ∷ []; gathered = Nothing }
+message_gathered : (ids : List ℕ) (run : List Pdv) (message : Message) (m : IsMessage ids run message) (b : Bool) → message.command.with_data ≡ b
+    → IsDataPart b message m.data_part → gather_all ids Nothing run ≡ completes message
+message_gathered ids run message m true e d =
+    let f = d.fragments in
+    let awaits : AwaitsData ids message.context message.command (m.commands ++ f.front) =
+    record { commands = m.commands; data_part = f.front; parts = refl; command_is = m.command_is; has_data = e; fragments = f.fragments } in
+    let g = data_gathered ids message.context message.command (m.commands ++ f.front) awaits in
+    let grown = with_fragment g.message f.final.octets in
+    let octets : joined f.front ++ f.final.octets ≡ joined m.data_part = sym (joined-push f.front f.final) ∙ ap joined (sym f.parts) in
+    let same : grown ≡ message =
+    message_only grown message (joined m.data_part) g.same_context g.same_command
+    (subst (HasOctets grown) octets (with_fragment-octets g.message (joined f.front) f.final.octets g.octets_are)) d.octets_are in
+    let split : run ≡ (m.commands ++ f.front) ++ f.final ∷ [] = m.parts ∙ ap (λ (xs : List Pdv). m.commands ++ xs) f.parts
+    ∙ sym (append_assoc m.commands f.front (f.final ∷ [])) in
+    ap (gather_all ids Nothing) split ∙ gathers_on ids Nothing (DataPart g.message) (m.commands ++ f.front) (f.final ∷ []) g.made_is
+    ∙ gather_one ids (DataPart g.message) f.final ∙ last_data ids g.message f.final (f.context_is ∙ sym g.same_context) f.kind_is f.finished ∙ ap completes same
+message_gathered ids run message m false e d =
+    let begun = begun_with message.context message.command in
+    let same : begun ≡ message = message_only begun message [] refl refl (begun_octets message.context message.command) d.1 in
+    let only : run ≡ m.commands = m.parts ∙ ap (λ (xs : List Pdv). m.commands ++ xs) d.0 ∙ append-nil m.commands in
+    ap (gather_all ids Nothing) only ∙ command_gathered_of ids message.context m.commands message.command m.command_is
+    ∙ without_data message.context message.command e ∙ ap completes same
 
-gather_final : (ids : List ℕ) (front : List Pdv) (final : Pdv) (message : Message) → AreFragments ids message.context front → final.context ≡ message.context → final.command ≡ true → final.last ≡ true
-    → length (joined (front ++ final ∷ [])) ≤ command_limit → command_of (joined (front ++ final ∷ [])) ≡ Some message.command → message.octets ≡ [] → message.over ≡ false
-    → gather ids (state message.context front) final ≡ whole message
-gather_final ids front final message f context_is is_command finished short command_is no_octets not_over =
-    at_state ids message.context front final f.accepted context_is ∙ command_gathered message.context front final is_command ∙ ends_with message.context (joined (front ++ final ∷ [])) final.last (Some message.command) short finished command_is
-    ∙ ap (λ (octets : List ℕ). whole (message_of message.context message.command octets false)) (sym no_octets) ∙ ap (λ (over : Bool). whole (message_of message.context message.command message.octets over)) (sym not_over)
-
-gather_all_final : (ids : List ℕ) (front : List Pdv) (final : Pdv) (message : Message) → AreFragments ids message.context front → gather ids (state message.context front) final ≡ whole message → gather_all ids Nothing (front ++ final ∷ []) ≡ whole message
-gather_all_final ids front final message f e =
-    gather_all-append ids Nothing front (final ∷ []) ∙ ap (λ (g : Gathering). after_others g.list (gather_all ids g.gathered (final ∷ []))) (gather_fragments ids message.context front f)
-    ∙ ap (λ (g : Gathering). after_others [] (after_others g.list (more g.gathered))) e
-
-gather_message : (ids : List ℕ) (run : List Pdv) (message : Message) → IsMessage ids run message → gather_all ids Nothing run ≡ whole message
-gather_message ids run message m =
-    let short : length (joined (m.front ++ m.final ∷ [])) ≤ command_limit = subst (λ (xs : List Pdv). length (joined xs) ≤ command_limit) m.parts m.short in
-    let command_is : command_of (joined (m.front ++ m.final ∷ [])) ≡ Some message.command = subst (λ (xs : List Pdv). command_of (joined xs) ≡ Some message.command) m.parts m.command_is in
-    ap (gather_all ids Nothing) m.parts ∙ gather_all_final ids m.front m.final message m.fragments (gather_final ids m.front m.final message m.fragments m.context_is m.is_command m.finished short command_is m.no_data.0 m.no_data.1)
+gather_message : (ids : List ℕ) (run : List Pdv) (message : Message) → IsMessage ids run message → gather_all ids Nothing run ≡ completes message
+gather_message ids run message m = message_gathered ids run message m message.command.with_data refl m.data_is
 
 -- ---- what is left
+
+-- what a message begins with, as it is gathered
+record IsBegun (ids : List ℕ) (command_due : Bool) (front : List Pdv) : Type 0 where
+  pub gathered : Gathered
+  pub made_is : gather_all ids Nothing front ≡ gathers gathered
+  pub no_fault : fault_in gathered ≡ None
+  pub misfits : (pdv : Pdv) (fault : DimseFault) → FitsNot ids command_due front pdv fault → gather ids gathered pdv ≡ stops_at fault
 
 no_test : (b : Bool) → (b ≡ true → ⊥) → b ≡ false
 no_test true h = absurd (h refl)
 no_test false h = refl
 
--- a value of the wrong context
-wrong_context : (ids : List ℕ) (context : ℕ) (front : List Pdv) (pdv : Pdv) → AreFragments ids context front → (IsExpected ids front pdv → ⊥) → gather ids (state context front) pdv ≡ faulty WrongContext
-wrong_context ids context [] pdv f h = rw (no_test (is_among pdv.context ids) h) refl
-wrong_context ids context (x ∷ xs) pdv f h =
-    let differs : pdv.context ≡ context → ⊥ = λ e. h (e ∙ sym (f.context_is 0 x (omega arith))) in
-    rw (ne_eqb pdv.context context differs) refl
-
-bad_command : (context : ℕ) (octets : List ℕ) (last : Bool) → IsBad octets last → gathered_with context octets last ≡ faulty BadCommand
+bad_command : (context : ℕ) (octets : List ℕ) (last : Bool) → IsBad octets last → command_gathered context octets last ≡ stops_at BadCommand
 bad_command context octets last (inl long) = passes context octets last long
 bad_command context octets last (inr (short, finished, none)) = ends_with context octets last None short finished none
 
--- a value of the right context that fits not
-misfits : (ids : List ℕ) (context : ℕ) (front : List Pdv) (pdv : Pdv) (fault : DimseFault) → AreFragments ids context front → (IsExpected ids front pdv → pdv.context ≡ context) → FitsNot ids front pdv fault → gather ids (state context front) pdv ≡ faulty fault
-misfits ids context front pdv WrongContext f same h = wrong_context ids context front pdv f h
-misfits ids context front pdv WrongKind f same h =
+state_no_fault : (context : ℕ) (run : List Pdv) → fault_in (state context run) ≡ None
+state_no_fault context [] = refl
+state_no_fault context (x ∷ xs) = refl
+
+-- a PDV of the wrong context
+wrong_context : (ids : List ℕ) (context : ℕ) (front : List Pdv) (pdv : Pdv) → AwaitsCommand ids context front → (IsExpected ids front pdv → ⊥)
+    → gather ids (state context front) pdv ≡ stops_at WrongContext
+wrong_context ids context [] pdv a h = rw (no_test (is_among pdv.context ids) h) refl
+wrong_context ids context (x ∷ xs) pdv a h =
+    let differs : pdv.context ≡ context → ⊥ = λ e. h (is_expected ids context (x ∷ xs) pdv a.fragments.context_is (omega arith) e) in
+    rw (ne_eqb pdv.context context differs) refl
+
+-- a PDV of the right context that fits not where a command fragment is due
+command_misfits : (ids : List ℕ) (context : ℕ) (front : List Pdv) (pdv : Pdv) (fault : DimseFault) → AwaitsCommand ids context front
+    → (IsExpected ids front pdv → pdv.context ≡ context) → FitsNot ids true front pdv fault
+    → gather ids (state context front) pdv ≡ stops_at fault
+command_misfits ids context front pdv WrongContext a same h = wrong_context ids context front pdv a h
+command_misfits ids context front pdv WrongKind a same h =
     let e : pdv.command ≡ false = h.1 in
-    let wrong : fragment_gathered context (joined front) pdv ≡ faulty WrongKind = rw e refl in
-    at_state ids context front pdv f.accepted (same h.0) ∙ wrong
-misfits ids context front pdv BadCommand f same h =
-    at_state ids context front pdv f.accepted (same h.0) ∙ command_gathered context front pdv h.1 ∙ bad_command context (joined (front ++ pdv ∷ [])) pdv.last h.2
-misfits ids context front pdv NoMemory f same h = absurd h
+    let wrong : after_command context (joined front) pdv ≡ stops_at WrongKind = rw e refl in
+    at_state ids context front pdv a.accepted (same h.0) ∙ wrong
+command_misfits ids context front pdv BadCommand a same h =
+    at_state ids context front pdv a.accepted (same h.0) ∙ command_after context front pdv h.1 ∙ bad_command context (joined (front ++ pdv ∷ [])) pdv.last h.3
+command_misfits ids context front pdv NoMemory a same h = absurd h
 
--- a value that fits not where nothing stands before it
-by_accepted : (ids : List ℕ) (pdv : Pdv) (fault : DimseFault) (accepted : Bool) → is_among pdv.context ids ≡ accepted → FitsNot ids [] pdv fault → gather ids Nothing pdv ≡ faulty fault
-by_accepted ids pdv fault true e h = misfits ids pdv.context [] pdv fault (no_fragments ids pdv.context e) (λ _. refl) h
-by_accepted ids pdv WrongContext false e h = rw e refl
-by_accepted ids pdv WrongKind false e h = absurd (false≢true (sym e ∙ h.0))
-by_accepted ids pdv BadCommand false e h = absurd (false≢true (sym e ∙ h.0))
-by_accepted ids pdv NoMemory false e h = absurd h
+-- a PDV that fits not where nothing stands before it
+first_misfits : (ids : List ℕ) (pdv : Pdv) (fault : DimseFault) (accepted : Bool) → is_among pdv.context ids ≡ accepted → FitsNot ids true [] pdv fault
+    → gather ids Nothing pdv ≡ stops_at fault
+first_misfits ids pdv fault true e h = command_misfits ids pdv.context [] pdv fault (awaits_first ids pdv.context e) (λ _. refl) h
+first_misfits ids pdv WrongContext false e h = rw e refl
+first_misfits ids pdv WrongKind false e h = absurd (false≢true (sym e ∙ h.0))
+first_misfits ids pdv BadCommand false e h = absurd (false≢true (sym e ∙ h.0))
+first_misfits ids pdv NoMemory false e h = absurd h
 
-gather_misfit : (ids : List ℕ) (front : List Pdv) (pdv : Pdv) (fault : DimseFault) → (front ≡ []) ⊎ ((context : ℕ) × AreFragments ids context front) → FitsNot ids front pdv fault
-    → (g : Gathered) × (gather_all ids Nothing front ≡ more g) × (gather ids g pdv ≡ faulty fault)
-gather_misfit ids [] pdv fault b h = (Nothing, refl, by_accepted ids pdv fault (is_among pdv.context ids) refl h)
-gather_misfit ids (x ∷ xs) pdv fault (inl e) h = absurd cc
-gather_misfit ids (x ∷ xs) pdv fault (inr (context, f)) h =
-    (state context (x ∷ xs), gather_fragments ids context (x ∷ xs) f, misfits ids context (x ∷ xs) pdv fault f (expected_is ids context (x ∷ xs) pdv f (omega arith)) h)
+data_misfits : (ids : List ℕ) (front : List Pdv) (message : Message) (pdv : Pdv) (fault : DimseFault) → AwaitsData ids message.context message.command front
+    → FitsNot ids false front pdv fault
+    → gather ids (DataPart message) pdv ≡ stops_at fault
+data_misfits ids front message pdv WrongContext a h =
+    let contexts = data_context ids message.context message.command front a in
+    let some = data_some ids message.context message.command front a in
+    let differs : pdv.context ≡ message.context → ⊥ = λ e. h (is_expected ids message.context front pdv contexts some e) in
+    rw (ne_eqb pdv.context message.context differs) refl
+data_misfits ids front message pdv WrongKind a h =
+    let contexts = data_context ids message.context message.command front a in
+    let some = data_some ids message.context message.command front a in
+    let e : pdv.command ≡ true = h.1 in
+    let wrong : after_data message pdv ≡ stops_at WrongKind = rw e refl in
+    at_part ids message pdv (expected_is ids message.context front pdv contexts some h.0) ∙ wrong
+data_misfits ids front message pdv BadCommand a h = absurd (false≢true h.2)
+data_misfits ids front message pdv NoMemory a h = absurd h
 
-gather_fault : (ids : List ℕ) (front : List Pdv) (pdv : Pdv) (behind : List Pdv) (fault : DimseFault) (g : Gathered) → gather_all ids Nothing front ≡ more g → gather ids g pdv ≡ faulty fault → gather_all ids Nothing (front ++ pdv ∷ behind) ≡ faulty fault
-gather_fault ids front pdv behind fault g e h =
-    gather_all-append ids Nothing front (pdv ∷ behind) ∙ ap (λ (m : Gathering). after_others m.list (gather_all ids m.gathered (pdv ∷ behind))) e
-    ∙ ap (λ (m : Gathering). after_others [] (after_others m.list (gather_all ids m.gathered behind))) h ∙ ap (λ (m : Gathering). after_others [] (after_others [] m)) (fault_stays ids fault behind)
+-- command fragments, of which there may be none
+command_begun : (ids : List ℕ) (context : ℕ) (front : List Pdv) → AwaitsCommand ids context front → IsBegun ids true front
+command_begun ids context [] a =
+    record { gathered = Nothing; made_is = refl; no_fault = refl; misfits = λ pdv fault h. first_misfits ids pdv fault (is_among pdv.context ids) refl h }
+command_begun ids context (x ∷ xs) a = record {
+  gathered = state context (x ∷ xs);
+  made_is = commands_gathered ids context (x ∷ xs) a;
+  no_fault = refl;
+  misfits = λ pdv fault h. command_misfits ids context (x ∷ xs) pdv fault a (expected_is ids context (x ∷ xs) pdv a.fragments.context_is (omega arith)) h;
+}
 
-some_state : (context : ℕ) (run : List Pdv) → 0 < length run → state context run ≡ Fragments context (joined run)
-some_state context [] some = absurd (omega arith)
-some_state context (x ∷ xs) some = refl
+data_begun : (ids : List ℕ) (context : ℕ) (command : Command) (front : List Pdv) → AwaitsData ids context command front → IsBegun ids false front
+data_begun ids context command front a =
+    let g = data_gathered ids context command front a in
+    let again : AwaitsData ids g.message.context g.message.command front =
+    subst (λ (c : ℕ). AwaitsData ids c g.message.command front) (sym g.same_context)
+    (subst (λ (k : Command). AwaitsData ids context k front) (sym g.same_command) a) in
+    record { gathered = DataPart g.message; made_is = g.made_is; no_fault = refl; misfits = λ pdv fault h. data_misfits ids front g.message pdv fault again h }
 
-gather_left : (ids : List ℕ) (rest : List Pdv) (gathered : Gathered) → AreLeft ids rest gathered → gather_all ids Nothing rest ≡ more gathered
-gather_left ids rest Nothing h = ap (gather_all ids Nothing) h
-gather_left ids rest (Fragments context octets) h = gather_fragments ids context rest h.0 ∙ ap more (some_state context rest h.1 ∙ ap (Fragments context) h.2)
-gather_left ids rest (Spent fault) h =
-    let m = gather_misfit ids h.0 h.1 fault h.4 h.5 in
-    ap (gather_all ids Nothing) h.3 ∙ gather_fault ids h.0 h.1 h.2 fault m.0 m.1 m.2
+none_begun : (ids : List ℕ) (front : List Pdv) → front ≡ [] → IsBegun ids true front
+none_begun ids front e = subst (IsBegun ids true) (sym e) (record {
+  gathered = Nothing;
+  made_is = refl;
+  no_fault = refl;
+  misfits = λ pdv fault h. first_misfits ids pdv fault (is_among pdv.context ids) refl h;
+})
+
+is_begun : (ids : List ℕ) (command_due : Bool) (front : List Pdv) → Begins ids command_due front → IsBegun ids command_due front
+is_begun ids true front (inl e) = none_begun ids front e
+is_begun ids true front (inr (context, a)) = command_begun ids context front a
+is_begun ids false front (context, command, a) = data_begun ids context command front a
 
 -- ---- all of it
 
-pub only_messages : (ids : List ℕ) (pdvs rest : List Pdv) (list : List Message) (gathered : Gathered) → AreMessages ids list pdvs rest → AreLeft ids rest gathered
-    → messages ids pdvs ≡ record { list = list; gathered = gathered }
-only_messages ids pdvs rest [] gathered a left = ap (gather_all ids Nothing) a ∙ gather_left ids rest gathered left
-only_messages ids pdvs rest (message ∷ list) gathered a left =
-    ap (gather_all ids Nothing) a.2 ∙ gather_all-append ids Nothing a.0 a.1 ∙ ap (λ (g : Gathering). after_others g.list (gather_all ids g.gathered a.1)) (gather_message ids a.0 message a.3)
-    ∙ ap (after_others (message ∷ [])) (only_messages ids a.1 rest list gathered a.4 left)
+abbrev read_off : Gathering → Messages
+read_off all = record { list = all.list; fault = fault_in all.gathered }
 
-tail : (x y : Pdv) (xs ys : List Pdv) → x ∷ xs ≡ y ∷ ys → (x ≡ y) × (xs ≡ ys)
-tail x y xs ys e = (cc, cc)
+abbrev left_as : Option DimseFault → Messages
+left_as fault = record { list = []; fault = fault }
 
--- two runs that begin alike end alike: at the first value that is a last one
-same_end : (xs ys : List Pdv) (x y : Pdv) (behind others : List Pdv) → AllByRecursion (λ (p : Pdv). p.last ≡ false) xs → AllByRecursion (λ (p : Pdv). p.last ≡ false) ys → x.last ≡ true → y.last ≡ true
-    → xs ++ x ∷ behind ≡ ys ++ y ∷ others → behind ≡ others
-same_end [] [] x y behind others p q a b e = (tail x y behind others e).1
-same_end [] (z ∷ ys) x y behind others p q a b e = absurd (false≢true (sym q.0 ∙ ap (λ (v : Pdv). v.last) (sym (tail x z behind (ys ++ y ∷ others) e).0) ∙ a))
-same_end (z ∷ xs) [] x y behind others p q a b e = absurd (false≢true (sym p.0 ∙ ap (λ (v : Pdv). v.last) (tail z y (xs ++ x ∷ behind) others e).0 ∙ b))
-same_end (z ∷ xs) (w ∷ ys) x y behind others p q a b e = same_end xs ys x y behind others p.1 q.1 a b (tail z w (xs ++ x ∷ behind) (ys ++ y ∷ others) e).1
+left_gathered : (ids : List ℕ) (rest : List Pdv) (fault : Option DimseFault) → AreLeft ids rest fault → read_off (gather_all ids Nothing rest) ≡ left_as fault
+left_gathered ids rest None (due, begins) =
+    let b = is_begun ids due rest begins in
+    ap read_off b.made_is ∙ ap left_as b.no_fault
+left_gathered ids rest (Some fault) h =
+    let b = is_begun ids h.command_due h.front h.begins in
+    let stops : gather_all ids b.gathered (h.pdv ∷ h.others) ≡ stops_at fault =
+    ap (λ (g : Gathering). after_others g.list (gather_all ids g.gathered h.others)) (b.misfits h.pdv fault h.fits_not)
+    ∙ ap (after_others []) (fault_stays ids fault h.others) in
+    ap (λ (xs : List Pdv). read_off (gather_all ids Nothing xs)) h.parts
+    ∙ ap read_off (gathers_on ids Nothing b.gathered h.front (h.pdv ∷ h.others) b.made_is ∙ stops)
 
-unfinished_run : (ids : List ℕ) (context : ℕ) (run : List Pdv) → AreFragments ids context run → AllByRecursion (λ (p : Pdv). p.last ≡ false) run
-unfinished_run ids context run f = recursion_from_All (λ (p : Pdv). p.last ≡ false) run f.unfinished
+all_gathered : (ids : List ℕ) (pdvs rest : List Pdv) (list : List Message) (fault : Option DimseFault) → AreMessages ids list pdvs rest → AreLeft ids rest fault
+    → read_off (gather_all ids Nothing pdvs) ≡ record { list = list; fault = fault }
+all_gathered ids pdvs rest [] fault a left = ap (λ (xs : List Pdv). read_off (gather_all ids Nothing xs)) a ∙ left_gathered ids rest fault left
+all_gathered ids pdvs rest (message ∷ list) fault a left =
+    ap (λ (xs : List Pdv). read_off (gather_all ids Nothing xs)) a.2
+    ∙ ap read_off (gather_all-append ids Nothing a.0 a.1 ∙ ap (λ (g : Gathering). after_others g.list (gather_all ids g.gathered a.1))
+    (gather_message ids a.0 message a.3))
+    ∙ ap (λ (m : Messages). record { list = message ∷ m.list; fault = m.fault }) (all_gathered ids a.1 rest list fault a.4 left)
 
-same_behind : (ids : List ℕ) (pdvs run other behind others : List Pdv) (message : Message) → pdvs ≡ run ++ behind → pdvs ≡ other ++ others → IsMessage ids run message → IsMessage ids other message → behind ≡ others
-same_behind ids pdvs run other behind others message e f m n =
-    let a : (m.front ++ m.final ∷ []) ++ behind ≡ m.front ++ m.final ∷ behind = append_assoc m.front (m.final ∷ []) behind in
-    let b : (n.front ++ n.final ∷ []) ++ others ≡ n.front ++ n.final ∷ others = append_assoc n.front (n.final ∷ []) others in
-    let both : run ++ behind ≡ other ++ others = sym e ∙ f in
-    let one : run ++ behind ≡ m.front ++ m.final ∷ behind = ap (λ (xs : List Pdv). xs ++ behind) m.parts ∙ a in
-    let two : other ++ others ≡ n.front ++ n.final ∷ others = ap (λ (xs : List Pdv). xs ++ others) n.parts ∙ b in
-    same_end m.front n.front m.final n.final behind others (unfinished_run ids message.context m.front m.fragments) (unfinished_run ids message.context n.front n.fragments) m.finished n.finished (sym one ∙ both ∙ two)
+pub only_messages : (ids : List ℕ) (pdvs rest : List Pdv) (list : List Message) (fault : Option DimseFault) → AreMessages ids list pdvs rest
+    → AreLeft ids rest fault
+    → messages ids pdvs ≡ record { list = list; fault = fault }
+unfolding messages_from
+only_messages ids pdvs rest list fault a left = all_gathered ids pdvs rest list fault a left
 
-pub only_rest : (ids : List ℕ) (pdvs rest others : List Pdv) (list : List Message) → AreMessages ids list pdvs rest → AreMessages ids list pdvs others → rest ≡ others
+-- ---- the rest
+
+after_data_part : (message : Message) (b : Bool) (xs ys others rest : List Pdv) → IsDataPart b message xs → IsDataPart b message ys
+    → xs ++ others ≡ ys ++ rest → others ≡ rest
+after_data_part message true xs ys others rest d k e = same_others message.context message.context false xs ys others rest d.fragments k.fragments e
+after_data_part message false xs ys others rest d k e = ap (λ (zs : List Pdv). zs ++ others) (sym d.0) ∙ e ∙ ap (λ (zs : List Pdv). zs ++ rest) k.0
+
+regrouped : (pdvs run others commands part : List Pdv) → pdvs ≡ run ++ others → run ≡ commands ++ part → pdvs ≡ commands ++ (part ++ others)
+regrouped pdvs run others commands part e f = e ∙ ap (λ (xs : List Pdv). xs ++ others) f ∙ append_assoc commands part others
+
+same_rest : (ids : List ℕ) (pdvs run other others rest : List Pdv) (message : Message) → pdvs ≡ run ++ others → pdvs ≡ other ++ rest
+    → IsMessage ids run message → IsMessage ids other message → others ≡ rest
+same_rest ids pdvs run other others rest message e f m n =
+    let one = regrouped pdvs run others m.commands m.data_part e m.parts in
+    let two = regrouped pdvs other rest n.commands n.data_part f n.parts in
+    let parts = same_others message.context message.context true m.commands n.commands (m.data_part ++ others)
+    (n.data_part ++ rest) m.command_is.fragments n.command_is.fragments (sym one ∙ two) in
+    after_data_part message message.command.with_data m.data_part n.data_part others rest m.data_is n.data_is parts
+
+pub only_rest : (ids : List ℕ) (pdvs rest others : List Pdv) (list : List Message) → AreMessages ids list pdvs rest → AreMessages ids list pdvs others
+    → rest ≡ others
 only_rest ids pdvs rest others [] a b = sym a ∙ b
 only_rest ids pdvs rest others (message ∷ list) a b =
-    let same = same_behind ids pdvs a.0 b.0 a.1 b.1 message a.2 b.2 a.3 b.3 in
+    let same = same_rest ids pdvs a.0 b.0 a.1 b.1 message a.2 b.2 a.3 b.3 in
     only_rest ids a.1 rest others list a.4 (subst (λ (xs : List Pdv). AreMessages ids list xs others) (sym same) b.4)

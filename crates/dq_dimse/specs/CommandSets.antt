@@ -1,5 +1,7 @@
--- Which octets are which command set (PS3.7 section 6.3.1): those that spell a data set of group 0000 alone.
-use Rattle.std.specs.Prelude.{◌≡◌, ◌<◌, ℕ, ◌-◌, ◌^◌, if◌then◌else◌, IsTrue, List, length, take, Some}
+-- Which octets are which command set (PS3.7 section 6.3.1): those that spell a data set of group
+-- 0000 alone.
+use Rattle.std.specs.Prelude.{◌≡◌, ◌<◌, ℕ, ◌-◌, ◌^◌, ◌==◌, if◌then◌else◌, IsTrue, not}
+use Rattle.std.specs.Prelude.{List, length, take, Some}
 use Rattle.std.specs.List.{list_all}
 use Rattle.std.specs.Int.{w32, to_le_bytes}
 use Rattle.dq_vr.specs.declared.Vr.TheVariants.{UI}
@@ -9,19 +11,38 @@ use Rattle.dq_dataset.specs.Tree.{ElementList}
 use Rattle.dq_dataset.specs.View.{elements_of}
 use Rattle.dq_dataset.specs.Grammar.{IsSpelled}
 use Rattle.dq_dimse.specs.declared.command.Command.{Command}
-use Rattle.dq_dimse.specs.Commands.{belongs, number_of, identifier_of, command_from}
+use Rattle.dq_dimse.specs.CommandElements.{command_field, command_data_set_type, status_element}
+use Rattle.dq_dimse.specs.CommandElements.{command_group_length, message_id_being_responded_to}
+use Rattle.dq_dimse.specs.CommandElements.{affected_sop_class_uid, affected_sop_instance_uid}
+use Rattle.dq_dimse.specs.CommandElements.{no_data_set, with_data_set}
+use Rattle.dq_dimse.specs.CommandFields.{response_bit}
+use Rattle.dq_dimse.specs.Commands.{belongs, number_of, identifier_of}
+use Rattle.dq_dimse.specs.Commands.{id_number, class_number, instance_number}
 use Rattle.dq_dimse.specs.Sending.{padded, element}
 
--- The octets spell a data set of group 0000 alone. Group lengths are no part of it, of whatever group.
+-- The octets spell a data set of group 0000 alone. No group length is part of it, of any group.
 pub record SpellsSet (octets : List ℕ) (set : ElementList) : Type 0 where
   pub spelled : IsSpelled Implicit octets set
   pub own : IsTrue (list_all belongs (elements_of set))
 
--- a command set, with the command that its elements make
+-- What the elements of a request's command set say, field by field (PS3.7 annex E.1). Numbers have
+-- two octets: below the bit of responses it is clear. Identifiers are bare of padding.
+pub record SaysCommand (set : ElementList) (command : Command) : Type 0 where
+  pub code : number_of command_field set ≡ Some command.code
+  pub is_request : command.code < response_bit
+  pub id : number_of (id_number command.code) set ≡ Some command.id
+  pub data_set_type : ℕ
+  pub type_is : number_of command_data_set_type set ≡ Some data_set_type
+  pub with_data : command.with_data ≡ not (data_set_type == no_data_set)
+  pub sop_class : identifier_of (class_number command.code) set ≡ command.sop_class
+  pub sop_instance : identifier_of (instance_number command.code) set ≡ command.sop_instance
+  pub no_status : command.status ≡ 0
+
+-- a command set, with the command that its elements say
 pub record IsCommandSet (octets : List ℕ) (command : Command) : Type 0 where
   pub set : ElementList
   pub spells : SpellsSet octets set
-  pub command_is : command_from set ≡ Some command
+  pub says : SaysCommand set command
 
 -- what fits the fields of a command set
 pub record HasFields (command : Command) : Type 0 where
@@ -31,14 +52,19 @@ pub record HasFields (command : Command) : Type 0 where
   pub sop_class : length (padded command.sop_class) < 0xffff_ffff
   pub sop_instance : length (padded command.sop_instance) < 0xffff_ffff
 
--- a command set that says the response (PS3.7 annex E.1): its group length first, and its elements, by their numbers
+-- A command set that says the response, field by field (PS3.7 annex E.1): its group length, which
+-- counts the octets after it, stands first.
 pub record SaysResponse (command : Command) (octets : List ℕ) : Type 0 where
-  pub group_length : take 12 octets ≡ element 0x0000 (to_le_bytes w32 (length octets - 12))
+  pub group_length :
+      take 12 octets ≡ element command_group_length (to_le_bytes w32 (length octets - 12))
   pub set : ElementList
   pub spells : SpellsSet octets set
-  pub sop_class : identifier_of 0x0002 set ≡ trimmed UI command.sop_class
-  pub code : number_of 0x0100 set ≡ Some command.code
-  pub id : number_of 0x0120 set ≡ Some command.id
-  pub data_set_type : number_of 0x0800 set ≡ Some (if command.with_data then 0x0001 else 0x0101)
-  pub status : number_of 0x0900 set ≡ Some command.status
-  pub sop_instance : identifier_of 0x1000 set ≡ trimmed UI command.sop_instance
+  pub sop_class : identifier_of affected_sop_class_uid set ≡ trimmed UI command.sop_class
+  pub code : number_of command_field set ≡ Some command.code
+  pub id : number_of message_id_being_responded_to set ≡ Some command.id
+  pub data_set_type :
+      number_of command_data_set_type set
+      ≡ Some (if command.with_data then with_data_set else no_data_set)
+  pub status : number_of status_element set ≡ Some command.status
+  pub sop_instance :
+      identifier_of affected_sop_instance_uid set ≡ trimmed UI command.sop_instance

@@ -1,5 +1,7 @@
--- Command sets (PS3.7 section 6.3.1 and annex E): data sets of group 0000 alone, in Implicit VR Little Endian.
-use Rattle.std.specs.Prelude.{ℕ, Bool, false, ◌&&◌, ◌==◌, nat_lt, if◌then◌else◌, List, [], length, find, Option, Some, None, unwrap_or, Result, Ok, Err}
+-- Command sets (PS3.7 section 6.3.1 and annex E): data sets of group 0000 alone, in Implicit VR
+-- Little Endian.
+use Rattle.std.specs.Prelude.{ℕ, Bool, not, ◌==◌, nat_lt, if◌then◌else◌, List, [], length, find}
+use Rattle.std.specs.Prelude.{Option, Some, None, unwrap_or, Result, Ok, Err}
 use Rattle.std.specs.List.{list_all}
 use Rattle.std.specs.Int.{w16, from_le_bytes}
 use Rattle.dq_vr.specs.declared.Tag.{Tag}
@@ -13,20 +15,21 @@ use Rattle.dq_dataset.specs.declared.data_set.Value.TheVariants.{Octets, Items}
 use Rattle.dq_dataset.specs.Tree.{ElementList}
 use Rattle.dq_dataset.specs.View.{elements_of, has_tag}
 use Rattle.dq_dataset.specs.Reading.{reading}
-use Rattle.dq_pdu.specs.Octets.{◌>>=◌}
+use Rattle.dq_list.specs.Readers.{◌>>=◌, provided}
 use Rattle.dq_dimse.specs.declared.command.Command.{Command}
-
--- the value, if the test holds
-abbrev pub provided : {A : Type 0} → Bool → A → Option A
-provided b x = if b then Some x else None
+use Rattle.dq_dimse.specs.CommandElements.{command_group, command_field, command_data_set_type}
+use Rattle.dq_dimse.specs.CommandElements.{message_id, message_id_being_responded_to, no_data_set}
+use Rattle.dq_dimse.specs.CommandElements.{affected_sop_class_uid, requested_sop_class_uid}
+use Rattle.dq_dimse.specs.CommandElements.{affected_sop_instance_uid, requested_sop_instance_uid}
+use Rattle.dq_dimse.specs.CommandFields.{c_cancel, n_set, response_bit}
 
 -- Only elements of group 0000 stand in a command set.
 abbrev pub belongs : Element → Bool
-belongs e = e.tag.group == 0
+belongs e = e.tag.group == command_group
 
 -- a tag of group 0000
 abbrev pub command_tag : ℕ → Tag
-command_tag number = record { group = 0; element = number }
+command_tag number = record { group = command_group; element = number }
 
 -- the octets of a value; a sequence has none
 abbrev pub octets_of : Value → Option (List ℕ)
@@ -35,50 +38,42 @@ octets_of (Items items) = None
 
 -- the value of the element of group 0000 with a number
 abbrev pub value_of : ℕ → ElementList → Option (List ℕ)
-value_of number set = find (has_tag (command_tag number)) (elements_of set) >>= λ e. octets_of e.value
+value_of number set =
+    find (has_tag (command_tag number)) (elements_of set) >>= λ e. octets_of e.value
 
 -- a value of two octets
 abbrev pub number_of : ℕ → ElementList → Option ℕ
-number_of number set = value_of number set >>= λ octets. provided (length octets == 2) (from_le_bytes w16 octets)
+number_of number set =
+    value_of number set >>= λ octets. provided (length octets == 2) (from_le_bytes w16 octets)
 
 -- an identifier without its padding, empty where there is none
 abbrev pub identifier_of : ℕ → ElementList → List ℕ
 identifier_of number set = trimmed UI (unwrap_or (value_of number set) [])
 
--- The codes of commands (PS3.7 annex E.1). A response has the bit 8000H.
-abbrev pub c_cancel : ℕ
-c_cancel = 0x0fff
-
-abbrev pub n_set : ℕ
-n_set = 0x0120
-
--- Command Data Set Type: no data set follows (PS3.7 annex E.2)
-abbrev pub no_data_set : ℕ
-no_data_set = 0x0101
-
 -- Message ID, in a C-CANCEL the Message ID Being Responded To
 abbrev pub id_number : ℕ → ℕ
-id_number code = if code == c_cancel then 0x0120 else 0x0110
+id_number code = if code == c_cancel then message_id_being_responded_to else message_id
 
 -- Affected SOP Class UID, in an N-SET the Requested one; likewise the instance
 abbrev pub class_number : ℕ → ℕ
-class_number code = if code == n_set then 0x0003 else 0x0002
+class_number code = if code == n_set then requested_sop_class_uid else affected_sop_class_uid
 
 abbrev pub instance_number : ℕ → ℕ
-instance_number code = if code == n_set then 0x1001 else 0x1000
+instance_number code =
+    if code == n_set then requested_sop_instance_uid else affected_sop_instance_uid
 
--- The command that the elements of a command set make. Until data sets are taken, a command that has one is refused.
+-- The command that the elements of a command set make.
 unfoldable pub command_from : ElementList → Option Command
 command_from set = do
-  code ← number_of 0x0100 set
-  data_set_type ← number_of 0x0800 set
+  code ← number_of command_field set
+  data_set_type ← number_of command_data_set_type set
   id ← number_of (id_number code) set
-  provided (nat_lt code 0x8000 && (data_set_type == no_data_set)) (record {
+  provided (nat_lt code response_bit) (record {
     code = code;
     id = id;
     sop_class = identifier_of (class_number code) set;
     sop_instance = identifier_of (instance_number code) set;
-    with_data = false;
+    with_data = not (data_set_type == no_data_set);
     status = 0;
   })
 

@@ -1,6 +1,11 @@
+pub mod Answering
 pub mod Assembling
+pub mod Carrying
+pub mod CommandElements
+pub mod CommandFields
 pub mod CommandSets
 pub mod Commands
 pub mod Messages
 pub mod Reading
 pub mod Sending
+pub mod Statuses

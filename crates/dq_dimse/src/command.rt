@@ -5,7 +5,8 @@ use dq_list::Listed;
 pub struct Command {
     /// Command Field (0000,0100).
     pub code: u16,
-    /// Message ID (0000,0110); of a response and a C-CANCEL, the Message ID Being Responded To (0000,0120).
+    /// Message ID (0000,0110); of a response and a C-CANCEL, the Message ID Being Responded To
+    /// (0000,0120).
     pub id: u16,
     /// Affected or Requested SOP Class UID without padding, empty where absent.
     pub sop_class: Listed<u8>,
@@ -23,6 +24,7 @@ pub struct Message {
     pub context: u8,
     pub command: Command,
     pub octets: Listed<u8>,
-    /// Whether the data set passed its limit; its octets were then discarded.
+    /// Whether the data set passed its limit: 67,108,864 octets of a C-STORE, 1,048,576 of any
+    /// other command. Its octets were then discarded.
     pub over: bool,
 }

@@ -1,23 +1,33 @@
-//! What the definitions mean: laws that hold of them, each proved as the contract of a function that does nothing.
-ghost use Rattle.std.specs.Prelude.{◌≡◌, ◌≤◌, ◌<◌, ◌⊎◌, ℕ, Bool, IsTrue, List, ◌++◌, length};
+//! What the definitions mean: laws that hold of them, each proved as the contract of a function
+//! that does nothing.
+ghost use Rattle.std.specs.Prelude.{◌≡◌, ◌≤◌, ◌<◌, ◌⊎◌, ℕ, Bool, IsTrue, List, [], ◌∷◌, ◌++◌};
+ghost use Rattle.std.specs.Prelude.{length, map, Option, Some, None};
 ghost use Rattle.dq_pdu.specs.declared.pdu.Pdv.{Pdv};
-ghost use Rattle.dq_pdu.specs.Writing.{body, is_writable};
+ghost use Rattle.dq_pdu.specs.Writing.{body, is_writable, p_data};
 ghost use Rattle.dq_dataset.specs.Grammar.{AreOctets};
 ghost use Rattle.dq_dimse.specs.declared.command.Command.{Command};
 ghost use Rattle.dq_dimse.specs.declared.command.Message.{Message};
 ghost use Rattle.dq_dimse.specs.declared.fault.DimseFault.{DimseFault};
-ghost use Rattle.dq_dimse.specs.declared.assembler.Gathered.{Gathered};
+ghost use Rattle.dq_pdu.specs.Octets.{is_among};
+ghost use Rattle.dq_pdu.specs.Stream.{pdus_in};
+ghost use Rattle.dq_dimse.specs.Carrying.{Carries, IsDataOf, pdu_with};
 ghost use Rattle.dq_dimse.specs.Commands.{command_of};
 ghost use Rattle.dq_dimse.specs.CommandSets.{IsCommandSet, HasFields, SaysResponse};
-ghost use Rattle.dq_dimse.specs.Messages.{AreMessages, AreLeft, after_others, gather_all, messages};
-ghost use Rattle.dq_dimse.specs.Sending.{IsFragmentSize, AreFragmentsOf, command_set, pdu_limit, fragment_size, fragments, pdu_of};
+ghost use Rattle.dq_dimse.specs.Messages.{AreMessages, AreLeft, command_limit};
+ghost use Rattle.dq_dimse.specs.Assembling.{Assembly, AssemblerAfter, messages, messages_from};
+ghost use Rattle.dq_dimse.specs.Assembling.{assembly_from, followed_by, spent_by};
+ghost use Rattle.dq_dimse.specs.Sending.{IsFragmentSize, AreFragmentsOf, command_set, pdu_limit};
+ghost use Rattle.dq_dimse.specs.Sending.{fragment_size, fragments, sent};
 
 use dq_dataset::laws::spelling_law;
+use dq_pdu::laws::{fragments_are_writable, written_pdus_are_read};
 
 /// What is read of octets is what they are: a command set is read exactly.
 pub fn command_sets_are_read()
-    ensures are { (octets : List ℕ) (command : Command) → AreOctets octets → command_of octets ≡ Some command → IsCommandSet octets command }
-    ensures only { (octets : List ℕ) (command : Command) → IsCommandSet octets command → command_of octets ≡ Some command }
+    ensures are { (octets : List ℕ) (command : Command) → AreOctets octets →
+        command_of octets ≡ Some command → IsCommandSet octets command }
+    ensures only { (octets : List ℕ) (command : Command) →
+        IsCommandSet octets command → command_of octets ≡ Some command }
 {
     spelling_law();
 }
@@ -27,40 +37,106 @@ pub fn responses_are_command_sets()
     ensures { (command : Command) → HasFields command → SaysResponse command (command_set command) }
 {}
 
-/// The messages of values are messages, one after the other, and after them stands what is said to be left.
+/// The messages of PDVs are messages, one after the other, and after them stands what is left.
 pub fn messages_are_messages()
-    ensures { (ids : List ℕ) (pdvs : List Pdv) → (rest : List Pdv) × AreMessages ids (messages ids pdvs).list pdvs rest × AreLeft ids rest (messages ids pdvs).gathered }
+    ensures { (ids : List ℕ) (pdvs : List Pdv) → (rest : List Pdv)
+        × AreMessages ids (messages ids pdvs).list pdvs rest
+        × AreLeft ids rest (messages ids pdvs).fault }
 {}
 
-/// No other messages are these values, and nothing else is left after them.
+/// No other messages are these PDVs, and nothing else is left after them.
 pub fn messages_are_the_only()
-    ensures messages { (ids : List ℕ) (pdvs rest : List Pdv) (list : List Message) (gathered : Gathered) → AreMessages ids list pdvs rest → AreLeft ids rest gathered
-        → messages ids pdvs ≡ record { list = list; gathered = gathered } }
-    ensures rest { (ids : List ℕ) (pdvs rest others : List Pdv) (list : List Message) → AreMessages ids list pdvs rest → AreMessages ids list pdvs others → rest ≡ others }
+    ensures messages { (ids : List ℕ) (pdvs rest : List Pdv) (list : List Message)
+        (fault : Option DimseFault) → AreMessages ids list pdvs rest → AreLeft ids rest fault →
+        messages ids pdvs ≡ record { list = list; fault = fault } }
+    ensures rest { (ids : List ℕ) (pdvs rest others : List Pdv) (list : List Message) →
+        AreMessages ids list pdvs rest → AreMessages ids list pdvs others → rest ≡ others }
 {}
 
-/// More values only add messages, and after a fault nothing changes.
-pub fn more_values_add()
-    ensures adds { (ids : List ℕ) (xs ys : List Pdv) → (more : List Message) × ((messages ids (xs ++ ys)).list ≡ (messages ids xs).list ++ more) }
-    ensures goes_on { (ids : List ℕ) (xs ys : List Pdv) → messages ids (xs ++ ys) ≡ after_others (messages ids xs).list (gather_all ids (messages ids xs).gathered ys) }
-    ensures fault_stays { (ids : List ℕ) (xs ys : List Pdv) (fault : DimseFault) → (messages ids xs).gathered ≡ Gathered.Spent fault → messages ids (xs ++ ys) ≡ messages ids xs }
+/// More PDVs only add messages, and after a fault nothing changes.
+pub fn more_pdvs_add()
+    ensures adds { (ids : List ℕ) (xs ys : List Pdv) → (later : List Message)
+        × ((messages ids (xs ++ ys)).list ≡ (messages ids xs).list ++ later) }
+    ensures fault_stays { (ids : List ℕ) (xs ys : List Pdv) (fault : DimseFault) →
+        (messages ids xs).fault ≡ Some fault → messages ids (xs ++ ys) ≡ messages ids xs }
+    // What they add is told by the assembler that was given the PDVs before them.
+    ensures goes_on { (ids : List ℕ) (xs ys : List Pdv) (assembly : Assembly) →
+        AssemblerAfter ids xs assembly →
+        messages ids (xs ++ ys) ≡ followed_by (messages ids xs).list (messages_from assembly ys) }
+    ensures stands { (ids : List ℕ) (xs ys : List Pdv) (assembly : Assembly) →
+        AssemblerAfter ids xs assembly →
+        AssemblerAfter ids (xs ++ ys) (assembly_from assembly ys) }
+{}
+
+/// An assembler that was given PDVs is one alone, and it is spent by their fault.
+pub fn assemblers_stand_for_pdvs()
+    ensures only { (ids : List ℕ) (pdvs : List Pdv) (assembly other : Assembly) →
+        AssemblerAfter ids pdvs assembly → AssemblerAfter ids pdvs other → assembly ≡ other }
+    ensures fault { (ids : List ℕ) (pdvs : List Pdv) (assembly : Assembly) →
+        AssemblerAfter ids pdvs assembly → (messages ids pdvs).fault ≡ spent_by assembly }
+{}
+
+/// What PDVs add to any assembler: in parts as in one, and nothing to one that is spent.
+pub fn assemblers_go_on()
+    ensures nothing { (assembly : Assembly) →
+        (messages_from assembly [] ≡ record { list = []; fault = spent_by assembly })
+        × (assembly_from assembly [] ≡ assembly) }
+    ensures parts { (assembly : Assembly) (xs ys : List Pdv) →
+        messages_from assembly (xs ++ ys) ≡ followed_by (messages_from assembly xs).list
+        (messages_from (assembly_from assembly xs) ys) }
+    ensures next { (assembly : Assembly) (xs ys : List Pdv) →
+        assembly_from assembly (xs ++ ys) ≡ assembly_from (assembly_from assembly xs) ys }
+    ensures fault { (assembly : Assembly) (pdvs : List Pdv) →
+        (messages_from assembly pdvs).fault ≡ spent_by (assembly_from assembly pdvs) }
+    ensures spent { (assembly : Assembly) (pdvs : List Pdv) (fault : DimseFault) →
+        spent_by assembly ≡ Some fault →
+        (messages_from assembly pdvs ≡ record { list = []; fault = Some fault })
+        × (assembly_from assembly pdvs ≡ assembly) }
 {}
 
 /// The length of a fragment is the largest that a PDU for the peer has room for (PS3.8 annex D.1).
 pub fn fragments_leave_room()
-    ensures { (limit : ℕ) → (limit ≡ 0) ⊎ (8 ≤ limit) → IsFragmentSize limit (fragment_size limit) }
+    ensures { (limit : ℕ) → (limit ≡ 0) ⊎ (8 ≤ limit) →
+        IsFragmentSize limit (fragment_size limit) }
 {}
 
-/// A fragment's PDU is no longer than the peer takes, and its octets spell a PDU that can be written.
+/// A fragment's PDU is no longer than the peer takes, and it can be written.
 pub fn pdus_fit()
-    ensures short { (limit context : ℕ) (command last : Bool) (octets : List ℕ) → (limit ≡ 0) ⊎ (8 ≤ limit) → length octets ≤ fragment_size limit
-        → length (body (pdu_of context command last octets)) ≤ pdu_limit limit }
-    ensures writable { (limit context : ℕ) (command last : Bool) (octets : List ℕ) → (limit ≡ 0) ⊎ (8 ≤ limit) → length octets ≤ fragment_size limit
-        → IsTrue (is_writable (pdu_of context command last octets)) }
+    ensures short { (limit context : ℕ) (command last : Bool) (octets : List ℕ) →
+        (limit ≡ 0) ⊎ (8 ≤ limit) → length octets ≤ fragment_size limit →
+        length (body (p_data context command last octets)) ≤ pdu_limit limit }
+    ensures writable { (limit context : ℕ) (command last : Bool) (octets : List ℕ) →
+        (limit ≡ 0) ⊎ (8 ≤ limit) → length octets ≤ fragment_size limit →
+        IsTrue (is_writable (p_data context command last octets)) }
 {}
 
 /// The fragments are the octets, and no others of the size are.
 pub fn fragments_are_the_only()
-    ensures are { (size : ℕ) (octets : List ℕ) → 0 < size → AreFragmentsOf size octets (fragments size octets) }
-    ensures only { (size : ℕ) (octets : List ℕ) (run : List (List ℕ)) → 0 < size → AreFragmentsOf size octets run → run ≡ fragments size octets }
+    ensures are { (size : ℕ) (octets : List ℕ) → 0 < size →
+        AreFragmentsOf size octets (fragments size octets) }
+    ensures only { (size : ℕ) (octets : List ℕ) (run : List (List ℕ)) → 0 < size →
+        AreFragmentsOf size octets run → run ≡ fragments size octets }
+{}
+
+/// What is sent is read again: as PDUs of one PDV each, with no rest and no fault, and the PDVs
+/// carry the command set and the data set.
+pub fn what_is_sent_is_read()
+    ensures { (context limit : ℕ) (command : Command) (octets : Option (List ℕ)) →
+        (limit ≡ 0) ⊎ (8 ≤ limit) → (pdvs : List Pdv)
+        × (pdus_in (sent context command octets limit)
+        ≡ record { list = map pdu_with pdvs; rest = []; fault = None })
+        × Carries context (command_set command) octets pdvs }
+{
+    fragments_are_writable();
+    written_pdus_are_read();
+}
+
+/// PDVs of an accepted context that carry a command set and its data set are their message, and no
+/// other.
+pub fn what_is_carried_is_read()
+    ensures { (ids : List ℕ) (message : Message) (set : List ℕ) (octets : Option (List ℕ))
+        (pdvs : List Pdv) → IsTrue (is_among message.context ids) → length set ≤ command_limit →
+        command_of set ≡ Some message.command → IsDataOf message octets →
+        Carries message.context set octets pdvs →
+        messages ids pdvs ≡ record { list = message ∷ []; fault = None } }
 {}

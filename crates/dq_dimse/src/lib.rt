@@ -1,14 +1,16 @@
-//! DICOM messages: command sets assembled from presentation data values, and messages cut into PDUs to send
-//! (PS3.7 section 6.3.1, PS3.8 annex E).
+//! DICOM messages: command sets and data sets assembled from presentation data values, and messages
+//! cut into PDUs to send (PS3.7 section 6.3.1, PS3.8 annex E).
 #![tactic(auto)]
 
 mod assembler;
 mod command;
+pub mod command_field;
 mod fault;
 pub mod laws;
 mod numbers;
 mod reading;
 mod sending;
+pub mod status;
 
 pub use assembler::Assembler;
 pub use command::{Command, Message};

@@ -1,4 +1,4 @@
-//! The numbers of PS3.7 annex E: elements of group 0000, commands, and values.
+//! The numbers of PS3.7 annex E: elements of group 0000, and values of Command Data Set Type.
 
 /// The group of the elements of command sets.
 pub(crate) const COMMAND_GROUP: u16 = 0x0000;
@@ -23,13 +23,6 @@ pub(crate) const STATUS: u16 = 0x0900;
 pub(crate) const AFFECTED_SOP_INSTANCE_UID: u16 = 0x1000;
 /// Requested SOP Instance UID (0000,1001).
 pub(crate) const REQUESTED_SOP_INSTANCE_UID: u16 = 0x1001;
-
-/// The command code of C-CANCEL-RQ.
-pub(crate) const C_CANCEL_RQ: u16 = 0x0fff;
-/// The command code of N-SET-RQ.
-pub(crate) const N_SET_RQ: u16 = 0x0120;
-/// The bit that the command code of each response has.
-pub(crate) const RESPONSE: u16 = 0x8000;
 
 /// The Command Data Set Type of a message without a data set.
 pub(crate) const NO_DATA_SET: u16 = 0x0101;

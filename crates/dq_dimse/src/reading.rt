@@ -1,13 +1,15 @@
-//! Command sets: data sets of group 0000 in Implicit VR Little Endian (PS3.7 section 6.3.1 and annex E).
+//! Command sets: data sets of group 0000 in Implicit VR Little Endian (PS3.7 section 6.3.1 and
+//! annex E).
 ghost use Rattle.std.specs.Prelude.{◌≡◌, IfOk, option_map};
 ghost use Rattle.std.specs.List.{list_all};
 ghost use Rattle.dq_dataset.specs.View.{elements_of};
-ghost use Rattle.dq_dimse.specs.Commands.{belongs, value_of, number_of, identifier_of, id_number, class_number, instance_number, command_from, command_of};
+ghost use Rattle.dq_dimse.specs.Commands.{belongs, value_of, number_of, identifier_of, id_number};
+ghost use Rattle.dq_dimse.specs.Commands.{class_number, instance_number, command_from, command_of};
 ghost use Rattle.dq_dimse.specs.Reading.{Gives};
 
 use crate::command::Command;
 use crate::fault::DimseFault;
-use crate::numbers;
+use crate::{command_field, numbers};
 use dq_dataset::{DataSet, Syntax, Value, read};
 use dq_list::Listed;
 use dq_value::trimmed;
@@ -59,7 +61,7 @@ fn identifier_of(alloc: Global, number: u16, set: &DataSet) -> Result<Listed<u8>
 fn id_number(code: u16) -> u16
     ensures { result ≡ id_number code }
 {
-    if code == numbers::C_CANCEL_RQ {
+    if code == command_field::C_CANCEL {
         numbers::MESSAGE_ID_BEING_RESPONDED_TO
     } else {
         numbers::MESSAGE_ID
@@ -69,7 +71,7 @@ fn id_number(code: u16) -> u16
 fn class_number(code: u16) -> u16
     ensures { result ≡ class_number code }
 {
-    if code == numbers::N_SET_RQ {
+    if code == command_field::N_SET {
         numbers::REQUESTED_SOP_CLASS_UID
     } else {
         numbers::AFFECTED_SOP_CLASS_UID
@@ -79,7 +81,7 @@ fn class_number(code: u16) -> u16
 fn instance_number(code: u16) -> u16
     ensures { result ≡ instance_number code }
 {
-    if code == numbers::N_SET_RQ {
+    if code == command_field::N_SET {
         numbers::REQUESTED_SOP_INSTANCE_UID
     } else {
         numbers::AFFECTED_SOP_INSTANCE_UID
@@ -94,7 +96,7 @@ fn command_from(alloc: Global, set: &DataSet) -> Result<Command, DimseFault>
     let code = number_of(numbers::COMMAND_FIELD, set)?;
     let data_set_type = number_of(numbers::COMMAND_DATA_SET_TYPE, set)?;
     let id = number_of(id_number(code), set)?;
-    if code >= numbers::RESPONSE || data_set_type != numbers::NO_DATA_SET {
+    if code >= command_field::RESPONSE_BIT {
         return Err(DimseFault::BadCommand);
     }
     Ok(Command {
@@ -102,7 +104,7 @@ fn command_from(alloc: Global, set: &DataSet) -> Result<Command, DimseFault>
         id,
         sop_class: identifier_of(alloc, class_number(code), set)?,
         sop_instance: identifier_of(alloc, instance_number(code), set)?,
-        with_data: false,
+        with_data: data_set_type != numbers::NO_DATA_SET,
         status: 0,
     })
 }

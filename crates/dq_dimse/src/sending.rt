@@ -1,18 +1,19 @@
 //! Messages as they are sent (PS3.7 section 6.3.1 and annex E, PS3.8 annex E).
-ghost use Rattle.std.specs.Prelude.{◌≡◌, ℕ, ◌+◌, ◌<◌, ◌≤◌, ◌++◌, ◌⊎◌, ◌↔◌, length, IsTrue, IsSome, IfOk, OnOk, option_map};
-ghost use Rattle.dq_pdu.specs.Writing.{control_header, spelling};
-ghost use Rattle.dq_dimse.specs.Sending.{padded, element, short_element, instance_element, command_elements, command_set, pdu_limit, fragment_size, pdu_of, cut_within, cut, data_cut, sent};
+ghost use Rattle.std.specs.Prelude.{◌≡◌, ℕ, ◌+◌, ◌<◌, ◌≤◌, ◌++◌, ◌⊎◌, ◌↔◌, length, IsTrue, IsSome};
+ghost use Rattle.std.specs.Prelude.{IfOk, OnOk, option_map};
+ghost use Rattle.dq_dimse.specs.Sending.{padded, element, short_element, instance_element};
+ghost use Rattle.dq_dimse.specs.Sending.{command_elements, command_set, fragment_size};
+ghost use Rattle.dq_dimse.specs.Sending.{cut_within, cut, data_cut, sent};
 
 use crate::command::Command;
 use crate::numbers;
+use dq_pdu::append_p_data;
 use std::alloc::{AllocError, Global};
 
-/// The type of a P-DATA PDU (PS3.8 section 9.3.5).
-const P_DATA: u8 = 4;
 /// The longest body of a PDU that is sent.
-const UNIT_LIMIT: u32 = 16_384;
-/// The octets of a value before its fragment.
-const VALUE_HEADER: u32 = 6;
+const PDU_LIMIT: u32 = 16_384;
+/// The octets of a PDV before its fragment.
+const PDV_HEADER: u32 = 6;
 
 /// Writes an element of group 0000.
 fn put_element(out: &mut Vec<u8>, number: u16, value: &[u8]) -> Result<(), AllocError>
@@ -95,38 +96,11 @@ fn fragment_size(limit: u32) -> usize
     ensures short { result ≤ 16378 }
 {
     let limit = if limit == 0 {
-        UNIT_LIMIT
+        PDU_LIMIT
     } else {
-        limit.min(UNIT_LIMIT)
+        limit.min(PDU_LIMIT)
     };
-    ((limit - VALUE_HEADER) / 2 * 2) as usize
-}
-
-/// The control header of a value (PS3.8 annex E.2).
-fn control_header(command: bool, last: bool) -> u8
-    ensures { result ≡ control_header command last }
-{
-    u8::from(command) + 2 * u8::from(last)
-}
-
-/// Writes a fragment as a PDU of one value.
-fn put_pdu(
-    out: &mut Vec<u8>,
-    context: u8,
-    command: bool,
-    last: bool,
-    fragment: &[u8],
-) -> Result<(), AllocError>
-    requires { length fragment.now ≤ 16378 }
-    ensures { OnOk result (out.new.items ≡ out.old.items ++ spelling (pdu_of context command last fragment.now)) }
-{
-    let length = fragment.len() as u32;
-    out.extend_from_slice(&[P_DATA, 0])?;
-    out.extend_from_slice(&(length + 6).to_be_bytes())?;
-    out.extend_from_slice(&(length + 2).to_be_bytes())?;
-    out.extend_from_slice(&[context, control_header(command, last)])?;
-    out.extend_from_slice(fragment)?;
-    Ok(())
+    ((limit - PDV_HEADER) / 2 * 2) as usize
 }
 
 /// Writes octets, cut into PDUs of fragments of a size.
@@ -139,15 +113,16 @@ fn put_fragments(
 ) -> Result<(), AllocError>
     requires some { 0 < size }
     requires short { size ≤ 16378 }
-    ensures { OnOk result (out.new.items ≡ out.old.items ++ cut_within context command size octets.now) }
+    ensures { OnOk result (out.new.items
+        ≡ out.old.items ++ cut_within context command size octets.now) }
 {
     let mut rest = octets;
     while rest.len() > size {
         let (fragment, others) = rest.split_at(size);
-        put_pdu(out, context, command, false, fragment)?;
+        append_p_data(out, context, command, false, fragment)?;
         rest = others;
     }
-    put_pdu(out, context, command, true, rest)
+    append_p_data(out, context, command, true, rest)
 }
 
 /// Writes octets, cut into PDUs for a peer's limit.
@@ -159,7 +134,8 @@ fn put_cut(
     octets: &[u8],
 ) -> Result<(), AllocError>
     requires { (limit ≡ 0) ⊎ (8 ≤ limit) }
-    ensures { OnOk result (out.new.items ≡ out.old.items ++ cut context command limit octets.now) }
+    ensures { OnOk result (out.new.items
+        ≡ out.old.items ++ cut context command limit octets.now) }
 {
     put_fragments(out, context, command, fragment_size(limit), octets)
 }
@@ -172,7 +148,8 @@ fn put_data(
     octets: Option<&[u8]>,
 ) -> Result<(), AllocError>
     requires { (limit ≡ 0) ⊎ (8 ≤ limit) }
-    ensures { OnOk result (out.new.items ≡ out.old.items ++ data_cut context limit (option_map (λ o. o.now) octets.entry)) }
+    ensures { OnOk result (out.new.items
+        ≡ out.old.items ++ data_cut context limit (option_map (λ o. o.now) octets.entry)) }
 {
     match octets {
         None => Ok(()),
@@ -180,8 +157,8 @@ fn put_data(
     }
 }
 
-/// The octets that send a response on a context: its command set and then its data set, cut into PDUs of at most
-/// the peer's limit, where 0 is no limit (PS3.8 annex E).
+/// The octets that send a response on a context: its command set and then its data set, cut into
+/// PDUs of at most the peer's limit, where 0 is no limit (PS3.8 annex E).
 pub fn write_message(
     alloc: Global,
     context: u8,
@@ -191,7 +168,8 @@ pub fn write_message(
 ) -> Result<Vec<u8>, AllocError>
     requires with_data { IsTrue command.now.with_data ↔ IsSome octets }
     requires limit { (limit ≡ 0) ⊎ (8 ≤ limit) }
-    ensures { IfOk result (λ written. written.items ≡ sent context command.now (option_map (λ o. o.now) octets.entry) limit) }
+    ensures { IfOk result (λ written. written.items
+        ≡ sent context command.now (option_map (λ o. o.now) octets.entry) limit) }
 {
     let set = command_set(alloc, command)?;
     let mut written = Vec::new(alloc);

@@ -128,10 +128,6 @@ fn bad_command_sets(rt: HostRuntime) -> Result<(), Fail> {
         "a response"
     );
     assert!(rt;
-        is_bad(alloc, &changed(ECHO_REQUEST, 66, 0x02)),
-        "a data set follows"
-    );
-    assert!(rt;
         is_bad(alloc, &changed(ECHO_REQUEST, 12, 0x08)),
         "another group before"
     );
@@ -208,6 +204,82 @@ fn a_group_length_of_another_group(rt: HostRuntime) -> Result<(), Fail> {
     octets.extend_from_slice(b"\x09\x00\x00\x00\x04\x00\x00\x00\x00\x00\x00\x00")?;
     let message = taken(alloc, &octets)?.ok_or("the request is whole")?;
     assert!(rt; is_echo(&message));
+    Ok(())
+}
+
+/// An assembler that was given a request with a data set to follow, of a Command Field.
+fn begun(alloc: Global, code: u8) -> Result<Assembler, Fail> {
+    let mut assembler = Assembler::new(alloc, listed(alloc, &[1, 3])?);
+    let set = changed(changed(ECHO_REQUEST, 46, code), 66, 0x00);
+    let message = assembler.take(&fragment(alloc, &set, true)?)?;
+    if message.is_some() {
+        return Err("the data set is still to come".into());
+    }
+    Ok(assembler)
+}
+
+fn data(octets: Vec<u8>, last: bool) -> Pdv {
+    Pdv {
+        context: 1,
+        command: false,
+        last,
+        octets: Listed::from_inner(octets),
+    }
+}
+
+#[test]
+fn a_request_with_a_data_set(rt: HostRuntime) -> Result<(), Fail> {
+    let alloc = rt.alloc();
+    let mut assembler = begun(alloc, 0x20)?;
+    let first = data(Vec::from_slice(alloc, b"\x08\x00\x05\x00")?, false);
+    assert!(rt; assembler.take(&first)?.is_none());
+    let second = data(Vec::from_slice(alloc, b"\x00\x00\x00\x00")?, true);
+    let message = assembler.take(&second)?.ok_or("the message is whole")?;
+    assert_eq!(rt; message.command.code, 0x0020);
+    assert!(rt; message.command.with_data && !message.over);
+    assert!(rt; message.octets.as_slice() == b"\x08\x00\x05\x00\x00\x00\x00\x00".as_slice());
+    let next = assembler.take(&fragment(alloc, &ECHO_REQUEST, true)?)?;
+    assert!(rt; is_echo(&next.ok_or("the request is whole")?));
+    Ok(())
+}
+
+/// A message whose data set has so many octets, in fragments.
+fn with_data_of(alloc: Global, code: u8, length: usize) -> Result<Message, Fail> {
+    let mut assembler = begun(alloc, code)?;
+    let fragment = data(vec![in alloc; 0; 0x1_0000]?, false);
+    for _ in 0..length / 0x1_0000 {
+        if assembler.take(&fragment)?.is_some() {
+            return Err("the data set is still to come".into());
+        }
+    }
+    let last = data(vec![in alloc; 0; length % 0x1_0000]?, true);
+    let message = assembler.take(&last)?.ok_or("the message is whole")?;
+    Ok(message)
+}
+
+/// A C-FIND's data set may have 1,048,576 octets, and a C-STORE's 67,108,864.
+#[test]
+fn data_sets_at_their_limits(rt: HostRuntime) -> Result<(), Fail> {
+    let alloc = rt.alloc();
+    for (code, limit) in [(0x20, 0x10_0000), (0x01, 0x400_0000)] {
+        assert!(rt; !with_data_of(alloc, code, limit - 2)?.over);
+        let at = with_data_of(alloc, code, limit)?;
+        assert!(rt; !at.over && at.octets.len() == limit);
+        let above = with_data_of(alloc, code, limit + 2)?;
+        assert!(rt; above.over && above.octets.is_empty());
+    }
+    Ok(())
+}
+
+#[test]
+fn the_numbers_of_faults(rt: HostRuntime) -> Result<(), Fail> {
+    let faults = [
+        DimseFault::WrongContext,
+        DimseFault::WrongKind,
+        DimseFault::BadCommand,
+        DimseFault::NoMemory,
+    ];
+    assert_eq!(rt; faults.map(|fault| fault as u8), [1, 2, 3, 4]);
     Ok(())
 }
 

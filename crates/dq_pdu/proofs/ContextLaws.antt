@@ -1,20 +1,19 @@
 -- Presentation contexts and user information: what is read is spelled so, and what is spelled so is read.
-use Rattle.std.proofs.Common.{◌≡◌, ◌≢◌, ℕ, ◌%◌, Bool, true, false, eqb, leb, List, [], ◌∷◌, ◌++◌, length, map, Option, Some, None, refl, sym, ap, subst, ◌∙◌, arith}
+use Rattle.std.proofs.Common.{◌≡◌, ◌≢◌, ℕ, ◌%◌, true, eqb, leb, List, [], ◌∷◌, ◌++◌, length, map, Option, Some, None, refl, sym, ap, subst, ◌∙◌, arith}
 use Rattle.std.specs.Prelude.{◌&&◌, not, option_map}
 use Rattle.std.specs.Int.{w32, from_be_bytes}
 use Rattle.std.proofs.lemmas.Bool.{le-leb, eqb-true, eq-eqb, and_parts}
 use Rattle.dq_pdu.specs.declared.reading.Item.{Item}
 use Rattle.dq_pdu.specs.declared.pdu.ProposedContext.{ProposedContext}
-use Rattle.dq_pdu.specs.Octets.{◌>>=◌, Pairwise, parts_of, each, bodies, at_most_one, exactly_one, is_empty, unpadded}
-use Rattle.dq_pdu.specs.Spelling.{IsProposed, IsMaximumLength, IsUserInformation}
-use Rattle.dq_pdu.specs.Reading.{provided, item_at, proposed_of, maximum_in, user_information_of}
-use Rattle.dq_pdu.proofs.PartLaws.{bind_some, some_is}
+use Rattle.dq_pdu.specs.declared.pdu.AnsweredContext.{AnsweredContext}
+use Rattle.dq_list.specs.Lengths.{is_empty}
+use Rattle.dq_list.specs.Readers.{◌>>=◌, provided}
+use Rattle.dq_list.proofs.Readers.{bind_some, provided_some}
+use Rattle.dq_pdu.specs.Octets.{Pairwise, parts_of, each, bodies, at_most_one, exactly_one, unpadded}
+use Rattle.dq_pdu.specs.Spelling.{IsProposed, IsAnswered, IsMaximumLength, IsUserInformation}
+use Rattle.dq_pdu.specs.Reading.{item_at, proposed_of, answered_of, maximum_in, user_information_of}
+use Rattle.dq_pdu.proofs.PartLaws.{some_is}
 use Rattle.dq_pdu.proofs.ItemLaws.{items_fill, items_read}
-
--- a test that held
-pub provided_some : {A : Type 0} (b : Bool) (x y : A) → provided b x ≡ Some y → (b ≡ true) × (x ≡ y)
-provided_some true x y e = (refl, cc)
-provided_some false x y e = absurd cc
 
 -- ---- lists
 
@@ -52,7 +51,8 @@ proposed_spelled (i ∷ a ∷ b ∷ []) context e = absurd cc
 proposed_spelled (i ∷ a ∷ b ∷ c ∷ rest) context e =
     let test = λ (items : List Item). eqb (i % 2) 1 && not (is_empty (bodies 64 items)) in
     let last = λ (items : List Item) (abstract : List ℕ). provided (test items) (made i abstract (bodies 64 items)) in
-    let s1 = bind_some (provided (leb 4 (length (i ∷ a ∷ b ∷ c ∷ rest))) rest) (λ r. parts_of item_at r >>= λ items. exactly_one (bodies 48 items) >>= λ abstract. last items abstract) context e in
+    let s1 = bind_some (provided (leb 4 (length (i ∷ a ∷ b ∷ c ∷ rest))) rest) (λ r. parts_of item_at r >>= λ items. exactly_one
+    (bodies 48 items) >>= λ abstract. last items abstract) context e in
     let p1 = provided_some (leb 4 (length (i ∷ a ∷ b ∷ c ∷ rest))) rest s1.0 s1.1 in
     let s2 = bind_some (parts_of item_at s1.0) (λ items. exactly_one (bodies 48 items) >>= λ abstract. last items abstract) context s1.2 in
     let s3 = bind_some (exactly_one (bodies 48 s2.0)) (last s2.0) context s2.2 in
@@ -72,7 +72,8 @@ proposed_spelled (i ∷ a ∷ b ∷ c ∷ rest) context e =
       some = nil_map (bodies 64 s2.0) (not_nil (bodies 64 s2.0) t.1);
     })
 
-proposed_at : (i : ℕ) (reserved rest : List ℕ) (items : List Item) (abstract : List ℕ) → length reserved ≡ 3 → i % 2 ≡ 1 → parts_of item_at rest ≡ Some items → exactly_one (bodies 48 items) ≡ Some abstract → not (is_empty (bodies 64 items)) ≡ true
+proposed_at : (i : ℕ) (reserved rest : List ℕ) (items : List Item) (abstract : List ℕ) → length reserved ≡ 3 → i % 2 ≡ 1
+    → parts_of item_at rest ≡ Some items → exactly_one (bodies 48 items) ≡ Some abstract → not (is_empty (bodies 64 items)) ≡ true
     → proposed_of (i ∷ reserved ++ rest) ≡ Some (made i abstract (bodies 64 items))
 unfolding proposed_of
 proposed_at i [] rest items abstract three odd e1 e2 e3 = absurd (omega arith)
@@ -88,30 +89,81 @@ pub proposed_read : (context : ProposedContext) (body : List ℕ) → IsProposed
 proposed_read context body is =
     let abstract = only (exactly_one (bodies 48 is.items)) context.abstract_syntax is.abstract in
     let some : bodies 64 is.items ≢ [] = map_nil (bodies 64 is.items) (subst (λ (xs : List (List ℕ)). xs ≢ []) is.transfer is.some) in
-    let read = proposed_at context.id is.reserved is.rest is.items abstract.0 is.three is.odd (items_read is.items is.rest is.fills) abstract.1 (filled (bodies 64 is.items) some) in
+    let read = proposed_at context.id is.reserved is.rest is.items abstract.0 is.three is.odd (items_read is.items is.rest is.fills) abstract.1 (filled
+    (bodies 64 is.items) some) in
     ap proposed_of is.spelled ∙ read ∙ rw (abstract.2, ← is.transfer) refl
 
--- ---- the contexts of a request
+-- ---- answered contexts
 
-pub contexts_spelled : (octets : List (List ℕ)) (contexts : List ProposedContext) → each proposed_of octets ≡ Some contexts → Pairwise IsProposed contexts octets
-contexts_spelled [] contexts e = subst (λ cs. Pairwise IsProposed cs []) (some_is [] contexts e) tt
-contexts_spelled (body ∷ octets) contexts e =
-    let a = bind_some (proposed_of body) (λ first. each proposed_of octets >>= λ others. Some (first ∷ others)) contexts e in
-    let b = bind_some (each proposed_of octets) (λ others. Some (a.0 ∷ others)) contexts a.2 in
-    subst (λ cs. Pairwise IsProposed cs (body ∷ octets)) (some_is (a.0 ∷ b.0) contexts b.2) (proposed_spelled body a.0 a.1, contexts_spelled octets b.0 b.1)
+abbrev answer : ℕ → ℕ → List ℕ → AnsweredContext
+answer id result transfer = record { id = id; result = result; transfer_syntax = unpadded transfer }
 
-pub contexts_read : (contexts : List ProposedContext) (octets : List (List ℕ)) → Pairwise IsProposed contexts octets → each proposed_of octets ≡ Some contexts
-contexts_read [] [] h = refl
-contexts_read [] (body ∷ octets) h = absurd h
-contexts_read (context ∷ contexts) [] h = absurd h
-contexts_read (context ∷ contexts) (body ∷ octets) h =
-    let e1 = proposed_read context body h.0 in
-    let e2 = contexts_read contexts octets h.1 in
+pub answered_spelled : (body : List ℕ) (context : AnsweredContext) → answered_of body ≡ Some context → IsAnswered context body
+unfolding answered_of
+answered_spelled [] context e = absurd cc
+answered_spelled (i ∷ []) context e = absurd cc
+answered_spelled (i ∷ a ∷ []) context e = absurd cc
+answered_spelled (i ∷ a ∷ b ∷ []) context e = absurd cc
+answered_spelled (i ∷ a ∷ b ∷ c ∷ rest) context e =
+    let body = i ∷ a ∷ b ∷ c ∷ rest in
+    let last = λ (transfer : List ℕ). provided (eqb (i % 2) 1) (answer i b transfer) in
+    let s1 = bind_some (provided (leb 4 (length body)) rest) (λ r. parts_of item_at r >>= λ items. exactly_one
+    (bodies 64 items) >>= λ transfer. last transfer) context e in
+    let p1 = provided_some (leb 4 (length body)) rest s1.0 s1.1 in
+    let s2 = bind_some (parts_of item_at s1.0) (λ items. exactly_one (bodies 64 items) >>= λ transfer. last transfer) context s1.2 in
+    let s3 = bind_some (exactly_one (bodies 64 s2.0)) last context s2.2 in
+    let p3 = provided_some (eqb (i % 2) 1) (answer i b s3.0) context s3.2 in
+    let read : parts_of item_at rest ≡ Some s2.0 = ap (parts_of item_at) p1.1 ∙ s2.1 in
+    subst (λ (d : AnsweredContext). IsAnswered d (i ∷ a ∷ b ∷ c ∷ rest)) p3.1 (record {
+      before = a;
+      behind = c;
+      rest = rest;
+      items = s2.0;
+      spelled = refl;
+      odd = eqb-true _ _ p3.0;
+      fills = items_fill rest s2.0 read;
+      transfer = ap (option_map unpadded) s3.1;
+    })
+
+answered_at : (i before result behind : ℕ) (rest : List ℕ) (items : List Item) (name : List ℕ) → i % 2 ≡ 1 → parts_of item_at rest ≡ Some items
+    → exactly_one (bodies 64 items) ≡ Some name
+    → answered_of (i ∷ before ∷ result ∷ behind ∷ rest) ≡ Some (answer i result name)
+unfolding answered_of
+answered_at i before result behind rest items name odd e1 e2 =
+    let four : leb 4 (length (i ∷ before ∷ result ∷ behind ∷ rest)) ≡ true = le-leb _ _ (omega arith) in
+    let one = eq-eqb (i % 2) 1 odd in
+    rw (four, e1, e2, one) refl
+
+pub answered_read : (context : AnsweredContext) (body : List ℕ) → IsAnswered context body → answered_of body ≡ Some context
+answered_read context body is =
+    let name = only (exactly_one (bodies 64 is.items)) context.transfer_syntax is.transfer in
+    ap answered_of is.spelled ∙ answered_at context.id is.before context.result is.behind is.rest is.items name.0 is.odd
+    (items_read is.items is.rest is.fills) name.1 ∙ rw name.2 refl
+
+-- ---- contexts, one by one
+
+pub each_spelled : {A : Type 0} (f : List ℕ → Option A) (Is : A → List ℕ → Type 0) → ((body : List ℕ) (x : A) → f body ≡ Some x → Is x body)
+    → (octets : List (List ℕ)) (xs : List A) → each f octets ≡ Some xs → Pairwise Is xs octets
+each_spelled f Is sound [] xs e = subst (λ ys. Pairwise Is ys []) (some_is [] xs e) tt
+each_spelled {A} f Is sound (body ∷ octets) xs e =
+    let a = bind_some (f body) (λ first. each f octets >>= λ others. Some (first ∷ others)) xs e in
+    let b = bind_some (each f octets) (λ others. Some (a.0 ∷ others)) xs a.2 in
+    subst (λ (ys : List A). Pairwise Is ys (body ∷ octets)) (some_is (a.0 ∷ b.0) xs b.2) (sound body a.0 a.1, each_spelled f Is sound octets b.0 b.1)
+
+pub each_read : {A : Type 0} (f : List ℕ → Option A) (Is : A → List ℕ → Type 0) → ((x : A) (body : List ℕ) → Is x body → f body ≡ Some x)
+    → (xs : List A) (octets : List (List ℕ)) → Pairwise Is xs octets → each f octets ≡ Some xs
+each_read f Is complete [] [] h = refl
+each_read f Is complete [] (body ∷ octets) h = absurd h
+each_read f Is complete (x ∷ xs) [] h = absurd h
+each_read f Is complete (x ∷ xs) (body ∷ octets) h =
+    let e1 = complete x body h.0 in
+    let e2 = each_read f Is complete xs octets h.1 in
     rw (e1, e2) refl
 
 -- ---- user information
 
-maximum_spelled : (found : List (List ℕ)) (o : Option (List ℕ)) (maximum : Option ℕ) → at_most_one found ≡ Some o → maximum_in o ≡ Some maximum → IsMaximumLength maximum found
+maximum_spelled : (found : List (List ℕ)) (o : Option (List ℕ)) (maximum : Option ℕ) → at_most_one found ≡ Some o → maximum_in o ≡ Some maximum
+    → IsMaximumLength maximum found
 maximum_spelled [] o maximum e f = sym (some_is None maximum (ap maximum_in (some_is None o e) ∙ f))
 maximum_spelled (body ∷ []) o maximum e f =
     let p = provided_some (eqb (length body) 4) (Some (from_be_bytes w32 body)) maximum (ap maximum_in (some_is (Some body) o e) ∙ f) in
@@ -125,18 +177,22 @@ maximum_read (body ∷ []) maximum h =
     rw (four, h.2.value, h.1) refl
 maximum_read (a ∷ b ∷ bs) maximum h = absurd h
 
-pub user_spelled : (found : List (List ℕ)) (o : Option (List ℕ)) (maximum : Option ℕ) → at_most_one found ≡ Some o → user_information_of o ≡ Some maximum → IsUserInformation maximum found
+pub user_spelled : (found : List (List ℕ)) (o : Option (List ℕ)) (maximum : Option ℕ) → at_most_one found ≡ Some o → user_information_of o ≡ Some maximum
+    → IsUserInformation maximum found
 unfolding user_information_of
 user_spelled [] o maximum e f = sym (some_is None maximum (ap user_information_of (some_is None o e) ∙ f))
 user_spelled (body ∷ []) o maximum e f =
-    let a = bind_some (parts_of item_at body) (λ items. at_most_one (bodies 81 items) >>= λ found. maximum_in found) maximum (ap user_information_of (some_is (Some body) o e) ∙ f) in
+    let a = bind_some (parts_of item_at body) (λ items. at_most_one (bodies 81 items) >>= λ found. maximum_in found) maximum (ap user_information_of
+    (some_is (Some body) o e) ∙ f) in
     let b = bind_some (at_most_one (bodies 81 a.0)) maximum_in maximum a.2 in
     (a.0, items_fill body a.0 a.1, maximum_spelled (bodies 81 a.0) b.0 maximum b.1 b.2)
 user_spelled (a ∷ b ∷ bs) o maximum e f = absurd cc
 
-pub user_read : (found : List (List ℕ)) (maximum : Option ℕ) → IsUserInformation maximum found → (at_most_one found >>= λ o. user_information_of o) ≡ Some maximum
+pub user_read : (found : List (List ℕ)) (maximum : Option ℕ) → IsUserInformation maximum found
+    → (at_most_one found >>= λ o. user_information_of o) ≡ Some maximum
 unfolding user_information_of
 user_read [] maximum h = ap (λ m. Some m) (sym h)
 user_read (body ∷ []) maximum h =
-    ap (λ (r : Option (List Item)). r >>= λ items. at_most_one (bodies 81 items) >>= λ found. maximum_in found) (items_read h.0 body h.1) ∙ maximum_read (bodies 81 h.0) maximum h.2
+    ap (λ (r : Option (List Item)). r >>= λ items. at_most_one (bodies 81 items) >>= λ found. maximum_in found) (items_read h.0 body h.1) ∙ maximum_read
+    (bodies 81 h.0) maximum h.2
 user_read (a ∷ b ∷ bs) maximum h = absurd h

@@ -13,7 +13,8 @@ use Rattle.dq_pdu.specs.Stream.{fault_of}
 
 -- the choice after the six octets
 abbrev chosen : Bool → Bool → Bool → Option Pdu → ℕ → Front
-chosen unknown long short one_pdu count = cond unknown (Faulty Unrecognized) (cond long (Faulty TooLong) (cond short Partial (whole_or_malformed one_pdu count)))
+chosen unknown long short one_pdu count = cond unknown (Faulty Unrecognized) (cond long (Faulty TooLong) (cond short Partial
+    (whole_or_malformed one_pdu count)))
 
 abbrev chosen_fault : Bool → Bool → Bool → Option PduFault
 chosen_fault unknown long short = cond unknown (Some Unrecognized) (cond long (Some TooLong) (cond short None (Some Malformed)))
@@ -107,7 +108,8 @@ pub fault_of-faulty : (s : List ℕ) (fault : PduFault) → front s ≡ Faulty f
 fault_of-faulty s fault e =
     elim (cases_lt (length s) 6) [
       | inl few ↦ absurd (let p = sym (front-few s few) ∙ e in cc)
-      | inr six ↦ rw (le-ltb (length s) 6 six) (faulty_fault (unknown s) (long s) (short s) (one_pdu s) (body_length s + 6) fault (sym (front-enough s six) ∙ e))
+      | inr six ↦ rw (le-ltb (length s) 6 six) (faulty_fault (unknown s) (long s) (short s) (one_pdu s) (body_length s + 6) fault (sym (front-enough s six)
+          ∙ e))
     ]
 
 pub fault_of-partial : (s : List ℕ) → front s ≡ Partial → fault_of s ≡ None
@@ -120,7 +122,8 @@ fault_of-partial s e =
 -- ---- octets that go on
 
 -- where it was not short, a longer one is not short either and reads the same
-chosen_stays : (u l t t' : Bool) (read read' : Option Pdu) (n : ℕ) (f : Front) → (t ≡ false → (t' ≡ false) × (read' ≡ read)) → (f ≡ Partial → ⊥) → chosen u l t read n ≡ f → chosen u l t' read' n ≡ f
+chosen_stays : (u l t t' : Bool) (read read' : Option Pdu) (n : ℕ) (f : Front) → (t ≡ false → (t' ≡ false) × (read' ≡ read)) → (f ≡ Partial → ⊥)
+    → chosen u l t read n ≡ f → chosen u l t' read' n ≡ f
 chosen_stays true l t t' read read' n f h whole e = e
 chosen_stays false true t t' read read' n f h whole e = e
 chosen_stays false false true t' read read' n f h whole e = absurd (whole (sym e))
@@ -134,10 +137,14 @@ front-append s t f whole e =
           let more : 6 ≤ length (s ++ t) = omega (arith, length-append s t) in
           let first : get_or (s ++ t) 0 0 ≡ get_or s 0 0 = get_or_append_left s t 0 0 (omega arith) in
           let behind : drop 6 (s ++ t) ≡ drop 6 s ++ t = drop-append-le 6 s t six in
-          let size : take 4 (drop 2 (s ++ t)) ≡ take 4 (drop 2 s) = ap (take 4) (drop-append-le 2 s t (omega arith)) ∙ take-append-le 4 (drop 2 s) t (omega (arith, length-drop 2 s)) in
+          let size : take 4 (drop 2 (s ++ t)) ≡ take 4 (drop 2 s) = ap (take 4) (drop-append-le 2 s t (omega arith)) ∙ take-append-le 4 (drop 2 s) t (omega
+          (arith, length-drop 2 s)) in
           let length-is : body_length (s ++ t) ≡ body_length s = ap (from_be_bytes w32) size in
-          let stays : short s ≡ false → (ltb (length (drop 6 s ++ t)) (body_length s) ≡ false) × (pdu_of (get_or s 0 0) (take (body_length s) (drop 6 s ++ t)) ≡ one_pdu s) = λ n.
+          let stays : short s ≡ false → (ltb (length (drop 6 s ++ t)) (body_length s) ≡ false) × (pdu_of (get_or s 0 0) (take (body_length s)
+          (drop 6 s ++ t)) ≡ one_pdu s) = λ n.
           let le : body_length s ≤ length (drop 6 s) = ltb-false _ _ n in
           (le-ltb _ _ (omega (arith, le, length-append (drop 6 s) t)), ap (pdu_of (get_or s 0 0)) (take-append-le (body_length s) (drop 6 s) t le)) in
-          front-enough (s ++ t) more ∙ rw (first, length-is, behind) (chosen_stays (unknown s) (long s) (short s) (ltb (length (drop 6 s ++ t)) (body_length s)) (one_pdu s) (pdu_of (get_or s 0 0) (take (body_length s) (drop 6 s ++ t))) (body_length s + 6) f stays whole (sym (front-enough s six) ∙ e))
+          front-enough (s ++ t) more ∙ rw (first, length-is, behind) (chosen_stays (unknown s) (long s) (short s) (ltb (length (drop 6 s ++ t))
+          (body_length s)) (one_pdu s) (pdu_of (get_or s 0 0) (take (body_length s) (drop 6 s ++ t))) (body_length s + 6) f stays whole (sym
+          (front-enough s six) ∙ e))
     ]

@@ -1,9 +1,17 @@
 -- What an inbox holds, and the stream that it stands for.
-use Rattle.std.proofs.Common.{◌≡◌, ℕ, List, ◌++◌, Option, Some, None, refl, ap, ◌∙◌}
+use Rattle.std.proofs.Common.{◌≡◌, ℕ, List, [], ◌∷◌, ◌++◌, length, Option, Some, None, refl, sym, ap, ◌∙◌, arith}
+use Rattle.std.proofs.lemmas.List.{append-nil}
 use Rattle.dq_pdu.specs.declared.fault.PduFault.{PduFault}
-use Rattle.dq_pdu.specs.declared.inbox.Held.TheVariants.{Reading, Stopped}
-use Rattle.dq_pdu.specs.Stream.{pdus_in, with_list, continued, held_at, holding}
-use Rattle.dq_pdu.proofs.PduLaws.{pdus_in-append}
+use Rattle.dq_pdu.specs.declared.reading.Front.{Front}
+use Rattle.dq_pdu.specs.declared.reading.Front.TheVariants.{Partial, Faulty, Whole}
+use Rattle.dq_pdu.specs.declared.inbox.Held.TheVariants.{Reading, Stopped, Spent}
+use Rattle.dq_pdu.specs.Reading.{front}
+use Rattle.dq_pdu.specs.Stream.{pdus_in, with_list, continued, fault_of}
+use Rattle.dq_pdu.specs.Holding.{held_at, holding, HoldsPart}
+use Rattle.dq_pdu.specs.Inboxes.{fault_in}
+use Rattle.dq_pdu.proofs.Fronts.{fault_of-faulty}
+use Rattle.dq_pdu.proofs.PduLaws.{pdus_partial, pdus_in-append}
+use Rattle.dq_pdu.proofs.StreamLaws.{HasNoFront, known}
 
 held_reading : (fault : Option PduFault) (rest held : List ℕ) → Reading held ≡ held_at fault rest → (fault ≡ None) × (rest ≡ held)
 held_reading None rest held e = (refl, cc)
@@ -13,11 +21,60 @@ held_stopped : (found : Option PduFault) (rest : List ℕ) (fault : PduFault) �
 held_stopped None rest fault e = absurd cc
 held_stopped (Some found) rest fault e = cc
 
-pub reading_on : (stream piece held : List ℕ) → Reading held ≡ holding stream → pdus_in (stream ++ piece) ≡ with_list (pdus_in stream).list (pdus_in (held ++ piece))
+pub reading_on : (stream piece held : List ℕ) → Reading held ≡ holding stream
+    → pdus_in (stream ++ piece) ≡ with_list (pdus_in stream).list (pdus_in (held ++ piece))
 reading_on stream piece held e =
     let h = held_reading (pdus_in stream).fault (pdus_in stream).rest held e in
-    pdus_in-append stream piece ∙ ap (λ f. continued f (pdus_in stream).list (pdus_in stream).rest piece) h.0 ∙ ap (λ (r : List ℕ). with_list (pdus_in stream).list (pdus_in (r ++ piece))) h.1
+    pdus_in-append stream piece ∙ ap (λ f. continued f (pdus_in stream).list (pdus_in stream).rest piece) h.0 ∙ ap (λ (r : List ℕ). with_list
+    (pdus_in stream).list (pdus_in (r ++ piece))) h.1
 
-pub stopped_on : (stream piece : List ℕ) (fault : PduFault) → Stopped fault ≡ holding stream → pdus_in (stream ++ piece) ≡ record { list = (pdus_in stream).list; rest = (pdus_in stream).rest ++ piece; fault = Some fault }
+pub stopped_on : (stream piece : List ℕ) (fault : PduFault) → Stopped fault ≡ holding stream
+    → pdus_in (stream ++ piece) ≡ record { list = (pdus_in stream).list; rest = (pdus_in stream).rest ++ piece; fault = Some fault }
 stopped_on stream piece fault e =
-    pdus_in-append stream piece ∙ ap (λ f. continued f (pdus_in stream).list (pdus_in stream).rest piece) (held_stopped (pdus_in stream).fault (pdus_in stream).rest fault e)
+    pdus_in-append stream piece ∙ ap (λ f. continued f (pdus_in stream).list (pdus_in stream).rest piece) (held_stopped (pdus_in stream).fault
+    (pdus_in stream).rest fault e)
+
+-- ---- no whole PDU is held
+
+part_by : (rest : List ℕ) (f : Front) → front rest ≡ f → HasNoFront rest → fault_of rest ≡ None → front rest ≡ Partial
+part_by rest Partial e ends fault = e
+part_by rest (Faulty found) e ends fault = absurd (let z = sym (fault_of-faulty rest found e) ∙ fault in cc)
+part_by rest (Whole pdu count) e ends fault = absurd (ends pdu count e)
+
+held_part : (fault : Option PduFault) (rest : List ℕ) → (fault ≡ None → front rest ≡ Partial) → HoldsPart (held_at fault rest)
+held_part None rest h = h refl
+held_part (Some fault) rest h = tt
+
+pub holding-part : (stream : List ℕ) → HoldsPart (holding stream)
+holding-part stream =
+    let k = known stream in
+    held_part (pdus_in stream).fault (pdus_in stream).rest (λ e. part_by (pdus_in stream).rest (front (pdus_in stream).rest) refl k.ends (sym k.fault ∙ e))
+
+-- ---- no octets
+
+pub none_by_length : (octets : List ℕ) → length octets ≡ 0 → octets ≡ []
+none_by_length [] h = refl
+none_by_length (octet ∷ octets) h = absurd (omega arith)
+
+pub reading_is : (held rest : List ℕ) → Reading held ≡ Reading rest → held ≡ rest
+reading_is held rest e = cc
+
+-- what was held stays, since it has no PDU
+pub idle_exact : (held piece : List ℕ) → piece ≡ [] → front held ≡ Partial → pdus_in (held ++ piece) ≡ record { list = []; rest = held; fault = None }
+idle_exact held piece none part = ap (λ (p : List ℕ). pdus_in (held ++ p)) none ∙ ap (λ (s : List ℕ). pdus_in s) (append-nil held) ∙ pdus_partial held part
+
+-- ---- laws
+
+fault_held_at : (fault : Option PduFault) (rest : List ℕ) → fault_in (held_at fault rest) ≡ fault
+fault_held_at None rest = refl
+fault_held_at (Some fault) rest = refl
+
+not_spent_at : (fault : Option PduFault) (rest : List ℕ) → Spent ≡ held_at fault rest → ⊥
+not_spent_at None rest e = cc
+not_spent_at (Some fault) rest e = cc
+
+pub not_spent : (stream : List ℕ) → Spent ≡ holding stream → ⊥
+not_spent stream e = not_spent_at (pdus_in stream).fault (pdus_in stream).rest e
+
+pub fault_held : (stream : List ℕ) → fault_in (holding stream) ≡ (pdus_in stream).fault
+fault_held stream = fault_held_at (pdus_in stream).fault (pdus_in stream).rest

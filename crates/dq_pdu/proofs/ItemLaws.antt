@@ -37,7 +37,8 @@ item_spelled (a ∷ b ∷ c ∷ d ∷ rest) x e =
 pub item_sound : Sound IsItem item_at
 item_sound octets item behind e = item_spelled octets (item, behind) e
 
-item_read : (kind b : ℕ) (size octets behind : List ℕ) → length size ≡ 2 → from_be_bytes w16 size ≡ length octets → item_at (kind ∷ b ∷ (size ++ octets) ++ behind) ≡ Some (record { kind = kind; octets = octets }, behind)
+item_read : (kind b : ℕ) (size octets behind : List ℕ) → length size ≡ 2 → from_be_bytes w16 size ≡ length octets
+    → item_at (kind ∷ b ∷ (size ++ octets) ++ behind) ≡ Some (record { kind = kind; octets = octets }, behind)
 unfolding item_at
 item_read kind b [] octets behind two n = absurd (omega arith)
 item_read kind b (c ∷ []) octets behind two n = absurd (omega arith)
@@ -93,7 +94,8 @@ pdv_spelled (a ∷ b ∷ c ∷ d ∷ f ∷ h ∷ rest) x e =
 pub pdv_sound : Sound IsPdv pdv_at
 pdv_sound octets value behind e = pdv_spelled octets (value, behind) e
 
-pdv_read : (context control : ℕ) (size octets behind : List ℕ) → length size ≡ 4 → from_be_bytes w32 size ≡ length octets + 2 → pdv_at ((size ++ context ∷ control ∷ octets) ++ behind) ≡ Some (value_of context control octets, behind)
+pdv_read : (context control : ℕ) (size octets behind : List ℕ) → length size ≡ 4 → from_be_bytes w32 size ≡ length octets + 2
+    → pdv_at ((size ++ context ∷ control ∷ octets) ++ behind) ≡ Some (value_of context control octets, behind)
 unfolding pdv_at
 pdv_read context control [] octets behind four n = absurd (omega arith)
 pdv_read context control (a ∷ []) octets behind four n = absurd (omega arith)

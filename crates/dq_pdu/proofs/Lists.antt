@@ -4,7 +4,8 @@ use Rattle.std.specs.List.{flat_map}
 use Rattle.std.proofs.lemmas.Bool.{ne_eqb, eqb-true, and_right}
 use Rattle.std.proofs.lemmas.List.{take_more, take_all}
 use Rattle.std.specs.Prelude.{not, ◌==◌}
-use Rattle.dq_pdu.specs.Octets.{is_padding, is_empty, unpadded}
+use Rattle.dq_list.specs.Lengths.{is_empty}
+use Rattle.dq_pdu.specs.Octets.{is_padding, unpadded}
 use Rattle.dq_pdu.specs.Writing.{is_bare}
 
 -- the last octet decides
@@ -25,7 +26,8 @@ piece_le f [] i d h = absurd (omega arith)
 piece_le f (x ∷ xs) zero d h = omega (arith, length-append (f x) (flat_map f xs))
 piece_le f (x ∷ xs) (suc i) d h = omega (arith, length-append (f x) (flat_map f xs), piece_le f xs i d (omega arith))
 
-pub piece_fits : {X : Type 0} (f : X → List ℕ) (xs : List X) (i : ℕ) (d : X) (n : ℕ) → length (flat_map f xs) ≤ n → i < length xs → length (f (get_or xs i d)) ≤ n
+pub piece_fits : {X : Type 0} (f : X → List ℕ) (xs : List X) (i : ℕ) (d : X) (n : ℕ) → length (flat_map f xs) ≤ n → i < length xs
+    → length (f (get_or xs i d)) ≤ n
 piece_fits f xs i d n le h = omega (arith, piece_le f xs i d h)
 
 -- ---- padding at the end
@@ -51,7 +53,8 @@ front_last xs n d h =
     sym (take_all (n + 1) xs (omega arith)) ∙ e
 
 -- one octet at the end of octets, and those before it
-pub unpadded_less : (octets : List ℕ) (n : ℕ) (d : ℕ) → length octets ≡ n + 1 → is_padding (get_or octets n d) ≡ true → unpadded (take n octets) ≡ unpadded octets
+pub unpadded_less : (octets : List ℕ) (n : ℕ) (d : ℕ) → length octets ≡ n + 1 → is_padding (get_or octets n d) ≡ true
+    → unpadded (take n octets) ≡ unpadded octets
 unpadded_less octets n d h p =
     sym (unpadded-padding (take n octets) (get_or octets n d) p) ∙ ap unpadded (sym (front_last octets n d h))
 

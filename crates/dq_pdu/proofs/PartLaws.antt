@@ -1,23 +1,22 @@
 -- Parts that fill octets: what is read fills them, and what fills them is read.
-use Rattle.std.proofs.Common.{◌≡◌, ℕ, zero, suc, ◌<◌, List, [], ◌∷◌, ◌++◌, length, Option, Some, None, refl, sym, ap, subst, ◌∙◌, arith, length-append}
-use Rattle.dq_pdu.specs.Octets.{◌>>=◌, Fills, parts, parts_of}
+use Rattle.std.proofs.Common.{◌≡◌, ℕ, zero, suc, ◌<◌, List, [], ◌∷◌, ◌++◌, length, Option, Some, refl, sym, ap, subst, ◌∙◌, arith, length-append}
+use Rattle.dq_list.specs.Readers.{◌>>=◌}
+use Rattle.dq_list.proofs.Readers.{bind_some}
+use Rattle.dq_pdu.specs.Octets.{Fills, parts, parts_of}
 use Rattle.dq_pdu.proofs.Filling.{Shrinks, parts_step}
-
--- the value of a step that did not fail
-pub bind_some : {A B : Type 0} (o : Option A) (f : A → Option B) (y : B) → (o >>= f) ≡ Some y → (x : A) × (o ≡ Some x) × (f x ≡ Some y)
-bind_some None f y e = absurd cc
-bind_some (Some x) f y e = (x, refl, e)
 
 pub some_is : {A : Type 0} (x y : A) → Some x ≡ Some y → x ≡ y
 some_is x y e = cc
 
 abbrev pub Sound : {A : Type 0} → (A → List ℕ → Type 0) → (List ℕ → Option (A × List ℕ)) → Type 0
-Sound {A} Part part = (octets : List ℕ) (x : A) (behind : List ℕ) → part octets ≡ Some (x, behind) → (front : List ℕ) × (octets ≡ front ++ behind) × Part x front
+Sound {A} Part part = (octets : List ℕ) (x : A) (behind : List ℕ) → part octets ≡ Some (x, behind)
+    → (front : List ℕ) × (octets ≡ front ++ behind) × Part x front
 
 abbrev pub Complete : {A : Type 0} → (A → List ℕ → Type 0) → (List ℕ → Option (A × List ℕ)) → Type 0
 Complete {A} Part part = (x : A) (front behind : List ℕ) → Part x front → (0 < length front) × (part (front ++ behind) ≡ Some (x, behind))
 
-parts_fill : {A : Type 0} (Part : A → List ℕ → Type 0) (part : List ℕ → Option (A × List ℕ)) → Sound Part part → (fuel : ℕ) (octets : List ℕ) (xs : List A) → parts part fuel octets ≡ Some xs → Fills Part xs octets
+parts_fill : {A : Type 0} (Part : A → List ℕ → Type 0) (part : List ℕ → Option (A × List ℕ)) → Sound Part part → (fuel : ℕ) (octets : List ℕ) (xs : List A)
+    → parts part fuel octets ≡ Some xs → Fills Part xs octets
 unfolding parts
 parts_fill Part part sound fuel [] xs e = subst (λ ys. Fills Part ys []) (some_is [] xs e) refl
 parts_fill Part part sound zero (o ∷ os) xs e = absurd cc
@@ -28,10 +27,12 @@ parts_fill {A} Part part sound (suc fuel) (o ∷ os) xs e =
     let rest = parts_fill Part part sound fuel a.0.1 b.0 b.1 in
     subst (λ (ys : List A). Fills Part ys (o ∷ os)) (some_is (a.0.0 ∷ b.0) xs b.2) (s.0, a.0.1, s.1, s.2, rest)
 
-pub fills_from : {A : Type 0} (Part : A → List ℕ → Type 0) (part : List ℕ → Option (A × List ℕ)) → Sound Part part → (octets : List ℕ) (xs : List A) → parts_of part octets ≡ Some xs → Fills Part xs octets
+pub fills_from : {A : Type 0} (Part : A → List ℕ → Type 0) (part : List ℕ → Option (A × List ℕ)) → Sound Part part → (octets : List ℕ) (xs : List A)
+    → parts_of part octets ≡ Some xs → Fills Part xs octets
 fills_from Part part sound octets xs e = parts_fill Part part sound (length octets) octets xs e
 
-pub parts_from : {A : Type 0} (Part : A → List ℕ → Type 0) (part : List ℕ → Option (A × List ℕ)) → Shrinks part → Complete Part part → (xs : List A) (octets : List ℕ) → Fills Part xs octets → parts_of part octets ≡ Some xs
+pub parts_from : {A : Type 0} (Part : A → List ℕ → Type 0) (part : List ℕ → Option (A × List ℕ)) → Shrinks part → Complete Part part
+    → (xs : List A) (octets : List ℕ) → Fills Part xs octets → parts_of part octets ≡ Some xs
 unfolding parts
 parts_from Part part shrinks complete [] octets e = rw e refl
 parts_from Part part shrinks complete (x ∷ xs) octets fills =
@@ -41,6 +42,7 @@ parts_from Part part shrinks complete (x ∷ xs) octets fills =
     ap (parts_of part) fills.2 ∙ parts_step part shrinks (fills.0 ++ fills.1) (x, fills.1) long c.1 ∙ rw ih refl
 
 -- octets are filled by one list of parts alone
-pub fills_once : {A : Type 0} (Part : A → List ℕ → Type 0) (part : List ℕ → Option (A × List ℕ)) → Shrinks part → Complete Part part → (xs ys : List A) (octets : List ℕ) → Fills Part xs octets → Fills Part ys octets → xs ≡ ys
+pub fills_once : {A : Type 0} (Part : A → List ℕ → Type 0) (part : List ℕ → Option (A × List ℕ)) → Shrinks part → Complete Part part
+    → (xs ys : List A) (octets : List ℕ) → Fills Part xs octets → Fills Part ys octets → xs ≡ ys
 fills_once Part part shrinks complete xs ys octets f g =
     some_is xs ys (sym (parts_from Part part shrinks complete xs octets f) ∙ parts_from Part part shrinks complete ys octets g)

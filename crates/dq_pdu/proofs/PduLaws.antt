@@ -55,11 +55,13 @@ pdus_whole [] pdu count e = absurd (let p = sym front-nil ∙ e in cc)
 pdus_whole (o ∷ s) pdu count e =
     let w = count_within (o ∷ s) pdu count e in
     let le : length (drop count (o ∷ s)) ≤ length s = omega (arith, w.0, w.1, length-drop count (o ∷ s)) in
-    ap (λ f. pdus_from f (o ∷ s) (λ behind. pdus_within (length s) behind)) e ∙ ap (with_first pdu) (pdus_more (length s) (length (drop count (o ∷ s))) (drop count (o ∷ s)) le (omega arith))
+    ap (λ f. pdus_from f (o ∷ s) (λ behind. pdus_within (length s) behind)) e ∙ ap (with_first pdu) (pdus_more (length s) (length (drop count (o ∷ s)))
+    (drop count (o ∷ s)) le (omega arith))
 
 -- ---- a stream that goes on
 
-continued-first : (pdu : Pdu) (fault : Option PduFault) (list : List Pdu) (rest more : List ℕ) → with_first pdu (continued fault list rest more) ≡ continued fault (pdu ∷ list) rest more
+continued-first : (pdu : Pdu) (fault : Option PduFault) (list : List Pdu) (rest more : List ℕ)
+    → with_first pdu (continued fault list rest more) ≡ continued fault (pdu ∷ list) rest more
 continued-first pdu None list rest more = refl
 continued-first pdu (Some fault) list rest more = refl
 
@@ -93,17 +95,21 @@ pdus_in-append s t = append_within (length s + 1) s t (omega arith)
 with_list-push : (list : List Pdu) (pdu : Pdu) (others : Pdus) → with_list (list ++ pdu ∷ []) others ≡ with_list list (with_first pdu others)
 with_list-push list pdu others = ap (λ ps. record { list = ps; rest = others.rest; fault = others.fault }) (append_assoc list (pdu ∷ []) others.list)
 
-pub loop_goes_on : (list : List Pdu) (pdu : Pdu) (count : ℕ) (s : List ℕ) (total : Pdus) → front s ≡ Whole pdu count → with_list list (pdus_in s) ≡ total → with_list (list ++ pdu ∷ []) (pdus_in (drop count s)) ≡ total
+pub loop_goes_on : (list : List Pdu) (pdu : Pdu) (count : ℕ) (s : List ℕ) (total : Pdus) → front s ≡ Whole pdu count → with_list list (pdus_in s) ≡ total
+    → with_list (list ++ pdu ∷ []) (pdus_in (drop count s)) ≡ total
 loop_goes_on list pdu count s total e so_far = with_list-push list pdu (pdus_in (drop count s)) ∙ ap (with_list list) (sym (pdus_whole s pdu count e)) ∙ so_far
 
-pub loop_partial : (list : List Pdu) (s : List ℕ) (total : Pdus) → front s ≡ Partial → with_list list (pdus_in s) ≡ total → total ≡ record { list = list; rest = s; fault = None }
+pub loop_partial : (list : List Pdu) (s : List ℕ) (total : Pdus) → front s ≡ Partial → with_list list (pdus_in s) ≡ total
+    → total ≡ record { list = list; rest = s; fault = None }
 loop_partial list s total e so_far = sym so_far ∙ rw (pdus_partial s e, append-nil list) refl
 
-pub loop_faulty : (list : List Pdu) (s : List ℕ) (fault : PduFault) (total : Pdus) → front s ≡ Faulty fault → with_list list (pdus_in s) ≡ total → total ≡ record { list = list; rest = s; fault = Some fault }
+pub loop_faulty : (list : List Pdu) (s : List ℕ) (fault : PduFault) (total : Pdus) → front s ≡ Faulty fault → with_list list (pdus_in s) ≡ total
+    → total ≡ record { list = list; rest = s; fault = Some fault }
 loop_faulty list s fault total e so_far = sym so_far ∙ rw (pdus_faulty s fault e, append-nil list) refl
 
 -- what is left is an end of the octets, also once more is read
-pub end_again : (octets rest : List ℕ) (count : ℕ) → length rest ≤ length octets → rest ≡ drop (length octets - length rest) octets → count ≤ length rest → drop count rest ≡ drop (length octets - length (drop count rest)) octets
+pub end_again : (octets rest : List ℕ) (count : ℕ) → length rest ≤ length octets → rest ≡ drop (length octets - length rest) octets → count ≤ length rest
+    → drop count rest ≡ drop (length octets - length (drop count rest)) octets
 end_again octets rest count le e c =
     let n : length octets - length rest + count ≡ length octets - length (drop count rest) = omega (arith, length-drop count rest) in
     ap (drop count) e ∙ drop-drop count (length octets - length rest) octets ∙ ap (λ k. drop k octets) n

@@ -1,6 +1,6 @@
--- PDUs: what is read is spelled so, what is spelled and taken is read, and octets spell at most one PDU.
+-- PDUs: what is read is spelled so, what is spelled so is read, and octets spell at most one PDU.
 use Rattle.std.proofs.Common.{◌≡◌, ◌≢◌, ℕ, suc, ◌+◌, ◌≤◌, Bool, true, false, cond, eqb, List, [], ◌∷◌, ◌++◌, length, get_or, take, drop, Option, Some, None, refl, sym, ap, subst, ◌∙◌, append_assoc, arith, length-append, length-drop, inl, inr}
-use Rattle.std.specs.Prelude.{IsTrue, not, option_map, ◌⊎◌}
+use Rattle.std.specs.Prelude.{not, option_map, ◌⊎◌}
 use Rattle.std.specs.Int.{w32, from_be_bytes}
 use Rattle.std.proofs.lemmas.Bool.{eqb-true}
 use Rattle.std.proofs.lemmas.List.{take_at, drop_at, length-take-le}
@@ -9,14 +9,17 @@ use Rattle.dq_pdu.specs.declared.pdu.Pdu.TheVariants.{Request as request_pdu, Ac
 use Rattle.dq_pdu.specs.declared.pdu.Pdv.{Pdv}
 use Rattle.dq_pdu.specs.declared.pdu.Request.{Request}
 use Rattle.dq_pdu.specs.declared.reading.Front.TheVariants.{Whole}
-use Rattle.dq_pdu.specs.Octets.{parts_of, is_empty}
-use Rattle.dq_pdu.specs.Spelling.{IsBody, Spells, is_taken, IsTakenAs}
-use Rattle.dq_pdu.specs.Reading.{provided, pdv_at, request_of, values_of, pdu_of, front, body_length, is_unrecognized}
-use Rattle.dq_pdu.proofs.PartLaws.{bind_some, some_is}
+use Rattle.dq_pdu.specs.declared.pdu.Accept.{Accept}
+use Rattle.dq_list.specs.Lengths.{is_empty}
+use Rattle.dq_list.specs.Readers.{provided}
+use Rattle.dq_list.proofs.Readers.{bind_some, provided_some}
+use Rattle.dq_pdu.specs.Octets.{parts_of}
+use Rattle.dq_pdu.specs.Spelling.{IsBody, Spells}
+use Rattle.dq_pdu.specs.Reading.{pdv_at, request_of, accept_of, values_of, four, pdu_of, front, body_length, is_unrecognized}
+use Rattle.dq_pdu.proofs.PartLaws.{some_is}
 use Rattle.dq_pdu.proofs.ItemLaws.{values_fill, values_read}
-use Rattle.dq_pdu.proofs.ContextLaws.{provided_some, not_nil, filled}
-use Rattle.dq_pdu.proofs.RequestLaws.{request_spelled, request_again}
-use Rattle.dq_pdu.proofs.AcceptLaws.{accept_of, accept_read}
+use Rattle.dq_pdu.proofs.ContextLaws.{not_nil, filled}
+use Rattle.dq_pdu.proofs.AssociateLaws.{request_spelled, request_again, accept_spelled, accept_again}
 use Rattle.dq_pdu.proofs.Fronts.{IsWhole, whole_is, whole_from}
 
 -- which of two it was
@@ -24,12 +27,13 @@ chose : {A : Type 0} (b : Bool) (x y z : A) → cond b x y ≡ z → ((b ≡ tru
 chose true x y z e = inl (refl, e)
 chose false x y z e = inr (refl, e)
 
-abbrev IsTakenBody : Pdu → ℕ → List ℕ → Type 0
-IsTakenBody pdu kind body = IsTrue (is_taken pdu) × IsBody pdu kind body
-
 request_made : (o : Option Request) (pdu : Pdu) → option_map request_pdu o ≡ Some pdu → (r : Request) × (o ≡ Some r) × (request_pdu r ≡ pdu)
 request_made None pdu e = absurd cc
 request_made (Some r) pdu e = (r, refl, cc)
+
+accept_made : (o : Option Accept) (pdu : Pdu) → option_map accept_pdu o ≡ Some pdu → (a : Accept) × (o ≡ Some a) × (accept_pdu a ≡ pdu)
+accept_made None pdu e = absurd cc
+accept_made (Some a) pdu e = (a, refl, cc)
 
 four_octets : (body : List ℕ) → length body ≡ 4 → (a b c d : ℕ) × (body ≡ a ∷ b ∷ c ∷ d ∷ [])
 four_octets [] h = absurd (omega arith)
@@ -39,40 +43,71 @@ four_octets (a ∷ b ∷ c ∷ []) h = absurd (omega arith)
 four_octets (a ∷ b ∷ c ∷ d ∷ []) h = (a, b, c, d, refl)
 four_octets (a ∷ b ∷ c ∷ d ∷ f ∷ fs) h = absurd (omega arith)
 
-values_spelled : (body : List ℕ) (pdu : Pdu) → values_of body ≡ Some pdu → IsTakenBody pdu 4 body
+request_body : (body : List ℕ) (pdu : Pdu) → option_map request_pdu (request_of body) ≡ Some pdu → IsBody pdu 1 body
+request_body body pdu e =
+    let r = request_made (request_of body) pdu e in
+    subst (λ (q : Pdu). IsBody q 1 body) r.2 (refl, request_spelled body r.0 r.1)
+
+accept_body : (body : List ℕ) (pdu : Pdu) → option_map accept_pdu (accept_of body) ≡ Some pdu → IsBody pdu 2 body
+accept_body body pdu e =
+    let a = accept_made (accept_of body) pdu e in
+    subst (λ (q : Pdu). IsBody q 2 body) a.2 (refl, accept_spelled body a.0 a.1)
+
+values_body : (body : List ℕ) (pdu : Pdu) → values_of body ≡ Some pdu → IsBody pdu 4 body
 unfolding values_of
-values_spelled body pdu e =
+values_body body pdu e =
     let a = bind_some (parts_of pdv_at body) (λ values. provided (not (is_empty values)) (PData values)) pdu e in
     let p = provided_some (not (is_empty a.0)) (PData a.0) pdu a.2 in
-    subst (λ (q : Pdu). IsTakenBody q 4 body) p.1 (refl, (refl, not_nil a.0 p.0, values_fill body a.0 a.1))
+    subst (λ (q : Pdu). IsBody q 4 body) p.1 (refl, not_nil a.0 p.0, values_fill body a.0 a.1)
 
-abort_spelled : (body : List ℕ) → length body ≡ 4 → IsTakenBody (Abort (get_or body 2 0) (get_or body 3 0)) 7 body
-abort_spelled body h =
+reject_body : (body : List ℕ) → length body ≡ 4 → IsBody (Reject (get_or body 1 0) (get_or body 2 0) (get_or body 3 0)) 3 body
+reject_body body h =
     let f = four_octets body h in
-    rw f.4 (refl, (refl, f.0, f.1, refl))
+    rw f.4 (refl, f.0, refl)
 
-pub pdu_spelled : (kind : ℕ) (body : List ℕ) (pdu : Pdu) → pdu_of kind body ≡ Some pdu → IsTakenBody pdu kind body
+abort_body : (body : List ℕ) → length body ≡ 4 → IsBody (Abort (get_or body 2 0) (get_or body 3 0)) 7 body
+abort_body body h =
+    let f = four_octets body h in
+    rw f.4 (refl, f.0, f.1, refl)
+
+-- a PDU whose body has four octets
+four_body : (kind : ℕ) (body : List ℕ) (made pdu : Pdu) → (length body ≡ 4 → IsBody made kind body) → four body made ≡ Some pdu → IsBody pdu kind body
+four_body kind body made pdu is e =
+    let p = provided_some (eqb (length body) 4) made pdu e in
+    subst (λ (q : Pdu). IsBody q kind body) p.1 (is (eqb-true _ _ p.0))
+
+body_of_kind : (kind n : ℕ) (body : List ℕ) (pdu : Pdu) → eqb kind n ≡ true → IsBody pdu n body → IsBody pdu kind body
+body_of_kind kind n body pdu e is = subst (λ (k : ℕ). IsBody pdu k body) (sym (eqb-true kind n e)) is
+
+pub pdu_spelled : (kind : ℕ) (body : List ℕ) (pdu : Pdu) → pdu_of kind body ≡ Some pdu → IsBody pdu kind body
 unfolding pdu_of
 pdu_spelled kind body pdu e =
-    let abort = provided (eqb (length body) 4) (Abort (get_or body 2 0) (get_or body 3 0)) in
-    let o7 = cond (eqb kind 7) abort None in
-    let o5 = cond (eqb kind 5) (provided (eqb (length body) 4) ReleaseRq) o7 in
+    let reject = Reject (get_or body 1 0) (get_or body 2 0) (get_or body 3 0) in
+    let abort = Abort (get_or body 2 0) (get_or body 3 0) in
+    let o7 = cond (eqb kind 7) (four body abort) None in
+    let o6 = cond (eqb kind 6) (four body ReleaseRp) o7 in
+    let o5 = cond (eqb kind 5) (four body ReleaseRq) o6 in
     let o4 = cond (eqb kind 4) (values_of body) o5 in
-    elim (chose (eqb kind 1) (option_map request_pdu (request_of body)) o4 (Some pdu) e) [
-      | inl h ↦
-          let r = request_made (request_of body) pdu h.1 in
-          subst (λ (q : Pdu). IsTakenBody q kind body) r.2 (refl, (eqb-true kind 1 h.0, request_spelled body r.0 r.1))
-      | inr n1 ↦ elim (chose (eqb kind 4) (values_of body) o5 (Some pdu) n1.1) [
-        | inl h ↦ subst (λ (k : ℕ). IsTakenBody pdu k body) (sym (eqb-true kind 4 h.0)) (values_spelled body pdu h.1)
-        | inr n4 ↦ elim (chose (eqb kind 5) (provided (eqb (length body) 4) ReleaseRq) o7 (Some pdu) n4.1) [
-          | inl h ↦
-              let p = provided_some (eqb (length body) 4) ReleaseRq pdu h.1 in
-              subst (λ (q : Pdu). IsTakenBody q kind body) p.1 (refl, (eqb-true kind 5 h.0, eqb-true _ _ p.0))
-          | inr n5 ↦ elim (chose (eqb kind 7) abort None (Some pdu) n5.1) [
-            | inl h ↦
-                let p = provided_some (eqb (length body) 4) (Abort (get_or body 2 0) (get_or body 3 0)) pdu h.1 in
-                subst (λ (q : Pdu). IsTakenBody q kind body) p.1 (subst (λ (k : ℕ). IsTakenBody (Abort (get_or body 2 0) (get_or body 3 0)) k body) (sym (eqb-true kind 7 h.0)) (abort_spelled body (eqb-true _ _ p.0)))
-            | inr n7 ↦ absurd (let z = n7.1 in cc)
+    let o3 = cond (eqb kind 3) (four body reject) o4 in
+    let o2 = cond (eqb kind 2) (option_map accept_pdu (accept_of body)) o3 in
+    elim (chose (eqb kind 1) (option_map request_pdu (request_of body)) o2 (Some pdu) e) [
+      | inl h ↦ body_of_kind kind 1 body pdu h.0 (request_body body pdu h.1)
+      | inr n1 ↦ elim (chose (eqb kind 2) (option_map accept_pdu (accept_of body)) o3 (Some pdu) n1.1) [
+        | inl h ↦ body_of_kind kind 2 body pdu h.0 (accept_body body pdu h.1)
+        | inr n2 ↦ elim (chose (eqb kind 3) (four body reject) o4 (Some pdu) n2.1) [
+          | inl h ↦ body_of_kind kind 3 body pdu h.0 (four_body 3 body reject pdu (reject_body body) h.1)
+          | inr n3 ↦ elim (chose (eqb kind 4) (values_of body) o5 (Some pdu) n3.1) [
+            | inl h ↦ body_of_kind kind 4 body pdu h.0 (values_body body pdu h.1)
+            | inr n4 ↦ elim (chose (eqb kind 5) (four body ReleaseRq) o6 (Some pdu) n4.1) [
+              | inl h ↦ body_of_kind kind 5 body pdu h.0 (four_body 5 body ReleaseRq pdu (λ n. (refl, n)) h.1)
+              | inr n5 ↦ elim (chose (eqb kind 6) (four body ReleaseRp) o7 (Some pdu) n5.1) [
+                | inl h ↦ body_of_kind kind 6 body pdu h.0 (four_body 6 body ReleaseRp pdu (λ n. (refl, n)) h.1)
+                | inr n6 ↦ elim (chose (eqb kind 7) (four body abort) None (Some pdu) n6.1) [
+                  | inl h ↦ body_of_kind kind 7 body pdu h.0 (four_body 7 body abort pdu (abort_body body) h.1)
+                  | inr n7 ↦ absurd (let z = n7.1 in cc)
+                ]
+              ]
+            ]
           ]
         ]
       ]
@@ -84,32 +119,15 @@ values_again values body some e =
     let full = filled values some in
     rw (e, full) refl
 
-pub pdu_read : (pdu : Pdu) (kind : ℕ) (body : List ℕ) → IsTrue (is_taken pdu) → IsBody pdu kind body → pdu_of kind body ≡ Some pdu
+pub pdu_read : (pdu : Pdu) (kind : ℕ) (body : List ℕ) → IsBody pdu kind body → pdu_of kind body ≡ Some pdu
 unfolding pdu_of
-pdu_read (request_pdu request) kind body taken is = rw (is.0, request_again request body is.1) refl
-pdu_read (accept_pdu accept) kind body taken is = absurd cc
-pdu_read (Reject result source reason) kind body taken is = absurd cc
-pdu_read (PData values) kind body taken is = ap (λ k. pdu_of k body) is.0 ∙ values_again values body is.1 (values_read values body is.2)
-pdu_read ReleaseRq kind body taken is = rw (is.0, is.1) refl
-pdu_read ReleaseRp kind body taken is = absurd cc
-pdu_read (Abort source reason) kind body taken is = rw (is.0, is.3) refl
-
--- ---- all seven types
-
-abbrev any_pdu_of : ℕ → List ℕ → Option Pdu
-any_pdu_of kind body =
-    cond (eqb kind 2) (option_map accept_pdu (accept_of body)) (
-    cond (eqb kind 3) (Some (Reject (get_or body 1 0) (get_or body 2 0) (get_or body 3 0))) (
-    cond (eqb kind 6) (Some ReleaseRp) (pdu_of kind body)))
-
-any_read : (pdu : Pdu) (kind : ℕ) (body : List ℕ) → IsBody pdu kind body → any_pdu_of kind body ≡ Some pdu
-any_read (request_pdu request) kind body is = rw is.0 (pdu_read (request_pdu request) 1 body refl (refl, is.1))
-any_read (accept_pdu accept) kind body is = rw (is.0, accept_read accept body is.1) refl
-any_read (Reject result source reason) kind body is = rw (is.0, is.2) refl
-any_read (PData values) kind body is = rw is.0 (pdu_read (PData values) 4 body refl (refl, is.1, is.2))
-any_read ReleaseRq kind body is = rw is.0 (pdu_read ReleaseRq 5 body refl (refl, is.1))
-any_read ReleaseRp kind body is = rw is.0 refl
-any_read (Abort source reason) kind body is = rw is.0 (pdu_read (Abort source reason) 7 body refl (refl, is.1, is.2, is.3))
+pdu_read (request_pdu request) kind body is = rw (is.0, request_again request body is.1) refl
+pdu_read (accept_pdu accept) kind body is = rw (is.0, accept_again accept body is.1) refl
+pdu_read (Reject result source reason) kind body is = rw (is.0, is.2) refl
+pdu_read (PData values) kind body is = ap (λ k. pdu_of k body) is.0 ∙ values_again values body is.1 (values_read values body is.2)
+pdu_read ReleaseRq kind body is = rw (is.0, is.1) refl
+pdu_read ReleaseRp kind body is = rw (is.0, is.1) refl
+pdu_read (Abort source reason) kind body is = rw (is.0, is.3) refl
 
 abbrev head : List ℕ → ℕ
 head o = get_or o 0 0
@@ -120,15 +138,17 @@ spells_once octets pdu other p q =
     let kind : p.kind ≡ q.kind = ap head e in
     let behind : p.size ++ p.body ≡ q.size ++ q.body = ap (λ (o : List ℕ). drop 2 o) e in
     let body : p.body ≡ q.body = sym (drop_at p.size p.body 4 p.sized.wide) ∙ ap (drop 4) behind ∙ drop_at q.size q.body 4 q.sized.wide in
-    let read = any_read other q.kind q.body q.says in
-    some_is pdu other (sym (any_read pdu p.kind p.body p.says) ∙ ap (λ k. any_pdu_of k p.body) kind ∙ ap (any_pdu_of q.kind) body ∙ read)
+    let read = pdu_read other q.kind q.body q.says in
+    some_is pdu other (sym (pdu_read pdu p.kind p.body p.says) ∙ ap (λ k. pdu_of k p.body) kind ∙ ap (pdu_of q.kind) body ∙ read)
 
 -- ---- the front of octets
 
-whole_at : (kind reserved : ℕ) (size body behind : List ℕ) (pdu : Pdu) → is_unrecognized kind ≡ false → length size ≡ 4 → from_be_bytes w32 size ≡ length body → length body ≤ 65536 → pdu_of kind body ≡ Some pdu
+whole_at : (kind reserved : ℕ) (size body behind : List ℕ) (pdu : Pdu) → is_unrecognized kind ≡ false → length size ≡ 4
+    → from_be_bytes w32 size ≡ length body → length body ≤ 65536 → pdu_of kind body ≡ Some pdu
     → IsWhole (kind ∷ reserved ∷ (size ++ body) ++ behind) pdu (length body + 6)
 whole_at kind reserved size body behind pdu known four n short e =
-    let grouped : (kind ∷ reserved ∷ (size ++ body)) ++ behind ≡ kind ∷ reserved ∷ (size ++ (body ++ behind)) = ap (λ (o : List ℕ). kind ∷ reserved ∷ o) (append_assoc size body behind) in
+    let grouped : (kind ∷ reserved ∷ (size ++ body)) ++ behind ≡ kind ∷ reserved ∷ (size ++ (body ++ behind)) = ap (λ (o : List ℕ). kind ∷ reserved ∷ o)
+    (append_assoc size body behind) in
     let s = take_at size (body ++ behind) 4 four in
     let d : drop 6 (kind ∷ reserved ∷ (size ++ (body ++ behind))) ≡ body ++ behind = drop_at size (body ++ behind) 4 four in
     let len : body_length (kind ∷ reserved ∷ (size ++ (body ++ behind))) ≡ length body = ap (from_be_bytes w32) s ∙ n in
@@ -150,10 +170,10 @@ known_kind ReleaseRq kind body is = rw is.0 refl
 known_kind ReleaseRp kind body is = rw is.0 refl
 known_kind (Abort source reason) kind body is = rw is.0 refl
 
-pub taken_read : (pdu : Pdu) (octets behind : List ℕ) → IsTakenAs pdu octets → front (octets ++ behind) ≡ Whole pdu (length octets)
-taken_read pdu octets behind t =
-    let s = t.1 in
-    let w = whole_at s.kind s.reserved s.size s.body behind pdu (known_kind pdu s.kind s.body s.says) s.sized.wide s.sized.value s.short (pdu_read pdu s.kind s.body t.0 s.says) in
+pub spelled_read : (pdu : Pdu) (octets behind : List ℕ) → Spells pdu octets → front (octets ++ behind) ≡ Whole pdu (length octets)
+spelled_read pdu octets behind s =
+    let w = whole_at s.kind s.reserved s.size s.body behind pdu (known_kind pdu s.kind s.body s.says) s.sized.wide s.sized.value s.short
+    (pdu_read pdu s.kind s.body s.says) in
     let count : length s.body + 6 ≡ length octets = omega (arith, ap length s.whole, length-append s.size s.body, s.sized.wide) in
     ap (λ (o : List ℕ). front (o ++ behind)) s.whole ∙ whole_from _ pdu (length s.body + 6) w ∙ ap (Whole pdu) count
 
@@ -168,22 +188,19 @@ front_split (a ∷ b ∷ c ∷ d ∷ f ∷ g ∷ s) n h =
     let k : n + 6 ≡ suc (suc (suc (suc (suc (suc n))))) = omega arith in
     rw k refl
 
-pub front_taken : (s : List ℕ) (pdu : Pdu) (count : ℕ) → front s ≡ Whole pdu count → IsTakenAs pdu (take count s)
-front_taken s pdu count e =
+pub front_spelled : (s : List ℕ) (pdu : Pdu) (count : ℕ) → front s ≡ Whole pdu count → Spells pdu (take count s)
+front_spelled s pdu count e =
     let w = whole_is s pdu count e in
     let n = body_length s in
     let u = pdu_spelled (get_or s 0 0) (take n (drop 6 s)) pdu w.read in
     let long : length (take n (drop 6 s)) ≡ n = length-take-le n (drop 6 s) w.enough in
-    rw w.count_is (
-      u.0,
-      record {
-        kind = get_or s 0 0;
-        reserved = get_or s 1 0;
-        size = take 4 (drop 2 s);
-        body = take n (drop 6 s);
-        whole = front_split s n w.six;
-        sized = record { wide = length-take-le 4 (drop 2 s) (omega (arith, w.six, length-drop 2 s)); value = sym long };
-        short = rw long w.fits;
-        says = u.1;
-      },
-    )
+    rw w.count_is (record {
+      kind = get_or s 0 0;
+      reserved = get_or s 1 0;
+      size = take 4 (drop 2 s);
+      body = take n (drop 6 s);
+      whole = front_split s n w.six;
+      sized = record { wide = length-take-le 4 (drop 2 s) (omega (arith, w.six, length-drop 2 s)); value = sym long };
+      short = rw long w.fits;
+      says = u;
+    })

@@ -6,29 +6,40 @@ use Rattle.dq_pdu.specs.declared.reading.Front.TheVariants.{Partial, Faulty, Who
 use Rattle.dq_pdu.specs.declared.fault.PduFault.{PduFault}
 use Rattle.dq_pdu.specs.declared.pdu.Pdu.{Pdu}
 use Rattle.dq_pdu.specs.Reading.{front}
-use Rattle.dq_pdu.specs.Stream.{Pdus, Follow, HasNoPdu, Splits, fault_of, pdus_in, continued}
+use Rattle.dq_pdu.specs.Stream.{Pdus, Follow, HasNoPdu, Splits, fault_of, pdus_within, pdus_in, continued}
 use Rattle.dq_pdu.proofs.Fronts.{count_within, fault_of-faulty, fault_of-partial}
 use Rattle.dq_pdu.proofs.PduLaws.{pdus_partial, pdus_faulty, pdus_whole, pdus_in-append}
-use Rattle.dq_pdu.proofs.SpellLaws.{taken_read, front_taken}
+use Rattle.dq_pdu.proofs.SpellLaws.{spelled_read, front_spelled}
 
 -- no PDU is read at the front
-abbrev HasNoFront : List ℕ → Type 0
+abbrev pub HasNoFront : List ℕ → Type 0
 HasNoFront rest = (pdu : Pdu) (count : ℕ) → front rest ≡ Whole pdu count → ⊥
 
 -- what is known of the PDUs of a stream
-record Known (stream : List ℕ) (found : Pdus) : Type 0 where
-  follow : Follow found.list stream found.rest
-  ends : HasNoFront found.rest
-  fault : found.fault ≡ fault_of found.rest
+pub record Known (stream : List ℕ) (found : Pdus) : Type 0 where
+  pub follow : Follow found.list stream found.rest
+  pub ends : HasNoFront found.rest
+  pub fault : found.fault ≡ fault_of found.rest
 
-known_by : (s : List ℕ) (f : Front) → front s ≡ f → ((count : ℕ) → 6 ≤ count → count ≤ length s → Known (drop count s) (pdus_in (drop count s))) → Known s (pdus_in s)
-known_by s Partial e next = rw (pdus_partial s e) (record { follow = refl; ends = λ pdu count w. absurd (let z = sym e ∙ w in cc); fault = sym (fault_of-partial s e) })
-known_by s (Faulty fault) e next = rw (pdus_faulty s fault e) (record { follow = refl; ends = λ pdu count w. absurd (let z = sym e ∙ w in cc); fault = sym (fault_of-faulty s fault e) })
+known_by : (s : List ℕ) (f : Front) → front s ≡ f → ((count : ℕ) → 6 ≤ count → count ≤ length s → Known (drop count s) (pdus_in (drop count s)))
+    → Known s (pdus_in s)
+known_by s Partial e next = rw (pdus_partial s e) (record {
+  follow = refl;
+  ends = λ pdu count w. absurd (let z = sym e ∙ w in cc);
+  fault = sym
+      (fault_of-partial s e);
+})
+known_by s (Faulty fault) e next = rw (pdus_faulty s fault e) (record {
+  follow = refl;
+  ends = λ pdu count w. absurd (let z = sym e ∙ w in cc);
+  fault = sym
+      (fault_of-faulty s fault e);
+})
 known_by s (Whole pdu count) e next =
     let w = count_within s pdu count e in
     let k = next count w.0 w.1 in
     rw (pdus_whole s pdu count e) (record {
-      follow = (take count s, drop count s, sym (take-append-drop count s), front_taken s pdu count e, k.follow);
+      follow = (take count s, drop count s, sym (take-append-drop count s), front_spelled s pdu count e, k.follow);
       ends = k.ends;
       fault = k.fault;
     })
@@ -37,11 +48,11 @@ known_within : (n : ℕ) (s : List ℕ) → length s < n → Known s (pdus_in s)
 known_within zero s h = absurd (omega arith)
 known_within (suc n) s h = known_by s (front s) refl (λ count six le. known_within n (drop count s) (omega (arith, length-drop count s)))
 
-known : (s : List ℕ) → Known s (pdus_in s)
+pub known : (s : List ℕ) → Known s (pdus_in s)
 known s = known_within (length s + 1) s (omega arith)
 
 no_pdu : (rest : List ℕ) → HasNoFront rest → HasNoPdu rest
-no_pdu rest ends = λ pdu octets behind e t. ends pdu (length octets) (ap front e ∙ taken_read pdu octets behind t)
+no_pdu rest ends = λ pdu octets behind e t. ends pdu (length octets) (ap front e ∙ spelled_read pdu octets behind t)
 
 pub pdus_split : (stream : List ℕ) → Splits stream (pdus_in stream).list (pdus_in stream).rest
 pdus_split stream = record { follow = (known stream).follow; ends = no_pdu (pdus_in stream).rest (known stream).ends }
@@ -57,7 +68,7 @@ Are pdus rest found = (pdus ≡ found.list) × (rest ≡ found.rest)
 none_by : (s : List ℕ) (f : Front) → front s ≡ f → HasNoPdu s → Are [] s (pdus_in s)
 none_by s Partial e ends = rw (pdus_partial s e) (refl, refl)
 none_by s (Faulty fault) e ends = rw (pdus_faulty s fault e) (refl, refl)
-none_by s (Whole pdu count) e ends = absurd (ends pdu (take count s) (drop count s) (sym (take-append-drop count s)) (front_taken s pdu count e))
+none_by s (Whole pdu count) e ends = absurd (ends pdu (take count s) (drop count s) (sym (take-append-drop count s)) (front_spelled s pdu count e))
 
 follow_only : (pdus : List Pdu) (s rest : List ℕ) → Follow pdus s rest → HasNoPdu rest → Are pdus rest (pdus_in s)
 follow_only [] s rest e ends =
@@ -67,7 +78,7 @@ follow_only (pdu ∷ pdus) s rest f ends =
     let octets = f.0 in
     let behind = f.1 in
     let ih = follow_only pdus behind rest f.4 ends in
-    let e : front (octets ++ behind) ≡ Whole pdu (length octets) = taken_read pdu octets behind f.3 in
+    let e : front (octets ++ behind) ≡ Whole pdu (length octets) = spelled_read pdu octets behind f.3 in
     let left : drop (length octets) (octets ++ behind) ≡ behind = drop_at octets behind (length octets) refl in
     rw (f.2, pdus_whole (octets ++ behind) pdu (length octets) e, left) (ap (λ ps. pdu ∷ ps) ih.0, ih.1)
 
@@ -85,7 +96,20 @@ pdus_more stream more =
     let a = more_from (pdus_in stream).fault (pdus_in stream).list (pdus_in stream).rest more in
     (a.0, ap (λ (u : Pdus). u.list) (pdus_in-append stream more) ∙ a.1)
 
-pub fault_stays : (stream more : List ℕ) (fault : PduFault) → (pdus_in stream).fault ≡ Some fault → ((pdus_in (stream ++ more)).list ≡ (pdus_in stream).list) × ((pdus_in (stream ++ more)).fault ≡ Some fault)
+pub fault_stays : (stream more : List ℕ) (fault : PduFault) → (pdus_in stream).fault ≡ Some fault
+    → ((pdus_in (stream ++ more)).list ≡ (pdus_in stream).list) × ((pdus_in (stream ++ more)).fault ≡ Some fault)
 fault_stays stream more fault e =
     let u = pdus_in-append stream more ∙ ap (λ f. continued f (pdus_in stream).list (pdus_in stream).rest more) e in
     (ap (λ (v : Pdus). v.list) u, ap (λ (v : Pdus). v.fault) u)
+
+faultless_if : (fault : Option PduFault) (list : List Pdu) (rest more : List ℕ) → (continued fault list rest more).fault ≡ None → fault ≡ None
+faultless_if None list rest more e = refl
+faultless_if (Some fault) list rest more e = absurd cc
+
+pub faultless_before : (stream more : List ℕ) → (pdus_in (stream ++ more)).fault ≡ None → (pdus_in stream).fault ≡ None
+faultless_before stream more e =
+    faultless_if (pdus_in stream).fault (pdus_in stream).list (pdus_in stream).rest more (sym (ap (λ (u : Pdus). u.fault) (pdus_in-append stream more)) ∙ e)
+
+pub pdus_none : pdus_in [] ≡ record { list = []; rest = []; fault = None }
+unfolding pdus_within
+pdus_none = refl

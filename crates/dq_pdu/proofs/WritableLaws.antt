@@ -8,7 +8,8 @@ use Rattle.std.proofs.lemmas.Nat.{from_be_bytes-to_be_bytes_4}
 use Rattle.dq_pdu.specs.declared.pdu.Pdu.{Pdu}
 use Rattle.dq_pdu.specs.declared.pdu.Pdu.TheVariants.{Request as request_pdu, Accept as accept_pdu, Reject, PData, ReleaseRq, ReleaseRp, Abort}
 use Rattle.dq_pdu.specs.Spelling.{IsBody}
-use Rattle.dq_pdu.specs.Writing.{kind, body, counted, IsWritable, HasWidths, has_parts, is_writable}
+use Rattle.dq_pdu.specs.Writing.{kind, body, IsWritable, has_parts, is_writable}
+use Rattle.dq_pdu.specs.Widths.{counted, HasWidths}
 use Rattle.dq_pdu.proofs.ContextLaws.{not_nil, filled}
 use Rattle.dq_pdu.proofs.WritingLaws.{values_written}
 use Rattle.dq_pdu.proofs.WrittenRequests.{request_written, request_tells}
@@ -33,7 +34,7 @@ body_tells ReleaseRq k h is = refl
 body_tells ReleaseRp k h is = refl
 body_tells (Abort source reason) k h is = refl
 
-written : (pdu : Pdu) → HasWidths pdu → IsTrue (is_writable pdu) → IsWritable pdu
+pub written : (pdu : Pdu) → HasWidths pdu → IsTrue (is_writable pdu) → IsWritable pdu
 written pdu w e =
     let p = and_parts (has_parts pdu) _ e in
     let h : length (body pdu) ≤ 65536 = leb-true _ _ p.1 in
@@ -66,9 +67,11 @@ fits_same n =
       | inr short ↦ le-leb (counted n) 65536 (omega arith) ∙ sym (le-leb n 65536 short)
     ]
 
-pub means_by_size : (pdu : Pdu) (size : ℕ) → HasWidths pdu → has_parts pdu ≡ true → size ≡ counted (length (body pdu)) → IsTrue (leb size 65536) ↔ IsWritable pdu
+pub means_by_size : (pdu : Pdu) (size : ℕ) → HasWidths pdu → has_parts pdu ≡ true → size ≡ counted (length (body pdu))
+    → IsTrue (leb size 65536) ↔ IsWritable pdu
 means_by_size pdu size w e n =
-    let same : leb size 65536 ≡ is_writable pdu = ap (λ (k : ℕ). leb k 65536) n ∙ fits_same (length (body pdu)) ∙ sym (ap (λ b. b && leb (length (body pdu)) 65536) e) in
+    let same : leb size 65536 ≡ is_writable pdu = ap (λ (k : ℕ). leb k 65536) n ∙ fits_same (length (body pdu)) ∙ sym (ap (λ b. b && leb (length
+    (body pdu)) 65536) e) in
     subst (λ b. IsTrue b ↔ IsWritable pdu) (sym same) (writable_is pdu w)
 
 pub means_by_parts : (pdu : Pdu) (b : Bool) → b ≡ has_parts pdu → b ≡ false → IsTrue b ↔ IsWritable pdu

@@ -10,9 +10,11 @@ use Rattle.dq_pdu.specs.declared.reading.Item.{Item}
 use Rattle.dq_pdu.specs.declared.pdu.ProposedContext.{ProposedContext}
 use Rattle.dq_pdu.specs.declared.pdu.AnsweredContext.{AnsweredContext}
 use Rattle.dq_pdu.specs.declared.pdu.Pdv.{Pdv}
-use Rattle.dq_pdu.specs.Octets.{Fills, bodies, exactly_one, is_padding, is_empty, unpadded}
+use Rattle.dq_list.specs.Lengths.{is_empty}
+use Rattle.dq_pdu.specs.Octets.{Fills, bodies, exactly_one, is_padding, unpadded}
 use Rattle.dq_pdu.specs.Spelling.{IsItem, IsPdv, IsProposed, IsAnswered}
-use Rattle.dq_pdu.specs.Writing.{item, control_header, pdv, proposed_body, answered_body, is_bare, is_odd, is_proposable, is_answerable}
+use Rattle.dq_pdu.specs.Writing.{item, control_header, pdv, proposed_body, answered_body, is_bare, is_proposable, is_answerable}
+use Rattle.dq_pdu.specs.Reading.{is_odd}
 use Rattle.dq_pdu.proofs.ContextLaws.{not_nil, filled}
 use Rattle.dq_pdu.proofs.PartLaws.{some_is}
 use Rattle.dq_pdu.proofs.ItemLaws.{items_once}
@@ -61,9 +63,16 @@ abbrev pub of_kind : ℕ → List ℕ → Item
 of_kind kind body = record { kind = kind; octets = body }
 
 pub item_written : (kind : ℕ) (body : List ℕ) → length body < 65536 → IsItem (of_kind kind body) (item kind body)
-item_written kind body h = record { reserved = 0; size = to_be_bytes w16 (length body); spelled = refl; sized = record { wide = refl; value = from_be_bytes-to_be_bytes_2 (length body) h } }
+item_written kind body h = record {
+  reserved = 0;
+  size = to_be_bytes w16
+      (length body);
+  spelled = refl;
+  sized = record { wide = refl; value = from_be_bytes-to_be_bytes_2 (length body) h };
+}
 
-pub fills-append : {A : Type 0} (Part : A → List ℕ → Type 0) (xs ys : List A) (a b : List ℕ) → Fills Part xs a → Fills Part ys b → Fills Part (xs ++ ys) (a ++ b)
+pub fills-append : {A : Type 0} (Part : A → List ℕ → Type 0) (xs ys : List A) (a b : List ℕ) → Fills Part xs a → Fills Part ys b
+    → Fills Part (xs ++ ys) (a ++ b)
 fills-append Part [] ys a b f g = rw f g
 fills-append Part (x ∷ xs) ys a b f g =
     (f.0, f.1 ++ b, ap (λ (o : List ℕ). o ++ b) f.2 ∙ append_assoc f.0 f.1 b, f.3, fills-append Part xs ys f.1 b f.4 g)
@@ -71,7 +80,8 @@ fills-append Part (x ∷ xs) ys a b f g =
 pub fills_one : {A : Type 0} (Part : A → List ℕ → Type 0) (x : A) (octets : List ℕ) → Part x octets → Fills Part (x ∷ []) octets
 fills_one Part x octets p = (octets, [], sym (append-nil octets), p, refl)
 
-pub items_written : {X : Type 0} (kind : ℕ) (f : X → List ℕ) (xs : List X) → length (flat_map (λ x. item kind (f x)) xs) ≤ 65536 → Fills IsItem (map (λ x. of_kind kind (f x)) xs) (flat_map (λ x. item kind (f x)) xs)
+pub items_written : {X : Type 0} (kind : ℕ) (f : X → List ℕ) (xs : List X) → length (flat_map (λ x. item kind (f x)) xs) ≤ 65536
+    → Fills IsItem (map (λ x. of_kind kind (f x)) xs) (flat_map (λ x. item kind (f x)) xs)
 items_written kind f [] h = refl
 items_written kind f (x ∷ xs) h =
     let n = length-append (item kind (f x)) (flat_map (λ y. item kind (f y)) xs) in
@@ -104,7 +114,19 @@ control_bits false false = (refl, refl)
 pub pdv_written : (value : Pdv) → length value.octets + 2 < 2 ^ 32 → IsPdv value (pdv value)
 pdv_written value h =
     let bits = control_bits value.command value.last in
-    record { control = control_header value.command value.last; size = to_be_bytes w32 (length value.octets + 2); spelled = refl; sized = record { wide = refl; value = from_be_bytes-to_be_bytes_4 (length value.octets + 2) h }; command = bits.0; last = bits.1 }
+    record {
+      control = control_header value.command value.last;
+      size = to_be_bytes w32
+          (length value.octets + 2);
+      spelled = refl;
+      sized = record {
+        wide = refl;
+        value = from_be_bytes-to_be_bytes_4
+            (length value.octets + 2) h;
+      };
+      command = bits.0;
+      last = bits.1;
+    }
 
 pub values_written : (values : List Pdv) → length (flat_map pdv values) ≤ 65536 → Fills IsPdv values (flat_map pdv values)
 values_written [] h = refl
@@ -127,10 +149,17 @@ names_as kind names = map (λ name. of_kind kind (same name)) names
 abbrev proposed_items : ProposedContext → List Item
 proposed_items c = of_kind 48 c.abstract_syntax ∷ names_as 64 c.transfer_syntaxes
 
-proposed_fills : (c : ProposedContext) → length (proposed_body c) ≤ 65536 → Fills IsItem (proposed_items c) (item 48 c.abstract_syntax ++ flat_map (item 64) c.transfer_syntaxes)
+proposed_fills : (c : ProposedContext) → length (proposed_body c) ≤ 65536
+    → Fills IsItem (proposed_items c) (item 48 c.abstract_syntax ++ flat_map (item 64) c.transfer_syntaxes)
 proposed_fills c h =
-    let n = length-append (item 48 c.abstract_syntax) (flat_map (item 64) c.transfer_syntaxes) in
-    (item 48 c.abstract_syntax, flat_map (item 64) c.transfer_syntaxes, refl, item_written 48 c.abstract_syntax (omega (arith, n, h)), items_written 64 same c.transfer_syntaxes (omega (arith, n, h)))
+    let n = length-append (item 48 c.abstract_syntax) (flat_map (item 64) c.transfer_syntaxes) in (
+      item 48 c.abstract_syntax,
+      flat_map (item 64) c.transfer_syntaxes,
+      refl,
+      item_written 48 c.abstract_syntax (omega
+          (arith, n, h)),
+      items_written 64 same c.transfer_syntaxes (omega (arith, n, h)),
+    )
 
 abstract_found : (c : ProposedContext) → exactly_one (bodies 48 (proposed_items c)) ≡ Some c.abstract_syntax
 abstract_found c = rw (bodies_other 64 48 same c.transfer_syntaxes refl) refl
@@ -164,12 +193,17 @@ pub proposed_tells : (c : ProposedContext) → length (proposed_body c) ≤ 6553
 proposed_tells c h is =
     let octets = item 48 c.abstract_syntax ++ flat_map (item 64) c.transfer_syntaxes in
     let rest : octets ≡ is.rest = after_three c.id is.reserved is.rest octets 0 0 0 is.three is.spelled in
-    let items : is.items ≡ proposed_items c = items_once is.items (proposed_items c) octets (subst (Fills IsItem is.items) (sym rest) is.fills) (proposed_fills c h) in
-    let abstract : Some (unpadded c.abstract_syntax) ≡ Some c.abstract_syntax = ap (option_map unpadded) (sym (abstract_found c)) ∙ ap (λ (is : List Item). option_map unpadded (exactly_one (bodies 48 is))) (sym items) ∙ is.abstract in
-    let transfers : map unpadded c.transfer_syntaxes ≡ c.transfer_syntaxes = ap (map unpadded) (sym (transfers_found c)) ∙ ap (λ (is : List Item). map unpadded (bodies 64 is)) (sym items) ∙ sym is.transfer in
-    let t1 = and_from (is_odd c.id) (is_bare c.abstract_syntax) (eq-eqb _ _ is.odd) (stays_bare c.abstract_syntax (some_is (unpadded c.abstract_syntax) c.abstract_syntax abstract)) in
+    let items : is.items ≡ proposed_items c = items_once is.items (proposed_items c) octets (subst (Fills IsItem is.items) (sym rest) is.fills)
+    (proposed_fills c h) in
+    let abstract : Some (unpadded c.abstract_syntax) ≡ Some c.abstract_syntax = ap (option_map unpadded) (sym (abstract_found c)) ∙ ap (λ
+    (is : List Item). option_map unpadded (exactly_one (bodies 48 is))) (sym items) ∙ is.abstract in
+    let transfers : map unpadded c.transfer_syntaxes ≡ c.transfer_syntaxes = ap (map unpadded) (sym (transfers_found c)) ∙ ap (λ
+    (is : List Item). map unpadded (bodies 64 is)) (sym items) ∙ sym is.transfer in
+    let t1 = and_from (is_odd c.id) (is_bare c.abstract_syntax) (eq-eqb _ _ is.odd) (stays_bare c.abstract_syntax (some_is
+    (unpadded c.abstract_syntax) c.abstract_syntax abstract)) in
     let t2 = and_from (is_odd c.id && is_bare c.abstract_syntax) (not (is_empty c.transfer_syntaxes)) t1 (filled c.transfer_syntaxes is.some) in
-    and_from (is_odd c.id && is_bare c.abstract_syntax && not (is_empty c.transfer_syntaxes)) (list_all is_bare c.transfer_syntaxes) t2 (all_bare c.transfer_syntaxes transfers)
+    and_from (is_odd c.id && is_bare c.abstract_syntax && not (is_empty c.transfer_syntaxes)) (list_all is_bare c.transfer_syntaxes) t2
+    (all_bare c.transfer_syntaxes transfers)
 
 -- ---- answered contexts
 
@@ -193,6 +227,9 @@ answered_written c h e =
 pub answered_tells : (c : AnsweredContext) → length (answered_body c) ≤ 65536 → IsAnswered c (answered_body c) → is_answerable c ≡ true
 answered_tells c h is =
     let rest : item 64 c.transfer_syntax ≡ is.rest = ap (drop 4) is.spelled in
-    let items : is.items ≡ of_kind 64 c.transfer_syntax ∷ [] = items_once is.items (of_kind 64 c.transfer_syntax ∷ []) (item 64 c.transfer_syntax) (subst (Fills IsItem is.items) (sym rest) is.fills) (answered_fills c h) in
-    let transfer : Some (unpadded c.transfer_syntax) ≡ Some c.transfer_syntax = ap (λ (is : List Item). option_map unpadded (exactly_one (bodies 64 is))) (sym items) ∙ is.transfer in
-    and_from (is_odd c.id) (is_bare c.transfer_syntax) (eq-eqb _ _ is.odd) (stays_bare c.transfer_syntax (some_is (unpadded c.transfer_syntax) c.transfer_syntax transfer))
+    let items : is.items ≡ of_kind 64 c.transfer_syntax ∷ [] = items_once is.items (of_kind 64 c.transfer_syntax ∷ []) (item 64 c.transfer_syntax) (subst
+    (Fills IsItem is.items) (sym rest) is.fills) (answered_fills c h) in
+    let transfer : Some (unpadded c.transfer_syntax) ≡ Some c.transfer_syntax = ap (λ (is : List Item). option_map unpadded (exactly_one (bodies 64 is)))
+    (sym items) ∙ is.transfer in
+    and_from (is_odd c.id) (is_bare c.transfer_syntax) (eq-eqb _ _ is.odd) (stays_bare c.transfer_syntax (some_is
+    (unpadded c.transfer_syntax) c.transfer_syntax transfer))

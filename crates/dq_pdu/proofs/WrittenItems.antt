@@ -8,10 +8,11 @@ use Rattle.dq_pdu.specs.declared.reading.Item.{Item}
 use Rattle.dq_pdu.specs.Octets.{Fills, parts_of, bodies, at_most_one, unpadded}
 use Rattle.dq_pdu.specs.Spelling.{IsItem, IsAssociate, IsMaximumLength, IsUserInformation}
 use Rattle.dq_pdu.specs.Reading.{item_at}
-use Rattle.dq_pdu.specs.Writing.{item, application_context, maximum_length, request_information, accept_information, fixed_fields, associate, kind, AreWide, is_name}
+use Rattle.dq_pdu.specs.Writing.{item, application_context, maximum_length, request_information, implementation, accept_information, fixed_fields, associate, kind, is_name}
+use Rattle.dq_pdu.specs.Widths.{AreWide}
 use Rattle.dq_pdu.proofs.PartLaws.{some_is}
 use Rattle.dq_pdu.proofs.ItemLaws.{items_read}
-use Rattle.dq_pdu.proofs.RequestLaws.{fixed_from}
+use Rattle.dq_pdu.proofs.FieldLaws.{fixed_from}
 use Rattle.dq_pdu.proofs.WritingLaws.{of_kind, bare_stays, stays_bare, item_written, fills-append, fills_one, bodies-append}
 
 -- ---- the items of a request or an acceptance
@@ -58,7 +59,8 @@ request_user_items (Some n) = of_kind 80 (maximum_length (Some n)) ∷ []
 
 pub request_user_fills : (maximum : Option ℕ) → Fills IsItem (request_user_items maximum) (request_information maximum)
 request_user_fills None = refl
-request_user_fills (Some n) = fills_one IsItem (of_kind 80 (maximum_length (Some n))) (item 80 (maximum_length (Some n))) (item_written 80 (maximum_length (Some n)) (omega arith))
+request_user_fills (Some n) = fills_one IsItem (of_kind 80 (maximum_length (Some n))) (item 80 (maximum_length (Some n))) (item_written 80 (maximum_length
+    (Some n)) (omega arith))
 
 pub request_user_is : (maximum : Option ℕ) → IfSome maximum (λ n. n < 2 ^ 32) → IsUserInformation maximum (bodies 80 (request_user_items maximum))
 request_user_is None h = refl
@@ -75,20 +77,26 @@ abbrev pub version_item : List ℕ
 version_item = codes "DQARCHIVE1"
 
 abbrev pub accept_user : Option ℕ → List ℕ
-accept_user maximum = maximum_length maximum ++ item 82 class_item ++ item 85 version_item
+accept_user maximum = maximum_length maximum ++ implementation
 
 pub short_user : (maximum : Option ℕ) → length (accept_user maximum) < 65536
 short_user None = omega arith
 short_user (Some n) = omega arith
 
-pub user_fills : (maximum : Option ℕ) → Fills IsItem (maximum_items maximum ++ of_kind 82 class_item ∷ [] ++ of_kind 85 version_item ∷ []) (accept_user maximum)
-user_fills maximum =
+abbrev implementation_items : List Item
+implementation_items = of_kind 82 class_item ∷ of_kind 85 version_item ∷ []
+
+implementation_fills : Fills IsItem implementation_items implementation
+implementation_fills =
     let class = fills_one IsItem (of_kind 82 class_item) (item 82 class_item) (item_written 82 class_item (omega arith)) in
     let version = fills_one IsItem (of_kind 85 version_item) (item 85 version_item) (item_written 85 version_item (omega arith)) in
-    let two = fills-append IsItem (maximum_items maximum) (of_kind 82 class_item ∷ []) (maximum_length maximum) (item 82 class_item) (maximum_fills maximum) class in
-    fills-append IsItem (maximum_items maximum ++ of_kind 82 class_item ∷ []) (of_kind 85 version_item ∷ []) (maximum_length maximum ++ item 82 class_item) (item 85 version_item) two version
+    fills-append IsItem (of_kind 82 class_item ∷ []) (of_kind 85 version_item ∷ []) (item 82 class_item) (item 85 version_item) class version
 
-user_maximum : (maximum : Option ℕ) → IfSome maximum (λ n. n < 2 ^ 32) → IsMaximumLength maximum (bodies 81 (maximum_items maximum ++ of_kind 82 class_item ∷ [] ++ of_kind 85 version_item ∷ []))
+pub user_fills : (maximum : Option ℕ) → Fills IsItem (maximum_items maximum ++ implementation_items) (accept_user maximum)
+user_fills maximum =
+    fills-append IsItem (maximum_items maximum) implementation_items (maximum_length maximum) implementation (maximum_fills maximum) implementation_fills
+
+user_maximum : (maximum : Option ℕ) → IfSome maximum (λ n. n < 2 ^ 32) → IsMaximumLength maximum (bodies 81 (maximum_items maximum ++ implementation_items))
 user_maximum None h = refl
 user_maximum (Some n) h = maximum_is (Some n) h
 
@@ -96,21 +104,24 @@ abbrev pub accept_user_items : Option ℕ → List Item
 accept_user_items maximum = of_kind 80 (accept_user maximum) ∷ []
 
 pub accept_user_fills : (maximum : Option ℕ) → Fills IsItem (accept_user_items maximum) (accept_information maximum)
-accept_user_fills maximum = fills_one IsItem (of_kind 80 (accept_user maximum)) (item 80 (accept_user maximum)) (item_written 80 (accept_user maximum) (short_user maximum))
+accept_user_fills maximum = fills_one IsItem (of_kind 80 (accept_user maximum)) (item 80 (accept_user maximum)) (item_written 80 (accept_user maximum)
+    (short_user maximum))
 
 pub accept_user_is : (maximum : Option ℕ) → IfSome maximum (λ n. n < 2 ^ 32) → IsUserInformation maximum (bodies 80 (accept_user_items maximum))
-accept_user_is maximum h = (maximum_items maximum ++ of_kind 82 class_item ∷ [] ++ of_kind 85 version_item ∷ [], user_fills maximum, user_maximum maximum h)
+accept_user_is maximum h = (maximum_items maximum ++ implementation_items, user_fills maximum, user_maximum maximum h)
 
 pub accept_user_none : (kind : ℕ) (maximum : Option ℕ) → eqb 80 kind ≡ false → bodies kind (accept_user_items maximum) ≡ []
 accept_user_none kind maximum e = rw e refl
 
 -- the bodies of a type among three runs of items
-pub three_runs : (kind : ℕ) (a b c : List Item) (x y z : List (List ℕ)) → bodies kind a ≡ x → bodies kind b ≡ y → bodies kind c ≡ z → bodies kind (a ++ b ++ c) ≡ x ++ y ++ z
+pub three_runs : (kind : ℕ) (a b c : List Item) (x y z : List (List ℕ)) → bodies kind a ≡ x → bodies kind b ≡ y → bodies kind c ≡ z
+    → bodies kind (a ++ b ++ c) ≡ x ++ y ++ z
 three_runs kind a b c x y z e1 e2 e3 = bodies-append kind (a ++ b) c ∙ ap (λ bs. bs ++ bodies kind c) (bodies-append kind a b) ∙ rw (e1, e2, e3) refl
 
 -- ---- the fixed fields
 
-pub associate_written : (version : ℕ) (called calling reserved : List ℕ) (maximum : Option ℕ) (items : List Item) (octets : List ℕ) → AreWide version called calling reserved maximum → Fills IsItem items octets
+pub associate_written : (version : ℕ) (called calling reserved : List ℕ) (maximum : Option ℕ) (items : List Item) (octets : List ℕ)
+    → AreWide version called calling reserved maximum → Fills IsItem items octets
     → IsAssociate version called calling reserved items (associate version called calling reserved octets)
 associate_written version called calling reserved maximum items octets w fills = record {
   number = to_be_bytes w16 version;
@@ -126,13 +137,15 @@ associate_written version called calling reserved maximum items octets w fills =
 }
 
 -- the items after the fixed fields are those that were written
-pub items_are : (version : ℕ) (called calling reserved : List ℕ) (items written : List Item) (octets : List ℕ) → IsAssociate version called calling reserved items (associate version called calling reserved octets) → Fills IsItem written octets → items ≡ written
+pub items_are : (version : ℕ) (called calling reserved : List ℕ) (items written : List Item) (octets : List ℕ)
+    → IsAssociate version called calling reserved items (associate version called calling reserved octets) → Fills IsItem written octets → items ≡ written
 items_are version called calling reserved items written octets is fills =
     let fixed = fixed_from version called calling reserved items (associate version called calling reserved octets) is in
     let n1 = length-append ((to_be_bytes w16 version ++ (0 ∷ 0 ∷ called)) ++ calling) reserved in
     let n2 = length-append (to_be_bytes w16 version ++ (0 ∷ 0 ∷ called)) calling in
     let n3 = length-append (to_be_bytes w16 version) (0 ∷ 0 ∷ called) in
-    let size : length (fixed_fields version called calling reserved) ≡ 68 = omega (arith, n1, n2, n3, is.called_sixteen, is.calling_sixteen, is.reserved_thirty_two) in
+    let size : length (fixed_fields version called calling reserved) ≡ 68 = omega
+    (arith, n1, n2, n3, is.called_sixteen, is.calling_sixteen, is.reserved_thirty_two) in
     let behind : drop 68 (associate version called calling reserved octets) ≡ octets = drop_at (fixed_fields version called calling reserved) octets 68 size in
     some_is items written (sym fixed.items_are ∙ ap (parts_of item_at) behind ∙ items_read written octets fills)
 

@@ -1,5 +1,11 @@
+pub mod Numbers
 pub mod Octets
 pub mod Spelling
 pub mod Reading
 pub mod Stream
+pub mod Holding
+pub mod Inboxes
+pub mod Roles
 pub mod Writing
+pub mod Widths
+pub mod Acceptances

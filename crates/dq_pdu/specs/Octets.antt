@@ -1,11 +1,10 @@
--- Octets that follow one another: numbers, parts that fill a body, and unique identifiers (PS3.8 section 9.3.1).
-use Rattle.std.specs.Prelude.{◌≡◌, ℕ, zero, suc, Bool, true, false, ◌&&◌, ◌||◌, not, ◌==◌, if◌then◌else◌, List, [], ◌∷◌, ◌++◌, length, Option, Some, None, option_and_then}
+-- Octets that follow one another: numbers, parts that fill a body, and unique identifiers (PS3.8
+-- section 9.3.1).
+use Rattle.std.specs.Prelude.{◌≡◌, ℕ, zero, suc, Bool, true, false, ◌&&◌, ◌||◌, not, ◌==◌, if◌then◌else◌, List, [], ◌∷◌, ◌++◌, length, Option, Some, None}
 use Rattle.std.specs.Int.{Width, byte_len, from_be_bytes}
+use Rattle.dq_list.specs.Lengths.{is_empty}
+use Rattle.dq_list.specs.Readers.{◌>>=◌}
 use Rattle.dq_pdu.specs.declared.reading.Item.{Item}
-
-infixl 10 ◌>>=◌
-abbrev pub ◌>>=◌ : {A B : Type 0} → Option A → (A → Option B) → Option B
-o >>= f = option_and_then f o
 
 -- the octets are the number, the most significant first
 pub record Says (width : Width) (octets : List ℕ) (number : ℕ) : Type 0 where
@@ -15,7 +14,9 @@ pub record Says (width : Width) (octets : List ℕ) (number : ℕ) : Type 0 wher
 -- the parts follow one another and leave nothing over; each is spelled by its own octets
 abbrev pub Fills : {A : Type 0} → (A → List ℕ → Type 0) → List A → List ℕ → Type 0
 Fills Part [] octets = octets ≡ []
-Fills Part (x ∷ xs) octets = (front : List ℕ) × (rest : List ℕ) × (octets ≡ front ++ rest) × Part x front × Fills Part xs rest
+Fills Part (x ∷ xs) octets =
+    (front : List ℕ) × (rest : List ℕ)
+    × (octets ≡ front ++ rest) × Part x front × Fills Part xs rest
 
 -- a relation holds of each two that stand at one place, and there are as many of both
 abbrev pub Pairwise : {A B : Type 0} → (A → B → Type 0) → List A → List B → Type 0
@@ -24,8 +25,10 @@ Pairwise R (x ∷ xs) (y ∷ ys) = R x y × Pairwise R xs ys
 Pairwise R [] (y ∷ ys) = ⊥
 Pairwise R (x ∷ xs) [] = ⊥
 
--- The same, computed: a part at the front and what is left after it, again and again. No more parts than octets.
-unfoldable pub parts : {A : Type 0} → (List ℕ → Option (A × List ℕ)) → ℕ → List ℕ → Option (List A)
+-- The same, computed: a part at the front and what is left after it, again and again. No more parts
+-- than octets.
+unfoldable pub parts : {A : Type 0} → (List ℕ → Option (A × List ℕ)) → ℕ → List ℕ
+    → Option (List A)
 parts part fuel [] = Some []
 parts part zero (o ∷ os) = None
 parts part (suc fuel) (o ∷ os) = do
@@ -47,7 +50,8 @@ each f (x ∷ xs) = do
 -- the bodies of the items of one type, in order
 abbrev pub bodies : ℕ → List Item → List (List ℕ)
 bodies kind [] = []
-bodies kind (item ∷ items) = if item.kind == kind then item.octets ∷ bodies kind items else bodies kind items
+bodies kind (item ∷ items) =
+    if item.kind == kind then item.octets ∷ bodies kind items else bodies kind items
 
 -- none, or the only one; more than one is refused
 abbrev pub at_most_one : {A : Type 0} → List A → Option (Option A)
@@ -63,16 +67,13 @@ exactly_one (x ∷ y ∷ ys) = None
 
 -- A unique identifier may be padded at its end with zero octets or spaces (PS3.5 section 9.1).
 abbrev pub is_padding : ℕ → Bool
-is_padding octet = (octet == 0) || (octet == 32)
-
-abbrev pub is_empty : {A : Type 0} → List A → Bool
-is_empty [] = true
-is_empty (x ∷ xs) = false
+is_padding octet = (octet == 0x00) || (octet == 0x20)
 
 -- octets without the padding at their end
 abbrev pub unpadded : List ℕ → List ℕ
 unpadded [] = []
-unpadded (octet ∷ octets) = if is_padding octet && is_empty (unpadded octets) then [] else octet ∷ unpadded octets
+unpadded (octet ∷ octets) =
+    if is_padding octet && is_empty (unpadded octets) then [] else octet ∷ unpadded octets
 
 abbrev pub is_among : ℕ → List ℕ → Bool
 is_among x [] = false

@@ -1,52 +1,85 @@
--- What stands at the front of octets, computed. Each definition here reads what the one of its name in Spelling spells.
-use Rattle.std.specs.Prelude.{◌≡◌, ℕ, ◌+◌, ◌-◌, ◌/◌, ◌%◌, Bool, not, ◌&&◌, ◌||◌, ◌==◌, nat_lt, nat_le, if◌then◌else◌, List, length, take, drop, map, slice_index, Option, Some, None, option_map, Result, Ok, Err}
+-- What stands at the front of octets, computed. Each definition here reads what the one of its name
+-- in Spelling spells.
+use Rattle.std.specs.Prelude.{◌≡◌, ℕ, ◌+◌, ◌-◌, ◌/◌, ◌%◌, Bool, not, ◌&&◌, ◌||◌, ◌==◌, nat_lt, nat_le, if◌then◌else◌, List, length, take, drop, map, slice_index, Option, Some, None, option_map}
 use Rattle.std.specs.Int.{w16, w32, from_be_bytes}
+use Rattle.dq_list.specs.Lengths.{is_empty}
+use Rattle.dq_list.specs.Readers.{◌>>=◌, provided}
 use Rattle.dq_pdu.specs.declared.reading.Item.{Item}
 use Rattle.dq_pdu.specs.declared.reading.ReadError.{ReadError}
 use Rattle.dq_pdu.specs.declared.reading.ReadError.TheVariants as errors
 use Rattle.dq_pdu.specs.declared.reading.Front.{Front}
 use Rattle.dq_pdu.specs.declared.reading.Front.TheVariants.{Partial, Faulty, Whole}
+use Rattle.dq_pdu.specs.declared.bodies.Associate.{Associate}
 use Rattle.dq_pdu.specs.declared.fault.PduFault.TheVariants.{Unrecognized, TooLong, Malformed}
 use Rattle.dq_pdu.specs.declared.pdu.Pdu.{Pdu}
-use Rattle.dq_pdu.specs.declared.pdu.Pdu.TheVariants.{Request as request_pdu, PData, ReleaseRq, Abort}
+use Rattle.dq_pdu.specs.declared.pdu.Pdu.TheVariants.{Request as request_pdu, Accept as accept_pdu, Reject, PData, ReleaseRq, ReleaseRp, Abort}
 use Rattle.dq_pdu.specs.declared.pdu.Request.{Request}
+use Rattle.dq_pdu.specs.declared.pdu.Accept.{Accept}
 use Rattle.dq_pdu.specs.declared.pdu.ProposedContext.{ProposedContext}
+use Rattle.dq_pdu.specs.declared.pdu.AnsweredContext.{AnsweredContext}
 use Rattle.dq_pdu.specs.declared.pdu.Pdv.{Pdv}
-use Rattle.dq_pdu.specs.Octets.{◌>>=◌, parts_of, each, bodies, at_most_one, exactly_one, is_empty, unpadded, are_distinct}
+use Rattle.dq_pdu.specs.Numbers.{a_associate_rq, a_associate_ac, a_associate_rj, p_data_tf, a_release_rq, a_release_rp, a_abort, application_context_item, proposed_context_item, answered_context_item, abstract_syntax_item, transfer_syntax_item, user_information_item, maximum_length_item, pdu_header, longest_body, associate_fields, item_header, context_fields, pdv_header}
+use Rattle.dq_pdu.specs.Octets.{parts_of, each, bodies, at_most_one, exactly_one, unpadded, are_distinct}
 
--- nothing is read, unless memory ran out
+-- what an error of a reader tells of what was to be read: nothing where memory ran out
 abbrev pub Fails : {Y : Type 0} → ReadError → Option Y → Type 0
 Fails errors.Memory read = Unit {0}
 Fails errors.Malformed read = read ≡ None
 
--- What a reader returned, seen by view, is what reading gives, unless memory ran out.
-abbrev pub Gives : {X Y : Type 0} → (X → Y) → Result X ReadError → Option Y → Type 0
-Gives view (Ok x) read = read ≡ Some (view x)
-Gives view (Err e) read = Fails e read
-
--- the value, if the test holds
-abbrev pub provided : {A : Type 0} → Bool → A → Option A
-provided b x = if b then Some x else None
-
 unfoldable pub item_at : List ℕ → Option (Item × List ℕ)
 item_at octets =
     let size = from_be_bytes w16 (take 2 (drop 2 octets)) in
-    if nat_lt (length octets) 4 || nat_lt (length (drop 4 octets)) size then None
-    else Some (record { kind = slice_index octets 0; octets = take size (drop 4 octets) }, drop size (drop 4 octets))
+    let behind = drop item_header octets in
+    if nat_lt (length octets) item_header || nat_lt (length behind) size then None
+    else Some (record { kind = slice_index octets 0; octets = take size behind }, drop size behind)
+
+-- the PDV of a control header
+abbrev pub pdv_of : ℕ → ℕ → List ℕ → Pdv
+pdv_of context control octets = record {
+  context = context;
+  command = control % 2 == 1;
+  last = (control / 2) % 2 == 1;
+  octets = octets;
+}
 
 unfoldable pub pdv_at : List ℕ → Option (Pdv × List ℕ)
 pdv_at octets =
     let size = from_be_bytes w32 (take 4 octets) in
-    let control = slice_index octets 5 in
-    if nat_lt (length octets) 6 || nat_lt size 2 || nat_lt (length (drop 4 octets)) size then None
-    else Some (record { context = slice_index octets 4; command = control % 2 == 1; last = (control / 2) % 2 == 1; octets = take (size - 2) (drop 6 octets) }, drop (size - 2) (drop 6 octets))
+    let behind = drop pdv_header octets in
+    let fragment = take (size - 2) behind in
+    if nat_lt (length octets) pdv_header || nat_lt size 2 || nat_lt (length (drop 4 octets)) size
+    then None
+    else Some (
+      pdv_of (slice_index octets 4) (slice_index octets 5) fragment,
+      drop (size - 2) behind,
+    )
+
+-- whether a context's id is odd
+abbrev pub is_odd : ℕ → Bool
+is_odd id = id % 2 == 1
 
 unfoldable pub proposed_of : List ℕ → Option ProposedContext
 proposed_of body = do
-  rest ← provided (nat_le 4 (length body)) (drop 4 body)
+  rest ← provided (nat_le context_fields (length body)) (drop context_fields body)
   items ← parts_of item_at rest
-  abstract ← exactly_one (bodies 48 items)
-  provided ((slice_index body 0 % 2 == 1) && not (is_empty (bodies 64 items))) (record { id = slice_index body 0; abstract_syntax = unpadded abstract; transfer_syntaxes = map unpadded (bodies 64 items) })
+  abstract ← exactly_one (bodies abstract_syntax_item items)
+  let syntaxes = bodies transfer_syntax_item items
+  provided (is_odd (slice_index body 0) && not (is_empty syntaxes)) (record {
+    id = slice_index body 0;
+    abstract_syntax = unpadded abstract;
+    transfer_syntaxes = map unpadded syntaxes;
+  })
+
+unfoldable pub answered_of : List ℕ → Option AnsweredContext
+answered_of body = do
+  rest ← provided (nat_le context_fields (length body)) (drop context_fields body)
+  items ← parts_of item_at rest
+  transfer ← exactly_one (bodies transfer_syntax_item items)
+  provided (is_odd (slice_index body 0)) (record {
+    id = slice_index body 0;
+    result = slice_index body 2;
+    transfer_syntax = unpadded transfer;
+  })
 
 -- the maximum length, four octets
 abbrev pub maximum_in : Option (List ℕ) → Option (Option ℕ)
@@ -58,40 +91,86 @@ unfoldable pub user_information_of : Option (List ℕ) → Option (Option ℕ)
 user_information_of None = Some None
 user_information_of (Some body) = do
   items ← parts_of item_at body
-  found ← at_most_one (bodies 81 items)
+  found ← at_most_one (bodies maximum_length_item items)
   maximum_in found
 
-unfoldable pub request_of : List ℕ → Option Request
-request_of body = do
-  rest ← provided (nat_le 68 (length body)) (drop 68 body)
-  items ← parts_of item_at rest
-  application ← at_most_one (bodies 16 items)
-  contexts ← each proposed_of (bodies 32 items)
-  user ← at_most_one (bodies 80 items)
+-- what a request and an acceptance have in common, from the body and the items after its fixed
+-- fields
+unfoldable pub associate_of : List ℕ → List Item → Option Associate
+associate_of body items = do
+  application ← at_most_one (bodies application_context_item items)
+  user ← at_most_one (bodies user_information_item items)
   maximum ← user_information_of user
-  provided (are_distinct (map (λ (c : ProposedContext). c.id) contexts)) (record {
+  Some (record {
     version = from_be_bytes w16 (take 2 body);
     called = take 16 (drop 4 body);
     calling = take 16 (drop 20 body);
     reserved = take 32 (drop 36 body);
     application_context = option_map unpadded application;
-    contexts = contexts;
     maximum_length = maximum;
   })
+
+abbrev pub request_with : Associate → List ProposedContext → Request
+request_with fields contexts = record {
+  version = fields.version;
+  called = fields.called;
+  calling = fields.calling;
+  reserved = fields.reserved;
+  application_context = fields.application_context;
+  contexts = contexts;
+  maximum_length = fields.maximum_length;
+}
+
+abbrev pub accept_with : Associate → List AnsweredContext → Accept
+accept_with fields contexts = record {
+  version = fields.version;
+  called = fields.called;
+  calling = fields.calling;
+  reserved = fields.reserved;
+  application_context = fields.application_context;
+  contexts = contexts;
+  maximum_length = fields.maximum_length;
+}
+
+unfoldable pub request_of : List ℕ → Option Request
+request_of body = do
+  rest ← provided (nat_le associate_fields (length body)) (drop associate_fields body)
+  items ← parts_of item_at rest
+  fields ← associate_of body items
+  contexts ← each proposed_of (bodies proposed_context_item items)
+  let ids = map (λ (c : ProposedContext). c.id) contexts
+  provided (are_distinct ids) (request_with fields contexts)
+
+unfoldable pub accept_of : List ℕ → Option Accept
+accept_of body = do
+  rest ← provided (nat_le associate_fields (length body)) (drop associate_fields body)
+  items ← parts_of item_at rest
+  fields ← associate_of body items
+  contexts ← each answered_of (bodies answered_context_item items)
+  let ids = map (λ (c : AnsweredContext). c.id) contexts
+  provided (are_distinct ids) (accept_with fields contexts)
 
 unfoldable pub values_of : List ℕ → Option Pdu
 values_of body = do
   values ← parts_of pdv_at body
   provided (not (is_empty values)) (PData values)
 
+-- a body of four octets
+abbrev pub four : List ℕ → Pdu → Option Pdu
+four body pdu = provided (length body == 4) pdu
+
 -- the PDU of a type that has the body
 unfoldable pub pdu_of : ℕ → List ℕ → Option Pdu
 pdu_of kind body =
-    if kind == 1 then option_map request_pdu (request_of body)
-    else (if kind == 4 then values_of body
-    else (if kind == 5 then provided (length body == 4) ReleaseRq
-    else (if kind == 7 then provided (length body == 4) (Abort (slice_index body 2) (slice_index body 3))
-    else None)))
+    if kind == a_associate_rq then option_map request_pdu (request_of body)
+    else (if kind == a_associate_ac then option_map accept_pdu (accept_of body)
+    else (if kind == a_associate_rj
+    then four body (Reject (slice_index body 1) (slice_index body 2) (slice_index body 3))
+    else (if kind == p_data_tf then values_of body
+    else (if kind == a_release_rq then four body ReleaseRq
+    else (if kind == a_release_rp then four body ReleaseRp
+    else (if kind == a_abort then four body (Abort (slice_index body 2) (slice_index body 3))
+    else None))))))
 
 -- a PDU of so many octets, or none where the body breaks a rule
 abbrev pub whole_or_malformed : Option Pdu → ℕ → Front
@@ -102,15 +181,19 @@ whole_or_malformed (Some pdu) count = Whole pdu count
 abbrev pub body_length : List ℕ → ℕ
 body_length octets = from_be_bytes w32 (take 4 (drop 2 octets))
 
--- there are 7 types of PDU
+-- there are seven types of PDU
 abbrev pub is_unrecognized : ℕ → Bool
-is_unrecognized kind = (kind == 0) || nat_lt 7 kind
+is_unrecognized kind = nat_lt kind a_associate_rq || nat_lt a_abort kind
 
 -- what octets begin with: part of a PDU, a fault, or a whole PDU of so many octets
 unfoldable pub front : List ℕ → Front
 front octets =
-    if nat_lt (length octets) 6 then Partial
+    let size = body_length octets in
+    let behind = drop pdu_header octets in
+    if nat_lt (length octets) pdu_header then Partial
     else (if is_unrecognized (slice_index octets 0) then Faulty Unrecognized
-    else (if nat_lt 65536 (body_length octets) then Faulty TooLong
-    else (if nat_lt (length (drop 6 octets)) (body_length octets) then Partial
-    else whole_or_malformed (pdu_of (slice_index octets 0) (take (body_length octets) (drop 6 octets))) (body_length octets + 6))))
+    else (if nat_lt longest_body size then Faulty TooLong
+    else (if nat_lt (length behind) size then Partial
+    else (
+    whole_or_malformed (pdu_of (slice_index octets 0) (take size behind)) (size + pdu_header)
+    ))))

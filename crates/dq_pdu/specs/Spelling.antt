@@ -1,6 +1,6 @@
--- Which octets spell which protocol data PDU (PS3.8 section 9.3). Reserved octets and the items that are skipped
--- are free, so a PDU has many spellings; octets spell at most one.
-use Rattle.std.specs.Prelude.{◌≡◌, ◌≢◌, ℕ, ◌+◌, ◌/◌, ◌%◌, ◌≤◌, Bool, true, false, IsTrue, ◌==◌, List, [], ◌∷◌, ◌++◌, length, map, Option, Some, None, option_map}
+-- Which octets spell which protocol data PDU (PS3.8 section 9.3). Reserved octets and the items
+-- that are skipped are free, so a PDU has many spellings; octets spell at most one.
+use Rattle.std.specs.Prelude.{◌≡◌, ◌≢◌, ℕ, ◌+◌, ◌/◌, ◌%◌, ◌≤◌, IsTrue, ◌==◌, List, [], ◌∷◌, ◌++◌, length, map, Option, Some, None, option_map}
 use Rattle.std.specs.Int.{w16, w32}
 use Rattle.dq_pdu.specs.declared.reading.Item.{Item}
 use Rattle.dq_pdu.specs.declared.pdu.Pdu.{Pdu}
@@ -10,17 +10,20 @@ use Rattle.dq_pdu.specs.declared.pdu.Accept.{Accept}
 use Rattle.dq_pdu.specs.declared.pdu.ProposedContext.{ProposedContext}
 use Rattle.dq_pdu.specs.declared.pdu.AnsweredContext.{AnsweredContext}
 use Rattle.dq_pdu.specs.declared.pdu.Pdv.{Pdv}
+use Rattle.dq_pdu.specs.Numbers.{a_associate_rq, a_associate_ac, a_associate_rj, p_data_tf, a_release_rq, a_release_rp, a_abort, application_context_item, proposed_context_item, answered_context_item, abstract_syntax_item, transfer_syntax_item, user_information_item, maximum_length_item, longest_body}
 use Rattle.dq_pdu.specs.Octets.{Says, Fills, Pairwise, bodies, at_most_one, exactly_one, unpadded, are_distinct}
 
--- An item or sub-item: its type, a reserved octet, the length of its body in two octets, its body (PS3.8 section 9.3.2).
+-- An item or sub-item: its type, a reserved octet, the length of its body in two octets, its body
+-- (PS3.8 section 9.3.2).
 pub record IsItem (item : Item) (octets : List ℕ) : Type 0 where
   pub reserved : ℕ
   pub size : List ℕ
   pub spelled : octets ≡ item.kind ∷ reserved ∷ (size ++ item.octets)
   pub sized : Says w16 size (length item.octets)
 
--- A presentation data value: the length of the rest in four octets, the context's id, the message control header
--- (bit 0 command, bit 1 last, the others free) and the fragment (PS3.8 section 9.3.5.1, annex E.2).
+-- A presentation data value: the length of the rest in four octets, the context's id, the message
+-- control header (bit 0 command, bit 1 last, the others free) and the fragment (PS3.8 section
+-- 9.3.5.1, annex E.2).
 pub record IsPdv (pdv : Pdv) (octets : List ℕ) : Type 0 where
   pub control : ℕ
   pub size : List ℕ
@@ -29,8 +32,8 @@ pub record IsPdv (pdv : Pdv) (octets : List ℕ) : Type 0 where
   pub command : pdv.command ≡ (control % 2 == 1)
   pub last : pdv.last ≡ ((control / 2) % 2 == 1)
 
--- A proposed presentation context: id, three reserved octets, one abstract syntax (30H) and one or more transfer
--- syntaxes (40H). The id is odd (PS3.8 section 9.3.2.2).
+-- A proposed presentation context: id, three reserved octets, one abstract syntax (30H) and one or
+-- more transfer syntaxes (40H). The id is odd (PS3.8 section 9.3.2.2).
 pub record IsProposed (context : ProposedContext) (body : List ℕ) : Type 0 where
   pub reserved : List ℕ
   pub rest : List ℕ
@@ -39,12 +42,14 @@ pub record IsProposed (context : ProposedContext) (body : List ℕ) : Type 0 whe
   pub three : length reserved ≡ 3
   pub odd : context.id % 2 ≡ 1
   pub fills : Fills IsItem items rest
-  pub abstract : option_map unpadded (exactly_one (bodies 48 items)) ≡ Some context.abstract_syntax
-  pub transfer : context.transfer_syntaxes ≡ map unpadded (bodies 64 items)
+  pub abstract :
+      option_map unpadded (exactly_one (bodies abstract_syntax_item items))
+      ≡ Some context.abstract_syntax
+  pub transfer : context.transfer_syntaxes ≡ map unpadded (bodies transfer_syntax_item items)
   pub some : context.transfer_syntaxes ≢ []
 
--- An answered presentation context: id, a reserved octet, result, a reserved octet and one transfer syntax (40H)
--- (PS3.8 section 9.3.3.2).
+-- An answered presentation context: id, a reserved octet, result, a reserved octet and one transfer
+-- syntax (40H) (PS3.8 section 9.3.3.2).
 pub record IsAnswered (context : AnsweredContext) (body : List ℕ) : Type 0 where
   pub before : ℕ
   pub behind : ℕ
@@ -53,10 +58,14 @@ pub record IsAnswered (context : AnsweredContext) (body : List ℕ) : Type 0 whe
   pub spelled : body ≡ context.id ∷ before ∷ context.result ∷ behind ∷ rest
   pub odd : context.id % 2 ≡ 1
   pub fills : Fills IsItem items rest
-  pub transfer : option_map unpadded (exactly_one (bodies 64 items)) ≡ Some context.transfer_syntax
+  pub transfer :
+      option_map unpadded (exactly_one (bodies transfer_syntax_item items))
+      ≡ Some context.transfer_syntax
 
 -- The fixed fields of a request or an acceptance, and its items (PS3.8 sections 9.3.2 and 9.3.3).
-pub record IsAssociate (version : ℕ) (called calling reserved : List ℕ) (items : List Item) (body : List ℕ) : Type 0 where
+pub record IsAssociate
+    (version : ℕ) (called calling reserved : List ℕ) (items : List Item) (body : List ℕ)
+    : Type 0 where
   pub number : List ℕ
   pub gap : List ℕ
   pub rest : List ℕ
@@ -74,42 +83,54 @@ IsMaximumLength maximum [] = maximum ≡ None
 IsMaximumLength maximum (body ∷ []) = (n : ℕ) × (maximum ≡ Some n) × Says w32 body n
 IsMaximumLength maximum (a ∷ b ∷ bs) = ⊥
 
--- User information: at most one item (50H), filled with sub-items, of which at most one (51H) is the maximum length.
+-- User information: at most one item (50H), filled with sub-items, of which at most one (51H) is
+-- the maximum length.
 abbrev pub IsUserInformation : Option ℕ → List (List ℕ) → Type 0
 IsUserInformation maximum [] = maximum ≡ None
-IsUserInformation maximum (body ∷ []) = (items : List Item) × Fills IsItem items body × IsMaximumLength maximum (bodies 81 items)
+IsUserInformation maximum (body ∷ []) =
+    (items : List Item) × Fills IsItem items body
+    × IsMaximumLength maximum (bodies maximum_length_item items)
 IsUserInformation maximum (a ∷ b ∷ bs) = ⊥
 
--- An association request: at most one application context (10H), presentation contexts (20H) with ids of their own
--- and at most one user information item (50H); all other items are free (PS3.8 section 9.3.2).
+-- An association request: at most one application context (10H), presentation contexts (20H) with
+-- ids of their own and at most one user information item (50H); all other items are free (PS3.8
+-- section 9.3.2).
 pub record IsRequest (request : Request) (body : List ℕ) : Type 0 where
   pub items : List Item
   pub fixed : IsAssociate request.version request.called request.calling request.reserved items body
-  pub application : option_map (option_map unpadded) (at_most_one (bodies 16 items)) ≡ Some request.application_context
-  pub contexts : Pairwise IsProposed request.contexts (bodies 32 items)
+  pub application :
+      option_map (option_map unpadded) (at_most_one (bodies application_context_item items))
+      ≡ Some request.application_context
+  pub contexts : Pairwise IsProposed request.contexts (bodies proposed_context_item items)
   pub distinct : IsTrue (are_distinct (map (λ (c : ProposedContext). c.id) request.contexts))
-  pub user : IsUserInformation request.maximum_length (bodies 80 items)
+  pub user : IsUserInformation request.maximum_length (bodies user_information_item items)
 
 -- An acceptance, with answered contexts (21H) in the place of proposed ones (PS3.8 section 9.3.3).
 pub record IsAccept (accept : Accept) (body : List ℕ) : Type 0 where
   pub items : List Item
   pub fixed : IsAssociate accept.version accept.called accept.calling accept.reserved items body
-  pub application : option_map (option_map unpadded) (at_most_one (bodies 16 items)) ≡ Some accept.application_context
-  pub contexts : Pairwise IsAnswered accept.contexts (bodies 33 items)
+  pub application :
+      option_map (option_map unpadded) (at_most_one (bodies application_context_item items))
+      ≡ Some accept.application_context
+  pub contexts : Pairwise IsAnswered accept.contexts (bodies answered_context_item items)
   pub distinct : IsTrue (are_distinct (map (λ (c : AnsweredContext). c.id) accept.contexts))
-  pub user : IsUserInformation accept.maximum_length (bodies 80 items)
+  pub user : IsUserInformation accept.maximum_length (bodies user_information_item items)
 
 -- the type of a PDU, and the body that it may have (PS3.8 sections 9.3.2 to 9.3.8)
 abbrev pub IsBody : Pdu → ℕ → List ℕ → Type 0
-IsBody (request_pdu request) kind body = (kind ≡ 1) × IsRequest request body
-IsBody (accept_pdu accept) kind body = (kind ≡ 2) × IsAccept accept body
-IsBody (Reject result source reason) kind body = (kind ≡ 3) × (free : ℕ) × (body ≡ free ∷ result ∷ source ∷ reason ∷ [])
-IsBody (PData values) kind body = (kind ≡ 4) × (values ≢ []) × Fills IsPdv values body
-IsBody ReleaseRq kind body = (kind ≡ 5) × (length body ≡ 4)
-IsBody ReleaseRp kind body = (kind ≡ 6) × (length body ≡ 4)
-IsBody (Abort source reason) kind body = (kind ≡ 7) × (first : ℕ) × (second : ℕ) × (body ≡ first ∷ second ∷ source ∷ reason ∷ [])
+IsBody (request_pdu request) kind body = (kind ≡ a_associate_rq) × IsRequest request body
+IsBody (accept_pdu accept) kind body = (kind ≡ a_associate_ac) × IsAccept accept body
+IsBody (Reject result source reason) kind body =
+    (kind ≡ a_associate_rj) × (free : ℕ) × (body ≡ free ∷ result ∷ source ∷ reason ∷ [])
+IsBody (PData values) kind body = (kind ≡ p_data_tf) × (values ≢ []) × Fills IsPdv values body
+IsBody ReleaseRq kind body = (kind ≡ a_release_rq) × (length body ≡ 4)
+IsBody ReleaseRp kind body = (kind ≡ a_release_rp) × (length body ≡ 4)
+IsBody (Abort source reason) kind body =
+    (kind ≡ a_abort) × (first : ℕ) × (second : ℕ)
+    × (body ≡ first ∷ second ∷ source ∷ reason ∷ [])
 
--- A PDU's octets: its type, a reserved octet, the length of the rest in four octets, and its body of at most 65,536.
+-- A PDU's octets: its type, a reserved octet, the length of the rest in four octets, and its body
+-- of at most 65,536.
 pub record Spells (pdu : Pdu) (octets : List ℕ) : Type 0 where
   pub kind : ℕ
   pub reserved : ℕ
@@ -117,19 +138,5 @@ pub record Spells (pdu : Pdu) (octets : List ℕ) : Type 0 where
   pub body : List ℕ
   pub whole : octets ≡ kind ∷ reserved ∷ (size ++ body)
   pub sized : Says w32 size (length body)
-  pub short : length body ≤ 65536
+  pub short : length body ≤ longest_body
   pub says : IsBody pdu kind body
-
--- Until associations are negotiated in full, the PDUs that answer a requestor are not taken.
-abbrev pub is_taken : Pdu → Bool
-is_taken (accept_pdu accept) = false
-is_taken (Reject result source reason) = false
-is_taken ReleaseRp = false
-is_taken (request_pdu request) = true
-is_taken (PData values) = true
-is_taken ReleaseRq = true
-is_taken (Abort source reason) = true
-
--- the octets spell a PDU that is taken
-abbrev pub IsTakenAs : Pdu → List ℕ → Type 0
-IsTakenAs pdu octets = IsTrue (is_taken pdu) × Spells pdu octets

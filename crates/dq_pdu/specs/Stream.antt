@@ -1,37 +1,40 @@
--- The PDUs of a stream (PS3.8 section 9.3): the only list and rest such that the stream is spellings of the list, in
--- order, and then a rest of which no prefix spells a PDU.
+-- The PDUs of a stream (PS3.8 section 9.3): the only list and rest such that the stream is
+-- spellings of the list, in order, and then a rest of which no prefix spells a PDU.
 use Rattle.std.specs.Prelude.{◌≡◌, ℕ, zero, suc, nat_lt, if◌then◌else◌, List, [], ◌∷◌, ◌++◌, length, drop, slice_index, Option, Some, None}
 use Rattle.dq_pdu.specs.declared.pdu.Pdu.{Pdu}
 use Rattle.dq_pdu.specs.declared.fault.PduFault.{PduFault}
 use Rattle.dq_pdu.specs.declared.fault.PduFault.TheVariants.{Unrecognized, TooLong, Malformed}
 use Rattle.dq_pdu.specs.declared.reading.Front.{Front}
 use Rattle.dq_pdu.specs.declared.reading.Front.TheVariants.{Partial, Faulty, Whole}
-use Rattle.dq_pdu.specs.declared.inbox.Held.{Held}
-use Rattle.dq_pdu.specs.declared.inbox.Held.TheVariants.{Reading, Stopped}
-use Rattle.dq_pdu.specs.Spelling.{IsTakenAs}
+use Rattle.dq_pdu.specs.Numbers.{pdu_header, longest_body}
+use Rattle.dq_pdu.specs.Spelling.{Spells}
 use Rattle.dq_pdu.specs.Reading.{body_length, is_unrecognized, front}
 
 -- the stream is spellings of the PDUs, one after the other, and then the rest
 abbrev pub Follow : List Pdu → List ℕ → List ℕ → Type 0
 Follow [] stream rest = stream ≡ rest
-Follow (pdu ∷ pdus) stream rest = (octets : List ℕ) × (behind : List ℕ) × (stream ≡ octets ++ behind) × IsTakenAs pdu octets × Follow pdus behind rest
+Follow (pdu ∷ pdus) stream rest =
+    (octets : List ℕ) × (others : List ℕ)
+    × (stream ≡ octets ++ others) × Spells pdu octets × Follow pdus others rest
 
 -- no prefix of the rest spells a PDU
 abbrev pub HasNoPdu : List ℕ → Type 0
-HasNoPdu rest = (pdu : Pdu) (octets behind : List ℕ) → rest ≡ octets ++ behind → IsTakenAs pdu octets → ⊥
+HasNoPdu rest =
+    (pdu : Pdu) (octets others : List ℕ) → rest ≡ octets ++ others → Spells pdu octets → ⊥
 
 -- what a stream is split into
 pub record Splits (stream : List ℕ) (pdus : List Pdu) (rest : List ℕ) : Type 0 where
   pub follow : Follow pdus stream rest
   pub ends : HasNoPdu rest
 
--- The fault that can be read off a rest: its type, then its length, then its body where all of it is there.
+-- The fault that can be read off a rest: its type, then its length, then its body where all of it
+-- is there.
 abbrev pub fault_of : List ℕ → Option PduFault
 fault_of rest =
-    if nat_lt (length rest) 6 then None
+    if nat_lt (length rest) pdu_header then None
     else (if is_unrecognized (slice_index rest 0) then Some Unrecognized
-    else (if nat_lt 65536 (body_length rest) then Some TooLong
-    else (if nat_lt (length (drop 6 rest)) (body_length rest) then None
+    else (if nat_lt longest_body (body_length rest) then Some TooLong
+    else (if nat_lt (length (drop pdu_header rest)) (body_length rest) then None
     else Some Malformed)))
 
 -- the PDUs of a stream, the rest after them, and the fault of the rest
@@ -41,7 +44,8 @@ pub record Pdus : Type 0 where
   pub fault : Option PduFault
 
 abbrev pub with_first : Pdu → Pdus → Pdus
-with_first pdu others = record { list = pdu ∷ others.list; rest = others.rest; fault = others.fault }
+with_first pdu others =
+    record { list = pdu ∷ others.list; rest = others.rest; fault = others.fault }
 
 -- what stands at the front, and then what follows it
 abbrev pub pdus_from : Front → List ℕ → (List ℕ → Pdus) → Pdus
@@ -51,24 +55,18 @@ pdus_from (Whole pdu count) stream others = with_first pdu (others (drop count s
 
 unfoldable pub pdus_within : ℕ → List ℕ → Pdus
 pdus_within zero stream = record { list = []; rest = stream; fault = None }
-pdus_within (suc fuel) stream = pdus_from (front stream) stream (λ behind. pdus_within fuel behind)
+pdus_within (suc fuel) stream = pdus_from (front stream) stream (λ others. pdus_within fuel others)
 
 -- the PDUs of a stream, computed: no more of them than octets
 abbrev pub pdus_in : List ℕ → Pdus
 pdus_in stream = pdus_within (length stream) stream
 
 abbrev pub with_list : List Pdu → Pdus → Pdus
-with_list list others = record { list = list ++ others.list; rest = others.rest; fault = others.fault }
+with_list list others =
+    record { list = list ++ others.list; rest = others.rest; fault = others.fault }
 
 -- the PDUs of a stream that goes on: a fault stays, and else the rest is read on
 abbrev pub continued : Option PduFault → List Pdu → List ℕ → List ℕ → Pdus
 continued None list rest more = with_list list (pdus_in (rest ++ more))
-continued (Some fault) list rest more = record { list = list; rest = rest ++ more; fault = Some fault }
-
--- what an inbox holds once it was fed a stream
-abbrev pub held_at : Option PduFault → List ℕ → Held
-held_at None rest = Reading rest
-held_at (Some fault) rest = Stopped fault
-
-abbrev pub holding : List ℕ → Held
-holding stream = held_at (pdus_in stream).fault (pdus_in stream).rest
+continued (Some fault) list rest more =
+    record { list = list; rest = rest ++ more; fault = Some fault }

@@ -1,10 +1,13 @@
 //! The bodies of PDUs, as they are read (PS3.8 sections 9.3.2 to 9.3.8).
 ghost use Rattle.std.specs.Prelude.{◌≡◌, ◌≤◌, ◌+◌, length, take, drop, option_map, map, IfOk};
+ghost use Rattle.dq_list.specs.Readers.{Gives};
+ghost use Rattle.dq_pdu.specs.Numbers.{associate_fields, proposed_context_item, answered_context_item};
 ghost use Rattle.dq_pdu.specs.Octets.{parts_of, bodies, each, unpadded};
-ghost use Rattle.dq_pdu.specs.Reading.{Gives, maximum_in, user_information_of, proposed_of, request_of, pdv_at, values_of, pdu_of};
+ghost use Rattle.dq_pdu.specs.Reading.{Fails, item_at, maximum_in, user_information_of, proposed_of, answered_of, associate_of, request_of, accept_of, pdv_at, values_of, pdu_of};
 
 use crate::items::{at_most_one, exactly_one, items_of, name_of, names_of};
-use crate::pdu::{Pdu, Pdv, ProposedContext, Request};
+use crate::numbers::{ASSOCIATE_FIELDS, CONTEXT_FIELDS, PDV_HEADER, item_type, pdu_type};
+use crate::pdu::{Accept, AnsweredContext, Pdu, Pdv, ProposedContext, Request};
 use crate::reading::{Item, ReadError};
 use crate::rules::are_distinct;
 use dq_list::Listed;
@@ -12,7 +15,7 @@ use std::alloc::{AllocError, Global};
 
 /// The maximum length, from the body of its item (PS3.8 annex D.1).
 fn maximum_in(found: Option<&[u8]>) -> Result<Option<u32>, ReadError>
-    ensures { Gives (λ x. x) result (maximum_in (option_map (λ x. x.now) found.entry)) }
+    ensures { Gives Fails (λ x. x) result (maximum_in (option_map (λ x. x.now) found.entry)) }
 {
     match found {
         None => Ok(None),
@@ -24,13 +27,14 @@ fn maximum_in(found: Option<&[u8]>) -> Result<Option<u32>, ReadError>
 /// The maximum length that user information holds.
 #[tactic(auto, unfolding(crate::specs::Reading::user_information_of))]
 fn user_information_of(alloc: Global, user: Option<&[u8]>) -> Result<Option<u32>, ReadError>
-    ensures { Gives (λ x. x) result (user_information_of (option_map (λ x. x.now) user.entry)) }
+    ensures { Gives Fails (λ x. x) result
+        (user_information_of (option_map (λ x. x.now) user.entry)) }
 {
     match user {
         None => Ok(None),
         Some(body) => {
             let items = items_of(alloc, body)?;
-            maximum_in(at_most_one(&items, 0x51)?)
+            maximum_in(at_most_one(&items, item_type::MAXIMUM_LENGTH)?)
         }
     }
 }
@@ -38,33 +42,69 @@ fn user_information_of(alloc: Global, user: Option<&[u8]>) -> Result<Option<u32>
 /// A proposed presentation context, from the body of its item.
 #[tactic(auto, unfolding(crate::specs::Reading::proposed_of))]
 fn proposed_of(alloc: Global, body: &[u8]) -> Result<ProposedContext, ReadError>
-    ensures { Gives (λ x. x) result (proposed_of body.now) }
+    ensures { Gives Fails (λ x. x) result (proposed_of body.now) }
 {
-    if body.len() < 4 {
+    if body.len() < CONTEXT_FIELDS {
         return Err(ReadError::Malformed);
     }
-    let (header, rest) = body.split_at(4);
+    let (fields, rest) = body.split_at(CONTEXT_FIELDS);
     let items = items_of(alloc, rest)?;
-    let abstract_syntax = exactly_one(&items, 0x30)?;
-    let transfer_syntaxes = names_of(alloc, &items, 0x40)?;
-    if header[0] % 2 == 0 || transfer_syntaxes.is_empty() {
+    let abstract_syntax = exactly_one(&items, item_type::ABSTRACT_SYNTAX)?;
+    let transfer_syntaxes = names_of(alloc, &items, item_type::TRANSFER_SYNTAX)?;
+    if fields[0] % 2 == 0 || transfer_syntaxes.is_empty() {
         return Err(ReadError::Malformed);
     }
     Ok(ProposedContext {
-        id: header[0],
+        id: fields[0],
         abstract_syntax: name_of(alloc, abstract_syntax)?,
         transfer_syntaxes: Listed::from_inner(transfer_syntaxes),
     })
 }
 
+/// An answered presentation context, from the body of its item.
+#[tactic(auto, unfolding(crate::specs::Reading::answered_of))]
+fn answered_of(alloc: Global, body: &[u8]) -> Result<AnsweredContext, ReadError>
+    ensures { Gives Fails (λ x. x) result (answered_of body.now) }
+{
+    if body.len() < CONTEXT_FIELDS {
+        return Err(ReadError::Malformed);
+    }
+    let (fields, rest) = body.split_at(CONTEXT_FIELDS);
+    let items = items_of(alloc, rest)?;
+    let transfer_syntax = exactly_one(&items, item_type::TRANSFER_SYNTAX)?;
+    if fields[0] % 2 == 0 {
+        return Err(ReadError::Malformed);
+    }
+    Ok(AnsweredContext {
+        id: fields[0],
+        result: fields[2],
+        transfer_syntax: name_of(alloc, transfer_syntax)?,
+    })
+}
+
 /// The proposed contexts among the items of a request.
-fn contexts_of(alloc: Global, items: &[Item]) -> Result<Vec<ProposedContext>, ReadError>
-    ensures { Gives (λ v. v.items) result (each proposed_of (bodies 32 items.now)) }
+fn proposed_contexts(alloc: Global, items: &[Item]) -> Result<Vec<ProposedContext>, ReadError>
+    ensures { Gives Fails (λ v. v.items) result
+        (each proposed_of (bodies proposed_context_item items.now)) }
 {
     let mut contexts = Vec::new(alloc);
     for item in items {
-        if item.kind == 0x20 {
+        if item.kind == item_type::PROPOSED_CONTEXT {
             contexts.push(proposed_of(alloc, item.octets.inner())?)?;
+        }
+    }
+    Ok(contexts)
+}
+
+/// The answered contexts among the items of an acceptance.
+fn answered_contexts(alloc: Global, items: &[Item]) -> Result<Vec<AnsweredContext>, ReadError>
+    ensures { Gives Fails (λ v. v.items) result
+        (each answered_of (bodies answered_context_item items.now)) }
+{
+    let mut contexts = Vec::new(alloc);
+    for item in items {
+        if item.kind == item_type::ANSWERED_CONTEXT {
+            contexts.push(answered_of(alloc, item.octets.inner())?)?;
         }
     }
     Ok(contexts)
@@ -84,7 +124,8 @@ fn application_context_of(
     alloc: Global,
     found: Option<&[u8]>,
 ) -> Result<Option<Listed<u8>>, AllocError>
-    ensures { IfOk result (λ name. name ≡ option_map unpadded (option_map (λ x. x.now) found.entry)) }
+    ensures { IfOk result (λ name.
+        name ≡ option_map unpadded (option_map (λ x. x.now) found.entry)) }
 {
     match found {
         None => Ok(None),
@@ -92,27 +133,105 @@ fn application_context_of(
     }
 }
 
-/// A request, from its body (PS3.8 section 9.3.2).
-#[tactic(auto, unfolding(crate::specs::Reading::request_of))]
-fn request_of(alloc: Global, body: &[u8]) -> Result<Request, ReadError>
-    ensures { Gives (λ x. x) result (request_of body.now) }
+/// What a request and an acceptance have in common (PS3.8 sections 9.3.2 and 9.3.3).
+#[derive(Debug, Drop)]
+pub(crate) struct Associate {
+    pub version: u16,
+    pub called: [u8; 16],
+    pub calling: [u8; 16],
+    pub reserved: [u8; 32],
+    pub application_context: Option<Listed<u8>>,
+    pub maximum_length: Option<u32>,
+}
+
+/// What a request and an acceptance have in common, from the body and the items after its fixed
+/// fields.
+#[tactic(auto, unfolding(crate::specs::Reading::associate_of))]
+fn associate_of(alloc: Global, body: &[u8], items: &[Item]) -> Result<Associate, ReadError>
+    requires { associate_fields ≤ length body.now }
+    ensures { Gives Fails (λ x. x) result (associate_of body.now items.now) }
 {
-    if body.len() < 68 {
-        return Err(ReadError::Malformed);
-    }
-    let items = items_of(alloc, body.split_at(68).1)?;
-    let application = at_most_one(&items, 0x10)?;
-    let contexts = contexts_of(alloc, &items)?;
-    let maximum_length = user_information_of(alloc, at_most_one(&items, 0x50)?)?;
-    if !are_distinct(&contexts) {
-        return Err(ReadError::Malformed);
-    }
-    Ok(Request {
+    let application = at_most_one(items, item_type::APPLICATION_CONTEXT)?;
+    let user = at_most_one(items, item_type::USER_INFORMATION)?;
+    let maximum_length = user_information_of(alloc, user)?;
+    Ok(Associate {
         version: u16::from_be_bytes(octets_at(body, 0)),
         called: octets_at(body, 4),
         calling: octets_at(body, 20),
         reserved: octets_at(body, 36),
         application_context: application_context_of(alloc, application)?,
+        maximum_length,
+    })
+}
+
+/// The items after the fixed fields of a request or an acceptance.
+fn associate_items(alloc: Global, body: &[u8]) -> Result<Vec<Item>, ReadError>
+    requires { associate_fields ≤ length body.now }
+    ensures { Gives Fails (λ v. v.items) result
+        (parts_of item_at (drop associate_fields body.now)) }
+{
+    items_of(alloc, body.split_at(ASSOCIATE_FIELDS).1)
+}
+
+/// A request, from its body (PS3.8 section 9.3.2).
+#[tactic(auto, unfolding(crate::specs::Reading::request_of))]
+fn request_of(alloc: Global, body: &[u8]) -> Result<Request, ReadError>
+    ensures { Gives Fails (λ x. x) result (request_of body.now) }
+{
+    if body.len() < ASSOCIATE_FIELDS {
+        return Err(ReadError::Malformed);
+    }
+    let items = associate_items(alloc, body)?;
+    let Associate {
+        version,
+        called,
+        calling,
+        reserved,
+        application_context,
+        maximum_length,
+    } = associate_of(alloc, body, &items)?;
+    let contexts = proposed_contexts(alloc, &items)?;
+    if !are_distinct(&contexts) {
+        return Err(ReadError::Malformed);
+    }
+    Ok(Request {
+        version,
+        called,
+        calling,
+        reserved,
+        application_context,
+        contexts: Listed::from_inner(contexts),
+        maximum_length,
+    })
+}
+
+/// An acceptance, from its body (PS3.8 section 9.3.3).
+#[tactic(auto, unfolding(crate::specs::Reading::accept_of))]
+fn accept_of(alloc: Global, body: &[u8]) -> Result<Accept, ReadError>
+    ensures { Gives Fails (λ x. x) result (accept_of body.now) }
+{
+    if body.len() < ASSOCIATE_FIELDS {
+        return Err(ReadError::Malformed);
+    }
+    let items = associate_items(alloc, body)?;
+    let Associate {
+        version,
+        called,
+        calling,
+        reserved,
+        application_context,
+        maximum_length,
+    } = associate_of(alloc, body, &items)?;
+    let contexts = answered_contexts(alloc, &items)?;
+    if !are_distinct(&contexts) {
+        return Err(ReadError::Malformed);
+    }
+    Ok(Accept {
+        version,
+        called,
+        calling,
+        reserved,
+        application_context,
         contexts: Listed::from_inner(contexts),
         maximum_length,
     })
@@ -121,12 +240,12 @@ fn request_of(alloc: Global, body: &[u8]) -> Result<Request, ReadError>
 /// The presentation data value at the front, and the octets after it (PS3.8 section 9.3.5.1).
 #[tactic(auto, unfolding(crate::specs::Reading::pdv_at))]
 fn value_at(alloc: Global, octets: &[u8]) -> Result<(Pdv, &[u8]), ReadError>
-    ensures { Gives (λ x. (x.0, x.1.now)) result (pdv_at octets.now) }
+    ensures { Gives Fails (λ x. (x.0, x.1.now)) result (pdv_at octets.now) }
 {
-    if octets.len() < 6 {
+    if octets.len() < PDV_HEADER {
         return Err(ReadError::Malformed);
     }
-    let (header, behind) = octets.split_at(6);
+    let (header, behind) = octets.split_at(PDV_HEADER);
     let size = u32::from_be_bytes([header[0], header[1], header[2], header[3]]) as usize;
     if size < 2 || behind.len() < size - 2 {
         return Err(ReadError::Malformed);
@@ -143,7 +262,7 @@ fn value_at(alloc: Global, octets: &[u8]) -> Result<(Pdv, &[u8]), ReadError>
 
 /// The presentation data values that fill the octets.
 fn all_values(alloc: Global, octets: &[u8]) -> Result<Vec<Pdv>, ReadError>
-    ensures { Gives (λ v. v.items) result (parts_of pdv_at octets.now) }
+    ensures { Gives Fails (λ v. v.items) result (parts_of pdv_at octets.now) }
 {
     let mut values = Vec::new(alloc);
     let mut rest = octets;
@@ -158,7 +277,7 @@ fn all_values(alloc: Global, octets: &[u8]) -> Result<Vec<Pdv>, ReadError>
 /// A P-DATA-TF PDU, from its body.
 #[tactic(auto, unfolding(crate::specs::Reading::values_of))]
 fn values_of(alloc: Global, body: &[u8]) -> Result<Pdu, ReadError>
-    ensures { Gives (λ x. x) result (values_of body.now) }
+    ensures { Gives Fails (λ x. x) result (values_of body.now) }
 {
     let values = all_values(alloc, body)?;
     if values.is_empty() {
@@ -170,13 +289,18 @@ fn values_of(alloc: Global, body: &[u8]) -> Result<Pdu, ReadError>
 /// The PDU of a type, from its body.
 #[tactic(auto, unfolding(crate::specs::Reading::pdu_of))]
 pub(crate) fn pdu_of(alloc: Global, kind: u8, body: &[u8]) -> Result<Pdu, ReadError>
-    ensures { Gives (λ x. x) result (pdu_of kind body.now) }
+    ensures { Gives Fails (λ x. x) result (pdu_of kind body.now) }
 {
     match (kind, body) {
-        (1, _) => Ok(Pdu::Request(request_of(alloc, body)?)),
-        (4, _) => values_of(alloc, body),
-        (5, [_, _, _, _]) => Ok(Pdu::ReleaseRq),
-        (7, [_, _, source, reason]) => Ok(Pdu::Abort(*source, *reason)),
+        (pdu_type::A_ASSOCIATE_RQ, _) => Ok(Pdu::Request(request_of(alloc, body)?)),
+        (pdu_type::A_ASSOCIATE_AC, _) => Ok(Pdu::Accept(accept_of(alloc, body)?)),
+        (pdu_type::A_ASSOCIATE_RJ, [_, result, source, reason]) => {
+            Ok(Pdu::Reject(*result, *source, *reason))
+        }
+        (pdu_type::P_DATA_TF, _) => values_of(alloc, body),
+        (pdu_type::A_RELEASE_RQ, [_, _, _, _]) => Ok(Pdu::ReleaseRq),
+        (pdu_type::A_RELEASE_RP, [_, _, _, _]) => Ok(Pdu::ReleaseRp),
+        (pdu_type::A_ABORT, [_, _, source, reason]) => Ok(Pdu::Abort(*source, *reason)),
         _ => Err(ReadError::Malformed),
     }
 }

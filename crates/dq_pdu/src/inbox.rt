@@ -1,5 +1,7 @@
-ghost use Rattle.std.specs.Prelude.{◌≡◌, List, ℕ, ◌++◌, [], ◌↔◌, IfOk, OnOk, OnErr, IsErrOf, IsOk};
-ghost use Rattle.dq_pdu.specs.Stream.{pdus_in, holding};
+ghost use Rattle.std.specs.Prelude.{◌≡◌, List, ℕ, ◌++◌, [], ◌↔◌, IfOk, IfErr, OnOk, OnErr, IsErrOf, IsOk, IsOkUnless};
+ghost use Rattle.dq_pdu.specs.Stream.{pdus_in};
+ghost use Rattle.dq_pdu.specs.Holding.{holding};
+ghost use Rattle.dq_pdu.specs.Inboxes.{InboxAfter};
 
 use crate::fault::{InboxError, PduFault};
 use crate::pdu::Pdu;
@@ -29,10 +31,13 @@ pub struct Inbox {
 
 impl Model for Inbox {
     ghost use Rattle.dq_pdu.specs.declared.inbox.Held.{Held};
+    ghost use Rattle.dq_pdu.specs.Holding.{HoldsPart};
 
     ghost Value = { Held };
 
     ghost view = { λ a. a.held };
+
+    ghost invariant = { λ a. HoldsPart a.held };
 }
 
 /// What a piece added to a stream: the PDUs that it completed, and the fault after them.
@@ -44,47 +49,60 @@ pub struct Fed {
 
 impl Inbox {
     /// An inbox that has read nothing. It takes no memory.
-    #[tactic(auto, unfolding(crate::specs::Stream::pdus_within))]
+    #[tactic(auto, unfolding(crate::specs::Stream::pdus_within, crate::specs::Reading::front))]
     pub fn new(alloc: Global) -> Self
-        ensures { result ≡ holding [] }
+        ensures { InboxAfter [] result }
     {
         Inbox {
             alloc,
-            held: Held::Reading(Listed::from_inner(Vec::new(alloc))),
+            held: Held::Reading(Listed::empty(alloc)),
         }
     }
 
-    /// Takes the next piece of the stream. However a stream is cut into pieces, their PDUs are those of the stream.
-    /// It takes time in proportion to the octets, however small the pieces are.
+    /// Takes the next piece of the stream. However a stream is cut into pieces, their PDUs are
+    /// those of the stream. It takes time in proportion to the octets, however small the pieces
+    /// are.
     ///
     /// `NoMemory` where memory ran out, and `Spent` from then on.
     pub fn feed(&mut self, piece: &[u8]) -> Result<Fed, InboxError>
-        ensures pdus { (stream : List ℕ) → self.old ≡ holding stream → IfOk result (λ fed.
+        ensures pdus { (stream : List ℕ) → InboxAfter stream self.old → IfOk result (λ fed.
             ((pdus_in (stream ++ piece.now)).list ≡ (pdus_in stream).list ++ fed.pdus)
             × ((pdus_in (stream ++ piece.now)).fault ≡ fed.fault)) }
+        ensures stands { (stream : List ℕ) → InboxAfter stream self.old
+            → OnOk result (InboxAfter (stream ++ piece.now) self.new) }
         // What is held and the piece after it.
         ensures exact { (rest : List ℕ) → self.old ≡ Held.Reading rest → IfOk result (λ fed.
             ((pdus_in (rest ++ piece.now)).list ≡ fed.pdus)
             × ((pdus_in (rest ++ piece.now)).fault ≡ fed.fault)
             × (self.new ≡ holding (rest ++ piece.now))) }
-        ensures stands { (stream : List ℕ) → self.old ≡ holding stream → OnOk result (self.new ≡ holding (stream ++ piece.now)) }
         // A fault stays, and no PDU comes after it.
-        ensures stopped { (fault : PduFault) → self.old ≡ Held.Stopped fault → IfOk result (λ fed. (fed.pdus ≡ []) × (fed.fault ≡ Some fault)) }
-        ensures stays { (fault : PduFault) → self.old ≡ Held.Stopped fault → IsOk result × (self.new ≡ Held.Stopped fault) }
+        ensures stopped { (fault : PduFault) → self.old ≡ Held.Stopped fault
+            → IfOk result (λ fed. (fed.pdus ≡ []) × (fed.fault ≡ Some fault)) }
+        ensures stays { (fault : PduFault) → self.old ≡ Held.Stopped fault
+            → IsOk result × (self.new ≡ Held.Stopped fault) }
+        // No octets take no memory.
+        ensures quiet { piece.now ≡ [] → IsOkUnless result InboxError.Spent }
         ensures spent { IsErrOf result InboxError.Spent ↔ (self.old ≡ Held.Spent) }
+        ensures not_spent { (stream : List ℕ) → InboxAfter stream self.old
+            → IfErr result (λ e. e ≡ InboxError.NoMemory) }
         ensures err { OnErr result (self.new ≡ Held.Spent) }
     {
         match mem::replace(&mut self.held, Held::Spent) {
             Held::Spent => Err(InboxError::Spent),
             Held::Stopped(fault) => {
                 self.held = Held::Stopped(fault);
-                let pdus = Listed::from_inner(Vec::new(self.alloc));
+                let pdus = Listed::empty(self.alloc);
                 Ok(Fed {
                     pdus,
                     fault: Some(fault),
                 })
             }
             Held::Reading(rest) => {
+                if piece.is_empty() {
+                    self.held = Held::Reading(rest);
+                    let pdus = Listed::empty(self.alloc);
+                    return Ok(Fed { pdus, fault: None });
+                }
                 let (held, fed) = read_on(self.alloc, rest, piece)?;
                 self.held = held;
                 Ok(fed)
@@ -96,7 +114,8 @@ impl Inbox {
 /// Reads a rest and the piece after it, and gives what is held from then on.
 fn read_on(alloc: Global, rest: Listed<u8>, piece: &[u8]) -> Result<(Held, Fed), AllocError>
     ensures held { IfOk result (λ x. x.0 ≡ holding (rest ++ piece.now)) }
-    ensures fed { IfOk result (λ x. ((pdus_in (rest ++ piece.now)).list ≡ x.1.pdus) × ((pdus_in (rest ++ piece.now)).fault ≡ x.1.fault)) }
+    ensures fed { IfOk result (λ x. ((pdus_in (rest ++ piece.now)).list ≡ x.1.pdus)
+        × ((pdus_in (rest ++ piece.now)).fault ≡ x.1.fault)) }
 {
     let mut octets = rest.into_inner();
     octets.extend_from_slice(piece)?;

@@ -1,8 +1,10 @@
 //! Items and sub-items, as they are read (PS3.8 section 9.3.2).
 ghost use Rattle.std.specs.Prelude.{◌≡◌, map, length, option_map, IfOk, Some};
 ghost use Rattle.dq_pdu.specs.Octets.{parts_of, bodies, at_most_one, exactly_one, unpadded};
-ghost use Rattle.dq_pdu.specs.Reading.{Gives, item_at};
+ghost use Rattle.dq_list.specs.Readers.{Gives};
+ghost use Rattle.dq_pdu.specs.Reading.{Fails, item_at};
 
+use crate::numbers::ITEM_HEADER;
 use crate::reading::{Item, ReadError};
 use crate::rules::is_padding;
 use dq_list::Listed;
@@ -11,12 +13,12 @@ use std::alloc::{AllocError, Global};
 /// The item at the front, and the octets after it.
 #[tactic(auto, unfolding(crate::specs::Reading::item_at))]
 fn item_at(alloc: Global, octets: &[u8]) -> Result<(Item, &[u8]), ReadError>
-    ensures { Gives (λ x. (x.0, x.1.now)) result (item_at octets.now) }
+    ensures { Gives Fails (λ x. (x.0, x.1.now)) result (item_at octets.now) }
 {
-    if octets.len() < 4 {
+    if octets.len() < ITEM_HEADER {
         return Err(ReadError::Malformed);
     }
-    let (header, rest) = octets.split_at(4);
+    let (header, rest) = octets.split_at(ITEM_HEADER);
     let size = u16::from_be_bytes([header[2], header[3]]) as usize;
     if rest.len() < size {
         return Err(ReadError::Malformed);
@@ -31,7 +33,7 @@ fn item_at(alloc: Global, octets: &[u8]) -> Result<(Item, &[u8]), ReadError>
 
 /// The items that fill the octets.
 pub(crate) fn items_of(alloc: Global, octets: &[u8]) -> Result<Vec<Item>, ReadError>
-    ensures { Gives (λ v. v.items) result (parts_of item_at octets.now) }
+    ensures { Gives Fails (λ v. v.items) result (parts_of item_at octets.now) }
 {
     let mut items = Vec::new(alloc);
     let mut rest = octets;
@@ -45,7 +47,7 @@ pub(crate) fn items_of(alloc: Global, octets: &[u8]) -> Result<Vec<Item>, ReadEr
 
 /// The body of the only item of a type, if there is one.
 pub(crate) fn at_most_one(items: &[Item], kind: u8) -> Result<Option<&[u8]>, ReadError>
-    ensures { Gives (option_map (λ x. x.now)) result (at_most_one (bodies kind items.now)) }
+    ensures { Gives Fails (option_map (λ x. x.now)) result (at_most_one (bodies kind items.now)) }
 {
     let mut found: Option<&[u8]> = None;
     for item in items {
@@ -61,7 +63,7 @@ pub(crate) fn at_most_one(items: &[Item], kind: u8) -> Result<Option<&[u8]>, Rea
 
 /// The body of the only item of a type.
 pub(crate) fn exactly_one(items: &[Item], kind: u8) -> Result<&[u8], ReadError>
-    ensures { Gives (λ x. x.now) result (exactly_one (bodies kind items.now)) }
+    ensures { Gives Fails (λ x. x.now) result (exactly_one (bodies kind items.now)) }
 {
     at_most_one(items, kind)?.ok_or(ReadError::Malformed)
 }

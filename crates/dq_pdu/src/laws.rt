@@ -1,33 +1,73 @@
 //! What holds of all PDUs and of all streams. Each law is what a function with no body ensures.
-ghost use Rattle.std.specs.Prelude.{◌≡◌, ℕ, List, ◌++◌, length, take, Some, IsTrue};
+ghost use Rattle.std.specs.Prelude.{◌≡◌, ◌≤◌, ◌+◌, ℕ, Bool, List, [], ◌++◌, length, take, Some, None, IsTrue};
+ghost use Rattle.std.specs.List.{flat_map, list_all};
 ghost use Rattle.dq_pdu.specs.declared.fault.PduFault.{PduFault};
+ghost use Rattle.dq_pdu.specs.declared.inbox.Held.{Held};
+ghost use Rattle.dq_pdu.specs.declared.inbox.Held.TheVariants.{Spent};
 ghost use Rattle.dq_pdu.specs.declared.pdu.Pdu.{Pdu};
+ghost use Rattle.dq_pdu.specs.declared.pdu.Pdu.TheVariants.{Request as request_pdu, Accept as accept_pdu};
+ghost use Rattle.dq_pdu.specs.declared.pdu.Request.{Request};
+ghost use Rattle.dq_pdu.specs.declared.pdu.Accept.{Accept};
 ghost use Rattle.dq_pdu.specs.declared.reading.Front.TheVariants.{Whole};
-ghost use Rattle.dq_pdu.specs.Spelling.{Spells, is_taken, IsTakenAs};
+ghost use Rattle.dq_pdu.specs.Numbers.{longest_body, pdv_header};
+ghost use Rattle.dq_pdu.specs.Octets.{is_padding, unpadded};
+ghost use Rattle.dq_pdu.specs.Spelling.{Spells};
 ghost use Rattle.dq_pdu.specs.Reading.{front};
-ghost use Rattle.dq_pdu.specs.Writing.{spelling, IsWritable};
-ghost use Rattle.dq_pdu.specs.Stream.{Splits, pdus_in, fault_of, continued};
+ghost use Rattle.dq_pdu.specs.Writing.{spelling, p_data, is_bare, IsWritable, AreWritable};
+ghost use Rattle.dq_pdu.specs.Stream.{Splits, pdus_in, fault_of, with_list, continued};
+ghost use Rattle.dq_pdu.specs.Inboxes.{InboxAfter, fault_in};
+ghost use Rattle.dq_pdu.specs.Acceptances.{AreOctets, AreContextIds, IsReceived, IsAnswer};
 
 /// Octets spell at most one PDU.
 pub fn spelling_is_unique()
-    ensures { (octets : List ℕ) (pdu other : Pdu) → Spells pdu octets → Spells other octets → pdu ≡ other }
+    ensures { (octets : List ℕ) (pdu other : Pdu)
+        → Spells pdu octets → Spells other octets → pdu ≡ other }
 {}
 
 /// What is read is spelled so, and what is spelled so is read, whatever follows it.
 pub fn reading_is_spelling()
-    ensures spelled { (octets : List ℕ) (pdu : Pdu) (count : ℕ) → front octets ≡ Whole pdu count → IsTakenAs pdu (take count octets) }
-    ensures read { (octets behind : List ℕ) (pdu : Pdu) → IsTakenAs pdu octets → front (octets ++ behind) ≡ Whole pdu (length octets) }
+    ensures spelled { (octets : List ℕ) (pdu : Pdu) (count : ℕ)
+        → front octets ≡ Whole pdu count → Spells pdu (take count octets) }
+    ensures read { (octets others : List ℕ) (pdu : Pdu) → Spells pdu octets
+        → front (octets ++ others) ≡ Whole pdu (length octets) }
 {}
 
-/// What is written for a PDU is read as that PDU, whatever follows it, where PDUs of its type are taken.
+/// What is written for a PDU is read as that PDU, whatever follows it.
 pub fn writing_is_read()
-    ensures { (pdu : Pdu) (behind : List ℕ) → IsWritable pdu → IsTrue (is_taken pdu) → front (spelling pdu ++ behind) ≡ Whole pdu (length (spelling pdu)) }
+    ensures { (pdu : Pdu) (others : List ℕ) → IsWritable pdu
+        → front (spelling pdu ++ others) ≡ Whole pdu (length (spelling pdu)) }
 {}
 
-/// A stream is its PDUs, one after the other, and then a rest of which no prefix spells a PDU; and it is so in one way.
+/// PDUs that are written one after the other are read as those PDUs, whatever follows them; where
+/// nothing does, nothing is left, and there is no fault.
+pub fn written_pdus_are_read()
+    ensures all { (pdus : List Pdu) → AreWritable pdus
+        → pdus_in (flat_map spelling pdus) ≡ record { list = pdus; rest = []; fault = None } }
+    ensures more { (pdus : List Pdu) (more : List ℕ) → AreWritable pdus
+        → pdus_in (flat_map spelling pdus ++ more) ≡ with_list pdus (pdus_in more) }
+{}
+
+/// A fragment of at most 65,530 octets is written as a PDU of one PDV.
+pub fn fragments_are_writable()
+    ensures { (context : ℕ) (command last : Bool) (octets : List ℕ)
+        → length octets + pdv_header ≤ longest_body
+        → IsWritable (p_data context command last octets) }
+{}
+
+/// Of an identifier nothing but padding at its end is lost, and no padding is left there (PS3.5
+/// section 9.1).
+pub fn padding_is_stripped()
+    ensures lost { (octets : List ℕ) → (padding : List ℕ)
+        × (octets ≡ unpadded octets ++ padding) × IsTrue (list_all is_padding padding) }
+    ensures left { (octets : List ℕ) → IsTrue (is_bare (unpadded octets)) }
+{}
+
+/// A stream is its PDUs, one after the other, and then a rest of which no prefix spells a PDU; and
+/// it is so in one way.
 pub fn pdus_split_a_stream()
     ensures split { (stream : List ℕ) → Splits stream (pdus_in stream).list (pdus_in stream).rest }
-    ensures only { (stream : List ℕ) (pdus : List Pdu) (rest : List ℕ) → Splits stream pdus rest → (pdus ≡ (pdus_in stream).list) × (rest ≡ (pdus_in stream).rest) }
+    ensures only { (stream : List ℕ) (pdus : List Pdu) (rest : List ℕ) → Splits stream pdus rest
+        → (pdus ≡ (pdus_in stream).list) × (rest ≡ (pdus_in stream).rest) }
 {}
 
 /// The fault of a stream is the one that its rest has.
@@ -35,10 +75,49 @@ pub fn a_fault_is_of_the_rest()
     ensures { (stream : List ℕ) → (pdus_in stream).fault ≡ fault_of (pdus_in stream).rest }
 {}
 
-/// A longer stream has the PDUs of the shorter one and may have more; a fault stays, and no PDU comes after it.
+/// An empty stream has no PDUs, no rest and no fault.
+pub fn an_empty_stream_has_none()
+    ensures { pdus_in [] ≡ record { list = []; rest = []; fault = None } }
+{}
+
+/// A longer stream has the PDUs of the shorter one and may have more; a fault stays, and no PDU
+/// comes after it.
 pub fn a_longer_stream_adds()
-    ensures more { (stream more : List ℕ) → (added : List Pdu) × ((pdus_in (stream ++ more)).list ≡ (pdus_in stream).list ++ added) }
+    ensures more { (stream more : List ℕ) → (added : List Pdu)
+        × ((pdus_in (stream ++ more)).list ≡ (pdus_in stream).list ++ added) }
     ensures fault { (stream more : List ℕ) (fault : PduFault) → (pdus_in stream).fault ≡ Some fault
-        → ((pdus_in (stream ++ more)).list ≡ (pdus_in stream).list) × ((pdus_in (stream ++ more)).fault ≡ Some fault) }
-    ensures exact { (stream more : List ℕ) → pdus_in (stream ++ more) ≡ continued (pdus_in stream).fault (pdus_in stream).list (pdus_in stream).rest more }
+        → ((pdus_in (stream ++ more)).list ≡ (pdus_in stream).list)
+        × ((pdus_in (stream ++ more)).fault ≡ Some fault) }
+    ensures faultless { (stream more : List ℕ) → (pdus_in (stream ++ more)).fault ≡ None
+        → (pdus_in stream).fault ≡ None }
+    ensures exact { (stream more : List ℕ) → pdus_in (stream ++ more)
+        ≡ continued (pdus_in stream).fault (pdus_in stream).list (pdus_in stream).rest more }
+{}
+
+/// An inbox stands for the stream that it was fed, whatever its pieces were: it is the only one
+/// that does, it is not spent, and it has the fault of the stream.
+pub fn an_inbox_stands_for_its_stream()
+    ensures only { (stream : List ℕ) (inbox other : Held)
+        → InboxAfter stream inbox → InboxAfter stream other → inbox ≡ other }
+    ensures not_spent { (stream : List ℕ) → InboxAfter stream Spent → ⊥ }
+    ensures fault { (stream : List ℕ) (inbox : Held)
+        → InboxAfter stream inbox → fault_in inbox ≡ (pdus_in stream).fault }
+{}
+
+/// There are at most 128 contexts: their ids are odd octets of their own (PS3.8 section 9.3.2.2).
+pub fn contexts_are_few()
+    ensures { (ids : List ℕ) → AreContextIds ids → length ids ≤ 128 }
+{}
+
+/// The contexts of a request that octets spell have odd ids of their own, and its titles and
+/// reserved octets have their lengths (PS3.8 section 9.3.2).
+pub fn requests_have_context_ids()
+    ensures { (octets : List ℕ) (request : Request) → AreOctets octets
+        → Spells (request_pdu request) octets → IsReceived request }
+{}
+
+/// An acceptance that answers the contexts of a request can be written: its contexts are few, and
+/// its identifiers short (PS3.8 section 9.3.3, PS3.5 section 9.1).
+pub fn answers_are_writable()
+    ensures { (accept : Accept) → IsAnswer accept → IsWritable (accept_pdu accept) }
 {}

@@ -1,4 +1,5 @@
-//! Protocol data PDUs.
+//! The PDUs of the upper layer protocol (PS3.8 section 9.3): protocol data units, read from a
+//! stream and written.
 #![tactic(auto)]
 
 mod bodies;
@@ -6,9 +7,11 @@ mod fault;
 mod inbox;
 mod items;
 pub mod laws;
+mod numbers;
 mod parts;
 mod pdu;
 mod reading;
+mod role;
 mod rules;
 mod stream;
 mod writing;
@@ -16,7 +19,8 @@ mod writing;
 pub use fault::{InboxError, PduFault};
 pub use inbox::{Fed, Inbox};
 pub use pdu::{Accept, AnsweredContext, Pdu, Pdv, ProposedContext, Request};
-pub use writing::{writable, write_pdu};
+pub use role::{Ending, Role};
+pub use writing::{append_p_data, writable, write_pdu};
 
 #[cfg(test)]
 mod tests;

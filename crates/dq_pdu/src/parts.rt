@@ -2,8 +2,11 @@
 ghost use Rattle.std.specs.Prelude.{◌≡◌, ◌≤◌, ◌<◌, ◌+◌, ◌^◌, ◌∷◌, ◌++◌, ℕ, List, length, OnOk};
 ghost use Rattle.std.specs.Int.{w16, to_be_bytes};
 ghost use Rattle.std.specs.List.{flat_map};
-ghost use Rattle.dq_pdu.specs.Writing.{counted, item, proposed, proposed_body, answered, answered_body, control_header, pdv};
+ghost use Rattle.dq_pdu.specs.Numbers.{transfer_syntax_item, longest_body};
+ghost use Rattle.dq_pdu.specs.Writing.{item, proposed, proposed_body, answered, answered_body, control_header, pdv};
+ghost use Rattle.dq_pdu.specs.Widths.{counted};
 
+use crate::numbers::{CONTEXT_FIELDS, ITEM_HEADER, PDV_HEADER, item_type};
 use crate::pdu::{AnsweredContext, Pdv, ProposedContext};
 use dq_list::Listed;
 use std::alloc::AllocError;
@@ -18,7 +21,7 @@ pub(crate) trait Part {
 
     /// Writes it at the end.
     fn put(&self, out: &mut Vec<u8>) -> Result<(), AllocError>
-        requires { length (octets self.now) ≤ 65536 }
+        requires { length (octets self.now) ≤ longest_body }
         ensures { OnOk result (out.new.items ≡ out.old.items ++ octets self.now) };
 }
 
@@ -35,7 +38,7 @@ pub(crate) fn size_of_parts<P: Part>(parts: &[P]) -> usize
 
 /// Writes parts one after the other.
 pub(crate) fn put_parts<P: Part>(out: &mut Vec<u8>, parts: &[P]) -> Result<(), AllocError>
-    requires { length (flat_map P.octets parts.now) ≤ 65536 }
+    requires { length (flat_map P.octets parts.now) ≤ longest_body }
     ensures { OnOk result (out.new.items ≡ out.old.items ++ flat_map P.octets parts.now) }
 {
     for part in parts {
@@ -63,37 +66,40 @@ pub(crate) fn put_item(out: &mut Vec<u8>, kind: u8, body: &[u8]) -> Result<(), A
 
 /// A transfer syntax, as a sub-item (PS3.8 section 9.3.2.2.2).
 impl Part for Listed<u8> {
-    ghost octets = { item 64 };
+    ghost octets = { item transfer_syntax_item };
 
     fn size(&self) -> usize {
-        self.inner().len().saturating_add(4)
+        self.len().saturating_add(ITEM_HEADER)
     }
 
     fn put(&self, out: &mut Vec<u8>) -> Result<(), AllocError> {
-        put_item(out, 0x40, self.inner())
+        put_item(out, item_type::TRANSFER_SYNTAX, self.as_slice())
     }
 }
 
 fn proposed_size(context: &ProposedContext) -> usize
     ensures { result ≡ counted (length (proposed_body context.now)) }
 {
-    let names = size_of_parts(context.transfer_syntaxes.inner());
-    let name = context.abstract_syntax.inner().len();
-    names.saturating_add(name).saturating_add(8)
+    let names = size_of_parts(context.transfer_syntaxes.as_slice());
+    let name = context.abstract_syntax.len();
+    names
+        .saturating_add(name)
+        .saturating_add(CONTEXT_FIELDS + ITEM_HEADER)
 }
 
 impl Part for ProposedContext {
     ghost octets = { proposed };
 
     fn size(&self) -> usize {
-        proposed_size(self).saturating_add(4)
+        proposed_size(self).saturating_add(ITEM_HEADER)
     }
 
     fn put(&self, out: &mut Vec<u8>) -> Result<(), AllocError> {
-        put_item_header(out, 0x20, proposed_size(self))?;
+        put_item_header(out, item_type::PROPOSED_CONTEXT, proposed_size(self))?;
         out.extend_from_slice(&[self.id, 0, 0, 0])?;
-        put_item(out, 0x30, self.abstract_syntax.inner())?;
-        put_parts(out, self.transfer_syntaxes.inner())
+        let abstract_syntax = self.abstract_syntax.as_slice();
+        put_item(out, item_type::ABSTRACT_SYNTAX, abstract_syntax)?;
+        put_parts(out, self.transfer_syntaxes.as_slice())
     }
 }
 
@@ -101,33 +107,60 @@ impl Part for AnsweredContext {
     ghost octets = { answered };
 
     fn size(&self) -> usize {
-        self.transfer_syntax.inner().len().saturating_add(12)
+        self.transfer_syntax
+            .len()
+            .saturating_add(ITEM_HEADER + CONTEXT_FIELDS + ITEM_HEADER)
     }
 
     fn put(&self, out: &mut Vec<u8>) -> Result<(), AllocError> {
-        put_item_header(out, 0x21, self.transfer_syntax.inner().len() + 8)?;
+        let size = CONTEXT_FIELDS + ITEM_HEADER + self.transfer_syntax.len();
+        put_item_header(out, item_type::ANSWERED_CONTEXT, size)?;
         out.extend_from_slice(&[self.id, 0, self.result, 0])?;
-        put_item(out, 0x40, self.transfer_syntax.inner())
+        let transfer_syntax = self.transfer_syntax.as_slice();
+        put_item(out, item_type::TRANSFER_SYNTAX, transfer_syntax)
     }
 }
 
-fn control_header_of(value: &Pdv) -> u8
-    ensures { result ≡ control_header value.now.command value.now.last }
+/// The control header of a PDV: whether it is of a command, and whether it is the last (PS3.8 annex
+/// E.2).
+fn control_header(command: bool, last: bool) -> u8
+    ensures { result ≡ control_header command last }
 {
-    u8::from(value.command) + 2 * u8::from(value.last)
+    u8::from(command) + 2 * u8::from(last)
+}
+
+/// Writes a PDV: its length, its context's id, its control header and its fragment (PS3.8 section
+/// 9.3.5.1).
+pub(crate) fn put_pdv(
+    out: &mut Vec<u8>,
+    context: u8,
+    command: bool,
+    last: bool,
+    fragment: &[u8],
+) -> Result<(), AllocError>
+    requires { length fragment.now ≤ longest_body }
+    ensures { OnOk result (out.new.items ≡ out.old.items ++ pdv (record {
+      context = context;
+      command = command;
+      last = last;
+      octets = fragment.now;
+    })) }
+{
+    let size = fragment.len() as u32 + 2;
+    out.extend_from_slice(&size.to_be_bytes())?;
+    out.extend_from_slice(&[context, control_header(command, last)])?;
+    out.extend_from_slice(fragment)
 }
 
 impl Part for Pdv {
     ghost octets = { pdv };
 
     fn size(&self) -> usize {
-        self.octets.inner().len().saturating_add(6)
+        self.octets.len().saturating_add(PDV_HEADER)
     }
 
     fn put(&self, out: &mut Vec<u8>) -> Result<(), AllocError> {
-        let size = self.octets.inner().len() as u32 + 2;
-        out.extend_from_slice(&size.to_be_bytes())?;
-        out.extend_from_slice(&[self.context, control_header_of(self)])?;
-        out.extend_from_slice(self.octets.inner())
+        let fragment = self.octets.as_slice();
+        put_pdv(out, self.context, self.command, self.last, fragment)
     }
 }

@@ -4,6 +4,7 @@ ghost use Rattle.dq_pdu.specs.Reading.{front};
 
 use crate::bodies::pdu_of;
 use crate::fault::PduFault;
+use crate::numbers::{LONGEST_BODY, PDU_HEADER, pdu_type};
 use crate::pdu::Pdu;
 use dq_list::Listed;
 use std::alloc::{AllocError, AllocFailed, Global};
@@ -48,27 +49,28 @@ pub(crate) enum Front {
     Whole(Pdu, usize),
 }
 
-/// What octets begin with: a PDU's type, a reserved octet, the length of its body, and its body (PS3.8 section 9.3.1).
+/// What octets begin with: a PDU's type, a reserved octet, the length of its body, and its body
+/// (PS3.8 section 9.3.1).
 #[tactic(auto, unfolding(crate::specs::Reading::front))]
 pub(crate) fn front_of(alloc: Global, octets: &[u8]) -> Result<Front, AllocError>
     ensures { IfOk result (λ found. found ≡ front octets.now) }
 {
-    if octets.len() < 6 {
+    if octets.len() < PDU_HEADER {
         return Ok(Front::Partial);
     }
-    let (header, behind) = octets.split_at(6);
-    if header[0] == 0 || header[0] > 7 {
+    let (header, behind) = octets.split_at(PDU_HEADER);
+    if header[0] < pdu_type::A_ASSOCIATE_RQ || header[0] > pdu_type::A_ABORT {
         return Ok(Front::Faulty(PduFault::Unrecognized));
     }
     let size = u32::from_be_bytes([header[2], header[3], header[4], header[5]]) as usize;
-    if size > 65536 {
+    if size > LONGEST_BODY {
         return Ok(Front::Faulty(PduFault::TooLong));
     }
     if behind.len() < size {
         return Ok(Front::Partial);
     }
     match pdu_of(alloc, header[0], behind.split_at(size).0) {
-        Ok(pdu) => Ok(Front::Whole(pdu, size + 6)),
+        Ok(pdu) => Ok(Front::Whole(pdu, size + PDU_HEADER)),
         Err(ReadError::Malformed) => Ok(Front::Faulty(PduFault::Malformed)),
         Err(ReadError::Memory) => Err(AllocError),
     }

@@ -2,7 +2,7 @@
 ghost use Rattle.std.specs.Prelude.{◌≡◌, ℕ, map, not};
 ghost use Rattle.std.specs.List.{list_all};
 ghost use Rattle.dq_pdu.specs.Octets.{is_padding, is_among, are_distinct};
-ghost use Rattle.dq_pdu.specs.Writing.{is_bare, is_name, is_odd, is_proposable, is_answerable, has_parts};
+ghost use Rattle.dq_pdu.specs.Writing.{is_bare, is_name, is_proposable, is_answerable, has_parts};
 
 use crate::pdu::{AnsweredContext, Pdu, ProposedContext};
 use dq_list::Listed;
@@ -32,7 +32,7 @@ impl Identified for AnsweredContext {
 }
 
 /// Whether a context has the id.
-fn is_taken<C: Identified>(id: u8, contexts: &[C]) -> bool
+fn has_id<C: Identified>(id: u8, contexts: &[C]) -> bool
     ensures { result ≡ is_among id (map C.id_of contexts.now) }
 {
     for context in contexts {
@@ -49,7 +49,7 @@ pub(crate) fn are_distinct<C: Identified>(contexts: &[C]) -> bool
 {
     let mut rest = contexts;
     while let [first, others @ ..] = rest {
-        if is_taken(first.id(), others) {
+        if has_id(first.id(), others) {
             return false;
         }
         rest = others;
@@ -61,7 +61,7 @@ pub(crate) fn are_distinct<C: Identified>(contexts: &[C]) -> bool
 pub(crate) fn is_padding(octet: u8) -> bool
     ensures { result ≡ is_padding octet }
 {
-    octet == 0 || octet == b' '
+    octet == 0x00 || octet == b' '
 }
 
 /// Whether no padding stands at the end.

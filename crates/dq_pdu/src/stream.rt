@@ -12,12 +12,14 @@ pub(crate) fn pdus_of(
     alloc: Global,
     octets: &[u8],
 ) -> Result<(Vec<Pdu>, Option<PduFault>, &[u8]), AllocError>
-    ensures pdus { IfOk result (λ found. pdus_in octets.now ≡ record { list = found.0.items; rest = found.2.now; fault = found.1 }) }
-    ensures end { IfOk result (λ found. (length found.2.now ≤ length octets.now) × (found.2.now ≡ drop (length octets.now - length found.2.now) octets.now)) }
+    ensures pdus { IfOk result (λ found. pdus_in octets.now
+        ≡ record { list = found.0.items; rest = found.2.now; fault = found.1 }) }
+    ensures end { IfOk result (λ found. (length found.2.now ≤ length octets.now)
+        × (found.2.now ≡ drop (length octets.now - length found.2.now) octets.now)) }
 {
     let mut pdus = Vec::new(alloc);
     let mut rest = octets;
-    'pdus_in: loop {
+    'pdus: loop {
         match front_of(alloc, rest)? {
             Front::Partial => return Ok((pdus, None, rest)),
             Front::Faulty(fault) => return Ok((pdus, Some(fault), rest)),

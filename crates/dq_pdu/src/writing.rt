@@ -1,7 +1,11 @@
-ghost use Rattle.std.specs.Prelude.{◌≡◌, ◌≤◌, ◌++◌, ℕ, List, length, Some, codes, IsTrue, ◌↔◌, IfOk, OnOk};
-ghost use Rattle.dq_pdu.specs.Writing.{counted, item, application_context, maximum_length, request_information, accept_information, associate, request as request_body, accept as accept_body, kind, body, spelling, is_writable, IsWritable, AreWide, HasWidths};
+ghost use Rattle.std.specs.Prelude.{◌≡◌, ◌≤◌, ◌+◌, ◌^◌, ◌<◌, ◌++◌, ◌∷◌, ℕ, List, length, Some, IsTrue, ◌↔◌, IfOk, OnOk};
+ghost use Rattle.std.specs.Int.{w32, to_be_bytes};
+ghost use Rattle.dq_pdu.specs.Numbers.{longest_body, pdv_header};
+ghost use Rattle.dq_pdu.specs.Writing.{item, application_context, maximum_length, request_information, implementation, accept_information, associate, request as request_body, accept as accept_body, kind, body, spelling, p_data, is_writable, IsWritable};
+ghost use Rattle.dq_pdu.specs.Widths.{counted, AreWide, HasWidths};
 
-use crate::parts::{put_item, put_parts, size_of_parts};
+use crate::numbers::{ITEM_HEADER, LONGEST_BODY, PDU_HEADER, PDV_HEADER, item_type, pdu_type};
+use crate::parts::{put_item, put_parts, put_pdv, size_of_parts};
 use crate::pdu::{Accept, Pdu, Request};
 use crate::rules::has_parts;
 use dq_list::Listed;
@@ -13,20 +17,21 @@ fn size_of_name(name: &Option<Listed<u8>>) -> usize
 {
     match name {
         None => 0,
-        Some(name) => name.inner().len().saturating_add(4),
+        Some(name) => name.len().saturating_add(ITEM_HEADER),
     }
 }
 
 fn size_of_request(request: &Request) -> usize
     ensures size { result ≡ counted (length (request_body request.now)) }
-    ensures widths { AreWide request.now.version request.now.called request.now.calling request.now.reserved request.now.maximum_length }
+    ensures widths { let r = request.now in
+        AreWide r.version r.called r.calling r.reserved r.maximum_length }
 {
     // Read, so that the clause knows its width.
     let _version = request.version;
     let titles = request.called.len() + request.calling.len();
     let fixed = 4 + titles + request.reserved.len();
     let name = size_of_name(&request.application_context);
-    let contexts = size_of_parts(request.contexts.inner());
+    let contexts = size_of_parts(request.contexts.as_slice());
     let information = match request.maximum_length {
         None => 0,
         Some(_maximum) => 12,
@@ -38,14 +43,15 @@ fn size_of_request(request: &Request) -> usize
 
 fn size_of_accept(accept: &Accept) -> usize
     ensures size { result ≡ counted (length (accept_body accept.now)) }
-    ensures widths { AreWide accept.now.version accept.now.called accept.now.calling accept.now.reserved accept.now.maximum_length }
+    ensures widths { let a = accept.now in
+        AreWide a.version a.called a.calling a.reserved a.maximum_length }
 {
     // Read, so that the clause knows its width.
     let _version = accept.version;
     let titles = accept.called.len() + accept.calling.len();
     let fixed = 4 + titles + accept.reserved.len();
     let name = size_of_name(&accept.application_context);
-    let contexts = size_of_parts(accept.contexts.inner());
+    let contexts = size_of_parts(accept.contexts.as_slice());
     let information = match accept.maximum_length {
         None => 37,
         Some(_maximum) => 45,
@@ -63,27 +69,28 @@ fn size_of_body(pdu: &Pdu) -> usize
     match pdu {
         Pdu::Request(request) => size_of_request(request),
         Pdu::Accept(accept) => size_of_accept(accept),
-        Pdu::PData(values) => size_of_parts(values.inner()),
+        Pdu::PData(values) => size_of_parts(values.as_slice()),
         Pdu::Reject(..) | Pdu::ReleaseRq | Pdu::ReleaseRp | Pdu::Abort(..) => 4,
     }
 }
 
-/// Whether the PDU has a spelling: identifiers end without padding, contexts have odd ids of their own and what they
-/// need, and the body is no longer than 65,536 octets (PS3.8 section 9.3). It takes no memory.
+/// Whether the PDU has a spelling: identifiers end without padding, contexts have odd ids of their
+/// own and what they need, and the body is no longer than 65,536 octets (PS3.8 section 9.3). It
+/// takes no memory.
 pub fn writable(pdu: &Pdu) -> bool
     ensures test { result ≡ is_writable pdu.now }
     ensures means { IsTrue result ↔ IsWritable pdu.now }
 {
-    has_parts(pdu) && size_of_body(pdu) <= 65536
+    has_parts(pdu) && size_of_body(pdu) <= LONGEST_BODY
 }
 
 fn put_name(out: &mut Vec<u8>, name: &Option<Listed<u8>>) -> Result<(), AllocError>
-    requires { length (application_context name.now) ≤ 65536 }
+    requires { length (application_context name.now) ≤ longest_body }
     ensures { OnOk result (out.new.items ≡ out.old.items ++ application_context name.now) }
 {
     match name {
         None => Ok(()),
-        Some(name) => put_item(out, 0x10, name.inner()),
+        Some(name) => put_item(out, item_type::APPLICATION_CONTEXT, name.as_slice()),
     }
 }
 
@@ -91,7 +98,7 @@ fn put_name(out: &mut Vec<u8>, name: &Option<Listed<u8>>) -> Result<(), AllocErr
 fn put_maximum_length(out: &mut Vec<u8>, maximum: u32) -> Result<(), AllocError>
     ensures { OnOk result (out.new.items ≡ out.old.items ++ maximum_length (Some maximum)) }
 {
-    put_item(out, 0x51, &maximum.to_be_bytes())
+    put_item(out, item_type::MAXIMUM_LENGTH, &maximum.to_be_bytes())
 }
 
 fn put_request_information(out: &mut Vec<u8>, maximum: Option<u32>) -> Result<(), AllocError>
@@ -100,7 +107,7 @@ fn put_request_information(out: &mut Vec<u8>, maximum: Option<u32>) -> Result<()
     match maximum {
         None => Ok(()),
         Some(maximum) => {
-            out.extend_from_slice(&[0x50, 0, 0, 8])?;
+            out.extend_from_slice(&[item_type::USER_INFORMATION, 0, 0, 8])?;
             put_maximum_length(out, maximum)
         }
     }
@@ -108,10 +115,12 @@ fn put_request_information(out: &mut Vec<u8>, maximum: Option<u32>) -> Result<()
 
 /// Names this implementation (PS3.7 annex D.3.3.2).
 fn put_implementation(out: &mut Vec<u8>) -> Result<(), AllocError>
-    ensures { OnOk result (out.new.items ≡ out.old.items ++ (item 82 (codes "2.25.2718281828") ++ item 85 (codes "DQARCHIVE1"))) }
+    ensures { OnOk result (out.new.items ≡ out.old.items ++ implementation) }
 {
-    put_item(out, 0x52, b"2.25.2718281828")?;
-    put_item(out, 0x55, b"DQARCHIVE1")
+    let class = item_type::IMPLEMENTATION_CLASS_UID;
+    put_item(out, class, b"2.25.2718281828")?;
+    let name = item_type::IMPLEMENTATION_VERSION_NAME;
+    put_item(out, name, b"DQARCHIVE1")
 }
 
 fn put_accept_information(out: &mut Vec<u8>, maximum: Option<u32>) -> Result<(), AllocError>
@@ -119,11 +128,11 @@ fn put_accept_information(out: &mut Vec<u8>, maximum: Option<u32>) -> Result<(),
 {
     match maximum {
         None => {
-            out.extend_from_slice(&[0x50, 0, 0, 33])?;
+            out.extend_from_slice(&[item_type::USER_INFORMATION, 0, 0, 33])?;
             put_implementation(out)
         }
         Some(maximum) => {
-            out.extend_from_slice(&[0x50, 0, 0, 41])?;
+            out.extend_from_slice(&[item_type::USER_INFORMATION, 0, 0, 41])?;
             put_maximum_length(out, maximum)?;
             put_implementation(out)
         }
@@ -131,7 +140,7 @@ fn put_accept_information(out: &mut Vec<u8>, maximum: Option<u32>) -> Result<(),
 }
 
 fn put_request(out: &mut Vec<u8>, request: &Request) -> Result<(), AllocError>
-    requires { length (request_body request.now) ≤ 65536 }
+    requires { length (request_body request.now) ≤ longest_body }
     ensures { OnOk result (out.new.items ≡ out.old.items ++ request_body request.now) }
 {
     out.extend_from_slice(&request.version.to_be_bytes())?;
@@ -140,12 +149,12 @@ fn put_request(out: &mut Vec<u8>, request: &Request) -> Result<(), AllocError>
     out.extend_from_slice(&request.calling)?;
     out.extend_from_slice(&request.reserved)?;
     put_name(out, &request.application_context)?;
-    put_parts(out, request.contexts.inner())?;
+    put_parts(out, request.contexts.as_slice())?;
     put_request_information(out, request.maximum_length)
 }
 
 fn put_accept(out: &mut Vec<u8>, accept: &Accept) -> Result<(), AllocError>
-    requires { length (accept_body accept.now) ≤ 65536 }
+    requires { length (accept_body accept.now) ≤ longest_body }
     ensures { OnOk result (out.new.items ≡ out.old.items ++ accept_body accept.now) }
 {
     out.extend_from_slice(&accept.version.to_be_bytes())?;
@@ -154,12 +163,12 @@ fn put_accept(out: &mut Vec<u8>, accept: &Accept) -> Result<(), AllocError>
     out.extend_from_slice(&accept.calling)?;
     out.extend_from_slice(&accept.reserved)?;
     put_name(out, &accept.application_context)?;
-    put_parts(out, accept.contexts.inner())?;
+    put_parts(out, accept.contexts.as_slice())?;
     put_accept_information(out, accept.maximum_length)
 }
 
 fn put_body(out: &mut Vec<u8>, pdu: &Pdu) -> Result<(), AllocError>
-    requires { length (body pdu.now) ≤ 65536 }
+    requires { length (body pdu.now) ≤ longest_body }
     ensures { OnOk result (out.new.items ≡ out.old.items ++ body pdu.now) }
 {
     match pdu {
@@ -168,7 +177,7 @@ fn put_body(out: &mut Vec<u8>, pdu: &Pdu) -> Result<(), AllocError>
         Pdu::Reject(result, source, reason) => {
             out.extend_from_slice(&[0, *result, *source, *reason])
         }
-        Pdu::PData(values) => put_parts(out, values.inner()),
+        Pdu::PData(values) => put_parts(out, values.as_slice()),
         Pdu::ReleaseRq | Pdu::ReleaseRp => out.extend_from_slice(&[0; 4]),
         Pdu::Abort(source, reason) => out.extend_from_slice(&[0, 0, *source, *reason]),
     }
@@ -179,27 +188,53 @@ fn kind_of(pdu: &Pdu) -> u8
     ensures { result ≡ kind pdu.now }
 {
     match pdu {
-        Pdu::Request(_) => 1,
-        Pdu::Accept(_) => 2,
-        Pdu::Reject(..) => 3,
-        Pdu::PData(_) => 4,
-        Pdu::ReleaseRq => 5,
-        Pdu::ReleaseRp => 6,
-        Pdu::Abort(..) => 7,
+        Pdu::Request(_) => pdu_type::A_ASSOCIATE_RQ,
+        Pdu::Accept(_) => pdu_type::A_ASSOCIATE_AC,
+        Pdu::Reject(..) => pdu_type::A_ASSOCIATE_RJ,
+        Pdu::PData(_) => pdu_type::P_DATA_TF,
+        Pdu::ReleaseRq => pdu_type::A_RELEASE_RQ,
+        Pdu::ReleaseRp => pdu_type::A_RELEASE_RP,
+        Pdu::Abort(..) => pdu_type::A_ABORT,
     }
 }
 
-/// The octets of a PDU: the one spelling that is written, with zero in the reserved octets and items by rising type
-/// (PS3.8 section 9.3). An `Err` where memory ran out.
+/// Writes a PDU's header: its type, a reserved octet and the length of its body (PS3.8 section
+/// 9.3.1).
+fn put_header(out: &mut Vec<u8>, kind: u8, size: usize) -> Result<(), AllocError>
+    requires { size ≤ longest_body }
+    ensures { OnOk result (out.new.items ≡ out.old.items ++ kind ∷ 0 ∷ to_be_bytes w32 size) }
+{
+    out.extend_from_slice(&[kind, 0])?;
+    out.extend_from_slice(&(size as u32).to_be_bytes())
+}
+
+/// The octets of a PDU: the one spelling that is written, with zero in the reserved octets and
+/// items by rising type (PS3.8 section 9.3). An `Err` where memory ran out.
 #[tactic(auto, using(crate::proofs::Spelled::short_body))]
 pub fn write_pdu(alloc: Global, pdu: &Pdu) -> Result<Vec<u8>, AllocError>
     requires { IsWritable pdu.now }
     ensures { IfOk result (λ octets. octets.items ≡ spelling pdu.now) }
 {
     let size = size_of_body(pdu);
-    let mut out = Vec::with_capacity(alloc, size + 6)?;
-    out.extend_from_slice(&[kind_of(pdu), 0])?;
-    out.extend_from_slice(&(size as u32).to_be_bytes())?;
+    let mut out = Vec::with_capacity(alloc, size + PDU_HEADER)?;
+    put_header(&mut out, kind_of(pdu), size)?;
     put_body(&mut out, pdu)?;
     Ok(out)
+}
+
+/// Writes a P-DATA-TF PDU of one PDV at the end: what `write_pdu` writes of it, without a `Pdu`.
+/// The fragment has at most 65,530 octets (PS3.8 section 9.3.5).
+pub fn append_p_data(
+    out: &mut Vec<u8>,
+    context: u8,
+    command: bool,
+    last: bool,
+    fragment: &[u8],
+) -> Result<(), AllocError>
+    requires { length fragment.now + pdv_header ≤ longest_body }
+    ensures { OnOk result (out.new.items
+        ≡ out.old.items ++ spelling (p_data context command last fragment.now)) }
+{
+    put_header(out, pdu_type::P_DATA_TF, fragment.len() + PDV_HEADER)?;
+    put_pdv(out, context, command, last, fragment)
 }

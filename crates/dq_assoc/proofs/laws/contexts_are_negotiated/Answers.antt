@@ -1,11 +1,14 @@
-use Rattle.dq_assoc.proofs.Contexts.{contains_offered, offers_contained, accepted_are, ids_stay}
+use Rattle.dq_assoc.proofs.Contexts.{agreed-id, agreed-class, agreed-offered, agreed-explicit, accepted-offered, agreed-answer, refused-answer, ids-stay}
 use Rattle.dq_assoc.proofs.laws.contexts_are_negotiated.Goals as goal
 
-pub returns-clause-offered : goal.returns-clause-offered
-returns-clause-offered c = λ syntaxes syntax. (contains_offered syntaxes syntax, offers_contained syntaxes syntax)
-
-pub returns-clause-ids : goal.returns-clause-ids
-returns-clause-ids c = λ request. accepted_are request.contexts
-
-pub returns-clause-answers : goal.returns-clause-answers
-returns-clause-answers c = ids_stay
+pub returns : goal.returns
+returns c = record {
+  id = agreed-id;
+  class = agreed-class;
+  offered = agreed-offered;
+  explicit = agreed-explicit;
+  accepted = accepted-offered;
+  answer = agreed-answer;
+  refused = refused-answer;
+  answers = ids-stay;
+}

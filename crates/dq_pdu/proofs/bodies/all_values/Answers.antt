@@ -12,14 +12,17 @@ pub returns-in_err-value : goal.returns-in_err-value
 returns-in_err-value c =
     let p = err_from_is_err_and c.from_residual.result c.from_residual.ensures.1 in
     let n : 0 < length c.loop-rest.rest.now = not_zero _ _ c.is_empty.ensures c.loop-rest-test.true in
-    rw (p.1, p.2) (passes_on c.in_err-value.field-0.0 (pdv_at c.loop-rest.rest.now) (parts_of pdv_at c.args.octets.now) (λ e. ends pdv_at c.loop-rest.values.items c.loop-rest.rest.now (parts_of pdv_at c.args.octets.now) n e c.loop-rest.invariant) c.in_err-value.ensures)
+    rw (p.1, p.2) (passes_on c.in_err-value.field-0.0 (pdv_at c.loop-rest.rest.now) (parts_of pdv_at c.args.octets.now)
+    (λ e. ends pdv_at c.loop-rest.values.items c.loop-rest.rest.now (parts_of pdv_at c.args.octets.now) n e c.loop-rest.invariant) c.in_err-value.ensures)
 
 pub loop-rest-smaller : goal.loop-rest-smaller
 loop-rest-smaller c = pdv_shrinks c.loop-rest.rest.now _ c.in_ok-value.ensures
 
 pub loop-rest-preserved : goal.loop-rest-preserved
 loop-rest-preserved c =
-    rw c.in_ok-push.ensures.items (goes_on pdv_at pdv_shrinks c.loop-rest.values.items c.loop-rest.rest.now c.in_ok-value.value c.in_ok-value.behind.now (parts_of pdv_at c.args.octets.now) (not_zero _ _ c.is_empty.ensures c.loop-rest-test.true) c.in_ok-value.ensures c.loop-rest.invariant)
+    rw c.in_ok-push.ensures.items (goes_on pdv_at pdv_shrinks c.loop-rest.values.items c.loop-rest.rest.now c.in_ok-value.value c.in_ok-value.behind.now
+    (parts_of pdv_at c.args.octets.now) (not_zero _ _ c.is_empty.ensures c.loop-rest-test.true) c.in_ok-value.ensures c.loop-rest.invariant)
 
 pub returns : goal.returns
-returns c = is_done pdv_at c.loop-rest.values.items c.loop-rest.rest.now (parts_of pdv_at c.args.octets.now) (is_zero _ _ c.is_empty.ensures c.loop-rest-test.false) c.loop-rest.invariant
+returns c = is_done pdv_at c.loop-rest.values.items c.loop-rest.rest.now (parts_of pdv_at c.args.octets.now)
+    (is_zero _ _ c.is_empty.ensures c.loop-rest-test.false) c.loop-rest.invariant

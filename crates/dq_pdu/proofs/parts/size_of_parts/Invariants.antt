@@ -1,6 +1,6 @@
 use Rattle.std.proofs.Common.{◌≡◌, length, take}
 use Rattle.std.specs.List.{flat_map}
-use Rattle.dq_pdu.specs.Writing.{counted}
+use Rattle.dq_pdu.specs.Widths.{counted}
 use Rattle.dq_pdu.proofs.parts.size_of_parts.Given as goal
 
 abbrev pub invariant-loop-part : goal.invariant-loop-part

@@ -1,0 +1,181 @@
+-- Associations that are open only while their values are messages, and the state that PDUs leave.
+use Rattle.std.proofs.Common.{◌≡◌, true, false, IsTrue, cond, List, [], ◌∷◌, ◌++◌, map, Option, Some, None, Result, Ok, Err, IfOk, OnOk, refl, sym, ap, subst, ◌∙◌}
+use Rattle.std.specs.Prelude.{is_none, is_some}
+use Rattle.std.proofs.lemmas.List.{append-nil}
+use Rattle.std.specs.declared.alloc.AllocError.{AllocError}
+use Rattle.dq_pdu.specs.declared.pdu.Pdu.{Pdu}
+use Rattle.dq_pdu.specs.declared.pdu.Pdv.{Pdv}
+use Rattle.dq_pdu.specs.declared.role.Role.{Role}
+use Rattle.dq_pdu.specs.declared.role.Role.TheVariants.{Asks, Carries, Ends}
+use Rattle.dq_pdu.specs.declared.role.Ending.TheVariants.{ReleaseAsked, AbortSent, OutOfPlace}
+use Rattle.dq_pdu.specs.declared.fault.PduFault.{PduFault}
+use Rattle.dq_dimse.specs.declared.command.Message.{Message}
+use Rattle.dq_dimse.specs.declared.fault.DimseFault.{DimseFault}
+use Rattle.dq_dimse.specs.Assembling.{Assembly, Messages, messages_from, assembly_from, spent_by}
+use Rattle.dq_dimse.proofs.Assemblies.{messages_from-nil, messages_from-fault}
+use Rattle.dq_assoc.specs.declared.agreement.Agreement.{Agreement}
+use Rattle.dq_assoc.specs.declared.association.Held.{Held}
+use Rattle.dq_assoc.specs.declared.association.Held.TheVariants as held
+use Rattle.dq_assoc.specs.declared.association.State.TheVariants.{Open}
+use Rattle.dq_assoc.specs.declared.association.Verdict.TheVariants.{Accept}
+use Rattle.dq_assoc.specs.declared.association.Step.{Step}
+use Rattle.dq_assoc.specs.Negotiation.{agreement_of}
+use Rattle.dq_assoc.specs.Table.{Input, Sent, Bad, line, answer_octets}
+use Rattle.dq_assoc.specs.Inputs.{values, after_values, reason_of, closing_input, inputs_past, inputs_of_messages}
+use Rattle.dq_assoc.specs.After.{state_of, is_closed, agreement_in, is_sound, TakesRole, open_if, open_with, assembly_for, association_by, inputs_by}
+use Rattle.dq_assoc.specs.Steps.{with_message, open_outcome, outcome, fault_inputs, fault_answer, values_step}
+
+pub none_is : (o : Option DimseFault) → IsTrue (is_none o) → o ≡ None
+none_is None sound = refl
+none_is (Some d) sound = absurd cc
+
+sound-if : (a : Agreement) (s : Assembly) (f : Option DimseFault) → spent_by s ≡ f → IsTrue (is_sound (open_if f a s))
+sound-if a s None e = subst (λ (f : Option DimseFault). IsTrue (is_none f)) (sym e) refl
+sound-if a s (Some d) e = refl
+
+sound-with : (a : Agreement) (s : Assembly) (roles : List Role) → IsTrue (is_sound (open_with a s roles))
+sound-with a s [] = sound-if a s (spent_by s) refl
+sound-with a s (role ∷ roles) = refl
+
+closed-if : (a : Agreement) (s : Assembly) (f : Option DimseFault) → is_some f ≡ true → held.Closed ≡ open_if f a s
+closed-if a s None e = absurd cc
+closed-if a s (Some d) e = refl
+
+kept-if : (a : Agreement) (s : Assembly) (f : Option DimseFault) → is_some f ≡ false → held.Open a s ≡ open_if f a s
+kept-if a s None e = refl
+kept-if a s (Some d) e = absurd cc
+
+none-if : (f : Option DimseFault) → is_some f ≡ false → IsTrue (is_none f)
+none-if None e = refl
+none-if (Some d) e = absurd cc
+
+-- PDUs leave an association that is sound
+pub sound-by : (h : Held) (roles : List Role) → IsTrue (is_sound h) → IsTrue (is_sound (association_by h roles))
+sound-by held.Waiting [] sound = refl
+sound-by held.Waiting (Asks request ∷ roles) sound = sound-with (agreement_of request) (assembly_from (assembly_for request) (values roles))
+    (after_values roles)
+sound-by held.Waiting (Carries pdvs ∷ roles) sound = refl
+sound-by held.Waiting (Ends ending ∷ roles) sound = refl
+sound-by (held.Open a s) roles sound = sound-with a (assembly_from s (values roles)) (after_values roles)
+sound-by held.Closed roles sound = refl
+
+-- what comes where no values came before it
+pub read-nil : (s : Assembly) → IsTrue (is_none (spent_by s)) → (later : List Input) → inputs_of_messages (messages_from s []) later ≡ later
+read-nil s sound later =
+    ap (λ (m : Messages). inputs_of_messages m later) (messages_from-nil s)
+    ∙ ap (λ (f : Option DimseFault). inputs_past f later) (none_is (spent_by s) sound)
+
+pub nothing-added : (h : Held) → IsTrue (is_sound h) → inputs_by h [] None ≡ []
+nothing-added held.Waiting sound = refl
+nothing-added (held.Open a s) sound = read-nil s sound []
+nothing-added held.Closed sound = refl
+
+pub fault-added : (h : Held) (fault : PduFault) → IsTrue (is_sound h) → inputs_by h [] (Some fault) ≡ fault_inputs (state_of h) fault
+fault-added held.Waiting fault sound = refl
+fault-added (held.Open a s) fault sound = read-nil s sound _
+fault-added held.Closed fault sound = refl
+
+-- what a fault leads to
+pub fault-outcome : (h : Held) (fault : PduFault) → IsTrue (is_sound h)
+    → record { messages = []; octets = answer_octets (fault_answer (state_of h) fault); close = true } ≡ outcome (state_of h) (inputs_by h [] (Some fault))
+fault-outcome held.Waiting fault sound = refl
+fault-outcome (held.Open a s) fault sound = ap open_outcome (sym (read-nil s sound (Bad (reason_of fault) ∷ [])))
+fault-outcome held.Closed fault sound = refl
+
+pub fault-step : (result : Result Step AllocError) (h : Held) (fault : PduFault) (list : List Message) (answer : Option Pdu) → IsTrue (is_sound h)
+    → list ≡ [] → answer ≡ fault_answer (state_of h) fault → IfOk result
+    (λ step. step ≡ record { messages = list; octets = answer_octets answer; close = true })
+    → IfOk result (λ step. step ≡ outcome (state_of h) (inputs_by h [] (Some fault)))
+fault-step (Ok step) h fault list answer sound e f x =
+    x ∙ ap (λ (l : List Message). record { messages = l; octets = answer_octets answer; close = true }) e
+    ∙ ap (λ (o : Option Pdu). record { messages = []; octets = answer_octets o; close = true }) f ∙ fault-outcome h fault sound
+fault-step (Err error) h fault list answer sound e f x = tt
+
+-- values leave an association open unless they are no messages
+pub values-closed : (a : Agreement) (s : Assembly) (pdvs : List Pdv) → is_some (messages_from s pdvs).fault ≡ true
+    → let next = assembly_from s pdvs in held.Closed ≡ open_if (spent_by next) a next
+values-closed a s pdvs e = closed-if a (assembly_from s pdvs) (spent_by (assembly_from s pdvs)) (ap is_some (sym (messages_from-fault s pdvs)) ∙ e)
+
+pub values-open : (a : Agreement) (s : Assembly) (pdvs : List Pdv) → is_some (messages_from s pdvs).fault ≡ false
+    → let next = assembly_from s pdvs in held.Open a next ≡ open_if (spent_by next) a next
+values-open a s pdvs e = kept-if a (assembly_from s pdvs) (spent_by (assembly_from s pdvs)) (ap is_some (sym (messages_from-fault s pdvs)) ∙ e)
+
+pub values-sound : (s : Assembly) (pdvs : List Pdv) → is_some (messages_from s pdvs).fault ≡ false → IsTrue (is_none (spent_by (assembly_from s pdvs)))
+values-sound s pdvs e = none-if (spent_by (assembly_from s pdvs)) (ap is_some (sym (messages_from-fault s pdvs)) ∙ e)
+
+-- the messages of values, and the end where they are none
+pub values-outcome : (list : List Message) (f : Option DimseFault)
+    → open_outcome (map Sent list ++ inputs_past f []) ≡ values_step (record { list = list; fault = f })
+values-outcome [] None = refl
+values-outcome [] (Some d) = refl
+values-outcome (message ∷ list) f = ap (with_message message) (values-outcome list f)
+
+agreement-if : (a : Agreement) (s : Assembly) (f : Option DimseFault)
+    → agreement_in (open_if f a s) ≡ cond (is_closed (state_of (open_if f a s))) None (Some a)
+agreement-if a s None = refl
+agreement-if a s (Some d) = refl
+
+-- an association keeps its agreement until it is closed
+pub agreement-stays : (h : Held) (role : Role) → TakesRole h role → let next = association_by h (role ∷ []) in
+    agreement_in next ≡ cond (is_closed (state_of next)) None (agreement_in h)
+agreement-stays held.Waiting (Asks request) takes = absurd takes
+agreement-stays held.Waiting (Carries pdvs) takes = refl
+agreement-stays held.Waiting (Ends ending) takes = refl
+agreement-stays (held.Open a s) (Carries pdvs) takes = agreement-if a (assembly_from s (pdvs ++ [])) (spent_by (assembly_from s (pdvs ++ [])))
+agreement-stays (held.Open a s) (Asks request) takes = refl
+agreement-stays (held.Open a s) (Ends ending) takes = refl
+agreement-stays held.Closed role takes = absurd takes
+
+-- ---- a PDU that an open association takes
+
+values-carried : (a : Agreement) (s : Assembly) (pdvs : List Pdv)
+    → values_step (messages_from s pdvs) ≡ outcome Open (inputs_by (held.Open a s) (Carries pdvs ∷ []) None)
+values-carried a s pdvs =
+    ap (λ (v : List Pdv). values_step (messages_from s v)) (sym (append-nil pdvs))
+    ∙ sym (values-outcome (messages_from s (pdvs ++ [])).list (messages_from s (pdvs ++ [])).fault)
+
+pub carried-step : (result : Result Step AllocError) (inside old : Held) (a : Agreement) (s : Assembly) (role : Role) (pdvs slice : List Pdv)
+    → held.Open a s ≡ inside → inside ≡ old → role ≡ Carries pdvs → slice ≡ pdvs → IfOk result (λ step. step ≡ values_step (messages_from s slice))
+    → IfOk result (λ step. step ≡ outcome (state_of old) (inputs_by old (role ∷ []) None))
+carried-step (Ok step) inside old a s role pdvs slice i o r v x =
+    x ∙ ap (λ (v : List Pdv). values_step (messages_from s v)) v ∙ values-carried a s pdvs
+    ∙ ap (λ (r : Role). outcome Open (inputs_by (held.Open a s) (r ∷ []) None)) (sym r)
+    ∙ ap (λ (h : Held). outcome (state_of h) (inputs_by h (role ∷ []) None)) (i ∙ o)
+carried-step (Err error) inside old a s role pdvs slice i o r v x = tt
+
+role-closes : (a : Agreement) (s : Assembly) (role : Role) → IsTrue (is_sound (held.Open a s)) → ((pdvs : List Pdv) → role ≡ Carries pdvs → ⊥)
+    → record { messages = []; octets = answer_octets (line Open Accept (closing_input role)).answer; close = true }
+    ≡ outcome Open (inputs_by (held.Open a s) (role ∷ []) None)
+role-closes a s (Asks request) sound not = ap open_outcome (sym (read-nil s sound (closing_input (Asks request) ∷ [])))
+role-closes a s (Carries pdvs) sound not = absurd (not pdvs refl)
+role-closes a s (Ends ReleaseAsked) sound not = ap open_outcome (sym (read-nil s sound (closing_input (Ends ReleaseAsked) ∷ [])))
+role-closes a s (Ends AbortSent) sound not = ap open_outcome (sym (read-nil s sound (closing_input (Ends AbortSent) ∷ [])))
+role-closes a s (Ends OutOfPlace) sound not = ap open_outcome (sym (read-nil s sound (closing_input (Ends OutOfPlace) ∷ [])))
+
+pub closing-role : (result : Result Step AllocError) (inside old : Held) (a : Agreement) (s : Assembly) (role : Role) (list : List Message)
+    (answer : Option Pdu)
+    → held.Open a s ≡ inside → inside ≡ old → IsTrue (is_sound inside) → ((pdvs : List Pdv) → role ≡ Carries pdvs → ⊥)
+    → list ≡ [] → answer ≡ (line Open Accept (closing_input role)).answer
+    → IfOk result (λ step. step ≡ record { messages = list; octets = answer_octets answer; close = true })
+    → IfOk result (λ step. step ≡ outcome (state_of old) (inputs_by old (role ∷ []) None))
+closing-role (Ok step) inside old a s role list answer i o sound not e f x =
+    let here : IsTrue (is_sound (held.Open a s)) = subst (λ (h : Held). IsTrue (is_sound h)) (sym i) sound in
+    x ∙ ap (λ (l : List Message). record { messages = l; octets = answer_octets answer; close = true }) e
+    ∙ ap (λ (o : Option Pdu). record { messages = []; octets = answer_octets o; close = true }) f
+    ∙ role-closes a s role here not ∙ ap (λ (h : Held). outcome (state_of h) (inputs_by h (role ∷ []) None)) (i ∙ o)
+closing-role (Err error) inside old a s role list answer i o sound not e f x = tt
+
+role-closed : (a : Agreement) (s : Assembly) (role : Role) → ((pdvs : List Pdv) → role ≡ Carries pdvs → ⊥)
+    → held.Closed ≡ association_by (held.Open a s) (role ∷ [])
+role-closed a s (Asks request) not = refl
+role-closed a s (Carries pdvs) not = absurd (not pdvs refl)
+role-closed a s (Ends ending) not = refl
+
+pub closed-role : (inside old : Held) (a : Agreement) (s : Assembly) (role : Role) → held.Open a s ≡ inside → inside ≡ old
+    → ((pdvs : List Pdv) → role ≡ Carries pdvs → ⊥)
+    → held.Closed ≡ association_by old (role ∷ [])
+closed-role inside old a s role i o not = role-closed a s role not ∙ ap (λ (h : Held). association_by h (role ∷ [])) (i ∙ o)
+
+pub on-ok : (result : Result Step AllocError) (x y : Held) → x ≡ y → OnOk result (x ≡ y)
+on-ok (Ok step) x y e = e
+on-ok (Err error) x y e = tt

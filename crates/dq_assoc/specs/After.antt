@@ -1,0 +1,106 @@
+-- An association that was given the PDUs of a stream so far: the inputs that further PDUs add, and
+-- where they leave it. Upper crates speak of `AssociationAfter`, `state_of`, `agreement_in` and
+-- `inputs_from`; what an association holds is there for the prover, and may change.
+use Rattle.std.specs.Prelude.{◌≡◌, Bool, true, false, List, [], ◌∷◌, map, Option, Some, None, is_none}
+use Rattle.dq_pdu.specs.declared.pdu.Pdu.{Pdu}
+use Rattle.dq_pdu.specs.declared.role.Role.{Role}
+use Rattle.dq_pdu.specs.declared.role.Role.TheVariants.{Asks, Carries, Ends}
+use Rattle.dq_pdu.specs.declared.pdu.Request.{Request}
+use Rattle.dq_pdu.specs.declared.fault.PduFault.{PduFault}
+use Rattle.dq_pdu.specs.Roles.{role_of}
+use Rattle.dq_dimse.specs.declared.fault.DimseFault.{DimseFault}
+use Rattle.dq_dimse.specs.Assembling.{Assembly, new_assembly, spent_by, messages_from, assembly_from}
+use Rattle.dq_assoc.specs.declared.agreement.Agreement.{Agreement}
+use Rattle.dq_assoc.specs.declared.association.Held.{Held}
+use Rattle.dq_assoc.specs.declared.association.Held.TheVariants as held
+use Rattle.dq_assoc.specs.declared.association.State.{State}
+use Rattle.dq_assoc.specs.declared.association.State.TheVariants.{Waiting, Open, Closed}
+use Rattle.dq_assoc.specs.Negotiation.{agreement_of, ids_of}
+use Rattle.dq_assoc.specs.Table.{Input}
+use Rattle.dq_assoc.specs.Inputs.{values, after_values, closing_inputs, inputs_of_messages, inputs_of_roles}
+
+-- the state of the table that an association is in
+abbrev pub state_of : Held → State
+state_of held.Waiting = Waiting
+state_of (held.Open agreement assembly) = Open
+state_of held.Closed = Closed
+
+abbrev pub is_closed : State → Bool
+is_closed Waiting = false
+is_closed Open = false
+is_closed Closed = true
+
+-- what an open association agreed on
+abbrev pub agreement_in : Held → Option Agreement
+agreement_in held.Waiting = None
+agreement_in (held.Open agreement assembly) = Some agreement
+agreement_in held.Closed = None
+
+-- an association is open only while its values are messages and part of one
+abbrev pub is_sound : Held → Bool
+is_sound held.Waiting = true
+is_sound (held.Open agreement assembly) = is_none (spent_by assembly)
+is_sound held.Closed = true
+
+-- what an association takes: nothing once it is closed, and a request by accept alone
+abbrev pub TakesRole : Held → Role → Type 0
+TakesRole held.Closed role = ⊥
+TakesRole held.Waiting (Asks request) = ⊥
+TakesRole held.Waiting (Carries pdvs) = Unit {0}
+TakesRole held.Waiting (Ends ending) = Unit {0}
+TakesRole (held.Open agreement assembly) role = Unit {0}
+
+abbrev pub Takes : Held → Pdu → Type 0
+Takes association pdu = TakesRole association (role_of pdu)
+
+-- values that are no messages close
+abbrev pub open_if : Option DimseFault → Agreement → Assembly → Held
+open_if None agreement assembly = held.Open agreement assembly
+open_if (Some fault) agreement assembly = held.Closed
+
+-- open with what was assembled of the values, unless PDUs stand after these
+abbrev pub open_with : Agreement → Assembly → List Role → Held
+open_with agreement assembly [] = open_if (spent_by assembly) agreement assembly
+open_with agreement assembly (role ∷ roles) = held.Closed
+
+-- the assembler of an association whose request was just accepted
+abbrev pub assembly_for : Request → Assembly
+assembly_for request = new_assembly (ids_of (agreement_of request))
+
+-- the association after the line of a request
+abbrev pub association_at : State → Request → Held
+association_at Open request = held.Open (agreement_of request) (assembly_for request)
+association_at Waiting request = held.Waiting
+association_at Closed request = held.Closed
+
+-- where PDUs leave an open association
+abbrev pub open_from : Agreement → Assembly → List Role → Held
+open_from agreement assembly roles =
+    open_with agreement (assembly_from assembly (values roles)) (after_values roles)
+
+abbrev pub association_by : Held → List Role → Held
+association_by (held.Open agreement assembly) roles = open_from agreement assembly roles
+association_by held.Closed roles = held.Closed
+association_by held.Waiting [] = held.Waiting
+association_by held.Waiting (Asks request ∷ roles) =
+    open_from (agreement_of request) (assembly_for request) roles
+association_by held.Waiting (Carries pdvs ∷ roles) = held.Closed
+association_by held.Waiting (Ends ending ∷ roles) = held.Closed
+
+abbrev pub association_from : Held → List Pdu → Held
+association_from association pdus = association_by association (map role_of pdus)
+
+-- the association was given the PDUs, and accepted its request
+pub record AssociationAfter (pdus : List Pdu) (association : Held) : Type 0 where
+  pub stands : association ≡ association_from held.Waiting pdus
+
+-- the inputs that PDUs, and a fault after them, add
+abbrev pub inputs_by : Held → List Role → Option PduFault → List Input
+inputs_by held.Waiting roles fault = inputs_of_roles roles fault
+inputs_by (held.Open agreement assembly) roles fault =
+    let read = messages_from assembly (values roles) in
+    inputs_of_messages read (closing_inputs (after_values roles) fault)
+inputs_by held.Closed roles fault = []
+
+abbrev pub inputs_from : Held → List Pdu → Option PduFault → List Input
+inputs_from association pdus fault = inputs_by association (map role_of pdus) fault

@@ -1,0 +1,15 @@
+-- How long the PDUs are that a peer takes (PS3.8 annex D.1).
+use Rattle.std.specs.Prelude.{ℕ, Bool, true, ◌||◌, ◌==◌, nat_le, if◌then◌else◌, Option, Some, None, unwrap_or}
+
+-- the shortest PDU that carries data: the header of a value and a fragment of two octets
+abbrev pub least_limit : ℕ
+least_limit = 8
+
+-- no maximum length, no limit, or room for such a PDU
+abbrev pub has_room : Option ℕ → Bool
+has_room None = true
+has_room (Some maximum) = (maximum == 0) || nat_le least_limit maximum
+
+-- the limit of a maximum length, if it leaves room; 0 is no limit
+abbrev pub limit_of : Option ℕ → Option ℕ
+limit_of maximum = if has_room maximum then Some (unwrap_or maximum 0) else None

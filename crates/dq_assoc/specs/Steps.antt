@@ -1,0 +1,85 @@
+-- What inputs lead to: messages to be answered by their service, octets, and whether the connection
+-- is closed.
+use Rattle.std.specs.Prelude.{if◌then◌else◌, List, [], ◌∷◌, ◌++◌, Option, Some, None, is_some, option_map}
+use Rattle.dq_pdu.specs.declared.pdu.Pdu.{Pdu}
+use Rattle.dq_pdu.specs.declared.pdu.Pdu.TheVariants.{Abort}
+use Rattle.dq_pdu.specs.declared.fault.PduFault.{PduFault}
+use Rattle.dq_dimse.specs.declared.command.Message.{Message}
+use Rattle.dq_dimse.specs.declared.fault.DimseFault.{DimseFault}
+use Rattle.dq_dimse.specs.Assembling.{Messages}
+use Rattle.dq_assoc.specs.declared.association.Held.{Held}
+use Rattle.dq_assoc.specs.declared.association.State.{State}
+use Rattle.dq_assoc.specs.declared.association.State.TheVariants.{Waiting, Open, Closed}
+use Rattle.dq_assoc.specs.declared.association.Step.{Step}
+use Rattle.dq_assoc.specs.declared.association.Verdict.TheVariants.{Accept}
+use Rattle.dq_assoc.specs.Table.{Input, Sent, Stray, Bad, Line, line, by_user, by_provider, not_specified, invalid_parameter, answer_octets}
+use Rattle.dq_assoc.specs.Inputs.{reason_of}
+use Rattle.dq_assoc.specs.After.{state_of, is_closed, association_from, inputs_from}
+
+-- what a line of the table leads to
+abbrev pub step_of : Line → Step
+step_of l = record { messages = []; octets = answer_octets l.answer; close = is_closed l.next }
+
+-- nothing is answered
+abbrev pub no_step : State → Step
+no_step state = record { messages = []; octets = []; close = is_closed state }
+
+abbrev pub with_message : Message → Step → Step
+with_message message later =
+    record { messages = message ∷ later.messages; octets = later.octets; close = later.close }
+
+-- a step after messages
+abbrev pub after_messages : List Message → Step → Step
+after_messages list step =
+    record { messages = list ++ step.messages; octets = step.octets; close = step.close }
+
+-- the messages among inputs after a request, and the answer to the input that closes
+abbrev pub open_outcome : List Input → Step
+open_outcome [] = no_step Open
+open_outcome (Sent message ∷ inputs) = with_message message (open_outcome inputs)
+open_outcome (input ∷ inputs) = step_of (line Open Accept input)
+
+-- what inputs lead to that are no request
+abbrev pub outcome : State → List Input → Step
+outcome Open inputs = open_outcome inputs
+outcome Waiting [] = no_step Waiting
+outcome Waiting (input ∷ inputs) = step_of (line Waiting Accept input)
+outcome Closed inputs = no_step Closed
+
+abbrev pub invalid_abort : DimseFault → Pdu
+invalid_abort fault = Abort by_provider invalid_parameter
+
+-- what values lead to: their messages, and an abort where they are no messages
+abbrev pub values_step : Messages → Step
+values_step read = record {
+  messages = read.list;
+  octets = answer_octets (option_map invalid_abort read.fault);
+  close = is_some read.fault;
+}
+
+-- what a fault of the stream is to an association in a state
+abbrev pub fault_inputs : State → PduFault → List Input
+fault_inputs Waiting fault = Stray ∷ []
+fault_inputs Open fault = Bad (reason_of fault) ∷ []
+fault_inputs Closed fault = []
+
+-- the abort that answers it
+abbrev pub fault_answer : State → PduFault → Option Pdu
+fault_answer Waiting fault = Some (Abort by_user not_specified)
+fault_answer Open fault = Some (Abort by_provider (reason_of fault))
+fault_answer Closed fault = None
+
+-- two steps as one: nothing comes after one that closes
+abbrev pub then_step : Step → Step → Step
+then_step first later = if first.close then first else record {
+  messages = first.messages ++ later.messages;
+  octets = first.octets ++ later.octets;
+  close = later.close;
+}
+
+-- what PDUs lead to that are taken one by one
+abbrev pub joined_step : Held → List Pdu → Step
+joined_step association [] = no_step (state_of association)
+joined_step association (pdu ∷ pdus) =
+    then_step (outcome (state_of association) (inputs_from association (pdu ∷ []) None))
+    (joined_step (association_from association (pdu ∷ [])) pdus)

@@ -1,0 +1,91 @@
+//! What an association agrees on when its request is accepted (PS3.8 section 7.1.1).
+ghost use Rattle.std.specs.Prelude.{◌≡◌, ◌≤◌, ◌⊎◌, IfOk};
+ghost use Rattle.dq_assoc.specs.PeerLimits.{limit_of};
+ghost use Rattle.dq_assoc.specs.Negotiation.{context_of, ids_of};
+
+use crate::classes::SopClass;
+use dq_dataset::Syntax;
+use dq_list::Listed;
+use std::alloc::{AllocError, Global};
+use std::marker::Model;
+
+/// The longest PDU that a peer takes, in octets: 0 is no limit, and any other leaves room for the
+/// header of a value and a fragment of two octets (PS3.8 annex D.1).
+#[derive(Debug, Drop)]
+pub struct PeerLimit {
+    octets: u32,
+}
+
+impl Model for PeerLimit {
+    ghost use Rattle.std.specs.Prelude.{ℕ, ◌≡◌, true, Some};
+    ghost use Rattle.dq_assoc.specs.PeerLimits.{has_room};
+
+    ghost Value = { ℕ };
+
+    ghost view = { λ a. a.octets };
+
+    ghost invariant = { λ a. has_room (Some a.octets) ≡ true };
+}
+
+/// The shortest PDU that carries data.
+const LEAST_LIMIT: u32 = 8;
+
+impl PeerLimit {
+    /// The limit of a maximum length (51H), if it leaves room. None is no limit.
+    pub fn of(maximum: Option<u32>) -> Option<Self>
+        ensures { result ≡ limit_of maximum }
+    {
+        match maximum {
+            None => Some(PeerLimit { octets: 0 }),
+            Some(octets) if octets == 0 || octets >= LEAST_LIMIT => Some(PeerLimit { octets }),
+            Some(_) => None,
+        }
+    }
+
+    /// In octets, where 0 is no limit.
+    pub fn octets(&self) -> u32
+        ensures same { result ≡ self.now }
+        ensures room { (result ≡ 0) ⊎ (8 ≤ result) }
+    {
+        self.octets
+    }
+}
+
+/// A presentation context that was accepted.
+#[derive(Clone, Copy, Debug, PartialEq, Eq)]
+pub struct AgreedContext {
+    /// Its id.
+    pub id: u8,
+    pub class: SopClass,
+    /// The transfer syntax of its data sets.
+    pub syntax: Syntax,
+}
+
+/// What an open association agreed on.
+#[derive(Debug, Drop)]
+pub struct Agreement {
+    /// The contexts that were accepted, in the request's order.
+    pub contexts: Listed<AgreedContext>,
+    /// The called title, as it was received.
+    pub called: [u8; 16],
+    pub limit: PeerLimit,
+}
+
+impl Agreement {
+    /// The context with the id, if it was accepted.
+    pub fn context(&self, id: u8) -> Option<AgreedContext>
+        ensures { result ≡ context_of self.now id }
+    {
+        let contexts = self.contexts.as_slice();
+        contexts.iter().find(|context| context.id == id).copied()
+    }
+
+    /// The ids of the contexts, in order.
+    pub(crate) fn ids(&self, alloc: Global) -> Result<Listed<u8>, AllocError>
+        ensures { IfOk result (λ ids. ids ≡ ids_of self.now) }
+    {
+        let contexts = self.contexts.as_slice().iter();
+        let ids = contexts.map(|context| context.id).collect(alloc)?;
+        Ok(Listed::from_inner(ids))
+    }
+}

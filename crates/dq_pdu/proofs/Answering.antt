@@ -1,0 +1,82 @@
+-- An acceptance that answers the contexts of a request is written.
+use Rattle.std.proofs.Common.{◌≡◌, ℕ, ◌*◌, ◌≤◌, true, leb, List, [], ◌∷◌, ◌++◌, length, map, Option, Some, None, refl, arith, length-append}
+use Rattle.std.specs.Prelude.{◌&&◌}
+use Rattle.std.specs.Int.{w16, to_be_bytes}
+use Rattle.std.specs.List.{flat_map, list_all}
+use Rattle.std.proofs.lemmas.Bool.{and_parts, and_from, leb-true, le-leb}
+use Rattle.dq_pdu.specs.declared.pdu.Pdu.TheVariants.{Accept as accept_pdu}
+use Rattle.dq_pdu.specs.declared.pdu.Accept.{Accept}
+use Rattle.dq_pdu.specs.declared.pdu.AnsweredContext.{AnsweredContext}
+use Rattle.dq_pdu.specs.Octets.{are_distinct}
+use Rattle.dq_pdu.specs.Reading.{is_odd}
+use Rattle.dq_pdu.specs.Writing.{answered, application_context, accept_information, fixed_fields, accept, is_bare, is_name, is_answerable, has_parts, IsWritable}
+use Rattle.dq_pdu.specs.Acceptances.{is_identifier_or_none, has_identifier, IsAnswer}
+use Rattle.dq_pdu.proofs.ContextIds.{few_ids}
+use Rattle.dq_pdu.proofs.WritableLaws.{written}
+
+abbrev ids : List AnsweredContext → List ℕ
+ids contexts = map (λ (c : AnsweredContext). c.id) contexts
+
+answerable : (contexts : List AnsweredContext) → list_all is_odd (ids contexts) ≡ true → list_all has_identifier contexts ≡ true
+    → list_all is_answerable contexts ≡ true
+answerable [] o n = refl
+answerable (c ∷ cs) o n =
+    let p = and_parts (is_odd c.id) (list_all is_odd (ids cs)) o in
+    let q = and_parts (has_identifier c) (list_all has_identifier cs) n in
+    let bare = and_parts (is_bare c.transfer_syntax) (leb (length c.transfer_syntax) 64) q.0 in
+    and_from (is_answerable c) (list_all is_answerable cs) (and_from (is_odd c.id) (is_bare c.transfer_syntax) p.0 bare.0) (answerable cs p.1 q.1)
+
+contexts_length : (contexts : List AnsweredContext) → list_all has_identifier contexts ≡ true → length (flat_map answered contexts) ≤ 76 * length contexts
+contexts_length [] n = omega arith
+contexts_length (c ∷ cs) n =
+    let q = and_parts (has_identifier c) (list_all has_identifier cs) n in
+    let bare = and_parts (is_bare c.transfer_syntax) (leb (length c.transfer_syntax) 64) q.0 in
+    let short : length c.transfer_syntax ≤ 64 = leb-true _ _ bare.1 in
+    let ih = contexts_length cs q.1 in
+    omega (arith, short, ih, length-append (answered c) (flat_map answered cs))
+
+ids_length : (contexts : List AnsweredContext) → length (ids contexts) ≡ length contexts
+ids_length [] = refl
+ids_length (c ∷ cs) = omega (arith, ids_length cs)
+
+name_length : (name : Option (List ℕ)) → is_identifier_or_none name ≡ true → (length (application_context name) ≤ 68) × (is_name name ≡ true)
+name_length None e = (omega arith, refl)
+name_length (Some name) e =
+    let p = and_parts (is_bare name) (leb (length name) 64) e in
+    let short : length name ≤ 64 = leb-true _ _ p.1 in
+    (omega (arith, short), p.0)
+
+information_length : (maximum : Option ℕ) → length (accept_information maximum) ≤ 45
+information_length None = omega arith
+information_length (Some n) = omega arith
+
+fields_length : (version : ℕ) (called calling reserved : List ℕ) → length called ≡ 16 → length calling ≡ 16 → length reserved ≡ 32
+    → length (fixed_fields version called calling reserved) ≡ 68
+fields_length version called calling reserved h i j =
+    let n1 = length-append ((to_be_bytes w16 version ++ (0 ∷ 0 ∷ called)) ++ calling) reserved in
+    let n2 = length-append (to_be_bytes w16 version ++ (0 ∷ 0 ∷ called)) calling in
+    let n3 = length-append (to_be_bytes w16 version) (0 ∷ 0 ∷ called) in
+    omega (arith, n1, n2, n3, h, i, j)
+
+answer_length : (a : Accept) → IsAnswer a → length (accept a) ≤ 65536
+answer_length a is =
+    let few = few_ids (ids a.contexts) is.ids in
+    let same = ids_length a.contexts in
+    let contexts = contexts_length a.contexts is.syntaxes in
+    let name = name_length a.application_context is.application in
+    let information = information_length a.maximum_length in
+    let fields = fixed_fields a.version a.called a.calling a.reserved in
+    let front = application_context a.application_context ++ flat_map answered a.contexts in
+    let n1 = length-append fields (front ++ accept_information a.maximum_length) in
+    let n2 = length-append front (accept_information a.maximum_length) in
+    let n3 = length-append (application_context a.application_context) (flat_map answered a.contexts) in
+    let fixed = fields_length a.version a.called a.calling a.reserved is.wide.called_sixteen is.wide.calling_sixteen is.wide.reserved_thirty_two in
+    omega (arith, few, same, contexts, name.0, information, fixed, n1, n2, n3)
+
+pub answer_written : (a : Accept) → IsAnswer a → IsWritable (accept_pdu a)
+answer_written a is =
+    let name = name_length a.application_context is.application in
+    let contexts = answerable a.contexts is.ids.odd is.syntaxes in
+    let both = and_from (is_name a.application_context) (list_all is_answerable a.contexts) name.1 contexts in
+    let parts = and_from (is_name a.application_context && list_all is_answerable a.contexts) (are_distinct (ids a.contexts)) both is.ids.distinct in
+    written (accept_pdu a) is.wide (and_from (has_parts (accept_pdu a)) (leb (length (accept a)) 65536) parts (le-leb _ _ (answer_length a is)))
