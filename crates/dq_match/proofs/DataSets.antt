@@ -1,0 +1,78 @@
+-- What is put together of data sets is a data set.
+use Rattle.std.proofs.Common.{◌≡◌, ℕ, zero, suc, ◌-◌, ◌+◌, ◌<◌, ◌%◌, Bool, true, false, cond, ◌||◌, ◌&&◌, List, [], ◌∷◌, ◌++◌, Option, Some, None, length, refl, sym, ap, ◌∙◌, subst, arith, nat_eq, is_some}
+use Rattle.std.proofs.lemmas.Bool.Decides.{nat_tests}
+use Rattle.dq_vr.specs.declared.Tag.{Tag}
+use Rattle.dq_vr.specs.declared.Vr.{Vr}
+use Rattle.dq_vr.specs.Tag.{is_below}
+use Rattle.dq_dataset.specs.declared.data_set.Element.{Element}
+use Rattle.dq_dataset.specs.declared.data_set.Value.{Value}
+use Rattle.dq_dataset.specs.declared.data_set.Value.TheVariants.{Octets, Items}
+use Rattle.dq_dataset.specs.Tree.{ElementList, no_elements, element, sequence, ItemList, no_items, item}
+use Rattle.dq_dataset.specs.View.{items_of, with_value}
+use Rattle.dq_dataset.specs.Reading.{follows}
+use Rattle.dq_dataset.specs.Facts.{IsElementTag, IsPlain, IsSequence, AreElements, AreItems}
+use Rattle.dq_match.specs.declared.supported.Level.{Level}
+use Rattle.dq_match.specs.Supported.{is_supported, below, supported_part, supported_items}
+
+is_below-trans : (a b c : Tag) → is_below a b ≡ true → is_below b c ≡ true → is_below a c ≡ true
+unfolding is_below
+is_below-trans a b c p q = grind (arith, nat_tests)
+
+follows-trans : (last : Option Tag) (tag next : Tag) → follows last tag ≡ true → follows (Some tag) next ≡ true → follows last next ≡ true
+follows-trans None tag next e f = refl
+follows-trans (Some last) tag next e f = is_below-trans last tag next e f
+
+earlier : (last : Option Tag) (tag next : Tag) → follows last tag ≡ true → IsElementTag (Some tag) next → IsElementTag last next
+earlier last tag next e h = record {
+  rises = follows-trans last tag next e h.rises;
+  no_delimiter = h.no_delimiter;
+  no_length = h.no_length;
+  group = h.group;
+  number = h.number;
+}
+
+-- elements after a tag are elements after an earlier one
+pub after_earlier : (levels : ℕ) (last : Option Tag) (tag : Tag) (d : ElementList) → follows last tag ≡ true
+    → AreElements levels (Some tag) d → AreElements levels last d
+after_earlier levels last tag no_elements e h = tt
+after_earlier levels last tag (element t v o rest) e h = (earlier last tag t e h.0, h.1, h.2)
+after_earlier levels last tag (sequence t v items rest) e h = (earlier last tag t e h.0, h.1, h.2, h.3, h.4)
+
+-- ---- fewer levels
+
+level_left : (fewer levels : ℕ) → fewer < levels + 1 → 0 < fewer → 0 < levels
+level_left fewer levels le h = omega arith
+
+mutual
+  pub deeper : (fewer levels : ℕ) (last : Option Tag) (d : ElementList) → fewer < levels + 1 → AreElements fewer last d → AreElements levels last d
+  deeper fewer levels last no_elements le h = tt
+  deeper fewer levels last (element t v o rest) le h = (h.0, h.1, deeper fewer levels (Some t) rest le h.2)
+  deeper fewer levels last (sequence t v items rest) le h =
+      (h.0, h.1, level_left fewer levels le h.2, items_deeper (fewer - 1) (levels - 1) items (omega arith) h.3, deeper fewer levels (Some t) rest le h.4)
+
+  pub items_deeper : (fewer levels : ℕ) (items : ItemList) → fewer < levels + 1 → AreItems fewer items → AreItems levels items
+  items_deeper fewer levels no_items le h = tt
+  items_deeper fewer levels (item d rest) le h = (deeper fewer levels None d le h.0, items_deeper fewer levels rest le h.1)
+
+-- ---- the supported part
+
+pub elements_by : (b : Bool) (levels : ℕ) (last : Option Tag) (whole rest : ElementList) → AreElements levels last whole → AreElements levels last rest
+    → AreElements levels last (cond b whole rest)
+elements_by true levels last whole rest h k = h
+elements_by false levels last whole rest h k = k
+
+mutual
+  pub part_facts : (level : Level) (levels : ℕ) (last : Option Tag) (d : ElementList) → AreElements levels last d → AreElements levels last (supported_part level d)
+  part_facts level levels last no_elements h = tt
+  part_facts level levels last (element t v o rest) h =
+      let others = part_facts level levels (Some t) rest h.2 in
+      elements_by (is_supported level t) levels last (element t v o (supported_part level rest)) (supported_part level rest)
+      (h.0, h.1, others) (after_earlier levels last t (supported_part level rest) h.0.rises others)
+  part_facts level levels last (sequence t v items rest) h =
+      let others = part_facts level levels (Some t) rest h.4 in
+      elements_by (is_supported level t) levels last (sequence t v (supported_items (below level t) items) (supported_part level rest)) (supported_part level rest)
+      (h.0, h.1, h.2, items_facts (below level t) (levels - 1) items h.3, others) (after_earlier levels last t (supported_part level rest) h.0.rises others)
+
+  pub items_facts : (level : Level) (levels : ℕ) (items : ItemList) → AreItems levels items → AreItems levels (supported_items level items)
+  items_facts level levels no_items h = tt
+  items_facts level levels (item d rest) h = (part_facts level levels None d h.0, items_facts level levels rest h.1)

@@ -1,0 +1,102 @@
+-- The data dictionary has every tag that is supported.
+use Rattle.std.proofs.Common.{◌≡◌, ℕ, Bool, true, false, cond, ◌||◌, ◌&&◌, List, [], ◌∷◌, Option, Some, None, refl, sym, ap, ◌∙◌, subst, arith, nat_eq, is_some, inl, inr, ◌⊎◌}
+use Rattle.std.proofs.lemmas.Bool.Decides.{nat_tests}
+use Rattle.std.specs.List.{list_any, list_all}
+use Rattle.dq_vr.specs.declared.Tag.{Tag}
+use Rattle.dq_vr.specs.Dictionary.{dictionary, vr_in, known_vr}
+use Rattle.dq_vr.specs.Tags as tags
+use Rattle.dq_dataset.specs.Tree.{ElementList, no_elements, element, sequence, ItemList, no_items, item}
+use Rattle.dq_match.specs.declared.supported.KeyList.{KeyList}
+use Rattle.dq_match.specs.declared.supported.KeyList.TheVariants.{Study, Series, Image, Entry}
+use Rattle.dq_match.specs.declared.supported.Level.{Level}
+use Rattle.dq_match.specs.declared.supported.Level.TheVariants.{Identifier, Step, Code, Reference, Other}
+use Rattle.dq_match.specs.Keys.{is_tag, other_than_keys}
+use Rattle.dq_match.specs.Identifiers.{HasKnownTags, HaveKnownTags}
+use Rattle.dq_match.specs.Supported.{keys_of, leaves, is_among, is_supported, below, supported_part, supported_items, step_keys, code_keys, reference_keys}
+
+abbrev are_known : List Tag → Bool
+are_known listed = list_all (λ tag. is_some (known_vr tag)) listed
+
+pub same_tag : (a b : Tag) → is_tag a b ≡ true → a ≡ b
+same_tag a b h =
+    let group : a.group ≡ b.group = grind (arith, nat_tests) in
+    let number : a.element ≡ b.element = grind (arith, nat_tests) in
+    λ i. record { group = group i; element = number i }
+
+pub both : (a b : Bool) → (a && b) ≡ true → (a ≡ true) × (b ≡ true)
+both true b h = (refl, h)
+both false b h = absurd (cc)
+
+pub either : (a b : Bool) → (a || b) ≡ true → (a ≡ true) ⊎ (b ≡ true)
+either true b h = inl refl
+either false b h = inr h
+
+among_known : (tag : Tag) (listed : List Tag) → are_known listed ≡ true → is_among tag listed ≡ true → is_some (known_vr tag) ≡ true
+among_known tag [] known h = cc
+among_known tag (one ∷ others) known h =
+    let parts = both (is_some (known_vr one)) (are_known others) known in
+    elim (either (is_tag one tag) (is_among tag others) h) [
+      | inl here ↦ subst (λ (t : Tag). is_some (known_vr t) ≡ true) (same_tag one tag here) parts.0
+      | inr later ↦ among_known tag others parts.1 later
+    ]
+
+keys_known : (list : KeyList) → are_known (keys_of list) ≡ true
+unfolding keys_of known_vr vr_in dictionary
+keys_known Study = refl
+keys_known Series = refl
+keys_known Image = refl
+keys_known Entry = refl
+
+others_known : are_known other_than_keys ≡ true
+unfolding known_vr vr_in dictionary
+others_known = refl
+
+step_known : are_known step_keys ≡ true
+unfolding known_vr vr_in dictionary
+step_known = refl
+
+code_known : are_known code_keys ≡ true
+unfolding known_vr vr_in dictionary
+code_known = refl
+
+reference_known : are_known reference_keys ≡ true
+unfolding known_vr vr_in dictionary
+reference_known = refl
+
+left_known : (list : KeyList) (tag : Tag) → leaves list tag ≡ true → is_some (known_vr tag) ≡ true
+unfolding leaves
+left_known Study tag h = among_known tag other_than_keys others_known h
+left_known Series tag h = among_known tag other_than_keys others_known h
+left_known Image tag h = among_known tag other_than_keys others_known h
+left_known Entry tag h = among_known tag other_than_keys others_known (ap (λ (b : Bool). b || is_among tag (tags.query_retrieve_level ∷ tags.retrieve_ae_title ∷ tags.instance_availability ∷ [])) h)
+
+supported_known : (level : Level) (tag : Tag) → is_supported level tag ≡ true → is_some (known_vr tag) ≡ true
+unfolding is_supported
+supported_known (Identifier list) tag h =
+    elim (either (is_among tag (keys_of list)) (leaves list tag) h) [
+      | inl listed ↦ among_known tag (keys_of list) (keys_known list) listed
+      | inr left ↦ left_known list tag left
+    ]
+supported_known Step tag h = among_known tag step_keys step_known h
+supported_known Code tag h = among_known tag code_keys code_known h
+supported_known Reference tag h = among_known tag reference_keys reference_known h
+supported_known Other tag h = cc
+
+known_by : (b : Bool) (tag : Tag) (whole rest : ElementList) → (b ≡ true → is_some (known_vr tag) ≡ true) → (is_some (known_vr tag) ≡ true → HasKnownTags whole)
+    → HasKnownTags rest → HasKnownTags (cond b whole rest)
+known_by true tag whole rest known h k = h (known refl)
+known_by false tag whole rest known h k = k
+
+mutual
+  pub part_known : (level : Level) (d : ElementList) → HasKnownTags (supported_part level d)
+  part_known level no_elements = tt
+  part_known level (element t v o rest) =
+      known_by (is_supported level t) t (element t v o (supported_part level rest)) (supported_part level rest) (supported_known level t)
+      (λ h. (h, part_known level rest)) (part_known level rest)
+  part_known level (sequence t v items rest) =
+      known_by (is_supported level t) t (sequence t v (supported_items (below level t) items) (supported_part level rest)) (supported_part level rest) (supported_known level t)
+      (λ h. (h, items_known (below level t) items, part_known level rest)) (part_known level rest)
+
+  items_known : (level : Level) (items : ItemList) → HaveKnownTags (supported_items level items)
+  items_known level no_items = tt
+  items_known level (item d rest) = (part_known level d, items_known level rest)

@@ -1,0 +1,12 @@
+mod DataSets
+mod KnownKeys
+mod Moments
+mod NamePads
+mod Names
+mod Places
+mod Scanning
+mod Showing
+mod ShownTags
+mod Struck
+mod Universal
+mod WildFits

@@ -1,0 +1,127 @@
+-- Ranges of dates as an order of days, and periods as an order of moments.
+use Rattle.std.proofs.Common.{◌≡◌, ℕ, ℤ, ◌≤◌, ◌≤ℤ◌, ◌<ℤ◌, Bool, true, false, cond, nat_le, ◌||◌, ◌&&◌, ◌↔◌, ◌⊎◌, inl, inr, List, [], ◌∷◌, Option, Some, None, refl, sym, ap, ◌∙◌, subst, arith}
+use Rattle.std.specs.Prelude.{int_le, int_lt}
+use Rattle.std.specs.Ordering.{int_eq, is_eq}
+use Rattle.std.specs.declared.cmp.Ordering.TheVariants.{Less, Equal, Greater}
+use Rattle.std.proofs.lemmas.Int.{ints}
+use Rattle.std.proofs.lemmas.Bool.Decides.{nat_tests}
+use Rattle.dq_value.specs.Day.{day, date_in}
+use Rattle.dq_value.specs.Time.{Span}
+use Rattle.dq_value.specs.Range.{ends, end_of}
+use Rattle.dq_match.specs.Ranges.{Bounds, bounds, unless_open, has_day, has_time, date_meets, is_from, is_until}
+use Rattle.dq_match.proofs.KnownKeys.{both, either}
+
+le_true : (a b : ℤ) → int_le a b ≡ true → a ≤ℤ b
+le_true a b h = grind (arith, ints)
+
+true_le : (a b : ℤ) → a ≤ℤ b → int_le a b ≡ true
+true_le a b h = grind (arith, ints)
+
+pub has_day_between : (first last date : ℤ) → (has_day (Some first, Some last) date ≡ true) ↔ ((first ≤ℤ date) × (date ≤ℤ last))
+has_day_between first last date = (
+  λ h. (let parts = both (int_le first date) (int_le date last) h in (le_true first date parts.0, le_true date last parts.1)),
+  λ h. (λ i. true_le first date h.0 i && true_le date last h.1 i),
+)
+
+lt_true : (a b : ℤ) → int_lt a b ≡ true → a <ℤ b
+lt_true a b h = grind (arith, ints)
+
+true_lt : (a b : ℤ) → a <ℤ b → int_lt a b ≡ true
+true_lt a b h = grind (arith, ints)
+
+not_lt : (a b : ℤ) → int_lt a b ≡ false → b ≤ℤ a
+not_lt a b h = grind (arith, ints)
+
+eq_by : (less more : Bool) (a b : ℤ) → int_lt a b ≡ less → int_lt b a ≡ more → is_eq (cond less Less (cond more Greater Equal)) ≡ true → a ≡ b
+eq_by true more a b e f h = absurd cc
+eq_by false true a b e f h = absurd cc
+eq_by false false a b e f h = omega (arith, ints, not_lt a b e, not_lt b a f)
+
+eq_true : (a b : ℤ) → int_eq a b ≡ true → a ≡ b
+eq_true a b h = eq_by (int_lt a b) (int_lt b a) a b refl refl h
+
+same_not_lt : (a : ℤ) → int_lt a a ≡ false
+same_not_lt a = grind (arith, ints)
+
+true_eq : (a b : ℤ) → a ≡ b → int_eq a b ≡ true
+true_eq a b e = subst (λ (x : ℤ). int_eq a x ≡ true) e (λ i. is_eq (cond (same_not_lt a i) Less (cond (same_not_lt a i) Greater Equal)))
+
+nat_le_true : (a b : ℕ) → nat_le a b ≡ true → a ≤ b
+nat_le_true a b h = grind (arith, nat_tests)
+
+true_nat_le : (a b : ℕ) → a ≤ b → nat_le a b ≡ true
+true_nat_le a b h = grind (arith, nat_tests)
+
+or_left : (a b : Bool) → a ≡ true → (a || b) ≡ true
+or_left true b h = refl
+or_left false b h = absurd cc
+
+or_right : (a b : Bool) → b ≡ true → (a || b) ≡ true
+or_right true b h = refl
+or_right false b h = h
+
+-- a moment is at or after another: by day, and then by microsecond
+pub is_from_is_order : (first : ℤ) (time : Span) (date : ℤ) (microsecond : ℕ)
+    → (is_from (Some first) (Some time) date microsecond ≡ true) ↔ ((first <ℤ date) ⊎ ((first ≡ date) × (time.0 ≤ microsecond)))
+is_from_is_order first time date microsecond = (
+  λ h. (elim (either (int_lt first date) (int_eq first date && nat_le time.0 microsecond) h) [
+    | inl before ↦ inl (lt_true first date before)
+    | inr on ↦ (let parts = both (int_eq first date) (nat_le time.0 microsecond) on in inr (eq_true first date parts.0, nat_le_true time.0 microsecond parts.1))
+  ]),
+  λ h. (elim h [
+    | inl before ↦ or_left (int_lt first date) (int_eq first date && nat_le time.0 microsecond) (true_lt first date before)
+    | inr on ↦ or_right (int_lt first date) (int_eq first date && nat_le time.0 microsecond) (λ i. true_eq first date on.0 i && true_nat_le time.0 microsecond on.1 i)
+  ]),
+)
+
+pub is_until_is_order : (last : ℤ) (time : Span) (date : ℤ) (microsecond : ℕ)
+    → (is_until (Some last) (Some time) date microsecond ≡ true) ↔ ((date <ℤ last) ⊎ ((date ≡ last) × (microsecond ≤ time.1)))
+is_until_is_order last time date microsecond = (
+  λ h. (elim (either (int_lt date last) (int_eq date last && nat_le microsecond time.1) h) [
+    | inl before ↦ inl (lt_true date last before)
+    | inr on ↦ (let parts = both (int_eq date last) (nat_le microsecond time.1) on in inr (eq_true date last parts.0, nat_le_true microsecond time.1 parts.1))
+  ]),
+  λ h. (elim h [
+    | inl before ↦ or_left (int_lt date last) (int_eq date last && nat_le microsecond time.1) (true_lt date last before)
+    | inr on ↦ or_right (int_lt date last) (int_eq date last && nat_le microsecond time.1) (λ i. true_eq date last on.0 i && true_nat_le microsecond time.1 on.1 i)
+  ]),
+)
+
+-- ---- the two halves of a range
+
+and_true : (b : Bool) → b ≡ (b && true)
+and_true true = refl
+and_true false = refl
+
+halves_by : {A : Type 0} (from until : A → Bool) (range : Bounds A) → (unless_open from range.0 && unless_open until range.1)
+    ≡ ((unless_open from range.0 && unless_open until None) && (unless_open from None && unless_open until range.1))
+halves_by from until (None, None) = refl
+halves_by from until (None, Some last) = refl
+halves_by from until (Some first, None) = and_true (from first && true)
+halves_by from until (Some first, Some last) = ap (λ (b : Bool). b && until last) (and_true (from first))
+
+pub day_halves : (range : Bounds ℤ) (date : ℤ) → has_day range date ≡ (has_day (range.0, None) date && has_day (None, range.1) date)
+day_halves range date = halves_by (λ first. int_le first date) (λ last. int_le date last) range
+
+pub time_halves : (range : Bounds Span) (time : Span) → has_time range time ≡ (has_time (range.0, None) time && has_time (None, range.1) time)
+time_halves range time = halves_by (λ first. nat_le first.0 time.0) (λ last. nat_le time.0 last.1) range
+
+-- ---- a date or a range as it is spelled
+
+day_some : (octets : List ℕ) (d : ℤ) → day octets ≡ Some d → end_of octets ≡ Some octets
+unfolding day date_in end_of
+day_some [] d h = absurd cc
+day_some (octet ∷ others) d h = refl
+
+pub range_met : (key from to value : List ℕ) (first last date : ℤ) → ends key ≡ Some (end_of from, end_of to) → day from ≡ Some first → day to ≡ Some last
+    → day value ≡ Some date → date_meets key value ≡ has_day (Some first, Some last) date
+unfolding date_meets bounds
+range_met key from to value first last date split is_first is_last is_date =
+    rw (split, day_some from first is_first, day_some to last is_last, is_first, is_last, is_date) refl
+
+same_day : (d : ℤ) → has_day (Some d, Some d) d ≡ true
+same_day d = (λ i. true_le d d (omega (arith, ints)) i && true_le d d (omega (arith, ints)) i)
+
+pub single_met : (value : List ℕ) (date : ℤ) → ends value ≡ None → day value ≡ Some date → date_meets value value ≡ true
+unfolding date_meets bounds
+single_met value date one is_date = rw (one, is_date) (same_day date)

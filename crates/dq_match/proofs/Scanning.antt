@@ -1,0 +1,153 @@
+-- A pattern that goes along a text.
+use Rattle.std.proofs.Common.{◌≡◌, ℕ, zero, suc, ◌+◌, ◌<◌, ◌≤◌, Bool, true, false, cond, nat_eq, ◌||◌, ◌&&◌, List, [], ◌∷◌, length, drop, refl, sym, ap, ◌∙◌, subst, arith, length-drop}
+use Rattle.std.proofs.lemmas.Bool.Decides.{nat_tests}
+use Rattle.dq_list.specs.Lengths.{is_empty}
+use Rattle.dq_match.specs.declared.wildcards.Casing.{Casing}
+use Rattle.dq_match.specs.declared.wildcards.Scan.{Scan}
+use Rattle.dq_match.specs.declared.wildcards.Scan.TheVariants.{End, Mismatch, Star}
+use Rattle.dq_match.specs.Wildcards.{wild, after_run, after_one, stands_for, any_run}
+use Rattle.dq_match.specs.Scans.{IsPassed, IsFit, IsFirstFit, IsScan}
+
+-- how far the pattern went
+pub record IsAlong (casing : Casing) (pattern text wanted left : List ℕ) : Type 0 where
+  pub count : ℕ
+  pub within : count ≤ length text
+  pub behind : left ≡ drop count text
+  pub no_longer : length wanted ≤ length pattern
+  pub leads : (start : List ℕ) → wild casing pattern start ≡ true → wild casing wanted (drop count start) ≡ true
+  pub as_well : wild casing pattern text ≡ wild casing wanted left
+
+pub IsAlong-none : (casing : Casing) (pattern text : List ℕ) → IsAlong casing pattern text pattern text
+IsAlong-none casing pattern text = record {
+  count = 0;
+  within = omega arith;
+  behind = refl;
+  no_longer = omega arith;
+  leads = λ start h. h;
+  as_well = refl;
+}
+
+and_right : (a b : Bool) → (a && b) ≡ true → b ≡ true
+and_right true b h = h
+and_right false b h = cc
+
+pub at_asterisk : (casing : Casing) (first : ℕ) (others text : List ℕ) → first ≡ any_run
+    → wild casing (first ∷ others) text ≡ after_run (wild casing others) text
+at_asterisk casing first others text is = subst (λ x. wild casing (x ∷ others) text ≡ after_run (wild casing others) text) (sym is) refl
+
+not_same : (a b : ℕ) → (a ≡ b → ⊥) → nat_eq a b ≡ false
+not_same a b differ = grind (arith, nat_tests)
+
+pub at_octet : (casing : Casing) (first : ℕ) (others text : List ℕ) → (first ≡ any_run → ⊥)
+    → wild casing (first ∷ others) text ≡ after_one (stands_for casing first) (wild casing others) text
+at_octet casing first others text differ =
+    ap (λ (b : Bool). cond b (after_run (wild casing others) text) (after_one (stands_for casing first) (wild casing others) text)) (not_same first any_run differ)
+
+drop_one : (count : ℕ) (xs : List ℕ) (x : ℕ) (rest : List ℕ) → drop count xs ≡ x ∷ rest → drop (count + 1) xs ≡ rest
+drop_one zero (y ∷ ys) x rest h = cc
+drop_one zero [] x rest h = cc
+drop_one (suc count) [] x rest h = cc
+drop_one (suc count) (y ∷ ys) x rest h =
+    let same : suc count + 1 ≡ suc (count + 1) = omega arith in
+    ap (λ n. drop n (y ∷ ys)) same ∙ drop_one count ys x rest h
+
+after_one_rest : (first : ℕ → Bool) (test : List ℕ → Bool) (text : List ℕ) (count : ℕ) → after_one first test (drop count text) ≡ true
+    → test (drop (count + 1) text) ≡ true
+after_one_rest first test text count h = by_rest (drop count text) refl h
+  where
+    by_rest : (left : List ℕ) → drop count text ≡ left → after_one first test left ≡ true → test (drop (count + 1) text) ≡ true
+    by_rest [] e k = cc
+    by_rest (x ∷ xs) e k = ap test (drop_one count text x xs e) ∙ and_right (first x) (test xs) k
+
+pub IsAlong-more : (casing : Casing) (pattern text wanted left : List ℕ) (first octet : ℕ) (others rest : List ℕ)
+    → IsAlong casing pattern text wanted left → wanted ≡ first ∷ others → left ≡ octet ∷ rest → (first ≡ any_run → ⊥)
+    → stands_for casing first octet ≡ true → IsAlong casing pattern text others rest
+IsAlong-more casing pattern text wanted left first octet others rest along is_wanted is_left differ stands =
+    let front : drop along.count text ≡ octet ∷ rest = sym along.behind ∙ is_left in
+    record {
+      count = along.count + 1;
+      within = omega (arith, length-drop along.count text, ap length front);
+      behind = sym (drop_one along.count text octet rest front);
+      no_longer = omega (arith, ap length is_wanted, along.no_longer);
+      leads = λ start h.
+          after_one_rest (stands_for casing first) (wild casing others) start along.count
+          (sym (at_octet casing first others (drop along.count start) differ) ∙ subst (λ w. wild casing w (drop along.count start) ≡ true) is_wanted (along.leads start h));
+      as_well = along.as_well ∙ (λ i. wild casing (is_wanted i) (is_left i)) ∙ at_octet casing first others (octet ∷ rest) differ
+          ∙ ap (λ (b : Bool). b && wild casing others rest) stands;
+    }
+
+-- ---- at an asterisk
+
+pub IsPassed-at : (casing : Casing) (pattern text wanted left : List ℕ) (first : ℕ) (others : List ℕ)
+    → IsAlong casing pattern text wanted left → wanted ≡ first ∷ others → first ≡ any_run → IsPassed casing pattern text others left
+IsPassed-at casing pattern text wanted left first others along is_wanted is = record {
+  count = along.count;
+  within = along.within;
+  behind = along.behind;
+  shorter = omega (arith, ap length is_wanted, along.no_longer);
+  leads = λ start h.
+      sym (at_asterisk casing first others (drop along.count start) is) ∙ subst (λ w. wild casing w (drop along.count start) ≡ true) is_wanted (along.leads start h);
+  as_well = along.as_well ∙ ap (λ (w : List ℕ). wild casing w left) is_wanted ∙ at_asterisk casing first others left is;
+}
+
+-- ---- where the pattern first fits
+
+-- what fits after some run of a text's end fits after some run of the text
+after_run-drop : (test : List ℕ → Bool) (count : ℕ) (text : List ℕ) → after_run test (drop count text) ≡ true → after_run test text ≡ true
+after_run-drop test zero text h = h
+after_run-drop test (suc count) [] h = h
+after_run-drop test (suc count) (x ∷ xs) h = or_right (test (x ∷ xs)) (after_run test xs) (after_run-drop test count xs h)
+  where
+    or_right : (a b : Bool) → b ≡ true → (a || b) ≡ true
+    or_right true b k = refl
+    or_right false b k = k
+
+tail_of_drop : (count : ℕ) (x : ℕ) (xs : List ℕ) → drop 1 (drop count (x ∷ xs)) ≡ drop count xs
+tail_of_drop zero x xs = refl
+tail_of_drop (suc zero) x [] = refl
+tail_of_drop (suc (suc count)) x [] = refl
+tail_of_drop (suc count) x (y ∷ ys) = tail_of_drop count y ys
+
+-- Where a pattern fits a text's end, what is left of it fits an end of what it leaves of the text.
+leads_on : (test others : List ℕ → Bool) (count : ℕ) (text : List ℕ) → ((start : List ℕ) → test start ≡ true → after_run others (drop count start) ≡ true)
+    → after_run test text ≡ true → after_run others (drop count text) ≡ true
+leads_on test others count [] leads h = leads [] h
+leads_on test others count (x ∷ xs) leads h = by_front (test (x ∷ xs)) refl h (leads_on test others count xs leads)
+  where
+    by_front : (b : Bool) → test (x ∷ xs) ≡ b → (b || after_run test xs) ≡ true
+        → (after_run test xs ≡ true → after_run others (drop count xs) ≡ true) → after_run others (drop count (x ∷ xs)) ≡ true
+    by_front true e k later = leads (x ∷ xs) e
+    by_front false e k later = after_run-drop others 1 (drop count (x ∷ xs)) (ap (after_run others) (tail_of_drop count x xs) ∙ later k)
+
+pub after_run-here : (test : List ℕ → Bool) (text : List ℕ) → test text ≡ true → after_run test text ≡ true
+after_run-here test [] h = h
+after_run-here test (x ∷ xs) h = ap (λ (b : Bool). b || after_run test xs) h
+
+same_truth : (a b : Bool) → (a ≡ true → b ≡ true) → (b ≡ true → a ≡ true) → a ≡ b
+same_truth true b to from = sym (to refl)
+same_truth false true to from = from refl
+same_truth false false to from = refl
+
+pub IsFit-from : (casing : Casing) (pattern text others rest : List ℕ) → IsPassed casing pattern text others rest → IsFit casing pattern text others rest
+IsFit-from casing pattern text others rest passed = record {
+  shorter = passed.shorter;
+  as_well = same_truth (after_run (wild casing pattern) text) (after_run (wild casing others) rest)
+      (λ h. ap (after_run (wild casing others)) passed.behind ∙ leads_on (wild casing pattern) (wild casing others) passed.count text passed.leads h)
+      (λ h. after_run-here (wild casing pattern) text (passed.as_well ∙ h));
+}
+
+-- what a scan tells of whether the pattern fits the text
+abbrev pub DecidesFit : Casing → List ℕ → List ℕ → Scan → Type 0
+DecidesFit casing pattern text End = wild casing pattern text ≡ true
+DecidesFit casing pattern text Mismatch = wild casing pattern text ≡ false
+DecidesFit casing pattern text (Star others rest) = wild casing pattern text ≡ after_run (wild casing others.now) rest.now
+
+abbrev pub length_of : Scan → ℕ
+length_of End = 0
+length_of Mismatch = 0
+length_of (Star others rest) = suc (length others.now)
+
+pub DecidesFit-from : (casing : Casing) (pattern text : List ℕ) (scan : Scan) → IsScan casing pattern text scan → DecidesFit casing pattern text scan
+DecidesFit-from casing pattern text End h = h
+DecidesFit-from casing pattern text Mismatch h = h
+DecidesFit-from casing pattern text (Star others rest) h = h.as_well

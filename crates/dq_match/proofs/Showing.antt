@@ -1,0 +1,337 @@
+-- What is shown of a record is a data set, and is put together key by key.
+use Rattle.std.proofs.Common.{◌≡◌, ℕ, zero, suc, ◌-◌, ◌+◌, ◌<◌, ◌≤◌, ◌%◌, Bool, true, false, cond, not, ◌||◌, ◌&&◌, List, [], ◌∷◌, ◌++◌, Option, Some, None, option_map, find, map, filter, length, get_or, drop, refl, sym, ap, ◌∙◌, subst, arith, nat_eq, is_some, append_assoc}
+use Rattle.std.specs.List.{list_any, list_all}
+use Rattle.std.proofs.lemmas.Bool.Decides.{nat_tests}
+use Rattle.dq_vr.specs.declared.Tag.{Tag}
+use Rattle.dq_vr.specs.declared.Vr.{Vr}
+use Rattle.dq_vr.specs.declared.Vr.TheVariants.{CS}
+use Rattle.dq_vr.specs.Tag.{is_below}
+use Rattle.dq_vr.specs.Tags.{specific_character_set, query_retrieve_level, retrieve_ae_title, instance_availability}
+use Rattle.dq_vr.specs.Dictionary.{Entry, dictionary, vr_in, known_vr}
+use Rattle.dq_dataset.specs.declared.data_set.Element.{Element}
+use Rattle.dq_dataset.specs.declared.data_set.Value.{Value}
+use Rattle.dq_dataset.specs.declared.data_set.Value.TheVariants.{Octets, Items}
+use Rattle.dq_dataset.specs.Tree.{ElementList, no_elements, element, sequence, ItemList, no_items, item, item_count}
+use Rattle.dq_dataset.specs.View.{as_elements, elements_of, items_of, list_of, with_value, has_tag}
+use Rattle.dq_dataset.specs.Facts.{IsElementTag, IsPlain, IsSequence, AreElements, AreItems, IsDataSet}
+use Rattle.dq_dataset.proofs.Views.{elements_of-with_value, items_of-list_of}
+use Rattle.dq_dataset.proofs.Copies.{value_count}
+use Rattle.dq_match.specs.declared.keys.Place.{Place}
+use Rattle.dq_match.specs.declared.keys.Place.TheVariants.{Outer, Inner}
+use Rattle.dq_list.specs.Lengths.{is_empty}
+use Rattle.dq_value.specs.Parts.{parts}
+use Rattle.dq_match.specs.Keys.{element_at, octets_in, is_tag, is_key}
+use Rattle.dq_match.specs.Identifiers.{HasKnownTags}
+use Rattle.dq_match.specs.Matching.{all_met}
+use Rattle.dq_match.specs.Responses.{put, no_value, or_empty, has_no_elements, cut_value, with_cut, shown_keys, shown_items, cut_keys, cut_by, shown_found, shown_element, unless_empty, character_set, put_first, shown}
+use Rattle.dq_match.proofs.KnownKeys.{same_tag, both, either}
+use Rattle.dq_match.proofs.DataSets.{after_earlier, elements_by}
+use Rattle.dq_match.proofs.Places.{from_place}
+
+-- ---- the facts of one element
+
+abbrev pub ValueFacts : ℕ → Tag → Vr → Value → Type 0
+ValueFacts levels tag vr (Octets octets) = IsPlain tag vr octets
+ValueFacts levels tag vr (Items items) = IsSequence tag vr × (0 < levels) × AreItems (levels - 1) (items_of items)
+
+abbrev pub FoundFacts : ℕ → Tag → Element → Type 0
+FoundFacts levels tag e = (e.tag ≡ tag) × ValueFacts levels e.tag e.vr e.value
+
+abbrev IfFound : ℕ → Tag → Option Element → Type 0
+IfFound levels tag None = Unit {0}
+IfFound levels tag (Some e) = FoundFacts levels tag e
+
+found_by : (b : Bool) (levels : ℕ) (tag : Tag) (e : Element) (others : Option Element) → (b ≡ true → e.tag ≡ tag) → ValueFacts levels e.tag e.vr e.value
+    → IfFound levels tag others → IfFound levels tag (cond b (Some e) others)
+found_by true levels tag e others same facts h = (same refl, facts)
+found_by false levels tag e others same facts h = h
+
+found_facts : (levels : ℕ) (last : Option Tag) (tag : Tag) (d : ElementList) → AreElements levels last d → IfFound levels tag (element_at tag d)
+found_facts levels last tag no_elements h = tt
+found_facts levels last tag (element t v o rest) h =
+    found_by (is_tag t tag) levels tag (record { tag = t; vr = v; value = Octets o }) (element_at tag rest) (same_tag t tag) h.1
+    (found_facts levels (Some t) tag rest h.2)
+found_facts levels last tag (sequence t v items rest) h =
+    found_by (is_tag t tag) levels tag (record { tag = t; vr = v; value = Items (list_of items) }) (element_at tag rest) (same_tag t tag)
+    (h.1, h.2, subst (λ (x : ItemList). AreItems (levels - 1) x) (sym (items_of-list_of items)) h.3)
+    (found_facts levels (Some t) tag rest h.4)
+
+put_value : (levels : ℕ) (last : Option Tag) (t : Tag) (v : Vr) (x : Value) (rest : ElementList) → IsElementTag last t → ValueFacts levels t v x
+    → AreElements levels (Some t) rest → AreElements levels last (with_value (record { tag = t; vr = v; value = x }) x rest)
+put_value levels last t v (Octets o) rest placed facts h = (placed, facts, h)
+put_value levels last t v (Items items) rest placed facts h = (placed, facts.0, facts.1, facts.2, h)
+
+put_facts : (levels : ℕ) (last : Option Tag) (tag : Tag) (e : Element) (rest : ElementList) → IsElementTag last tag → FoundFacts levels tag e
+    → AreElements levels (Some tag) rest → AreElements levels last (put e rest)
+put_facts levels last tag e rest placed facts h =
+    put_value levels last e.tag e.vr e.value rest (subst (λ (t : Tag). IsElementTag last t) (sym facts.0) placed) facts.1
+    (subst (λ (t : Tag). AreElements levels (Some t) rest) (sym facts.0) h)
+
+-- ---- what is shown
+
+abbrev KeepsFacts : ℕ → (ElementList → ElementList) → Type 0
+KeepsFacts levels f = (d : ElementList) → AreElements levels None d → AreElements levels None (f d)
+
+cut_by_test : (b : Bool) (levels : ℕ) (f : ElementList → ElementList) (d : ElementList) (cut : List ElementList) → AreElements levels None (f d)
+    → AreItems levels (items_of cut) → AreItems levels (items_of (cond b (f d ∷ cut) cut))
+cut_by_test true levels f d cut h k = (h, k)
+cut_by_test false levels f d cut h k = k
+
+map_cond : (b : Bool) (f : ElementList → ElementList) (d : ElementList) (ds : List ElementList)
+    → map f (cond b (d ∷ ds) ds) ≡ cond b (f d ∷ map f ds) (map f ds)
+map_cond true f d ds = refl
+map_cond false f d ds = refl
+
+cut_facts : (levels : ℕ) (f : ElementList → ElementList) (test : ElementList → Bool) (items : List ElementList) → KeepsFacts levels f
+    → AreItems levels (items_of items) → AreItems levels (items_of (map f (filter test items)))
+cut_facts levels f test [] keeps h = tt
+cut_facts levels f test (d ∷ ds) keeps h =
+    subst (λ (x : List ElementList). AreItems levels (items_of x)) (sym (map_cond (test d) f d (filter test ds)))
+    (cut_by_test (test d) levels f d (map f (filter test ds)) (keeps d h.0) (cut_facts levels f test ds keeps h.1))
+
+items_by : (b : Bool) (levels : ℕ) (whole cut : List ElementList) → AreItems levels (items_of whole) → AreItems levels (items_of cut)
+    → AreItems levels (items_of (cond b whole cut))
+items_by true levels whole cut h k = h
+items_by false levels whole cut h k = k
+
+plain_or_empty : (levels : ℕ) (tag : Tag) (vr : Vr) (octets : List ℕ) (held : Option Element) → IsPlain tag vr octets → IfFound levels tag held
+    → FoundFacts levels tag (or_empty tag vr (Octets octets) held)
+plain_or_empty levels tag vr octets None plain found =
+    (refl, record { by_dictionary = plain.by_dictionary; no_sequence = plain.no_sequence; even = refl })
+plain_or_empty levels tag vr octets (Some e) plain found = found
+
+cut_found : (levels : ℕ) (cut : List ElementList → List ElementList) (t : Tag) (v : Vr) (x : Value)
+    → ((items : List ElementList) → AreItems (levels - 1) (items_of items) → AreItems (levels - 1) (items_of (cut items)))
+    → ValueFacts levels t v x → ValueFacts levels t v (cut_value cut x)
+cut_found levels cut t v (Octets o) keeps facts = facts
+cut_found levels cut t v (Items items) keeps facts = (facts.0, facts.1, keeps items facts.2)
+
+sequence_or_empty : (levels : ℕ) (tag : Tag) (vr : Vr) (cut : List ElementList → List ElementList) (held : Option Element) → IsSequence tag vr → 0 < levels
+    → ((items : List ElementList) → AreItems (levels - 1) (items_of items) → AreItems (levels - 1) (items_of (cut items)))
+    → IfFound levels tag held → FoundFacts levels tag (or_empty tag vr (Items []) (option_map (with_cut cut) held))
+sequence_or_empty levels tag vr cut None nested deep keeps found = (refl, (nested, deep, tt))
+sequence_or_empty levels tag vr cut (Some e) nested deep keeps found = (found.0, cut_found levels cut e.tag e.vr e.value keeps found.1)
+
+mutual
+  shown_facts : (keys : ElementList) (levels : ℕ) (last : Option Tag) (place : Place) (held : ElementList) → AreElements levels last keys
+      → AreElements levels None held → AreElements levels last (shown_keys keys place held)
+  shown_facts no_elements levels last place held h k = tt
+  shown_facts (element t v o rest) levels last place held h k =
+      let others = shown_facts rest levels (Some t) place held h.2 k in
+      let e : Element = or_empty t v (Octets o) (element_at t held) in
+      elements_by (is_key place t) levels last (put e (shown_keys rest place held)) (shown_keys rest place held)
+      (put_facts levels last t e (shown_keys rest place held) h.0 (plain_or_empty levels t v o (element_at t held) h.1 (found_facts levels None t held k)) others)
+      (after_earlier levels last t (shown_keys rest place held) h.0.rises others)
+  shown_facts (sequence t v items rest) levels last place held h k =
+      let others = shown_facts rest levels (Some t) place held h.4 k in
+      let e : Element = or_empty t v (Items []) (option_map (with_cut (shown_items items)) (element_at t held)) in
+      elements_by (is_key place t) levels last (put e (shown_keys rest place held)) (shown_keys rest place held)
+      (put_facts levels last t e (shown_keys rest place held) h.0
+      (sequence_or_empty levels t v (shown_items items) (element_at t held) h.1 h.2 (λ its. items_shown_facts items (levels - 1) its h.3) (found_facts levels None t held k)) others)
+      (after_earlier levels last t (shown_keys rest place held) h.0.rises others)
+
+  items_shown_facts : (items : ItemList) (levels : ℕ) (held : List ElementList) → AreItems levels items
+      → AreItems levels (items_of held) → AreItems levels (items_of (shown_items items held))
+  items_shown_facts no_items levels held h k = k
+  items_shown_facts (item keys others) levels held h k =
+      items_by (has_no_elements keys) levels held (map (λ d. shown_keys keys Inner d) (filter (λ d. all_met Inner keys d) held)) k
+      (cut_facts levels (λ d. shown_keys keys Inner d) (λ d. all_met Inner keys d) held (λ d. shown_facts keys levels None Inner d h.0) k)
+
+pub shown_is_data_set : (keys : ElementList) (place : Place) (held : ElementList) → IsDataSet keys → IsDataSet held → IsDataSet (shown_keys keys place held)
+shown_is_data_set keys place held h k = shown_facts keys 16 None place held h k
+
+-- ---- after the character set
+
+abbrev others_of : List Entry → List Entry
+others_of [] = []
+others_of (entry ∷ others) = others
+
+above_by : (b : Bool) (found tag : Tag) (vr : Vr) (others : Option Vr) → is_tag found tag ≡ b → is_below specific_character_set found ≡ true
+    → (is_some others ≡ true → is_below specific_character_set tag ≡ true) → is_some (cond b (Some vr) others) ≡ true
+    → is_below specific_character_set tag ≡ true
+above_by true found tag vr others same above later known = subst (λ (t : Tag). is_below specific_character_set t ≡ true) (same_tag found tag same) above
+above_by false found tag vr others same above later known = later known
+
+above_all : (listed : List Entry) (tag : Tag) → list_all (λ entry. is_below specific_character_set entry.0) listed ≡ true
+    → is_some (vr_in listed tag) ≡ true → is_below specific_character_set tag ≡ true
+unfolding vr_in
+above_all [] tag h k = absurd cc
+above_all (entry ∷ others) tag h k =
+    let parts = both (is_below specific_character_set entry.0) (list_all (λ entry. is_below specific_character_set entry.0) others) h in
+    above_by (is_tag entry.0 tag) entry.0 tag entry.1 (vr_in others tag) refl parts.0 (λ known. above_all others tag parts.1 known) k
+
+rest_above : list_all (λ entry. is_below specific_character_set entry.0) (others_of dictionary) ≡ true
+unfolding dictionary is_below
+rest_above = refl
+
+first_of_dictionary : dictionary ≡ (specific_character_set, CS) ∷ others_of dictionary
+unfolding dictionary
+first_of_dictionary = refl
+
+neither : (a b : Bool) → not (a || b) ≡ true → a ≡ false
+neither true b h = cc
+neither false b h = refl
+
+-- every other known tag is above that of the character set
+known_above : (tag : Tag) → is_some (known_vr tag) ≡ true → is_key Outer tag ≡ true → is_below specific_character_set tag ≡ true
+unfolding known_vr vr_in
+known_above tag known key =
+    let others : Option Vr = vr_in (others_of dictionary) tag in
+    let found : is_some (cond (is_tag specific_character_set tag) (Some CS) others) ≡ true =
+    subst (λ (listed : List Entry). is_some (vr_in listed tag) ≡ true) first_of_dictionary known in
+    let other : is_tag specific_character_set tag ≡ false =
+    neither (is_tag specific_character_set tag) (list_any (λ wanted. is_tag wanted tag) (query_retrieve_level ∷ retrieve_ae_title ∷ instance_availability ∷ [])) key in
+    above_all (others_of dictionary) tag rest_above (subst (λ (b : Bool). is_some (cond b (Some CS) others) ≡ true) other found)
+
+set_by : (b : Bool) (whole rest : ElementList) → (b ≡ true → AreElements 16 (Some specific_character_set) whole)
+    → AreElements 16 (Some specific_character_set) rest → AreElements 16 (Some specific_character_set) (cond b whole rest)
+set_by true whole rest h k = h refl
+set_by false whole rest h k = k
+
+placed_above : (last : Option Tag) (tag : Tag) → IsElementTag last tag → is_below specific_character_set tag ≡ true → IsElementTag (Some specific_character_set) tag
+placed_above last tag placed above = record {
+  rises = above;
+  no_delimiter = placed.no_delimiter;
+  no_length = placed.no_length;
+  group = placed.group;
+  number = placed.number;
+}
+
+shown_after_set : (keys : ElementList) (last : Option Tag) (held : ElementList) → AreElements 16 last keys → HasKnownTags keys → IsDataSet held
+    → AreElements 16 (Some specific_character_set) (shown_keys keys Outer held)
+shown_after_set no_elements last held h known k = tt
+shown_after_set (element t v o rest) last held h known k =
+    let e : Element = or_empty t v (Octets o) (element_at t held) in
+    set_by (is_key Outer t) (put e (shown_keys rest Outer held)) (shown_keys rest Outer held)
+    (λ key. put_facts 16 (Some specific_character_set) t e (shown_keys rest Outer held) (placed_above last t h.0 (known_above t known.0 key))
+    (plain_or_empty 16 t v o (element_at t held) h.1 (found_facts 16 None t held k)) (shown_facts rest 16 (Some t) Outer held h.2 k))
+    (shown_after_set rest (Some t) held h.2 known.1 k)
+shown_after_set (sequence t v items rest) last held h known k =
+    let e : Element = or_empty t v (Items []) (option_map (with_cut (shown_items items)) (element_at t held)) in
+    set_by (is_key Outer t) (put e (shown_keys rest Outer held)) (shown_keys rest Outer held)
+    (λ key. put_facts 16 (Some specific_character_set) t e (shown_keys rest Outer held) (placed_above last t h.0 (known_above t known.0 key))
+    (sequence_or_empty 16 t v (shown_items items) (element_at t held) h.1 h.2 (λ its. items_shown_facts items 15 its h.3) (found_facts 16 None t held k))
+    (shown_facts rest 16 (Some t) Outer held h.4 k))
+    (shown_after_set rest (Some t) held h.4 known.2 k)
+
+set_facts : (found : Option Element) → IfFound 16 specific_character_set found → IfFound 16 specific_character_set (unless_empty found)
+set_facts None h = tt
+set_facts (Some e) h = kept (is_empty (parts e.vr (octets_in (Some e))))
+  where
+    kept : (b : Bool) → IfFound 16 specific_character_set (cond b None (Some e))
+    kept true = tt
+    kept false = h
+
+set_tag : IsElementTag None specific_character_set
+set_tag = record {
+  rises = refl;
+  no_delimiter = omega arith;
+  no_length = omega arith;
+  group = omega arith;
+  number = omega arith;
+}
+
+first_facts : (first : Option Element) (rest : ElementList) → IfFound 16 specific_character_set first → IsDataSet rest
+    → AreElements 16 (Some specific_character_set) rest → IsDataSet (put_first first rest)
+first_facts None rest h k above = k
+first_facts (Some e) rest h k above = put_facts 16 None specific_character_set e rest set_tag h above
+
+pub shown_is_whole : (identifier held : ElementList) → IsDataSet identifier → HasKnownTags identifier → IsDataSet held
+    → IsDataSet (put_first (character_set held) (shown_keys identifier Outer held))
+shown_is_whole identifier held h known k =
+    first_facts (character_set held) (shown_keys identifier Outer held) (set_facts (element_at specific_character_set held) (found_facts 16 None specific_character_set held k))
+    (shown_is_data_set identifier Outer held h k) (shown_after_set identifier None held h known k)
+
+-- ---- key by key
+
+cut_by_first : (b : Bool) (keys : ElementList) (held : List ElementList) → cond b held (map (λ d. shown_keys keys Inner d) (filter (λ d. all_met Inner keys d) held))
+    ≡ cut_by (cond b None (Some keys)) held
+cut_by_first true keys held = refl
+cut_by_first false keys held = refl
+
+shown_items-cut : (items held : List ElementList) → shown_items (items_of items) held ≡ cut_by (cut_keys (Items items)) held
+shown_items-cut [] held = refl
+shown_items-cut (keys ∷ others) held = cut_by_first (has_no_elements keys) keys held
+
+with_cut-whole : (t : Tag) (v : Vr) (x : Value) → with_cut (cut_by None) (record { tag = t; vr = v; value = x }) ≡ record { tag = t; vr = v; value = x }
+with_cut-whole t v (Octets o) = refl
+with_cut-whole t v (Items items) = refl
+
+with_cut-same : (t : Tag) (v : Vr) (x : Value) (f g : List ElementList → List ElementList) → ((items : List ElementList) → f items ≡ g items)
+    → with_cut f (record { tag = t; vr = v; value = x }) ≡ with_cut g (record { tag = t; vr = v; value = x })
+with_cut-same t v (Octets o) f g same = refl
+with_cut-same t v (Items items) f g same = ap (λ (its : List ElementList). record { tag = t; vr = v; value = Items its }) (same items)
+
+plain_shown : (t : Tag) (v : Vr) (o : List ℕ) (held : Option Element) → or_empty t v (Octets o) held ≡ shown_element (record { tag = t; vr = v; value = Octets o }) held
+plain_shown t v o None = refl
+plain_shown t v o (Some e) = sym (with_cut-whole e.tag e.vr e.value)
+
+sequence_shown : (t : Tag) (v : Vr) (items : List ElementList) (held : Option Element)
+    → or_empty t v (Items []) (option_map (with_cut (shown_items (items_of items))) held) ≡ shown_element (record { tag = t; vr = v; value = Items items }) held
+sequence_shown t v items None = refl
+sequence_shown t v items (Some e) = with_cut-same e.tag e.vr e.value (shown_items (items_of items)) (cut_by (cut_keys (Items items))) (shown_items-cut items)
+
+put_by : (b : Bool) (e : Element) (rest : ElementList) → elements_of (cond b (put e rest) rest) ≡ cond b (e ∷ elements_of rest) (elements_of rest)
+put_by true e rest = elements_of-with_value e.tag e.vr e.value rest
+put_by false e rest = refl
+
+shown_by : (t : Tag) (v : Vr) (x : Value) (place : Place) (rest held : ElementList)
+    → elements_of (shown_keys (with_value (record { tag = t; vr = v; value = x }) x rest) place held)
+    ≡ cond (is_key place t) (shown_element (record { tag = t; vr = v; value = x }) (element_at t held) ∷ elements_of (shown_keys rest place held)) (elements_of (shown_keys rest place held))
+shown_by t v (Octets o) place rest held =
+    put_by (is_key place t) (or_empty t v (Octets o) (element_at t held)) (shown_keys rest place held)
+    ∙ ap (λ (e : Element). cond (is_key place t) (e ∷ elements_of (shown_keys rest place held)) (elements_of (shown_keys rest place held))) (plain_shown t v o (element_at t held))
+shown_by t v (Items items) place rest held =
+    put_by (is_key place t) (or_empty t v (Items []) (option_map (with_cut (shown_items (items_of items))) (element_at t held))) (shown_keys rest place held)
+    ∙ ap (λ (e : Element). cond (is_key place t) (e ∷ elements_of (shown_keys rest place held)) (elements_of (shown_keys rest place held))) (sequence_shown t v items (element_at t held))
+
+module _ (keys : List Element) (place : Place) (held : ElementList) (done : List Element) (i : ℕ) (key : Element) (lt : i < length keys) (is : key ≡ get_or keys i key)
+    (so_far : done ++ elements_of (shown_keys (as_elements (drop i keys)) place held) ≡ elements_of (shown_keys (as_elements keys) place held)) where
+  here : (b : Bool) → is_key place key.tag ≡ b
+      → elements_of (shown_keys (as_elements (drop i keys)) place held) ≡ cond b (shown_element key (element_at key.tag held) ∷ elements_of (shown_keys (as_elements (drop (i + 1) keys)) place held)) (elements_of (shown_keys (as_elements (drop (i + 1) keys)) place held))
+  here b test = ap (λ (es : List Element). elements_of (shown_keys (as_elements es) place held)) (from_place keys i key lt is)
+      ∙ shown_by key.tag key.vr key.value place (as_elements (drop (i + 1) keys)) held
+      ∙ ap (λ (x : Bool). cond x (shown_element key (element_at key.tag held) ∷ elements_of (shown_keys (as_elements (drop (i + 1) keys)) place held)) (elements_of (shown_keys (as_elements (drop (i + 1) keys)) place held))) test
+
+  pub key_shown : (e : Element) (after : List Element) → is_key place key.tag ≡ true → e ≡ shown_element key (element_at key.tag held) → after ≡ done ++ e ∷ []
+      → after ++ elements_of (shown_keys (as_elements (drop (i + 1) keys)) place held) ≡ elements_of (shown_keys (as_elements keys) place held)
+  key_shown e after test same pushed =
+      let rest : List Element = elements_of (shown_keys (as_elements (drop (i + 1) keys)) place held) in
+      ap (λ (es : List Element). es ++ rest) pushed ∙ append_assoc done (e ∷ []) rest
+      ∙ ap (λ (x : Element). done ++ x ∷ rest) same ∙ ap (λ (es : List Element). done ++ es) (sym (here true test)) ∙ so_far
+
+  pub key_passed : is_key place key.tag ≡ false
+      → done ++ elements_of (shown_keys (as_elements (drop (i + 1) keys)) place held) ≡ elements_of (shown_keys (as_elements keys) place held)
+  key_passed test = ap (λ (es : List Element). done ++ es) (sym (here false test)) ∙ so_far
+
+module _ (keys : ElementList) (items done : List ElementList) (i : ℕ) (d : ElementList) (lt : i < length items) (is : d ≡ get_or items i d)
+    (so_far : done ++ map (λ d. shown_keys keys Inner d) (filter (λ d. all_met Inner keys d) (drop i items))
+    ≡ map (λ d. shown_keys keys Inner d) (filter (λ d. all_met Inner keys d) items)) where
+  item_here : (b : Bool) → all_met Inner keys d ≡ b → map (λ d. shown_keys keys Inner d) (filter (λ d. all_met Inner keys d) (drop i items))
+      ≡ map (λ d. shown_keys keys Inner d) (cond b (d ∷ filter (λ d. all_met Inner keys d) (drop (i + 1) items)) (filter (λ d. all_met Inner keys d) (drop (i + 1) items)))
+  item_here b test = ap (λ (ds : List ElementList). map (λ d. shown_keys keys Inner d) (filter (λ d. all_met Inner keys d) ds)) (from_place items i d lt is)
+      ∙ ap (λ (x : Bool). map (λ d. shown_keys keys Inner d) (cond x (d ∷ filter (λ d. all_met Inner keys d) (drop (i + 1) items)) (filter (λ d. all_met Inner keys d) (drop (i + 1) items)))) test
+
+  pub item_shown : (cut : ElementList) (after : List ElementList) → all_met Inner keys d ≡ true → cut ≡ shown_keys keys Inner d → after ≡ done ++ cut ∷ []
+      → after ++ map (λ d. shown_keys keys Inner d) (filter (λ d. all_met Inner keys d) (drop (i + 1) items))
+      ≡ map (λ d. shown_keys keys Inner d) (filter (λ d. all_met Inner keys d) items)
+  item_shown cut after test same pushed =
+      let rest : List ElementList = map (λ d. shown_keys keys Inner d) (filter (λ d. all_met Inner keys d) (drop (i + 1) items)) in
+      ap (λ (ds : List ElementList). ds ++ rest) pushed ∙ append_assoc done (cut ∷ []) rest
+      ∙ ap (λ (x : ElementList). done ++ x ∷ rest) same ∙ ap (λ (ds : List ElementList). done ++ ds) (sym (item_here true test)) ∙ so_far
+
+  pub item_passed : all_met Inner keys d ≡ false
+      → done ++ map (λ d. shown_keys keys Inner d) (filter (λ d. all_met Inner keys d) (drop (i + 1) items))
+      ≡ map (λ d. shown_keys keys Inner d) (filter (λ d. all_met Inner keys d) items)
+  item_passed test = ap (λ (ds : List ElementList). done ++ ds) (sym (item_here false test)) ∙ so_far
+
+-- ---- the keys of an item
+
+none_by : (b : Bool) (d keys : ElementList) → cond b None (Some d) ≡ Some keys → d ≡ keys
+none_by true d keys h = absurd cc
+none_by false d keys h = cc
+
+pub cut_keys-fewer : (x : Value) (keys : ElementList) → cut_keys x ≡ Some keys → item_count keys < value_count x
+cut_keys-fewer (Octets o) keys h = absurd cc
+cut_keys-fewer (Items []) keys h = absurd cc
+cut_keys-fewer (Items (d ∷ ds)) keys h = omega (arith, ap item_count (none_by (has_no_elements d) d keys h))

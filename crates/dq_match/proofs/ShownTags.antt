@@ -1,0 +1,76 @@
+-- The tags of what is shown.
+use Rattle.std.proofs.Common.{◌≡◌, Bool, true, false, cond, List, [], ◌∷◌, Option, Some, None, option_map, find, filter, refl, sym, ap, ◌∙◌}
+use Rattle.dq_vr.specs.declared.Tag.{Tag}
+use Rattle.dq_vr.specs.declared.Vr.{Vr}
+use Rattle.dq_dataset.specs.declared.data_set.Element.{Element}
+use Rattle.dq_dataset.specs.declared.data_set.Value.{Value}
+use Rattle.dq_dataset.specs.declared.data_set.Value.TheVariants.{Octets, Items}
+use Rattle.dq_dataset.specs.Tree.{ElementList, no_elements, element, sequence, ItemList}
+use Rattle.dq_dataset.specs.View.{elements_of, has_tag, with_value, list_of}
+use Rattle.dq_vr.specs.Tags.{specific_character_set}
+use Rattle.dq_match.specs.declared.keys.Place.{Place}
+use Rattle.dq_match.specs.declared.keys.Place.TheVariants.{Outer}
+use Rattle.dq_match.specs.Keys.{element_at, is_tag, is_key}
+use Rattle.dq_match.specs.Responses.{put, or_empty, with_cut, shown_keys, shown_items, unless_empty, character_set, put_first, shown}
+use Rattle.dq_match.specs.ShownTags.{tags_of, set_tags}
+use Rattle.dq_match.proofs.KnownKeys.{same_tag}
+use Rattle.dq_value.specs.Parts.{parts}
+use Rattle.dq_list.specs.Lengths.{is_empty}
+use Rattle.dq_match.specs.Keys.{octets_in}
+
+abbrev HasTag : Tag → Option Element → Type 0
+HasTag tag None = Unit {0}
+HasTag tag (Some e) = e.tag ≡ tag
+
+found_by : (b : Bool) (tag : Tag) (e : Element) (others : Option Element) → (b ≡ true → e.tag ≡ tag) → HasTag tag others → HasTag tag (cond b (Some e) others)
+found_by true tag e others same h = same refl
+found_by false tag e others same h = h
+
+found_tag : (tag : Tag) (es : List Element) → HasTag tag (find (has_tag tag) es)
+found_tag tag [] = tt
+found_tag tag (e ∷ es) = found_by (is_tag e.tag tag) tag e (find (has_tag tag) es) (same_tag e.tag tag) (found_tag tag es)
+
+put_tag : (t : Tag) (v : Vr) (x : Value) (rest : ElementList) → tags_of (with_value (record { tag = t; vr = v; value = x }) x rest) ≡ t ∷ tags_of rest
+put_tag t v (Octets o) rest = refl
+put_tag t v (Items items) rest = refl
+
+empty_tag : (tag : Tag) (vr : Vr) (value : Value) (held : Option Element) → HasTag tag held → (or_empty tag vr value held).tag ≡ tag
+empty_tag tag vr value None h = refl
+empty_tag tag vr value (Some e) h = h
+
+cut_tag : (tag : Tag) (cut : List ElementList → List ElementList) (held : Option Element) → HasTag tag held → HasTag tag (option_map (with_cut cut) held)
+cut_tag tag cut None h = tt
+cut_tag tag cut (Some e) h = h
+
+tags_by : (b : Bool) (tag : Tag) (e : Element) (rest : ElementList) (tags : List Tag) → e.tag ≡ tag → tags_of rest ≡ tags
+    → tags_of (cond b (put e rest) rest) ≡ cond b (tag ∷ tags) tags
+tags_by true tag e rest tags same h = put_tag e.tag e.vr e.value rest ∙ (λ i. same i ∷ h i)
+tags_by false tag e rest tags same h = h
+
+keys_shown : (keys : ElementList) (place : Place) (held : ElementList) → tags_of (shown_keys keys place held) ≡ filter (is_key place) (tags_of keys)
+keys_shown no_elements place held = refl
+keys_shown (element t v o rest) place held =
+    tags_by (is_key place t) t (or_empty t v (Octets o) (element_at t held)) (shown_keys rest place held) (filter (is_key place) (tags_of rest))
+    (empty_tag t v (Octets o) (element_at t held) (found_tag t (elements_of held))) (keys_shown rest place held)
+keys_shown (sequence t v items rest) place held =
+    tags_by (is_key place t) t (or_empty t v (Items []) (option_map (with_cut (shown_items items)) (element_at t held))) (shown_keys rest place held) (filter (is_key place) (tags_of rest))
+    (empty_tag t v (Items []) (option_map (with_cut (shown_items items)) (element_at t held)) (cut_tag t (shown_items items) (element_at t held) (found_tag t (elements_of held))))
+    (keys_shown rest place held)
+
+set_by : (b : Bool) (e : Element) → HasTag specific_character_set (Some e) → HasTag specific_character_set (cond b None (Some e))
+set_by true e h = tt
+set_by false e h = h
+
+set_tag : (found : Option Element) → HasTag specific_character_set found → HasTag specific_character_set (unless_empty found)
+set_tag None h = tt
+set_tag (Some e) h = set_by (is_empty (parts e.vr (octets_in (Some e)))) e h
+
+first_tags : (first : Option Element) (rest : ElementList) → HasTag specific_character_set first → tags_of (put_first first rest) ≡ set_tags first (tags_of rest)
+first_tags None rest h = refl
+first_tags (Some e) rest h = put_tag e.tag e.vr e.value rest ∙ ap (λ (t : Tag). t ∷ tags_of rest) h
+
+pub tags_shown : (identifier held : ElementList) → tags_of (shown identifier held) ≡ set_tags (character_set held) (filter (is_key Outer) (tags_of identifier))
+unfolding shown
+tags_shown identifier held =
+    first_tags (character_set held) (shown_keys identifier Outer held) (set_tag (element_at specific_character_set held) (found_tag specific_character_set (elements_of held)))
+    ∙ ap (set_tags (character_set held)) (keys_shown identifier Outer held)

@@ -1,0 +1,142 @@
+-- A universal key is met by every record.
+use Rattle.std.proofs.Common.{◌≡◌, ℕ, ℤ, Bool, true, false, cond, not, nat_eq, ◌==◌, ◌||◌, ◌&&◌, List, [], ◌∷◌, Option, Some, None, length, map, find, is_some, refl, sym, ap, ◌∙◌, subst, arith}
+use Rattle.std.specs.List.{list_any}
+use Rattle.std.specs.Cmp.Lexicographic.{pointwise}
+use Rattle.std.proofs.lemmas.Bool.Decides.{nat_tests}
+use Rattle.dq_list.specs.Lengths.{is_empty}
+use Rattle.dq_vr.specs.declared.Tag.{Tag}
+use Rattle.dq_vr.specs.declared.Vr.{Vr}
+use Rattle.dq_value.specs.Digits.{◌>>=◌}
+use Rattle.dq_value.specs.Day.{day}
+use Rattle.dq_value.specs.Trimming.{trimmed, unpadded, without_leading, without_trailing, is_padded, ignores_leading_spaces}
+use Rattle.dq_value.specs.Parts.{parts, pieces_of, sole}
+use Rattle.dq_value.specs.Range.{ends, ends_of_halves, halves, behind}
+use Rattle.dq_dataset.specs.declared.data_set.Element.{Element}
+use Rattle.dq_dataset.specs.declared.data_set.Value.TheVariants.{Octets, Items}
+use Rattle.dq_dataset.specs.Tree.{ElementList, no_elements, element, sequence, ItemList, no_items, item}
+use Rattle.dq_dataset.specs.View.{elements_of, has_tag, list_of}
+use Rattle.dq_match.specs.declared.keys.Place.{Place}
+use Rattle.dq_match.specs.declared.keys.Place.TheVariants.{Inner}
+use Rattle.dq_match.specs.Wildcards.{any_run}
+use Rattle.dq_match.specs.Ranges.{Bounds, range_bounds, bounds_of_ends}
+use Rattle.dq_match.specs.Values.{is_asterisk, is_universal, is_same, octets_meet, some_meet, matching_of}
+use Rattle.dq_match.specs.Keys.{element_at, octets_in, items_in, value_octets, values_in, is_tag}
+use Rattle.dq_match.specs.Matching.{sole_at, asked_days, asked_times, start_day, start_time, period, is_passed, with_period, each_met, items_meet, all_met}
+use Rattle.dq_match.specs.Universal.{all_universal, are_universal}
+use Rattle.dq_match.proofs.KnownKeys.{both}
+
+or_true : (a b : Bool) → b ≡ true → (a || b) ≡ true
+or_true true b h = refl
+or_true false b h = h
+
+true_or : (a b : Bool) → a ≡ true → (a || b) ≡ true
+true_or true b h = refl
+true_or false b h = cc
+
+-- ---- one key
+
+pub universal_octets : (vr : Vr) (key held : List ℕ) → is_universal vr key ≡ true → octets_meet vr key held ≡ true
+unfolding octets_meet
+universal_octets vr key held h =
+    true_or (is_universal vr key || is_empty (parts vr held)) (some_meet (matching_of vr) (parts vr key) (parts vr held))
+    (true_or (is_universal vr key) (is_empty (parts vr held)) h)
+
+-- ---- no period
+
+same_octet : (octet : ℕ) (others : List ℕ) → is_same (octet ∷ others) (any_run ∷ []) ≡ true → octet ∷ others ≡ any_run ∷ []
+same_octet octet [] h = ap (λ x. x ∷ []) (grind (arith, nat_tests))
+same_octet octet (x ∷ xs) h = absurd (grind (arith, nat_tests))
+
+asterisk_value : (value : List ℕ) → is_same value (any_run ∷ []) ≡ true → value ≡ any_run ∷ []
+asterisk_value [] h = absurd cc
+asterisk_value (octet ∷ others) h = same_octet octet others h
+
+no_range : {A : Type 0} (read : List ℕ → Option A) → range_bounds read (any_run ∷ []) ≡ None
+unfolding range_bounds ends ends_of_halves halves behind
+no_range read = refl
+
+range_of_sole : {A : Type 0} → (List ℕ → Option A) → List (List ℕ) → Option (Bounds A)
+range_of_sole read values = sole values >>= range_bounds read
+
+sole_no_range : {A : Type 0} (read : List ℕ → Option A) (padded : Bool) (values : List (List ℕ)) → (is_empty values || (padded && is_asterisk values)) ≡ true
+    → range_of_sole read values ≡ None
+unfolding range_of_sole
+sole_no_range read padded [] h = refl
+sole_no_range read true (value ∷ []) h = ap (range_bounds read) (asterisk_value value h) ∙ no_range read
+sole_no_range read false (value ∷ []) h = absurd cc
+sole_no_range read true (value ∷ (next ∷ others)) h = refl
+sole_no_range read false (value ∷ (next ∷ others)) h = refl
+
+abbrev IsUniversal : Option Element → Type 0
+IsUniversal None = Unit {0}
+IsUniversal (Some e) = is_universal e.vr (value_octets e.value) ≡ true
+
+trimmed_nothing : (vr : Vr) → trimmed vr [] ≡ []
+unfolding trimmed unpadded without_leading without_trailing
+trimmed_nothing vr = by_tests (ignores_leading_spaces vr) (is_padded vr)
+  where
+    by_tests : (a b : Bool) → cond a (without_leading (λ octet. nat_eq octet 0x20) (cond b [] [])) (cond b [] []) ≡ []
+    by_tests true true = refl
+    by_tests true false = refl
+    by_tests false true = refl
+    by_tests false false = refl
+
+no_parts : (vr : Vr) → parts vr [] ≡ []
+unfolding parts
+no_parts vr = ap (λ (o : List ℕ). cond (length o == 0) [] (map (trimmed vr) (pieces_of vr []))) (trimmed_nothing vr)
+
+nothing_universal : (vr : Vr) → is_universal vr [] ≡ true
+unfolding is_universal
+nothing_universal vr = ap (λ (values : List (List ℕ)). is_empty values || (is_padded vr && is_asterisk values)) (no_parts vr)
+
+found_by : (b : Bool) (e : Element) (others : Option Element) → is_universal e.vr (value_octets e.value) ≡ true → IsUniversal others → IsUniversal (cond b (Some e) others)
+found_by true e others h k = h
+found_by false e others h k = k
+
+found_universal : (tag : Tag) (keys : ElementList) → all_universal keys ≡ true → IsUniversal (element_at tag keys)
+found_universal tag no_elements h = tt
+found_universal tag (element t v o rest) h =
+    let parts = both (is_universal v o) (all_universal rest) h in
+    found_by (is_tag t tag) (record { tag = t; vr = v; value = Octets o }) (element_at tag rest) parts.0 (found_universal tag rest parts.1)
+found_universal tag (sequence t v items rest) h =
+    found_by (is_tag t tag) (record { tag = t; vr = v; value = Items (list_of items) }) (element_at tag rest) (nothing_universal v)
+    (found_universal tag rest (both (are_universal items) (all_universal rest) h).1)
+
+not_asked : {A : Type 0} (read : List ℕ → Option A) (found : Option Element) → IsUniversal found → range_of_sole read (values_in found) ≡ None
+unfolding range_of_sole is_universal
+not_asked read None h = refl
+not_asked read (Some e) h = sole_no_range read (is_padded e.vr) (parts e.vr (value_octets e.value)) h
+
+no_days : (keys : ElementList) → all_universal keys ≡ true → asked_days keys ≡ None
+unfolding asked_days range_of_sole
+no_days keys h = not_asked day (element_at _ keys) (found_universal _ keys h)
+
+no_period : (keys held : ElementList) → all_universal keys ≡ true → period keys held ≡ None
+unfolding period
+no_period keys held h = rw (no_days keys h)
+
+-- ---- all keys
+
+mutual
+  each_universal : (keys : ElementList) (place : Place) (held : ElementList) → all_universal keys ≡ true → each_met keys place held false ≡ true
+  each_universal no_elements place held h = refl
+  each_universal (element t v o rest) place held h =
+      let parts = both (is_universal v o) (all_universal rest) h in
+      λ i. or_true (is_passed place false t) (octets_meet v o (octets_in (element_at t held))) (universal_octets v o (octets_in (element_at t held)) parts.0) i
+      && each_universal rest place held parts.1 i
+  each_universal (sequence t v items rest) place held h =
+      let parts = both (are_universal items) (all_universal rest) h in
+      λ i. or_true (is_passed place false t) (items_meet items (items_in (element_at t held))) (items_universal items (items_in (element_at t held)) parts.0) i
+      && each_universal rest place held parts.1 i
+
+  items_universal : (items : ItemList) (held : List ElementList) → are_universal items ≡ true → items_meet items held ≡ true
+  items_universal no_items held h = refl
+  items_universal (item keys others) [] h = refl
+  items_universal (item keys others) (d ∷ ds) h =
+      let parts = both (all_universal keys) (are_universal others) h in
+      true_or (with_period (period keys d) (each_met keys Inner d)) (list_any (λ d. with_period (period keys d) (each_met keys Inner d)) ds)
+      (ap (λ (p : Option Bool). with_period p (each_met keys Inner d)) (no_period keys d parts.0) ∙ each_universal keys Inner d parts.0)
+
+pub universal_met : (place : Place) (keys held : ElementList) → all_universal keys ≡ true → all_met place keys held ≡ true
+universal_met place keys held h =
+    ap (λ (p : Option Bool). with_period p (each_met keys place held)) (no_period keys held h) ∙ each_universal keys place held h

@@ -1,0 +1,27 @@
+use Rattle.std.proofs.Common.{◌≡◌, ◌∙◌, Bool, true, refl, sym, ap, Option, Some, None, arith}
+use Rattle.dq_dataset.proofs.Views.{as_elements-elements_of}
+use Rattle.dq_dataset.proofs.Copies.{value_count-element}
+use Rattle.dq_match.specs.Matching.{each_met, with_period}
+use Rattle.dq_match.proofs.matching.+matching.Goals as goal
+
+pub all_met-each_met-requires : goal.all_met-each_met-requires
+all_met-each_met-requires t c = rw (c.elements.ensures.elements, as_elements-elements_of) (omega arith, tt)
+
+pub all_met-each_met-requires-in-None : goal.all_met-each_met-requires-in-None
+all_met-each_met-requires-in-None t c = rw (c.elements-in-None.ensures.elements, as_elements-elements_of) (omega arith, tt)
+
+pub all_met-returns-then-is_in : goal.all_met-returns-then-is_in
+all_met-returns-then-is_in t c =
+    c.each_met.ensures ∙ rw (c.elements.ensures.elements, as_elements-elements_of)
+    (ap (λ (b : Bool). with_period (Some b) (each_met c.args.keys.now c.args.place c.args.held.now)) (sym c.if-is_in.true)
+    ∙ ap (λ (p : Option Bool). with_period p (each_met c.args.keys.now c.args.place c.args.held.now)) c.in-Some.ensures)
+
+pub all_met-returns-in-None : goal.all_met-returns-in-None
+all_met-returns-in-None t c =
+    c.each_met-in-None.ensures ∙ rw (c.elements-in-None.ensures.elements, as_elements-elements_of)
+    (ap (λ (p : Option Bool). with_period p (each_met c.args.keys.now c.args.place c.args.held.now)) c.in-None.ensures)
+
+pub each_met-meets-requires : goal.each_met-meets-requires
+each_met-meets-requires t c =
+    let fewer = value_count-element c.args.keys.now c.loop-key.key-index c.key-item.result (omega arith) c.key-item.is in
+    (omega (arith, fewer), tt)

@@ -1,0 +1,12 @@
+pub mod Wildcards
+pub mod Scans
+pub mod Ranges
+pub mod DateBounds
+pub mod Values
+pub mod Keys
+pub mod Matching
+pub mod Identifiers
+pub mod Supported
+pub mod Responses
+pub mod Universal
+pub mod ShownTags

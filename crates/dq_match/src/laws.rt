@@ -1,0 +1,90 @@
+//! Laws of the definitions, which the contracts of functions with no body name.
+ghost use Rattle.std.specs.Prelude.{◌≡◌, ◌↔◌, ◌⊎◌, ◌≤◌, ◌≤ℤ◌, ◌<ℤ◌, true, false, ◌&&◌, ℕ, ℤ, List, [], ◌∷◌, ◌++◌, Some, None, map, filter};
+ghost use Rattle.dq_vr.specs.declared.Vr.{Vr};
+ghost use Rattle.dq_dataset.specs.Tree.{ElementList};
+ghost use Rattle.dq_match.specs.declared.keys.Place.{Place};
+ghost use Rattle.dq_match.specs.declared.keys.Place.TheVariants.{Outer};
+ghost use Rattle.dq_match.specs.declared.supported.Level.{Level};
+ghost use Rattle.dq_match.specs.declared.wildcards.Casing.{Casing};
+ghost use Rattle.dq_match.specs.Wildcards.{Fits, wild};
+ghost use Rattle.std.specs.Char.{to_ascii_lowercase};
+ghost use Rattle.dq_value.specs.Day.{day};
+ghost use Rattle.dq_value.specs.Time.{Span};
+ghost use Rattle.dq_value.specs.Range.{ends, end_of};
+ghost use Rattle.dq_match.specs.declared.values.Matching.TheVariants.{Name};
+ghost use Rattle.dq_match.specs.Ranges.{Bounds, has_day, has_time, date_meets, is_from, is_until};
+ghost use Rattle.dq_match.specs.Values.{is_name_pad, name_of, value_meets, is_universal, octets_meet};
+ghost use Rattle.dq_match.specs.Keys.{is_key};
+ghost use Rattle.dq_match.specs.Matching.{all_met};
+ghost use Rattle.dq_match.specs.Universal.{all_universal};
+ghost use Rattle.dq_match.specs.Supported.{supported_part, has_unsupported};
+ghost use Rattle.dq_match.specs.Responses.{character_set, shown};
+ghost use Rattle.dq_match.specs.ShownTags.{tags_of, set_tags};
+
+/// A pattern fits a text by the cases of PS3.4 section C.2.2.2.4 just where it is computed to.
+#[tactic(auto, using(crate::proofs::WildFits::wild_is_fits))]
+pub fn wild_cards_fit()
+    ensures { (casing : Casing) (pattern text : List ℕ) → (wild casing pattern text ≡ true) ↔ Fits casing pattern text }
+{}
+
+/// A universal key is met by every record, and keys that are all universal are met together
+/// (PS3.4 section C.2.2.2.3).
+#[tactic(auto, using(crate::proofs::Universal::universal_octets, crate::proofs::Universal::universal_met))]
+pub fn universal_keys_are_met()
+    ensures one { (vr : Vr) (key held : List ℕ) → is_universal vr key ≡ true → octets_meet vr key held ≡ true }
+    ensures all { (place : Place) (keys held : ElementList) → all_universal keys ≡ true → all_met place keys held ≡ true }
+{}
+
+/// A range of dates takes the days from its first to its last, a date that is its own key is met, and a range
+/// is the meeting of its two halves (PS3.4 sections C.2.2.2.1 and C.2.2.2.5).
+#[tactic(auto, using(crate::proofs::Moments::has_day_between, crate::proofs::Moments::range_met, crate::proofs::Moments::single_met, crate::proofs::Moments::day_halves, crate::proofs::Moments::time_halves))]
+pub fn ranges_take_what_is_between()
+    ensures between { (first last date : ℤ)
+        → (has_day (Some first, Some last) date ≡ true) ↔ ((first ≤ℤ date) × (date ≤ℤ last)) }
+    ensures spelled { (key from to value : List ℕ) (first last date : ℤ) → ends key ≡ Some (end_of from, end_of to)
+        → day from ≡ Some first → day to ≡ Some last → day value ≡ Some date
+        → date_meets key value ≡ has_day (Some first, Some last) date }
+    ensures single { (value : List ℕ) (date : ℤ) → ends value ≡ None → day value ≡ Some date → date_meets value value ≡ true }
+    ensures days { (range : Bounds ℤ) (date : ℤ)
+        → has_day range date ≡ (has_day (range.0, None) date && has_day (None, range.1) date) }
+    ensures times { (range : Bounds Span) (time : Span)
+        → has_time range time ≡ (has_time (range.0, None) time && has_time (None, range.1) time) }
+{}
+
+/// A period is an order of moments, by day and then by microsecond (PS3.4 table K.6-1).
+#[tactic(auto, using(crate::proofs::Moments::is_from_is_order, crate::proofs::Moments::is_until_is_order))]
+pub fn periods_are_an_order()
+    ensures from { (first : ℤ) (time : Span) (date : ℤ) (microsecond : ℕ)
+        → (is_from (Some first) (Some time) date microsecond ≡ true)
+        ↔ ((first <ℤ date) ⊎ ((first ≡ date) × (time.0 ≤ microsecond))) }
+    ensures until { (last : ℤ) (time : Span) (date : ℤ) (microsecond : ℕ)
+        → (is_until (Some last) (Some time) date microsecond ≡ true)
+        ↔ ((date <ℤ last) ⊎ ((date ≡ last) × (microsecond ≤ time.1))) }
+{}
+
+/// A name is met whatever its case, and whatever spaces and delimiters are at its end.
+#[tactic(auto, using(crate::proofs::Names::name_case, crate::proofs::Names::name_pad))]
+pub fn names_are_met_in_any_case()
+    ensures letters { (key value other : List ℕ)
+        → map to_ascii_lowercase (name_of value) ≡ map to_ascii_lowercase (name_of other)
+        → value_meets Name key value ≡ value_meets Name key other }
+    ensures pads { (key value : List ℕ) (pad : ℕ) → is_name_pad pad ≡ true
+        → value_meets Name key (value ++ pad ∷ []) ≡ value_meets Name key value }
+{}
+
+/// What is left of an identifier has nothing that is not supported, and nothing is struck just where it is
+/// left as it was.
+#[tactic(auto, using(crate::proofs::Struck::nothing_left, crate::proofs::Struck::nothing_struck))]
+pub fn striking_again_strikes_nothing()
+    ensures again { (level : Level) (identifier : ElementList) → has_unsupported level (supported_part level identifier) ≡ false }
+    ensures nothing { (level : Level) (identifier : ElementList)
+        → (has_unsupported level identifier ≡ false) ↔ (supported_part level identifier ≡ identifier) }
+{}
+
+/// What is shown of a record has the tags of the keys, after that of the character set where the record has
+/// one (PS3.4 section C.4.1.1.3.2).
+#[tactic(auto, using(crate::proofs::ShownTags::tags_shown))]
+pub fn what_is_asked_is_shown()
+    ensures { (identifier held : ElementList)
+        → tags_of (shown identifier held) ≡ set_tags (character_set held) (filter (is_key Outer) (tags_of identifier)) }
+{}

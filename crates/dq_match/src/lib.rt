@@ -1,0 +1,22 @@
+//! Attribute matching of queries: which records meet the keys of an identifier, and what a response
+//! shows of them (PS3.4 sections C.2.2.2, C.4.1 and K.4.1).
+#![tactic(auto)]
+
+mod identifiers;
+mod keys;
+pub mod laws;
+mod matching;
+mod ranges;
+mod responses;
+mod supported;
+mod values;
+mod wildcards;
+
+pub use identifiers::is_query;
+pub use matching::{fits, meets};
+pub use responses::{Found, shown};
+pub use supported::{KeyList, strike};
+pub use wildcards::wild;
+
+#[cfg(test)]
+mod tests;

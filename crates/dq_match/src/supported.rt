@@ -1,0 +1,345 @@
+//! The keys that are supported at each level, and what is left of an identifier without the others
+//! (PS3.4 sections C.6.2.1 and K.6.1.2).
+ghost use Rattle.std.specs.Prelude.{◌≡◌, IfOk};
+ghost use Rattle.std.specs.List.{list_any};
+ghost use Rattle.dq_dataset.specs.View.{as_elements, elements_of, items_of, list_of};
+ghost use Rattle.dq_match.specs.Keys.{is_tag, other_than_keys};
+ghost use Rattle.dq_match.specs.Identifiers.{HasKnownTags};
+ghost use Rattle.dq_match.specs.Supported.{keys_of, leaves, is_among, is_supported, below, below_entry, below_step, supported_part, supported_items, supported_value, has_unsupported, have_unsupported, value_has_unsupported};
+ghost use Rattle.dq_match.specs.declared.supported.Level.TheVariants.{Identifier};
+
+use crate::keys::is_other_than_key;
+use dq_dataset::{DataSet, Element, Value};
+use dq_list::Listed;
+use dq_vr::{Tag, tags};
+use std::alloc::{AllocError, Global};
+
+/// Which identifier a list of keys is for: of a Study Root query at one of its levels, or of a worklist
+/// query (PS3.4 tables C.6-2 to C.6-4 and K.6-1).
+#[derive(Clone, Copy, Debug, PartialEq, Eq)]
+pub enum KeyList {
+    Study,
+    Series,
+    Image,
+    Entry,
+}
+
+/// Where keys stand: in an identifier, or in the items of one of its sequences.
+#[derive(Clone, Copy, Debug, PartialEq, Eq)]
+pub enum Level {
+    Identifier(KeyList),
+    /// A scheduled procedure step.
+    Step,
+    /// A coded concept.
+    Code,
+    /// A reference to an instance.
+    Reference,
+    /// Items of which no key is supported.
+    Other,
+}
+
+static STUDY_KEYS: [Tag; 15] = [
+    tags::STUDY_DATE,
+    tags::STUDY_TIME,
+    tags::ACCESSION_NUMBER,
+    tags::MODALITIES_IN_STUDY,
+    tags::REFERRING_PHYSICIAN_NAME,
+    tags::STUDY_DESCRIPTION,
+    tags::PATIENT_NAME,
+    tags::PATIENT_ID,
+    tags::ISSUER_OF_PATIENT_ID,
+    tags::PATIENT_BIRTH_DATE,
+    tags::PATIENT_SEX,
+    tags::STUDY_INSTANCE_UID,
+    tags::STUDY_ID,
+    tags::NUMBER_OF_STUDY_RELATED_SERIES,
+    tags::NUMBER_OF_STUDY_RELATED_INSTANCES,
+];
+
+static SERIES_KEYS: [Tag; 9] = [
+    tags::SERIES_DATE,
+    tags::SERIES_TIME,
+    tags::MODALITY,
+    tags::SERIES_DESCRIPTION,
+    tags::BODY_PART_EXAMINED,
+    tags::STUDY_INSTANCE_UID,
+    tags::SERIES_INSTANCE_UID,
+    tags::SERIES_NUMBER,
+    tags::NUMBER_OF_SERIES_RELATED_INSTANCES,
+];
+
+static IMAGE_KEYS: [Tag; 10] = [
+    tags::IMAGE_TYPE,
+    tags::SOP_CLASS_UID,
+    tags::SOP_INSTANCE_UID,
+    tags::CONTENT_DATE,
+    tags::CONTENT_TIME,
+    tags::STUDY_INSTANCE_UID,
+    tags::SERIES_INSTANCE_UID,
+    tags::INSTANCE_NUMBER,
+    tags::ROWS,
+    tags::COLUMNS,
+];
+
+static ENTRY_KEYS: [Tag; 32] = [
+    tags::ACCESSION_NUMBER,
+    tags::REFERRING_PHYSICIAN_NAME,
+    tags::ADMITTING_DIAGNOSES_DESCRIPTION,
+    tags::REFERENCED_STUDY_SEQUENCE,
+    tags::REFERENCED_PATIENT_SEQUENCE,
+    tags::PATIENT_NAME,
+    tags::PATIENT_ID,
+    tags::ISSUER_OF_PATIENT_ID,
+    tags::PATIENT_BIRTH_DATE,
+    tags::PATIENT_SEX,
+    tags::PATIENT_WEIGHT,
+    tags::MEDICAL_ALERTS,
+    tags::ALLERGIES,
+    tags::PREGNANCY_STATUS,
+    tags::PATIENT_COMMENTS,
+    tags::STUDY_INSTANCE_UID,
+    tags::REQUESTING_PHYSICIAN,
+    tags::REQUESTING_SERVICE,
+    tags::REQUESTED_PROCEDURE_DESCRIPTION,
+    tags::REQUESTED_PROCEDURE_CODE_SEQUENCE,
+    tags::ADMISSION_ID,
+    tags::SPECIAL_NEEDS,
+    tags::CURRENT_PATIENT_LOCATION,
+    tags::PATIENT_STATE,
+    tags::SCHEDULED_PROCEDURE_STEP_SEQUENCE,
+    tags::REQUESTED_PROCEDURE_ID,
+    tags::REASON_FOR_THE_REQUESTED_PROCEDURE,
+    tags::REQUESTED_PROCEDURE_PRIORITY,
+    tags::PATIENT_TRANSPORT_ARRANGEMENTS,
+    tags::REQUESTED_PROCEDURE_COMMENTS,
+    tags::PLACER_ORDER_NUMBER_IMAGING_SERVICE_REQUEST,
+    tags::FILLER_ORDER_NUMBER_IMAGING_SERVICE_REQUEST,
+];
+
+static STEP_KEYS: [Tag; 12] = [
+    tags::MODALITY,
+    tags::SCHEDULED_STATION_AE_TITLE,
+    tags::SCHEDULED_PROCEDURE_STEP_START_DATE,
+    tags::SCHEDULED_PROCEDURE_STEP_START_TIME,
+    tags::SCHEDULED_PERFORMING_PHYSICIAN_NAME,
+    tags::SCHEDULED_PROCEDURE_STEP_DESCRIPTION,
+    tags::SCHEDULED_PROTOCOL_CODE_SEQUENCE,
+    tags::SCHEDULED_PROCEDURE_STEP_ID,
+    tags::SCHEDULED_STATION_NAME,
+    tags::SCHEDULED_PROCEDURE_STEP_LOCATION,
+    tags::PRE_MEDICATION,
+    tags::SCHEDULED_PROCEDURE_STEP_STATUS,
+];
+
+static CODE_KEYS: [Tag; 4] = [
+    tags::CODE_VALUE,
+    tags::CODING_SCHEME_DESIGNATOR,
+    tags::CODING_SCHEME_VERSION,
+    tags::CODE_MEANING,
+];
+
+static REFERENCE_KEYS: [Tag; 2] = [
+    tags::REFERENCED_SOP_CLASS_UID,
+    tags::REFERENCED_SOP_INSTANCE_UID,
+];
+
+fn is_among(tag: Tag, listed: &[Tag]) -> bool
+    ensures { result ≡ is_among tag listed.now }
+{
+    listed.iter().any(|one| *one == tag)
+}
+
+impl KeyList {
+    #[tactic(auto, unfolding(crate::specs::Supported::keys_of))]
+    fn has(self, tag: Tag) -> bool
+        ensures { result ≡ is_among tag (keys_of self) }
+    {
+        match self {
+            KeyList::Study => is_among(tag, &STUDY_KEYS),
+            KeyList::Series => is_among(tag, &SERIES_KEYS),
+            KeyList::Image => is_among(tag, &IMAGE_KEYS),
+            KeyList::Entry => is_among(tag, &ENTRY_KEYS),
+        }
+    }
+
+    /// Whether the element stays in an identifier though it is no key.
+    #[tactic(auto, unfolding(crate::specs::Supported::leaves))]
+    fn leaves(self, tag: Tag) -> bool
+        ensures { result ≡ leaves self tag }
+    {
+        match self {
+            KeyList::Entry => tag == tags::SPECIFIC_CHARACTER_SET,
+            _ => is_other_than_key(tag),
+        }
+    }
+}
+
+impl Level {
+    #[tactic(auto, unfolding(crate::specs::Supported::is_supported))]
+    fn supports(self, tag: Tag) -> bool
+        ensures { result ≡ is_supported self tag }
+    {
+        match self {
+            Level::Identifier(list) => list.has(tag) || list.leaves(tag),
+            Level::Step => is_among(tag, &STEP_KEYS),
+            Level::Code => is_among(tag, &CODE_KEYS),
+            Level::Reference => is_among(tag, &REFERENCE_KEYS),
+            Level::Other => false,
+        }
+    }
+
+    /// The level of the items of a sequence.
+    #[tactic(auto, unfolding(crate::specs::Supported::below))]
+    fn below(self, tag: Tag) -> Level
+        ensures { result ≡ below self tag }
+    {
+        match self {
+            Level::Identifier(KeyList::Entry) => below_entry(tag),
+            Level::Step => below_step(tag),
+            _ => Level::Other,
+        }
+    }
+}
+
+fn below_entry(tag: Tag) -> Level
+    ensures { result ≡ below_entry tag }
+{
+    if tag == tags::SCHEDULED_PROCEDURE_STEP_SEQUENCE {
+        return Level::Step;
+    }
+    if tag == tags::REQUESTED_PROCEDURE_CODE_SEQUENCE {
+        return Level::Code;
+    }
+    if tag == tags::REFERENCED_STUDY_SEQUENCE || tag == tags::REFERENCED_PATIENT_SEQUENCE {
+        return Level::Reference;
+    }
+    Level::Other
+}
+
+fn below_step(tag: Tag) -> Level
+    ensures { result ≡ below_step tag }
+{
+    if tag == tags::SCHEDULED_PROTOCOL_CODE_SEQUENCE {
+        Level::Code
+    } else {
+        Level::Other
+    }
+}
+
+#[cycle(supported)]
+fn supported_part(alloc: Global, level: Level, keys: &DataSet) -> Result<DataSet, AllocError>
+    ensures { IfOk result (λ part. part ≡ supported_part level keys.now) }
+{
+    let elements = supported_elements(alloc, level, keys.elements())?;
+    Ok(DataSet::from_elements(elements))
+}
+
+#[cycle(supported)]
+fn supported_elements(
+    alloc: Global,
+    level: Level,
+    keys: &[Element],
+) -> Result<Vec<Element>, AllocError>
+    ensures { IfOk result (λ kept. kept.items ≡ elements_of (supported_part level (as_elements keys.now))) }
+{
+    let mut kept = Vec::new(alloc);
+    for key in keys {
+        if level.supports(key.tag) {
+            let value = supported_value(alloc, level.below(key.tag), &key.value)?;
+            kept.push(Element {
+                tag: key.tag,
+                vr: key.vr,
+                value,
+            })?;
+        }
+    }
+    Ok(kept)
+}
+
+#[cycle(supported)]
+fn supported_value(alloc: Global, level: Level, value: &Value) -> Result<Value, AllocError>
+    ensures { IfOk result (λ kept. kept ≡ supported_value level value.now) }
+{
+    match value {
+        Value::Octets(octets) => {
+            let octets = Listed::copy_of(alloc, octets.as_slice())?;
+            Ok(Value::Octets(octets))
+        }
+        Value::Items(items) => {
+            let items = supported_items(alloc, level, items.as_slice())?;
+            Ok(Value::Items(Listed::from_inner(items)))
+        }
+    }
+}
+
+#[cycle(supported)]
+fn supported_items(
+    alloc: Global,
+    level: Level,
+    items: &[DataSet],
+) -> Result<Vec<DataSet>, AllocError>
+    ensures { IfOk result (λ kept. kept.items ≡ list_of (supported_items level (items_of items.now))) }
+{
+    let mut kept = Vec::new(alloc);
+    for item in items {
+        kept.push(supported_part(alloc, level, item)?)?;
+    }
+    Ok(kept)
+}
+
+#[cycle(unsupported)]
+fn has_unsupported(level: Level, keys: &DataSet) -> bool
+    ensures { result ≡ has_unsupported level keys.now }
+{
+    some_unsupported(level, keys.elements())
+}
+
+#[cycle(unsupported)]
+fn some_unsupported(level: Level, keys: &[Element]) -> bool
+    ensures { result ≡ has_unsupported level (as_elements keys.now) }
+{
+    for key in keys {
+        if !level.supports(key.tag) || value_has_unsupported(level.below(key.tag), &key.value) {
+            return true;
+        }
+    }
+    false
+}
+
+#[cycle(unsupported)]
+fn value_has_unsupported(level: Level, value: &Value) -> bool
+    ensures { result ≡ value_has_unsupported level value.now }
+{
+    match value {
+        Value::Octets(_) => false,
+        Value::Items(items) => have_unsupported(level, items.as_slice()),
+    }
+}
+
+#[cycle(unsupported)]
+fn have_unsupported(level: Level, items: &[DataSet]) -> bool
+    ensures { result ≡ have_unsupported level (items_of items.now) }
+{
+    for item in items {
+        if has_unsupported(level, item) {
+            return true;
+        }
+    }
+    false
+}
+
+/// The identifier without the elements that the list does not support, inside items too, and whether
+/// there were any. What is left has tags of the data dictionary alone.
+pub fn strike(
+    alloc: Global,
+    identifier: &DataSet,
+    list: KeyList,
+) -> Result<(DataSet, bool), AllocError>
+    ensures part { IfOk result (λ struck. struck.0 ≡ supported_part (Identifier list) identifier.now) }
+    ensures optional { IfOk result (λ struck. struck.1 ≡ has_unsupported (Identifier list) identifier.now) }
+    ensures known { IfOk result (λ struck. HasKnownTags struck.0) }
+{
+    let level = Level::Identifier(list);
+    let part = supported_part(alloc, level, identifier)?;
+    Ok((part, has_unsupported(level, identifier)))
+}

@@ -1,0 +1,155 @@
+use super::*;
+use dq_dataset::{DataSet, Syntax, read};
+use dq_vr::{Tag, tags};
+use std::alloc::Global;
+use std::test::Fail;
+
+/// The data set of these elements, in rising order of their tags.
+fn data_set(alloc: Global, elements: &[(Tag, &[u8])]) -> Result<DataSet, Fail> {
+    let mut octets = Vec::new(alloc);
+    for (tag, value) in elements {
+        octets.extend_from_slice(&tag.group.to_le_bytes())?;
+        octets.extend_from_slice(&tag.element.to_le_bytes())?;
+        octets.extend_from_slice(&u32::try_from(value.len())?.to_le_bytes())?;
+        octets.extend_from_slice(value)?;
+    }
+    Ok(read(alloc, octets.as_slice(), Syntax::Implicit)?)
+}
+
+/// Whether a record of one element meets a key.
+fn meets_alone(alloc: Global, tag: Tag, key: &[u8], held: &[u8]) -> Result<bool, Fail> {
+    let key = data_set(alloc, &[(tag, key)])?;
+    let held = data_set(alloc, &[(tag, held)])?;
+    Ok(fits(&key, &held))
+}
+
+// PS3.4 section C.2.2.2.4.
+#[test]
+fn wild_cards(rt: HostRuntime) {
+    let rows: [(&[u8], &[u8], bool); 12] = [
+        (b"S*H", b"SMITH", true),
+        (b"??", b"AB", true),
+        (b"??", b"ABC", false),
+        (b"", b"", true),
+        (b"*", b"", true),
+        (b"?", b"", false),
+        (b"*A*B", b"AABAB", true),
+        (b"*A*B", b"AABA", false),
+        (b"A*", b"A", true),
+        (b"*?*", b"", false),
+        (b"a", b"A", false),
+        (b"**?", b"x", true),
+    ];
+    for (pattern, text, expected) in rows {
+        assert_eq!(rt; wild(pattern, text), expected, "{pattern:?} {text:?}");
+    }
+}
+
+#[test]
+fn keys_of_each_kind(rt: HostRuntime) -> Result<(), Fail> {
+    let rows: [(Tag, &[u8], &[u8], bool); 30] = [
+        (tags::PATIENT_NAME, b"s*h ", b"Smith^", true),
+        (tags::PATIENT_NAME, b"smith^=", b"SMITH ", true),
+        (tags::PATIENT_NAME, b"smith", b" SMITH", false),
+        (tags::PATIENT_ID, b"s*", b"S1", false),
+        (tags::PATIENT_ID, b"*", b"", true),
+        (tags::PATIENT_ID, b"S*H", b"", true),
+        (tags::PATIENT_ID, b"A\\B*", b"X\\BC", true),
+        (tags::PATIENT_ID, b" A ", b"A", true),
+        (tags::STUDY_INSTANCE_UID, b"1.2.3\\1.2.4", b"1.2.3\0", true),
+        (tags::STUDY_INSTANCE_UID, b"1.2.*", b"1.2.3", false),
+        (tags::STUDY_INSTANCE_UID, b"*", b"1.2.3", true),
+        (tags::STUDY_INSTANCE_UID, b"*\\1.2", b"1.2.3", false),
+        (tags::NUMBER_OF_STUDY_RELATED_SERIES, b"2 ", b"2", true),
+        (tags::NUMBER_OF_STUDY_RELATED_SERIES, b"?", b"2", false),
+        (tags::ROWS, b"\x00\x02", b"\x00\x02", true),
+        (tags::ROWS, b"*\x00", b"\x00\x02", false),
+        (tags::STUDY_DATE, b"20240229-20240229", b"20240229", true),
+        (tags::STUDY_DATE, b"20240229-", b"20240229", true),
+        (tags::STUDY_DATE, b"-20240229", b"20240229", true),
+        (tags::STUDY_DATE, b"-20240228", b"20240229", false),
+        (tags::STUDY_DATE, b"-20240301", b"20240230", false),
+        (tags::STUDY_DATE, b"*", b"20240230", true),
+        (tags::STUDY_DATE, b"", b"20240230", true),
+        (tags::STUDY_DATE, b"20240229", b"20240228\\20240229", true),
+        (tags::STUDY_TIME, b"0900-09", b"095959.999999", true),
+        (tags::STUDY_TIME, b"0900-09", b"100000", false),
+        (tags::STUDY_TIME, b"09", b"0930", true),
+        (tags::STUDY_TIME, b"0930", b"09", false),
+        (tags::STUDY_TIME, b"*", b"noon", true),
+        (tags::MODALITIES_IN_STUDY, b"MR", b"", true),
+    ];
+    for (tag, key, held, expected) in rows {
+        let met = meets_alone(rt.alloc(), tag, key, held)?;
+        assert_eq!(rt; met, expected, "{tag:?} {key:?} {held:?}");
+    }
+    let key = data_set(rt.alloc(), &[(tags::PATIENT_ID, b"S*H")])?;
+    let absent = data_set(rt.alloc(), &[])?;
+    assert!(rt; fits(&key, &absent));
+    for element in key.elements() {
+        assert!(rt; meets(element, None));
+    }
+    Ok(())
+}
+
+#[test]
+fn queries(rt: HostRuntime) -> Result<(), Fail> {
+    let rows: [(&[u8], bool); 8] = [
+        (b"20240229", true),
+        (b"20240101-20241231", true),
+        (b"", true),
+        (b"*", true),
+        (b"20241301", false),
+        (b"-", false),
+        (b"2024*", false),
+        (b"20240229\\*", false),
+    ];
+    for (date, expected) in rows {
+        let identifier = data_set(rt.alloc(), &[(tags::STUDY_DATE, date)])?;
+        assert_eq!(rt; is_query(&identifier), expected, "{date:?}");
+    }
+    Ok(())
+}
+
+#[test]
+fn unsupported_keys_are_struck(rt: HostRuntime) -> Result<(), Fail> {
+    let private = Tag {
+        group: 0x0009,
+        element: 0x0010,
+    };
+    let level = (tags::QUERY_RETRIEVE_LEVEL, b"STUDY ".as_slice());
+    let name = (tags::PATIENT_NAME, b"".as_slice());
+    let identifier = data_set(rt.alloc(), &[level, (private, b"XY"), name])?;
+    let (struck, optional) = strike(rt.alloc(), &identifier, KeyList::Study)?;
+    assert!(rt; optional);
+    assert_eq!(rt; struck.elements().len(), 2);
+    let held = data_set(rt.alloc(), &[(tags::PATIENT_NAME, b"DOE^A ")])?;
+    let answer = shown(rt.alloc(), &struck, &held)?;
+    assert_eq!(rt; answer.elements().len(), 1);
+    assert!(rt; answer.get(tags::PATIENT_NAME).is_some());
+    Ok(())
+}
+
+// The code item A with meaning Y is in no one of the items (A, X) and (B, Y), as PS3.5 section 7.5 spells
+// them: one item of defined length after another.
+#[test]
+fn one_item_meets_all_keys(rt: HostRuntime) -> Result<(), Fail> {
+    let code = tags::REQUESTED_PROCEDURE_CODE_SEQUENCE;
+    let items =
+        b"\xfe\xff\x00\xe0\x14\x00\x00\x00\x08\x00\x00\x01\x02\x00\x00\x00A \x08\x00\x02\x01\x02\x00\x00\x00X \xfe\xff\x00\xe0\x14\x00\x00\x00\x08\x00\x00\x01\x02\x00\x00\x00B \x08\x00\x02\x01\x02\x00\x00\x00Y ";
+    let across =
+        b"\xfe\xff\x00\xe0\x14\x00\x00\x00\x08\x00\x00\x01\x02\x00\x00\x00A \x08\x00\x02\x01\x02\x00\x00\x00Y ";
+    let alone = b"\xfe\xff\x00\xe0\x0a\x00\x00\x00\x08\x00\x00\x01\x02\x00\x00\x00A ";
+    let held = data_set(rt.alloc(), &[(code, items)])?;
+    let two = data_set(rt.alloc(), &[(code, across)])?;
+    let one = data_set(rt.alloc(), &[(code, alone)])?;
+    assert!(rt; !fits(&two, &held));
+    assert!(rt; fits(&one, &held));
+    assert!(rt; !is_query(&held));
+    let (one, optional) = strike(rt.alloc(), &one, KeyList::Entry)?;
+    assert!(rt; !optional);
+    let answer = shown(rt.alloc(), &one, &held)?;
+    let expected = data_set(rt.alloc(), &[(code, alone)])?;
+    assert_eq!(rt; answer.elements().len(), expected.elements().len());
+    Ok(())
+}
