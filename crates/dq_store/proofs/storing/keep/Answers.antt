@@ -1,0 +1,24 @@
+use Rattle.std.proofs.Common.{◌≡◌, ℕ, true, List, is_some, sym, arith}
+use Rattle.std.proofs.lemmas.Grind.{common_steps}
+use Rattle.dq_tables.specs.Rows.{Record, Edit}
+use Rattle.dq_tables.proofs.Calling.{reads_nothing, serves_read}
+use Rattle.dq_store.specs.Storing.{stored_status, stored_edits}
+use Rattle.dq_store.specs.Views.{kept_of, instance_of}
+use Rattle.dq_store.proofs.Records.{nothing_again}
+use Rattle.dq_store.proofs.storing.keep.Goals as goal
+
+pub returns-else-is_none : goal.returns-else-is_none
+returns-else-is_none g c =
+    let rows = g.T.Tables.rows in
+    let honest = g.T.Tables.honest in
+    let failed = g.T.Tables.failed in
+    let may_leave = g.T.Tables.may_leave in
+    let kept = kept_of c.args.kept.now in
+    let sent = instance_of c.args.data_set.now c.args.uids.now in
+    let made : ℕ × List Edit = (stored_status kept sent, stored_edits kept sent) in
+    let does = λ (records : List Record). made in
+    let status_is = sym (c.in_ok-status.ensures c.args.uids.now) in
+    let there : is_some c.args.kept.now.image ≡ true = grind (arith, common_steps) in
+    let edits_are = nothing_again c.args.kept.now sent there in
+    serves_read rows honest failed may_leave c.args.name.now does c.args.tables.now c.args.tables.now c.in_ok-status.status
+    (reads_nothing rows honest failed may_leave c.args.tables.now c.in_ok-status.status) (λ h. λ i. (status_is i, edits_are i))

@@ -1,0 +1,4 @@
+pub mod Attributes
+pub mod Same
+pub mod Storing
+pub mod Views

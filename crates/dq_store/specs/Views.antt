@@ -1,0 +1,38 @@
+-- Between what the code holds and the definitions.
+use Rattle.std.specs.Prelude.{◌≡◌, ℕ, List, [], ◌∷◌, Option, Some, None, option_map}
+use Rattle.dq_vr.specs.Tags.{sop_instance_uid, study_instance_uid, series_instance_uid}
+use Rattle.dq_dataset.specs.Tree.{ElementList}
+use Rattle.dq_tables.specs.declared.change.Change.{Change}
+use Rattle.dq_tables.specs.declared.change.Change.TheVariants.{Stored}
+use Rattle.dq_tables.specs.declared.row.Row.{Row}
+use Rattle.dq_tables.specs.Rows.{Record, record_of, row_of}
+use Rattle.dq_tables.specs.Keys.{uid_at}
+use Rattle.dq_store.specs.declared.instance.Uids.{Uids}
+use Rattle.dq_store.specs.declared.keeping.KeptRows.{KeptRows}
+use Rattle.dq_store.specs.Storing.{Instance, Kept, study_record, series_record, image_record}
+
+abbrev pub instance_of : ElementList → Uids → Instance
+instance_of d uids = record { elements = d; study = uids.study.now; series = uids.series.now; image = uids.image.now }
+
+abbrev pub kept_of : KeptRows → Kept
+kept_of rows = record {
+  study = option_map record_of rows.study;
+  series = option_map record_of rows.series;
+  image = option_map record_of rows.image;
+}
+
+-- the UIDs are those of the data set
+pub record HasUids (d : ElementList) (uids : Uids) : Type 0 where
+  pub study : uid_at study_instance_uid d ≡ Some uids.study.now
+  pub series : uid_at series_instance_uid d ≡ Some uids.series.now
+  pub image : uid_at sop_instance_uid d ≡ Some uids.image.now
+
+-- a row of its own where none is kept
+abbrev pub new_if : List ℕ → Option Record → Record → Option Row
+new_if name None new = Some (row_of name new)
+new_if name (Some kept) new = None
+
+-- the change that keeps an instance which is new
+abbrev pub new_rows : List ℕ → Kept → Instance → Change
+new_rows name kept sent =
+    Stored (new_if name kept.study (study_record sent)) (new_if name kept.series (series_record sent)) (row_of name (image_record sent))

@@ -1,0 +1,13 @@
+//! Storage as an SCP (PS3.4 annex B): what is kept of an instance, and the status of a C-STORE.
+#![tactic(auto)]
+
+mod attributes;
+mod instance;
+mod keeping;
+mod kept;
+mod storing;
+
+pub use storing::store;
+
+#[cfg(test)]
+mod tests;

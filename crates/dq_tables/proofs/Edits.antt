@@ -1,0 +1,44 @@
+-- Edits of rows by their indexes.
+use Rattle.std.proofs.Common.{◌≡◌, ℕ, zero, suc, ◌+◌, ◌<◌, ◌≤◌, List, [], ◌∷◌, ◌++◌, length, take, drop, set, refl, sym, ◌∙◌, ap, arith, append_assoc, add-one, append-nil}
+use Rattle.std.specs.List.{insert, remove}
+use Rattle.std.proofs.lemmas.List.{take-append-drop}
+use Rattle.dq_tables.specs.declared.row.Kind.{Kind}
+use Rattle.dq_tables.specs.declared.row.Row.{Row}
+use Rattle.dq_tables.specs.Rows.{Put, Remove, record_of, after_edit, place, rows_before}
+use Rattle.dq_tables.specs.Finding.{IsThere, IsFree}
+
+set_at : {X : Type 0} (xs : List X) (i : ℕ) (y : X) → i < length xs → set xs i y ≡ (take i xs ++ y ∷ []) ++ drop (suc i) xs
+set_at [] i y l = absurd (omega arith)
+set_at (x ∷ xs) zero y l = refl
+set_at (x ∷ xs) (suc i) y l = ap (λ ys. x ∷ ys) (set_at xs i y (omega arith))
+
+set_is : {X : Type 0} (xs : List X) (i : ℕ) (y : X) → i < length xs → set xs i y ≡ (take i xs ++ y ∷ []) ++ drop (i + 1) xs
+set_is xs i y l = rw add-one (set_at xs i y l)
+
+insert_is : {X : Type 0} (xs : List X) (i : ℕ) (y : X) → i ≤ length xs → insert xs i y ≡ (take i xs ++ y ∷ []) ++ drop i xs
+insert_is xs i y l = sym (append_assoc (take i xs) (y ∷ []) (drop i xs))
+
+remove_is : {X : Type 0} (xs : List X) (i : ℕ) → remove xs i ≡ take i xs ++ drop (i + 1) xs
+remove_is xs i = rw add-one refl
+
+pub replaces : (rows : List Row) (row : Row) (at : ℕ) → IsThere (place row.kind row.inst row.key) rows at
+    → set rows at row ≡ after_edit row.inst (Put (record_of row)) rows
+unfolding after_edit
+replaces rows row at there = rw (set_is rows at row there.within, there.before, there.past) refl
+
+pub inserts : (rows : List Row) (row : Row) (at : ℕ) → IsFree (place row.kind row.inst row.key) rows at
+    → insert rows at row ≡ after_edit row.inst (Put (record_of row)) rows
+unfolding after_edit
+inserts rows row at free = rw (insert_is rows at row free.within, free.before, free.past) refl
+
+pub removes : (rows : List Row) (kind : Kind) (institution key : List ℕ) (at : ℕ) → IsThere (place kind institution key) rows at
+    → remove rows at ≡ after_edit institution (Remove kind key) rows
+unfolding after_edit
+removes rows kind institution key at there = rw (remove_is rows at, there.before, there.past, append-nil) refl
+
+pub removes_nothing : (rows : List Row) (kind : Kind) (institution key : List ℕ) (at : ℕ) → IsFree (place kind institution key) rows at
+    → rows ≡ after_edit institution (Remove kind key) rows
+unfolding after_edit
+removes_nothing rows kind institution key at free =
+    sym (take-append-drop at rows) ∙ ap (λ (rs : List Row). rs ++ drop at rows) free.before
+    ∙ ap (λ (rs : List Row). rows_before (place kind institution key) rows ++ rs) free.past ∙ rw append-nil refl

@@ -1,0 +1,62 @@
+-- What is found among rows is what is found among the institution's records.
+use Rattle.std.proofs.Common.{◌≡◌, ℕ, Bool, true, false, List, [], ◌∷◌, map, length, Some, refl, ◌∙◌, ap, if◌then◌else◌}
+use Rattle.std.specs.List.{filter}
+use Rattle.std.specs.Option.{option_map}
+use Rattle.std.specs.Str.{bytes_eq}
+use Rattle.std.proofs.lemmas.Slice.Eq.{bytes_eq-Decides}
+use Rattle.std.proofs.lemmas.List.{length-map}
+use Rattle.dq_tables.specs.declared.row.Kind.{Kind}
+use Rattle.dq_tables.specs.declared.row.Row.{Row}
+use Rattle.dq_tables.specs.Rows.{Record, of, row_of, record_of}
+use Rattle.dq_tables.specs.Finding.{record_at, records_of, records_above, row_at, rows_of, rows_above, same_kind}
+
+own_row : (h : List ℕ) (row : Row) → bytes_eq row.inst h ≡ true → row ≡ row_of h (record_of row)
+own_row h row same = ap (λ (i : List ℕ). row_of i (record_of row)) ((bytes_eq-Decides row.inst h).0 same)
+
+found_step : (kind : Kind) (h key : List ℕ) (row : Row) (rows : List Row) → row_at kind h key rows ≡ option_map (row_of h) (record_at kind key (of h rows))
+    → (m k b : Bool) → bytes_eq row.inst h ≡ m → same_kind row.kind kind ≡ k → bytes_eq row.key key ≡ b
+    → row_at kind h key (row ∷ rows) ≡ option_map (row_of h) (record_at kind key (of h (row ∷ rows)))
+unfolding row_at record_at of
+found_step kind h key row rows rest true true true m k b = rw (m, k, b) (ap (λ (r : Row). Some r) (own_row h row m))
+found_step kind h key row rows rest true true false m k b = rw (m, k, b) rest
+found_step kind h key row rows rest true false b' m k b = rw (m, k) rest
+found_step kind h key row rows rest false true b' m k b = rw (m, k) rest
+found_step kind h key row rows rest false false b' m k b = rw (m, k) rest
+
+pub found_own : (kind : Kind) (h key : List ℕ) (rows : List Row) → row_at kind h key rows ≡ option_map (row_of h) (record_at kind key (of h rows))
+unfolding row_at record_at of
+found_own kind h key [] = refl
+found_own kind h key (row ∷ rows) =
+    found_step kind h key row rows (found_own kind h key rows) (bytes_eq row.inst h) (same_kind row.kind kind) (bytes_eq row.key key) refl refl refl
+
+listed_step : (kind : Kind) (h : List ℕ) (row : Row) (rows : List Row) → rows_of kind h rows ≡ map (row_of h) (records_of kind (of h rows))
+    → (m k : Bool) → bytes_eq row.inst h ≡ m → same_kind row.kind kind ≡ k
+    → rows_of kind h (row ∷ rows) ≡ map (row_of h) (records_of kind (of h (row ∷ rows)))
+unfolding rows_of records_of of
+listed_step kind h row rows rest true true m k = rw (m, k) (ap (λ (r : Row). r ∷ rows_of kind h rows) (own_row h row m) ∙ ap (λ (rs : List Row). row_of h (record_of row) ∷ rs) rest)
+listed_step kind h row rows rest true false m k = rw (m, k) rest
+listed_step kind h row rows rest false true m k = rw (m, k) rest
+listed_step kind h row rows rest false false m k = rw (m, k) rest
+
+pub listed_own : (kind : Kind) (h : List ℕ) (rows : List Row) → rows_of kind h rows ≡ map (row_of h) (records_of kind (of h rows))
+unfolding rows_of records_of of
+listed_own kind h [] = refl
+listed_own kind h (row ∷ rows) = listed_step kind h row rows (listed_own kind h rows) (bytes_eq row.inst h) (same_kind row.kind kind) refl refl
+
+filter_map_row : (h above : List ℕ) (rs : List Record) → filter (λ (row : Row). bytes_eq row.above above) (map (row_of h) rs)
+    ≡ map (row_of h) (filter (λ (r : Record). bytes_eq r.above above) rs)
+filter_map_row h above [] = refl
+filter_map_row h above (r ∷ rs) =
+    elim (bytes_eq r.above above) as (λ b. (if b then row_of h r ∷ filter (λ (row : Row). bytes_eq row.above above) (map (row_of h) rs)
+    else filter (λ (row : Row). bytes_eq row.above above) (map (row_of h) rs))
+    ≡ map (row_of h) (if b then r ∷ filter (λ (r : Record). bytes_eq r.above above) rs else filter (λ (r : Record). bytes_eq r.above above) rs)) [
+      | true ↦ ap (λ (rows : List Row). row_of h r ∷ rows) (filter_map_row h above rs)
+      | false ↦ filter_map_row h above rs
+    ]
+
+pub above_own : (kind : Kind) (h above : List ℕ) (rows : List Row) → rows_above kind h above rows ≡ map (row_of h) (records_above kind above (of h rows))
+unfolding rows_above records_above
+above_own kind h above rows = ap (filter (λ (row : Row). bytes_eq row.above above)) (listed_own kind h rows) ∙ filter_map_row h above (records_of kind (of h rows))
+
+pub counted_own : (kind : Kind) (h : List ℕ) (rows : List Row) → length (rows_of kind h rows) ≡ length (records_of kind (of h rows))
+counted_own kind h rows = ap length (listed_own kind h rows) ∙ length-map (records_of kind (of h rows)) (row_of h)

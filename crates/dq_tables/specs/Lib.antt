@@ -1,0 +1,6 @@
+pub mod Rows
+pub mod Finding
+pub mod Keys
+pub mod Sound
+pub mod Keeping
+pub mod Serving

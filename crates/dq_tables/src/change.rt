@@ -1,0 +1,22 @@
+use crate::row::Row;
+use dq_list::Listed;
+
+/// One change of the rows. It happens whole or not at all.
+#[derive(Debug, Drop)]
+pub enum Change {
+    /// An image, with its study and its series where they are new.
+    Stored {
+        study: Option<Row>,
+        series: Option<Row>,
+        image: Row,
+    },
+    EntryAdded(Row),
+    /// The entry of the institution with the key.
+    EntryRemoved {
+        inst: Listed<u8>,
+        key: Listed<u8>,
+    },
+    StepAdded(Row),
+    /// The row takes the place of that with its key.
+    StepChanged(Row),
+}

@@ -1,0 +1,33 @@
+//! Why tables gave no answer.
+ghost use Rattle.std.specs.Prelude.{◌≡◌};
+ghost use Rattle.dq_tables.specs.declared.fault.TableFault.TheVariants.{NoMemory};
+
+use std::alloc::{AllocError, AllocFailed};
+use thiserror::Error;
+
+/// A call that gave no answer and left the rows as they were.
+#[derive(Clone, Copy, Debug, PartialEq, Eq, Error)]
+pub enum TableFault {
+    /// A growth was refused.
+    #[error("out of memory")]
+    NoMemory = 1,
+    /// What keeps the rows failed.
+    #[error("store failed")]
+    Store = 2,
+}
+
+impl From<AllocError> for TableFault {
+    ghost from_gives = { λ _ e. e ≡ NoMemory };
+
+    fn from(_e: AllocError) -> TableFault {
+        TableFault::NoMemory
+    }
+}
+
+impl<T: Drop> From<AllocFailed<T>> for TableFault {
+    ghost from_gives = { λ _ e. e ≡ NoMemory };
+
+    fn from(_e: AllocFailed<T>) -> TableFault {
+        TableFault::NoMemory
+    }
+}
