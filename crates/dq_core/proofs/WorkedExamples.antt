@@ -1,29 +1,36 @@
 -- The definitions on worked examples: what the plain server replies to histories, octet for octet, by computation.
-use Rattle.std.specs.Prelude.{◌≡◌, ℕ, ◌/◌, ◌%◌, List, [], ◌∷◌, ◌++◌, codes, replicate, true, false, refl}
+use Rattle.std.specs.Prelude.{◌≡◌, ℕ, ◌/◌, ◌%◌, List, [], ◌∷◌, ◌++◌, codes, replicate, take, drop, true, false, refl}
 use Rattle.dq_pdu.specs.Stream.{pdus_within}
-use Rattle.dq_pdu.specs.Reading.{front, pdu_of, request_of, item_at, pdv_at, proposed_of, user_information_of, values_of}
+use Rattle.dq_pdu.specs.Reading.{front, pdu_of, associate_of, request_of, item_at, pdv_at, proposed_of, user_information_of, values_of}
 use Rattle.dq_pdu.specs.Octets.{parts}
 use Rattle.dq_vr.specs.Dictionary.{dictionary, vr_in, known_vr}
 use Rattle.dq_vr.specs.Tag.{is_below}
-use Rattle.dq_value.specs.Trimming.{is_padded, ignores_leading_spaces, kept_before, without_trailing, unpadded, trimmed}
+use Rattle.dq_value.specs.Trimming.{is_padded, ignores_leading_spaces, kept_before, without_leading, without_trailing, unpadded, trimmed}
+use Rattle.dq_value.specs.Title.{stripped}
+use Rattle.dq_dimse.specs.Assembling.{messages_from}
 use Rattle.dq_dataset.specs.Rules.{content_of}
 use Rattle.dq_dataset.specs.Reading.{tag_at, long_length_at, spelling_at, header_at, end_at, value_by, element_by, elements_after, elements_by, item_by, items_after, items_by, readers, reading}
 use Rattle.dq_dimse.specs.Commands.{command_from, command_of}
-use Rattle.dq_core.specs.Routing.{built_in}
-use Rattle.dq_core.specs.Plain.{replies}
+use Rattle.dq_config.specs.declared.config.Institution.{Institution}
 use Rattle.dq_core.specs.declared.event.Event.{Event}
-use Rattle.dq_core.specs.declared.event.Event.TheVariants.{Open, Piece}
+use Rattle.dq_core.specs.declared.event.Event.TheVariants.{Open, Piece, End, Schedule, Withdraw}
 use Rattle.dq_core.specs.declared.event.Reply.{Reply}
-use Rattle.dq_core.specs.declared.event.Reply.TheVariants.{Octets, Done, Ignored}
+use Rattle.dq_core.specs.declared.event.Reply.TheVariants.{Octets, Done, Refused, Ignored}
+use Rattle.dq_config.specs.Document.{built_in}
+use Rattle.dq_config.specs.Routing.{routed, has_route, joins, named}
+use Rattle.dq_core.specs.Services.{served}
+use Rattle.dq_core.specs.Shared.{replies}
+use Rattle.dq_core.specs.Own.{own}
 
 -- an item: its type, its length, its body
 abbrev item : ℕ → ℕ → List ℕ → List ℕ
 item kind size body = kind ∷ 0 ∷ 0 ∷ size ∷ [] ++ body
 
--- what requests and acceptances begin with, after the type and the length of the body, which takes one octet
+-- requests and acceptances: their type, the length of the body, the version, the calling title, and the items after the
+-- application context
 abbrev associate : ℕ → ℕ → ℕ → List ℕ → List ℕ → List ℕ
 associate kind size version calling items =
-    kind ∷ 0 ∷ 0 ∷ 0 ∷ 0 ∷ size ∷ 0 ∷ version ∷ 0 ∷ 0 ∷ [] ++ codes "ARCHIVE         " ++ calling ++ replicate 32 0
+    kind ∷ 0 ∷ 0 ∷ 0 ∷ (size / 256) ∷ (size % 256) ∷ 0 ∷ version ∷ 0 ∷ 0 ∷ [] ++ codes "ARCHIVE         " ++ calling ++ replicate 32 0
     ++ item 0x10 21 (codes "1.2.840.10008.3.1.1.1") ++ items
 
 abbrev modality : List ℕ
@@ -44,6 +51,34 @@ accepted = associate 2 167 1 modality (
     item 0x21 25 (1 ∷ 0 ∷ 0 ∷ 0 ∷ [] ++ item 0x40 17 (codes "1.2.840.10008.1.2"))
     ++ item 0x50 41 (item 0x51 4 (0 ∷ 1 ∷ 0 ∷ 0 ∷ []) ++ item 0x52 15 (codes "2.25.2718281828") ++ item 0x55 10 (codes "DQARCHIVE1")))
 
+-- a request with four contexts: Study Root FIND in Implicit and Explicit, CT storage in Implicit, MR storage in JPEG
+-- alone, and a class that is not served
+abbrev proposed : ℕ → ℕ → List ℕ → List ℕ
+proposed id size items = item 0x20 size (id ∷ 0 ∷ 0 ∷ 0 ∷ [] ++ items)
+
+abbrev implicit : List ℕ
+implicit = item 0x40 17 (codes "1.2.840.10008.1.2")
+
+abbrev explicit : List ℕ
+explicit = item 0x40 19 (codes "1.2.840.10008.1.2.1")
+
+abbrev four_contexts : List ℕ
+four_contexts = associate 1 356 1 modality (
+    proposed 1 79 (item 0x30 27 (codes "1.2.840.10008.5.1.4.1.2.2.1") ++ implicit ++ explicit)
+    ++ proposed 3 54 (item 0x30 25 (codes "1.2.840.10008.5.1.4.1.1.2") ++ implicit)
+    ++ proposed 5 59 (item 0x30 25 (codes "1.2.840.10008.5.1.4.1.1.4") ++ item 0x40 22 (codes "1.2.840.10008.1.2.4.50"))
+    ++ proposed 7 34 (item 0x30 5 (codes "1.2.3") ++ implicit)
+    ++ item 0x50 17 (item 0x51 4 (0 ∷ 0 ∷ 64 ∷ 0 ∷ []) ++ item 0x52 5 (codes "1.2.3")))
+
+-- a context of an acceptance: its id, its result, and the syntax
+abbrev result : ℕ → ℕ → ℕ → List ℕ → List ℕ
+result id size reason syntax = item 0x21 size (id ∷ 0 ∷ reason ∷ 0 ∷ [] ++ syntax)
+
+abbrev four_results : List ℕ
+four_results = associate 2 256 1 modality (
+    result 1 27 0 explicit ++ result 3 25 0 implicit ++ result 5 25 4 implicit ++ result 7 25 3 implicit
+    ++ item 0x50 41 (item 0x51 4 (0 ∷ 1 ∷ 0 ∷ 0 ∷ []) ++ item 0x52 15 (codes "2.25.2718281828") ++ item 0x55 10 (codes "DQARCHIVE1")))
+
 -- an element of group 0000 of a command set: its number in two octets, its length, its value
 abbrev element : ℕ → ℕ → List ℕ → List ℕ
 element number size value = 0 ∷ 0 ∷ (number % 256) ∷ (number / 256) ∷ size ∷ 0 ∷ 0 ∷ 0 ∷ [] ++ value
@@ -53,7 +88,8 @@ abbrev class_element : List ℕ
 class_element = element 0x0002 18 (codes "1.2.840.10008.1.1" ++ 0 ∷ [])
 
 abbrev echo_set : List ℕ
-echo_set = element 0x0000 4 (56 ∷ 0 ∷ 0 ∷ 0 ∷ []) ++ class_element ++ element 0x0100 2 (0x30 ∷ 0 ∷ []) ++ element 0x0110 2 (1 ∷ 0 ∷ []) ++ element 0x0800 2 (1 ∷ 1 ∷ [])
+echo_set = element 0x0000 4 (56 ∷ 0 ∷ 0 ∷ 0 ∷ []) ++ class_element ++ element 0x0100 2 (0x30 ∷ 0 ∷ []) ++ element 0x0110 2 (1 ∷ 0 ∷ []) ++ element 0x0800 2
+    (1 ∷ 1 ∷ [])
 
 abbrev echoed_set : List ℕ
 echoed_set =
@@ -86,6 +122,11 @@ in_twos (a ∷ []) = []
 in_twos (a ∷ b ∷ []) = value_pdu 8 4 3 (a ∷ b ∷ [])
 in_twos (a ∷ b ∷ c ∷ octets) = value_pdu 8 4 1 (a ∷ b ∷ []) ++ in_twos (c ∷ octets)
 
+-- a C-CANCEL of the message with the id 1
+abbrev cancel : List ℕ
+cancel = value_pdu 48 44 3 (
+    element 0x0000 4 (30 ∷ 0 ∷ 0 ∷ 0 ∷ []) ++ element 0x0100 2 (0xff ∷ 0x0f ∷ []) ++ element 0x0120 2 (1 ∷ 0 ∷ []) ++ element 0x0800 2 (1 ∷ 1 ∷ []))
+
 -- the short PDUs: their type, and the four octets after the length
 abbrev short : ℕ → ℕ → ℕ → ℕ → List ℕ
 short kind result source reason = kind ∷ 0 ∷ 0 ∷ 0 ∷ 0 ∷ 4 ∷ 0 ∷ result ∷ source ∷ reason ∷ []
@@ -95,6 +136,59 @@ release = short 5 0 0 0
 
 abbrev released : List ℕ
 released = short 6 0 0 0
+
+-- two institutions with one route each, the first of which may have some associations open at a time
+abbrev institution : List ℕ → List ℕ → ℕ → Institution
+institution name calling associations = record {
+  name = name;
+  routes = record { called = codes "ARCHIVE"; calling = calling } ∷ [];
+  studies = 100;
+  images = 1000;
+  entries = 100;
+  steps = 100;
+  associations = associations;
+}
+
+abbrev north : List ℕ
+north = codes "NORTH"
+
+abbrev south : List ℕ
+south = codes "SOUTH"
+
+abbrev two : ℕ → List Institution
+two associations = institution north (codes "CT1") associations ∷ institution south (codes "CT2") 4 ∷ []
+
+abbrev ct1 : List ℕ
+ct1 = codes "CT1             "
+
+abbrev ct2 : List ℕ
+ct2 = codes "CT2             "
+
+abbrev ct9 : List ℕ
+ct9 = codes "CT9             "
+
+-- a request of a modality, and its acceptance
+abbrev request_of_title : List ℕ → List ℕ
+request_of_title calling = request_from 1 calling 1 16384
+
+abbrev accepted_title : List ℕ → List ℕ
+accepted_title calling = associate 2 167 1 calling (
+    item 0x21 25 (1 ∷ 0 ∷ 0 ∷ 0 ∷ [] ++ item 0x40 17 (codes "1.2.840.10008.1.2"))
+    ++ item 0x50 41 (item 0x51 4 (0 ∷ 1 ∷ 0 ∷ 0 ∷ []) ++ item 0x52 15 (codes "2.25.2718281828") ++ item 0x55 10 (codes "DQARCHIVE1")))
+
+-- a request command without a data set, with a Command Field and a class of 18 octets, and its response with a status
+abbrev command : ℕ → List ℕ → List ℕ
+command code class = value_pdu 74 70 3 (
+    element 0x0000 4 (56 ∷ 0 ∷ 0 ∷ 0 ∷ []) ++ element 0x0002 18 class ++ element 0x0100 2 ((code % 256) ∷ (code / 256) ∷ [])
+    ++ element 0x0110 2 (1 ∷ 0 ∷ []) ++ element 0x0800 2 (1 ∷ 1 ∷ []))
+
+abbrev response : ℕ → ℕ → List ℕ
+response code status = value_pdu 84 80 3 (
+    element 0x0000 4 (66 ∷ 0 ∷ 0 ∷ 0 ∷ []) ++ class_element ++ element 0x0100 2 ((code % 256) ∷ (code / 256) ∷ []) ++ element 0x0120 2 (1 ∷ 0 ∷ [])
+    ++ element 0x0800 2 (1 ∷ 1 ∷ []) ++ element 0x0900 2 ((status % 256) ∷ (status / 256) ∷ []))
+
+abbrev verification_class : List ℕ
+verification_class = codes "1.2.840.10008.1.1" ++ 0 ∷ []
 
 -- one connection, which is opened and then sends the pieces
 abbrev sends : List (List ℕ) → List Event
@@ -111,81 +205,104 @@ answered octets = Octets 1 octets false
 abbrev closed : List ℕ → Reply
 closed octets = Octets 1 octets true
 
--- a C-ECHO, a PDU a piece
-echo_in_pieces : replies built_in (history (request ∷ echo ∷ release ∷ [])) ≡ Done ∷ answered accepted ∷ answered echoed ∷ closed released ∷ []
-unfolding pdus_within front pdu_of request_of item_at pdv_at proposed_of user_information_of values_of parts command_from command_of reading readers elements_by element_by elements_after value_by header_at end_at is_below tag_at spelling_at long_length_at content_of known_vr vr_in dictionary trimmed unpadded without_trailing kept_before is_padded ignores_leading_spaces
-echo_in_pieces = refl
+-- a C-ECHO, a PDU a piece, and as one piece
+an_association :
+    (replies built_in [] (history (request ∷ echo ∷ release ∷ [])) ≡ Done ∷ answered accepted ∷ answered echoed ∷ closed released ∷ [])
+    × (replies built_in [] (history ((request ++ echo ++ release) ∷ [])) ≡ Done ∷ closed (accepted ++ echoed ++ released) ∷ [])
+unfolding pdus_within front pdu_of associate_of request_of item_at pdv_at proposed_of user_information_of values_of parts routed has_route joins built_in stripped without_leading without_trailing kept_before messages_from command_from command_of reading readers elements_by element_by elements_after value_by items_by item_by items_after header_at end_at is_below tag_at spelling_at long_length_at content_of known_vr vr_in dictionary trimmed unpadded is_padded ignores_leading_spaces served
+an_association = (refl, refl)
 
--- the same as one piece
-echo_in_one_piece : replies built_in (history ((request ++ echo ++ release) ∷ [])) ≡ Done ∷ closed (accepted ++ echoed ++ released) ∷ []
-unfolding pdus_within front pdu_of request_of item_at pdv_at proposed_of user_information_of values_of parts command_from command_of reading readers elements_by element_by elements_after value_by header_at end_at is_below tag_at spelling_at long_length_at content_of known_vr vr_in dictionary trimmed unpadded without_trailing kept_before is_padded ignores_leading_spaces
-echo_in_one_piece = refl
+-- a sequence in a command set, an element of another group, and fragments of two octets for a peer that takes PDUs of 8
+command_sets :
+    (replies built_in [] (history (request ∷ echo_with_sequence ∷ [])) ≡ Done ∷ answered accepted ∷ answered echoed ∷ [])
+    × (replies built_in [] (history (request ∷ echo_of_two_groups ∷ [])) ≡ Done ∷ answered accepted ∷ closed (short 7 0 2 6) ∷ [])
+    × (replies built_in [] (history (request_from 1 modality 1 8 ∷ echo ∷ [])) ≡ Done ∷ answered accepted ∷ answered (in_twos echoed_set) ∷ [])
+unfolding pdus_within front pdu_of associate_of request_of item_at pdv_at proposed_of user_information_of values_of parts routed has_route joins built_in stripped without_leading without_trailing kept_before messages_from command_from command_of reading readers elements_by element_by elements_after value_by items_by item_by items_after header_at end_at is_below tag_at spelling_at long_length_at content_of known_vr vr_in dictionary trimmed unpadded is_padded ignores_leading_spaces served
+command_sets = (refl, refl, refl)
 
--- a sequence in a command set, and an element of another group
-sequence_passes : replies built_in (history (request ∷ echo_with_sequence ∷ [])) ≡ Done ∷ answered accepted ∷ answered echoed ∷ []
-unfolding pdus_within front pdu_of request_of item_at pdv_at proposed_of user_information_of values_of parts command_from command_of reading readers elements_by element_by elements_after value_by items_by item_by items_after header_at end_at is_below tag_at spelling_at long_length_at content_of known_vr vr_in dictionary trimmed unpadded without_trailing kept_before is_padded ignores_leading_spaces
-sequence_passes = refl
+-- a C-ECHO of another class than the context has; a C-FIND on Verification, of whatever class; a C-CANCEL
+statuses :
+    (replies built_in [] (history (request ∷ command 0x0030 (codes "1.2.840.10008.1.20") ∷ [])) ≡ Done ∷ answered accepted ∷ answered
+    (response 0x8030 0x0122) ∷ [])
+    × (replies built_in [] (history (request ∷ command 0x0020 verification_class ∷ command 0x0020
+    (codes "1.2.840.10008.1.20") ∷ [])) ≡ Done ∷ answered accepted ∷ answered (response 0x8020 0x0211) ∷ answered (response 0x8020 0x0211) ∷ [])
+    × (replies built_in [] (history (request ∷ cancel ∷ echo ∷ [])) ≡ Done ∷ answered accepted ∷ answered [] ∷ answered echoed ∷ [])
+unfolding pdus_within front pdu_of associate_of request_of item_at pdv_at proposed_of user_information_of values_of parts routed has_route joins built_in stripped without_leading without_trailing kept_before messages_from command_from command_of reading readers elements_by element_by elements_after value_by items_by item_by items_after header_at end_at is_below tag_at spelling_at long_length_at content_of known_vr vr_in dictionary trimmed unpadded is_padded ignores_leading_spaces served
+statuses = (refl, refl, refl)
 
-other_group : replies built_in (history (request ∷ echo_of_two_groups ∷ [])) ≡ Done ∷ answered accepted ∷ closed (short 7 0 2 6) ∷ []
-unfolding pdus_within front pdu_of request_of item_at pdv_at proposed_of user_information_of values_of parts command_from command_of reading readers elements_by element_by elements_after value_by header_at end_at is_below tag_at spelling_at long_length_at content_of known_vr vr_in dictionary trimmed unpadded without_trailing kept_before is_padded ignores_leading_spaces
-other_group = refl
+-- a pair of titles that no institution has; a version without bit 0; a maximum length that leaves no room; a context with an even id
+rejections :
+    (replies built_in [] (history (request_of_title ct9 ∷ [])) ≡ Done ∷ closed (short 3 1 1 1) ∷ [])
+    × (replies built_in [] (history (request_from 2 modality 1 16384 ∷ [])) ≡ Done ∷ closed (short 3 1 2 2) ∷ [])
+    × (replies built_in [] (history (request_from 2 ct9 1 7 ∷ [])) ≡ Done ∷ closed (short 3 1 2 2) ∷ [])
+    × (replies built_in [] (history (request_from 1 modality 1 7 ∷ [])) ≡ Done ∷ closed (short 3 1 1 1) ∷ [])
+    × (replies built_in [] (history (request_from 1 modality 2 16384 ∷ [])) ≡ Done ∷ closed (short 7 0 0 0) ∷ [])
+unfolding pdus_within front pdu_of associate_of request_of item_at pdv_at proposed_of user_information_of values_of parts routed has_route joins built_in stripped without_leading without_trailing kept_before messages_from
+rejections = (refl, refl, refl, refl, refl)
 
--- a pair of titles that no institution has
-stranger : replies built_in (history (request_from 1 (codes "CT9             ") 1 16384 ∷ [])) ≡ Done ∷ closed (short 3 1 1 1) ∷ []
-unfolding pdus_within front pdu_of request_of item_at pdv_at proposed_of user_information_of values_of parts
-stranger = refl
+-- Explicit before Implicit; result 4 where no syntax is taken, and 3 where the class is not served
+contexts : replies built_in [] (history (four_contexts ∷ [])) ≡ Done ∷ answered four_results ∷ []
+unfolding pdus_within front pdu_of associate_of request_of item_at pdv_at proposed_of user_information_of values_of parts routed has_route joins built_in stripped without_leading without_trailing kept_before messages_from
+contexts = refl
 
--- a version without bit 0
-version_two : replies built_in (history (request_from 2 modality 1 16384 ∷ [])) ≡ Done ∷ closed (short 3 1 2 2) ∷ []
-unfolding pdus_within front pdu_of request_of item_at pdv_at proposed_of user_information_of values_of parts
-version_two = refl
+-- a value, a release, and a PDU of unknown type with a piece after it, where a request is due; the peer's abort there
+in_place_of_a_request :
+    (replies built_in [] (history (value_pdu 6 2 3 [] ∷ [])) ≡ Done ∷ closed (short 7 0 0 0) ∷ [])
+    × (replies built_in [] (history (release ∷ [])) ≡ Done ∷ closed (short 7 0 0 0) ∷ [])
+    × (replies built_in [] (history ((8 ∷ 0 ∷ 0 ∷ 0 ∷ 0 ∷ 0 ∷ []) ∷ (0 ∷ []) ∷ [])) ≡ Done ∷ closed (short 7 0 0 0) ∷ Ignored ∷ [])
+    × (replies built_in [] (history (short 7 0 0 0 ∷ echo ∷ [])) ≡ Done ∷ closed [] ∷ Ignored ∷ [])
+unfolding pdus_within front pdu_of associate_of request_of item_at pdv_at proposed_of user_information_of values_of parts routed has_route joins built_in stripped without_leading without_trailing kept_before messages_from
+in_place_of_a_request = (refl, refl, refl, refl)
 
--- a context with an even id
-even_id : replies built_in (history (request_from 1 modality 2 16384 ∷ [])) ≡ Done ∷ closed (short 7 0 0 0) ∷ []
-unfolding pdus_within front pdu_of request_of item_at pdv_at proposed_of user_information_of values_of parts
-even_id = refl
+-- a second request, a PDU of 65,537 octets, a value longer than its PDU, no values, the peer's abort
+after_a_request :
+    (replies built_in [] (history (request ∷ request ∷ [])) ≡ Done ∷ answered accepted ∷ closed (short 7 0 2 2) ∷ [])
+    × (replies built_in [] (history (request ∷ (4 ∷ 0 ∷ 0 ∷ 1 ∷ 0 ∷ 1 ∷ []) ∷ [])) ≡ Done ∷ answered accepted ∷ closed (short 7 0 2 6) ∷ [])
+    × (replies built_in [] (history (request ∷ value_pdu 6 3 3 [] ∷ [])) ≡ Done ∷ answered accepted ∷ closed (short 7 0 2 6) ∷ [])
+    × (replies built_in [] (history (request ∷ (4 ∷ 0 ∷ 0 ∷ 0 ∷ 0 ∷ 0 ∷ []) ∷ [])) ≡ Done ∷ answered accepted ∷ closed (short 7 0 2 6) ∷ [])
+    × (replies built_in [] (history (request ∷ short 7 0 0 0 ∷ [])) ≡ Done ∷ answered accepted ∷ closed [] ∷ [])
+unfolding pdus_within front pdu_of associate_of request_of item_at pdv_at proposed_of user_information_of values_of parts routed has_route joins built_in stripped without_leading without_trailing kept_before messages_from
+after_a_request = (refl, refl, refl, refl, refl)
 
--- a maximum length that leaves no room
-no_room : replies built_in (history (request_from 1 modality 1 7 ∷ [])) ≡ Done ∷ closed (short 3 1 1 1) ∷ []
-unfolding pdus_within front pdu_of request_of item_at pdv_at proposed_of user_information_of values_of parts
-no_room = refl
+-- a release in mid-message, and a PDU of unknown type after a message
+in_mid_message :
+    (replies built_in [] (history (request ∷ (value_pdu 24 20 1 (element 0x0000 4
+    (56 ∷ 0 ∷ 0 ∷ 0 ∷ []) ++ 0 ∷ 0 ∷ 2 ∷ 0 ∷ 18 ∷ 0 ∷ []) ++ release) ∷ [])) ≡ Done ∷ answered accepted ∷ closed released ∷ [])
+    × (replies built_in [] (history (request ∷ (echo ++ 8 ∷ 0 ∷ 0 ∷ 0 ∷ 0 ∷ 0 ∷ []) ∷ [])) ≡ Done ∷ answered accepted ∷ closed (echoed ++ short 7 0 2 1) ∷ [])
+unfolding pdus_within front pdu_of associate_of request_of item_at pdv_at proposed_of user_information_of values_of parts routed has_route joins built_in stripped without_leading without_trailing kept_before messages_from command_from command_of reading readers elements_by element_by elements_after value_by items_by item_by items_after header_at end_at is_below tag_at spelling_at long_length_at content_of known_vr vr_in dictionary trimmed unpadded is_padded ignores_leading_spaces served
+in_mid_message = (refl, refl)
 
--- a maximum length that leaves room for two octets
-least_room : replies built_in (history (request_from 1 modality 1 8 ∷ echo ∷ [])) ≡ Done ∷ answered accepted ∷ answered (in_twos echoed_set) ∷ []
-unfolding pdus_within front pdu_of request_of item_at pdv_at proposed_of user_information_of values_of parts command_from command_of reading readers elements_by element_by elements_after value_by header_at end_at is_below tag_at spelling_at long_length_at content_of known_vr vr_in dictionary trimmed unpadded without_trailing kept_before is_padded ignores_leading_spaces
-least_room = refl
+-- two institutions, PDU by PDU; ends; a piece after the close, and one before the opening
+two_institutions : replies (two 4) [] (Open 1 ∷ Open 2 ∷ Piece 2 (request_of_title ct2) ∷ Piece 1 (request_of_title ct1) ∷ Piece 2 echo ∷ Piece 1 echo ∷
+    Piece 1 release ∷ End 1 ∷ End 2 ∷ End 2 ∷ Piece 2 echo ∷ End 9 ∷ []) ≡ Done ∷ Done ∷ Octets 2 (accepted_title ct2) false ∷ Octets 1 (accepted_title ct1)
+    false ∷ Octets 2 echoed false ∷ Octets 1 echoed false ∷ Octets 1 released true ∷ Ignored ∷ Done ∷ Ignored ∷ Ignored ∷ Ignored ∷ []
+unfolding pdus_within front pdu_of associate_of request_of item_at pdv_at proposed_of user_information_of values_of parts routed has_route joins built_in stripped without_leading without_trailing kept_before messages_from command_from command_of reading readers elements_by element_by elements_after value_by items_by item_by items_after header_at end_at is_below tag_at spelling_at long_length_at content_of known_vr vr_in dictionary trimmed unpadded is_padded ignores_leading_spaces served
+two_institutions = refl
 
--- a value where a request is due
-value_first : replies built_in (history (value_pdu 6 2 3 [] ∷ [])) ≡ Done ∷ closed (short 7 0 0 0) ∷ []
-unfolding pdus_within front pdu_of request_of item_at pdv_at proposed_of user_information_of values_of parts
-value_first = refl
+-- an institution that may have one association open: a second is busy, another institution is not, and a release or an end gives the place back
+one_at_a_time : replies (two 1) [] (Open 1 ∷ Open 2 ∷ Open 3 ∷ Piece 1 (request_of_title ct1) ∷ Piece 2 (request_of_title ct1) ∷ Piece 3 (request_of_title
+    ct2) ∷ Piece 1 release ∷ Open 4 ∷ Piece 4 (request_of_title ct1) ∷ End 4 ∷ Open 5 ∷ Piece 5 (request_of_title ct1) ∷ []) ≡ Done ∷ Done ∷ Done ∷ Octets 1
+    (accepted_title ct1) false ∷ Octets 2 (short 3 2 3 2) true ∷ Octets 3 (accepted_title ct2) false ∷ Octets 1 released true ∷ Done ∷ Octets 4
+    (accepted_title ct1) false ∷ Done ∷ Done ∷ Octets 5 (accepted_title ct1) false ∷ []
+unfolding pdus_within front pdu_of associate_of request_of item_at pdv_at proposed_of user_information_of values_of parts routed has_route joins built_in stripped without_leading without_trailing kept_before messages_from
+one_at_a_time = refl
 
--- a PDU of unknown type where a request is due, and a piece after it
-unknown_first : replies built_in (history ((8 ∷ 0 ∷ 0 ∷ 0 ∷ 0 ∷ 0 ∷ []) ∷ (0 ∷ []) ∷ [])) ≡ Done ∷ closed (short 7 0 0 0) ∷ Ignored ∷ []
-unfolding pdus_within front pdu_of request_of item_at pdv_at proposed_of user_information_of values_of parts
-unknown_first = refl
+-- of a request that does not pass the checks nobody asks whether it is busy
+a_busy_request : replies (two 1) [] (Open 1 ∷ Open 2 ∷ Piece 1 (request_of_title ct1) ∷ Piece 2 (request_from 2 ct1 1 16384) ∷ []) ≡ Done ∷ Done ∷ Octets 1
+    (accepted_title ct1) false ∷ Octets 2 (short 3 1 2 2) true ∷ []
+unfolding pdus_within front pdu_of associate_of request_of item_at pdv_at proposed_of user_information_of values_of parts routed has_route joins built_in stripped without_leading without_trailing kept_before messages_from
+a_busy_request = refl
 
--- a PDU of unknown type after a request
-unknown_after : replies built_in (history (request ∷ (echo ++ 8 ∷ 0 ∷ 0 ∷ 0 ∷ 0 ∷ 0 ∷ []) ∷ [])) ≡ Done ∷ answered accepted ∷ closed (echoed ++ short 7 0 2 1) ∷ []
-unfolding pdus_within front pdu_of request_of item_at pdv_at proposed_of user_information_of values_of parts command_from command_of reading readers elements_by element_by elements_after value_by header_at end_at is_below tag_at spelling_at long_length_at content_of known_vr vr_in dictionary trimmed unpadded without_trailing kept_before is_padded ignores_leading_spaces
-unknown_after = refl
+-- whose the events are: a connection's, also before it is known, and the console's
+own_events :
+    (own (two 4) north (Open 1 ∷ Open 2 ∷ Piece 2 (request_of_title ct2) ∷ End 1 ∷ Piece 1 echo ∷ Open 3 ∷ Piece 3
+    (request_of_title ct1) ∷ Schedule south [] ∷ Withdraw north [] ∷ []) ≡ Open 3 ∷ Piece 3 (request_of_title ct1) ∷ Withdraw north [] ∷ [])
+    × (own (two 4) north (Piece 1 [] ∷ Open 1 ∷ Piece 1 (take 20 (request_of_title ct1)) ∷ Piece 1 (drop 20
+    (request_of_title ct1)) ∷ []) ≡ Piece 1 [] ∷ Open 1 ∷ Piece 1 (take 20 (request_of_title ct1)) ∷ Piece 1 (drop 20 (request_of_title ct1)) ∷ [])
+unfolding pdus_within front pdu_of associate_of request_of item_at pdv_at proposed_of user_information_of values_of parts routed has_route joins built_in stripped without_leading without_trailing kept_before messages_from
+own_events = (refl, refl)
 
--- a PDU of 65,537 octets
-too_long : replies built_in (history (request ∷ (4 ∷ 0 ∷ 0 ∷ 1 ∷ 0 ∷ 1 ∷ []) ∷ [])) ≡ Done ∷ answered accepted ∷ closed (short 7 0 2 6) ∷ []
-unfolding pdus_within front pdu_of request_of item_at pdv_at proposed_of user_information_of values_of parts
-too_long = refl
-
--- a value that is longer than its PDU
-long_value : replies built_in (history (request ∷ value_pdu 6 3 3 [] ∷ [])) ≡ Done ∷ answered accepted ∷ closed (short 7 0 2 6) ∷ []
-unfolding pdus_within front pdu_of request_of item_at pdv_at proposed_of user_information_of values_of parts
-long_value = refl
-
--- a PDU without values
-no_values : replies built_in (history (request ∷ (4 ∷ 0 ∷ 0 ∷ 0 ∷ 0 ∷ 0 ∷ []) ∷ [])) ≡ Done ∷ answered accepted ∷ closed (short 7 0 2 6) ∷ []
-unfolding pdus_within front pdu_of request_of item_at pdv_at proposed_of user_information_of values_of parts
-no_values = refl
-
--- a second request
-second_request : replies built_in (history (request ∷ request ∷ [])) ≡ Done ∷ answered accepted ∷ closed (short 7 0 2 2) ∷ []
-unfolding pdus_within front pdu_of request_of item_at pdv_at proposed_of user_information_of values_of parts
-second_request = refl
+-- an order for an institution that is not configured
+orders : replies (two 4) [] (Schedule (codes "EAST") [] ∷ Withdraw (codes "EAST") [] ∷ []) ≡ Refused 6 ∷ Refused 6 ∷ []
+unfolding pdus_within front pdu_of associate_of request_of item_at pdv_at proposed_of user_information_of values_of parts routed has_route joins built_in stripped without_leading without_trailing kept_before messages_from named
+orders = refl

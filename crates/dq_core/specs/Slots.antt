@@ -1,50 +1,119 @@
--- A connection that is held, PDU by PDU: what its slot stands for, and what further PDUs are answered.
-use Rattle.std.specs.Prelude.{◌≡◌, ℕ, Bool, false, if◌then◌else◌, List, ◌++◌, map, length, drop, Option, Some, None, option_map}
-use Rattle.std.specs.List.{AllByRecursion, flat_map}
+-- What a slot of the server stands for: a connection that is held. This is there for the prover.
+use Rattle.std.specs.Str.{bytes_eq}
+use Rattle.std.specs.Prelude.{◌≡◌, ℕ, Bool, false, nat_lt, if◌then◌else◌, length, filter, get_or, remove, IsSome, List, [], ◌∷◌, ◌++◌, Option, Some, None}
 use Rattle.dq_pdu.specs.declared.pdu.Pdu.{Pdu}
-use Rattle.dq_pdu.specs.declared.pdu.Request.{Request}
-use Rattle.dq_pdu.specs.declared.fault.PduFault.{PduFault}
-use Rattle.dq_dimse.specs.declared.command.Message.{Message}
-use Rattle.dq_assoc.specs.Negotiation.{has_room}
-use Rattle.dq_assoc.specs.Inputs.{inputs_of}
-use Rattle.dq_assoc.specs.Standing.{standing, state_of, is_closed}
-use Rattle.dq_core.specs.declared.config.Institution.{Institution}
-use Rattle.dq_core.specs.declared.event.Reply.{Reply}
+use Rattle.dq_pdu.specs.declared.pdu.Pdu.TheVariants.{Request as request_pdu}
+use Rattle.dq_pdu.specs.Stream.{pdus_in}
+use Rattle.dq_pdu.specs.Inboxes.{InboxAfter}
+use Rattle.dq_assoc.specs.declared.agreement.Agreement.{Agreement}
+use Rattle.dq_assoc.specs.declared.association.Verdict.{Verdict}
+use Rattle.dq_assoc.specs.declared.association.Verdict.TheVariants.{Accept, Nowhere, Busy}
+use Rattle.dq_assoc.specs.After.{AssociationAfter, state_of, is_closed, agreement_in}
+use Rattle.dq_config.specs.declared.config.Institution.{Institution}
+use Rattle.dq_config.specs.Limits.{limits_of}
+use Rattle.dq_config.specs.Routing.{routed, named}
+use Rattle.dq_tables.specs.declared.row.Row.{Row}
+use Rattle.dq_tables.specs.Rows.{of, after_all}
+use Rattle.dq_core.specs.declared.slot.Home.{Home}
 use Rattle.dq_core.specs.declared.slot.Slot.{Slot}
-use Rattle.dq_core.specs.Verification.{response, sent_if, peer_limit}
-use Rattle.dq_core.specs.Plain.{Answer, Connection, Turn, answers, request_in}
-use Rattle.dq_core.specs.Histories.{slot_of, IsHeld}
+use Rattle.dq_core.specs.declared.slot.Taken.{Taken}
+use Rattle.dq_core.specs.Answers.{Answer}
+use Rattle.dq_core.specs.Connections.{Connection, with_piece, without, with_connection}
+use Rattle.dq_core.specs.Doing.{taken_answer}
+use Rattle.dq_core.specs.Owners.{owner}
+use Rattle.dq_core.specs.Shared.{World, Turn, answer_by, operations_by}
+use Rattle.dq_core.specs.declared.event.Reply.{Reply}
 
--- the limit of a peer that leaves room for a fragment
-abbrev pub limit_of : Request → Option ℕ
-limit_of request = if has_room request.maximum_length then Some (peer_limit request) else None
+-- what an institution has of a connection on which something is agreed
+abbrev pub home_of : Option Institution → Option Agreement → Option Home
+home_of (Some i) (Some agreement) = Some (record { name = i.name; agreement = agreement })
+home_of (Some i) None = None
+home_of None agreement = None
 
--- the octets that answer messages, one after the other
-abbrev pub served_within : ℕ → List Message → List ℕ
-served_within limit messages = flat_map (λ (message : Message). sent_if message.context limit (response message.command)) messages
+-- a slot that was given PDUs of which none closed, on a connection of an owner
+pub record StandsAt (owner : Option Institution) (slot : Slot) (pdus : List Pdu) : Type 0 where
+  pub association : AssociationAfter pdus slot.association
+  pub not_closed : is_closed (state_of slot.association) ≡ false
+  pub home : slot.home ≡ home_of owner (agreement_in slot.association)
+  pub owned : (agreement : Agreement) → agreement_in slot.association ≡ Some agreement
+      → IsSome owner
 
--- a slot that was given the PDUs, none of which closed
-pub record StandsAt (slot : Slot) (before : List Pdu) : Type 0 where
-  pub association : slot.association ≡ standing before
-  pub not_closed : is_closed (state_of (standing before)) ≡ false
-  pub limit : slot.limit ≡ option_map peer_limit (request_in (inputs_of before None))
-
--- what further PDUs, and the fault after them, are answered
-abbrev pub told : List Institution → List Pdu → List Pdu → Option PduFault → Answer
-told institutions before more fault =
-    answers institutions (request_in (inputs_of before None)) (drop (length (inputs_of before None)) (inputs_of (before ++ more) fault))
-
--- the answer's octets were added, and whether it closes was said
-pub record Tells (answer : Answer) (before after : List ℕ) (close : Bool) : Type 0 where
-  pub octets : after ≡ before ++ answer.octets
-  pub closes : close ≡ answer.close
+-- the slot of a connection that is held
+pub record IsHeld (institutions : List Institution) (slot : Slot) (c : Connection) : Type 0 where
+  pub number : slot.number ≡ c.number
+  pub inbox : InboxAfter c.stream slot.inbox
+  pub faultless : (pdus_in c.stream).fault ≡ None
+  pub stands : StandsAt (owner institutions c.stream) slot (pdus_in c.stream).list
 
 -- slots of the connections that are held
-pub record AreHeld (slots : List Slot) (held : List Connection) : Type 0 where
-  pub slots_are : slots ≡ map slot_of held
-  pub each : AllByRecursion IsHeld held
+abbrev pub AreHeld : List Institution → List Slot → List Connection → Type 0
+AreHeld institutions [] [] = Unit {0}
+AreHeld institutions (slot ∷ slots) (c ∷ cs) =
+    IsHeld institutions slot c × AreHeld institutions slots cs
+AreHeld institutions [] (c ∷ cs) = ⊥
+AreHeld institutions (slot ∷ slots) [] = ⊥
 
--- an event was answered by the plain server's turn, and the slots are of the connections that are then held
-pub record Turned (turn : Turn) (reply : Reply) (slots : List Slot) : Type 0 where
-  pub replied : reply ≡ turn.reply
-  pub are_held : AreHeld slots turn.held
+-- An event was answered by the plain server's turn: the reply is its reply, its operations were
+-- made, and the slots are of the connections that are then held.
+pub record Turned (institutions : List Institution) (t : Turn) (reply : Reply)
+    (before after : List Row) (slots : List Slot) : Type 0 where
+  pub replied : reply ≡ t.reply
+  pub rows : after ≡ after_all t.operations before
+  pub holds : AreHeld institutions slots t.connections
+
+-- whether a slot has its home at the institution with a name
+abbrev pub is_home : List ℕ → Option Home → Bool
+is_home name None = false
+is_home name (Some home) = bytes_eq home.name name
+
+-- how many slots have it there
+abbrev pub count_at : List ℕ → List Slot → ℕ
+count_at name slots = length (filter (λ (slot : Slot). is_home name slot.home) slots)
+
+abbrev pub verdict_of : Institution → List Slot → Verdict
+verdict_of i slots = if nat_lt (count_at i.name slots) i.associations then Accept else Busy
+
+abbrev pub verdict_for : Option Institution → List Slot → Verdict
+verdict_for None slots = Nowhere
+verdict_for (Some i) slots = verdict_of i slots
+
+-- the institution to which the titles of a request are routed, where a request stands first
+abbrev pub routed_first : List Institution → List Pdu → Option Institution
+routed_first institutions (request_pdu request ∷ pdus) =
+    routed institutions request.called request.calling
+routed_first institutions pdus = None
+
+abbrev pub owner_with : List Institution → Option Home → List Pdu → Option Institution
+owner_with institutions None pdus = routed_first institutions pdus
+owner_with institutions (Some home) pdus = named institutions home.name
+
+abbrev pub owner_at : List Institution → Slot → List Pdu → Option Institution
+owner_at institutions slot pdus = owner_with institutions slot.home pdus
+
+-- what was taken on a connection is answered by the institution that has it, if one has
+abbrev pub answer_of : Option Institution → List Row → Option Home → Taken → Answer
+answer_of None rows home t = record {
+  octets = t.opening ++ t.step.octets;
+  close = t.step.close;
+  changes = [];
+  next = record { agreement = None; records = [] };
+}
+answer_of (Some i) rows home t = taken_answer (limits_of i) (of i.name rows) home t
+
+-- Two answers, each of an institution or of none, that are the same to the peer and to the tables.
+pub record AreAlike (one : Option Institution) (x : Answer) (other : Option Institution) (y : Answer)
+    : Type 0 where
+  pub octets : x.octets ≡ y.octets
+  pub close : x.close ≡ y.close
+  pub operations : operations_by one x.changes ≡ operations_by other y.changes
+
+-- A piece was taken on a connection that is held, at the index of its slot: the answer is the plain
+-- server's, and the slots are of the connections that are then held.
+pub record Took (institutions : List Institution) (world : World) (c : Connection) (piece : List ℕ)
+    (index : ℕ) (institution : Option Institution) (t : Taken) (slots : List Slot) : Type 0 where
+  pub answer : (d : Slot) → let o = owner institutions (c.stream ++ piece) in
+      AreAlike o (answer_by o institutions world c piece)
+      institution (answer_of institution world.rows (get_or slots index d).home t)
+  pub held : t.step.close ≡ false
+      → AreHeld institutions slots (with_connection (with_piece c piece) world.connections)
+  pub left : AreHeld institutions (remove slots index) (without c.number world.connections)

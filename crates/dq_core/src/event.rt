@@ -9,6 +9,16 @@ pub enum Event {
     Piece(u64, Listed<u8>),
     /// The peer ended a connection.
     End(u64),
+    /// The console schedules an entry of an institution's worklist.
+    Schedule {
+        inst: Listed<u8>,
+        octets: Listed<u8>,
+    },
+    /// The console withdraws an entry.
+    Withdraw {
+        inst: Listed<u8>,
+        id: Listed<u8>,
+    },
 }
 
 /// What an event is answered with.
@@ -21,6 +31,8 @@ pub enum Reply {
         close: bool,
     },
     Done,
+    /// The console's change is refused, with the number of the refusal.
+    Refused(u16),
     /// The connection is not held.
     Ignored,
 }

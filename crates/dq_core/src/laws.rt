@@ -1,37 +1,230 @@
 //! Laws of the plain server. Each function's contract is a law; its body does nothing.
 
-ghost use Rattle.std.specs.Prelude.{◌≡◌, ℕ, Bool, List, [], ◌∷◌, ◌++◌, length};
-ghost use Rattle.dq_core.specs.declared.config.Institution.{Institution};
+ghost use Rattle.std.specs.Prelude.{◌≡◌, ◌≤◌, ◌⊎◌, ◌↔◌, ℕ, false, IsTrue, List, [], ◌∷◌, ◌++◌, length, take, filter, Contains, Option, Some, None};
+ghost use Rattle.dq_pdu.specs.declared.pdu.Request.{Request};
+ghost use Rattle.dq_assoc.specs.declared.association.Verdict.{Verdict};
+ghost use Rattle.dq_assoc.specs.Inputs.{inputs};
+ghost use Rattle.dq_tables.specs.declared.row.Row.{Row};
+ghost use Rattle.dq_tables.specs.Rows.{Record, of, IsRising};
+ghost use Rattle.dq_config.specs.declared.config.Institution.{Institution};
 ghost use Rattle.dq_core.specs.declared.event.Event.{Event};
-ghost use Rattle.dq_core.specs.Plain.{then_answer, piece_answer, turn, replies, held_after};
-ghost use Rattle.dq_core.specs.Apart.{events_on, replies_on};
+ghost use Rattle.dq_config.specs.Conditions.{is_sound};
+ghost use Rattle.dq_config.specs.Limits.{Limits, limits_of};
+ghost use Rattle.dq_core.specs.Answers.{piece_answer, then_answer, request_in};
+ghost use Rattle.dq_core.specs.Owners.{owner, live_of, HaveOwnNames};
+ghost use Rattle.dq_core.specs.Shared.{turn, replies, world_after, rows_within};
+ghost use Rattle.dq_core.specs.Alone.{alone_replies, alone_after, records_within};
+ghost use Rattle.dq_core.specs.Own.{is_own, own, is_on_connection, stream_of, replies_at};
+ghost use Rattle.dq_core.specs.Histories.{is_well_formed, opened_numbers};
+ghost use Rattle.dq_core.specs.Runs.{IsRun, IsOwnRun};
+ghost use Rattle.dq_core.specs.declared.event.Reply.{Reply};
+ghost use Rattle.dq_core.specs.Accepted.{AreOpen};
+ghost use Rattle.dq_core.specs.Connections.{Connection, connection_in};
+ghost use Rattle.std.specs.List.Sorted.{IsStrictlyIncreasing};
+ghost use Rattle.dq_assoc.specs.declared.association.State.TheVariants.{Waiting, Open};
+ghost use Rattle.dq_assoc.specs.Table.{Requested, line};
+ghost use Rattle.dq_core.specs.Isolation.{own_replies, stranger_replies, Begins, Agree, IsPrefix};
 
-use dq_assoc::laws::a_longer_stream_adds_inputs;
+use dq_assoc::laws::{a_longer_stream_adds_inputs, the_last_input_closes};
+use dq_config::laws::a_name_is_of_one;
+use dq_tables::laws::{other_records_stay, own_records_are_edited, rows_stay_in_order};
 
 /// The replies to a history are the replies to each event in turn: there is one for each event, and what comes later
 /// does not change it.
-#[tactic(auto, using(crate::proofs::Running::replies_follow, crate::proofs::Running::replies_count))]
 pub fn replies_in_turn()
-    ensures one_each { (institutions : List Institution) (events : List Event) → length (replies institutions events) ≡ length events }
-    ensures next { (institutions : List Institution) (events : List Event) (event : Event) →
-        replies institutions (events ++ event ∷ []) ≡ replies institutions events ++ (turn institutions (held_after institutions events) event).reply ∷ [] }
+    ensures one_each { (institutions : List Institution) (rows : List Row) (events : List Event) →
+        length (replies institutions rows events) ≡ length events }
+    ensures next { (institutions : List Institution) (rows : List Row) (events : List Event)
+        (event : Event) →
+        replies institutions rows (events ++ event ∷ []) ≡ replies institutions rows events
+        ++ (turn institutions (world_after institutions rows events) event).reply ∷ [] }
 {}
 
 /// However a stream is cut, it is answered alike: a piece that comes in two parts is answered as the first part and then,
-/// unless that closed the connection, as the second.
+/// unless that closed the connection, as the second, from the records that are there by then.
 pub fn pieces_join()
-    ensures { (institutions : List Institution) (stream first second : List ℕ) → piece_answer institutions stream (first ++ second)
-        ≡ then_answer (piece_answer institutions stream first) (piece_answer institutions (stream ++ first) second) }
+    ensures { (limits : Limits) (verdict : Verdict) (records : List Record)
+        (stream first second : List ℕ) →
+        let front = piece_answer limits verdict records stream first in
+        piece_answer limits verdict records stream (first ++ second)
+        ≡ then_answer front
+        (piece_answer limits verdict front.next.records (stream ++ first) second) }
+{
+    a_longer_stream_adds_inputs();
+    the_last_input_closes();
+}
+
+/// Whether an institution is busy is asked for the request alone.
+pub fn verdict_is_of_the_request()
+    ensures { (limits : Limits) (verdict other : Verdict) (records : List Record)
+        (stream piece : List ℕ) (request : Request) →
+        request_in (inputs stream) ≡ Some request →
+        piece_answer limits verdict records stream piece
+        ≡ piece_answer limits other records stream piece }
+{}
+
+/// Once a stream has an owner, it stays.
+pub fn owners_stay()
+    ensures { (institutions : List Institution) (stream more : List ℕ) (i : Institution) →
+        owner institutions stream ≡ Some i → owner institutions (stream ++ more) ≡ Some i }
 {
     a_longer_stream_adds_inputs();
 }
 
-/// Connections do not see each other: the replies at the events on some connections are those to the history of these
-/// events alone, so in two histories that have the same events on these connections they are the same.
-#[tactic(auto, using(crate::proofs::Separate::replies_alone, crate::proofs::Separate::replies_agree))]
-pub fn connections_apart()
-    ensures alone { (institutions : List Institution) (mine : ℕ → Bool) (events : List Event) →
-        replies_on mine events (replies institutions events) ≡ replies institutions (events_on mine events) }
-    ensures agree { (institutions : List Institution) (mine : ℕ → Bool) (events others : List Event) → events_on mine events ≡ events_on mine others →
-        replies_on mine events (replies institutions events) ≡ replies_on mine others (replies institutions others) }
+/// No two institutions of a configuration have one name.
+pub fn institutions_have_own_names()
+    ensures { (institutions : List Institution) → IsTrue (is_sound institutions) →
+        HaveOwnNames institutions }
+{
+    a_name_is_of_one();
+}
+
+/// Opened numbers rise strictly in a well-formed history.
+pub fn opened_numbers_rise()
+    ensures { (events : List Event) →
+        IsTrue (is_well_formed events) ↔ IsStrictlyIncreasing (opened_numbers events) }
 {}
+
+/// A connection that is held has sent no request yet, or one that was accepted, which an institution has; so one that has
+/// an owner was accepted.
+pub fn held_connections_were_accepted()
+    ensures inputs { (institutions : List Institution) (rows : List Row) (events : List Event)
+        (number : ℕ) (c : Connection) →
+        connection_in number (world_after institutions rows events).connections ≡ Some c →
+        AreOpen institutions (inputs c.stream) }
+    // By the verdict at the piece that brought the request.
+    ensures verdict { (limits : Limits) (verdict : Verdict) (records : List Record)
+        (stream piece : List ℕ) (request : Request) →
+        request_in (inputs stream) ≡ None →
+        request_in (inputs (stream ++ piece)) ≡ Some request →
+        (piece_answer limits verdict records stream piece).close ≡ false →
+        (line Waiting verdict (Requested request)).next ≡ Open }
+{
+    a_longer_stream_adds_inputs();
+}
+
+/// No institution has more associations open than its limit.
+pub fn limits_of_associations_are_kept()
+    ensures { (institutions : List Institution) (rows : List Row) (events : List Event)
+        (i : Institution) → HaveOwnNames institutions → Contains institutions i →
+        live_of institutions i.name (world_after institutions rows events).connections
+        ≤ i.associations }
+{
+    a_longer_stream_adds_inputs();
+}
+
+/// Isolation. Whatever others store, ask, order or are refused, and however events interleave, the replies at an
+/// institution's own events are those of a server that it has alone, and so are its records: after the history, and
+/// within it, also after the first operations of an event.
+pub fn institutions_are_isolated()
+    ensures replies { (institutions : List Institution) (rows : List Row) (events : List Event)
+        (i : Institution) → Begins institutions rows events i →
+        replies_at (is_own institutions i.name events) events (replies institutions rows events)
+        ≡ alone_replies (limits_of i) (of i.name rows) (own institutions i.name events) }
+    ensures records { (institutions : List Institution) (rows : List Row) (events : List Event)
+        (i : Institution) → Begins institutions rows events i →
+        of i.name (world_after institutions rows events).rows ≡
+        (alone_after (limits_of i) (of i.name rows) (own institutions i.name events)).records }
+    // The same of the first events of the history.
+    ensures first_replies { (institutions : List Institution) (rows : List Row)
+        (events : List Event) (i : Institution) (answered : ℕ) →
+        Begins institutions rows events i →
+        replies_at (is_own institutions i.name events) events
+        (take answered (replies institutions rows events))
+        ≡ own_replies institutions rows events i answered }
+    ensures prefix { (institutions : List Institution) (rows : List Row) (events : List Event)
+        (i : Institution) (answered : ℕ) →
+        IsPrefix (own_replies institutions rows events i answered)
+        (alone_replies (limits_of i) (of i.name rows) (own institutions i.name events)) }
+    ensures records_within { (institutions : List Institution) (rows : List Row)
+        (events : List Event) (i : Institution) (answered operations : ℕ) →
+        Begins institutions rows events i →
+        of i.name (rows_within institutions rows events answered operations)
+        ≡ records_within (limits_of i) (of i.name rows) (is_own institutions i.name events) events
+        answered operations }
+{
+    a_longer_stream_adds_inputs();
+    own_records_are_edited();
+    other_records_stay();
+    rows_stay_in_order();
+}
+
+/// The replies on a connection that nobody owns are those of a server without institutions.
+pub fn strangers_are_answered_alike()
+    ensures replies { (institutions : List Institution) (rows : List Row) (events : List Event)
+        (number : ℕ) → owner institutions (stream_of number events) ≡ None →
+        IsTrue (is_well_formed events) →
+        replies_at (is_on_connection number) events (replies institutions rows events)
+        ≡ stranger_replies (filter (is_on_connection number) events) }
+    ensures first_replies { (institutions : List Institution) (rows : List Row)
+        (events : List Event) (number answered : ℕ) →
+        owner institutions (stream_of number events) ≡ None → IsTrue (is_well_formed events) →
+        replies_at (is_on_connection number) events
+        (take answered (replies institutions rows events))
+        ≡ stranger_replies (filter (is_on_connection number) (take answered events)) }
+{
+    a_longer_stream_adds_inputs();
+}
+
+/// Two histories that agree for an institution have the same replies at its own events, and leave it the same records. Of
+/// the replies at its own events among the first of each history, one list begins with the other.
+pub fn agreeing_histories_are_answered_alike()
+    ensures replies { (institutions others : List Institution) (rows other_rows : List Row)
+        (events other_events : List Event) (i j : Institution) →
+        Begins institutions rows events i → Begins others other_rows other_events j →
+        Agree institutions others rows other_rows events other_events i j →
+        replies_at (is_own institutions i.name events) events (replies institutions rows events)
+        ≡ replies_at (is_own others j.name other_events) other_events
+        (replies others other_rows other_events) }
+    ensures records { (institutions others : List Institution) (rows other_rows : List Row)
+        (events other_events : List Event) (i j : Institution) →
+        Begins institutions rows events i → Begins others other_rows other_events j →
+        Agree institutions others rows other_rows events other_events i j →
+        of i.name (world_after institutions rows events).rows
+        ≡ of j.name (world_after others other_rows other_events).rows }
+    ensures prefix { (institutions others : List Institution) (rows other_rows : List Row)
+        (events other_events : List Event) (i j : Institution) (answered other_answered : ℕ) →
+        Begins institutions rows events i → Begins others other_rows other_events j →
+        Agree institutions others rows other_rows events other_events i j →
+        let some = replies_at (is_own institutions i.name events) events
+        (take answered (replies institutions rows events)) in
+        let more = replies_at (is_own others j.name other_events) other_events
+        (take other_answered (replies others other_rows other_events)) in
+        IsPrefix some more ⊎ IsPrefix more some }
+{
+    a_longer_stream_adds_inputs();
+    own_records_are_edited();
+    other_records_stay();
+    rows_stay_in_order();
+}
+
+/// So are runs that a fault ends. The replies at an institution's own events are those of its server alone to those that
+/// were answered, and its records are those that this server then has, with the first changes of an own event that was not
+/// answered; the replies on a connection that nobody owns are a stranger's; and of the own replies of two runs that agree for
+/// an institution, one list begins with the other.
+pub fn runs_are_isolated()
+    ensures own { (institutions : List Institution) (rows : List Row) (events : List Event)
+        (given : List Reply) (kept : List Row) → IsRun institutions rows events given kept →
+        (i : Institution) → Begins institutions rows events i →
+        IsOwnRun institutions rows events i given kept }
+    ensures strangers { (institutions : List Institution) (rows : List Row) (events : List Event)
+        (given : List Reply) (kept : List Row) → IsRun institutions rows events given kept →
+        (number : ℕ) → owner institutions (stream_of number events) ≡ None →
+        IsTrue (is_well_formed events) →
+        replies_at (is_on_connection number) events given
+        ≡ stranger_replies (filter (is_on_connection number) (take (length given) events)) }
+    ensures agree { (institutions others : List Institution) (rows other_rows : List Row)
+        (events other_events : List Event) (i j : Institution) (given other_given : List Reply)
+        (kept other_kept : List Row) → IsRun institutions rows events given kept →
+        IsRun others other_rows other_events other_given other_kept →
+        Begins institutions rows events i → Begins others other_rows other_events j →
+        Agree institutions others rows other_rows events other_events i j →
+        let some = replies_at (is_own institutions i.name events) events given in
+        let more = replies_at (is_own others j.name other_events) other_events other_given in
+        IsPrefix some more ⊎ IsPrefix more some }
+{
+    a_longer_stream_adds_inputs();
+    own_records_are_edited();
+    other_records_stay();
+    rows_stay_in_order();
+}

@@ -1,215 +1,246 @@
-ghost use Rattle.std.specs.Prelude.{◌≡◌, ◌≤◌, ◌⊎◌, List, [], ◌∷◌, ◌++◌, false, None, IfOk, OnOk, is_some, unwrap_or};
+ghost use Rattle.std.specs.Prelude.{◌≡◌, ◌⊎◌, List, [], ◌∷◌, ◌++◌, Option, None, false, IfOk};
+ghost use Rattle.std.specs.Option.{option_copied};
 ghost use Rattle.dq_pdu.specs.declared.pdu.Pdu.{Pdu};
-ghost use Rattle.dq_assoc.specs.declared.association.Held.TheVariants as held;
-ghost use Rattle.dq_assoc.specs.Table.{Requested};
-ghost use Rattle.dq_assoc.specs.Standing.{Takes};
-ghost use Rattle.dq_core.specs.declared.config.Institution.{Institution};
-ghost use Rattle.dq_core.specs.Plain.{Connection, first_answer, piece_answer};
-ghost use Rattle.dq_core.specs.Histories.{slot_of, IsHeld};
-ghost use Rattle.dq_core.specs.Slots.{limit_of, StandsAt, told, Tells};
+ghost use Rattle.dq_pdu.specs.declared.pdu.Pdu.TheVariants as pdu;
+ghost use Rattle.dq_pdu.specs.Inboxes.{InboxAfter};
+ghost use Rattle.dq_assoc.specs.declared.association.State.TheVariants.{Waiting};
+ghost use Rattle.dq_assoc.specs.declared.association.Verdict.TheVariants.{Nowhere};
+ghost use Rattle.dq_assoc.specs.After.{state_of, agreement_in, inputs_from};
+ghost use Rattle.dq_config.specs.declared.config.Institution.{Institution};
+ghost use Rattle.dq_core.specs.Doing.{agreement_after, taken};
+ghost use Rattle.dq_core.specs.Slots.{StandsAt, home_of, is_home};
 
-use crate::config::Config;
-use crate::service::serve_all;
-use dq_assoc::{Association, State, abort_for};
+use dq_assoc::laws::{an_association_after_pdus, pdus_in_parts};
+use dq_assoc::{Agreement, Association, PeerLimit, State, Step, Verdict};
+use dq_config::Institution;
 use dq_list::Listed;
-use dq_pdu::{Inbox, Pdu, PduFault, Request, write_pdu};
+use dq_pdu::{Inbox, Pdu, PduFault, Request};
 use std::alloc::{AllocError, Global};
-use std::marker::Model;
 
-/// The longest PDU that a peer takes, in octets: 0 is no limit, and a limit leaves room for a value's header and a
-/// fragment (PS3.8 annex D.1).
+/// What an institution has of a connection whose request was accepted: its own name, and what was
+/// agreed.
 #[derive(Debug, Drop)]
-pub(crate) struct PeerLimit {
-    octets: u32,
+pub(crate) struct Home {
+    pub name: Listed<u8>,
+    pub agreement: Agreement,
 }
 
-impl Model for PeerLimit {
-    ghost use Rattle.std.specs.Prelude.{ℕ, ◌≡◌, true, Some};
-    ghost use Rattle.dq_assoc.specs.Negotiation.{has_room};
-
-    ghost Value = { ℕ };
-
-    ghost view = { λ a. a.octets };
-
-    ghost invariant = { λ a. has_room (Some a.octets) ≡ true };
-}
-
-impl PeerLimit {
-    /// The limit that a request asks for, if it leaves room.
-    fn of(request: &Request) -> Option<Self>
-        ensures { result ≡ limit_of request.now }
-    {
-        match request.maximum_length {
-            None => Some(PeerLimit { octets: 0 }),
-            Some(octets) if octets == 0 || octets >= 8 => Some(PeerLimit { octets }),
-            Some(_) => None,
-        }
-    }
-
-    fn octets(&self) -> u32
-        ensures same { result ≡ self.now }
-        ensures room { (result ≡ 0) ⊎ (8 ≤ result) }
-    {
-        self.octets
-    }
-}
-
-/// A connection that is held: its number, what came on it so far, and its association.
+/// A connection that is held: its number, what came on it so far, its association, and its home
+/// once its request was accepted.
 #[derive(Debug, Drop)]
 pub(crate) struct Slot {
     pub number: u64,
     pub inbox: Inbox,
     pub association: Association,
-    /// The peer's limit, once its request was accepted.
-    pub limit: Option<PeerLimit>,
+    pub home: Option<Home>,
+}
+
+/// What PDUs lead to: the acceptance of a request, and the step of what comes after it.
+#[derive(Debug, Drop)]
+pub(crate) struct Taken {
+    pub opening: Listed<u8>,
+    pub step: Step,
+}
+
+/// A copy of what was agreed.
+fn copied(alloc: Global, agreement: &Agreement) -> Result<Agreement, AllocError>
+    ensures { IfOk result (λ copy. copy ≡ agreement.now) }
+{
+    let Some(limit) = PeerLimit::of(Some(agreement.limit.octets())) else {
+        unreachable!();
+    };
+    Ok(Agreement {
+        contexts: Listed::copy_of(alloc, agreement.contexts.as_slice())?,
+        called: agreement.called,
+        limit,
+    })
+}
+
+impl Home {
+    fn new(
+        alloc: Global,
+        institution: &Institution,
+        agreement: &Agreement,
+    ) -> Result<Self, AllocError>
+        ensures { IfOk result (λ home.
+            (home.name ≡ institution.now.name) × (home.agreement ≡ agreement.now)) }
+    {
+        Ok(Home {
+            name: Listed::copy_of(alloc, institution.name.as_slice())?,
+            agreement: copied(alloc, agreement)?,
+        })
+    }
 }
 
 impl Slot {
     /// A connection that is opened. It takes no memory.
-    #[tactic(auto, unfolding(dq_pdu::specs::Stream::pdus_within))]
     pub(crate) fn new(alloc: Global, number: u64) -> Self
-        ensures { result ≡ slot_of (record { number = number; stream = [] }) }
+        ensures number { result.number ≡ number }
+        ensures inbox { InboxAfter [] result.inbox }
+        ensures stands { (owner : Option Institution) → StandsAt owner result [] }
     {
         Slot {
             number,
             inbox: Inbox::new(alloc),
             association: Association::new(alloc),
-            limit: None,
+            home: None,
         }
     }
 
-    /// Answers a piece: adds the octets to `out` and says whether they close.
-    pub(crate) fn answer(
-        &mut self,
-        alloc: Global,
-        config: &Config,
-        piece: &[u8],
-        out: &mut Vec<u8>,
-    ) -> Result<bool, AllocError>
-        ensures tells { (c : Connection) → self.old ≡ slot_of c → IsHeld c → IfOk result
-            (Tells (piece_answer config.now c.stream piece.now) out.old.items out.new.items) }
-        ensures stands { (c : Connection) → self.old ≡ slot_of c → IsHeld c → IfOk result (λ close. close ≡ false →
-            let longer : Connection = record { number = c.number; stream = c.stream ++ piece.now } in
-            (self.new ≡ slot_of longer) × IsHeld longer) }
+    /// Whether its home is the institution with a name.
+    pub(crate) fn is_at(&self, name: &[u8]) -> bool
+        ensures { result ≡ is_home name.now self.now.home }
     {
-        let Ok(fed) = self.inbox.feed(piece) else {
-            return Err(AllocError);
-        };
-        if self.take_all(alloc, config, fed.pdus.into_inner(), out)? {
-            return Ok(true);
+        match &self.home {
+            None => false,
+            Some(home) => home.name.as_slice() == name,
         }
-        self.close_at(alloc, fed.fault, out)
     }
 
-    /// Takes PDUs in order, up to the first that closes.
-    fn take_all(
+    /// Takes PDUs in order, up to one that closes, and then a fault of the stream (PS3.8 section
+    /// 9.2). A request that is accepted gives the connection its home.
+    pub(crate) fn take(
         &mut self,
         alloc: Global,
-        config: &Config,
+        institution: Option<&Institution>,
+        verdict: Verdict,
         pdus: Vec<Pdu>,
-        out: &mut Vec<u8>,
-    ) -> Result<bool, AllocError>
-        ensures tells { (before : List Pdu) → StandsAt self.old before → IfOk result
-            (Tells (told config.now before pdus.items None) out.old.items out.new.items) }
-        ensures stands { (before : List Pdu) → StandsAt self.old before → IfOk result (λ close. close ≡ false → StandsAt self.new (before ++ pdus.items)) }
+        fault: Option<PduFault>,
+    ) -> Result<Taken, AllocError>
+        ensures taken { IfOk result (λ t. t ≡ taken verdict (state_of self.old.association)
+            (inputs_from self.old.association pdus.items fault)) }
+        ensures home { (before : List Pdu) →
+            StandsAt (option_copied institution.entry) self.old before →
+            IfOk result (λ t. (t.step.messages ≡ [])
+            ⊎ (self.new.home ≡ home_of (option_copied institution.entry)
+            (agreement_after (agreement_in self.old.association)
+            (inputs_from self.old.association pdus.items fault)))) }
+        ensures stands { (before : List Pdu) →
+            StandsAt (option_copied institution.entry) self.old before →
+            (option_copied institution.entry ≡ None → verdict ≡ Nowhere) →
+            IfOk result (λ t. t.step.close ≡ false →
+            (fault ≡ None)
+            × StandsAt (option_copied institution.entry) self.new (before ++ pdus.items)) }
         ensures keeps { (self.new.number ≡ self.old.number) × (self.new.inbox ≡ self.old.inbox) }
     {
-        for pdu in pdus {
-            if self.take(alloc, config, pdu, out)? {
-                return Ok(true);
-            }
+        an_association_after_pdus();
+        match self.association.state() {
+            State::Waiting => self.begin(alloc, institution, verdict, pdus, fault),
+            State::Open => Ok(Taken {
+                opening: Listed::empty(alloc),
+                step: self.association.take_all(pdus, fault)?,
+            }),
+            State::Closed => Ok(Taken {
+                opening: Listed::empty(alloc),
+                step: nothing(alloc, true),
+            }),
         }
-        Ok(false)
     }
 
-    /// Takes one PDU. After a close nothing is taken.
-    fn take(
+    /// Takes the first PDUs.
+    fn begin(
         &mut self,
         alloc: Global,
-        config: &Config,
-        pdu: Pdu,
-        out: &mut Vec<u8>,
-    ) -> Result<bool, AllocError>
-        ensures tells { (before : List Pdu) → StandsAt self.old before → IfOk result
-            (Tells (told config.now before (pdu ∷ []) None) out.old.items out.new.items) }
-        ensures stands { (before : List Pdu) → StandsAt self.old before → IfOk result (λ close. close ≡ false → StandsAt self.new (before ++ pdu ∷ [])) }
+        institution: Option<&Institution>,
+        verdict: Verdict,
+        mut pdus: Vec<Pdu>,
+        fault: Option<PduFault>,
+    ) -> Result<Taken, AllocError>
+        requires { state_of self.old.association ≡ Waiting }
+        ensures taken { IfOk result (λ t.
+            t ≡ taken verdict Waiting (inputs_from self.old.association pdus.items fault)) }
+        ensures home { StandsAt (option_copied institution.entry) self.old [] →
+            IfOk result (λ t. (t.step.messages ≡ [])
+            ⊎ (self.new.home ≡ home_of (option_copied institution.entry)
+            (agreement_after None (inputs_from self.old.association pdus.items fault)))) }
+        ensures stands { StandsAt (option_copied institution.entry) self.old [] →
+            (option_copied institution.entry ≡ None → verdict ≡ Nowhere) →
+            IfOk result (λ t. t.step.close ≡ false →
+            (fault ≡ None) × StandsAt (option_copied institution.entry) self.new pdus.items) }
         ensures keeps { (self.new.number ≡ self.old.number) × (self.new.inbox ≡ self.old.inbox) }
     {
-        match (self.association.state(), pdu) {
-            (State::Closed, _) => Ok(true),
-            (State::Waiting, Pdu::Request(request)) => self.accept(config, request, out),
-            (_, pdu) => self.carry_on(alloc, pdu, out),
+        if pdus.is_empty() {
+            let step = match fault {
+                None => nothing(alloc, false),
+                Some(fault) => self.association.stop(fault)?,
+            };
+            return Ok(Taken {
+                opening: Listed::empty(alloc),
+                step,
+            });
+        }
+        match pdus.remove(0) {
+            Pdu::Request(request) => self.accept(alloc, institution, verdict, request, pdus, fault),
+            pdu => Ok(Taken {
+                opening: Listed::empty(alloc),
+                step: self.association.take(pdu)?,
+            }),
         }
     }
 
-    /// Answers the request (PS3.8 section 9.3.2).
+    /// Answers the request (PS3.8 section 9.3.2), and takes the PDUs after it.
     fn accept(
         &mut self,
-        config: &Config,
-        request: Request,
-        out: &mut Vec<u8>,
-    ) -> Result<bool, AllocError>
-        requires { self.old.association ≡ held.Waiting }
-        ensures tells { IfOk result (Tells (first_answer config.now (Requested request)) out.old.items out.new.items) }
-        ensures stands { IfOk result (λ close. close ≡ false → StandsAt self.new (Pdu.Request request ∷ [])) }
-        ensures keeps { (self.new.number ≡ self.old.number) × (self.new.inbox ≡ self.old.inbox) }
-    {
-        let verdict = config.verdict(&request);
-        self.limit = PeerLimit::of(&request);
-        let step = self.association.accept(request, verdict)?;
-        append(out, &step.octets)?;
-        Ok(step.close)
-    }
-
-    /// The longest PDU that the peer takes, where 0 is no limit.
-    fn pdu_limit(&self) -> u32
-        ensures same { result ≡ unwrap_or self.now.limit 0 }
-        ensures room { (result ≡ 0) ⊎ (8 ≤ result) }
-    {
-        match &self.limit {
-            None => 0,
-            Some(limit) => limit.octets(),
-        }
-    }
-
-    /// Takes a PDU that is not the request in its place.
-    fn carry_on(&mut self, alloc: Global, pdu: Pdu, out: &mut Vec<u8>) -> Result<bool, AllocError>
-        requires { Takes self.old.association pdu }
-        ensures tells { (institutions : List Institution) (before : List Pdu) → StandsAt self.old before → IfOk result
-            (Tells (told institutions before (pdu ∷ []) None) out.old.items out.new.items) }
-        ensures stands { (before : List Pdu) → StandsAt self.old before → IfOk result (λ close. close ≡ false → StandsAt self.new (before ++ pdu ∷ [])) }
-        ensures keeps { (self.new.number ≡ self.old.number) × (self.new.inbox ≡ self.old.inbox) }
-    {
-        let limit = self.pdu_limit();
-        let step = self.association.take(pdu)?;
-        serve_all(alloc, limit, &step.messages, out)?;
-        append(out, &step.octets)?;
-        Ok(step.close)
-    }
-
-    /// Aborts for a fault of the stream, if there is one (PS3.8 section 9.3.8).
-    fn close_at(
-        &self,
         alloc: Global,
+        institution: Option<&Institution>,
+        verdict: Verdict,
+        request: Request,
+        pdus: Vec<Pdu>,
         fault: Option<PduFault>,
-        out: &mut Vec<u8>,
-    ) -> Result<bool, AllocError>
-        ensures tells { (institutions : List Institution) (before : List Pdu) → StandsAt self.now before → IfOk result
-            (Tells (told institutions before [] fault) out.old.items out.new.items) }
-        ensures closes { IfOk result (λ close. close ≡ is_some fault) }
+    ) -> Result<Taken, AllocError>
+        requires { state_of self.old.association ≡ Waiting }
+        ensures taken { IfOk result (λ t. t ≡ taken verdict Waiting
+            (inputs_from self.old.association (pdu.Request request ∷ pdus.items) fault)) }
+        ensures home { StandsAt (option_copied institution.entry) self.old [] →
+            IfOk result (λ t. (t.step.messages ≡ [])
+            ⊎ (self.new.home ≡ home_of (option_copied institution.entry) (agreement_after None
+            (inputs_from self.old.association (pdu.Request request ∷ pdus.items) fault)))) }
+        ensures stands { StandsAt (option_copied institution.entry) self.old [] →
+            (option_copied institution.entry ≡ None → verdict ≡ Nowhere) →
+            IfOk result (λ t. t.step.close ≡ false → (fault ≡ None)
+            × StandsAt (option_copied institution.entry) self.new
+            (pdu.Request request ∷ pdus.items)) }
+        ensures keeps { (self.new.number ≡ self.old.number) × (self.new.inbox ≡ self.old.inbox) }
     {
-        let Some(fault) = fault else {
-            return Ok(false);
-        };
-        let abort = abort_for(self.association.state(), fault);
-        let octets = write_pdu(alloc, &abort)?;
-        out.extend_from_slice(&octets)?;
-        Ok(true)
+        pdus_in_parts();
+        let answer = self.association.accept(request, verdict)?;
+        if answer.close {
+            return Ok(Taken {
+                opening: Listed::empty(alloc),
+                step: answer,
+            });
+        }
+        self.home = home_for(alloc, institution, self.association.agreement())?;
+        let step = self.association.take_all(pdus, fault)?;
+        Ok(Taken {
+            opening: answer.octets,
+            step,
+        })
     }
 }
 
-fn append(out: &mut Vec<u8>, octets: &Listed<u8>) -> Result<(), AllocError>
-    ensures { OnOk result (out.new.items ≡ out.old.items ++ octets.now) }
+/// What an institution has of a connection on which something is agreed.
+fn home_for(
+    alloc: Global,
+    institution: Option<&Institution>,
+    agreement: Option<&Agreement>,
+) -> Result<Option<Home>, AllocError>
+    ensures { IfOk result (λ home. home
+        ≡ home_of (option_copied institution.entry) (option_copied agreement.entry)) }
 {
-    out.extend_from_slice(octets.inner())
+    let (Some(institution), Some(agreement)) = (institution, agreement) else {
+        return Ok(None);
+    };
+    Ok(Some(Home::new(alloc, institution, agreement)?))
+}
+
+/// A step that answers nothing.
+fn nothing(alloc: Global, close: bool) -> Step
+    ensures { result ≡ record { messages = []; octets = []; close = close } }
+{
+    Step {
+        messages: Listed::empty(alloc),
+        octets: Listed::empty(alloc),
+        close,
+    }
 }

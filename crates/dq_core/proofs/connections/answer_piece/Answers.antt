@@ -1,38 +1,76 @@
-use Rattle.std.proofs.Common.{[], get_or, Vec, Global, sym, ap, ◌∙◌, subst}
+use Rattle.std.proofs.Common.{false, Vec, Global, sym, ap, ◌∙◌, arith}
+use Rattle.std.specs.Option.{option_copied}
 use Rattle.std.specs.List.{position}
 use Rattle.std.proofs.lemmas.Bool.{false≢true}
+use Rattle.dq_core.specs.declared.event.Reply.TheVariants as reply
 use Rattle.dq_core.specs.declared.slot.Slot.{Slot}
-use Rattle.dq_core.specs.Plain.{piece_answer}
-use Rattle.dq_core.specs.Slots.{Tells}
-use Rattle.dq_core.proofs.Holding.{at, has_number}
-use Rattle.dq_core.proofs.Turning.{piece-none, piece-found, found-slot}
+use Rattle.dq_core.proofs.Going.{on-err}
+use Rattle.dq_core.proofs.Slotted.{numbered, found-within}
+use Rattle.dq_core.proofs.Turning.{piece-none, piece-empty, piece-taken, piece-part, is-empty, not-quiet}
 use Rattle.dq_core.proofs.connections.answer_piece.Goals as goal
 use Rattle.dq_core.proofs.connections.answer_piece.Goals.{then-close, else-close}
 
 pub returns-in_default-clause-turned : goal.returns-in_default-clause-turned
-returns-in_default-clause-turned c = λ held h.
-    piece-none c.args.config.now c.args.number c.args.piece.now c.args.slots.now.items held h (ap (position (has_number c.args.number)) (sym c.deref.ensures.value) ∙ sym c.index_of.ensures ∙ c.in_default.is)
+returns-in_default-clause-turned g c = λ world h r honest.
+    piece-none c.args.config.now world c.args.number c.args.piece.now c.args.slots.now.items (g.T.Tables.rows c.args.tables.now) h
+    (ap (position (numbered c.args.number)) (sym c.deref.ensures.value) ∙ sym c.index_of.ensures ∙ c.in_default.is) r
 
-pub returns-in_err-close-clause-quiet : goal.returns-in_err-close-clause-quiet
-returns-in_err-close-clause-quiet c = λ held h none.
-    let found = found-slot c.args.number c.args.slots.now.items held c.in-Some.index h.slots_are (ap (position (has_number c.args.number)) (sym c.deref.ensures.value) ∙ sym c.index_of.ensures ∙ c.in-Some.is) in
-    let impossible = sym none ∙ found.1.found in cc impossible
+pub returns-then-is_empty-clause-turned : goal.returns-then-is_empty-clause-turned
+returns-then-is_empty-clause-turned g c = λ world h r honest.
+    piece-empty c.args.config.now world c.args.number c.args.piece.now c.args.slots.now.items c.in-Some.index (g.T.Tables.rows c.args.tables.now)
+    c.octets_reply.result h (ap (position (numbered c.args.number)) (sym c.deref.ensures.value) ∙ sym c.index_of.ensures ∙ c.in-Some.is)
+    (is-empty c.args.piece.now c.if-is_empty.ensures) r
+    (c.octets_reply.ensures ∙ ap (λ octets. reply.Octets c.args.number octets false) c.new.ensures.items)
+
+pub returns-in_err-institution-clause-quiet : goal.returns-in_err-institution-clause-quiet
+returns-in_err-institution-clause-quiet g c = λ connections h k.
+    absurd (not-quiet c.args.config.now c.args.number c.args.piece.now c.args.slots.now.items connections c.in-Some.index h
+    (ap (position (numbered c.args.number)) (sym c.deref.ensures.value) ∙ sym c.index_of.ensures ∙ c.in-Some.is) c.if-is_empty.ensures k)
+
+pub index-requires : goal.index-requires
+index-requires g c =
+    let within = found-within c.args.number c.args.slots.now.items c.in-Some.index
+    (ap (position (numbered c.args.number)) (sym c.deref.ensures.value) ∙ sym c.index_of.ensures ∙ c.in-Some.is) in
+    omega (arith, within, c.take_piece.ensures.len)
+
+pub returns-in_err-octets-clause-part : goal.returns-in_err-octets-clause-part
+returns-in_err-octets-clause-part g c = λ world h r honest.
+    on-err c.from_residual-in_err-octets.result
+    (piece-part c.args.config.now world c.args.number c.args.piece.now c.args.slots.now.items c.take_piece.new.slots.items c.in-Some.index c.index.result.now
+    (option_copied c.in_ok-institution.institution) (option_copied c.as_ref-home.result) c.in_ok-institution.taken
+    (g.T.Tables.rows c.args.tables.now) (g.T.Tables.rows c.answer_taken.new.tables) h
+    (ap (position (numbered c.args.number)) (sym c.deref.ensures.value) ∙ sym c.index_of.ensures ∙ c.in-Some.is)
+    (λ x e. c.in_ok-institution.ensures.took c.args.number world x h
+    (ap (position (numbered c.args.number)) (sym c.deref.ensures.value) ∙ sym c.index_of.ensures ∙ c.in-Some.is) e)
+    (c.as_ref-home.ensures.value ∙ ap (λ (s : Slot). s.home) c.index.ensures) r (c.in_err-octets.ensures.stops honest))
+
+pub returns-in_err-octets-clause-quiet : goal.returns-in_err-octets-clause-quiet
+returns-in_err-octets-clause-quiet g c = λ connections h k.
+    absurd (not-quiet c.args.config.now c.args.number c.args.piece.now c.args.slots.now.items connections c.in-Some.index h
+    (ap (position (numbered c.args.number)) (sym c.deref.ensures.value) ∙ sym c.index_of.ensures ∙ c.in-Some.is) c.if-is_empty.ensures k)
+
+pub remove_at-requires : goal.remove_at-requires
+remove_at-requires g c =
+    let within = found-within c.args.number c.args.slots.now.items c.in-Some.index
+    (ap (position (numbered c.args.number)) (sym c.deref.ensures.value) ∙ sym c.index_of.ensures ∙ c.in-Some.is) in
+    omega (arith, within, c.take_piece.ensures.len)
 
 pub returns-clause-turned : goal.returns-clause-turned
-returns-clause-turned c = λ held h.
-    let number = c.args.number in
-    let index = c.in-Some.index in
-    let found = found-slot number c.args.slots.now.items held index h.slots_are (ap (position (has_number number)) (sym c.deref.ensures.value) ∙ sym c.index_of.ensures ∙ c.in-Some.is) in
-    let stream = found.0 in
-    let slot_is = c.index_mut.ensures.value ∙ ap (λ slots. get_or slots index c.index_mut.result.now) h.slots_are ∙ found.1.slot c.index_mut.result.now in
-    let is_held = found.1.is_held h.each in
-    let told = piece_answer c.args.config.now stream c.args.piece.now in
-    let tells =
-    subst (λ octets. Tells told [] octets c.in_ok-close.close) (sym c.from_inner.ensures)
-    (subst (λ before. Tells told before c.answer.new.out.items c.in_ok-close.close) c.new-octets.ensures.items (c.in_ok-close.ensures.tells (at number stream) slot_is is_held)) in
-    let stands = c.in_ok-close.ensures.stands (at number stream) slot_is is_held in
-    let turned = piece-found c.args.config.now number c.args.piece.now c.args.slots.now.items c.if-close.slots.items held index stream c.from_inner.result c.in_ok-close.close c.answer.new.self h found.1 tells stands in
+returns-clause-turned g c = λ world h r honest.
+    let at = ap (position (numbered c.args.number)) (sym c.deref.ensures.value) ∙ sym c.index_of.ensures ∙ c.in-Some.is in
+    let held = c.take_piece.new.slots.items in
+    let slots = c.if-close.slots.items in
+    let t = c.in_ok-institution.taken in
+    let told = piece-taken c.args.config.now world c.args.number c.args.piece.now c.args.slots.now.items held slots c.in-Some.index
+    c.index.result.now (option_copied c.in_ok-institution.institution) (option_copied c.as_ref-home.result) t
+    (g.T.Tables.rows c.args.tables.now) (g.T.Tables.rows c.answer_taken.new.tables) c.in_ok-octets.octets.items c.octets_reply-2.result h at
+    (λ x e. c.in_ok-institution.ensures.took c.args.number world x h at e)
+    (c.as_ref-home.ensures.value ∙ ap (λ (s : Slot). s.home) c.index.ensures) r (c.in_ok-octets.ensures.does honest) in
     elim c.if-close.branch [
-      | then-close w ↦ turned (λ e. ap (λ (slots : Vec Slot Global). slots.items) w.slots-is ∙ w.remove_at.ensures) (λ e. absurd (false≢true (sym e ∙ w.if-close.true)))
-      | else-close w ↦ turned (λ e. absurd (false≢true (sym w.if-close.false ∙ e))) (λ e. ap (λ (slots : Vec Slot Global). slots.items) w.slots-is)
+      | then-close w ↦ told
+          (λ e. ap (λ (ss : Vec Slot Global). ss.items) w.slots-is ∙ w.remove_at.ensures)
+          (λ e. absurd (false≢true (sym e ∙ w.if-close.true))) c.octets_reply-2.ensures
+      | else-close w ↦ told
+          (λ e. absurd (false≢true (sym w.if-close.false ∙ e)))
+          (λ e. ap (λ (ss : Vec Slot Global). ss.items) w.slots-is) c.octets_reply-2.ensures
     ]

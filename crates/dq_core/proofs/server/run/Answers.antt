@@ -1,16 +1,72 @@
-use Rattle.std.proofs.Common.{length, ◌∙◌}
-use Rattle.dq_core.proofs.Running.{opens-next, ran-next, ran-short}
+use Rattle.std.proofs.Common.{◌≡◌, None, length, sym, ap, ◌∙◌, subst}
+use Rattle.std.specs.Prelude.{Contains}
+use Rattle.dq_config.specs.declared.config.Institution.{Institution}
+use Rattle.dq_tables.specs.Rows.{of}
+use Rattle.dq_core.specs.Shared.{replies, world_after}
+use Rattle.dq_core.specs.Own.{is_own, replies_at}
+use Rattle.dq_core.specs.Isolation.{Begins}
+use Rattle.dq_core.specs.Runs.{IsRun}
+use Rattle.dq_core.proofs.Running.{run-out, rows-out, all-replies, without-fault}
+use Rattle.dq_core.proofs.server.run.Given.{Over}
 use Rattle.dq_core.proofs.server.run.Goals as goal
 
-pub answer_into-requires : goal.answer_into-requires
-answer_into-requires c =
-    opens-next c.args.config c.loop-event.server c.loop-event.replies.items c.args.events.items c.loop-event.yielded c.loop-event.event-iterator.rest.items c.next.new.self.rest.items c.in-Some.event c.loop-event.invariant c.in-Some.ensures.steps.0 c.requires
+ran : (g : Over) (c : goal.After-into_tables g) → g.T.Tables.honest c.into_tables.result
+    → IsRun c.args.config (g.T.Tables.rows c.args.tables) c.args.events.items c.from_inner.result (g.T.Tables.rows c.into_tables.result)
+ran g c h =
+    run-out g.T.Tables.rows g.T.Tables.honest c.in_ok-server.server c.answer_all.new.server c.args.config c.args.tables c.into_tables.result
+    c.args.events.items c.answer_all.new.given.items c.from_inner.result c.in_ok-server.ensures.institutions c.into_tables.ensures c.from_inner.ensures
+    c.answer_all.ensures.ran c.in_ok-server.ensures.stands h
 
-pub returns-in-Err-clause-replies : goal.returns-in-Err-clause-replies
-returns-in-Err-clause-replies c =
-    let short = ran-short c.args.config c.loop-event.server c.loop-event.replies.items c.args.events.items c.loop-event.yielded c.loop-event.event-iterator.rest.items c.next.new.self.rest.items c.in-Some.event c.loop-event.invariant c.in-Some.ensures.steps.0 in
-    (c.in-Err.ensures.fault c.loop-event.invariant.stands.unspent, length c.loop-event.yielded, short.0, c.from_inner.ensures ∙ c.in-Err.ensures.err ∙ short.1)
+all : (g : Over) (c : goal.After-into_tables g) → g.T.Tables.honest c.into_tables.result → c.err-fault.result ≡ None
+    → c.from_inner.result ≡ replies c.args.config (g.T.Tables.rows c.args.tables) c.args.events.items
+all g c h n =
+    all-replies c.args.config (g.T.Tables.rows c.args.tables) c.args.events.items c.from_inner.result (g.T.Tables.rows c.into_tables.result) (ran g c h)
+    (ap length c.from_inner.ensures ∙ without-fault _ c.answer_all.result c.err-fault.result c.err-fault.ensures.value n c.answer_all.ensures.count)
 
-pub loop-event-preserved : goal.loop-event-preserved
-loop-event-preserved c =
-    ran-next c.args.config c.loop-event.server c.answer_into.new.self c.loop-event.replies.items c.answer_into.new.replies.items c.args.events.items c.loop-event.yielded c.loop-event.event-iterator.rest.items c.next.new.self.rest.items c.in-Some.event c.loop-event.invariant c.in-Some.ensures.steps.0 c.in_default.ensures.stands c.in_default.ensures.replies c.answer_into.ensures.institutions
+kept : (g : Over) (c : goal.After-into_tables g) → g.T.Tables.honest c.into_tables.result → c.err-fault.result ≡ None
+    → g.T.Tables.rows c.into_tables.result ≡ (world_after c.args.config (g.T.Tables.rows c.args.tables) c.args.events.items).rows
+kept g c h n =
+    rows-out g.T.Tables.rows c.in_ok-server.server c.answer_all.new.server c.args.config (g.T.Tables.rows c.args.tables) c.into_tables.result
+    c.args.events.items c.in_ok-server.ensures.institutions c.answer_all.ensures.institutions c.into_tables.ensures
+    (without-fault _ c.answer_all.result c.err-fault.result c.err-fault.ensures.value n
+    (c.answer_all.ensures.whole (g.T.Tables.rows c.args.tables) c.in_ok-server.ensures.stands
+    (subst g.T.Tables.honest c.into_tables.ensures h)))
+
+begins : (g : Over) (c : goal.After-into_tables g) → g.T.Tables.honest c.into_tables.result → (i : Institution) → Contains c.args.config i
+    → Begins c.args.config (g.T.Tables.rows c.args.tables) c.args.events.items i
+begins g c h i k = record {
+  own_names = c.institutions_have_own_names.ensures c.args.config c.is_sound.ensures;
+  listed = k;
+  rising = (g.met.T.Tables.sound c.args.tables (subst g.T.Tables.honest c.in_ok-server.ensures.tables
+      (c.answer_all.ensures.goes.was_honest (subst g.T.Tables.honest c.into_tables.ensures h)))).rising;
+  well_formed = c.requires.formed;
+}
+
+pub returns-clause-replies : goal.returns-clause-replies
+returns-clause-replies g c = all g c
+
+pub returns-clause-rows : goal.returns-clause-rows
+returns-clause-rows g c = kept g c
+
+pub returns-clause-ran : goal.returns-clause-ran
+returns-clause-ran g c = ran g c
+
+pub returns-clause-own : goal.returns-clause-own
+returns-clause-own g c = λ h i k.
+    c.runs_are_isolated.ensures.own c.args.config (g.T.Tables.rows c.args.tables) c.args.events.items c.from_inner.result
+    (g.T.Tables.rows c.into_tables.result) (ran g c h) i (begins g c h i k)
+
+pub returns-clause-own_replies : goal.returns-clause-own_replies
+returns-clause-own_replies g c = λ h n i k.
+    ap (replies_at (is_own c.args.config i.name c.args.events.items) c.args.events.items) (all g c h n)
+    ∙ c.institutions_are_isolated.ensures.replies c.args.config (g.T.Tables.rows c.args.tables) c.args.events.items i (begins g c h i k)
+
+pub returns-clause-own_records : goal.returns-clause-own_records
+returns-clause-own_records g c = λ h n i k.
+    ap (of i.name) (kept g c h n)
+    ∙ c.institutions_are_isolated.ensures.records c.args.config (g.T.Tables.rows c.args.tables) c.args.events.items i (begins g c h i k)
+
+pub returns-clause-strangers : goal.returns-clause-strangers
+returns-clause-strangers g c = λ h number none.
+    c.runs_are_isolated.ensures.strangers c.args.config (g.T.Tables.rows c.args.tables) c.args.events.items c.from_inner.result
+    (g.T.Tables.rows c.into_tables.result) (ran g c h) number none c.requires.formed

@@ -1,10 +1,22 @@
-use Rattle.dq_core.proofs.Standings.{Tells-request, StandsAt-request}
+use Rattle.std.proofs.Common.{◌∷◌, [], sym, ap, ◌∙◌}
+use Rattle.std.specs.Option.{option_copied}
+use Rattle.dq_pdu.specs.declared.pdu.Pdu.TheVariants as pdu
+use Rattle.dq_assoc.specs.declared.association.Step.{Step}
+use Rattle.dq_core.specs.Slots.{home_of}
+use Rattle.dq_core.proofs.Taking.{accepted-owned}
 use Rattle.dq_core.proofs.slot.Slot.accept.Goals as goal
 
-pub returns-clause-tells : goal.returns-clause-tells
-returns-clause-tells c =
-    Tells-request c.args.config.now c.args.request c.verdict-verdict.result c.in_ok-step.step c.args.out.now.items c.append.new.out.items c.verdict-verdict.ensures c.in_ok-step.ensures.step c.in_ok-append.ensures
-
 pub returns-clause-stands : goal.returns-clause-stands
-returns-clause-stands c =
-    StandsAt-request c.args.request c.verdict-verdict.result c.in_ok-step.step _ c.in_ok-step.ensures.step c.in_ok-step.ensures.stands c.of-self.ensures
+returns-clause-stands c = λ before stands e.
+    let owner = option_copied c.args.institution in
+    let opens = c.if-answer.false in
+    let taken = c.in_ok-step.ensures.after (pdu.Request c.args.request ∷ []) (c.in_ok-answer.ensures.after opens) e in
+    let line_is = sym (ap (λ (s : Step). s.close) c.in_ok-answer.ensures.step) ∙ opens in (
+      taken.0,
+      record {
+        association = taken.1;
+        not_closed = sym c.in_ok-step.ensures.close ∙ e;
+        home = c.in_ok-self.ensures ∙ ap (home_of owner) (c.agreement.ensures ∙ sym (c.in_ok-step.ensures.agreement e));
+        owned = λ agreement is. accepted-owned owner c.args.verdict c.args.request stands line_is;
+      },
+    )

@@ -1,0 +1,50 @@
+-- Runs that a fault may have ended.
+use Rattle.std.proofs.Common.{◌≡◌, ℕ, List, length, take, None, ◌⊎◌, IsTrue, sym, ap, ◌∙◌, subst}
+use Rattle.std.specs.Prelude.{filter}
+use Rattle.dq_config.specs.declared.config.Institution.{Institution}
+use Rattle.dq_tables.specs.declared.row.Row.{Row}
+use Rattle.dq_tables.specs.Rows.{of}
+use Rattle.dq_core.specs.declared.event.Event.{Event}
+use Rattle.dq_core.specs.declared.event.Reply.{Reply}
+use Rattle.dq_core.specs.Owners.{owner}
+use Rattle.dq_core.specs.Shared.{replies}
+use Rattle.dq_core.specs.Own.{is_own, is_on_connection, stream_of, replies_at}
+use Rattle.dq_core.specs.Histories.{is_well_formed}
+use Rattle.dq_core.specs.Isolation.{stranger_replies, Begins, Agree, IsPrefix}
+use Rattle.dq_core.specs.Runs.{IsRun, IsOwnRun}
+use Rattle.dq_core.proofs.Streams.{AddsInputs}
+use Rattle.dq_core.proofs.Isolating.{Lenses}
+use Rattle.dq_core.proofs.Promise.{isolated-among, isolated-within, agreeing-fronts}
+use Rattle.dq_core.proofs.Strangers.{strange-among}
+
+pub own-run : AddsInputs → Lenses → (institutions : List Institution) (rows : List Row) (events : List Event) (given : List Reply) (kept : List Row)
+    → IsRun institutions rows events given kept → (i : Institution) → Begins institutions rows events i → IsOwnRun institutions rows events i given kept
+own-run adds lenses institutions rows events given kept run i b = record {
+  same_replies = ap (replies_at (is_own institutions i.name events) events) run.first_replies
+      ∙ isolated-among adds lenses institutions rows events i (length given) b;
+  changes = run.operations;
+  same_records = ap (of i.name) run.rows_then ∙ isolated-within adds lenses institutions rows events i (length given) run.operations b;
+}
+
+pub strange-run : AddsInputs → (institutions : List Institution) (rows : List Row) (events : List Event) (given : List Reply) (kept : List Row)
+    → IsRun institutions rows events given kept → (number : ℕ) → owner institutions (stream_of number events) ≡ None → IsTrue (is_well_formed events)
+    → replies_at (is_on_connection number) events given ≡ stranger_replies (filter (is_on_connection number) (take (length given) events))
+strange-run adds institutions rows events given kept run number none w =
+    ap (replies_at (is_on_connection number) events) run.first_replies ∙ strange-among adds institutions rows events number (length given) none w
+
+pub agreeing-runs : AddsInputs → Lenses → (institutions others : List Institution) (rows other_rows : List Row) (events other_events : List Event) (i j :
+    Institution)
+    → (given other_given : List Reply) (kept other_kept : List Row) → IsRun institutions rows events given kept
+    → IsRun others other_rows other_events other_given other_kept
+    → Begins institutions rows events i → Begins others other_rows other_events j → Agree institutions others rows other_rows events other_events i j
+    → let some = replies_at (is_own institutions i.name events) events given in
+    let more = replies_at (is_own others j.name other_events) other_events other_given in
+    IsPrefix some more ⊎ IsPrefix more some
+agreeing-runs adds lenses institutions others rows other_rows events other_events i j given other_given kept other_kept run other b c agree =
+    let at : List Reply → List Reply = replies_at (is_own institutions i.name events) events in
+    let other_at : List Reply → List Reply = replies_at (is_own others j.name other_events) other_events in
+    let fronts = agreeing-fronts adds lenses institutions others rows other_rows events other_events i j (length given) (length other_given) b c agree in
+    subst (λ (x : List Reply). IsPrefix x (other_at other_given) ⊎ IsPrefix (other_at other_given) x) (sym (ap at run.first_replies))
+    (subst (λ (y : List Reply). IsPrefix (at (take (length given) (replies institutions rows events))) y ⊎ IsPrefix y (at (take (length given)
+    (replies institutions rows events))))
+    (sym (ap other_at other.first_replies)) fronts)

@@ -1,0 +1,5 @@
+use Rattle.dq_core.proofs.Rising.{well_formed_increasing}
+use Rattle.dq_core.proofs.laws.opened_numbers_rise.Goals as goal
+
+pub returns : goal.returns
+returns c = well_formed_increasing

@@ -1,0 +1,18 @@
+use Rattle.std.proofs.Common.{ℕ, ◌<◌, List, length, inl, refl, sym, ap, ◌∙◌, arith}
+use Rattle.std.proofs.lemmas.Bool.Decides.{nat_tests}
+use Rattle.dq_core.proofs.Taking.{misplaced, no_two}
+use Rattle.dq_core.proofs.slot.Slot.begin.Goals as goal
+
+pub returns-in_ok-take-in_default : goal.returns-in_ok-take-in_default
+returns-in_ok-take-in_default c =
+    let some : 0 < length c.args.pdus.items = grind (arith, nat_tests) in
+    let step = c.in_ok-take-in_default.field-0 in
+    let m = misplaced c.args.verdict c.args.self.now.association c.args.pdus.items c.remove.result c.args.fault step c.requires some
+    c.remove.ensures.value c.in_default.not-Request
+    c.in_ok-take-in_default.ensures.step in
+    record {
+      taken = ap (λ (octets : List ℕ). record { opening = octets; step = step }) c.empty-in_default.ensures ∙ sym m.taken_is;
+      home = λ s. inl m.messages_are;
+      stands = λ s n e. absurd (no_two _ m.closes e);
+      keeps = (refl, refl);
+    }

@@ -1,0 +1,50 @@
+-- What it is that one institution's replies and records do not depend on the others.
+use Rattle.std.specs.Prelude.{◌≡◌, ℕ, IsTrue, List, [], ◌++◌, filter, take, Contains}
+use Rattle.dq_config.specs.declared.config.Institution.{Institution}
+use Rattle.dq_core.specs.declared.event.Event.{Event}
+use Rattle.dq_core.specs.declared.event.Reply.{Reply}
+use Rattle.dq_tables.specs.declared.row.Row.{Row}
+use Rattle.dq_config.specs.Limits.{limits_of}
+use Rattle.dq_tables.specs.Rows.{of, IsRising}
+use Rattle.dq_core.specs.Owners.{HaveOwnNames}
+use Rattle.dq_core.specs.Histories.{is_well_formed}
+use Rattle.dq_core.specs.Shared.{replies}
+use Rattle.dq_core.specs.Alone.{alone_replies}
+use Rattle.dq_core.specs.Own.{is_own, own}
+
+-- the own events of an institution among the first that were answered
+abbrev pub own_among : List Institution → List ℕ → List Event → ℕ → List Event
+own_among institutions name events answered =
+    filter (is_own institutions name events) (take answered events)
+
+-- the replies of the institution's server alone to these
+abbrev pub own_replies : List Institution → List Row → List Event → Institution → ℕ → List Reply
+own_replies institutions rows events i answered =
+    alone_replies (limits_of i) (of i.name rows) (own_among institutions i.name events answered)
+
+-- The replies of one that nobody owns: those of a server without institutions.
+abbrev pub stranger_replies : List Event → List Reply
+stranger_replies events = replies [] [] events
+
+-- A history of a configuration that has the institution, over rows in their order: no two
+-- institutions have one name, and opened numbers rise.
+pub record Begins (institutions : List Institution) (rows : List Row) (events : List Event)
+    (i : Institution) : Type 0 where
+  pub own_names : HaveOwnNames institutions
+  pub listed : Contains institutions i
+  pub rising : IsRising rows
+  pub well_formed : IsTrue (is_well_formed events)
+
+-- Two histories agree for an institution that both configurations have: the limits are the same,
+-- the records as the histories begin, and the own events. Nothing is asked of the routes, which
+-- tell whose an event is and no more, and nothing of any other institution.
+pub record Agree (institutions others : List Institution) (rows other_rows : List Row)
+    (events other_events : List Event) (i j : Institution) : Type 0 where
+  pub name : i.name ≡ j.name
+  pub limits : limits_of i ≡ limits_of j
+  pub records : of i.name rows ≡ of j.name other_rows
+  pub own_events : own institutions i.name events ≡ own others j.name other_events
+
+-- the first of the others
+abbrev pub IsPrefix : List Reply → List Reply → Type 0
+IsPrefix first whole = (later : List Reply) × (first ++ later ≡ whole)

@@ -1,0 +1,56 @@
+-- An institution's own events in a history, and the replies at them.
+use Rattle.std.specs.Prelude.{ℕ, Bool, false, ◌==◌, if◌then◌else◌, List, [], ◌∷◌, ◌++◌, filter}
+use Rattle.std.specs.Str.{bytes_eq}
+use Rattle.dq_config.specs.declared.config.Institution.{Institution}
+use Rattle.dq_core.specs.declared.event.Event.{Event}
+use Rattle.dq_core.specs.declared.event.Event.TheVariants.{Open, Piece, End, Schedule, Withdraw}
+use Rattle.dq_core.specs.declared.event.Reply.{Reply}
+use Rattle.dq_core.specs.Owners.{owner, is_of}
+
+-- the octets of the pieces on a connection before its end
+abbrev pub pieces_of : ℕ → List Event → List ℕ
+pieces_of number [] = []
+pieces_of number (Piece n piece ∷ events) =
+    if number == n then piece ++ pieces_of number events else pieces_of number events
+pieces_of number (End n ∷ events) = if number == n then [] else pieces_of number events
+pieces_of number (event ∷ events) = pieces_of number events
+
+-- the stream of a connection: the octets of its pieces after its opening and before its end
+abbrev pub stream_of : ℕ → List Event → List ℕ
+stream_of number [] = []
+stream_of number (Open n ∷ events) =
+    if number == n then pieces_of number events else stream_of number events
+stream_of number (event ∷ events) = stream_of number events
+
+-- whether the institution with a name owns a connection in a history
+abbrev pub owns : List Institution → List ℕ → List Event → ℕ → Bool
+owns institutions name events number = is_of name (owner institutions (stream_of number events))
+
+-- whether an event is on a connection whose number passes a test, or of the console for an
+-- institution whose name passes one
+abbrev pub is_on : (ℕ → Bool) → (List ℕ → Bool) → Event → Bool
+is_on numbers names (Open number) = numbers number
+is_on numbers names (Piece number piece) = numbers number
+is_on numbers names (End number) = numbers number
+is_on numbers names (Schedule inst octets) = names inst
+is_on numbers names (Withdraw inst id) = names inst
+
+-- An institution's own events in a history: those on the connections that it owns in this history,
+-- and the console's that name it.
+abbrev pub is_own : List Institution → List ℕ → List Event → Event → Bool
+is_own institutions name events =
+    is_on (owns institutions name events) (λ (inst : List ℕ). bytes_eq inst name)
+
+abbrev pub own : List Institution → List ℕ → List Event → List Event
+own institutions name events = filter (is_own institutions name events) events
+
+-- the events on one connection
+abbrev pub is_on_connection : ℕ → Event → Bool
+is_on_connection number = is_on (λ (n : ℕ). n == number) (λ (inst : List ℕ). false)
+
+-- the replies at the events that pass a test; there may be fewer replies than events
+abbrev pub replies_at : (Event → Bool) → List Event → List Reply → List Reply
+replies_at mine [] replies = []
+replies_at mine (event ∷ events) [] = []
+replies_at mine (event ∷ events) (reply ∷ replies) =
+    if mine event then reply ∷ replies_at mine events replies else replies_at mine events replies

@@ -1,0 +1,137 @@
+-- The plain server that institutions share: one reply for each event, read off the whole stream of
+-- the event's connection and off the rows. It remembers no states, no rests and no buffers.
+use Rattle.std.specs.Prelude.{ℕ, List, [], ◌∷◌, ◌++◌, map, take, drop, Option, Some, None}
+use Rattle.dq_config.specs.declared.config.Institution.{Institution}
+use Rattle.dq_core.specs.declared.event.Event.{Event}
+use Rattle.dq_core.specs.declared.event.Event.TheVariants as event
+use Rattle.dq_core.specs.declared.event.Reply.{Reply}
+use Rattle.dq_core.specs.declared.event.Reply.TheVariants as reply
+use Rattle.dq_tables.specs.declared.row.Row.{Row}
+use Rattle.dq_config.specs.Limits.{limits_of}
+use Rattle.dq_config.specs.Routing.{named}
+use Rattle.dq_tables.specs.Rows.{Edit, Operation, by, of, after_all}
+use Rattle.dq_core.specs.Services.{Order, Scheduling, Withdrawal, Ordered, ordered, order_reply}
+use Rattle.dq_core.specs.Answers.{Answer, piece_answer, stranger_answer, progress_of, inputs_added, verdict_at}
+use Rattle.dq_core.specs.Connections.{Connection, new_connection, connection_in, without, after_piece}
+use Rattle.dq_core.specs.Owners.{owner, live_of}
+
+-- between two events: the connections that are held, and the rows of all institutions
+pub record World : Type 0 where
+  pub connections : List Connection
+  pub rows : List Row
+
+-- What an event does: its reply, its operations on the rows, in order, and the connections that are
+-- held afterwards.
+pub record Turn : Type 0 where
+  pub reply : Reply
+  pub operations : List Operation
+  pub connections : List Connection
+
+-- a turn without operations
+abbrev pub quiet_turn : Reply → List Connection → Turn
+quiet_turn r connections = record { reply = r; operations = []; connections = connections }
+
+-- A piece is answered by the owner of the stream with the piece, from its own records, its own
+-- limits and the count of its own associations.
+abbrev pub answer_by : Option Institution → List Institution → World → Connection → List ℕ → Answer
+answer_by None institutions world c piece =
+    stranger_answer (progress_of c.stream []) (inputs_added c.stream piece)
+answer_by (Some i) institutions world c piece =
+    let verdict = verdict_at i.associations (live_of institutions i.name world.connections) in
+    piece_answer (limits_of i) verdict (of i.name world.rows) c.stream piece
+
+-- changes of the owner's records as operations on the rows
+abbrev pub operations_by : Option Institution → List (List Edit) → List Operation
+operations_by None changes = []
+operations_by (Some i) changes = map (by i.name) changes
+
+abbrev pub answer_turn : Option Institution → World → Connection → List ℕ → Answer → Turn
+answer_turn owner world c piece answer = record {
+  reply = reply.Octets c.number answer.octets answer.close;
+  operations = operations_by owner answer.changes;
+  connections = after_piece c piece answer world.connections;
+}
+
+abbrev pub owner_turn : Option Institution → List Institution → World → Connection → List ℕ → Turn
+owner_turn owner institutions world c piece =
+    answer_turn owner world c piece (answer_by owner institutions world c piece)
+
+abbrev pub piece_turn : List Institution → World → List ℕ → Option Connection → Turn
+piece_turn institutions world piece None = quiet_turn reply.Ignored world.connections
+piece_turn institutions world piece (Some c) =
+    owner_turn (owner institutions (c.stream ++ piece)) institutions world c piece
+
+abbrev pub end_turn : World → Option Connection → Turn
+end_turn world None = quiet_turn reply.Ignored world.connections
+end_turn world (Some c) = quiet_turn reply.Done (without c.number world.connections)
+
+-- the refusal of an order for an institution that is not configured
+abbrev pub no_such_institution : ℕ
+no_such_institution = 6
+
+abbrev pub ordered_turn : Institution → World → Ordered → Turn
+ordered_turn i world o = record {
+  reply = order_reply o.refusal;
+  operations = by i.name o.edits ∷ [];
+  connections = world.connections;
+}
+
+-- an order of the console for the institution that it names
+abbrev pub order_turn : World → Order → Option Institution → Turn
+order_turn world order None = quiet_turn (reply.Refused no_such_institution) world.connections
+order_turn world order (Some i) =
+    ordered_turn i world (ordered (limits_of i) (of i.name world.rows) order)
+
+-- one event
+abbrev pub turn : List Institution → World → Event → Turn
+turn institutions world (event.Open number) =
+    quiet_turn reply.Done (world.connections ++ new_connection number ∷ [])
+turn institutions world (event.Piece number piece) =
+    piece_turn institutions world piece (connection_in number world.connections)
+turn institutions world (event.End number) =
+    end_turn world (connection_in number world.connections)
+turn institutions world (event.Schedule inst octets) =
+    order_turn world (Scheduling octets) (named institutions inst)
+turn institutions world (event.Withdraw inst id) =
+    order_turn world (Withdrawal id) (named institutions inst)
+
+abbrev pub world_after_turn : World → Turn → World
+world_after_turn world t =
+    record { connections = t.connections; rows = after_all t.operations world.rows }
+
+-- the replies to events, one for each, from a world on
+abbrev pub replies_from : List Institution → World → List Event → List Reply
+replies_from institutions world [] = []
+replies_from institutions world (e ∷ events) =
+    let t = turn institutions world e in
+    t.reply ∷ replies_from institutions (world_after_turn world t) events
+
+-- the world after events
+abbrev pub world_from : List Institution → World → List Event → World
+world_from institutions world [] = world
+world_from institutions world (e ∷ events) =
+    world_from institutions (world_after_turn world (turn institutions world e)) events
+
+-- no connection is held at first
+abbrev pub opening : List Row → World
+opening rows = record { connections = []; rows = rows }
+
+-- the replies to a history, over the rows that are there as it begins
+abbrev pub replies : List Institution → List Row → List Event → List Reply
+replies institutions rows events = replies_from institutions (opening rows) events
+
+-- what is held and kept after it
+abbrev pub world_after : List Institution → List Row → List Event → World
+world_after institutions rows events = world_from institutions (opening rows) events
+
+-- the operations of the next event
+abbrev pub operations_next : List Institution → World → List Event → List Operation
+operations_next institutions world [] = []
+operations_next institutions world (e ∷ events) = (turn institutions world e).operations
+
+-- the rows after the first events of a history, and the first operations of the next
+abbrev pub rows_within : List Institution → List Row → List Event → ℕ → ℕ → List Row
+rows_within institutions rows events answered operations =
+    let world = world_after institutions rows (take answered events) in
+    let next = operations_next institutions world (drop answered events) in
+    after_all (take operations next) world.rows

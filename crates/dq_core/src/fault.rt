@@ -1,0 +1,47 @@
+//! Why the server stopped.
+ghost use Rattle.std.specs.Prelude.{◌≡◌};
+ghost use Rattle.dq_core.specs.declared.fault.Fault.TheVariants.{NoMemory};
+ghost use Rattle.dq_core.specs.Doing.{fault_of};
+
+use dq_tables::TableFault;
+use std::alloc::{AllocError, AllocFailed};
+use thiserror::Error;
+
+/// Why the server stopped.
+#[derive(Clone, Copy, Debug, PartialEq, Eq, Error)]
+pub enum Fault {
+    #[error("memory ran out")]
+    NoMemory = 1,
+    /// What keeps the rows failed.
+    #[error("the store failed")]
+    Store = 2,
+    #[error("the server stopped before")]
+    Stopped = 3,
+}
+
+impl From<AllocError> for Fault {
+    ghost from_gives = { λ _ e. e ≡ NoMemory };
+
+    fn from(_e: AllocError) -> Fault {
+        Fault::NoMemory
+    }
+}
+
+impl<T: Drop> From<AllocFailed<T>> for Fault {
+    ghost from_gives = { λ _ e. e ≡ NoMemory };
+
+    fn from(_e: AllocFailed<T>) -> Fault {
+        Fault::NoMemory
+    }
+}
+
+impl From<TableFault> for Fault {
+    ghost from_gives = { λ e f. f ≡ fault_of e };
+
+    fn from(e: TableFault) -> Fault {
+        match e {
+            TableFault::NoMemory => Fault::NoMemory,
+            TableFault::Store => Fault::Store,
+        }
+    }
+}
