@@ -2,4 +2,9 @@ pub mod Numbers
 pub mod Lines
 pub mod OneSpelling
 pub mod Steps
-pub mod Stops
+pub mod Written
+pub mod Inputs
+pub mod Cutting
+pub mod CommandLine
+pub mod Asking
+pub mod Ends

@@ -4,7 +4,7 @@ use Rattle.std.proofs.lemmas.Fmt.{decimal_injective}
 use Rattle.hex.proofs.HexLemmas.{decode_of-odd, decode_of-same}
 use Rattle.hex.specs.Hex.{decode_of}
 use Rattle.dq_core.specs.declared.event.Event.{Event}
-use Rattle.dq_core.specs.declared.event.Event.TheVariants.{Open, Piece, End}
+use Rattle.dq_core.specs.declared.event.Event.TheVariants.{Open, Piece, End, Schedule, Withdraw}
 use Rattle.dq_server.specs.Captures.{IsNumber, AreOctets, SpellsPiece, Spells, SpellEach}
 use Rattle.dq_server.proofs.Numbers.{IsNumber-spaceless}
 use Rattle.dq_server.proofs.Lines.{other_word}
@@ -55,6 +55,14 @@ same_event line (End m) (Open n) first second = absurd (other_word 101 111 _ _ (
 same_event line (End m) (Piece n ys) first second = absurd (other_word 101 112 _ _ (omega arith) (sym first.1 ∙ second.1))
 same_event line (End m) (End n) first second =
     ap End (same_number first.0 m n first.2 (rw (ap (drop 4) (sym first.1 ∙ second.1)) second.2))
+same_event line (Open m) (Schedule inst octets) first second = absurd second
+same_event line (Open m) (Withdraw inst id) first second = absurd second
+same_event line (Piece m xs) (Schedule inst octets) first second = absurd second
+same_event line (Piece m xs) (Withdraw inst id) first second = absurd second
+same_event line (End m) (Schedule inst octets) first second = absurd second
+same_event line (End m) (Withdraw inst id) first second = absurd second
+same_event line (Schedule inst octets) f first second = absurd first
+same_event line (Withdraw inst id) f first second = absurd first
 
 pub same_events : (lines : List (List ℕ)) (es fs : List Event) → SpellEach lines es → SpellEach lines fs → es ≡ fs
 same_events [] [] [] first second = refl

@@ -1,10 +1,11 @@
 -- Captures: the text of a history, an event a line.
-use Rattle.std.specs.Prelude.{◌≡◌, ℕ, ◌-◌, ◌^◌, ◌<◌, ◌≤◌, ◌⊎◌, ◌==◌, Bool, true, not, IsTrue, List, [], ◌∷◌, ◌++◌, length, take, filter, codes, Ok}
+use Rattle.std.specs.Prelude.{◌≡◌, ℕ, ◌-◌, ◌^◌, ◌<◌, ◌≤◌, ◌⊎◌, ◌==◌, Bool, true, not, IsTrue, codes}
+use Rattle.std.specs.Prelude.{List, [], ◌∷◌, ◌++◌, length, take, filter, Ok}
 use Rattle.std.specs.Fmt.{decimal}
 use Rattle.std.specs.List.{slice_split}
 use Rattle.hex.specs.Hex.{decode_of}
 use Rattle.dq_core.specs.declared.event.Event.{Event}
-use Rattle.dq_core.specs.declared.event.Event.TheVariants.{Open, Piece, End}
+use Rattle.dq_core.specs.declared.event.Event.TheVariants.{Open, Piece, End, Schedule, Withdraw}
 use Rattle.dq_core.specs.Histories.{is_well_formed}
 
 abbrev pub line_feed : ℕ
@@ -31,19 +32,29 @@ IsNumber text number = (number < 2 ^ 64) × (text ≡ decimal number)
 
 -- octets: a hyphen for none, else two hexadecimal digits of either case for each
 abbrev pub AreOctets : List ℕ → List ℕ → Type 0
-AreOctets text octets = ((text ≡ codes "-") × (octets ≡ [])) ⊎ ((0 < length text) × (decode_of text ≡ Ok octets))
+AreOctets text octets = ((text ≡ codes "-") × (octets ≡ []))
+    ⊎ ((0 < length text) × (decode_of text ≡ Ok octets))
 
 -- a piece after its word: the number, a space, and the octets
 abbrev pub SpellsPiece : List ℕ → Event → Type 0
 SpellsPiece text (Open number) = ⊥
-SpellsPiece text (Piece number octets) = (digits : List ℕ) × (hex : List ℕ) × (text ≡ digits ++ codes " " ++ hex) × IsNumber digits number × AreOctets hex octets
+SpellsPiece text (Piece number octets) = (digits : List ℕ) × (hex : List ℕ)
+    × (text ≡ digits ++ codes " " ++ hex) × IsNumber digits number × AreOctets hex octets
 SpellsPiece text (End number) = ⊥
+SpellsPiece text (Schedule inst octets) = ⊥
+SpellsPiece text (Withdraw inst id) = ⊥
 
--- `open N`, `piece N HEX` and `end N`, with one space between
+-- `open N`, `piece N HEX` and `end N`, with one space between. No line spells an event of the
+-- console.
 abbrev pub Spells : List ℕ → Event → Type 0
-Spells line (Open number) = (digits : List ℕ) × (line ≡ codes "open " ++ digits) × IsNumber digits number
-Spells line (Piece number octets) = (rest : List ℕ) × (line ≡ codes "piece " ++ rest) × SpellsPiece rest (Piece number octets)
-Spells line (End number) = (digits : List ℕ) × (line ≡ codes "end " ++ digits) × IsNumber digits number
+Spells line (Open number) =
+    (digits : List ℕ) × (line ≡ codes "open " ++ digits) × IsNumber digits number
+Spells line (Piece number octets) =
+    (rest : List ℕ) × (line ≡ codes "piece " ++ rest) × SpellsPiece rest (Piece number octets)
+Spells line (End number) =
+    (digits : List ℕ) × (line ≡ codes "end " ++ digits) × IsNumber digits number
+Spells line (Schedule inst octets) = ⊥
+Spells line (Withdraw inst id) = ⊥
 
 -- each line spells its event
 abbrev pub SpellEach : List (List ℕ) → List Event → Type 0

@@ -1,44 +1,103 @@
--- What the program does with a capture.
-use Rattle.std.specs.Prelude.{◌≡◌, ◌≢◌, ℕ, zero, suc, ◌≤◌, ◌⊎◌, List, [], ◌∷◌, ◌++◌, length, take, codes, Option, IfSome, Result, Ok, Err}
+-- What the program does with its words, a configuration and a capture.
+use Rattle.std.specs.Prelude.{◌≡◌, ◌≢◌, ℕ, zero, suc, ◌<◌, ◌≤◌, ◌⊎◌, codes, IfSome}
+use Rattle.std.specs.Prelude.{List, [], ◌∷◌, ◌++◌, length, take, Option, None, Some, Ok, Err}
 use Rattle.std.specs.Fmt.{decimal}
-use Rattle.std.specs.List.{flat_map}
 use Rattle.std.specs.Str.{IsUtf8}
 use Rattle.std.specs.Io.KnownBytes.{Keeps, Appends}
-use Rattle.clap.specs.Words.{App, fault_of, new_app, with_subcommand}
+use Rattle.dq_config.specs.declared.config.Institution.{Institution}
+use Rattle.dq_config.specs.declared.fault.ConfigFault.{ConfigFault}
+use Rattle.dq_config.specs.declared.fault.ConfigFault.TheVariants as config
+use Rattle.dq_config.specs.Conditions.{configuration}
+use Rattle.dq_config.specs.Document.{built_in}
 use Rattle.dq_core.specs.declared.event.Event.{Event}
 use Rattle.dq_core.specs.declared.event.Reply.{Reply}
-use Rattle.dq_core.specs.declared.server.Fault.{Fault}
-use Rattle.dq_core.specs.declared.server.Fault.TheVariants as fault
-use Rattle.dq_core.specs.Plain.{replies}
-use Rattle.dq_core.specs.Routing.{built_in}
+use Rattle.dq_core.specs.declared.fault.Fault.{Fault}
+use Rattle.dq_core.specs.declared.fault.Fault.TheVariants as fault
+use Rattle.dq_core.specs.Shared.{replies}
 use Rattle.dq_server.specs.declared.capture.CaptureFault.{CaptureFault}
-use Rattle.dq_server.specs.declared.capture.CaptureFault.TheVariants.{Line, NoMemory}
+use Rattle.dq_server.specs.declared.capture.CaptureFault.TheVariants as capture
 use Rattle.dq_server.specs.declared.printing.PrintFault.{PrintFault}
 use Rattle.dq_server.specs.declared.printing.PrintFault.TheVariants as printing
-use Rattle.dq_server.specs.declared.program.Stop.{Stop}
-use Rattle.dq_server.specs.declared.program.Stop.TheVariants.{Capture, Fault as Stopped, Output}
+use Rattle.dq_server.specs.declared.surroundings.Unread.{Unread}
+use Rattle.dq_server.specs.declared.surroundings.Unread.TheVariants as unread
+use Rattle.dq_server.specs.declared.stop.Stop.{Stop}
+use Rattle.dq_server.specs.declared.stop.Stop.TheVariants as stop
 use Rattle.dq_server.specs.Captures.{line_feed, lines_of, AreCapture, IsFirstBadLine}
-use Rattle.dq_server.specs.Printing.{printed_line}
+use Rattle.dq_server.specs.Printing.{printed}
+use Rattle.dq_server.specs.Surroundings.{AppendsPart}
 
 -- the most octets that a capture may have
 abbrev pub capture_limit : ℕ
 capture_limit = 67108864
 
-abbrev pub no_memory : ℕ
-no_memory = 1
-
--- How faults stop the program.
-abbrev pub stop_of_capture : CaptureFault → Stop
-stop_of_capture (Line number) = Capture number
-stop_of_capture NoMemory = Stopped no_memory
+-- ---- numbers of faults, and what is told of them
 
 abbrev pub number_of_fault : Fault → ℕ
-number_of_fault fault.NoMemory = no_memory
+number_of_fault fault.NoMemory = 1
+number_of_fault fault.Store = 2
 number_of_fault fault.Stopped = 3
 
+abbrev pub no_memory : ℕ
+no_memory = number_of_fault fault.NoMemory
+
+abbrev pub number_of_config : ConfigFault → ℕ
+number_of_config config.Syntax = 1
+number_of_config config.BadName = 2
+number_of_config config.BadTitle = 3
+number_of_config config.NameTaken = 4
+number_of_config config.RouteTaken = 5
+number_of_config config.BadLimit = 6
+number_of_config config.NoMemory = 7
+
+-- how faults stop the program
+abbrev pub stop_of_config : ConfigFault → Stop
+stop_of_config config.NoMemory = stop.Fault no_memory
+stop_of_config other = stop.Config (number_of_config other)
+
+abbrev pub stop_of_capture : CaptureFault → Stop
+stop_of_capture (capture.Line number) = stop.Capture number
+stop_of_capture capture.NoMemory = stop.Fault no_memory
+
 abbrev pub stop_of_printing : PrintFault → Stop
-stop_of_printing printing.NoMemory = Stopped no_memory
-stop_of_printing printing.Output = Output
+stop_of_printing printing.NoMemory = stop.Fault no_memory
+stop_of_printing printing.Output = stop.Output
+
+-- a file that is not read, and a capture
+abbrev pub stop_of_file : Unread → Stop
+stop_of_file unread.Failed = stop.Config 0
+stop_of_file unread.NoMemory = stop.Fault no_memory
+
+abbrev pub stop_of_input : Unread → Stop
+stop_of_input unread.Failed = stop.Capture 0
+stop_of_input unread.NoMemory = stop.Fault no_memory
+
+-- exit statuses
+abbrev pub status_of : Stop → ℕ
+status_of stop.Usage = 1
+status_of (stop.Config number) = 2
+status_of (stop.Capture number) = 3
+status_of (stop.Fault number) = 4
+status_of stop.Output = 4
+
+abbrev pub numbered_line : List ℕ → ℕ → List ℕ
+numbered_line text number = text ++ decimal number ++ line_feed ∷ []
+
+-- What is told of a stop on standard error. For usage that is the command line's own text.
+abbrev pub stop_text : Stop → List ℕ
+stop_text stop.Usage = []
+stop_text (stop.Config number) = numbered_line (codes "config ") number
+stop_text (stop.Capture number) = numbered_line (codes "capture line ") number
+stop_text (stop.Fault number) = numbered_line (codes "fault ") number
+stop_text stop.Output = []
+
+-- ---- what a replay goes by
+
+-- The configuration is the one of the file, or the one that is built in. What is held at a path, if
+-- that is known, is what `held` says.
+abbrev pub IsConfigured : (List ℕ → Option (List ℕ)) → Option (List ℕ) → List Institution → Type 0
+IsConfigured held None institutions = institutions ≡ built_in
+IsConfigured held (Some path) institutions =
+    IfSome (held path) (λ octets. IsUtf8 octets × (configuration octets ≡ Ok institutions))
 
 -- The octets are a text of the right size, whose lines tell the events.
 pub record Tells (octets : List ℕ) (events : List Event) : Type 0 where
@@ -46,56 +105,78 @@ pub record Tells (octets : List ℕ) (events : List Event) : Type 0 where
   pub text : IsUtf8 octets
   pub lines : AreCapture (lines_of octets) events
 
--- The octets that were read are all that was given, and no more than a capture may have.
-abbrev pub IsReadable : List ℕ → List ℕ → Type 0
-IsReadable read given = (read ≡ given) × (length read ≤ capture_limit)
+-- ---- refusals
 
-abbrev pub printed : List Reply → List ℕ
-printed replies = flat_map printed_line replies
+-- The number of a refused configuration is that of its fault. 0 stands for a file that may be
+-- unreadable, or is no text.
+abbrev pub IsBadConfig : Type 0 → Option (List ℕ) → ℕ → Type 0
+IsBadConfig may_fail held zero = may_fail ⊎ IfSome held (λ octets. IsUtf8 octets → ⊥)
+IsBadConfig may_fail held (suc number) = IfSome held (λ octets.
+    IsUtf8 octets × (fault : ConfigFault) × (fault ≢ config.NoMemory)
+    × (configuration octets ≡ Err fault) × (number_of_config fault ≡ suc number))
 
--- Line 0 stands for an input that is no text or too long, or that cannot be read.
-abbrev pub IsBadAt : List ℕ → ℕ → Type 0
-IsBadAt octets zero = Unit {0}
-IsBadAt octets (suc number) = IsFirstBadLine (lines_of octets) (suc number)
+-- Line 0 stands for an input that may be unreadable, is too long, or is no text.
+abbrev pub IsBadCapture : Type 0 → Option (List ℕ) → ℕ → Type 0
+IsBadCapture may_fail input zero = may_fail
+    ⊎ IfSome input (λ octets. (capture_limit < length octets) ⊎ (IsUtf8 octets → ⊥))
+IsBadCapture may_fail input (suc number) = IfSome input (λ octets. (length octets ≤ capture_limit)
+    × IsUtf8 octets × IsFirstBadLine (lines_of octets) (suc number))
 
--- The input tells events, and all replies to them were printed.
-abbrev pub PrintsAll : Option (List ℕ) → Option (List ℕ) → Option (List ℕ) → Type 0
-PrintsAll input before after = (events : List Event) × IfSome input (λ octets. Tells octets events) × Appends before after (printed (replies built_in events))
+-- how a configuration is refused
+abbrev pub RefusesConfig : Type 0 → Option (List ℕ) → Stop → Type 0
+RefusesConfig may_fail held (stop.Config number) = IsBadConfig may_fail held number
+RefusesConfig may_fail held (stop.Fault number) = number ≡ no_memory
+RefusesConfig may_fail held other = ⊥
 
--- What a replay of an input comes to, and what its output, as far as it is known, holds before and after: all replies;
--- or, for a bad capture, none; or, for a fault, the first of them. Where the output failed nothing is known.
-abbrev pub Replayed : Option (List ℕ) → Option (List ℕ) → Option (List ℕ) → Result (Unit {0}) Stop → Type 0
-Replayed input before after (Ok done) = PrintsAll input before after
-Replayed input before after (Err (Capture number)) = Keeps before after × IfSome input (λ octets. IsBadAt octets number)
-Replayed input before after (Err (Stopped number)) =
-    (number ≡ no_memory) × (Keeps before after ⊎ ((events : List Event) × (count : ℕ) × IfSome input (λ octets. Tells octets events) × Appends before after (printed (take count (replies built_in events)))))
-Replayed input before after (Err Output) = Unit {0}
+-- how the file of a configuration is refused, or the configuration that is built in
+abbrev pub RefusesFile : (List ℕ → Type 0) → (List ℕ → Option (List ℕ)) → Option (List ℕ) → Stop
+    → Type 0
+RefusesFile may_fail held (Some path) cause = RefusesConfig (may_fail path) (held path) cause
+RefusesFile may_fail held None cause = cause ≡ stop.Fault no_memory
 
--- what is told of a stop on standard error
-abbrev pub stop_text : Stop → List ℕ
-stop_text (Capture number) = codes "capture line " ++ decimal number ++ line_feed ∷ []
-stop_text (Stopped number) = codes "fault " ++ decimal number ++ line_feed ∷ []
-stop_text Output = []
+-- how a capture is refused
+abbrev pub RefusesCapture : Type 0 → Option (List ℕ) → Stop → Type 0
+RefusesCapture may_fail input (stop.Capture number) = IsBadCapture may_fail input number
+RefusesCapture may_fail input (stop.Fault number) = number ≡ no_memory
+RefusesCapture may_fail input other = ⊥
 
--- exit statuses
-abbrev pub status_of : Stop → ℕ
-status_of (Capture number) = 3
-status_of (Stopped number) = 4
-status_of Output = 4
+-- ---- what is printed
 
-abbrev pub IsStatus : ℕ → Type 0
-IsStatus status = (status ≡ 0) ⊎ (status ≡ 1) ⊎ (status ≡ 3) ⊎ (status ≡ 4)
+-- the lines of the first replies, and not of all
+abbrev pub PrintsFirst : Option (List ℕ) → Option (List ℕ) → List Reply → Type 0
+PrintsFirst before after given = (count : ℕ) × (count < length given)
+    × Appends before after (printed (take count given))
 
--- the words that ask for a replay, and the command line with the program's own name before them
-abbrev pub IsUnderstood : List (List ℕ) → Type 0
-IsUnderstood words = (words ≡ []) ⊎ (words ≡ codes "replay" ∷ [])
+-- How replies are cut short: for want of memory nothing or whole lines were printed, and not all;
+-- where the output fails, the first octets of the lines.
+abbrev pub Cuts : Type 0 → Option (List ℕ) → Option (List ℕ) → List Reply → Stop → Type 0
+Cuts may_fail before after given (stop.Fault number) =
+    (number ≡ no_memory) × (Keeps before after ⊎ PrintsFirst before after given)
+Cuts may_fail before after given stop.Output =
+    may_fail × AppendsPart before after (printed given)
+Cuts may_fail before after given other = ⊥
 
-abbrev pub line_of : List (List ℕ) → List (List ℕ)
-line_of words = codes "dq_server" ∷ words
+-- The replies of a run: all, or where a fault came the first of them. The only fault is want of
+-- memory.
+pub record AreGiven (all given : List Reply) (end : Option Fault) : Type 0 where
+  pub whole : end ≡ None → given ≡ all
+  pub first : given ≡ take (length given) all
+  pub fewer : end ≢ None → length given < length all
+  pub memory : IfSome end (λ f. f ≡ fault.NoMemory)
 
-abbrev pub command : App
-command = with_subcommand (new_app (codes "dq_server")) (new_app (codes "replay")).top
+-- ---- a replay
 
--- words at which a parse of the command line has a fault
-abbrev pub IsRefused : List (List ℕ) → Type 0
-IsRefused words = fault_of command (line_of words) ≢ []
+-- By some configuration of the file and some events that the input tells, the replies are as said.
+abbrev pub IsReplay : (List ℕ → Option (List ℕ)) → Option (List ℕ) → Option (List ℕ)
+    → (List Reply → Type 0) → Type 0
+IsReplay held file input Are = (institutions : List Institution) × (events : List Event)
+    × IsConfigured held file institutions × IfSome input (λ octets. Tells octets events)
+    × Are (replies institutions [] events)
+
+-- there is a configuration
+abbrev pub HasConfig : (List ℕ → Option (List ℕ)) → Option (List ℕ) → Type 0
+HasConfig held file = (institutions : List Institution) × IsConfigured held file institutions
+
+-- a stop is told by its line, unless that fails
+abbrev pub IsTold : Type 0 → Option (List ℕ) → Option (List ℕ) → Stop → Type 0
+IsTold may_fail before after cause = may_fail ⊎ Appends before after (stop_text cause)

@@ -1,13 +1,12 @@
 //! The printed lines of replies.
-
 ghost use Rattle.std.specs.Prelude.{◌≡◌, ℕ, ◌<◌, length, take, IfOk, OnOk, IsErrOf, string_bytes};
-ghost use Rattle.std.specs.List.{flat_map};
 ghost use Rattle.std.specs.Io.KnownBytes.{Appends};
-ghost use Rattle.dq_server.specs.Printing.{octets_text, close_text, printed_line};
+ghost use Rattle.dq_server.specs.Printing.{octets_text, close_text, printed_line, printed};
+ghost use Rattle.dq_server.specs.Surroundings.{AppendsPart};
 
+use crate::surroundings::Sink;
 use dq_core::Reply;
 use std::alloc::{AllocError, Global};
-use std::io::Write;
 use thiserror::Error;
 
 /// Why replies are not printed.
@@ -44,31 +43,36 @@ fn printed_line(alloc: Global, reply: &Reply) -> Result<String, AllocError>
             octets,
             close,
         } => {
-            let octets = octets_text(alloc, octets.inner().as_slice())?;
+            let octets = octets_text(alloc, octets.as_slice())?;
             format!(in alloc; "{conn} {octets}{}\n", close_text(*close))
         }
         Reply::Done => String::from_str(alloc, "done\n"),
+        Reply::Refused(number) => format!(in alloc; "refused {number}\n"),
         Reply::Ignored => String::from_str(alloc, "ignored\n"),
     }
 }
 
 /// Prints a line for each reply.
-pub fn print_replies<W: Write>(
+pub fn print_replies<W: Sink>(
     alloc: Global,
     replies: &[Reply],
     output: &mut W,
 ) -> Result<(), PrintFault>
-    ensures written { OnOk result (Appends (W.contents output.old) (W.contents output.new) (flat_map printed_line replies.now)) }
+    ensures written { OnOk result (Appends (W.written output.old) (W.written output.new) (printed replies.now)) }
     // Where memory runs out, the lines of the first replies were written whole.
     ensures no_memory { IsErrOf result PrintFault.NoMemory → (k : ℕ) × (k < length replies.now)
-        × Appends (W.contents output.old) (W.contents output.new) (flat_map printed_line (take k replies.now)) }
+        × Appends (W.written output.old) (W.written output.new) (printed (take k replies.now)) }
+    // Where the output fails, the first octets of the lines were written.
+    ensures output { IsErrOf result PrintFault.Output → W.may_fail output.old
+        × AppendsPart (W.written output.old) (W.written output.new) (printed replies.now) }
+    ensures fails { W.may_fail output.new → W.may_fail output.old }
 {
     for reply in replies {
         let line = match printed_line(alloc, reply) {
             Ok(line) => line,
             Err(_) => return Err(PrintFault::NoMemory),
         };
-        if output.write_all(line.as_bytes()).is_err() {
+        if output.put(line.as_bytes()).is_err() {
             return Err(PrintFault::Output);
         }
     }

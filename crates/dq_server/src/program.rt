@@ -1,207 +1,148 @@
-//! The program without its surroundings: words, an input and two outputs, and the exit status.
-
-ghost use Rattle.std.specs.Prelude.{◌≡◌, ◌≢◌, ◌⊎◌, ℕ, List, [], map, IfOk, IfErr, OnOk, IfSome, Ok};
+//! The program without its surroundings: words, a configuration, an input and two outputs, and the
+//! exit status.
+ghost use Rattle.std.specs.Prelude.{◌≡◌, ◌≢◌, ◌≤◌, ◌⊎◌, ℕ, List, Option, None, Some, map, IfErr, OnOk};
+ghost use Rattle.std.specs.Option.{option_copied};
+ghost use Rattle.std.specs.IoError.{error_kind};
 ghost use Rattle.std.specs.Io.KnownBytes.{Keeps, Appends};
-ghost use Rattle.clap.specs.Words.{fault_of, kind_of};
-ghost use Rattle.dq_server.specs.Program.{no_memory, stop_of_capture, number_of_fault, stop_of_printing, stop_text, status_of, Replayed, IsReadable, PrintsAll, IsStatus, IsUnderstood, IsRefused, line_of, command};
+ghost use Rattle.clap.specs.Words.{kind_of};
+ghost use Rattle.dq_server.specs.Printing.{printed};
+ghost use Rattle.dq_server.specs.Surroundings.{AppendsPart};
+ghost use Rattle.dq_server.specs.Words.{asked};
+ghost use Rattle.dq_server.specs.Program.{no_memory, status_of, IsTold, IsBadConfig, IsBadCapture, RefusesFile, RefusesCapture, Cuts, IsReplay, HasConfig, PrintsFirst};
 
-use crate::capture::{CaptureFault, read_capture};
-use crate::printing::{PrintFault, print_replies};
-use clap::Command;
+use crate::answering::answer;
+use crate::reading::{configured, read_events};
+use crate::stop::Stop;
+use crate::surroundings::{Folder, Sink, Source};
+use crate::words::{line_of, parse};
 use clap::error::ErrorKind;
-use dq_core::{Config, Fault, run};
-use std::alloc::{AllocError, Global};
+use std::alloc::AllocError;
 use std::convert::AsStr;
 use std::io;
-use std::io::{Read, Write};
+use std::io::ErrorKind as IoKind;
 
-/// The most octets that a capture may have.
-const CAPTURE_LIMIT: u64 = 67_108_864;
-
-const USAGE_STATUS: u8 = 1;
-
-/// Why a replay stops short of its end.
-#[derive(Clone, Copy, Debug, PartialEq, Eq)]
-pub enum Stop {
-    /// A bad line of the capture. Line 0 stands for one that is no text, too long, or cannot be read.
-    Capture(u64),
-    /// The number of a fault.
-    Fault(u8),
-    /// The output cannot be written.
-    Output,
-}
-
-impl From<AllocError> for Stop {
-    ghost use Rattle.std.specs.Prelude.{◌≡◌};
-    ghost use Rattle.dq_server.specs.Program.{no_memory};
-    ghost use Rattle.dq_server.specs.declared.program.Stop.TheVariants.{Fault};
-
-    ghost from_gives = { λ _ stop. stop ≡ Fault no_memory };
-
-    fn from(_error: AllocError) -> Stop {
-        Stop::Fault(Fault::NoMemory as u8)
-    }
-}
-
-impl From<CaptureFault> for Stop {
-    ghost use Rattle.std.specs.Prelude.{◌≡◌};
-    ghost use Rattle.dq_server.specs.Program.{stop_of_capture};
-
-    ghost from_gives = { λ fault stop. stop ≡ stop_of_capture fault };
-
-    fn from(fault: CaptureFault) -> Stop {
-        match fault {
-            CaptureFault::Line(number) => Stop::Capture(number),
-            CaptureFault::NoMemory => Stop::Fault(Fault::NoMemory as u8),
-        }
-    }
-}
-
-impl From<Fault> for Stop {
-    ghost use Rattle.std.specs.Prelude.{◌≡◌};
-    ghost use Rattle.dq_server.specs.Program.{number_of_fault};
-    ghost use Rattle.dq_server.specs.declared.program.Stop.TheVariants.{Fault};
-
-    ghost from_gives = { λ fault stop. stop ≡ Fault (number_of_fault fault) };
-
-    fn from(fault: Fault) -> Stop {
-        Stop::Fault(fault as u8)
-    }
-}
-
-impl From<PrintFault> for Stop {
-    ghost use Rattle.std.specs.Prelude.{◌≡◌};
-    ghost use Rattle.dq_server.specs.Program.{stop_of_printing};
-
-    ghost from_gives = { λ fault stop. stop ≡ stop_of_printing fault };
-
-    fn from(fault: PrintFault) -> Stop {
-        match fault {
-            PrintFault::NoMemory => Stop::Fault(Fault::NoMemory as u8),
-            PrintFault::Output => Stop::Output,
-        }
-    }
-}
-
-impl Stop {
-    fn status(self) -> u8
-        ensures { result ≡ status_of self }
-    {
-        match self {
-            Stop::Capture(_) => 3,
-            Stop::Fault(_) | Stop::Output => 4,
-        }
-    }
-
-    fn tell<E: Write>(self, errors: &mut E) -> io::Result<()>
-        ensures { OnOk result (Appends (E.contents errors.old) (E.contents errors.new) (stop_text self)) }
-    {
-        match self {
-            Stop::Capture(number) => writeln!(errors, "capture line {number}"),
-            Stop::Fault(number) => writeln!(errors, "fault {number}"),
-            Stop::Output => Ok(()),
-        }
-    }
-}
-
-/// All octets of an input, which are to be text and no more than a capture may have.
-fn read_input<R: Read + Drop>(alloc: Global, input: R) -> Result<Vec<u8>, Stop>
-    ensures octets { IfOk result (λ octets. IfSome (R.remaining input) (IsReadable octets.items)) }
-    ensures stop { IfErr result (λ stop. (stop ≡ Stop.Capture 0) ⊎ (stop ≡ Stop.Fault no_memory)) }
+/// Replays a capture: reads the configuration, then the capture, and prints the replies.
+fn replay<Rt: AllocGlobal + Folder, R: Source, W: Sink>(
+    rt: &Rt,
+    file: Option<&str>,
+    input: R,
+    output: &mut W,
+) -> Result<(), Stop>
+    ensures done { OnOk result (IsReplay (Rt.held rt.now) (option_copied file.entry)
+        (R.octets input) (λ replies.
+        Appends (W.written output.old) (W.written output.new) (printed replies))) }
+    ensures flushed { OnOk result (W.is_flushed output.new) }
+    ensures stops { IfErr result (λ stop.
+        (Keeps (W.written output.old) (W.written output.new)
+        × RefusesFile (Rt.may_fail rt.now) (Rt.held rt.now) (option_copied file.entry) stop)
+        ⊎ (Keeps (W.written output.old) (W.written output.new)
+        × HasConfig (Rt.held rt.now) (option_copied file.entry)
+        × RefusesCapture (R.may_fail input) (R.octets input) stop)
+        ⊎ IsReplay (Rt.held rt.now) (option_copied file.entry) (R.octets input)
+        (λ replies. Cuts (W.may_fail output.old) (W.written output.old) (W.written output.new)
+        replies stop)) }
 {
-    let mut octets = Vec::new(alloc);
-    match input.take(CAPTURE_LIMIT + 1).read_to_end(&mut octets) {
-        Ok(_) if octets.len() as u64 <= CAPTURE_LIMIT => Ok(octets),
-        Err(error) if error.kind() == io::ErrorKind::OutOfMemory => Err(Stop::from(AllocError)),
-        _ => Err(Stop::Capture(0)),
-    }
-}
-
-fn replay<R: Read + Drop, W: Write>(alloc: Global, input: R, output: &mut W) -> Result<(), Stop>
-    ensures { Replayed (R.remaining input) (W.contents output.old) (W.contents output.new) result }
-{
-    let octets = read_input(alloc, input)?;
-    let Ok(text) = str::from_utf8(octets.as_slice()) else {
-        return Err(Stop::Capture(0));
+    let config = match configured(rt, file) {
+        Ok(config) => config,
+        Err(stop) => return Err(stop),
     };
-    let events = read_capture(alloc, text)?;
-    let outcome = run(alloc, Config::built_in(alloc)?, events)?;
-    print_replies(alloc, outcome.replies.inner().as_slice(), output)?;
-    if output.flush().is_err() {
-        return Err(Stop::Output);
-    }
-    match outcome.fault {
-        None => Ok(()),
-        Some(fault) => Err(Stop::from(fault)),
-    }
+    let events = match read_events(rt.alloc(), input) {
+        Ok(events) => events,
+        Err(stop) => return Err(stop),
+    };
+    answer(rt.alloc(), config, events, output)
 }
 
-const PROGRAM_NAME: &str = "dq_server";
-
-fn parse<'a>(alloc: Global, line: &'a [&'a str]) -> Result<(), clap::Error>
-    ensures ok { IfOk result (λ _. fault_of command (map (λ word. word.now) line.entry.now) ≡ []) }
-    ensures err { IfErr result (λ error. (words : List (List ℕ)) → map (λ word. word.now) line.entry.now ≡ line_of words
-        → IsUnderstood words → kind_of error ≡ ErrorKind.OutOfMemory) }
+/// Tells of a stop. The exit status is its own.
+fn stopped<E: Sink>(stop: Stop, errors: &mut E) -> u8
+    ensures status { result ≡ status_of stop }
+    ensures told { IsTold (E.may_fail errors.old) (E.written errors.old) (E.written errors.new) stop }
 {
-    let replay = Command::new(alloc, "replay").about(
-        "Replays a capture from standard input (the default)",
-    );
-    let command = Command::new(alloc, PROGRAM_NAME)
-        .about("A DICOM server over captures")
-        .subcommand(replay)?;
-    match command.try_get_matches_from(line) {
-        Ok(_) => Ok(()),
-        Err(error) => Err(error),
-    }
+    let _ = stop.tell(errors);
+    stop.status()
 }
 
-/// Reads the words of a command line, those after the program's own name.
-fn read_words<S: AsStr>(alloc: Global, words: &[S]) -> Result<(), clap::Error>
-    ensures ok { IfOk result (λ _. fault_of command (line_of (map S.text words.now)) ≡ []) }
-    ensures err { IfErr result (λ error. IsUnderstood (map S.text words.now) → kind_of error ≡ ErrorKind.OutOfMemory) }
+/// Tells why a command line is not read, in its own text where it is not understood.
+fn refused<E: Sink>(error: &clap::Error, errors: &mut E) -> u8
+    ensures memory { kind_of error.now ≡ ErrorKind.OutOfMemory → (result ≡ 4)
+        × IsTold (E.may_fail errors.old) (E.written errors.old) (E.written errors.new)
+        (Stop.Fault no_memory) }
+    ensures usage { kind_of error.now ≢ ErrorKind.OutOfMemory → result ≡ 1 }
 {
-    let mut line = Vec::new(alloc);
-    line.push(PROGRAM_NAME)?;
-    for word in words {
-        line.push(word.as_str())?;
+    if error.kind() == ErrorKind::OutOfMemory {
+        return stopped(Stop::from(AllocError), errors);
     }
-    parse(alloc, line.as_slice())
+    let _ = errors.put_line(error);
+    Stop::Usage.status()
 }
 
-/// Plays the program: its words, its input, its output and where it tells of errors. The exit status is 0 where all
-/// was done, 1 for words that are not understood, 3 for a bad capture, and 4 for a fault or where the output cannot be
+/// Plays the program: what opens its files, its words, its input, its output and where it tells of
+/// errors. The exit status is 0 where all was done, 1 for words that are not understood, 2 for a
+/// refused configuration, 3 for a bad capture, and 4 for a fault or where the output cannot be
 /// written.
-pub fn perform<S: AsStr, R: Read + Drop, W: Write, E: Write>(
-    alloc: Global,
+pub fn perform<Rt: AllocGlobal + Folder, S: AsStr, R: Source, W: Sink, E: Sink>(
+    rt: &Rt,
     words: &[S],
     input: R,
     output: &mut W,
     errors: &mut E,
 ) -> u8
-    ensures statuses { IsStatus result }
-    ensures done { result ≡ 0 → PrintsAll (R.remaining input) (W.contents output.old) (W.contents output.new) }
-    ensures quiet { result ≡ 0 → Keeps (E.contents errors.old) (E.contents errors.new) }
-    ensures understood { IsUnderstood (map S.text words.now) → result ≢ 1 }
-    ensures refused { IsRefused (map S.text words.now) → (result ≡ 1) ⊎ (result ≡ 4) }
-    ensures usage { result ≡ 1 → Keeps (W.contents output.old) (W.contents output.new) }
-    ensures bad_capture { result ≡ 3 → Keeps (W.contents output.old) (W.contents output.new) }
+    ensures statuses { result ≤ 4 }
+    ensures done { result ≡ 0 → (file : Option (List ℕ)) × (asked (map S.text words.now) ≡ Some file)
+        × IsReplay (Rt.held rt.now) file (R.octets input) (λ replies.
+        Appends (W.written output.old) (W.written output.new) (printed replies)) }
+    ensures flushed { result ≡ 0 → W.is_flushed output.new }
+    ensures quiet { result ≡ 0 → Keeps (E.written errors.old) (E.written errors.new) }
+    ensures usage { result ≡ 1 → (asked (map S.text words.now) ≡ None)
+        × Keeps (W.written output.old) (W.written output.new) }
+    ensures refused { asked (map S.text words.now) ≡ None → (result ≡ 1) ⊎ (result ≡ 4) }
+    ensures config { result ≡ 2 → (path : List ℕ) × (number : ℕ)
+        × (asked (map S.text words.now) ≡ Some (Some path))
+        × IsBadConfig (Rt.may_fail rt.now path) (Rt.held rt.now path) number
+        × IsTold (E.may_fail errors.old) (E.written errors.old) (E.written errors.new)
+        (Stop.Config number) × Keeps (W.written output.old) (W.written output.new) }
+    ensures capture { result ≡ 3 → (file : Option (List ℕ)) × (number : ℕ)
+        × (asked (map S.text words.now) ≡ Some file) × HasConfig (Rt.held rt.now) file
+        × IsBadCapture (R.may_fail input) (R.octets input) number
+        × IsTold (E.may_fail errors.old) (E.written errors.old) (E.written errors.new)
+        (Stop.Capture number) × Keeps (W.written output.old) (W.written output.new) }
+    // A fault, where nothing or the lines of the first replies were printed, or an output that
+    // fails, where the first octets of the lines were.
+    ensures fault { result ≡ 4 →
+        (IsTold (E.may_fail errors.old) (E.written errors.old) (E.written errors.new)
+        (Stop.Fault no_memory) × Keeps (W.written output.old) (W.written output.new))
+        ⊎ (file : Option (List ℕ)) × (asked (map S.text words.now) ≡ Some file)
+        × IsReplay (Rt.held rt.now) file (R.octets input) (λ replies.
+        (IsTold (E.may_fail errors.old) (E.written errors.old) (E.written errors.new)
+        (Stop.Fault no_memory)
+        × PrintsFirst (W.written output.old) (W.written output.new) replies)
+        ⊎ (IsTold (E.may_fail errors.old) (E.written errors.old) (E.written errors.new) Stop.Output
+        × W.may_fail output.old × AppendsPart (W.written output.old) (W.written output.new) (printed replies))) }
 {
-    if let Err(error) = read_words(alloc, words) {
-        if error.kind() == ErrorKind::OutOfMemory {
-            return stopped(Stop::from(AllocError), errors);
-        }
-        let _ = write!(errors, "{error}");
-        return USAGE_STATUS;
-    }
-    match replay(alloc, input, output) {
+    let line = match line_of(rt.alloc(), words) {
+        Ok(line) => line,
+        Err(error) => return stopped(Stop::from(error), errors),
+    };
+    let file = match parse(rt.alloc(), line.as_slice()) {
+        Ok(file) => file,
+        Err(error) => return refused(&error, errors),
+    };
+    match replay(rt, file, input, output) {
         Ok(()) => 0,
         Err(stop) => stopped(stop, errors),
     }
 }
 
-fn stopped<E: Write>(stop: Stop, errors: &mut E) -> u8
-    ensures { result ≡ status_of stop }
+/// Tells why there are no words: one is no text, which is usage, or memory ran out.
+pub fn unworded<E: Sink>(error: &io::Error, errors: &mut E) -> u8
+    ensures memory { error_kind error.now ≡ IoKind.OutOfMemory → (result ≡ 4)
+        × IsTold (E.may_fail errors.old) (E.written errors.old) (E.written errors.new)
+        (Stop.Fault no_memory) }
+    ensures usage { error_kind error.now ≢ IoKind.OutOfMemory → result ≡ 1 }
 {
-    let _ = stop.tell(errors);
-    stop.status()
+    if error.kind() == io::ErrorKind::OutOfMemory {
+        return stopped(Stop::from(AllocError), errors);
+    }
+    let _ = errors.put_line("a word of the command line is not UTF-8");
+    Stop::Usage.status()
 }

@@ -4,6 +4,7 @@ use crate::program::perform;
 use dq_core::{Event, Reply};
 use dq_list::Listed;
 use std::alloc::{AllocError, Global};
+use std::fs;
 use std::io::{self, Read, Write};
 use std::test::Fail;
 
@@ -77,7 +78,7 @@ fn replies(alloc: Global) -> Result<Vec<Reply>, AllocError> {
         octets: Listed::from_inner(vec![in alloc; 0u8, 0xab]?),
         close: true,
     };
-    Ok(vec![in alloc; Reply::Done, octets, Reply::Ignored]?)
+    Ok(vec![in alloc; Reply::Done, octets, Reply::Refused(5), Reply::Ignored]?)
 }
 
 #[test]
@@ -90,9 +91,10 @@ fn reads_a_capture(rt: HostRuntime) -> Result<(), Fail> {
             Event::Open(number) => format!(in rt.alloc(); "o{number}")?,
             Event::Piece(number, octets) => format!(in rt.alloc();
                 "p{number}{:?}",
-                octets.inner()
+                octets.as_slice()
             )?,
             Event::End(number) => format!(in rt.alloc(); "e{number}")?,
+            Event::Schedule { .. } | Event::Withdraw { .. } => String::new(rt.alloc()),
         };
         told.push(line)?;
     }
@@ -109,7 +111,10 @@ fn prints_replies(rt: HostRuntime) -> Result<(), Fail> {
     let mut output = Vec::new(rt.alloc());
     print_replies(rt.alloc(), replies.as_slice(), &mut output)?;
     let text = str::from_utf8(output.as_slice())?;
-    assert_eq!(rt; text, "done\n18446744073709551615 00ab close\nignored\n");
+    assert_eq!(rt;
+        text,
+        "done\n18446744073709551615 00ab close\nrefused 5\nignored\n"
+    );
     Ok(())
 }
 
@@ -136,13 +141,8 @@ fn performs_over_a_failing_output(rt: HostRuntime) -> Result<(), Fail> {
         };
         let mut errors = Vec::new(rt.alloc());
         let words: [&str; 0] = [];
-        let status = perform(
-            rt.alloc(),
-            &words,
-            torn_reader(UNKNOWN_UNIT, false),
-            &mut output,
-            &mut errors,
-        );
+        let input = torn_reader(UNKNOWN_UNIT, false);
+        let status = perform(&rt, &words, input, &mut output, &mut errors);
         assert_eq!(rt;
             status,
             if room < expected.len() { 4 } else { 0 },
@@ -158,19 +158,42 @@ fn performs_over_a_failing_output(rt: HostRuntime) -> Result<(), Fail> {
     Ok(())
 }
 
-#[test]
-fn performs_over_a_failing_input(rt: HostRuntime) -> Result<(), Fail> {
+// What the program answers to words and an input: its status, what it prints and what it tells of errors.
+fn answered(rt: &HostRuntime, words: &[&str], input: Torn<'_>) -> Result<String, Fail> {
     let mut output = Vec::new(rt.alloc());
     let mut errors = Vec::new(rt.alloc());
-    let status = perform(
-        rt.alloc(),
-        &["replay"],
-        torn_reader(UNKNOWN_UNIT, true),
-        &mut output,
-        &mut errors,
+    let status = perform(rt, words, input, &mut output, &mut errors);
+    let printed = str::from_utf8(output.as_slice())?;
+    let told = str::from_utf8(errors.as_slice())?;
+    Ok(format!(in rt.alloc(); "{status}|{printed}|{told}")?)
+}
+
+#[test]
+fn performs_over_a_failing_input(rt: HostRuntime) -> Result<(), Fail> {
+    let answer = answered(&rt, &["replay"], torn_reader(UNKNOWN_UNIT, true))?;
+    assert_eq!(rt; answer.as_str(), "3||capture line 0\n");
+    Ok(())
+}
+
+#[test]
+fn performs_with_a_file(rt: HostRuntime) -> Result<(), Fail> {
+    fs::write(&rt, "none.toml", "")?;
+    fs::write(&rt, "syntax.toml", "institution = 1\n")?;
+    let whole = torn_reader(UNKNOWN_UNIT, false);
+    let answer = answered(&rt, &["replay", "--config", "none.toml"], whole)?;
+    assert_eq!(rt;
+        answer.as_str(),
+        "0|done\n1 07000000000400000000 close\nignored\n|"
     );
-    assert_eq!(rt; status, 3);
-    assert!(rt; output.is_empty());
-    assert_eq!(rt; errors.as_slice(), b"capture line 0\n".as_slice());
+    // A configuration is refused before the capture is read.
+    let failing = torn_reader("open", true);
+    let answer = answered(&rt, &["replay", "--config=syntax.toml"], failing)?;
+    assert_eq!(rt; answer.as_str(), "2||config 1\n");
+    let answer = answered(
+        &rt,
+        &["replay", "--config", "absent"],
+        torn_reader("", false),
+    )?;
+    assert_eq!(rt; answer.as_str(), "2||config 0\n");
     Ok(())
 }
