@@ -1,312 +1,273 @@
 #!/usr/bin/env python3
 """The replies to a capture, worked out from the standard: an independent model of the server for its suites.
 
-Written from PS3.8 section 9.3 (protocol data units), PS3.8 section 9.2 (the state machine), PS3.7 sections 6.3 and 9.3
-(command sets, C-ECHO) and PS3.7 annex C (statuses), with the choices that docs/DECISIONS.md lists where the standard
-leaves one. It shares nothing with the server's code.
+Written from PS3.8 section 9 (PDUs and the state machine), PS3.7 (messages and statuses) and PS3.4 annexes A, B, C, F and
+K (services), with the choices that docs/DECISIONS.md lists where the standard leaves one. It shares nothing with the
+server's code.
 
-Use: replies.py < CAPTURE. It prints the lines of the replies; on a bad line it prints none, tells the line on standard
-error, and exits with 3.
+Use: replies.py [--config FILE] [--report] [--services NAME,..] < CAPTURE. It prints the lines of the replies, or with
+--report a line for each institution. The server has the services that the file `services` names; --services names others. On
+a bad line it prints none, tells the line on standard error, and exits with 3; on a bad configuration with 2.
 """
+import argparse
+import pathlib
 import re
 import sys
+import tomllib
 
-APPLICATION_CONTEXT = b"1.2.840.10008.3.1.1.1"
-VERIFICATION = b"1.2.840.10008.1.1"
-IMPLICIT = b"1.2.840.10008.1.2"
-EXPLICIT = b"1.2.840.10008.1.2.1"
-IMPLEMENTATION_CLASS = b"2.25.2718281828"
-IMPLEMENTATION_VERSION = b"DQARCHIVE1"
-ROUTES = {(b"ARCHIVE", b"MODALITY")}
-LONGEST_UNIT = 65536
-LONGEST_COMMAND = 16384
+import services
+from messages import C_CANCEL, C_ECHO, C_FIND, C_STORE, N_CREATE, N_SET, Assembler, response, sent
+from upper_layer import (ABORT, APPLICATION_CONTEXT, EXPLICIT, IMPLICIT, P_DATA, RELEASE_RQ, REQUEST, UNEXPECTED, BadPdu,
+                         abort, acceptance, next_pdu, reject, release_reply)
 
-
-class Unit(Exception):
-    """A unit that is refused, with the reason of the abort."""
-
-    def __init__(self, reason):
-        super().__init__(reason)
-        self.reason = reason
-
-
-UNRECOGNIZED, UNEXPECTED, INVALID = 1, 2, 6
-
-
-def big(octets):
-    return int.from_bytes(octets, "big")
-
-
-def little(octets):
-    return int.from_bytes(octets, "little")
-
-
-def items(body):
-    """Items, or sub-items, that fill a body (PS3.8 section 9.3.2)."""
-    found, at = [], 0
-    while at < len(body):
-        if len(body) - at < 4:
-            raise Unit(INVALID)
-        length = big(body[at + 2:at + 4])
-        if len(body) - at - 4 < length:
-            raise Unit(INVALID)
-        found.append((body[at], body[at + 4:at + 4 + length]))
-        at += 4 + length
-    return found
+BUILT_IN = """
+[[institution]]
+name = "DEMO"
+routes = [{ called = "ARCHIVE", calling = "MODALITY" }]
+studies = 100
+images = 1000
+entries = 100
+steps = 100
+associations = 4
+"""
+VERIFICATION, STORAGE, STUDY_ROOT, WORKLIST, PROCEDURE_STEP = "verification storage study worklist procedure".split()
+CLASSES = {
+    b"1.2.840.10008.1.1": VERIFICATION,
+    b"1.2.840.10008.5.1.4.1.2.2.1": STUDY_ROOT,
+    b"1.2.840.10008.5.1.4.31": WORKLIST,
+    b"1.2.840.10008.3.1.2.3.3": PROCEDURE_STEP,
+    **{b"1.2.840.10008.5.1.4.1.1." + end: STORAGE for end in (b"1", b"2", b"4", b"6.1", b"7")},
+}
+COMMANDS = {VERIFICATION: {C_ECHO}, STORAGE: {C_STORE}, STUDY_ROOT: {C_FIND}, WORKLIST: {C_FIND},
+            PROCEDURE_STEP: {N_CREATE, N_SET}}
+CLASS_NOT_SUPPORTED, UNRECOGNIZED_OPERATION = 0x0122, 0x0211
+LIMITS = {"studies": 1000000, "images": 1000000, "entries": 1000000, "steps": 1000000, "associations": 64}
 
 
-def at_most_one(found, kind):
-    bodies = [body for item, body in found if item == kind]
-    if len(bodies) > 1:
-        raise Unit(INVALID)
-    return bodies[0] if bodies else None
+class BadConfiguration(Exception):
+    pass
 
 
-def uid(octets):
-    return octets.rstrip(b"\x00 ")
+class Institution:
+    def __init__(self, table):
+        self.name = table["name"]
+        self.pairs = [(route["called"].strip(" ").encode(), route["calling"].strip(" ").encode())
+                      for route in table["routes"]]
+        self.limits = {key: table[key] for key in LIMITS}
+        self.records = services.Records(self.limits)
+        self.live = 0
 
 
-def read_request(body):
-    if len(body) < 68:
-        raise Unit(INVALID)
-    found = items(body[68:])
-    context = at_most_one(found, 0x10)
-    user = at_most_one(found, 0x50)
-    contexts = []
-    for item, part in found:
-        if item != 0x20:
-            continue
-        if len(part) < 4 or part[0] % 2 == 0 or part[0] in [known for known, _, _ in contexts]:
-            raise Unit(INVALID)
-        inner = items(part[4:])
-        abstract = [uid(b) for k, b in inner if k == 0x30]
-        transfer = [uid(b) for k, b in inner if k == 0x40]
-        if len(abstract) != 1 or not transfer:
-            raise Unit(INVALID)
-        contexts.append((part[0], abstract[0], transfer))
-    maximum = None
-    if user is not None:
-        maximum = at_most_one(items(user), 0x51)
-        if maximum is not None:
-            if len(maximum) != 4:
-                raise Unit(INVALID)
-            maximum = big(maximum)
-    return {
-        "version": big(body[0:2]),
-        "called": body[4:20],
-        "calling": body[20:36],
-        "titles": body[4:68],
-        "application": None if context is None else uid(context),
-        "contexts": contexts,
-        "maximum": maximum,
-    }
+def is_integer(value):
+    """An integer of TOML has 64 bits."""
+    return isinstance(value, int) and not isinstance(value, bool) and -2 ** 63 <= value < 2 ** 63
 
 
-def read_values(body):
-    """Presentation data values that fill a P-DATA-TF (PS3.8 section 9.3.5)."""
-    found, at = [], 0
-    while at < len(body):
-        if len(body) - at < 4:
-            raise Unit(INVALID)
-        length = big(body[at:at + 4])
-        if length < 2 or len(body) - at - 4 < length:
-            raise Unit(INVALID)
-        found.append((body[at + 4], body[at + 5], body[at + 6:at + 4 + length]))
-        at += 4 + length
-    if not found:
-        raise Unit(INVALID)
-    return found
+def check_form(document):
+    """The right keys with the right types (fault 1)."""
+    tables = document.get("institution", [])
+    if set(document) - {"institution"} or not isinstance(tables, list):
+        raise BadConfiguration(1)
+    for table in tables:
+        if not isinstance(table, dict) or set(table) != {"name", "routes", *LIMITS}:
+            raise BadConfiguration(1)
+        numbers = [table[key] for key in LIMITS]
+        if not isinstance(table["name"], str) or any(not is_integer(number) for number in numbers):
+            raise BadConfiguration(1)
+        if not isinstance(table["routes"], list):
+            raise BadConfiguration(1)
+        for route in table["routes"]:
+            if not isinstance(route, dict) or set(route) != {"called", "calling"}:
+                raise BadConfiguration(1)
+            if not all(isinstance(title, str) for title in route.values()):
+                raise BadConfiguration(1)
+    return tables
 
 
-def unit(kind, body):
-    return bytes([kind, 0]) + len(body).to_bytes(4, "big") + body
+def read_configuration(text):
+    try:
+        tables = check_form(tomllib.loads(text))
+    except tomllib.TOMLDecodeError:
+        raise BadConfiguration(1) from None
+    names, pairs, institutions = set(), set(), []
+    for table in tables:
+        if not re.fullmatch(r"[A-Z0-9_]{1,16}", table["name"], re.ASCII):
+            raise BadConfiguration(2)
+        if table["name"] in names:
+            raise BadConfiguration(4)
+        names.add(table["name"])
+        for route in table["routes"]:
+            pair = tuple(route[key].strip(" ") for key in ("called", "calling"))
+            if not all(re.fullmatch(r"[\x20-\x5b\x5d-\x7e]{1,16}", title) for title in pair):
+                raise BadConfiguration(3)
+            if pair in pairs:
+                raise BadConfiguration(5)
+            pairs.add(pair)
+        if not all(1 <= table[key] <= most for key, most in LIMITS.items()):
+            raise BadConfiguration(6)
+        institutions.append(Institution(table))
+    return institutions
 
 
-def item(kind, body):
-    return bytes([kind, 0]) + len(body).to_bytes(2, "big") + body
-
-
-def reject(result, source, reason):
-    return unit(0x03, bytes([0, result, source, reason]))
-
-
-def abort(source, reason):
-    return unit(0x07, bytes([0, 0, source, reason]))
-
-
-def answer_context(context):
+def answered(context):
     number, abstract, transfer = context
-    if abstract != VERIFICATION:
+    if abstract not in CLASSES:
         return number, 3, IMPLICIT
-    if EXPLICIT in transfer:
-        return number, 0, EXPLICIT
-    if IMPLICIT in transfer:
-        return number, 0, IMPLICIT
+    for syntax in (EXPLICIT, IMPLICIT):
+        if syntax in transfer:
+            return number, 0, syntax
     return number, 4, IMPLICIT
 
 
-def accept(request):
-    parts = item(0x10, APPLICATION_CONTEXT)
-    for number, result, syntax in map(answer_context, request["contexts"]):
-        parts += item(0x21, bytes([number, 0, result, 0]) + item(0x40, syntax))
-    parts += item(0x50, item(0x51, LONGEST_UNIT.to_bytes(4, "big")) + item(0x52, IMPLEMENTATION_CLASS)
-                  + item(0x55, IMPLEMENTATION_VERSION))
-    return unit(0x02, b"\x00\x01\x00\x00" + request["titles"] + parts)
-
-
-def read_command(octets):
-    """The elements of a command set (PS3.7 section 6.3.1): Implicit, group 0000, rising."""
-    found, at, before = {}, 0, -1
-    while at < len(octets):
-        if len(octets) - at < 8:
-            raise Unit(INVALID)
-        group, element, length = little(octets[at:at + 2]), little(octets[at + 2:at + 4]), little(octets[at + 4:at + 8])
-        if group != 0 or element <= before or len(octets) - at - 8 < length:
-            raise Unit(INVALID)
-        found[element] = octets[at + 8:at + 8 + length]
-        before = element
-        at += 8 + length
-    command, kind = found.get(0x0100), found.get(0x0800)
-    if command is None or kind is None or len(command) != 2 or len(kind) != 2 or little(command) & 0x8000:
-        raise Unit(INVALID)
-    identity = found.get(0x0120 if little(command) == 0x0FFF else 0x0110)
-    if identity is None or len(identity) != 2:
-        raise Unit(INVALID)
-    if little(kind) != 0x0101:
-        raise Unit(INVALID)
-    return little(command), little(identity), uid(found.get(0x0002, b""))
-
-
-def element(number, value):
-    return bytes([0, 0]) + number.to_bytes(2, "little") + len(value).to_bytes(4, "little") + value
-
-
-def two(value):
-    return value.to_bytes(2, "little")
-
-
-def response(command, identity, status):
-    padded = VERIFICATION + b"\x00" * (len(VERIFICATION) % 2)
-    body = (element(0x0002, padded) + element(0x0100, two(command | 0x8000)) + element(0x0120, two(identity))
-            + element(0x0800, two(0x0101)) + element(0x0900, two(status)))
-    return element(0x0000, len(body).to_bytes(4, "little")) + body
-
-
-def sent(context, octets, maximum):
-    """One value a unit, each as long as the peer takes (PS3.8 annex D.1)."""
-    longest = min(maximum or 16384, 16384) - 6
-    longest -= longest % 2
-    out = b""
-    for at in range(0, len(octets), longest):
-        part = octets[at:at + longest]
-        last = 2 if at + longest >= len(octets) else 0
-        out += unit(0x04, (len(part) + 2).to_bytes(4, "big") + bytes([context, 1 | last]) + part)
-    return out
-
-
 class Connection:
-    def __init__(self):
+    def __init__(self, server):
+        self.server = server
         self.rest = b""
         self.request = None
-        self.accepted = []
-        self.begun = None
+        self.home = None
+        self.contexts = {}
+        self.assembler = None
 
     def feed(self, piece):
-        """The octets of the answer, and whether the connection is closed behind them."""
+        """The octets of the answer, and whether the connection is closed after them."""
         self.rest += piece
         out = b""
         while True:
             try:
-                taken = self.next_unit()
+                taken = next_pdu(self.rest)
                 if taken is None:
                     return out, False
-                for octets, close in self.answer(*taken):
+                kind, body, self.rest = taken
+                for octets, close in self.answer(kind, body):
                     out += octets
                     if close:
                         return out, True
-            except Unit as bad:
+            except BadPdu as bad:
                 return out + (abort(2, bad.reason) if self.request else abort(0, 0)), True
-
-    def next_unit(self):
-        if len(self.rest) < 6:
-            return None
-        kind, length = self.rest[0], big(self.rest[2:6])
-        if not 0x01 <= kind <= 0x07:
-            raise Unit(UNRECOGNIZED)
-        if length > LONGEST_UNIT:
-            raise Unit(INVALID)
-        if len(self.rest) < 6 + length:
-            return None
-        body, self.rest = self.rest[6:6 + length], self.rest[6 + length:]
-        if kind in (0x03, 0x05, 0x06, 0x07) and length != 4:
-            raise Unit(INVALID)
-        return kind, body
 
     def answer(self, kind, body):
         if self.request is None:
             yield from self.answer_first(kind, body)
-        elif kind == 0x04:
-            for value in read_values(body):
-                yield self.take_value(*value), False
-        elif kind == 0x05:
-            yield unit(0x06, bytes(4)), True
-        elif kind == 0x07:
+        elif kind == P_DATA:
+            for context, control, fragment in body:
+                message = self.assembler.take(context, control, fragment)
+                if message is not None:
+                    yield self.served(*message), False
+        elif kind == RELEASE_RQ:
+            yield release_reply(), True
+        elif kind == ABORT:
             yield b"", True
         else:
-            if kind == 0x01:
-                read_request(body)
-            raise Unit(UNEXPECTED)
+            raise BadPdu(UNEXPECTED)
 
     def answer_first(self, kind, body):
-        if kind == 0x07:
+        if kind == ABORT:
             yield b"", True
             return
-        if kind != 0x01:
-            raise Unit(UNEXPECTED)
-        request = read_request(body)
-        pair = (request["called"].strip(b" "), request["calling"].strip(b" "))
-        if not request["version"] & 1:
+        if kind != REQUEST:
+            raise BadPdu(UNEXPECTED)
+        home = self.server.routed(body)
+        if not body.version & 1:
             yield reject(1, 2, 2), True
-        elif request["application"] != APPLICATION_CONTEXT:
+        elif body.application != APPLICATION_CONTEXT:
             yield reject(1, 1, 2), True
-        elif request["maximum"] is not None and 1 <= request["maximum"] <= 7:
+        elif body.maximum is not None and 1 <= body.maximum <= 7 or home is None:
             yield reject(1, 1, 1), True
-        elif pair not in ROUTES:
-            yield reject(1, 1, 1), True
+        elif home.live >= home.limits["associations"]:
+            yield reject(2, 3, 2), True
         else:
-            self.request = request
-            self.accepted = [n for n, result, _ in map(answer_context, request["contexts"]) if result == 0]
-            yield accept(request), False
+            answers = [answered(context) for context in body.contexts]
+            accepted = {number: syntax for number, result, syntax in answers if result == 0}
+            self.contexts = {number: (abstract, accepted[number]) for number, abstract, _ in body.contexts
+                             if number in accepted}
+            self.request, self.home, self.assembler = body, home, Assembler(set(accepted))
+            home.live += 1
+            yield acceptance(body, answers), False
 
-    def take_value(self, context, control, fragment):
-        """What a value leads to (PS3.7 section 6.3, PS3.8 annex E): the response once the command set is whole."""
-        if context not in self.accepted or self.begun and self.begun[0] != context:
-            raise Unit(INVALID)
-        if not control & 1:
-            raise Unit(INVALID)
-        octets = (self.begun[1] if self.begun else b"") + fragment
-        if len(octets) > LONGEST_COMMAND:
-            raise Unit(INVALID)
-        if not control & 2:
-            self.begun = (context, octets)
+    def drop(self):
+        if self.home is not None:
+            self.home.live -= 1
+
+    def served(self, context, command, octets):
+        """The responses to a message, with its effect on the institution's records."""
+        sop_class, syntax = self.contexts[context]
+        service = CLASSES[sop_class]
+
+        def reply(status, data=None, instance=b""):
+            return sent(context, response(command, sop_class, status, data is not None, instance), data,
+                        self.request.maximum)
+
+        if command.field == C_CANCEL:
             return b""
-        self.begun = None
-        command, identity, sop_class = read_command(octets)
-        if command == 0x0FFF:
-            return b""
-        if command != 0x0030:
-            status = 0x0211
-        elif sop_class != VERIFICATION:
-            status = 0x0122
-        else:
-            status = 0x0000
-        return sent(context, response(command, identity, status), self.request["maximum"])
+        if command.field not in COMMANDS[service] or service not in self.server.services:
+            return reply(UNRECOGNIZED_OPERATION)
+        instance = command.sop_instance if command.field in (C_STORE, N_CREATE, N_SET) else b""
+        if command.sop_class != sop_class:
+            return reply(CLASS_NOT_SUPPORTED, instance=instance)
+        records = self.home.records
+        if command.field == C_ECHO:
+            return reply(services.SUCCESS)
+        if command.field == C_FIND:
+            if service == STUDY_ROOT:
+                pending, answers, last = services.find(records, self.request.called, octets, syntax)
+            else:
+                pending, answers, last = services.query(records, octets, syntax)
+            found = b"".join(reply(pending, services.written(answer, syntax)) for answer in answers)
+            return found + reply(last)
+        served = {C_STORE: services.store, N_CREATE: services.create, N_SET: services.change}[command.field]
+        return reply(served(records, command, octets, syntax), instance=instance)
+
+
+class Server:
+    def __init__(self, institutions, served):
+        self.institutions = institutions
+        self.services = served
+        self.held = {}
+
+    def routed(self, request):
+        pair = (request.called.strip(b" "), request.calling.strip(b" "))
+        return next((one for one in self.institutions if pair in one.pairs), None)
+
+    def console(self, order, name, octets):
+        institution = next((one for one in self.institutions if one.name == name), None)
+        refusal = 6 if institution is None else order(institution.records, octets)
+        return "done" if refusal is None else f"refused {refusal}"
+
+    def reply(self, word, subject, octets):
+        """The printed line of the reply to an event."""
+        if word == "schedule":
+            return self.console(services.schedule, subject, octets)
+        if word == "withdraw":
+            return self.console(services.withdraw, subject, octets)
+        if word == "open":
+            self.held[subject] = Connection(self)
+            return "done"
+        if subject not in self.held:
+            return "ignored"
+        if word == "end":
+            self.held.pop(subject).drop()
+            return "done"
+        out, close = self.held[subject].feed(octets)
+        if close:
+            self.held.pop(subject).drop()
+        return f"{subject} {out.hex() or '-'}{' close' if close else ''}"
+
+    def report(self):
+        for one in self.institutions:
+            studies, series, images, entries, steps = one.records.counts()
+            print(f"{one.name} studies {studies} series {series} images {images} entries {entries} steps {steps}")
 
 
 def number_of(text):
     if not re.fullmatch(r"0|[1-9][0-9]*", text, re.ASCII) or int(text) >= 2 ** 64:
         raise ValueError
     return int(text)
+
+
+def name_of(text):
+    if not re.fullmatch(r"[A-Z0-9_]{1,16}", text, re.ASCII):
+        raise ValueError
+    return text
 
 
 def octets_of(text):
@@ -317,53 +278,63 @@ def octets_of(text):
     return bytes.fromhex(text)
 
 
+def event_of(line):
+    word, _, rest = line.partition(" ")
+    if word in ("open", "end"):
+        return word, number_of(rest), b""
+    subject, _, octets = rest.partition(" ")
+    if word == "piece":
+        return word, number_of(subject), octets_of(octets)
+    if word in ("schedule", "withdraw"):
+        return word, name_of(subject), octets_of(octets)
+    raise ValueError
+
+
 def read_capture(octets):
-    text = octets.decode("utf-8")
+    """The events of a capture, or the number of its first bad line."""
+    try:
+        text = octets.decode("utf-8")
+    except UnicodeDecodeError:
+        return 0
     events, newest = [], -1
     for at, line in enumerate(text.split("\n"), 1):
         if line == "" or line.startswith("#"):
             continue
         try:
-            word, _, rest = line.partition(" ")
-            if word == "piece":
-                number, _, rest = rest.partition(" ")
-                events.append(("piece", number_of(number), octets_of(rest)))
-            elif word in ("open", "end"):
-                events.append((word, number_of(rest), b""))
-                if word == "open":
-                    if events[-1][1] <= newest:
-                        raise ValueError
-                    newest = events[-1][1]
-            else:
-                raise ValueError
+            event = event_of(line)
         except ValueError:
             return at
+        if event[0] == "open":
+            if event[1] <= newest:
+                return at
+            newest = event[1]
+        events.append(event)
     return events
 
 
 def main():
+    words = argparse.ArgumentParser()
+    words.add_argument("--config")
+    words.add_argument("--report", action="store_true")
+    words.add_argument("--services", default=(pathlib.Path(__file__).parent / "services").read_text(encoding="utf-8"))
+    words = words.parse_args()
     try:
-        events = read_capture(sys.stdin.buffer.read())
-    except UnicodeDecodeError:
-        events = 0
+        text = BUILT_IN if words.config is None else open(words.config, encoding="utf-8").read()
+        institutions = read_configuration(text)
+    except (OSError, UnicodeDecodeError, BadConfiguration) as bad:
+        print("config", bad.args[0] if isinstance(bad, BadConfiguration) else 0, file=sys.stderr)
+        return 2
+    events = read_capture(sys.stdin.buffer.read())
     if isinstance(events, int):
         print(f"capture line {events}", file=sys.stderr)
         return 3
-    held = {}
-    for word, number, octets in events:
-        if word == "open":
-            held[number] = Connection()
-            print("done")
-        elif number not in held:
-            print("ignored")
-        elif word == "end":
-            del held[number]
-            print("done")
-        else:
-            out, close = held[number].feed(octets)
-            print(number, out.hex() or "-", *(["close"] if close else []))
-            if close:
-                del held[number]
+    server = Server(institutions, set(words.services.strip().split(",")))
+    for event in events:
+        line = server.reply(*event)
+        if not words.report:
+            print(line)
+    if words.report:
+        server.report()
     return 0
 
 
