@@ -11,6 +11,3 @@ pub use agreement::{AgreedContext, Agreement, PeerLimit};
 pub use association::{Association, State, Step, Verdict};
 pub use classes::{Service, SopClass};
 pub use negotiation::{ContextRefusal, context_result, is_accepted};
-
-#[cfg(test)]
-mod tests;

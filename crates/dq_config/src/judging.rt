@@ -117,8 +117,9 @@ fn contain_route(routes: &[Route], route: &Route) -> bool
     routes.iter().any(|other| other.joins(route.called.as_slice(), route.calling.as_slice()))
 }
 
+/// Whether octets are the name of an institution: 1 to 16 of A to Z, 0 to 9 and the underscore.
 #[tactic(auto, unfolding(crate::specs::Conditions::is_name))]
-fn is_name(name: &[u8]) -> bool
+pub fn is_name(name: &[u8]) -> bool
     ensures { result ≡ is_name name.now }
 {
     has_text_length(name) && are_name_octets(name)

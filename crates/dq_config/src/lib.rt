@@ -10,6 +10,4 @@ mod reading;
 
 pub use config::{Config, Institution, Route};
 pub use fault::ConfigFault;
-
-#[cfg(test)]
-mod tests;
+pub use judging::is_name;

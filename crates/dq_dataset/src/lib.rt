@@ -19,6 +19,3 @@ pub use header::Syntax;
 pub use lending::{Elements, Lent};
 pub use reading::read;
 pub use writing::write;
-
-#[cfg(test)]
-mod tests;

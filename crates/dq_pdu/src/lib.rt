@@ -21,6 +21,3 @@ pub use inbox::{Fed, Inbox};
 pub use pdu::{Accept, AnsweredContext, Pdu, Pdv, ProposedContext, Request};
 pub use role::{Ending, Role};
 pub use writing::{append_p_data, writable, write_pdu};
-
-#[cfg(test)]
-mod tests;

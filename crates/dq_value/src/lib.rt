@@ -19,6 +19,3 @@ pub use ranges::{range_law, range_of};
 pub use times::{time_law, time_of};
 pub use titles::{stripped, stripping_law};
 pub use uids::is_uid;
-
-#[cfg(test)]
-mod tests;

@@ -421,6 +421,3 @@ impl Vr {
         ensures own { (vr : Vr) (letters : List ℕ) → vr_with_letters letters ≡ Some vr → letters_of vr ≡ letters }
     {}
 }
-
-#[cfg(test)]
-mod tests;

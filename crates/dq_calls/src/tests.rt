@@ -1,0 +1,10 @@
+mod associations;
+mod configurations;
+mod data_sets;
+mod dictionary;
+mod lists;
+mod messages;
+mod stores;
+mod streams;
+mod tables;
+mod values;

@@ -1,0 +1,155 @@
+//! Rows of records in memory, and over a fuse.
+ghost use Rattle.std.specs.Prelude.{◌≡◌, ◌<◌, ◌^◌, [], true, length, IfOk};
+ghost use Rattle.dq_tables.specs.Sound.{is_own, Fits};
+
+use dq_list::Listed;
+use dq_tables::{Change, Fused, Kind, PlainTables, Row, TableFault, Tables};
+use std::alloc::{AllocError, Global};
+use std::test::*;
+
+const NORTH: &[u8] = b"NORTH";
+
+/// A study 1.2, a series 1.3 of it, an image 1.4 of that, and an entry with the id S1, in Explicit.
+const STUDY: [u8; 12] = *b"\x20\x00\x0d\x00UI\x04\x001.2\x00";
+
+const SERIES: [u8; 24] = *b"\x20\x00\x0d\x00UI\x04\x001.2\x00\x20\x00\x0e\x00UI\x04\x001.3\x00";
+
+const IMAGE: [u8; 24] = *b"\x08\x00\x18\x00UI\x04\x001.4\x00\x20\x00\x0e\x00UI\x04\x001.3\x00";
+
+const ENTRY: [u8; 30] =
+    *b"\x40\x00\x00\x01SQ\x00\x00\x12\x00\x00\x00\xfe\xff\x00\xe0\x0a\x00\x00\x00\x40\x00\x09\x00SH\x02\x00S1";
+
+fn row(
+    alloc: Global,
+    kind: Kind,
+    key: &[u8],
+    above: &[u8],
+    octets: &[u8],
+) -> Result<Row, AllocError>
+    ensures { IfOk result (λ row. row
+        ≡ record { kind = kind; inst = NORTH.now; key = key.now; above = above.now; octets = octets.now }) }
+{
+    Ok(Row {
+        kind,
+        inst: Listed::copy_of(alloc, NORTH)?,
+        key: Listed::copy_of(alloc, key)?,
+        above: Listed::copy_of(alloc, above)?,
+        octets: Listed::copy_of(alloc, octets)?,
+    })
+}
+
+/// A row of NORTH that is its record's own.
+fn own(alloc: Global, kind: Kind, key: &[u8], above: &[u8], octets: &[u8]) -> Result<Row, Fail>
+    requires { length octets.now < 2 ^ 31 }
+    ensures same { IfOk result (λ row. row
+        ≡ record { kind = kind; inst = NORTH.now; key = key.now; above = above.now; octets = octets.now }) }
+    ensures own { IfOk result (λ row. is_own row ≡ true) }
+{
+    let row = row(alloc, kind, key, above, octets)?;
+    let is_own = row.is_own(alloc)?;
+    Ok(
+        is_own
+            .then_some(row)
+            .ok_or("the row is not its record's own")?,
+    )
+}
+
+/// The change that keeps the study, the series and the image where nothing is kept.
+fn stored(alloc: Global) -> Result<Change, Fail>
+    ensures { IfOk result (λ change. Fits [] change) }
+{
+    let study = own(alloc, Kind::Study, b"1.2", b"", &STUDY)?;
+    let series = own(alloc, Kind::Series, b"1.3", b"1.2", &SERIES)?;
+    let image = own(alloc, Kind::Image, b"1.4", b"1.3", &IMAGE)?;
+    Ok(Change::Stored {
+        study: Some(study),
+        series: Some(series),
+        image,
+    })
+}
+
+/// The change that adds the entry where nothing is kept.
+fn added(alloc: Global) -> Result<Change, Fail>
+    ensures { IfOk result (λ change. Fits [] change) }
+{
+    Ok(Change::EntryAdded(own(alloc, Kind::Entry, b"S1", b"", &ENTRY)?))
+}
+
+/// The change that adds a step where nothing is kept.
+fn begun(alloc: Global) -> Result<Change, Fail>
+    ensures { IfOk result (λ change. Fits [] change) }
+{
+    Ok(Change::StepAdded(own(alloc, Kind::Step, b"1.5", b"", b"")?))
+}
+
+/// Tables with a study, a series and an image of NORTH.
+fn with_image(alloc: Global) -> Result<PlainTables, Fail> {
+    let mut tables = PlainTables::new(alloc);
+    tables.apply(alloc, &stored(alloc)?)?;
+    Ok(tables)
+}
+
+/// Tables with an entry of NORTH.
+fn with_entry(alloc: Global) -> Result<PlainTables, Fail> {
+    let mut tables = PlainTables::new(alloc);
+    tables.apply(alloc, &added(alloc)?)?;
+    Ok(tables)
+}
+
+/// Tables with a step of NORTH.
+fn with_step(alloc: Global) -> Result<PlainTables, Fail> {
+    let mut tables = PlainTables::new(alloc);
+    tables.apply(alloc, &begun(alloc)?)?;
+    Ok(tables)
+}
+
+#[test]
+fn studies_are_found(rt: HostRuntime) -> Result<(), Fail> {
+    let mut tables = with_image(rt.alloc())?;
+    assert!(rt; tables.study(rt.alloc(), NORTH, b"1.2")?.is_some());
+    assert!(rt; tables.studies(rt.alloc(), b"SOUTH")?.is_empty());
+    Ok(())
+}
+
+#[test]
+fn series_are_found(rt: HostRuntime) -> Result<(), Fail> {
+    let mut tables = with_image(rt.alloc())?;
+    assert!(rt; tables.series(rt.alloc(), NORTH, b"1.3")?.is_some());
+    assert!(rt; tables.series_of(rt.alloc(), NORTH, b"1.2")?.len() == 1);
+    Ok(())
+}
+
+#[test]
+fn images_are_found(rt: HostRuntime) -> Result<(), Fail> {
+    let mut tables = with_image(rt.alloc())?;
+    assert!(rt; tables.image(rt.alloc(), NORTH, b"1.4")?.is_some());
+    assert!(rt; tables.images_of(rt.alloc(), NORTH, b"1.2")?.is_empty());
+    Ok(())
+}
+
+#[test]
+fn entries_are_found(rt: HostRuntime) -> Result<(), Fail> {
+    let mut tables = with_entry(rt.alloc())?;
+    assert!(rt; tables.entry(rt.alloc(), NORTH, b"S1")?.is_some());
+    assert!(rt; tables.entries(rt.alloc(), NORTH)?.len() == 1);
+    Ok(())
+}
+
+#[test]
+fn steps_are_found(rt: HostRuntime) -> Result<(), Fail> {
+    let mut tables = with_step(rt.alloc())?;
+    assert!(rt; tables.step(rt.alloc(), NORTH, b"1.5")?.is_some());
+    assert!(rt; tables.steps(rt.alloc(), NORTH)?.len() == 1);
+    Ok(())
+}
+
+/// Tables that make no change fail at the first, and answer nothing from then on.
+#[test]
+fn a_fuse_blows(rt: HostRuntime) -> Result<(), Fail> {
+    let change = added(rt.alloc())?;
+    let mut tables = Fused::new(PlainTables::new(rt.alloc()), 0);
+    assert!(rt; tables.apply(rt.alloc(), &change) == Err(TableFault::Store));
+    assert!(rt; tables.failed());
+    assert!(rt; tables.count(rt.alloc(), Kind::Entry, NORTH) == Err(TableFault::Store));
+    Ok(())
+}
