@@ -1,5 +1,5 @@
 -- A change that keeps an instance which is new fits the rows.
-use Rattle.std.proofs.Common.{◌≡◌, ℕ, zero, suc, Bool, true, false, ◌&&◌, ◌||◌, List, [], ◌∷◌, ◌++◌, drop, Option, Some, None, is_some, find, filter, Result, Ok, refl, sym, ◌∙◌, ap, subst, if◌then◌else◌}
+use Rattle.std.proofs.Common.{◌≡◌, ℕ, zero, suc, Bool, true, false, ◌||◌, List, [], ◌∷◌, ◌++◌, drop, Option, Some, None, is_some, find, filter, Ok, refl, sym, ◌∙◌, ap, if◌then◌else◌}
 use Rattle.std.specs.List.{list_any}
 use Rattle.std.specs.Option.{option_map}
 use Rattle.std.specs.Str.{bytes_eq}
@@ -23,7 +23,7 @@ use Rattle.dq_tables.specs.declared.row.Kind.TheVariants.{Study, Series, Image}
 use Rattle.dq_tables.specs.declared.row.Row.{Row}
 use Rattle.dq_tables.specs.declared.change.Change.{Change}
 use Rattle.dq_tables.specs.Rows.{Record, RowPlace, Edit, Put, IsRising, IsOf, of, row_of, place_of, place, within, row_place_of, row_place_order, rows_before, rows_past, after_edit, after_edits, put_if, edits_of, after, by, operation_of}
-use Rattle.dq_tables.specs.Finding.{row_at, record_at}
+use Rattle.dq_tables.specs.Finding.{row_at}
 use Rattle.dq_tables.specs.Keys.{uid_at, sole_at}
 use Rattle.dq_tables.specs.Sound.{is_own, is_held, is_value, has_key, has_above, is_within, IsNew, IsNewIf, FitsStored}
 use Rattle.dq_tables.proofs.Order.{rows_total, is_at, IsRising-split}
@@ -41,7 +41,7 @@ passed_over : {X : Type 0} (t : X → Bool) (x : X) (m ys : List X) (b : Bool) �
 passed_over t x m ys true e rest none = cc
 passed_over t x m ys false e rest none = rest none
 
-none_in_front : {X : Type 0} (t : X → Bool) (m ys : List X) → find t m ≡ None → find t (m ++ ys) ≡ find t ys
+pub none_in_front : {X : Type 0} (t : X → Bool) (m ys : List X) → find t m ≡ None → find t (m ++ ys) ≡ find t ys
 none_in_front t [] ys none = refl
 none_in_front t (x ∷ m) ys none = passed_over t x m ys (t x) refl (none_in_front t m ys) none
 
@@ -104,7 +104,7 @@ kept_step p q x xs true false here kept both rest = (let no : false ≡ true = b
 kept_step p q x xs false true here kept both rest = rw here rest
 kept_step p q x xs false false here kept both rest = rest
 
-found_filtered : {X : Type 0} (p q : X → Bool) → ((x : X) → p x ≡ true → q x ≡ true) → (xs : List X) → find p (filter q xs) ≡ find p xs
+pub found_filtered : {X : Type 0} (p q : X → Bool) → ((x : X) → p x ≡ true → q x ≡ true) → (xs : List X) → find p (filter q xs) ≡ find p xs
 found_filtered p q both [] = refl
 found_filtered p q both (x ∷ xs) = kept_step p q x xs (p x) (q x) refl refl (both x) (found_filtered p q both xs)
 

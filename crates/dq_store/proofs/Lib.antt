@@ -2,4 +2,5 @@ pub mod Records
 pub mod Comparing
 pub mod Outcomes
 pub mod Fitting
+pub mod Staying
 pub mod Calls

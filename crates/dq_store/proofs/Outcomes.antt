@@ -1,16 +1,16 @@
 -- What is answered of an instance, by what is kept of it.
-use Rattle.std.proofs.Common.{◌≡◌, ℕ, Bool, true, false, ◌&&◌, ◌||◌, nat_lt, not, List, [], ◌∷◌, length, Option, Some, None, is_some, is_none, Result, Ok, Err, refl, sym, ◌∙◌, ap, subst}
-use Rattle.std.specs.Result.{is_err, result_ok}
+use Rattle.std.proofs.Common.{◌≡◌, ℕ, Bool, true, false, ◌||◌, List, [], ◌∷◌, Option, Some, None, Result, Ok, Err, refl, sym, ◌∙◌, ap, subst, if◌then◌else◌, ◌⊎◌, inl, inr}
+use Rattle.std.specs.Result.{result_ok}
 use Rattle.dq_dataset.specs.declared.fault.ReadFault.{ReadFault}
 use Rattle.dq_dataset.specs.declared.header.Syntax.{Syntax}
 use Rattle.dq_dataset.specs.Tree.{ElementList}
 use Rattle.dq_dataset.specs.Reading.{reading}
 use Rattle.dq_dimse.specs.declared.command.Message.{Message}
-use Rattle.dq_dimse.specs.Statuses.{out_of_resources, does_not_match_sop_class, cannot_understand, instance_kept_elsewhere, series_kept_elsewhere}
+use Rattle.dq_dimse.specs.Statuses.{out_of_resources, does_not_match_sop_class, cannot_understand, instance_kept_elsewhere, series_kept_elsewhere, success, elements_discarded}
 use Rattle.dq_config.specs.Limits.{Limits}
 use Rattle.dq_tables.specs.declared.row.Kind.TheVariants.{Study, Image}
-use Rattle.dq_tables.specs.Rows.{Record, Edit}
-use Rattle.dq_store.specs.Storing.{Instance, Kept, kept_among, instance_in, read_instance, is_kept_elsewhere, has_series_elsewhere, finds_no_room, count_of, record_refusals, refusals, first_refusal, outcome, stored_status, stored_edits, stored, instance_outcome, is_over}
+use Rattle.dq_tables.specs.Rows.{Record}
+use Rattle.dq_store.specs.Storing.{Instance, Kept, kept_among, instance_in, is_kept_elsewhere, has_series_elsewhere, finds_no_room, count_of, first_refusal, outcome, stored_status, stored_edits, stored, instance_outcome, is_over}
 
 abbrev two : (a b : Bool) (x y : ℕ) → Option ℕ
 two a b x y = first_refusal ((a, x) ∷ (b, y) ∷ [])
@@ -104,3 +104,24 @@ not_read limits records message syntax (Err fault) h same none = unread limits r
 pub read_is : (r : Result ElementList ReadFault) (d : ElementList) → result_ok r ≡ Some d → r ≡ Ok d
 read_is (Ok d') d some = cc
 read_is (Err fault) d some = cc
+
+-- ---- what is refused
+
+whole_or_not : (b : Bool) → ((if b then success else elements_discarded) ≡ success) ⊎ ((if b then success else elements_discarded) ≡ elements_discarded)
+whole_or_not true = inl refl
+whole_or_not false = inr refl
+
+status_kept : (kept : Kept) (sent : Instance) → (stored_status kept sent ≡ success) ⊎ (stored_status kept sent ≡ elements_discarded)
+unfolding stored_status
+status_kept kept sent = whole_or_not _
+
+outcome_refused : (records : List Record) (refusal : Option ℕ) (sent : Option Instance)
+    → ((outcome records refusal sent).1 ≡ []) ⊎ (((outcome records refusal sent).0 ≡ success) ⊎ ((outcome records refusal sent).0 ≡ elements_discarded))
+outcome_refused records (Some status) sent = inl refl
+outcome_refused records None None = inl refl
+outcome_refused records None (Some sent) = inr (status_kept (kept_among records sent) sent)
+
+pub refused_changes_nothing : (limits : Limits) (records : List Record) (message : Message) (syntax : Syntax)
+    → ((stored limits records message syntax).1 ≡ []) ⊎ (((stored limits records message syntax).0 ≡ success) ⊎ ((stored limits records message syntax).0 ≡ elements_discarded))
+unfolding stored
+refused_changes_nothing limits records message syntax = outcome_refused records _ _

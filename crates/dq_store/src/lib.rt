@@ -5,9 +5,7 @@ mod attributes;
 mod instance;
 mod keeping;
 mod kept;
+pub mod laws;
 mod storing;
 
 pub use storing::store;
-
-#[cfg(test)]
-mod tests;
