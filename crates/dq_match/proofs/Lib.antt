@@ -1,5 +1,7 @@
 mod DataSets
+mod Itself
 mod KnownKeys
+mod Counted
 mod Moments
 mod NamePads
 mod Names

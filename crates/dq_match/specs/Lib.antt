@@ -10,3 +10,4 @@ pub mod Supported
 pub mod Responses
 pub mod Universal
 pub mod ShownTags
+pub mod Lengths

@@ -9,10 +9,10 @@ ghost use Rattle.dq_match.specs.declared.wildcards.Casing.{Casing};
 ghost use Rattle.dq_match.specs.Wildcards.{Fits, wild};
 ghost use Rattle.std.specs.Char.{to_ascii_lowercase};
 ghost use Rattle.dq_value.specs.Day.{day};
-ghost use Rattle.dq_value.specs.Time.{Span};
+ghost use Rattle.dq_value.specs.Time.{Span, span};
 ghost use Rattle.dq_value.specs.Range.{ends, end_of};
-ghost use Rattle.dq_match.specs.declared.values.Matching.TheVariants.{Name};
-ghost use Rattle.dq_match.specs.Ranges.{Bounds, has_day, has_time, date_meets, is_from, is_until};
+ghost use Rattle.dq_match.specs.declared.values.Matching.TheVariants.{Name, WildCard, Equality};
+ghost use Rattle.dq_match.specs.Ranges.{Bounds, has_day, has_time, date_meets, time_meets, is_from, is_until};
 ghost use Rattle.dq_match.specs.Values.{is_name_pad, name_of, value_meets, is_universal, octets_meet};
 ghost use Rattle.dq_match.specs.Keys.{is_key};
 ghost use Rattle.dq_match.specs.Matching.{all_met};
@@ -25,6 +25,17 @@ ghost use Rattle.dq_match.specs.ShownTags.{tags_of, set_tags};
 #[tactic(auto, using(crate::proofs::WildFits::wild_is_fits))]
 pub fn wild_cards_fit()
     ensures { (casing : Casing) (pattern text : List ℕ) → (wild casing pattern text ≡ true) ↔ Fits casing pattern text }
+{}
+
+/// A value is met by itself, whatever its kind (PS3.4 section C.2.2.2.1). Of dates
+/// `ranges_take_what_is_between` says so.
+#[tactic(auto, using(crate::proofs::Itself::wild_itself, crate::proofs::Itself::same_itself, crate::proofs::Itself::time_itself))]
+pub fn a_value_meets_itself()
+    ensures text { (value : List ℕ) → value_meets WildCard value value ≡ true }
+    ensures name { (value : List ℕ) → value_meets Name value value ≡ true }
+    ensures equal { (value : List ℕ) → value_meets Equality value value ≡ true }
+    ensures time { (value : List ℕ) (first last : ℕ) → ends value ≡ None
+        → span value ≡ Some (first, last) → first ≤ last → time_meets value value ≡ true }
 {}
 
 /// A universal key is met by every record, and keys that are all universal are met together

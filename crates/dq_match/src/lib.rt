@@ -5,6 +5,7 @@
 mod identifiers;
 mod keys;
 pub mod laws;
+mod lengths;
 mod matching;
 mod ranges;
 mod responses;
@@ -13,6 +14,7 @@ mod values;
 mod wildcards;
 
 pub use identifiers::is_query;
+pub use lengths::can_be_written;
 pub use matching::{fits, meets};
 pub use responses::{Found, shown};
 pub use supported::{KeyList, strike};
