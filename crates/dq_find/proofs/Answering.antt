@@ -1,0 +1,162 @@
+-- The answers of one row after the other, and what is not computed where no key asks for it.
+use Rattle.std.proofs.Common.{◌≡◌, ℕ, Bool, true, false, cond, ◌||◌, List, [], ◌∷◌, map, filter, Option, Some, None, is_some, Ok, Err, refl, sym, ap, ◌∙◌, arith}
+use Rattle.std.specs.List.{list_any, filter_map, cons_option}
+use Rattle.std.proofs.lemmas.Bool.Decides.{nat_tests}
+use Rattle.dq_vr.specs.declared.Tag.{Tag}
+use Rattle.dq_vr.specs.Tags as tags
+use Rattle.dq_dataset.specs.declared.data_set.Element.{Element}
+use Rattle.dq_dataset.specs.declared.header.Syntax.{Syntax}
+use Rattle.dq_dataset.specs.declared.data_set.Value.TheVariants.{Octets, Items}
+use Rattle.dq_dataset.specs.Tree.{ElementList, no_elements, element, sequence}
+use Rattle.dq_dataset.specs.View.{elements_of, has_tag, list_of}
+use Rattle.dq_dataset.specs.Editing.{merged}
+use Rattle.dq_match.specs.Keys.{element_at, is_tag}
+use Rattle.dq_match.specs.Matching.{fits}
+use Rattle.dq_tables.specs.declared.row.Row.{Row}
+use Rattle.dq_dimse.specs.declared.command.Message.{Message}
+use Rattle.dq_dimse.specs.Statuses.{success}
+use Rattle.dq_tables.specs.Rows.{Record, of, record_of, row_of}
+use Rattle.dq_find.specs.declared.level.Level.{Level}
+use Rattle.dq_find.specs.declared.level.Level.TheVariants.{Study, Series, Image}
+use Rattle.dq_find.specs.declared.query.Query.{Query}
+use Rattle.dq_find.specs.Computed.{study_values, series_values, computed, completed}
+use Rattle.dq_find.specs.Queries.{answer, answer_if, answers, asked_records, asks_computed, about_answers, query_of, found_by, found}
+use Rattle.dq_find.proofs.Completing.{element_stays}
+use Rattle.dq_find.proofs.Agreeing.{Agree, fits_alike, shown_alike}
+
+-- ---- nothing computed is asked for
+
+is_tag-sym : (a b : Tag) → is_tag a b ≡ is_tag b a
+is_tag-sym a b = grind (arith, nat_tests)
+
+some_or : (a b : Bool) → (a || b) ≡ false → (a ≡ false) × (b ≡ false)
+some_or true b h = absurd cc
+some_or false b h = (refl, h)
+
+missing_by : (b : Bool) (e : Element) (others : Option Element) → is_some (cond b (Some e) others) ≡ false → (b ≡ false) × (is_some others ≡ false)
+missing_by true e others h = absurd cc
+missing_by false e others h = (refl, h)
+
+-- the keys ask for none of the tags
+abbrev asks_none : List Tag → ElementList → Bool
+asks_none listed keys = list_any (λ tag. is_some (element_at tag keys)) listed
+
+none_here : (listed : List Tag) (e : Element) (rest : ElementList)
+    → list_any (λ tag. is_some (cond (is_tag e.tag tag) (Some e) (element_at tag rest))) listed ≡ false
+    → (list_any (λ tag. is_tag tag e.tag) listed ≡ false) × (asks_none listed rest ≡ false)
+none_here [] e rest h = (refl, refl)
+none_here (tag ∷ others) e rest h =
+    let parts = some_or (is_some (cond (is_tag e.tag tag) (Some e) (element_at tag rest)))
+    (list_any (λ tag. is_some (cond (is_tag e.tag tag) (Some e) (element_at tag rest))) others) h in
+    let here = missing_by (is_tag e.tag tag) e (element_at tag rest) parts.0 in
+    let later = none_here others e rest parts.1 in
+    ((λ i. (is_tag-sym tag e.tag ∙ here.0) i || later.0 i), (λ i. here.1 i || later.1 i))
+
+module _ (listed : List Tag) (sent : ElementList) (within : (tag : Tag) → list_any (λ one. is_tag one tag) listed ≡ false
+    → list_any (has_tag tag) (elements_of sent) ≡ false)
+    (held : ElementList) where
+  agree_unasked : (keys : ElementList) → asks_none listed keys ≡ false → Agree keys (merged held sent) held
+  agree_unasked no_elements h = tt
+  agree_unasked (element t v o rest) h =
+      let parts = none_here listed (record { tag = t; vr = v; value = Octets o }) rest h in
+      (element_stays t held sent (within t parts.0), agree_unasked rest parts.1)
+  agree_unasked (sequence t v items rest) h =
+      let parts = none_here listed (record { tag = t; vr = v; value = Items (list_of items) }) rest h in
+      (element_stays t held sent (within t parts.0), agree_unasked rest parts.1)
+
+abbrev all_computed : List Tag
+all_computed = tags.modalities_in_study ∷ tags.number_of_study_related_series ∷ tags.number_of_study_related_instances
+    ∷ tags.number_of_series_related_instances ∷ []
+
+last_of : (a b c d : Bool) → (a || (b || (c || (d || false)))) ≡ false → d ≡ false
+last_of false false false d h = or_nothing d h
+  where
+    or_nothing : (x : Bool) → (x || false) ≡ false → x ≡ false
+    or_nothing true k = k
+    or_nothing false k = k
+last_of true b c d h = absurd cc
+last_of false true c d h = absurd cc
+last_of false false true d h = absurd cc
+
+first_three : (a b c d : Bool) → (a || (b || (c || (d || false)))) ≡ false → (a || (b || (c || false))) ≡ false
+first_three false false false d h = refl
+first_three true b c d h = absurd cc
+first_three false true c d h = absurd cc
+first_three false false true d h = absurd cc
+
+computed_tags_alone : (records : List Record) (level : Level) (key : List ℕ) (tag : Tag) → list_any (λ one. is_tag one tag) all_computed ≡ false
+    → list_any (has_tag tag) (elements_of (computed records level key)) ≡ false
+unfolding computed study_values series_values
+computed_tags_alone records Study key tag h =
+    first_three (is_tag tags.modalities_in_study tag) (is_tag tags.number_of_study_related_series tag) (is_tag tags.number_of_study_related_instances tag)
+    (is_tag tags.number_of_series_related_instances tag) h
+computed_tags_alone records Series key tag h =
+    ap (λ (b : Bool). b || false) (last_of (is_tag tags.modalities_in_study tag) (is_tag tags.number_of_study_related_series tag)
+    (is_tag tags.number_of_study_related_instances tag)
+    (is_tag tags.number_of_series_related_instances tag) h)
+computed_tags_alone records Image key tag h = refl
+
+stays : (records : List Record) (level : Level) (key : List ℕ) (held : ElementList) (tag : Tag) → list_any (λ one. is_tag one tag) all_computed ≡ false
+    → element_at tag (merged held (computed records level key)) ≡ element_at tag held
+stays records level key held tag other = element_stays tag held (computed records level key) (computed_tags_alone records level key tag other)
+
+-- a record is answered alike without what is computed
+pub answered_alike : (records : List Record) (called key : List ℕ) (query : Query) (held : ElementList) → asks_computed query ≡ false
+    → answer_if called query held ≡ answer_if called query (merged held (computed records query.level key))
+answered_alike records called key query held h =
+    let sent : ElementList = computed records query.level key in
+    let agree = agree_unasked all_computed sent (λ tag other. computed_tags_alone records query.level key tag other) held query.keys h in
+    let fit = fits_alike query.keys (merged held sent) held agree (stays records query.level key held tags.scheduled_procedure_step_start_date refl)
+    (stays records query.level key held tags.scheduled_procedure_step_start_time refl) in
+    let show = shown_alike query.keys (merged held sent) held agree (stays records query.level key held tags.specific_character_set refl) in
+    sym (λ i. cond (fit i) (Some (merged (show i) (about_answers called query.level))) None)
+
+-- ---- all rows
+
+answer_by : (b : Bool) (f : ElementList → ElementList) (held : ElementList) (kept others : List ElementList) → others ≡ map f kept
+    → cons_option (cond b (Some (f held)) None) others ≡ map f (cond b (held ∷ kept) kept)
+answer_by true f held kept others h = ap (λ (ds : List ElementList). f held ∷ ds) h
+answer_by false f held kept others h = h
+
+one_by_one : (records : List Record) (called institution : List ℕ) (query : Query) (rs : List Record)
+    → filter_map (λ (row : Row). answer_if called query (completed records query.level (record_of row))) (map (row_of institution) rs)
+    ≡ map (answer called query) (filter (fits query.keys) (map (completed records query.level) rs))
+one_by_one records called institution query [] = refl
+one_by_one records called institution query (r ∷ rs) =
+    let held : ElementList = completed records query.level r in
+    answer_by (fits query.keys held) (answer called query) held (filter (fits query.keys) (map (completed records query.level) rs))
+    (filter_map (λ (row : Row). answer_if called query (completed records query.level (record_of row))) (map (row_of institution) rs))
+    (one_by_one records called institution query rs)
+
+pub answered_one_by_one : (records : List Record) (called institution : List ℕ) (query : Query)
+    → filter_map (λ (row : Row). answer_if called query (completed records query.level (record_of row)))
+    (map (row_of institution) (asked_records records query))
+    ≡ answers records called query
+unfolding answers
+answered_one_by_one records called institution query = one_by_one records called institution query (asked_records records query)
+
+-- what is answered of the rows that are asked for
+pub answered_of_rows : (old mid : List Row) (name given called : List ℕ) (query : Query) (found seen : List Row) (answered : List ElementList)
+    → given ≡ name → mid ≡ old
+    → found ≡ map (row_of given) (asked_records (of given old) query) → seen ≡ found
+    → answered ≡ filter_map (λ (row : Row). answer_if called query (completed (of given mid) query.level (record_of row))) seen
+    → answered ≡ answers (of name old) called query
+answered_of_rows old mid name given called query found seen answered same_name same_rows found_is seen_is answered_is =
+    let asked : seen ≡ map (row_of name) (asked_records (of name old) query) =
+    seen_is ∙ found_is ∙ ap (λ (n : List ℕ). map (row_of n) (asked_records (of n old) query)) same_name in
+    answered_is ∙ (λ i. filter_map (λ (row : Row). answer_if called query (completed (of (same_name i) (same_rows i)) query.level (record_of row))) (asked i))
+    ∙ answered_one_by_one (of name old) called name query
+
+-- ---- what is found
+
+pub found_none : (records : List Record) (called : List ℕ) (message : Message) (syntax : Syntax) (status : ℕ) → query_of message syntax ≡ Err status
+    → found records called message syntax ≡ record { status = status; optional = false; answers = [] }
+unfolding found
+found_none records called message syntax status refused = ap (found_by records called) refused
+
+pub found_some : (records : List Record) (called : List ℕ) (message : Message) (syntax : Syntax) (query : Query) (answered : List ElementList)
+    → query_of message syntax ≡ Ok query → answered ≡ answers records called query
+    → found records called message syntax ≡ record { status = success; optional = query.optional; answers = answered }
+unfolding found
+found_some records called message syntax query answered asked is =
+    ap (found_by records called) asked ∙ (λ i. record { status = success; optional = query.optional; answers = sym is i })

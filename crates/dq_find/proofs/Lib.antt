@@ -1,0 +1,9 @@
+mod Agreeing
+mod Answered
+mod Answering
+mod Asking
+mod Completing
+mod Counting
+mod InOrder
+mod Looking
+mod Texts

@@ -1,0 +1,134 @@
+-- Elements of texts are data sets.
+use Rattle.std.proofs.Common.{◌≡◌, ◌≢◌, ℕ, ◌+◌, ◌%◌, ◌<◌, ◌^◌, Bool, true, false, cond, nat_eq, List, [], ◌∷◌, ◌++◌, length, Option, Some, None, unwrap_or, codes, refl, ap, ◌∙◌, arith, length-append}
+use Rattle.std.specs.Fmt.{decimal}
+use Rattle.std.proofs.lemmas.Bool.Decides.{nat_tests}
+use Rattle.dq_vr.specs.declared.Tag.{Tag}
+use Rattle.dq_vr.specs.declared.Vr.{Vr}
+use Rattle.dq_vr.specs.declared.Vr.TheVariants.{AE, CS, IS, UN}
+use Rattle.dq_vr.specs.Tag.{is_below}
+use Rattle.dq_vr.specs.Tags as tags
+use Rattle.dq_vr.specs.Dictionary.{dictionary, vr_in, known_vr}
+use Rattle.dq_dataset.specs.declared.data_set.Element.{Element}
+use Rattle.dq_dataset.specs.declared.data_set.Value.TheVariants.{Octets}
+use Rattle.dq_dataset.specs.Rules.{pad_of, padded, is_sequence}
+use Rattle.dq_dataset.specs.Reading.{follows}
+use Rattle.dq_dataset.specs.Facts.{IsElementTag, IsPlain, IsDataSet}
+use Rattle.dq_dataset.specs.Tree.{no_elements}
+use Rattle.dq_dataset.specs.View.{as_elements}
+use Rattle.dq_find.specs.declared.level.Level.{Level}
+use Rattle.dq_find.specs.Computed.{text, study_values, series_values}
+use Rattle.dq_value.specs.Title.{stripped}
+use Rattle.dq_find.specs.Levels.{name_of}
+use Rattle.dq_find.specs.Queries.{about_answers}
+
+other_number : (a b : ℕ) → nat_eq a b ≡ false → a ≢ b
+other_number a b h e = absurd (grind (arith, nat_tests))
+
+same_number : (a b : ℕ) → nat_eq a b ≡ true → a ≡ b
+same_number a b h = grind (arith, nat_tests)
+
+odd_filled : (n : ℕ) → n % 2 ≢ 0 → (n + 1) % 2 ≡ 0
+odd_filled n h = omega arith
+
+even_by : (b : Bool) (vr : Vr) (value : List ℕ) → nat_eq (length value % 2) 0 ≡ b → length (cond b value (value ++ pad_of vr ∷ [])) % 2 ≡ 0
+even_by true vr value h = same_number (length value % 2) 0 h
+even_by false vr value h = rw (length-append value (pad_of vr ∷ [])) (odd_filled (length value) (other_number (length value % 2) 0 h))
+
+plain : (tag : Tag) (vr : Vr) (value : List ℕ) → vr ≡ unwrap_or (known_vr tag) UN → is_sequence (known_vr tag) ≡ false → IsPlain tag vr (padded vr value)
+plain tag vr value known no_sequence = record {
+  by_dictionary = known;
+  no_sequence = no_sequence;
+  even = even_by (nat_eq (length value % 2) 0) vr value refl;
+}
+
+placed : (last : Option Tag) (tag : Tag) → follows last tag ≡ true → tag.group ≢ 0xFFFE → tag.element ≢ 0 → tag.group < 2 ^ 16
+    → tag.element < 2 ^ 16 → IsElementTag last tag
+placed last tag rises no_delimiter no_length group number = record {
+  rises = rises;
+  no_delimiter = no_delimiter;
+  no_length = no_length;
+  group = group;
+  number = number;
+}
+
+pub study_values_facts : (modalities : List ℕ) (series images : ℕ) → IsDataSet (study_values modalities series images)
+unfolding study_values known_vr vr_in dictionary is_below
+study_values_facts modalities series images = (
+  placed None tags.modalities_in_study refl (omega arith) (omega arith) (omega arith) (omega arith),
+  plain tags.modalities_in_study CS modalities refl refl,
+  (
+    placed (Some tags.modalities_in_study) tags.number_of_study_related_series refl (omega arith) (omega arith) (omega arith) (omega arith),
+    plain tags.number_of_study_related_series IS (decimal series) refl refl,
+    (
+      placed (Some tags.number_of_study_related_series) tags.number_of_study_related_instances refl (omega arith) (omega arith) (omega arith) (omega arith),
+      plain tags.number_of_study_related_instances IS (decimal images) refl refl,
+      tt,
+    ),
+  ),
+)
+
+pub series_values_facts : (images : ℕ) → IsDataSet (series_values images)
+unfolding series_values known_vr vr_in dictionary is_below
+series_values_facts images = (
+  placed None tags.number_of_series_related_instances refl (omega arith) (omega arith) (omega arith) (omega arith),
+  plain tags.number_of_series_related_instances IS (decimal images) refl refl,
+  tt,
+)
+
+pub about_answers_facts : (called : List ℕ) (level : Level) → IsDataSet (about_answers called level)
+unfolding about_answers known_vr vr_in dictionary is_below
+about_answers_facts called level = (
+  placed None tags.query_retrieve_level refl (omega arith) (omega arith) (omega arith) (omega arith),
+  plain tags.query_retrieve_level CS (name_of level) refl refl,
+  (
+    placed (Some tags.query_retrieve_level) tags.retrieve_ae_title refl (omega arith) (omega arith) (omega arith) (omega arith),
+    plain tags.retrieve_ae_title AE (stripped called) refl refl,
+    (
+      placed (Some tags.retrieve_ae_title) tags.instance_availability refl (omega arith) (omega arith) (omega arith) (omega arith),
+      plain tags.instance_availability CS (codes "UNAVAILABLE") refl refl,
+      tt,
+    ),
+  ),
+)
+
+-- ---- elements that are pushed one after the other
+
+abbrev text_element : Tag → Vr → List ℕ → Element
+text_element tag vr value = record { tag = tag; vr = vr; value = Octets (padded vr value) }
+
+pub pushed_three : (none one two all : List Element) (x y z : Element) → none ≡ [] → one ≡ none ++ x ∷ []
+    → two ≡ one ++ y ∷ [] → all ≡ two ++ z ∷ [] → all ≡ x ∷ (y ∷ (z ∷ []))
+pushed_three none one two all x y z at_first then_one then_two then_all =
+    then_all
+    ∙ ap (λ (es : List Element). es ++ z ∷ [])
+    (then_two ∙ ap (λ (es : List Element). es ++ y ∷ []) (then_one ∙ ap (λ (es : List Element). es ++ x ∷ []) at_first))
+
+pub study_values_of : (all : List Element) (x y z : Element) (modalities series_text images_text : List ℕ) (series images : ℕ)
+    → all ≡ x ∷ (y ∷ (z ∷ [])) → x ≡ text_element tags.modalities_in_study CS modalities
+    → y ≡ text_element tags.number_of_study_related_series IS series_text
+    → z ≡ text_element tags.number_of_study_related_instances IS images_text → series_text ≡ decimal series → images_text ≡ decimal images
+    → as_elements all ≡ study_values modalities series images
+unfolding study_values
+study_values_of all x y z modalities series_text images_text series images pushed is_x is_y is_z told_series told_images =
+    ap as_elements pushed ∙ (λ i. as_elements (is_x i ∷ (is_y i ∷ (is_z i ∷ []))))
+    ∙ (λ i. text tags.modalities_in_study CS modalities
+    (text tags.number_of_study_related_series IS (told_series i)
+    (text tags.number_of_study_related_instances IS (told_images i) no_elements)))
+
+pub series_values_of : (none all : List Element) (x : Element) (images_text : List ℕ) (images : ℕ) → none ≡ [] → all ≡ none ++ x ∷ []
+    → x ≡ text_element tags.number_of_series_related_instances IS images_text → images_text ≡ decimal images
+    → as_elements all ≡ series_values images
+unfolding series_values
+series_values_of none all x images_text images at_first then_all is_x told_images =
+    ap as_elements (then_all ∙ ap (λ (es : List Element). es ++ x ∷ []) at_first) ∙ (λ i. as_elements (is_x i ∷ []))
+    ∙ (λ i. text tags.number_of_series_related_instances IS (told_images i) no_elements)
+
+pub about_answers_of : (all : List Element) (x y z : Element) (name title called : List ℕ) (level : Level)
+    → all ≡ x ∷ (y ∷ (z ∷ [])) → x ≡ text_element tags.query_retrieve_level CS name → y ≡ text_element tags.retrieve_ae_title AE title
+    → z ≡ text_element tags.instance_availability CS (codes "UNAVAILABLE") → name ≡ name_of level → title ≡ stripped called
+    → as_elements all ≡ about_answers called level
+unfolding about_answers
+about_answers_of all x y z name title called level pushed is_x is_y is_z is_name is_title =
+    ap as_elements pushed ∙ (λ i. as_elements (is_x i ∷ (is_y i ∷ (is_z i ∷ []))))
+    ∙ (λ i. text tags.query_retrieve_level CS (is_name i)
+    (text tags.retrieve_ae_title AE (is_title i) (text tags.instance_availability CS (codes "UNAVAILABLE") no_elements)))

@@ -1,0 +1,9 @@
+use Rattle.std.proofs.Common.{◌≡◌, ◌∙◌, List, ℕ, take, sym, ap, subst}
+use Rattle.dq_find.specs.Computed.{put_in_order, modality_limit}
+use Rattle.dq_find.proofs.InOrder.{few_stay}
+use Rattle.dq_find.proofs.computed.put_in_order.Goals as goal
+
+pub returns-in_default-clause-put : goal.returns-in_default-clause-put
+returns-in_default-clause-put c =
+    let there = subst (λ (xs : List (List ℕ)). put_in_order c.args.value.now xs ≡ xs) c.as_slice.ensures.value c.in_default.ensures.there in
+    sym (ap (take modality_limit) there ∙ few_stay modality_limit c.args.values.now.items c.requires)

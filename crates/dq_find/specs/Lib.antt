@@ -1,0 +1,5 @@
+pub mod Levels
+pub mod Computed
+pub mod Queries
+pub mod Looking
+pub mod Answers

@@ -1,0 +1,255 @@
+//! Keys that are computed of the records below a study and below a series (PS3.4 sections C.3.4 and
+//! C.6.2.1).
+ghost use Rattle.std.specs.Prelude.{◌≡◌, ◌≤◌, ◌∷◌, ◌++◌, length, take, drop, IfOk, OnOk, IfSome, IfNone, map};
+ghost use Rattle.dq_dataset.specs.Rules.{padded};
+ghost use Rattle.dq_dataset.specs.declared.data_set.Value.TheVariants.{Octets as OctetsValue};
+ghost use Rattle.dq_tables.specs.Rows.{record_of};
+ghost use Rattle.dq_find.specs.Computed.{data_set_of, put_in_order, all_in_order, is_modality, modality_limit, modalities_of, modalities_in, joined, images_below, study_values, series_values, computed};
+ghost use Rattle.dq_find.specs.Looking.{Looks};
+ghost use Rattle.dq_find.specs.declared.level.Level.TheVariants.{Study, Series};
+ghost use Rattle.dq_match.specs.Keys.{element_at, octets_in};
+
+use crate::level::Level;
+use dq_dataset::{DataSet, Element, ReadFault, Syntax, Value, read};
+use dq_list::Listed;
+use dq_tables::{Row, TableFault, Tables};
+use dq_vr::{Tag, Vr, tags};
+use std::alloc::{AllocError, Global};
+use std::cmp::Ordering;
+
+/// How many modalities of a study are told.
+const MODALITY_LIMIT: usize = 1000;
+
+/// The data set of a record, which its octets spell.
+#[tactic(auto, unfolding(crate::specs::Computed::data_set_of))]
+pub(crate) fn data_set_of(alloc: Global, octets: &[u8]) -> Result<DataSet, AllocError>
+    ensures { IfOk result (λ d. d ≡ data_set_of octets.now) }
+{
+    match read(alloc, octets, Syntax::Explicit) {
+        Ok(data_set) => Ok(data_set),
+        Err(ReadFault::NoMemory) => Err(AllocError),
+        Err(_) => Ok(DataSet::new(alloc)),
+    }
+}
+
+/// An element with a text, which gets its pad.
+pub(crate) fn text(alloc: Global, tag: Tag, vr: Vr, value: &[u8]) -> Result<Element, AllocError>
+    ensures { IfOk result (λ e. e
+        ≡ record { tag = tag; vr = vr; value = OctetsValue (padded vr value.now) }) }
+{
+    let mut octets = Vec::from_slice(alloc, value)?;
+    if octets.len() % 2 == 1 {
+        octets.push(if vr.is_text() { b' ' } else { 0 })?;
+    }
+    Ok(Element {
+        tag,
+        vr,
+        value: Value::Octets(Listed::from_inner(octets)),
+    })
+}
+
+/// Where a value belongs among others in order, unless it is there.
+fn place_of(values: &[Listed<u8>], value: &[u8]) -> Option<usize>
+    ensures free { IfSome result (λ at. put_in_order value.now values.now
+        ≡ take at values.now ++ value.now ∷ drop at values.now) }
+    ensures within { IfSome result (λ at. at ≤ length values.now) }
+    ensures there { IfNone result (put_in_order value.now values.now ≡ values.now) }
+{
+    for (at, other) in values.iter().enumerate() {
+        match value.cmp(other.as_slice()) {
+            Ordering::Less => return Some(at),
+            Ordering::Equal => return None,
+            Ordering::Greater => {}
+        }
+    }
+    Some(values.len())
+}
+
+/// Puts a value in its place, where it is not there yet, and keeps the first values.
+fn put_in_order(alloc: Global, values: &mut Vec<Listed<u8>>, value: &[u8]) -> Result<(), AllocError>
+    requires { length values.old.items ≤ modality_limit }
+    ensures put { OnOk result (values.new.items
+        ≡ take modality_limit (put_in_order value.now values.old.items)) }
+    ensures few { OnOk result (length values.new.items ≤ modality_limit) }
+{
+    let Some(at) = place_of(values.as_slice(), value) else {
+        return Ok(());
+    };
+    values.insert(at, Listed::copy_of(alloc, value)?)?;
+    values.truncate(MODALITY_LIMIT);
+    Ok(())
+}
+
+fn is_modality(value: &[u8]) -> bool
+    ensures { result ≡ is_modality value.now }
+{
+    1 <= value.len() && value.len() <= 16
+}
+
+/// The octets of the element with the tag, none where it is absent or a sequence.
+pub(crate) fn octets_at(data_set: &DataSet, tag: Tag) -> &[u8]
+    ensures { result.now ≡ octets_in (element_at tag data_set.now) }
+{
+    let Some(element) = data_set.get(tag) else {
+        return &[];
+    };
+    match &element.value {
+        Value::Octets(octets) => octets.as_slice(),
+        Value::Items(_) => &[],
+    }
+}
+
+/// Puts the modalities of a series in their places.
+fn put_modalities(
+    alloc: Global,
+    values: &mut Vec<Listed<u8>>,
+    series: &DataSet,
+) -> Result<(), AllocError>
+    requires { length values.old.items ≤ modality_limit }
+    ensures put { OnOk result (values.new.items
+        ≡ take modality_limit (all_in_order (modalities_of series.now) values.old.items)) }
+    ensures few { OnOk result (length values.new.items ≤ modality_limit) }
+{
+    let mut parts = dq_value::values(Vr::CS, octets_at(series, tags::MODALITY));
+    while let Some(part) = parts.next() {
+        if !is_modality(part) {
+            continue;
+        }
+        put_in_order(alloc, values, part)?;
+    }
+    Ok(())
+}
+
+/// The modalities of a study's series, the first ones in the order of their octets.
+#[tactic(auto, unfolding(crate::specs::Computed::modalities_in))]
+fn modalities_in(alloc: Global, series: &[Row]) -> Result<Vec<Listed<u8>>, AllocError>
+    ensures { IfOk result (λ v. v.items ≡ modalities_in (map record_of series.now)) }
+{
+    let mut values = Vec::new(alloc);
+    for row in series {
+        let data_set = data_set_of(alloc, row.octets.as_slice())?;
+        put_modalities(alloc, &mut values, &data_set)?;
+    }
+    Ok(values)
+}
+
+/// Values with a backslash between them.
+fn joined(alloc: Global, values: &[Listed<u8>]) -> Result<Vec<u8>, AllocError>
+    ensures { IfOk result (λ v. v.items ≡ joined values.now) }
+{
+    let [first, others @ ..] = values else {
+        return Ok(Vec::new(alloc));
+    };
+    let mut octets = Vec::from_slice(alloc, first.as_slice())?;
+    for value in others {
+        octets.push(b'\\')?;
+        octets.extend_from_slice(value.as_slice())?;
+    }
+    Ok(octets)
+}
+
+fn study_values(
+    alloc: Global,
+    modalities: &[u8],
+    series: usize,
+    images: u128,
+) -> Result<DataSet, AllocError>
+    ensures { IfOk result (λ d. d ≡ study_values modalities.now series images) }
+{
+    let series = format!(in alloc; "{series}")?;
+    let images = format!(in alloc; "{images}")?;
+    let mut elements = Vec::new(alloc);
+    elements.push(text(alloc, tags::MODALITIES_IN_STUDY, Vr::CS, modalities)?)?;
+    elements.push(text(
+        alloc,
+        tags::NUMBER_OF_STUDY_RELATED_SERIES,
+        Vr::IS,
+        series.as_bytes(),
+    )?)?;
+    elements.push(text(
+        alloc,
+        tags::NUMBER_OF_STUDY_RELATED_INSTANCES,
+        Vr::IS,
+        images.as_bytes(),
+    )?)?;
+    Ok(DataSet::from_elements(elements))
+}
+
+fn series_values(alloc: Global, images: usize) -> Result<DataSet, AllocError>
+    ensures { IfOk result (λ d. d ≡ series_values images) }
+{
+    let images = format!(in alloc; "{images}")?;
+    let mut elements = Vec::new(alloc);
+    elements.push(text(
+        alloc,
+        tags::NUMBER_OF_SERIES_RELATED_INSTANCES,
+        Vr::IS,
+        images.as_bytes(),
+    )?)?;
+    Ok(DataSet::from_elements(elements))
+}
+
+/// How many images some series have.
+fn images_below<T: Tables>(
+    alloc: Global,
+    tables: &mut T,
+    institution: &[u8],
+    series: &[Row],
+) -> Result<u128, TableFault>
+    ensures { Looks T.rows T.honest T.failed T.may_leave tables.old tables.new institution.now
+        (λ records. images_below records (map record_of series.now)) result }
+{
+    let mut number = 0;
+    for row in series {
+        let images = tables.images_of(alloc, institution, row.key.as_slice())?;
+        number += images.len() as u128;
+    }
+    Ok(number)
+}
+
+fn study_computed<T: Tables>(
+    alloc: Global,
+    tables: &mut T,
+    institution: &[u8],
+    key: &[u8],
+) -> Result<DataSet, TableFault>
+    ensures { Looks T.rows T.honest T.failed T.may_leave tables.old tables.new institution.now
+        (λ records. computed records Study key.now) result }
+{
+    let series = tables.series_of(alloc, institution, key)?;
+    let images = images_below(alloc, tables, institution, series.as_slice())?;
+    let modalities = modalities_in(alloc, series.as_slice())?;
+    let modalities = joined(alloc, &modalities)?;
+    Ok(study_values(alloc, &modalities, series.len(), images)?)
+}
+
+fn series_computed<T: Tables>(
+    alloc: Global,
+    tables: &mut T,
+    institution: &[u8],
+    key: &[u8],
+) -> Result<DataSet, TableFault>
+    ensures { Looks T.rows T.honest T.failed T.may_leave tables.old tables.new institution.now
+        (λ records. computed records Series key.now) result }
+{
+    let images = tables.images_of(alloc, institution, key)?;
+    Ok(series_values(alloc, images.len())?)
+}
+
+/// What is computed of a study or a series with the key.
+pub(crate) fn computed<T: Tables>(
+    alloc: Global,
+    tables: &mut T,
+    institution: &[u8],
+    level: Level,
+    key: &[u8],
+) -> Result<DataSet, TableFault>
+    ensures { Looks T.rows T.honest T.failed T.may_leave tables.old tables.new institution.now
+        (λ records. computed records level key.now) result }
+{
+    match level {
+        Level::Study => study_computed(alloc, tables, institution, key),
+        Level::Series => series_computed(alloc, tables, institution, key),
+        Level::Image => Ok(DataSet::new(alloc)),
+    }
+}

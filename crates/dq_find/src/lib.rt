@@ -1,0 +1,16 @@
+//! Study Root C-FIND: which records of an institution answer a query, and with what (PS3.4 sections
+//! C.4.1 and C.6.2).
+#![tactic(auto)]
+
+mod computed;
+mod finding;
+pub mod laws;
+mod level;
+mod query;
+
+pub use finding::find;
+pub use level::Level;
+pub use query::Query;
+
+#[cfg(test)]
+mod tests;
