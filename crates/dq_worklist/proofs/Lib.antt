@@ -1,0 +1,5 @@
+mod Afterwards
+mod Exactly
+mod Orders
+mod Queries
+mod Records

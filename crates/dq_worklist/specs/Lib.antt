@@ -1,0 +1,4 @@
+pub mod Answers
+pub mod Orders
+pub mod Queries
+pub mod Views

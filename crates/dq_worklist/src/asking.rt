@@ -1,0 +1,49 @@
+//! What a message asks for (PS3.4 section K.4.1.2).
+ghost use Rattle.std.specs.Prelude.{◌≡◌, IfOk};
+ghost use Rattle.dq_match.specs.Identifiers.{HasKnownTags};
+ghost use Rattle.dq_worklist.specs.Queries.{query_at, query_of};
+
+use dq_dataset::{DataSet, ReadFault, Syntax, read};
+use dq_dimse::Message;
+use dq_dimse::status::{CANNOT_UNDERSTAND, DOES_NOT_MATCH_SOP_CLASS, OUT_OF_RESOURCES};
+use dq_match::{KeyList, is_query, strike};
+use std::alloc::{AllocError, Global};
+
+/// A query: the keys that are supported, and whether there were others.
+#[derive(Debug, Drop)]
+pub(crate) struct Query {
+    pub(crate) keys: DataSet,
+    pub(crate) optional: bool,
+}
+
+/// The query of a message, or the status that refuses it: the identifier is too long, unreadable,
+/// or has a value that is not well formed.
+#[tactic(auto, unfolding(crate::specs::Queries::query_of))]
+pub(crate) fn query_of(
+    alloc: Global,
+    message: &Message,
+    syntax: Syntax,
+) -> Result<Result<Query, u16>, AllocError>
+    ensures query { IfOk result (λ q. q ≡ query_of message.now syntax) }
+    ensures known { IfOk result (λ q. IfOk q (λ query. HasKnownTags query.keys)) }
+{
+    if message.over {
+        return Ok(Err(OUT_OF_RESOURCES));
+    }
+    match read(alloc, message.octets.as_slice(), syntax) {
+        Ok(identifier) => query_at(alloc, &identifier),
+        Err(ReadFault::NoMemory) => Err(AllocError),
+        Err(_) => Ok(Err(CANNOT_UNDERSTAND)),
+    }
+}
+
+fn query_at(alloc: Global, identifier: &DataSet) -> Result<Result<Query, u16>, AllocError>
+    ensures query { IfOk result (λ q. q ≡ query_at identifier.now) }
+    ensures known { IfOk result (λ q. IfOk q (λ query. HasKnownTags query.keys)) }
+{
+    let (keys, optional) = strike(alloc, identifier, KeyList::Entry)?;
+    if !is_query(&keys) {
+        return Ok(Err(DOES_NOT_MATCH_SOP_CLASS));
+    }
+    Ok(Ok(Query { keys, optional }))
+}

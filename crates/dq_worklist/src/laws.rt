@@ -1,0 +1,74 @@
+//! Laws of the worklist. Each function's contract is a law; its body changes nothing.
+ghost use Rattle.std.specs.Prelude.{◌≡◌, ◌≢◌, ℕ, true, false, List, [], Some, None, Ok, ◌↔◌};
+ghost use Rattle.dq_dataset.specs.declared.header.Syntax.{Syntax};
+ghost use Rattle.dq_dataset.specs.declared.header.Syntax.TheVariants.{Explicit};
+ghost use Rattle.dq_dataset.specs.Tree.{ElementList};
+ghost use Rattle.dq_dataset.specs.Reading.{reading};
+ghost use Rattle.dq_dataset.specs.Grammar.{AreOctets};
+ghost use Rattle.dq_dimse.specs.declared.command.Message.{Message};
+ghost use Rattle.dq_config.specs.Limits.{Limits};
+ghost use Rattle.dq_match.specs.Matching.{fits};
+ghost use Rattle.dq_match.specs.Responses.{shown};
+ghost use Rattle.dq_tables.specs.declared.row.Row.{Row};
+ghost use Rattle.dq_tables.specs.declared.row.Kind.TheVariants.{Entry};
+ghost use Rattle.dq_tables.specs.Finding.{records_of};
+ghost use Rattle.dq_tables.specs.Rows.{Record, Edit, IsRising, of, by, after, edited};
+ghost use Rattle.dq_worklist.specs.Orders.{Order, read_order, has_entry, scheduled, withdrawn};
+ghost use Rattle.dq_worklist.specs.Answers.{IsAmong, IsAnswer, AreInOrder};
+ghost use Rattle.dq_worklist.specs.Queries.{query_of, answers, listed};
+ghost use Rattle.dq_worklist.specs.declared.asking.Query.{Query};
+
+use dq_dataset::laws::{spelling_law, written_law};
+
+/// An order that is refused changes no record.
+pub fn refused_orders_change_nothing()
+    ensures scheduled { (limits : Limits) (records : List Record) (octets : List ℕ)
+        (number : ℕ) (edits : List Edit)
+        → scheduled limits records octets ≡ (Some number, edits) → edits ≡ [] }
+    ensures withdrawn { (records : List Record) (id : List ℕ) (number : ℕ) (edits : List Edit)
+        → withdrawn records id ≡ (Some number, edits) → edits ≡ [] }
+{}
+
+/// A query is answered with exactly the entries that fit its keys, in the order of their ids (PS3.4
+/// section K.4.1.2.1).
+pub fn answers_are_of_the_entries_that_fit()
+    ensures listed { (records : List Record) (message : Message) (syntax : Syntax) (query : Query)
+        → query_of message syntax ≡ Ok query
+        → (listed records message syntax).answers ≡ answers records query.keys }
+    ensures exact { (records : List Record) (keys d : ElementList)
+        → IsAmong d (answers records keys) ↔ IsAnswer records keys d }
+    ensures in_order { (institution : List ℕ) (rows : List Row) → IsRising rows
+        → AreInOrder (records_of Entry (of institution rows)) }
+{}
+
+/// Entries of other institutions are not listed.
+#[tactic(auto, using(crate::proofs::Afterwards::listed_alike))]
+pub fn own_entries_alone_are_listed()
+    ensures { (g h : List ℕ) → h ≢ g → (edits : List Edit) (rows : List Row)
+        (message : Message) (syntax : Syntax) → IsRising rows
+        → listed (of g (after (by h edits) rows)) message syntax
+        ≡ listed (of g rows) message syntax }
+{}
+
+/// What is scheduled is an entry, and is among the answers to the keys that it fits.
+pub fn what_is_scheduled_is_found()
+    ensures there { (limits : Limits) (records : List Record) (octets : List ℕ)
+        (edits : List Edit) (order : Order) → scheduled limits records octets ≡ (None, edits)
+        → read_order (reading Explicit octets) ≡ Some order
+        → has_entry (edited edits records) order.id ≡ true }
+    ensures found { (limits : Limits) (records : List Record) (octets : List ℕ)
+        (edits : List Edit) (order : Order) (keys : ElementList)
+        → AreOctets octets → scheduled limits records octets ≡ (None, edits)
+        → read_order (reading Explicit octets) ≡ Some order → fits keys order.elements ≡ true
+        → IsAmong (shown keys order.elements) (answers (edited edits records) keys) }
+{
+    spelling_law();
+    written_law();
+}
+
+/// The id of an entry that was withdrawn is free again.
+#[tactic(auto, using(crate::proofs::Afterwards::withdrawn_is_free))]
+pub fn a_withdrawn_id_is_free()
+    ensures { (records : List Record) (id : List ℕ) (edits : List Edit)
+        → withdrawn records id ≡ (None, edits) → has_entry (edited edits records) id ≡ false }
+{}
