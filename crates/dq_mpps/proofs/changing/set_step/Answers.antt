@@ -1,0 +1,132 @@
+use Rattle.std.proofs.Common.{◌∙◌, List, [], ◌∷◌, sym, ap, subst}
+use Rattle.std.specs.Option.{option_map}
+use Rattle.std.proofs.lemmas.Result.{err_from_is_err_and}
+use Rattle.dq_dataset.specs.Editing.{merged}
+use Rattle.dq_tables.specs.declared.row.Kind.TheVariants.{Step}
+use Rattle.dq_tables.specs.declared.row.Row.{Row}
+use Rattle.dq_tables.specs.Rows.{Record, Edit, Put, row_of, record_of}
+use Rattle.dq_tables.specs.Finding.{record_at}
+use Rattle.dq_tables.specs.Sound.{IsChanged}
+use Rattle.dq_tables.proofs.Calling.{reads_right, serves_read, serves_refused, serves_written}
+use Rattle.dq_mpps.specs.Steps.{spelled_step}
+use Rattle.dq_mpps.proofs.Fitting.{kept_record, changed_fits}
+use Rattle.dq_mpps.specs.Views.{step_changed}
+use Rattle.dq_mpps.proofs.Outcomes.{refused_by, too_long, changed_to}
+use Rattle.dq_mpps.proofs.changing.set_step.Goals as goal
+
+pub returns-in_default : goal.returns-in_default
+returns-in_default g c =
+    let rows = g.T.Tables.rows in
+    let honest = g.T.Tables.honest in
+    let failed = g.T.Tables.failed in
+    let may_leave = g.T.Tables.may_leave in
+    let old = c.args.tables.now in
+    let mid = c.step.new.self in
+    let name = c.args.name.now in
+    let uid = c.args.uid.now in
+    let sent = c.args.sent.now in
+    let does = λ (records : List Record). step_changed uid sent (record_at Step uid records) in
+    let found = λ (h : honest mid). kept_record name uid (rows old) c.in_ok-row.field-0 (c.in_ok-row.ensures.found h)
+    ∙ ap (option_map record_of) c.in_default.is in
+    serves_read rows honest failed may_leave name does old mid 0x0112
+    (reads_right rows honest failed may_leave old mid c.in_ok-row.field-0 0x0112 c.in_ok-row.ensures.reads)
+    (λ h. ap (step_changed uid sent) (found h))
+
+pub returns-in-Some-attribute_refusal : goal.returns-in-Some-attribute_refusal
+returns-in-Some-attribute_refusal g c =
+    let rows = g.T.Tables.rows in
+    let honest = g.T.Tables.honest in
+    let failed = g.T.Tables.failed in
+    let may_leave = g.T.Tables.may_leave in
+    let old = c.args.tables.now in
+    let mid = c.step.new.self in
+    let name = c.args.name.now in
+    let uid = c.args.uid.now in
+    let sent = c.args.sent.now in
+    let status = c.in-Some-attribute_refusal.status in
+    let does = λ (records : List Record). step_changed uid sent (record_at Step uid records) in
+    let found = λ (h : honest mid). kept_record name uid (rows old) c.in_ok-row.field-0 (c.in_ok-row.ensures.found h)
+    ∙ ap (option_map record_of) c.in-Some.is in
+    serves_read rows honest failed may_leave name does old mid status
+    (reads_right rows honest failed may_leave old mid c.in_ok-row.field-0 status c.in_ok-row.ensures.reads)
+    (λ h. ap (step_changed uid sent) (found h) ∙ refused_by uid sent (record_of c.in-Some.row) c.in_ok-kept.kept c.in_ok-kept.ensures.data_set status
+    (sym c.attribute_refusal.ensures ∙ c.in-Some-attribute_refusal.is))
+
+pub returns-then-is_too_long : goal.returns-then-is_too_long
+returns-then-is_too_long g c =
+    let rows = g.T.Tables.rows in
+    let honest = g.T.Tables.honest in
+    let failed = g.T.Tables.failed in
+    let may_leave = g.T.Tables.may_leave in
+    let old = c.args.tables.now in
+    let mid = c.step.new.self in
+    let name = c.args.name.now in
+    let uid = c.args.uid.now in
+    let sent = c.args.sent.now in
+    let does = λ (records : List Record). step_changed uid sent (record_at Step uid records) in
+    let found = λ (h : honest mid). kept_record name uid (rows old) c.in_ok-row.field-0 (c.in_ok-row.ensures.found h)
+    ∙ ap (option_map record_of) c.in-Some.is in
+    serves_read rows honest failed may_leave name does old mid 0x0213
+    (reads_right rows honest failed may_leave old mid c.in_ok-row.field-0 0x0213 c.in_ok-row.ensures.reads)
+    (λ h. ap (step_changed uid sent) (found h) ∙ too_long uid sent (record_of c.in-Some.row) c.in_ok-kept.kept c.in_ok-kept.ensures.data_set
+    (sym c.attribute_refusal.ensures ∙ c.in_default-attribute_refusal.is)
+    (sym (c.is_too_long.ensures (merged c.in_ok-kept.kept sent) (c.deref.ensures.value ∙ c.in_ok-octets.ensures.spelled)) ∙ c.if-is_too_long.true))
+
+pub change_step-requires : goal.change_step-requires
+change_step-requires g c = λ h.
+    let rows = g.T.Tables.rows in
+    let old = c.args.tables.now in
+    let first = c.in_ok-row.ensures.reads in
+    let was = first.goes.was_honest h in
+    let row = row_of c.args.name.now (spelled_step c.args.uid.now c.in_ok-octets.octets.items) in
+    subst (λ (rs : List Row). IsChanged rs Step row) (sym (first.same h))
+    (changed_fits c.args.name.now c.args.uid.now (merged c.in_ok-kept.kept c.args.sent.now) c.in_ok-octets.octets.items (rows old) c.in-Some.row
+    (g.met.T.Tables.sound old was).own (sym c.in-Some.is ∙ c.in_ok-row.ensures.found h) c.in_ok-octets.ensures.spelled c.in_ok-octets.ensures.read_back)
+
+pub returns-in_err-change_step : goal.returns-in_err-change_step
+returns-in_err-change_step g c =
+    let rows = g.T.Tables.rows in
+    let honest = g.T.Tables.honest in
+    let failed = g.T.Tables.failed in
+    let may_leave = g.T.Tables.may_leave in
+    let old = c.args.tables.now in
+    let mid = c.step.new.self in
+    let new = c.change_step.new.tables in
+    let name = c.args.name.now in
+    let uid = c.args.uid.now in
+    let sent = c.args.sent.now in
+    let e = c.in_err-change_step.field-0.0 in
+    let does = λ (records : List Record). step_changed uid sent (record_at Step uid records) in
+    let put : List Edit = Put (spelled_step uid c.in_ok-octets.octets.items) ∷ [] in
+    let left = err_from_is_err_and c.from_residual-in_err-change_step.result c.from_residual-in_err-change_step.ensures.1 in
+    let found = λ (h : honest mid). kept_record name uid (rows old) c.in_ok-row.field-0 (c.in_ok-row.ensures.found h)
+    ∙ ap (option_map record_of) c.in-Some.is in
+    rw (left.1, left.2) (serves_refused rows honest failed may_leave name does old mid new c.in_ok-row.field-0 0 put e c.in_ok-row.ensures.reads
+    c.in_err-change_step.ensures
+    (λ h. ap (step_changed uid sent) (found h) ∙ changed_to uid sent (record_of c.in-Some.row) c.in_ok-kept.kept c.in_ok-kept.ensures.data_set
+    (sym c.attribute_refusal.ensures ∙ c.in_default-attribute_refusal.is)
+    (sym (c.is_too_long.ensures (merged c.in_ok-kept.kept sent) (c.deref.ensures.value ∙ c.in_ok-octets.ensures.spelled)) ∙ c.if-is_too_long.false)
+    c.in_ok-octets.octets.items c.in_ok-octets.ensures.spelled))
+
+pub returns : goal.returns
+returns g c =
+    let rows = g.T.Tables.rows in
+    let honest = g.T.Tables.honest in
+    let failed = g.T.Tables.failed in
+    let may_leave = g.T.Tables.may_leave in
+    let old = c.args.tables.now in
+    let mid = c.step.new.self in
+    let new = c.change_step.new.tables in
+    let name = c.args.name.now in
+    let uid = c.args.uid.now in
+    let sent = c.args.sent.now in
+    let does = λ (records : List Record). step_changed uid sent (record_at Step uid records) in
+    let put : List Edit = Put (spelled_step uid c.in_ok-octets.octets.items) ∷ [] in
+    let found = λ (h : honest mid). kept_record name uid (rows old) c.in_ok-row.field-0 (c.in_ok-row.ensures.found h)
+    ∙ ap (option_map record_of) c.in-Some.is in
+    serves_written rows honest failed may_leave name does old mid new c.in_ok-row.field-0 0 put c.in_ok-row.ensures.reads
+    c.in_ok-change_step.ensures
+    (λ h. ap (step_changed uid sent) (found h) ∙ changed_to uid sent (record_of c.in-Some.row) c.in_ok-kept.kept c.in_ok-kept.ensures.data_set
+    (sym c.attribute_refusal.ensures ∙ c.in_default-attribute_refusal.is)
+    (sym (c.is_too_long.ensures (merged c.in_ok-kept.kept sent) (c.deref.ensures.value ∙ c.in_ok-octets.ensures.spelled)) ∙ c.if-is_too_long.false)
+    c.in_ok-octets.octets.items c.in_ok-octets.ensures.spelled)

@@ -1,0 +1,66 @@
+-- N-CREATE of a performed procedure step, over the records and the limits of one institution (PS3.4
+-- section F.7.2.1, PS3.7 section 10.1.5).
+use Rattle.std.specs.Prelude.{ℕ, Bool, false, not, nat_le, List, [], ◌∷◌, ◌++◌, length, Option, Some, None, is_some, Result, is_err}
+use Rattle.std.specs.List.{list_all}
+use Rattle.dq_list.specs.Lengths.{is_empty}
+use Rattle.dq_value.specs.Parts.{parts}
+use Rattle.dq_value.specs.Uid.{is_uid}
+use Rattle.dq_dataset.specs.declared.fault.ReadFault.{ReadFault}
+use Rattle.dq_dataset.specs.declared.header.Syntax.{Syntax}
+use Rattle.dq_dataset.specs.declared.data_set.Element.{Element}
+use Rattle.dq_dataset.specs.declared.data_set.Value.TheVariants.{Octets, Items}
+use Rattle.dq_dataset.specs.Tree.{ElementList}
+use Rattle.dq_dataset.specs.Reading.{reading}
+use Rattle.dq_dimse.specs.declared.command.Message.{Message}
+use Rattle.dq_dimse.specs.Statuses.{processing_failure, duplicate_sop_instance, invalid_sop_instance, missing_attribute, missing_attribute_value, invalid_attribute_value, resource_limitation}
+use Rattle.dq_config.specs.Limits.{Limits}
+use Rattle.dq_tables.specs.declared.row.Kind.TheVariants.{Step}
+use Rattle.dq_tables.specs.Rows.{Record, Edit, Put}
+use Rattle.dq_tables.specs.Finding.{record_at, records_of}
+use Rattle.dq_tables.specs.Keys.{element_at}
+use Rattle.dq_mpps.specs.Attributes.{required_attributes}
+use Rattle.dq_mpps.specs.Steps.{in_progress, has_status, is_over, or_empty, step_record, first_refusal, outcome}
+
+-- The element has a value, or as a sequence an item.
+unfoldable pub has_value : Option Element → Bool
+has_value None = false
+has_value (Some e) = elim e.value [
+  | Octets octets ↦ not (is_empty (parts e.vr octets))
+  | Items items ↦ not (is_empty items)
+]
+
+unfoldable pub has_attributes : ElementList → Bool
+has_attributes d = list_all (λ tag. is_some (element_at tag d)) required_attributes
+
+unfoldable pub has_attribute_values : ElementList → Bool
+has_attribute_values d = list_all (λ tag. has_value (element_at tag d)) required_attributes
+
+abbrev pub attribute_refusals : ElementList → List (Bool × ℕ)
+attribute_refusals d =
+    (not (has_attributes d), missing_attribute)
+    ∷ (not (has_attribute_values d), missing_attribute_value)
+    ∷ (not (has_status in_progress d), invalid_attribute_value)
+    ∷ []
+
+-- those of a data set that was read, for an instance with that UID
+abbrev pub step_refusals : Limits → List Record → List ℕ → ElementList → List (Bool × ℕ)
+step_refusals limits records uid d =
+    (is_some (record_at Step uid records), duplicate_sop_instance)
+    ∷ (attribute_refusals d
+    ++ (nat_le limits.steps (length (records_of Step records)), resource_limitation) ∷ [])
+
+-- The refusals in their order, each with its status.
+abbrev pub creation_refusals
+    : Limits → List Record → Message → Result ElementList ReadFault → List (Bool × ℕ)
+creation_refusals limits records message data_set =
+    (is_over message, resource_limitation)
+    ∷ (is_err data_set, processing_failure)
+    ∷ (not (is_uid message.command.sop_instance), invalid_sop_instance)
+    ∷ step_refusals limits records message.command.sop_instance (or_empty data_set)
+
+-- A step that is not refused is kept with its data set whole.
+unfoldable pub created : Limits → List Record → Message → Syntax → ℕ × List Edit
+created limits records message syntax =
+    let data_set = reading syntax message.octets in
+    outcome (first_refusal (creation_refusals limits records message data_set))
+    (Put (step_record message.command.sop_instance (or_empty data_set)) ∷ [])

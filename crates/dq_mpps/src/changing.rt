@@ -1,0 +1,152 @@
+//! N-SET of a performed procedure step (PS3.4 section F.7.2.2).
+ghost use Rattle.std.specs.Prelude.{◌≡◌, Some, Ok, IfOk};
+ghost use Rattle.dq_dataset.specs.declared.header.Syntax.TheVariants.{Explicit};
+ghost use Rattle.dq_dataset.specs.Tree.{ElementList};
+ghost use Rattle.dq_dataset.specs.Reading.{reading};
+ghost use Rattle.dq_dataset.specs.Canonical.{canonical, HasLengths};
+ghost use Rattle.dq_dataset.specs.Editing.{merged};
+ghost use Rattle.dq_tables.specs.declared.row.Kind.TheVariants.{Step};
+ghost use Rattle.dq_tables.specs.Rows.{record_of, row_of};
+ghost use Rattle.dq_tables.specs.Finding.{record_at};
+ghost use Rattle.dq_tables.specs.Sound.{IsChanged};
+ghost use Rattle.dq_tables.specs.Keeping.{Writes};
+ghost use Rattle.dq_tables.specs.Serving.{Serves};
+ghost use Rattle.dq_mpps.specs.Steps.{spelled_step, first_refusal};
+ghost use Rattle.dq_mpps.specs.Changing.{data_set_of, is_too_long, attribute_refusals, changed};
+ghost use Rattle.dq_mpps.specs.Views.{step_changed, with_put};
+
+use crate::attributes::changes_fixed;
+use crate::steps::{data_set_of, is_ended, is_over, sends_unknown_status, step_row};
+use dq_config::Institution;
+use dq_dataset::laws::{editing_law, spelling_law, written_law};
+use dq_dataset::{DataSet, ReadFault, Syntax, read, write};
+use dq_dimse::{Message, status};
+use dq_tables::{Change, Row, TableFault, Tables};
+use std::alloc::{AllocError, Global};
+
+/// A step is at most so many octets.
+const STEP_LIMIT: usize = 0x40_0000;
+
+/// What is kept is read if it has fewer octets than this.
+const READ_LIMIT: usize = 0x8000_0000;
+
+/// Changes a performed procedure step of the institution, and answers the status
+/// (PS3.4 section F.7.2.2). A refusal, and a fault of the tables or want of memory, change nothing.
+pub fn set<T: Tables>(
+    alloc: Global,
+    tables: &mut T,
+    institution: &Institution,
+    message: &Message,
+    syntax: Syntax,
+) -> Result<u16, TableFault>
+    ensures { Serves T.rows T.honest T.failed T.may_leave tables.old tables.new institution.now.name
+        (λ records. changed records message.now syntax) result }
+{
+    if is_over(message) {
+        return Ok(status::RESOURCE_LIMITATION);
+    }
+    let Some(sent) = data_set_of(alloc, message, syntax)? else {
+        return Ok(status::PROCESSING_FAILURE);
+    };
+    let uid = message.command.sop_instance.as_slice();
+    set_step(alloc, tables, institution.name.as_slice(), uid, &sent)
+}
+
+/// Changes the step with the UID.
+fn set_step<T: Tables>(
+    alloc: Global,
+    tables: &mut T,
+    name: &[u8],
+    uid: &[u8],
+    sent: &DataSet,
+) -> Result<u16, TableFault>
+    requires { HasLengths Explicit sent.now }
+    ensures { Serves T.rows T.honest T.failed T.may_leave tables.old tables.new name.now
+        (λ records. step_changed uid.now sent.now (record_at Step uid.now records)) result }
+{
+    let Some(row) = tables.step(alloc, name, uid)? else {
+        return Ok(status::NO_SUCH_SOP_INSTANCE);
+    };
+    let kept = kept_data_set(alloc, &row)?;
+    if let Some(status) = attribute_refusal(&kept, sent) {
+        return Ok(status);
+    }
+    let octets = merged_octets(alloc, &kept, sent)?;
+    if is_too_long(&octets) {
+        return Ok(status::RESOURCE_LIMITATION);
+    }
+    change_step(alloc, tables, name, uid, octets)?;
+    Ok(status::SUCCESS)
+}
+
+/// The data set of a step that is kept. One of 2^31 octets or more is too long to be read.
+fn kept_data_set(alloc: Global, row: &Row) -> Result<DataSet, AllocError>
+    ensures data_set { IfOk result (λ d. d ≡ data_set_of (Some (record_of row.now))) }
+    ensures lengths { IfOk result (λ d. HasLengths Explicit d) }
+{
+    spelling_law();
+    let octets = row.octets.as_slice();
+    if octets.len() >= READ_LIMIT {
+        return Err(AllocError);
+    }
+    match read(alloc, octets, Syntax::Explicit) {
+        Ok(kept) => Ok(kept),
+        Err(ReadFault::NoMemory) => Err(AllocError),
+        Err(_) => Ok(DataSet::new(alloc)),
+    }
+}
+
+/// The status that refuses what is sent, by the step as it is kept.
+fn attribute_refusal(kept: &DataSet, sent: &DataSet) -> Option<u16>
+    ensures { result ≡ first_refusal (attribute_refusals kept.now sent.now) }
+{
+    if is_ended(kept) {
+        return Some(status::PROCESSING_FAILURE);
+    }
+    if changes_fixed(kept, sent) || sends_unknown_status(sent) {
+        return Some(status::INVALID_ATTRIBUTE_VALUE);
+    }
+    None
+}
+
+/// The octets of a step after a change.
+fn merged_octets(alloc: Global, kept: &DataSet, sent: &DataSet) -> Result<Vec<u8>, AllocError>
+    requires kept { HasLengths Explicit kept.now }
+    requires sent { HasLengths Explicit sent.now }
+    ensures spelled { IfOk result (λ octets.
+        octets.items ≡ canonical Explicit (merged kept.now sent.now)) }
+    ensures read_back { IfOk result (λ octets.
+        reading Explicit octets.items ≡ Ok (merged kept.now sent.now)) }
+{
+    editing_law();
+    written_law();
+    let (_kept, _sent) = (kept.elements(), sent.elements());
+    let step = kept.merged(alloc, sent)?;
+    write(alloc, &step, Syntax::Explicit)
+}
+
+/// Whether the octets of a step are over the limit.
+#[tactic(auto, unfolding(crate::specs::Changing::is_too_long))]
+fn is_too_long(octets: &[u8]) -> bool
+    ensures { (step : ElementList) → octets.now ≡ canonical Explicit step
+        → result ≡ is_too_long step }
+{
+    octets.len() > STEP_LIMIT
+}
+
+/// Puts a step in the place of the one that is kept.
+fn change_step<T: Tables>(
+    alloc: Global,
+    tables: &mut T,
+    name: &[u8],
+    uid: &[u8],
+    octets: Vec<u8>,
+) -> Result<(), TableFault>
+    requires { T.honest tables.old → IsChanged (T.rows tables.old) Step
+        (row_of name.now (spelled_step uid.now octets.items)) }
+    ensures { Writes T.rows T.honest T.failed T.may_leave tables.old tables.new
+        (with_put name.now (spelled_step uid.now octets.items) (T.rows tables.old)) result }
+{
+    let row = step_row(alloc, name, uid, octets)?;
+    tables.apply(alloc, &Change::StepChanged(row))
+}

@@ -1,0 +1,160 @@
+//! N-CREATE of a performed procedure step (PS3.4 section F.7.2.1).
+ghost use Rattle.std.specs.Prelude.{◌≡◌, true, IfOk, is_some, nat_le, length};
+ghost use Rattle.dq_value.specs.Uid.{is_uid};
+ghost use Rattle.dq_dataset.specs.declared.header.Syntax.TheVariants.{Explicit};
+ghost use Rattle.dq_dataset.specs.Canonical.{HasLengths};
+ghost use Rattle.dq_config.specs.Limits.{limits_of};
+ghost use Rattle.dq_tables.specs.declared.row.Kind.TheVariants.{Step};
+ghost use Rattle.dq_tables.specs.Rows.{of};
+ghost use Rattle.dq_tables.specs.Finding.{record_at, records_of};
+ghost use Rattle.dq_tables.specs.Keeping.{Reads, Writes};
+ghost use Rattle.dq_tables.specs.Serving.{Serves};
+ghost use Rattle.dq_mpps.specs.Steps.{step_record, first_refusal};
+ghost use Rattle.dq_mpps.specs.Creating.{attribute_refusals, step_refusals, created};
+ghost use Rattle.dq_mpps.specs.Views.{step_created, IsFree, with_put};
+
+use crate::attributes::{has_attribute_values, has_attributes};
+use crate::steps::{data_set_of, is_in_progress, is_over, step_row};
+use dq_config::Institution;
+use dq_dataset::laws::written_law;
+use dq_dataset::{DataSet, Syntax, write};
+use dq_dimse::{Message, status};
+use dq_tables::{Change, Kind, TableFault, Tables};
+use dq_value::is_uid;
+use std::alloc::Global;
+
+/// Creates a performed procedure step among the institution's rows, and answers the status
+/// (PS3.4 section F.7.2.1). A refusal, and a fault of the tables or want of memory, change nothing.
+pub fn create<T: Tables>(
+    alloc: Global,
+    tables: &mut T,
+    institution: &Institution,
+    message: &Message,
+    syntax: Syntax,
+) -> Result<u16, TableFault>
+    ensures { Serves T.rows T.honest T.failed T.may_leave tables.old tables.new institution.now.name
+        (λ records. created (limits_of institution.now) records message.now syntax) result }
+{
+    if is_over(message) {
+        return Ok(status::RESOURCE_LIMITATION);
+    }
+    let Some(step) = data_set_of(alloc, message, syntax)? else {
+        return Ok(status::PROCESSING_FAILURE);
+    };
+    let uid = message.command.sop_instance.as_slice();
+    if !is_uid(uid) {
+        return Ok(status::INVALID_SOP_INSTANCE);
+    }
+    create_step(alloc, tables, institution, uid, &step)
+}
+
+/// Creates a step under its UID.
+fn create_step<T: Tables>(
+    alloc: Global,
+    tables: &mut T,
+    institution: &Institution,
+    uid: &[u8],
+    step: &DataSet,
+) -> Result<u16, TableFault>
+    requires uid { is_uid uid.now ≡ true }
+    requires lengths { HasLengths Explicit step.now }
+    ensures { Serves T.rows T.honest T.failed T.may_leave tables.old tables.new institution.now.name
+        (step_created (limits_of institution.now) uid.now step.now) result }
+{
+    if let Some(status) = refusal(alloc, tables, institution, uid, step)? {
+        return Ok(status);
+    }
+    add_step(alloc, tables, institution.name.as_slice(), uid, step)?;
+    Ok(status::SUCCESS)
+}
+
+/// The status of the first refusal of a new step.
+fn refusal<T: Tables>(
+    alloc: Global,
+    tables: &mut T,
+    institution: &Institution,
+    uid: &[u8],
+    step: &DataSet,
+) -> Result<Option<u16>, TableFault>
+    ensures found { T.honest tables.new → IfOk result (λ status. status ≡ first_refusal
+        (step_refusals (limits_of institution.now) (of institution.now.name (T.rows tables.old))
+        uid.now step.now)) }
+    ensures reads { Reads T.rows T.honest T.failed T.may_leave tables.old tables.new result }
+{
+    if is_kept(alloc, tables, institution, uid)? {
+        return Ok(Some(status::DUPLICATE_SOP_INSTANCE));
+    }
+    if let Some(status) = attribute_refusal(step) {
+        return Ok(Some(status));
+    }
+    if is_full(alloc, tables, institution)? {
+        return Ok(Some(status::RESOURCE_LIMITATION));
+    }
+    Ok(None)
+}
+
+/// Whether a step with the UID is kept.
+fn is_kept<T: Tables>(
+    alloc: Global,
+    tables: &mut T,
+    institution: &Institution,
+    uid: &[u8],
+) -> Result<bool, TableFault>
+    ensures found { T.honest tables.new → IfOk result (λ kept.
+        kept ≡ is_some (record_at Step uid.now (of institution.now.name (T.rows tables.old)))) }
+    ensures reads { Reads T.rows T.honest T.failed T.may_leave tables.old tables.new result }
+{
+    let kept = tables.step(alloc, institution.name.as_slice(), uid)?;
+    Ok(kept.is_some())
+}
+
+/// Whether the institution has as many steps as it may have.
+fn is_full<T: Tables>(
+    alloc: Global,
+    tables: &mut T,
+    institution: &Institution,
+) -> Result<bool, TableFault>
+    ensures found { T.honest tables.new → IfOk result (λ full. full ≡ nat_le institution.now.steps
+        (length (records_of Step (of institution.now.name (T.rows tables.old))))) }
+    ensures reads { Reads T.rows T.honest T.failed T.may_leave tables.old tables.new result }
+{
+    let count = tables.count(alloc, Kind::Step, institution.name.as_slice())?;
+    Ok(u64::from(institution.steps) <= count)
+}
+
+/// The status that refuses the attributes of a new step.
+fn attribute_refusal(step: &DataSet) -> Option<u16>
+    ensures { result ≡ first_refusal (attribute_refusals step.now) }
+{
+    if !has_attributes(step) {
+        return Some(status::MISSING_ATTRIBUTE);
+    }
+    if !has_attribute_values(step) {
+        return Some(status::MISSING_ATTRIBUTE_VALUE);
+    }
+    if !is_in_progress(step) {
+        return Some(status::INVALID_ATTRIBUTE_VALUE);
+    }
+    None
+}
+
+/// Adds a step that is not refused.
+fn add_step<T: Tables>(
+    alloc: Global,
+    tables: &mut T,
+    name: &[u8],
+    uid: &[u8],
+    step: &DataSet,
+) -> Result<(), TableFault>
+    requires uid { is_uid uid.now ≡ true }
+    requires lengths { HasLengths Explicit step.now }
+    requires new { T.honest tables.old → IsFree name.now uid.now (T.rows tables.old) }
+    ensures { Writes T.rows T.honest T.failed T.may_leave tables.old tables.new
+        (with_put name.now (step_record uid.now step.now) (T.rows tables.old)) result }
+{
+    written_law();
+    let _elements = step.elements();
+    let octets = write(alloc, step, Syntax::Explicit)?;
+    let row = step_row(alloc, name, uid, octets)?;
+    tables.apply(alloc, &Change::StepAdded(row))
+}

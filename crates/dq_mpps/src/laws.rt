@@ -1,0 +1,82 @@
+//! What follows from the definitions. Each function's contract is a law; its body does nothing.
+ghost use Rattle.std.specs.Prelude.{◌≡◌, ◌≢◌, ◌↔◌, ℕ, [], List, Some, true, false};
+ghost use Rattle.dq_vr.specs.declared.Tag.{Tag};
+ghost use Rattle.dq_dataset.specs.declared.header.Syntax.{Syntax};
+ghost use Rattle.dq_dataset.specs.declared.data_set.Element.{Element};
+ghost use Rattle.dq_dataset.specs.Tree.{ElementList};
+ghost use Rattle.dq_dataset.specs.Facts.{IsDataSet};
+ghost use Rattle.dq_dataset.specs.Editing.{merged};
+ghost use Rattle.dq_dimse.specs.declared.command.Message.{Message};
+ghost use Rattle.dq_dimse.specs.Statuses.{success};
+ghost use Rattle.dq_config.specs.Limits.{Limits};
+ghost use Rattle.dq_tables.specs.declared.row.Kind.TheVariants.{Step};
+ghost use Rattle.dq_tables.specs.declared.row.Row.{Row};
+ghost use Rattle.dq_tables.specs.Rows.{Record, Edit, IsRising, of, by, after};
+ghost use Rattle.dq_tables.specs.Finding.{record_at};
+ghost use Rattle.dq_tables.specs.Keys.{element_at};
+ghost use Rattle.dq_mpps.specs.Attributes.{is_fixed};
+ghost use Rattle.dq_mpps.specs.Creating.{created};
+ghost use Rattle.dq_mpps.specs.Changing.{data_set_of, is_ended, changes_fixed, changed};
+ghost use Rattle.dq_mpps.specs.Same.{same_element};
+ghost use Rattle.dq_mpps.specs.Views.{or_kept};
+
+/// A request that is not answered by success changes no record.
+#[tactic(auto, using(crate::proofs::Refusals::created_unless, crate::proofs::Refusals::changed_unless))]
+pub fn refusals_change_nothing()
+    ensures created { (limits : Limits) (records : List Record) (message : Message)
+        (syntax : Syntax) → (created limits records message syntax).0 ≢ success
+        → (created limits records message syntax).1 ≡ [] }
+    ensures changed { (records : List Record) (message : Message) (syntax : Syntax)
+        → (changed records message syntax).0 ≢ success
+        → (changed records message syntax).1 ≡ [] }
+{}
+
+/// A step that is kept is not created again, and one that is completed or discontinued stays as it
+/// is (PS3.4 section F.7.2.2).
+#[tactic(auto, using(crate::proofs::Refusals::created_again, crate::proofs::Refusals::ended_stays))]
+pub fn kept_steps_stay()
+    ensures created { (limits : Limits) (records : List Record) (message : Message)
+        (syntax : Syntax) (kept : Record)
+        → record_at Step message.command.sop_instance records ≡ Some kept
+        → (created limits records message syntax).1 ≡ [] }
+    ensures ended { (records : List Record) (message : Message) (syntax : Syntax) (kept : Record)
+        → record_at Step message.command.sop_instance records ≡ Some kept
+        → is_ended (data_set_of (Some kept)) ≡ true
+        → (changed records message syntax).1 ≡ [] }
+{}
+
+/// After a change that is not refused each element that was sent stands, and any other as it was
+/// kept (PS3.7 section 10.1.3).
+#[tactic(auto, using(crate::proofs::Standing::standing_after))]
+pub fn what_is_sent_stands()
+    ensures { (kept sent : ElementList) → IsDataSet sent → (tag : Tag)
+        → element_at tag (merged kept sent) ≡ or_kept (element_at tag sent) (element_at tag kept) }
+{}
+
+/// A change that is not refused leaves the attributes of the patient and the other fixed ones as
+/// they are kept (PS3.4 table F.7.2-1).
+#[tactic(auto, using(crate::proofs::Standing::fixed_stay))]
+pub fn fixed_attributes_stay()
+    ensures { (kept sent : ElementList) → IsDataSet kept → IsDataSet sent
+        → changes_fixed kept sent ≡ false → (e : Element) → is_fixed e ≡ true
+        → element_at e.tag (merged kept sent) ≡ element_at e.tag kept }
+{}
+
+/// What other institutions keep changes no status and no edit.
+#[tactic(auto, using(crate::proofs::Others::created_alike, crate::proofs::Others::changed_alike))]
+pub fn other_institutions_change_no_status()
+    ensures created { (own other : List ℕ) → other ≢ own → (edits : List Edit) (rows : List Row)
+        → IsRising rows → (limits : Limits) (message : Message) (syntax : Syntax)
+        → created limits (of own (after (by other edits) rows)) message syntax
+        ≡ created limits (of own rows) message syntax }
+    ensures changed { (own other : List ℕ) → other ≢ own → (edits : List Edit) (rows : List Row)
+        → IsRising rows → (message : Message) (syntax : Syntax)
+        → changed (of own (after (by other edits) rows)) message syntax
+        ≡ changed (of own rows) message syntax }
+{}
+
+/// The same elements are those with the same tag, value representation and value.
+#[tactic(auto, using(crate::proofs::Comparing::same_is_equal))]
+pub fn same_elements_are_equal()
+    ensures { (e f : Element) → (same_element e f ≡ true) ↔ (e ≡ f) }
+{}

@@ -1,0 +1,67 @@
+//! A step over rows in memory, from its creation to its end.
+use super::*;
+use dq_config::{Config, Institution};
+use dq_dataset::Syntax;
+use dq_dimse::{Command, Message, command_field, status};
+use dq_list::Listed;
+use dq_tables::{PlainTables, TableFault};
+use std::alloc::Global;
+use std::test::*;
+
+/// The data set of an N-CREATE, in Explicit.
+const NEW: &[u8] = b"\x08\x00\x60\x00CS\x02\x00MR\
+\x40\x00\x41\x02AE\x04\x00MR1 \
+\x40\x00\x44\x02DA\x08\x0020261122\
+\x40\x00\x45\x02TM\x04\x000930\
+\x40\x00\x52\x02CS\x0c\x00IN PROGRESS \
+\x40\x00\x53\x02SH\x02\x00P1\
+\x40\x00\x70\x02SQ\x00\x00\x08\x00\x00\x00\xfe\xff\x00\xe0\x00\x00\x00\x00";
+
+/// The data set of an N-SET that completes the step.
+const END: &[u8] = b"\x40\x00\x52\x02CS\x0a\x00COMPLETED ";
+
+/// The status of a request with these octets.
+fn answered(
+    alloc: Global,
+    tables: &mut PlainTables,
+    institution: &Institution,
+    code: u16,
+    octets: &[u8],
+) -> Result<u16, TableFault> {
+    let message = Message {
+        context: 1,
+        command: Command {
+            code,
+            id: 1,
+            sop_class: Listed::copy_of(alloc, b"1.2.840.10008.3.1.2.3.3")?,
+            sop_instance: Listed::copy_of(alloc, b"1.2.9")?,
+            with_data: true,
+            status: 0,
+        },
+        octets: Listed::copy_of(alloc, octets)?,
+        over: false,
+    };
+    if code == command_field::N_CREATE {
+        create(alloc, tables, institution, &message, Syntax::Explicit)
+    } else {
+        set(alloc, tables, institution, &message, Syntax::Explicit)
+    }
+}
+
+#[test]
+fn a_step_is_created_and_completed(rt: HostRuntime) -> Result<(), Fail> {
+    let alloc = rt.alloc();
+    let config = Config::built_in(alloc)?;
+    let demo = config.institution(b"DEMO").ok_or("DEMO")?;
+    let mut tables = PlainTables::new(alloc);
+    for (code, octets, wanted) in [
+        (command_field::N_SET, END, status::NO_SUCH_SOP_INSTANCE),
+        (command_field::N_CREATE, NEW, status::SUCCESS),
+        (command_field::N_CREATE, NEW, status::DUPLICATE_SOP_INSTANCE),
+        (command_field::N_SET, END, status::SUCCESS),
+        (command_field::N_SET, END, status::PROCESSING_FAILURE),
+    ] {
+        assert_eq!(rt; answered(alloc, &mut tables, demo, code, octets)?, wanted);
+    }
+    Ok(())
+}
