@@ -16,6 +16,8 @@ pub mod Accepting
 pub mod Living
 pub mod WorkedExamples
 pub mod Composing
+pub mod Responding
+pub mod Searching
 pub mod Serving
 pub mod Going
 pub mod Slotted

@@ -1,7 +1,7 @@
 -- A run of a history, event by event.
-use Rattle.std.proofs.Common.{◌≡◌, ◌≢◌, ℕ, zero, suc, ◌+◌, ◌<◌, Bool, true, false, IsTrue, ◌&&◌, List, [], ◌∷◌, ◌++◌, length, take, drop, Option, Some, None, ◌↔◌, ◌⊎◌, inl, inr, Result, Ok, Err, refl, sym, ap, ◌∙◌, subst, append_assoc, arith}
+use Rattle.std.proofs.Common.{◌≡◌, ℕ, zero, suc, ◌+◌, ◌<◌, Bool, false, IsTrue, List, [], ◌∷◌, ◌++◌, length, take, drop, Option, Some, None, Result, Ok, Err, refl, sym, ap, ◌∙◌, subst, append_assoc, arith}
 use Rattle.std.specs.Result.{result_err, MatchResult}
-use Rattle.std.proofs.lemmas.List.{append-nil, length-append, take_all}
+use Rattle.std.proofs.lemmas.List.{append-nil, length-append}
 use Rattle.std.proofs.Math.Seq.{take-append_seam, drop-append_seam, take-length}
 use Rattle.dq_config.specs.declared.config.Institution.{Institution}
 use Rattle.dq_tables.specs.declared.row.Row.{Row}
@@ -10,8 +10,7 @@ use Rattle.dq_core.specs.declared.event.Event.{Event}
 use Rattle.dq_core.specs.declared.event.Event.TheVariants as event
 use Rattle.dq_core.specs.declared.event.Reply.{Reply}
 use Rattle.dq_core.specs.declared.fault.Fault.{Fault}
-use Rattle.dq_core.specs.declared.fault.Fault.TheVariants.{Store}
-use Rattle.dq_core.specs.Shared.{World, turn, world_after_turn, replies_from, world_from, opening, replies, world_after, operations_next, rows_within}
+use Rattle.dq_core.specs.Shared.{World, turn, world_after_turn, replies_from, opening, replies, world_after, operations_next, rows_within}
 use Rattle.dq_core.specs.Histories.{is_above, newest_after, rises_from}
 use Rattle.dq_core.specs.Doing.{Goes, IsPartOf}
 use Rattle.dq_core.specs.Runs.{IsRun}

@@ -4,20 +4,17 @@ use Rattle.std.specs.List.{flat_map}
 use Rattle.std.proofs.lemmas.List.{append-nil}
 use Rattle.dq_dimse.specs.declared.command.Message.{Message}
 use Rattle.dq_dimse.specs.CommandFields.{c_cancel}
-use Rattle.dq_dimse.specs.Sending.{sent}
 use Rattle.dq_assoc.specs.declared.agreement.Agreement.{Agreement}
 use Rattle.dq_assoc.specs.declared.agreement.AgreedContext.{AgreedContext}
-use Rattle.dq_assoc.specs.declared.classes.Service.{Service}
-use Rattle.dq_assoc.specs.declared.classes.Service.TheVariants as service
-use Rattle.dq_assoc.specs.Classes.{service_of}
 use Rattle.dq_assoc.specs.Negotiation.{context_of}
 use Rattle.dq_config.specs.declared.config.Institution.{Institution}
 use Rattle.dq_config.specs.Limits.{Limits, limits_of}
+use Rattle.dq_match.specs.declared.responses.Found.{Found}
 use Rattle.dq_tables.specs.declared.row.Row.{Row}
 use Rattle.dq_tables.specs.Rows.{Record, of, by, after}
-use Rattle.dq_core.specs.Services.{Served, no_response, response_command, status_response, refusal_for, service_answer, answer_unless, served_on, served}
+use Rattle.dq_core.specs.Services.{Served, no_response, responses, outcome_on, served_by, served_on, served}
 use Rattle.dq_core.specs.Answers.{response_octets}
-use Rattle.dq_core.specs.Doing.{Did, DidPart, operation, outcome_unless, outcome_on, served_answer}
+use Rattle.dq_core.specs.Doing.{Did, DidPart, served_answer}
 
 served-none : (limits : Limits) (records : List Record) (a : Agreement) (m : Message) → context_of a m.context ≡ None
     → served limits records a m ≡ no_response
@@ -33,29 +30,15 @@ served-cancel : (limits : Limits) (records : List Record) (a : Agreement) (m : M
 unfolding served
 served-cancel limits records a m c e h = ap (λ (o : Option AgreedContext). served_on o limits records a m) e ∙ cancelled (m.command.code == c_cancel) _ h
 
-by_service : (s : Service) (limits : Limits) (records : List Record) (a : Agreement) (c : AgreedContext) (m : Message)
-    → service_answer s limits records a c m ≡ status_response c.class m.command (operation s c.syntax limits m records)
-by_service service.Verification limits records a c m = refl
-by_service service.Storage limits records a c m = refl
-by_service service.StudyRootFind limits records a c m = refl
-by_service service.WorklistFind limits records a c m = refl
-by_service service.PerformedProcedureStep limits records a c m = refl
-
-by_refusal : (r : Option ℕ) (limits : Limits) (records : List Record) (a : Agreement) (c : AgreedContext) (m : Message)
-    → answer_unless r limits records a c m ≡ status_response c.class m.command (outcome_unless r c limits m records)
-by_refusal (Some status) limits records a c m = refl
-by_refusal None limits records a c m = by_service (service_of c.class) limits records a c m
-
 not-cancelled : (b : Bool) (s : Served) → b ≡ false → cond b no_response s ≡ s
 not-cancelled b s e = rw e refl
 
 served-outcome : (limits : Limits) (records : List Record) (a : Agreement) (m : Message) (c : AgreedContext) → context_of a m.context ≡ Some c
     → (m.command.code == c_cancel) ≡ false
-    → served limits records a m ≡ status_response c.class m.command (outcome_on c limits m records)
+    → served limits records a m ≡ served_by c m.command (outcome_on a c limits m records)
 unfolding served
 served-outcome limits records a m c e h =
     ap (λ (o : Option AgreedContext). served_on o limits records a m) e ∙ not-cancelled (m.command.code == c_cancel) _ h
-    ∙ by_refusal (refusal_for c.class m.command) limits records a c m
 
 -- a message that has no response was served
 did-nothing : (i : Institution) (a : Agreement) (m : Message) (r : List Row) (x : List ℕ)
@@ -75,26 +58,25 @@ pub did-cancel : (i : Institution) (a : Agreement) (m : Message) (c : AgreedCont
     → Did (Some i) (served_answer (limits_of i) a (of i.name r) m) r r x x
 did-cancel i a m c r x e h = did-nothing i a m r x (served-cancel (limits_of i) (of i.name r) a m c e h)
 
--- a message was served: its edits were made, and its response was added
-pub did-served : (i : Institution) (a : Agreement) (m : Message) (c : AgreedContext) (r0 r1 : List Row) (x0 x1 : List ℕ) (status : ℕ)
+-- a message was served: its edits were made, and its responses were added
+pub did-served : (i : Institution) (a : Agreement) (m : Message) (c : AgreedContext) (r0 r1 : List Row) (x0 x1 : List ℕ) (found : Found)
     → context_of a m.context ≡ Some c → (m.command.code == c_cancel) ≡ false
-    → status ≡ (outcome_on c (limits_of i) m (of i.name r0)).0 → r1 ≡ after (by i.name (outcome_on c (limits_of i) m (of i.name r0)).1) r0
-    → x1 ≡ x0 ++ sent m.context (response_command c.class m.command status) None a.limit
+    → found ≡ (outcome_on a c (limits_of i) m (of i.name r0)).0 → r1 ≡ after (by i.name (outcome_on a c (limits_of i) m (of i.name r0)).1) r0
+    → x1 ≡ x0 ++ flat_map (response_octets m.context a.limit) (responses c m.command found)
     → Did (Some i) (served_answer (limits_of i) a (of i.name r0) m) r0 r1 x0 x1
-did-served i a m c r0 r1 x0 x1 status e h answered done added =
+did-served i a m c r0 r1 x0 x1 found e h answered done added =
     let served_so = served-outcome (limits_of i) (of i.name r0) a m c e h in
     record {
       octets = added
-          ∙ ap (λ (n : ℕ). x0 ++ sent m.context (response_command c.class m.command n) None a.limit) answered
-          ∙ ap (λ (x : List ℕ). x0 ++ x) (sym (append-nil _))
+          ∙ ap (λ (f : Found). x0 ++ flat_map (response_octets m.context a.limit) (responses c m.command f)) answered
           ∙ ap (λ (s : Served). x0 ++ flat_map (response_octets m.context a.limit) s.responses) (sym served_so);
       rows = done ∙ ap (λ (s : Served). after (by i.name s.edits) r0) (sym served_so);
     }
 
--- its edits were made, and no response could be added
+-- its edits were made, and not all responses could be added
 pub part-served : (i : Institution) (a : Agreement) (m : Message) (c : AgreedContext) (r0 r1 : List Row)
     → context_of a m.context ≡ Some c → (m.command.code == c_cancel) ≡ false
-    → r1 ≡ after (by i.name (outcome_on c (limits_of i) m (of i.name r0)).1) r0
+    → r1 ≡ after (by i.name (outcome_on a c (limits_of i) m (of i.name r0)).1) r0
     → DidPart (Some i) (served_answer (limits_of i) a (of i.name r0) m) r0 r1
 part-served i a m c r0 r1 e h done =
     let edits = (served (limits_of i) (of i.name r0) a m).edits in

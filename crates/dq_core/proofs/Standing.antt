@@ -1,15 +1,17 @@
 -- A server that stands for a history stands for it with one event more.
-use Rattle.std.proofs.Common.{◌≡◌, ℕ, List, [], ◌∷◌, ◌++◌, Option, Some, None, ◌⊎◌, inl, inr, refl, sym, ap, ◌∙◌, subst}
+use Rattle.std.proofs.Common.{◌≡◌, ℕ, List, [], ◌∷◌, ◌++◌, Option, Some, None, ◌⊎◌, inl, inr, Result, Ok, Err, refl, sym, ap, ◌∙◌, subst}
+use Rattle.std.specs.Result.{IfOk, OnOk, OnErr}
 use Rattle.dq_config.specs.declared.config.Institution.{Institution}
 use Rattle.dq_config.specs.Routing.{named}
-use Rattle.dq_config.specs.Limits.{limits_of}
 use Rattle.dq_tables.specs.declared.row.Row.{Row}
-use Rattle.dq_tables.specs.Rows.{of, after_all}
+use Rattle.dq_tables.specs.Rows.{Operation, after_all}
 use Rattle.dq_core.specs.declared.event.Event.{Event}
 use Rattle.dq_core.specs.declared.event.Event.TheVariants as event
 use Rattle.dq_core.specs.declared.event.Reply.{Reply}
+use Rattle.dq_core.specs.declared.fault.Fault.{Fault}
 use Rattle.dq_core.specs.declared.slot.Slot.{Slot}
-use Rattle.dq_core.specs.Services.{Order, Scheduling, Withdrawal, ordered}
+use Rattle.dq_core.specs.Doing.{IsPartOf}
+use Rattle.dq_core.specs.Services.{Order}
 use Rattle.dq_core.specs.Connections.{Connection, connection_in}
 use Rattle.dq_core.specs.Shared.{World, Turn, turn, order_turn, world_after_turn, replies_from, world_from, opening, world_after}
 use Rattle.dq_core.specs.Histories.{newest_after}
@@ -55,41 +57,40 @@ stands-next rows_of server new rows events event reply s i p n t =
       keeps = t.rows ∙ ap (λ (w : World). w.rows) is;
     }
 
--- an order is refused, and changes nothing
-pub order-turned : (institutions : List Institution) (world : World) (order : Order) (i : Option Institution) (reply : Reply) (slots : List Slot)
-    → (order_turn world order i).reply ≡ reply → AreHeld institutions slots world.connections
-    → Turned institutions (order_turn world order i) reply world.rows world.rows slots
-unfolding ordered
-order-turned institutions world order None reply slots e h = record { replied = sym e; rows = refl; holds = h }
-order-turned institutions world order (Some i) reply slots e h = record { replied = sym e; rows = refl; holds = h }
-
 -- a piece that takes no memory
 pub quiet-piece : (connections : List Connection) (number : ℕ) (piece : List ℕ) → TakesNoMemory connections (event.Piece number piece)
     → (piece ≡ []) ⊎ (connection_in number connections ≡ None)
 quiet-piece connections number [] h = inl refl
 quiet-piece connections number (octet ∷ piece) h = inr h
 
--- an order for the institution that it names
-pub schedule-turned : (institutions config : List Institution) (world : World) (name inst octets : List ℕ) (e : Event) (reply : Reply) (rows : List Row)
-    (slots : List Slot) → e ≡ event.Schedule inst octets → name ≡ inst → institutions ≡ config
-    → ((w : World) (o : List ℕ) → (turn config w (event.Schedule name o)).reply ≡ reply)
-    → AreHeld institutions slots world.connections → rows ≡ world.rows → Turned institutions (turn institutions world e) reply world.rows rows slots
-schedule-turned institutions config world name inst octets e reply rows slots is n i said held k =
-    let replied : (turn institutions world (event.Schedule inst octets)).reply ≡ reply =
-    ap (λ (x : List ℕ). (turn institutions world (event.Schedule x octets)).reply) (sym n)
-    ∙ ap (λ (x : List Institution). (turn x world (event.Schedule name octets)).reply) i ∙ said world octets in
-    subst (λ (x : Event). Turned institutions (turn institutions world x) reply world.rows rows slots) (sym is)
-    (subst (λ (x : List Row). Turned institutions (turn institutions world (event.Schedule inst octets)) reply world.rows x slots) (sym k)
-    (order-turned institutions world (Scheduling octets) (named institutions inst) reply slots replied held))
+-- an order was answered
+order-turned : (institutions : List Institution) (world : World) (order : Order) (o : Option Institution) (reply : Reply) (old rows : List Row)
+    (slots : List Slot) → AreHeld institutions slots world.connections → old ≡ world.rows → reply ≡ (order_turn (opening old) order o).reply
+    → rows ≡ after_all (order_turn (opening old) order o).operations old
+    → Turned institutions (order_turn world order o) reply world.rows rows slots
+order-turned institutions world order None reply old rows slots h k r d = record { replied = r; rows = d ∙ k; holds = h }
+order-turned institutions world order (Some i) reply old rows slots h k r d = record {
+  replied = r ∙ ap (λ (rs : List Row). (order_turn (opening rs) order (Some i)).reply) k;
+  rows = d ∙ ap (λ (rs : List Row). after_all (order_turn (opening rs) order (Some i)).operations rs) k;
+  holds = h;
+}
 
-pub withdraw-turned : (institutions config : List Institution) (world : World) (name inst id : List ℕ) (e : Event) (reply : Reply) (rows : List Row)
-    (slots : List Slot) → e ≡ event.Withdraw inst id → name ≡ inst → institutions ≡ config
-    → ((w : World) (o : List ℕ) → (turn config w (event.Withdraw name o)).reply ≡ reply)
-    → AreHeld institutions slots world.connections → rows ≡ world.rows → Turned institutions (turn institutions world e) reply world.rows rows slots
-withdraw-turned institutions config world name inst id e reply rows slots is n i said held k =
-    let replied : (turn institutions world (event.Withdraw inst id)).reply ≡ reply =
-    ap (λ (x : List ℕ). (turn institutions world (event.Withdraw x id)).reply) (sym n)
-    ∙ ap (λ (x : List Institution). (turn x world (event.Withdraw name id)).reply) i ∙ said world id in
-    subst (λ (x : Event). Turned institutions (turn institutions world x) reply world.rows rows slots) (sym is)
-    (subst (λ (x : List Row). Turned institutions (turn institutions world (event.Withdraw inst id)) reply world.rows x slots) (sym k)
-    (order-turned institutions world (Withdrawal id) (named institutions inst) reply slots replied held))
+pub orders-turned : (institutions config : List Institution) (world : World) (order : Order) (name inst : List ℕ) (t : Turn) (result : Result Reply Fault)
+    (old rows : List Row) (slots : List Slot) → t ≡ order_turn world order (named institutions inst) → name ≡ inst → institutions ≡ config
+    → AreHeld institutions slots world.connections → old ≡ world.rows
+    → IfOk result (λ reply. reply ≡ (order_turn (opening old) order (named config name)).reply)
+    → OnOk result (rows ≡ after_all (order_turn (opening old) order (named config name)).operations old)
+    → IfOk result (λ reply. Turned institutions t reply world.rows rows slots)
+orders-turned institutions config world order name inst t (Ok reply) old rows slots e n i h k r d =
+    let to = ap (λ (x : List ℕ). named config x) n ∙ ap (λ (x : List Institution). named x inst) (sym i) in
+    subst (λ (x : Turn). Turned institutions x reply world.rows rows slots) (sym e)
+    (order-turned institutions world order (named institutions inst) reply old rows slots h k
+    (r ∙ ap (λ (o : Option Institution). (order_turn (opening old) order o).reply) to)
+    (d ∙ ap (λ (o : Option Institution). after_all (order_turn (opening old) order o).operations old) to))
+orders-turned institutions config world order name inst t (Err fault) old rows slots e n i h k r d = tt
+
+-- no operation was made
+pub orders-part : (operations : List Operation) (world : World) (result : Result Reply Fault) (old rows : List Row) → old ≡ world.rows
+    → OnErr result (rows ≡ old) → OnErr result (IsPartOf operations world.rows rows)
+orders-part operations world (Ok reply) old rows k same = tt
+orders-part operations world (Err fault) old rows k same = record { done = []; later = operations; whole = refl; made = same ∙ k }

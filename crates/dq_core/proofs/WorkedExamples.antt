@@ -18,7 +18,11 @@ use Rattle.dq_core.specs.declared.event.Reply.{Reply}
 use Rattle.dq_core.specs.declared.event.Reply.TheVariants.{Octets, Done, Refused, Ignored}
 use Rattle.dq_config.specs.Document.{built_in}
 use Rattle.dq_config.specs.Routing.{routed, has_route, joins, named}
-use Rattle.dq_core.specs.Services.{served}
+use Rattle.dq_find.specs.Queries.{query_of, found}
+use Rattle.dq_worklist.specs.Orders.{scheduled, withdrawn}
+use Rattle.dq_tables.specs.Rows.{of}
+use Rattle.dq_tables.specs.Finding.{record_at}
+use Rattle.dq_core.specs.Services.{served, ordered}
 use Rattle.dq_core.specs.Shared.{replies}
 use Rattle.dq_core.specs.Own.{own}
 
@@ -306,3 +310,26 @@ own_events = (refl, refl)
 orders : replies (two 4) [] (Schedule (codes "EAST") [] ∷ Withdraw (codes "EAST") [] ∷ []) ≡ Refused 6 ∷ Refused 6 ∷ []
 unfolding pdus_within front pdu_of associate_of request_of item_at pdv_at proposed_of user_information_of values_of parts routed has_route joins built_in stripped without_leading without_trailing kept_before messages_from named
 orders = refl
+
+-- a Study Root query in Explicit with an identifier that can't be read, and its response
+abbrev study_root : List ℕ
+study_root = codes "1.2.840.10008.5.1.4.1.2.2.1" ++ 0 ∷ []
+
+abbrev find : List ℕ
+find = value_pdu 84 80 3 (
+    element 0x0000 4 (66 ∷ 0 ∷ 0 ∷ 0 ∷ []) ++ element 0x0002 28 study_root ++ element 0x0100 2 (0x20 ∷ 0 ∷ []) ++ element 0x0110 2 (1 ∷ 0 ∷ [])
+    ++ element 0x0800 2 (0 ∷ 0 ∷ [])) ++ value_pdu 8 4 2 (8 ∷ 0 ∷ [])
+
+abbrev not_understood : List ℕ
+not_understood = value_pdu 94 90 3 (
+    element 0x0000 4 (76 ∷ 0 ∷ 0 ∷ 0 ∷ []) ++ element 0x0002 28 study_root ++ element 0x0100 2 (0x20 ∷ 0x80 ∷ []) ++ element 0x0120 2 (1 ∷ 0 ∷ [])
+    ++ element 0x0800 2 (1 ∷ 1 ∷ []) ++ element 0x0900 2 (0 ∷ 0xc0 ∷ []))
+
+a_query : replies built_in [] (history (four_contexts ∷ find ∷ [])) ≡ Done ∷ answered four_results ∷ answered not_understood ∷ []
+unfolding pdus_within front pdu_of associate_of request_of item_at pdv_at proposed_of user_information_of values_of parts routed has_route joins built_in stripped without_leading without_trailing kept_before messages_from command_from command_of reading readers elements_by element_by elements_after value_by items_by item_by items_after header_at end_at is_below tag_at spelling_at long_length_at content_of known_vr vr_in dictionary trimmed unpadded is_padded ignores_leading_spaces served found query_of
+a_query = refl
+
+-- an entry that can't be read, and one that is not there
+orders_of_the_worklist : replies (two 4) [] (Schedule north (8 ∷ 0 ∷ []) ∷ Withdraw south [] ∷ []) ≡ Refused 1 ∷ Refused 5 ∷ []
+unfolding reading readers elements_by element_by elements_after value_by items_by item_by items_after header_at end_at is_below tag_at spelling_at long_length_at content_of known_vr vr_in dictionary named of record_at ordered scheduled withdrawn
+orders_of_the_worklist = refl

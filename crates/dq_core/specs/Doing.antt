@@ -1,13 +1,7 @@
 -- What the parts of the server do with tables, and what they leave at a fault. This is there for
 -- the prover.
 use Rattle.std.specs.Prelude.{◌≡◌, ℕ, Bool, true, ◌⊎◌, if◌then◌else◌, List, [], ◌∷◌, ◌++◌, Result, Err, IfOk, OnOk, OnErr, Option, None, Some}
-use Rattle.dq_dataset.specs.declared.header.Syntax.{Syntax}
 use Rattle.dq_dimse.specs.declared.command.Message.{Message}
-use Rattle.dq_dimse.specs.Statuses.{success, unrecognized_operation}
-use Rattle.dq_assoc.specs.declared.classes.Service.{Service}
-use Rattle.dq_assoc.specs.declared.classes.Service.TheVariants as service
-use Rattle.dq_assoc.specs.Classes.{service_of}
-use Rattle.dq_assoc.specs.declared.agreement.AgreedContext.{AgreedContext}
 use Rattle.dq_assoc.specs.declared.agreement.Agreement.{Agreement}
 use Rattle.dq_assoc.specs.declared.association.Verdict.{Verdict}
 use Rattle.dq_assoc.specs.declared.association.State.{State}
@@ -17,18 +11,19 @@ use Rattle.dq_assoc.specs.After.{is_closed}
 use Rattle.dq_assoc.specs.Steps.{step_of, open_outcome, outcome}
 use Rattle.dq_config.specs.declared.config.Institution.{Institution}
 use Rattle.dq_config.specs.Limits.{Limits}
-use Rattle.dq_store.specs.Storing.{stored}
+use Rattle.dq_match.specs.declared.responses.Found.{Found}
 use Rattle.dq_tables.specs.declared.fault.TableFault.{TableFault}
 use Rattle.dq_tables.specs.declared.fault.TableFault.TheVariants as table
 use Rattle.dq_tables.specs.declared.row.Row.{Row}
 use Rattle.dq_tables.specs.Rows.{Record, Edit, Operation, of, by, after, after_all}
+use Rattle.dq_core.specs.declared.event.Reply.{Reply}
 use Rattle.dq_core.specs.declared.slot.Home.{Home}
 use Rattle.dq_core.specs.declared.slot.Taken.{Taken}
 use Rattle.dq_core.specs.declared.fault.Fault.{Fault}
 use Rattle.dq_core.specs.declared.fault.Fault.TheVariants.{NoMemory, Store}
-use Rattle.dq_core.specs.Services.{refusal_for, served}
+use Rattle.dq_core.specs.Services.{Order, served}
 use Rattle.dq_core.specs.Answers.{Answer, agreement_by, no_answer, message_answer, then_answer}
-use Rattle.dq_core.specs.Shared.{operations_by}
+use Rattle.dq_core.specs.Shared.{operations_by, opening, order_turn}
 
 -- What was not honest does not become so. Store is answered only where the tables failed in the
 -- call.
@@ -56,32 +51,27 @@ pub record Did (owner : Option Institution) (answer : Answer) (before after : Li
 abbrev pub DidPart : Option Institution → Answer → List Row → List Row → Type 0
 DidPart owner answer before after = IsPartOf (operations_by owner answer.changes) before after
 
--- the status and the edits of an operation of a service
-abbrev pub operation : Service → Syntax → Limits → Message → List Record → ℕ × List Edit
-operation service.Verification syntax limits message records = (success, [])
-operation service.Storage syntax limits message records = stored limits records message syntax
-operation other syntax limits message records = (unrecognized_operation, [])
-
-abbrev pub outcome_unless : Option ℕ → AgreedContext → Limits → Message → List Record
-    → ℕ × List Edit
-outcome_unless (Some status) context limits message records = (status, [])
-outcome_unless None context limits message records =
-    operation (service_of context.class) context.syntax limits message records
-
--- the status and the edits of a command that has a response
-abbrev pub outcome_on : AgreedContext → Limits → Message → List Record → ℕ × List Edit
-outcome_on context limits message =
-    outcome_unless (refusal_for context.class message.command) context limits message
-
--- A status is answered and its edits are made, or there is a fault, and no edit is made.
+-- An outcome is answered and its edits are made, or there is a fault, and no edit is made.
 pub record Operates {Tables : Type 0} (rows : Tables → List Row) (honest : Tables → Type 0)
     (failed : Tables → Bool) (old new : Tables) (institution : List ℕ)
-    (does : List Record → ℕ × List Edit) (result : Result ℕ Fault) : Type 0 where
+    (does : List Record → Found × List Edit) (result : Result Found Fault) : Type 0 where
   pub goes : Goes honest failed old new result
   pub answered : honest new
-      → IfOk result (λ status. status ≡ (does (of institution (rows old))).0)
+      → IfOk result (λ found. found ≡ (does (of institution (rows old))).0)
   pub done : honest new → OnOk result (
       rows new ≡ after (by institution (does (of institution (rows old))).1) (rows old))
+  pub same : honest new → OnErr result (rows new ≡ rows old)
+
+-- An order of an institution, or of none, is answered as by the plain server and its operations are
+-- made, or there is a fault, and no operation is made.
+pub record Orders {Tables : Type 0} (rows : Tables → List Row) (honest : Tables → Type 0)
+    (failed : Tables → Bool) (old new : Tables) (owner : Option Institution) (order : Order)
+    (result : Result Reply Fault) : Type 0 where
+  pub goes : Goes honest failed old new result
+  pub replied : honest new
+      → IfOk result (λ reply. reply ≡ (order_turn (opening (rows old)) order owner).reply)
+  pub done : honest new → OnOk result (
+      rows new ≡ after_all (order_turn (opening (rows old)) order owner).operations (rows old))
   pub same : honest new → OnErr result (rows new ≡ rows old)
 
 -- the fault of the server at a fault of the tables

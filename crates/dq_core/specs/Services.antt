@@ -1,11 +1,14 @@
 -- What a message is answered with and what it changes, and what the console's orders change. A
 -- service sees the limits and the records of one institution, what was agreed, and the message: no
 -- name, no route, no other's record.
-use Rattle.std.specs.Prelude.{ℕ, Bool, false, not, ◌==◌, if◌then◌else◌, bit_or, List, [], ◌∷◌, Option, Some, None}
+use Rattle.std.specs.Prelude.{ℕ, Bool, false, not, ◌==◌, ◌||◌, if◌then◌else◌, bit_or, List, [], ◌∷◌, ◌++◌, map, Option, Some, None, is_some}
+use Rattle.dq_dataset.specs.declared.header.Syntax.{Syntax}
+use Rattle.dq_dataset.specs.Tree.{ElementList}
+use Rattle.dq_dataset.specs.Canonical.{canonical}
 use Rattle.dq_dimse.specs.declared.command.Command.{Command}
 use Rattle.dq_dimse.specs.declared.command.Message.{Message}
-use Rattle.dq_dimse.specs.CommandFields.{c_cancel, c_echo, c_store, response_bit}
-use Rattle.dq_dimse.specs.Statuses.{success, sop_class_not_supported, unrecognized_operation}
+use Rattle.dq_dimse.specs.CommandFields.{c_cancel, c_echo, c_find, c_store, n_create, n_set, response_bit}
+use Rattle.dq_dimse.specs.Statuses.{success, pending, pending_without_optional_keys, sop_class_not_supported, unrecognized_operation}
 use Rattle.std.specs.Str.{bytes_eq}
 use Rattle.dq_assoc.specs.declared.agreement.AgreedContext.{AgreedContext}
 use Rattle.dq_assoc.specs.declared.agreement.Agreement.{Agreement}
@@ -17,7 +20,13 @@ use Rattle.dq_core.specs.declared.event.Reply.TheVariants.{Done, Refused}
 use Rattle.dq_config.specs.Limits.{Limits}
 use Rattle.dq_assoc.specs.Classes.{uid_of, service_of}
 use Rattle.dq_assoc.specs.Negotiation.{context_of}
+use Rattle.dq_match.specs.declared.responses.Found.{Found}
 use Rattle.dq_store.specs.Storing.{stored}
+use Rattle.dq_find.specs.Queries.{found}
+use Rattle.dq_worklist.specs.Queries.{listed}
+use Rattle.dq_worklist.specs.Orders.{scheduled, withdrawn}
+use Rattle.dq_mpps.specs.Creating.{created}
+use Rattle.dq_mpps.specs.Changing.{changed}
 use Rattle.dq_tables.specs.Rows.{Record, Edit}
 
 -- a response: its command, and its data set if it has one
@@ -44,49 +53,89 @@ pub record Ordered : Type 0 where
 abbrev pub no_response : Served
 no_response = record { responses = []; edits = [] }
 
--- The instance that a response names: that of the command, in the response to a C-STORE (PS3.7
--- section 9.3.1.2). Where the operation is not recognized, none is named.
+-- The operations whose responses name an instance (PS3.7 sections 9.3.1.2, 10.3.3.2 and 10.3.5.2).
+abbrev pub is_of_instance : ℕ → Bool
+is_of_instance code = code == c_store || (code == n_create || code == n_set)
+
+-- The instance that a response names: that of the command. Where the operation is not recognized,
+-- none is named.
 abbrev pub named_instance : Command → ℕ → List ℕ
 named_instance command status =
     if status == unrecognized_operation then []
-    else (if command.code == c_store then command.sop_instance else [])
+    else (if is_of_instance command.code then command.sop_instance else [])
 
 -- the command of a response of a context's class (PS3.7 section 9.3)
-abbrev pub response_command : SopClass → Command → ℕ → Command
-response_command class command status = record {
+abbrev pub response_command : SopClass → Command → ℕ → Bool → Command
+response_command class command status with_data = record {
   code = bit_or command.code response_bit;
   id = command.id;
   sop_class = uid_of class;
   sop_instance = named_instance command status;
-  with_data = false;
+  with_data = with_data;
   status = status;
 }
 
--- a status alone, and the edits that go with it
-abbrev pub status_response : SopClass → Command → ℕ × List Edit → Served
-status_response class command outcome = record {
-  responses = (response_command class command outcome.0, None) ∷ [];
-  edits = outcome.1;
-}
+-- a response with a status, and with a data set where there is one
+abbrev pub response : SopClass → Command → ℕ → Option (List ℕ) → Response
+response class command status data_set =
+    (response_command class command status (is_some data_set), data_set)
 
--- The operations of each service (PS3.4). Verification and storage are served (PS3.4 annexes A and
--- B); queries, the worklist and the procedure steps have no operation yet.
+-- the status of the responses before the last (PS3.4 section C.4.1.1.4)
+abbrev pub pending_status : Bool → ℕ
+pending_status optional = if optional then pending_without_optional_keys else pending
+
+-- the response with an answer, in the context's transfer syntax
+abbrev pub pending_response : AgreedContext → Command → Bool → ElementList → Response
+pending_response context command optional answer =
+    response context.class command (pending_status optional)
+    (Some (canonical context.syntax answer))
+
+-- a response for each answer, in order
+abbrev pub pending_responses : AgreedContext → Command → Found → List Response
+pending_responses context command found =
+    map (pending_response context command found.optional) found.answers
+
+-- the responses with the answers, and then the one with the status, which has no data set
+abbrev pub responses : AgreedContext → Command → Found → List Response
+responses context command found =
+    pending_responses context command found
+    ++ response context.class command found.status None ∷ []
+
+-- the operations of each service (PS3.4 sections A.2, B.2, C.4.1, K.4.1 and F.7.2)
 abbrev pub has_operation : Service → ℕ → Bool
 has_operation service.Verification code = code == c_echo
 has_operation service.Storage code = code == c_store
-has_operation service.StudyRootFind code = false
-has_operation service.WorklistFind code = false
-has_operation service.PerformedProcedureStep code = false
+has_operation service.StudyRootFind code = code == c_find
+has_operation service.WorklistFind code = code == c_find
+has_operation service.PerformedProcedureStep code = code == n_create || code == n_set
 
--- an operation of the service of a context
-abbrev pub service_answer : Service → Limits → List Record → Agreement → AgreedContext → Message
-    → Served
-service_answer service.Verification limits records agreement context message =
-    status_response context.class message.command (success, [])
-service_answer service.Storage limits records agreement context message =
-    status_response context.class message.command (stored limits records message context.syntax)
-service_answer other limits records agreement context message =
-    status_response context.class message.command (unrecognized_operation, [])
+-- a status without answers
+abbrev pub status_alone : ℕ → Found
+status_alone status = record { status = status; optional = false; answers = [] }
+
+-- a status without answers, and the edits that go with it
+abbrev pub alone : ℕ × List Edit → Found × List Edit
+alone outcome = (status_alone outcome.0, outcome.1)
+
+-- the status of an operation on a performed procedure step, and the edits that go with it
+abbrev pub performed : Limits → List Record → Message → Syntax → ℕ × List Edit
+performed limits records message syntax =
+    if message.command.code == n_create then created limits records message syntax
+    else changed records message syntax
+
+-- what an operation of a service answers, and the edits that go with it; the title is the one that
+-- the peer called
+abbrev pub operation : Service → List ℕ → Syntax → Limits → Message → List Record
+    → Found × List Edit
+operation service.Verification called syntax limits message records = alone (success, [])
+operation service.Storage called syntax limits message records =
+    alone (stored limits records message syntax)
+operation service.StudyRootFind called syntax limits message records =
+    (found records called message syntax, [])
+operation service.WorklistFind called syntax limits message records =
+    (listed records message syntax, [])
+operation service.PerformedProcedureStep called syntax limits message records =
+    alone (performed limits records message syntax)
 
 -- The operation is tested first, and then whether the class is that of the context (PS3.7 annex C).
 abbrev pub refusal_for : SopClass → Command → Option ℕ
@@ -95,19 +144,28 @@ refusal_for class command =
     else (if not (bytes_eq command.sop_class (uid_of class)) then Some sop_class_not_supported
     else None)
 
-abbrev pub answer_unless : Option ℕ → Limits → List Record → Agreement → AgreedContext → Message
-    → Served
-answer_unless (Some status) limits records agreement context message =
-    status_response context.class message.command (status, [])
-answer_unless None limits records agreement context message =
-    service_answer (service_of context.class) limits records agreement context message
+abbrev pub outcome_unless : Option ℕ → Agreement → AgreedContext → Limits → Message
+    → List Record → Found × List Edit
+outcome_unless (Some status) agreement context limits message records = alone (status, [])
+outcome_unless None agreement context limits message records =
+    operation (service_of context.class) agreement.called context.syntax limits message records
 
--- A C-CANCEL has no response. Any other command is refused, or its operation is done.
+-- A command is refused, or its operation is done.
+abbrev pub outcome_on : Agreement → AgreedContext → Limits → Message → List Record
+    → Found × List Edit
+outcome_on agreement context limits message =
+    outcome_unless (refusal_for context.class message.command) agreement context limits message
+
+-- the responses of an outcome, and its edits
+abbrev pub served_by : AgreedContext → Command → Found × List Edit → Served
+served_by context command outcome =
+    record { responses = responses context command outcome.0; edits = outcome.1 }
+
+-- A C-CANCEL has no response.
 abbrev pub context_answer : Limits → List Record → Agreement → Message → AgreedContext → Served
 context_answer limits records agreement message context =
-    let refusal = refusal_for context.class message.command in
     if message.command.code == c_cancel then no_response
-    else answer_unless refusal limits records agreement context message
+    else served_by context message.command (outcome_on agreement context limits message records)
 
 -- a message comes on a context that was accepted
 abbrev pub served_on : Option AgreedContext → Limits → List Record → Agreement → Message → Served
@@ -120,14 +178,13 @@ unfoldable pub served : Limits → List Record → Agreement → Message → Ser
 served limits records agreement message =
     served_on (context_of agreement message.context) limits records agreement message
 
--- the refusal of an entry that can't be read; no worklist is kept yet, so that every order is
--- refused so
-abbrev pub malformed : ℕ
-malformed = 1
+abbrev pub ordered_by : Option ℕ × List Edit → Ordered
+ordered_by outcome = record { refusal = outcome.0; edits = outcome.1 }
 
 -- what an order of the console changes
 unfoldable pub ordered : Limits → List Record → Order → Ordered
-ordered limits records order = record { refusal = Some malformed; edits = [] }
+ordered limits records (Scheduling octets) = ordered_by (scheduled limits records octets)
+ordered limits records (Withdrawal id) = ordered_by (withdrawn records id)
 
 -- what the console is answered with
 abbrev pub order_reply : Option ℕ → Reply

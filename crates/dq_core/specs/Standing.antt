@@ -6,7 +6,7 @@ use Rattle.dq_core.specs.declared.event.Event.{Event}
 use Rattle.dq_core.specs.declared.event.Event.TheVariants.{Open, Piece, End, Schedule, Withdraw}
 use Rattle.dq_core.specs.declared.slot.Slot.{Slot}
 use Rattle.dq_core.specs.Connections.{Connection, connection_in}
-use Rattle.dq_core.specs.Shared.{World, world_after}
+use Rattle.dq_core.specs.Shared.{world_after}
 use Rattle.dq_core.specs.Histories.{is_above, newest_after}
 use Rattle.dq_core.specs.Slots.{AreHeld}
 

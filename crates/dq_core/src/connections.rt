@@ -229,24 +229,3 @@ pub(crate) fn end_connection(slots: &mut Vec<Slot>, number: u64) -> Reply
         }
     }
 }
-
-/// Answers an order of the console for the institution that it names. No worklist is kept yet, so
-/// that each is refused.
-#[tactic(auto, unfolding(crate::specs::Services::ordered))]
-pub(crate) fn refuse_order(config: &Config, name: &[u8]) -> Reply
-    ensures scheduled { (world : World) (octets : List ℕ) →
-        (turn config.now world (Event.Schedule name.now octets)).reply ≡ result }
-    ensures withdrawn { (world : World) (id : List ℕ) →
-        (turn config.now world (Event.Withdraw name.now id)).reply ≡ result }
-{
-    match config.institution(name) {
-        None => Reply::Refused(NO_SUCH_INSTITUTION),
-        Some(_) => Reply::Refused(MALFORMED),
-    }
-}
-
-/// The refusal of an order whose octets can't be read.
-const MALFORMED: u16 = 1;
-
-/// The refusal of an order for an institution that is not configured.
-const NO_SUCH_INSTITUTION: u16 = 6;

@@ -1,6 +1,6 @@
 //! Laws of the plain server. Each function's contract is a law; its body does nothing.
 
-ghost use Rattle.std.specs.Prelude.{◌≡◌, ◌≤◌, ◌⊎◌, ◌↔◌, ℕ, false, IsTrue, List, [], ◌∷◌, ◌++◌, length, take, filter, Contains, Option, Some, None};
+ghost use Rattle.std.specs.Prelude.{◌≡◌, ◌≤◌, ◌⊎◌, ◌↔◌, ℕ, Bool, false, IsTrue, Ok, List, [], ◌∷◌, ◌++◌, length, take, filter, Contains, Option, Some, None};
 ghost use Rattle.dq_pdu.specs.declared.pdu.Request.{Request};
 ghost use Rattle.dq_assoc.specs.declared.association.Verdict.{Verdict};
 ghost use Rattle.dq_assoc.specs.Inputs.{inputs};
@@ -24,6 +24,17 @@ ghost use Rattle.std.specs.List.Sorted.{IsStrictlyIncreasing};
 ghost use Rattle.dq_assoc.specs.declared.association.State.TheVariants.{Waiting, Open};
 ghost use Rattle.dq_assoc.specs.Table.{Requested, line};
 ghost use Rattle.dq_core.specs.Isolation.{own_replies, stranger_replies, Begins, Agree, IsPrefix};
+ghost use Rattle.dq_dataset.specs.Tree.{ElementList};
+ghost use Rattle.dq_dimse.specs.declared.command.Message.{Message};
+ghost use Rattle.dq_dimse.specs.Statuses.{success};
+ghost use Rattle.dq_assoc.specs.declared.agreement.AgreedContext.{AgreedContext};
+ghost use Rattle.dq_assoc.specs.declared.agreement.Agreement.{Agreement};
+ghost use Rattle.dq_assoc.specs.declared.classes.Service.TheVariants.{StudyRootFind, WorklistFind};
+ghost use Rattle.dq_assoc.specs.Classes.{service_of};
+ghost use Rattle.dq_find.specs.declared.query.Query.{Query};
+ghost use Rattle.dq_find.specs.Queries as study;
+ghost use Rattle.dq_worklist.specs.Queries as worklist;
+ghost use Rattle.dq_core.specs.Services.{refusal_for, outcome_on};
 
 use dq_assoc::laws::{a_longer_stream_adds_inputs, the_last_input_closes};
 use dq_config::laws::a_name_is_of_one;
@@ -197,6 +208,47 @@ pub fn agreeing_histories_are_answered_alike()
     other_records_stay();
     rows_stay_in_order();
 }
+
+/// A Study Root query that is not refused is answered with the records of its level that are under its
+/// unique keys and fit, in the order of their keys, each as it is shown (`dq_find::laws` says which and in
+/// what order). It changes nothing.
+#[tactic(auto, using(crate::proofs::Searching::study_search))]
+pub fn searches_answer_what_matches()
+    ensures { (agreement : Agreement) (context : AgreedContext) (limits : Limits)
+        (message : Message) (records : List Record) (query : Query) →
+        service_of context.class ≡ StudyRootFind →
+        refusal_for context.class message.command ≡ None →
+        study.query_of message context.syntax ≡ Ok query →
+        outcome_on agreement context limits message records
+        ≡ (
+          record {
+            status = success;
+            optional = query.optional;
+            answers = study.answers records agreement.called query;
+          },
+          [],
+        ) }
+{}
+
+/// So is a worklist query, with the entries that fit, in the order of their keys.
+#[tactic(auto, using(crate::proofs::Searching::worklist_search))]
+pub fn worklists_answer_what_matches()
+    ensures { (agreement : Agreement) (context : AgreedContext) (limits : Limits)
+        (message : Message) (records : List Record) (keys : ElementList) (optional : Bool) →
+        service_of context.class ≡ WorklistFind →
+        refusal_for context.class message.command ≡ None →
+        worklist.query_of message context.syntax
+        ≡ Ok (record { keys = keys; optional = optional }) →
+        outcome_on agreement context limits message records
+        ≡ (
+          record {
+            status = success;
+            optional = optional;
+            answers = worklist.answers records keys;
+          },
+          [],
+        ) }
+{}
 
 /// So are runs that a fault ends. The replies at an institution's own events are those of its server alone to those that
 /// were answered, and its records are those that this server then has, with the first changes of an own event that was not

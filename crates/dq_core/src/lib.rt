@@ -5,6 +5,8 @@ mod connections;
 mod event;
 mod fault;
 pub mod laws;
+mod orders;
+mod responses;
 mod server;
 mod service;
 mod slot;

@@ -15,10 +15,11 @@ ghost use Rattle.dq_core.specs.Doing.{Goes, IsPartOf};
 ghost use Rattle.dq_core.specs.Slots.{AreHeld, Turned};
 ghost use Rattle.dq_core.specs.Standing.{StandsFor, Opens, TakesNoMemory};
 
-use crate::connections::{answer_piece, end_connection, is_held, open_connection, refuse_order};
+use crate::connections::{answer_piece, end_connection, is_held, open_connection};
 use crate::event::{Event, Reply};
 use crate::fault::Fault;
 use crate::laws::{institutions_are_isolated, institutions_have_own_names, runs_are_isolated};
+use crate::orders::{schedule_entry, withdraw_entry};
 use crate::slot::Slot;
 use dq_config::Config;
 use dq_list::Listed;
@@ -177,11 +178,20 @@ impl<T: Tables> Server<T> {
                 piece.as_slice(),
             ),
             Event::End(number) => Ok(end_connection(&mut self.slots, number)),
-            Event::Schedule {
-                inst,
-                octets: _octets,
-            } => Ok(refuse_order(&self.config, inst.as_slice())),
-            Event::Withdraw { inst, id: _id } => Ok(refuse_order(&self.config, inst.as_slice())),
+            Event::Schedule { inst, octets } => schedule_entry(
+                self.alloc,
+                &self.config,
+                inst.as_slice(),
+                octets.as_slice(),
+                &mut self.tables,
+            ),
+            Event::Withdraw { inst, id } => withdraw_entry(
+                self.alloc,
+                &self.config,
+                inst.as_slice(),
+                id.as_slice(),
+                &mut self.tables,
+            ),
         }
     }
 }

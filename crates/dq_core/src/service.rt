@@ -1,23 +1,29 @@
 //! What messages are answered with, by the service of their context.
 
-ghost use Rattle.std.specs.Prelude.{◌≡◌, ◌≢◌, ◌++◌, [], IfOk, OnOk, IfErr, OnErr, Some, None};
+ghost use Rattle.std.specs.Prelude.{◌≡◌, ◌≢◌, ◌++◌, [], IfOk, OnOk, IfErr, OnErr, Some};
 ghost use Rattle.std.specs.Option.{option_copied};
-ghost use Rattle.dq_dimse.specs.Sending.{sent};
 ghost use Rattle.dq_assoc.specs.Classes.{service_of};
 ghost use Rattle.dq_config.specs.Limits.{limits_of};
 ghost use Rattle.dq_tables.specs.Rows.{of};
-ghost use Rattle.dq_core.specs.Services.{has_operation, refusal_for, named_instance, response_command};
-ghost use Rattle.dq_core.specs.Doing.{Goes, Operates, Did, DidPart, operation, outcome_on, served_answer, messages_answer, home_answer, taken_answer};
+ghost use Rattle.dq_tables.specs.Serving.{Serves};
+ghost use Rattle.dq_core.specs.Services.{has_operation, refusal_for, status_alone, performed, operation, outcome_on};
+ghost use Rattle.dq_core.specs.Doing.{Goes, Operates, Did, DidPart, served_answer, messages_answer, home_answer, taken_answer};
 
 use crate::fault::Fault;
+use crate::responses::respond_all;
 use crate::slot::{Home, Taken};
-use dq_assoc::{AgreedContext, Agreement, PeerLimit, Service, SopClass};
+use dq_assoc::{AgreedContext, Agreement, Service, SopClass};
 use dq_config::Institution;
-use dq_dimse::{Command, Message, command_field, status, write_message};
+use dq_dataset::Syntax;
+use dq_dimse::{Command, Message, command_field, status};
+use dq_find::find;
 use dq_list::Listed;
+use dq_match::Found;
+use dq_mpps::{create, set};
 use dq_store::store;
-use dq_tables::Tables;
 use dq_tables::laws::own_records_are_edited;
+use dq_tables::{TableFault, Tables};
+use dq_worklist::query;
 use std::alloc::{AllocError, Global};
 
 /// Whether a service has the operation of a Command Field (PS3.4).
@@ -27,7 +33,11 @@ fn has_operation(service: Service, code: u16) -> bool
     match service {
         Service::Verification => code == command_field::C_ECHO,
         Service::Storage => code == command_field::C_STORE,
-        Service::StudyRootFind | Service::WorklistFind | Service::PerformedProcedureStep => false,
+        Service::StudyRootFind => code == command_field::C_FIND,
+        Service::WorklistFind => code == command_field::C_FIND,
+        Service::PerformedProcedureStep => {
+            code == command_field::N_CREATE || code == command_field::N_SET
+        }
     }
 }
 
@@ -44,97 +54,89 @@ fn refusal_for(class: SopClass, command: &Command) -> Option<u16>
     None
 }
 
-/// The instance that a response names: that of the command, in the response to a C-STORE (PS3.7
-/// section 9.3.1.2).
-fn named_instance(alloc: Global, command: &Command, status: u16) -> Result<Listed<u8>, AllocError>
-    ensures { IfOk result (λ instance. instance ≡ named_instance command.now status) }
+/// A status without answers.
+fn status_alone(alloc: Global, status: u16) -> Found
+    ensures { result ≡ status_alone status }
 {
-    if status == status::UNRECOGNIZED_OPERATION || command.code != command_field::C_STORE {
-        return Ok(Listed::empty(alloc));
-    }
-    Listed::copy_of(alloc, command.sop_instance.as_slice())
-}
-
-/// The command of a response of a context's class (PS3.7 section 9.3).
-fn response_command(
-    alloc: Global,
-    class: SopClass,
-    command: &Command,
-    status: u16,
-) -> Result<Command, AllocError>
-    ensures { IfOk result (λ response. response ≡ response_command class command.now status) }
-{
-    Ok(Command {
-        code: command.code | command_field::RESPONSE_BIT,
-        id: command.id,
-        sop_class: Listed::copy_of(alloc, class.uid())?,
-        sop_instance: named_instance(alloc, command, status)?,
-        with_data: false,
+    Found {
         status,
-    })
+        optional: false,
+        answers: Listed::empty(alloc),
+    }
 }
 
-/// Adds a response that has a status and no data set.
-fn respond(
+/// Creates or changes a performed procedure step, and answers the status (PS3.4 section F.7.2).
+fn perform<T: Tables>(
     alloc: Global,
-    class: SopClass,
-    limit: &PeerLimit,
+    institution: &Institution,
     message: &Message,
-    status: u16,
-    out: &mut Vec<u8>,
-) -> Result<(), AllocError>
-    ensures { OnOk result (out.new.items ≡ out.old.items
-        ++ sent message.now.context (response_command class message.now.command status) None
-        limit.now) }
+    syntax: Syntax,
+    tables: &mut T,
+) -> Result<u16, TableFault>
+    ensures { Serves T.rows T.honest T.failed T.may_leave tables.old tables.new institution.now.name
+        (λ records. performed (limits_of institution.now) records message.now syntax) result }
 {
-    let response = response_command(alloc, class, &message.command, status)?;
-    let octets = write_message(alloc, message.context, &response, None, limit.octets())?;
-    out.extend_from_slice(octets.as_slice())?;
-    Ok(())
+    if message.command.code == command_field::N_CREATE {
+        create(alloc, tables, institution, message, syntax)
+    } else {
+        set(alloc, tables, institution, message, syntax)
+    }
 }
 
-/// Makes the edits of an operation of a context's service, and answers its status. Each service has
-/// its place here.
+/// Makes the edits of an operation of a context's service, and answers it. Each service has its
+/// place here.
 fn operate<T: Tables>(
     alloc: Global,
     institution: &Institution,
+    agreement: &Agreement,
     context: AgreedContext,
     message: &Message,
     tables: &mut T,
-) -> Result<u16, Fault>
+) -> Result<Found, Fault>
     ensures serves { Operates T.rows T.honest T.failed tables.old tables.new institution.now.name
-        (operation (service_of context.class) context.syntax (limits_of institution.now)
-        message.now) result }
+        (operation (service_of context.class) agreement.now.called context.syntax
+        (limits_of institution.now) message.now) result }
     ensures fault { IfErr result (λ fault. fault ≢ Fault.Stopped) }
 {
+    let syntax = context.syntax;
     match context.class.service() {
-        Service::Verification => Ok(status::SUCCESS),
-        Service::Storage => Ok(store(alloc, tables, institution, message, context.syntax)?),
-        Service::StudyRootFind | Service::WorklistFind | Service::PerformedProcedureStep => {
-            Ok(status::UNRECOGNIZED_OPERATION)
+        Service::Verification => Ok(status_alone(alloc, status::SUCCESS)),
+        Service::Storage => {
+            let status = store(alloc, tables, institution, message, syntax)?;
+            Ok(status_alone(alloc, status))
+        }
+        Service::StudyRootFind => {
+            let called = &agreement.called;
+            Ok(find(alloc, tables, institution, called, message, syntax)?)
+        }
+        Service::WorklistFind => Ok(query(alloc, tables, institution, message, syntax)?),
+        Service::PerformedProcedureStep => {
+            let status = perform(alloc, institution, message, syntax, tables)?;
+            Ok(status_alone(alloc, status))
         }
     }
 }
 
-/// The status of a command that has a response: that of its refusal, or else of its operation.
-fn status_on<T: Tables>(
+/// The outcome of a command that has a response: its refusal, or else that of its operation.
+fn outcome_on<T: Tables>(
     alloc: Global,
     institution: &Institution,
+    agreement: &Agreement,
     context: AgreedContext,
     message: &Message,
     tables: &mut T,
-) -> Result<u16, Fault>
+) -> Result<Found, Fault>
     ensures serves { Operates T.rows T.honest T.failed tables.old tables.new institution.now.name
-        (outcome_on context (limits_of institution.now) message.now) result }
+        (outcome_on agreement.now context (limits_of institution.now) message.now) result }
     ensures fault { IfErr result (λ fault. fault ≢ Fault.Stopped) }
 {
     match refusal_for(context.class, &message.command) {
-        Some(status) => Ok(status),
-        None => operate(alloc, institution, context, message, tables),
+        Some(status) => Ok(status_alone(alloc, status)),
+        None => operate(alloc, institution, agreement, context, message, tables),
     }
 }
 
-/// Serves a message for an institution: makes its edits, and adds its response. None comes on a
+/// Serves a message for an institution: makes its edits, and adds its responses. None comes on a
 /// context that was not accepted, and none to a C-CANCEL.
 fn serve<T: Tables>(
     alloc: Global,
@@ -161,8 +163,8 @@ fn serve<T: Tables>(
     if message.command.code == command_field::C_CANCEL {
         return Ok(());
     }
-    let status = status_on(alloc, institution, context, message, tables)?;
-    respond(alloc, context.class, &agreement.limit, message, status, out)?;
+    let found = outcome_on(alloc, institution, agreement, context, message, tables)?;
+    respond_all(alloc, context, &agreement.limit, message, &found, out)?;
     Ok(())
 }
 

@@ -1,7 +1,7 @@
 use super::*;
 use dq_config::Config;
 use dq_list::Listed;
-use dq_tables::PlainTables;
+use dq_tables::{Fused, PlainTables};
 use std::alloc::Global;
 use std::process::Abort;
 use std::test::*;
@@ -150,5 +150,110 @@ fn a_server_without_memory_stops(rt: HostRuntime) -> Result<(), Fail> {
             }
         }
     }
+    Ok(())
+}
+
+const HOSPITALS: &str = "[[institution]]
+name = \"NORTH\"
+routes = [{ called = \"ARCHIVE\", calling = \"CT1\" }]
+studies = 100
+images = 1000
+entries = 100
+steps = 100
+associations = 4
+
+[[institution]]
+name = \"SOUTH\"
+routes = [{ called = \"ARCHIVE\", calling = \"CT2\" }]
+studies = 100
+images = 1000
+entries = 100
+steps = 100
+associations = 4
+";
+
+/// A request for CT storage in Explicit, before and after the calling title.
+const BEFORE_CALLING: [u8; 26] = *b"\x01\x00\x00\x00\x00\xae\x00\x01\x00\x00\
+ARCHIVE         ";
+
+const AFTER_CALLING: [u8; 138] = *b"\
+\x00\x00\x00\x00\x00\x00\x00\x00\x00\x00\x00\x00\x00\x00\x00\x00\
+\x00\x00\x00\x00\x00\x00\x00\x00\x00\x00\x00\x00\x00\x00\x00\x00\
+\x10\x00\x00\x151.2.840.10008.3.1.1.1\
+\x20\x00\x00\x38\x01\x00\x00\x00\
+\x30\x00\x00\x191.2.840.10008.5.1.4.1.1.2\
+\x40\x00\x00\x131.2.840.10008.1.2.1\
+\x50\x00\x00\x11\x51\x00\x00\x04\x00\x00\x40\x00\
+\x52\x00\x00\x051.2.3";
+
+/// A C-STORE of the instance 1.2.9, and its response.
+const STORE: [u8; 190] = *b"\x04\x00\x00\x00\x00\x60\x00\x00\x00\x5c\x01\x03\
+\x00\x00\x00\x00\x04\x00\x00\x00\x4e\x00\x00\x00\
+\x00\x00\x02\x00\x1a\x00\x00\x001.2.840.10008.5.1.4.1.1.2\x00\
+\x00\x00\x00\x01\x02\x00\x00\x00\x01\x00\
+\x00\x00\x10\x01\x02\x00\x00\x00\x01\x00\
+\x00\x00\x00\x08\x02\x00\x00\x00\x01\x00\
+\x00\x00\x00\x10\x06\x00\x00\x001.2.9\x00\
+\x04\x00\x00\x00\x00\x52\x00\x00\x00\x4e\x01\x02\
+\x08\x00\x16\x00UI\x1a\x001.2.840.10008.5.1.4.1.1.2\x00\
+\x08\x00\x18\x00UI\x06\x001.2.9\x00\
+\x20\x00\x0d\x00UI\x06\x001.2.3\x00\
+\x20\x00\x0e\x00UI\x06\x001.2.5\x00";
+
+const STORED: [u8; 112] = *b"\x04\x00\x00\x00\x00\x6a\x00\x00\x00\x66\x01\x03\
+\x00\x00\x00\x00\x04\x00\x00\x00\x58\x00\x00\x00\
+\x00\x00\x02\x00\x1a\x00\x00\x001.2.840.10008.5.1.4.1.1.2\x00\
+\x00\x00\x00\x01\x02\x00\x00\x00\x01\x80\
+\x00\x00\x20\x01\x02\x00\x00\x00\x01\x00\
+\x00\x00\x00\x08\x02\x00\x00\x00\x01\x01\
+\x00\x00\x00\x09\x02\x00\x00\x00\x00\x00\
+\x00\x00\x00\x10\x06\x00\x00\x001.2.9\x00";
+
+fn request_from(alloc: Global, calling: &[u8]) -> Result<Listed<u8>, Fail> {
+    let mut octets = Listed::copy_of(alloc, &BEFORE_CALLING)?.into_inner();
+    octets.extend_from_slice(calling)?;
+    octets.extend_from_slice(&AFTER_CALLING)?;
+    Ok(Listed::from_inner(octets))
+}
+
+/// NORTH and then SOUTH store an instance.
+fn two_stores(alloc: Global) -> Result<Vec<Event>, Fail> {
+    let mut events = Vec::new(alloc);
+    events.push(Event::Open(1))?;
+    events.push(Event::Open(2))?;
+    events.push(Event::Piece(1, request_from(alloc, b"CT1             ")?))?;
+    events.push(Event::Piece(2, request_from(alloc, b"CT2             ")?))?;
+    events.push(Event::Piece(1, Listed::copy_of(alloc, &STORE)?))?;
+    events.push(Event::Piece(2, Listed::copy_of(alloc, &STORE)?))?;
+    events.push(Event::End(1))?;
+    Ok(events)
+}
+
+#[test]
+fn a_failing_store_stops_a_run(rt: HostRuntime) -> Result<(), Fail> {
+    let alloc = rt.alloc();
+    let events = two_stores(alloc)?;
+    assert!(rt; well_formed(&events));
+    let tables = Fused::new(PlainTables::new(alloc), 1);
+    let outcome = run(alloc, Config::read(alloc, HOSPITALS)?, tables, events)?;
+    assert!(rt; outcome.fault == Some(Fault::Store));
+    match outcome.replies.as_slice() {
+        [Reply::Done, Reply::Done, _, _, reply] => check_octets(&rt, reply, &STORED, false),
+        _ => panic!(rt; "other replies"),
+    }
+    Ok(())
+}
+
+#[test]
+fn a_failing_store_stops_the_server(rt: HostRuntime) -> Result<(), Fail> {
+    let alloc = rt.alloc();
+    let tables = Fused::new(PlainTables::new(alloc), 0);
+    let mut server = Server::new(alloc, Config::read(alloc, HOSPITALS)?, tables)?;
+    assert!(rt; server.can_open(1));
+    server.step(Event::Open(1))?;
+    server.step(Event::Piece(1, request_from(alloc, b"CT1             ")?))?;
+    let store = Listed::copy_of(alloc, &STORE)?;
+    assert!(rt; matches!(server.step(Event::Piece(1, store)), Err(Fault::Store)));
+    assert!(rt; matches!(server.step(Event::End(1)), Err(Fault::Stopped)));
     Ok(())
 }
