@@ -1,5 +1,5 @@
 -- The words that clap takes are those that are understood.
-use Rattle.std.proofs.Common.{◌≡◌, ◌≢◌, ◌∙◌, ℕ, suc, List, [], ◌∷◌, ◌++◌, map, Option, Some, None, inl, inr, refl, sym, ap, arith}
+use Rattle.std.proofs.Common.{◌≡◌, ◌≢◌, ◌∙◌, ℕ, suc, List, [], ◌∷◌, ◌++◌, map, Option, Some, None, inl, inr, refl, sym, ap, ap₂, arith}
 use Rattle.std.specs.List.{All}
 use Rattle.std.specs.Borrow.{Bor}
 use Rattle.std.specs.Char.{encode_utf8}
@@ -11,18 +11,21 @@ use Rattle.clap.specs.declared.error.Error.{Error}
 use Rattle.clap.specs.declared.error.kind.ErrorKind.{ErrorKind}
 use Rattle.clap.specs.declared.error.kind.ErrorKind.TheVariants.{OutOfMemory}
 use Rattle.dq_server.specs.Words.{line_of, program_name, asked}
-use Rattle.dq_server.specs.Clap.{command, file_in}
+use Rattle.dq_server.specs.Clap.{command, file_in, task_in}
+use Rattle.dq_server.specs.declared.words.Task.{Task}
 use Rattle.dq_server.proofs.CommandLine.{Reads, reads}
 
-pub asked-taken : (words : List (List ℕ)) → All IsUtf8 words → fault_of command (line_of words) ≡ [] → asked words ≡ Some (file_in (subcommand_of command (line_of words)))
+pub asked-taken : (words : List (List ℕ)) → All IsUtf8 words → fault_of command (line_of words) ≡ []
+    → asked words ≡ Some (task_in (subcommand_of command (line_of words)), file_in (subcommand_of command (line_of words)))
 asked-taken words texts taken = go (asked words) refl (reads words texts)
   where
-    go : (o : Option (Option (List ℕ))) → asked words ≡ o → Reads words o → asked words ≡ Some (file_in (subcommand_of command (line_of words)))
+    go : (o : Option (Task × Option (List ℕ))) → asked words ≡ o → Reads words o
+        → asked words ≡ Some (task_in (subcommand_of command (line_of words)), file_in (subcommand_of command (line_of words)))
     go None is fails = absurd (fails taken)
-    go (Some file) is read = is ∙ ap Some (sym read.1)
+    go (Some asks) is read = is ∙ ap₂ (λ (t : Task) (f : Option (List ℕ)). Some (t, f)) (sym read.1) (sym read.2)
 
-asked-untaken : (words : List (List ℕ)) (file : Option (List ℕ)) → All IsUtf8 words → asked words ≡ Some file → fault_of command (line_of words) ≡ []
-asked-untaken words file texts understood = (rw understood at (reads words texts)).0
+asked-untaken : (words : List (List ℕ)) (asks : Task × Option (List ℕ)) → All IsUtf8 words → asked words ≡ Some asks → fault_of command (line_of words) ≡ []
+asked-untaken words asks texts understood = (rw understood at (reads words texts)).0
 
 among-none : (k : ErrorKind) (kinds : Kinds) → IsAmong k kinds → kinds ≡ [] → ⊥
 among-none k [] among none = among
@@ -34,9 +37,9 @@ pub asked-refused : (words : List (List ℕ)) (kinds : Kinds) (e : Error) → Al
 asked-refused words kinds e texts (inl memory) other same = absurd (other memory)
 asked-refused words kinds e texts (inr among) other same = go (asked words) refl
   where
-    go : (o : Option (Option (List ℕ))) → asked words ≡ o → o ≡ None
+    go : (o : Option (Task × Option (List ℕ))) → asked words ≡ o → o ≡ None
     go None is = refl
-    go (Some file) is = absurd (among-none (kind_of e) kinds among (same ∙ asked-untaken words file texts is))
+    go (Some asks) is = absurd (among-none (kind_of e) kinds among (same ∙ asked-untaken words asks texts is))
 
 -- the words of a line of texts are texts
 pub texts-line : (words line : List (List ℕ)) → line ≡ line_of words → All IsUtf8 line → All IsUtf8 words

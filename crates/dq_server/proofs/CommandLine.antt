@@ -17,14 +17,16 @@ use Rattle.clap.proofs.FaultLemmas.{stopped_fault}
 use Rattle.clap.proofs.OnLiterals.{clap_on_literals}
 use Rattle.clap.proofs.WalkLemmas.{walk_stopped}
 use Rattle.clap.specs.declared.parser.matches.ValueSource.TheVariants.{CommandLine}
-use Rattle.dq_server.specs.Words.{line_of, asked, file_apart, file_option, options_after, end_here, end_soon, only_where, has_value, is_equals_sign, is_value, name_of, value_of}
-use Rattle.dq_server.specs.Clap.{command, config_rule, file_in, replay_app}
+use Rattle.dq_server.specs.Words.{line_of, asked, asked_of, file_apart, file_option, options_after, end_here, end_soon, only_where, has_value, is_equals_sign, is_value, name_of, value_of}
+use Rattle.dq_server.specs.Clap.{command, config_rule, file_in, task_app, task_in}
+use Rattle.dq_server.specs.declared.words.Task.{Task}
+use Rattle.dq_server.specs.declared.words.Task.TheVariants.{Replay, Report}
 use Rattle.clap.specs.declared.error.kind.ErrorKind.{ErrorKind}
 use Rattle.clap.specs.declared.error.kind.ErrorKind.TheVariants as kind
 
 -- the subcommand, as it is built
 abbrev sub : Shape
-sub = built_leaf (inherited (with_leaf_noted (marked_built command.top)) replay_app.top)
+sub = built_leaf (inherited (with_leaf_noted (marked_built command.top)) (task_app (codes "replay")).top)
 
 abbrev config_built : Rule
 config_built = filled config_rule
@@ -542,10 +544,13 @@ line_fault w kinds = or_else kinds (or_else (entered_fault (built command) w.sto
 line_fault-is : (words : List Text) → fault_of command (line_of words) ≡ line_fault (walk top.rules names nothing_held words) (walk_fault top names start words)
 line_fault-is words = refl
 
--- clap takes the words where they are understood, and finds their file
-abbrev pub Reads : List Text → Option (Option Text) → Type 0
+-- clap takes the words where they are understood, and finds their task and their file
+abbrev pub Reads : List Text → Option (Task × Option Text) → Type 0
 Reads words None = Fails (fault_of command (line_of words))
-Reads words (Some file) = (fault_of command (line_of words) ≡ []) × (file_in (subcommand_of command (line_of words)) ≡ file)
+Reads words (Some asks) = (fault_of command (line_of words) ≡ [])
+    × (task_in (subcommand_of command (line_of words)) ≡ asks.0) × (file_in (subcommand_of command (line_of words)) ≡ asks.1)
+
+-- ---- `replay`
 
 module _ (words : List Text) where
   abbrev entered_replay : Walk
@@ -566,68 +571,116 @@ module _ (words : List Text) where
   file-replay : file_in (subcommand_of command (line_of (codes "replay" ∷ words))) ≡ file_then start words
   file-replay = ap (λ (w : Walk). file_in (entered (built command) w.stopped)) walk-replay
 
-  replay-reads : (asks : Option (Option Text)) → Agrees start words asks → Reads (codes "replay" ∷ words) asks
-  replay-reads None agrees = rw fault-replay (Fails-first (rest_fault start words) [] agrees)
-  replay-reads (Some file) agrees = (fault-replay ∙ ap (λ kinds. or_else kinds []) agrees.0, file-replay ∙ agrees.1)
+  task-replay : task_in (subcommand_of command (line_of (codes "replay" ∷ words))) ≡ Replay
+  task-replay = ap (λ (w : Walk). task_in (entered (built command) w.stopped)) walk-replay
 
--- ---- a first word that is not `replay`
+  replay-reads : (asks : Option (Option Text)) → Agrees start words asks → Reads (codes "replay" ∷ words) (asked_of Replay asks)
+  replay-reads None agrees = rw fault-replay (Fails-first (rest_fault start words) [] agrees)
+  replay-reads (Some file) agrees = (fault-replay ∙ ap (λ kinds. or_else kinds []) agrees.0, task-replay, file-replay ∙ agrees.1)
+
+-- ---- `report`
+
+-- the subcommand, as it is built
+abbrev report_sub : Shape
+report_sub = built_leaf (inherited (with_leaf_noted (marked_built command.top)) (task_app (codes "report")).top)
+
+-- it reads words as `replay` does
+report_walk : (w : Walk) (words : List Text) → walk_fault report_sub [] w words ≡ walk_fault sub [] w words
+unfolding walk_fault
+report_walk w [] = refl
+report_walk w (word ∷ words) = ap (or_else (turn_fault sub [] w word)) (report_walk (walked sub.rules [] w word) words)
+
+module _ (words : List Text) where
+  abbrev entered_report : Walk
+  entered_report = record start { stopped = Some (codes "report", words) }
+
+  walk-report : walk top.rules names nothing_held (codes "report" ∷ words) ≡ entered_report
+  unfolding clap_on_literals
+  walk-report = sym (walk_stopped top.rules names start (codes "report") [] words)
+
+  walk_fault-report : walk_fault top names start (codes "report" ∷ words) ≡ []
+  unfolding clap_on_literals
+  walk_fault-report = stopped_fault top names start (codes "report", []) words
+
+  fault-report : fault_of command (line_of (codes "report" ∷ words)) ≡ or_else (or_else (walk_fault report_sub [] start words) (end_fault (end_of start words))) []
+  unfolding clap_on_literals
+  fault-report = ap₂ line_fault walk-report walk_fault-report
+
+  file-report : file_in (subcommand_of command (line_of (codes "report" ∷ words))) ≡ file_then start words
+  file-report = ap (λ (w : Walk). file_in (entered (built command) w.stopped)) walk-report
+
+  task-report : task_in (subcommand_of command (line_of (codes "report" ∷ words))) ≡ Report
+  task-report = ap (λ (w : Walk). task_in (entered (built command) w.stopped)) walk-report
+
+  as-replay : fault_of command (line_of (codes "report" ∷ words)) ≡ or_else (rest_fault start words) []
+  as-replay = fault-report ∙ ap (λ kinds. or_else (or_else kinds (end_fault (end_of start words))) []) (report_walk start words)
+
+  report-reads : (asks : Option (Option Text)) → Agrees start words asks → Reads (codes "report" ∷ words) (asked_of Report asks)
+  report-reads None agrees = rw as-replay (Fails-first (rest_fault start words) [] agrees)
+  report-reads (Some file) agrees = (as-replay ∙ ap (λ kinds. or_else kinds []) agrees.0, task-report, file-report ∙ agrees.1)
+
+-- ---- a first word that is neither
 
 top-turn : (word : Text) (words : List Text) → Fails (turn_fault top names start word) → Reads (word ∷ words) None
 unfolding walk_fault
 top-turn word words fails = Fails-first _ _ (Fails-first _ _ fails)
 
-module _ (word : Text) (other : bytes_eq (codes "replay") word ≡ false) where
+module _ (word : Text) (other : bytes_eq (codes "replay") word ≡ false) (unreported : bytes_eq (codes "report") word ≡ false) where
   module _ (unhelped : bytes_eq (codes "help") word ≡ false) where
     top-plain : IsPlain word → Fails (turn_fault top names start word)
     unfolding clap_on_literals
-    top-plain p = rw (other, unhelped, p.apart, p.long, p.short) (Fails-kind kind.UnknownArgument (kind.InvalidSubcommand ∷ []))
+    top-plain p = rw (other, unreported, unhelped, p.apart, p.long, p.short) (Fails-kind kind.UnknownArgument (kind.InvalidSubcommand ∷ []))
 
     top-short : (s : IsShort word) (c : ℕ) → slice_get (chars (s.first ∷ s.flags)) 0 ≡ Some c → (b : Bool) → (104 == c) ≡ b
         → Fails (turn_fault top names start word)
     unfolding clap_on_literals
-    top-short s c char true is = rw (other, unhelped, s.apart, s.long, s.short, char, is) (Fails-kind kind.DisplayHelp [])
-    top-short s c char false is = rw (other, unhelped, s.apart, s.long, s.short, char, is) (Fails-kind kind.UnknownArgument [])
+    top-short s c char true is = rw (other, unreported, unhelped, s.apart, s.long, s.short, char, is) (Fails-kind kind.DisplayHelp [])
+    top-short s c char false is = rw (other, unreported, unhelped, s.apart, s.long, s.short, char, is) (Fails-kind kind.UnknownArgument [])
 
     top-long : (l : IsLong word) → (b c : Bool) → bytes_eq (codes "help") (name_of l.rest) ≡ b → has_value l.rest ≡ c → Fails (turn_fault top names start word)
     unfolding clap_on_literals
-    top-long l false c help value = rw (other, unhelped, l.apart, l.long, help) (Fails-kind kind.UnknownArgument [])
-    top-long l true true help value = rw (other, unhelped, l.apart, l.long, help, value) (Fails-kind kind.TooManyValues [])
-    top-long l true false help value = rw (other, unhelped, l.apart, l.long, help, value) (Fails-kind kind.DisplayHelp [])
+    top-long l false c help value = rw (other, unreported, unhelped, l.apart, l.long, help) (Fails-kind kind.UnknownArgument [])
+    top-long l true true help value = rw (other, unreported, unhelped, l.apart, l.long, help, value) (Fails-kind kind.TooManyValues [])
+    top-long l true false help value = rw (other, unreported, unhelped, l.apart, l.long, help, value) (Fails-kind kind.DisplayHelp [])
 
-top-end : (words : List Text) → Reads (codes "--" ∷ words) (only_where (end_here words) None)
+top-end : (words : List Text) → Reads (codes "--" ∷ words) (asked_of Replay (only_where (end_here words) None))
 unfolding clap_on_literals
-top-end [] = (refl, refl)
+top-end [] = (refl, refl, refl)
 top-end (word ∷ words) = Fails-kind kind.UnknownArgument (kind.InvalidSubcommand ∷ [])
 
 top-help : (words : List Text) → Reads (codes "help" ∷ words) None
 top-help words = top-turn (codes "help") words (Fails-kind kind.DisplayHelp (kind.InvalidSubcommand ∷ []))
 
-not_asked : (word : Text) (words : List Text) → bytes_eq (codes "replay") word ≡ false → bytes_eq word (codes "--") ≡ false → Reads (word ∷ words) None
-    → Reads (word ∷ words) (asked (word ∷ words))
-not_asked word words other apart fails = rw (other, apart) fails
+module _ (word : Text) (words : List Text) (other : bytes_eq (codes "replay") word ≡ false) (unreported : bytes_eq (codes "report") word ≡ false) where
+  not_asked : bytes_eq word (codes "--") ≡ false → Reads (word ∷ words) None → Reads (word ∷ words) (asked (word ∷ words))
+  not_asked apart fails = rw (other, unreported, apart) fails
 
-other-reads : (word : Text) (words : List Text) → IsUtf8 word → bytes_eq (codes "replay") word ≡ false → bytes_eq (codes "help") word ≡ false
-    → Reads (word ∷ words) (asked (word ∷ words))
-other-reads word words text other unhelped = elim (look word) [
-  | inl end ↦ rw end (top-end words)
-  | inr (inl long) ↦ not_asked word words other long.apart (top-turn word words (top-long word other unhelped long _ _ refl refl))
-  | inr (inr (inl short)) ↦
-      let char = chars_first short.first short.flags (rw short.is at text) (chars (short.first ∷ short.flags)) refl in
-      not_asked word words other short.apart (top-turn word words (top-short word other unhelped short char.0 char.1 (104 == char.0) refl))
-  | inr (inr (inr plain)) ↦ not_asked word words other plain.apart (top-turn word words (top-plain word other unhelped plain))
-]
+  other-reads : IsUtf8 word → bytes_eq (codes "help") word ≡ false → Reads (word ∷ words) (asked (word ∷ words))
+  other-reads text unhelped = elim (look word) [
+    | inl end ↦ rw end (top-end words)
+    | inr (inl long) ↦ not_asked long.apart (top-turn word words (top-long word other unreported unhelped long _ _ refl refl))
+    | inr (inr (inl short)) ↦
+        let char = chars_first short.first short.flags (rw short.is at text) (chars (short.first ∷ short.flags)) refl in
+        not_asked short.apart (top-turn word words (top-short word other unreported unhelped short char.0 char.1 (104 == char.0) refl))
+    | inr (inr (inr plain)) ↦ not_asked plain.apart (top-turn word words (top-plain word other unreported unhelped plain))
+  ]
 
-reads-from : (word : Text) (words : List Text) → All IsUtf8 (word ∷ words) → (a b : Bool) → bytes_eq (codes "replay") word ≡ a → bytes_eq (codes "help") word ≡ b
+reads-from : (word : Text) (words : List Text) → All IsUtf8 (word ∷ words) → (a b c : Bool)
+    → bytes_eq (codes "replay") word ≡ a → bytes_eq (codes "report") word ≡ b → bytes_eq (codes "help") word ≡ c
     → Reads (word ∷ words) (asked (word ∷ words))
-reads-from word words texts true b replay help =
+reads-from word words texts true b c replay report help =
     let is : codes "replay" ≡ word = (bytes_eq-Decides (codes "replay") word).0 replay in
     rw (← is) (replay-reads words (options_after words) (start-agrees words (All-tail word words texts)))
-reads-from word words texts false true other help =
+reads-from word words texts false true c other report help =
+    let is : codes "report" ≡ word = (bytes_eq-Decides (codes "report") word).0 report in
+    rw (← is) (report-reads words (options_after words) (start-agrees words (All-tail word words texts)))
+reads-from word words texts false false true other unreported help =
     let is : codes "help" ≡ word = (bytes_eq-Decides (codes "help") word).0 help in
     rw (← is) (top-help words)
-reads-from word words texts false false other unhelped = other-reads word words (texts 0 word (omega arith)) other unhelped
+reads-from word words texts false false false other unreported unhelped =
+    other-reads word words other unreported (texts 0 word (omega arith)) unhelped
 
 pub reads : (words : List Text) → All IsUtf8 words → Reads words (asked words)
 unfolding clap_on_literals
-reads [] texts = (refl, refl)
-reads (word ∷ words) texts = reads-from word words texts _ _ refl refl
+reads [] texts = (refl, refl, refl)
+reads (word ∷ words) texts = reads-from word words texts _ _ _ refl refl refl

@@ -1,13 +1,13 @@
 -- A line spells at most one event, and lines at most one list of events.
-use Rattle.std.proofs.Common.{◌≡◌, ◌≢◌, ℕ, suc, ◌<◌, List, [], ◌∷◌, ◌++◌, length, get_or, drop, codes, Ok, inl, inr, append_assoc, refl, sym, ap, ◌∙◌, arith}
+use Rattle.std.proofs.Common.{◌≡◌, ◌≢◌, ℕ, suc, ◌<◌, List, [], ◌∷◌, ◌++◌, length, get_or, drop, codes, Ok, inl, inr, append_assoc, refl, sym, ap, ap₂, ◌∙◌, arith}
 use Rattle.std.proofs.lemmas.Fmt.{decimal_injective}
 use Rattle.hex.proofs.HexLemmas.{decode_of-odd, decode_of-same}
 use Rattle.hex.specs.Hex.{decode_of}
 use Rattle.dq_core.specs.declared.event.Event.{Event}
 use Rattle.dq_core.specs.declared.event.Event.TheVariants.{Open, Piece, End, Schedule, Withdraw}
-use Rattle.dq_server.specs.Captures.{IsNumber, AreOctets, SpellsPiece, Spells, SpellEach}
+use Rattle.dq_server.specs.Captures.{IsNumber, AreOctets, SpellsPiece, SpellsOrder, Spells, SpellEach}
 use Rattle.dq_server.proofs.Numbers.{IsNumber-spaceless}
-use Rattle.dq_server.proofs.Lines.{other_word}
+use Rattle.dq_server.proofs.Lines.{other_word, is_name-spaceless}
 
 same_number : (text : List ℕ) (m n : ℕ) → IsNumber text m → IsNumber text n → m ≡ n
 same_number text m n first second = decimal_injective m n first.0 second.0 (sym first.1 ∙ second.1)
@@ -42,6 +42,13 @@ same_piece text m n xs ys first second =
     let number = same_number first.0 m n first.3 (rw cut.0 second.3) in
     let octets = same_octets first.1 xs ys first.4 (rw cut.1 second.4) in cc
 
+same_order : (text g h xs ys : List ℕ) → SpellsOrder text g xs → SpellsOrder text h ys → (g ≡ h) × (xs ≡ ys)
+same_order text g h xs ys first second =
+    let cut = same_cut g h first.0 second.0
+    (sym (append_assoc g (codes " ") first.0) ∙ sym first.1 ∙ second.1 ∙ append_assoc h (codes " ") second.0)
+    (is_name-spaceless g first.2) (is_name-spaceless h second.2) in
+    (cut.0, same_octets first.0 xs ys first.3 (rw cut.1 second.3))
+
 pub same_event : (line : List ℕ) (e f : Event) → Spells line e → Spells line f → e ≡ f
 same_event line (Open m) (Open n) first second =
     ap Open (same_number first.0 m n first.2 (rw (ap (drop 5) (sym first.1 ∙ second.1)) second.2))
@@ -55,14 +62,26 @@ same_event line (End m) (Open n) first second = absurd (other_word 101 111 _ _ (
 same_event line (End m) (Piece n ys) first second = absurd (other_word 101 112 _ _ (omega arith) (sym first.1 ∙ second.1))
 same_event line (End m) (End n) first second =
     ap End (same_number first.0 m n first.2 (rw (ap (drop 4) (sym first.1 ∙ second.1)) second.2))
-same_event line (Open m) (Schedule inst octets) first second = absurd second
-same_event line (Open m) (Withdraw inst id) first second = absurd second
-same_event line (Piece m xs) (Schedule inst octets) first second = absurd second
-same_event line (Piece m xs) (Withdraw inst id) first second = absurd second
-same_event line (End m) (Schedule inst octets) first second = absurd second
-same_event line (End m) (Withdraw inst id) first second = absurd second
-same_event line (Schedule inst octets) f first second = absurd first
-same_event line (Withdraw inst id) f first second = absurd first
+same_event line (Open m) (Schedule h ys) first second = absurd (other_word 111 115 _ _ (omega arith) (sym first.1 ∙ second.1))
+same_event line (Open m) (Withdraw h ys) first second = absurd (other_word 111 119 _ _ (omega arith) (sym first.1 ∙ second.1))
+same_event line (Piece m xs) (Schedule h ys) first second = absurd (other_word 112 115 _ _ (omega arith) (sym first.1 ∙ second.1))
+same_event line (Piece m xs) (Withdraw h ys) first second = absurd (other_word 112 119 _ _ (omega arith) (sym first.1 ∙ second.1))
+same_event line (End m) (Schedule h ys) first second = absurd (other_word 101 115 _ _ (omega arith) (sym first.1 ∙ second.1))
+same_event line (End m) (Withdraw h ys) first second = absurd (other_word 101 119 _ _ (omega arith) (sym first.1 ∙ second.1))
+same_event line (Schedule g xs) (Withdraw h ys) first second = absurd (other_word 115 119 _ _ (omega arith) (sym first.1 ∙ second.1))
+same_event line (Withdraw g xs) (Schedule h ys) first second = absurd (other_word 119 115 _ _ (omega arith) (sym first.1 ∙ second.1))
+same_event line (Schedule g xs) (Open n) first second = absurd (other_word 115 111 _ _ (omega arith) (sym first.1 ∙ second.1))
+same_event line (Schedule g xs) (Piece n ys) first second = absurd (other_word 115 112 _ _ (omega arith) (sym first.1 ∙ second.1))
+same_event line (Schedule g xs) (End n) first second = absurd (other_word 115 101 _ _ (omega arith) (sym first.1 ∙ second.1))
+same_event line (Schedule g xs) (Schedule h ys) first second =
+    let same = same_order first.0 g h xs ys first.2 (rw (ap (drop 9) (sym first.1 ∙ second.1)) second.2) in
+    ap₂ Schedule same.0 same.1
+same_event line (Withdraw g xs) (Open n) first second = absurd (other_word 119 111 _ _ (omega arith) (sym first.1 ∙ second.1))
+same_event line (Withdraw g xs) (Piece n ys) first second = absurd (other_word 119 112 _ _ (omega arith) (sym first.1 ∙ second.1))
+same_event line (Withdraw g xs) (End n) first second = absurd (other_word 119 101 _ _ (omega arith) (sym first.1 ∙ second.1))
+same_event line (Withdraw g xs) (Withdraw h ys) first second =
+    let same = same_order first.0 g h xs ys first.2 (rw (ap (drop 9) (sym first.1 ∙ second.1)) second.2) in
+    ap₂ Withdraw same.0 same.1
 
 pub same_events : (lines : List (List ℕ)) (es fs : List Event) → SpellEach lines es → SpellEach lines fs → es ≡ fs
 same_events [] [] [] first second = refl

@@ -4,6 +4,7 @@ use Rattle.std.specs.Prelude.{List, [], ◌∷◌, ◌++◌, length, take, filte
 use Rattle.std.specs.Fmt.{decimal}
 use Rattle.std.specs.List.{slice_split}
 use Rattle.hex.specs.Hex.{decode_of}
+use Rattle.dq_config.specs.Conditions.{is_name}
 use Rattle.dq_core.specs.declared.event.Event.{Event}
 use Rattle.dq_core.specs.declared.event.Event.TheVariants.{Open, Piece, End, Schedule, Withdraw}
 use Rattle.dq_core.specs.Histories.{is_well_formed}
@@ -44,8 +45,13 @@ SpellsPiece text (End number) = ⊥
 SpellsPiece text (Schedule inst octets) = ⊥
 SpellsPiece text (Withdraw inst id) = ⊥
 
--- `open N`, `piece N HEX` and `end N`, with one space between. No line spells an event of the
--- console.
+-- an order of the console after its word: the institution's name, a space, and the octets
+abbrev pub SpellsOrder : List ℕ → List ℕ → List ℕ → Type 0
+SpellsOrder text name octets = (hex : List ℕ)
+    × (text ≡ name ++ codes " " ++ hex) × IsTrue (is_name name) × AreOctets hex octets
+
+-- `open N`, `piece N HEX`, `end N`, `schedule NAME HEX` and `withdraw NAME HEX`, with one space
+-- between
 abbrev pub Spells : List ℕ → Event → Type 0
 Spells line (Open number) =
     (digits : List ℕ) × (line ≡ codes "open " ++ digits) × IsNumber digits number
@@ -53,8 +59,10 @@ Spells line (Piece number octets) =
     (rest : List ℕ) × (line ≡ codes "piece " ++ rest) × SpellsPiece rest (Piece number octets)
 Spells line (End number) =
     (digits : List ℕ) × (line ≡ codes "end " ++ digits) × IsNumber digits number
-Spells line (Schedule inst octets) = ⊥
-Spells line (Withdraw inst id) = ⊥
+Spells line (Schedule inst octets) =
+    (rest : List ℕ) × (line ≡ codes "schedule " ++ rest) × SpellsOrder rest inst octets
+Spells line (Withdraw inst id) =
+    (rest : List ℕ) × (line ≡ codes "withdraw " ++ rest) × SpellsOrder rest inst id
 
 -- each line spells its event
 abbrev pub SpellEach : List (List ℕ) → List Event → Type 0

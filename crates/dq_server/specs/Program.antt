@@ -13,7 +13,7 @@ use Rattle.dq_core.specs.declared.event.Event.{Event}
 use Rattle.dq_core.specs.declared.event.Reply.{Reply}
 use Rattle.dq_core.specs.declared.fault.Fault.{Fault}
 use Rattle.dq_core.specs.declared.fault.Fault.TheVariants as fault
-use Rattle.dq_core.specs.Shared.{replies}
+use Rattle.dq_core.specs.Shared.{replies, world_after}
 use Rattle.dq_server.specs.declared.capture.CaptureFault.{CaptureFault}
 use Rattle.dq_server.specs.declared.capture.CaptureFault.TheVariants as capture
 use Rattle.dq_server.specs.declared.printing.PrintFault.{PrintFault}
@@ -24,7 +24,10 @@ use Rattle.dq_server.specs.declared.stop.Stop.{Stop}
 use Rattle.dq_server.specs.declared.stop.Stop.TheVariants as stop
 use Rattle.dq_server.specs.Captures.{line_feed, lines_of, AreCapture, IsFirstBadLine}
 use Rattle.dq_server.specs.Printing.{printed}
+use Rattle.dq_server.specs.Reports.{names_of, reported}
 use Rattle.dq_server.specs.Surroundings.{AppendsPart}
+use Rattle.dq_server.specs.declared.words.Task.{Task}
+use Rattle.dq_server.specs.declared.words.Task.TheVariants.{Replay, Report}
 
 -- the most octets that a capture may have
 abbrev pub capture_limit : ℕ
@@ -90,7 +93,7 @@ stop_text (stop.Capture number) = numbered_line (codes "capture line ") number
 stop_text (stop.Fault number) = numbered_line (codes "fault ") number
 stop_text stop.Output = []
 
--- ---- what a replay goes by
+-- ---- what a task goes by
 
 -- The configuration is the one of the file, or the one that is built in. What is held at a path, if
 -- that is known, is what `held` says.
@@ -164,14 +167,36 @@ pub record AreGiven (all given : List Reply) (end : Option Fault) : Type 0 where
   pub fewer : end ≢ None → length given < length all
   pub memory : IfSome end (λ f. f ≡ fault.NoMemory)
 
--- ---- a replay
+-- How a text that is printed at once is cut short: for want of memory nothing was printed; where the
+-- output fails, its first octets.
+abbrev pub Breaks : Type 0 → Option (List ℕ) → Option (List ℕ) → List ℕ → Stop → Type 0
+Breaks may_fail before after text (stop.Fault number) = (number ≡ no_memory) × Keeps before after
+Breaks may_fail before after text stop.Output = may_fail × AppendsPart before after text
+Breaks may_fail before after text other = ⊥
 
--- By some configuration of the file and some events that the input tells, the replies are as said.
-abbrev pub IsReplay : (List ℕ → Option (List ℕ)) → Option (List ℕ) → Option (List ℕ)
-    → (List Reply → Type 0) → Type 0
-IsReplay held file input Are = (institutions : List Institution) × (events : List Event)
+-- ---- tasks
+
+-- What a task prints: of a replay the replies, and of a report how many rows each institution has
+-- after the events. There are no rows before.
+abbrev pub text_of : Task → List Institution → List Event → List ℕ
+text_of Replay institutions events = printed (replies institutions [] events)
+text_of Report institutions events =
+    reported (world_after institutions [] events).rows (names_of institutions)
+
+-- how it is cut short
+abbrev pub CutsTask : Task → Type 0 → Option (List ℕ) → Option (List ℕ) → List Institution
+    → List Event → Stop → Type 0
+CutsTask Replay may_fail before after institutions events =
+    Cuts may_fail before after (replies institutions [] events)
+CutsTask Report may_fail before after institutions events =
+    Breaks may_fail before after (text_of Report institutions events)
+
+-- It is so by some configuration of the file and some events that the input tells.
+abbrev pub IsBy : (List ℕ → Option (List ℕ)) → Option (List ℕ) → Option (List ℕ)
+    → (List Institution → List Event → Type 0) → Type 0
+IsBy held file input IsSo = (institutions : List Institution) × (events : List Event)
     × IsConfigured held file institutions × IfSome input (λ octets. Tells octets events)
-    × Are (replies institutions [] events)
+    × IsSo institutions events
 
 -- there is a configuration
 abbrev pub HasConfig : (List ℕ → Option (List ℕ)) → Option (List ℕ) → Type 0

@@ -1,8 +1,10 @@
 -- What the words of a command line ask for.
 use Rattle.std.specs.Prelude.{ℕ, Bool, true, false, not, ◌==◌, ◌&&◌, if◌then◌else◌, codes}
-use Rattle.std.specs.Prelude.{List, [], ◌∷◌, Option, Some, None}
+use Rattle.std.specs.Prelude.{List, [], ◌∷◌, Option, Some, None, option_map}
 use Rattle.std.specs.List.{list_any, before_first, after_first}
 use Rattle.std.specs.Str.{bytes_eq}
+use Rattle.dq_server.specs.declared.words.Task.{Task}
+use Rattle.dq_server.specs.declared.words.Task.TheVariants.{Replay, Report}
 
 -- the program's own name, with which a command line begins
 abbrev pub program_name : List ℕ
@@ -59,10 +61,15 @@ options_after (word ∷ words) =
     if bytes_eq (codes "--config") (name_of word) then file_option word words
     else only_where (end_soon (word ∷ words)) None
 
--- What a list of words asks for: a replay, with a configuration's file or without one; or it is not
--- understood. `replay` may be left out where it has no option.
-abbrev pub asked : List (List ℕ) → Option (Option (List ℕ))
-asked [] = Some None
+-- a task, with the file of the words after its own
+abbrev pub asked_of : Task → Option (Option (List ℕ)) → Option (Task × Option (List ℕ))
+asked_of task = option_map (λ file. (task, file))
+
+-- What a list of words asks for: a replay or a report, with a configuration's file or without one;
+-- or it is not understood. `replay` may be left out where it has no option.
+abbrev pub asked : List (List ℕ) → Option (Task × Option (List ℕ))
+asked [] = Some (Replay, None)
 asked (word ∷ words) =
-    if bytes_eq (codes "replay") word then options_after words
-    else only_where (end_soon (word ∷ words)) None
+    if bytes_eq (codes "replay") word then asked_of Replay (options_after words)
+    else if bytes_eq (codes "report") word then asked_of Report (options_after words)
+    else asked_of Replay (only_where (end_soon (word ∷ words)) None)

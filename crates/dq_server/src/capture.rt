@@ -3,8 +3,9 @@
 ghost use Rattle.std.specs.Prelude.{◌≡◌, ℕ, ◌++◌, ◌∷◌, [], List, codes, IfOk, IsErrOf, MatchOption, MatchResult};
 ghost use Rattle.dq_core.specs.declared.event.Event.{Event};
 ghost use Rattle.dq_core.specs.Histories.{rises_from, newest_after};
-ghost use Rattle.dq_server.specs.Captures.{lines_of, is_skipped, IsNumber, AreOctets, SpellsPiece, Spells, AreCapture, IsFirstBadLine};
+ghost use Rattle.dq_server.specs.Captures.{lines_of, is_skipped, IsNumber, AreOctets, SpellsPiece, SpellsOrder, Spells, AreCapture, IsFirstBadLine};
 
+use dq_config::is_name;
 use dq_core::Event;
 use dq_list::Listed;
 use hex::FromHexError;
@@ -72,6 +73,45 @@ fn piece_of(alloc: Global, rest: &str) -> Result<Option<Event>, AllocError>
     Ok(Some(Event::Piece(number, Listed::from_inner(octets))))
 }
 
+/// An order of the console: the institution's name, and the octets.
+fn order_of(alloc: Global, rest: &str) -> Result<Option<(Listed<u8>, Listed<u8>)>, AllocError>
+    ensures { IfOk result (λ found. MatchOption found
+        ((name octets : List ℕ) → SpellsOrder rest.now name octets → ⊥)
+        (λ order. SpellsOrder rest.now order.0 order.1)) }
+{
+    let Some((name, text)) = rest.split_once(' ') else {
+        return Ok(None);
+    };
+    if !is_name(name.as_bytes()) {
+        return Ok(None);
+    }
+    let Some(octets) = octets_of(alloc, text)? else {
+        return Ok(None);
+    };
+    let name = Vec::from_slice(alloc, name.as_bytes())?;
+    Ok(Some((Listed::from_inner(name), Listed::from_inner(octets))))
+}
+
+fn schedule_of(alloc: Global, rest: &str) -> Result<Option<Event>, AllocError>
+    ensures { IfOk result (λ found. (line : List ℕ) → line ≡ codes "schedule " ++ rest.now →
+        MatchOption found ((event : Event) → Spells line event → ⊥) (Spells line)) }
+{
+    match order_of(alloc, rest)? {
+        Some((inst, octets)) => Ok(Some(Event::Schedule { inst, octets })),
+        None => Ok(None),
+    }
+}
+
+fn withdrawal_of(alloc: Global, rest: &str) -> Result<Option<Event>, AllocError>
+    ensures { IfOk result (λ found. (line : List ℕ) → line ≡ codes "withdraw " ++ rest.now →
+        MatchOption found ((event : Event) → Spells line event → ⊥) (Spells line)) }
+{
+    match order_of(alloc, rest)? {
+        Some((inst, id)) => Ok(Some(Event::Withdraw { inst, id })),
+        None => Ok(None),
+    }
+}
+
 fn event_of(alloc: Global, line: &str) -> Result<Option<Event>, AllocError>
     ensures { IfOk result (λ found. MatchOption found ((event : Event) → Spells line.now event → ⊥) (Spells line.now)) }
 {
@@ -81,8 +121,14 @@ fn event_of(alloc: Global, line: &str) -> Result<Option<Event>, AllocError>
     if let Some(digits) = behind(line, "end ") {
         return Ok(number_of(digits).map(Event::End));
     }
-    match behind(line, "piece ") {
-        Some(rest) => piece_of(alloc, rest),
+    if let Some(rest) = behind(line, "piece ") {
+        return piece_of(alloc, rest);
+    }
+    if let Some(rest) = behind(line, "schedule ") {
+        return schedule_of(alloc, rest);
+    }
+    match behind(line, "withdraw ") {
+        Some(rest) => withdrawal_of(alloc, rest),
         None => Ok(None),
     }
 }

@@ -6,6 +6,7 @@ mod capture;
 mod printing;
 mod program;
 mod reading;
+mod reporting;
 mod stop;
 mod surroundings;
 #[cfg(test)]

@@ -1,36 +1,39 @@
 //! The program without its surroundings: words, a configuration, an input and two outputs, and the
 //! exit status.
-ghost use Rattle.std.specs.Prelude.{◌≡◌, ◌≢◌, ◌≤◌, ◌⊎◌, ℕ, List, Option, None, Some, map, IfErr, OnOk};
+ghost use Rattle.std.specs.Prelude.{◌≡◌, ◌≢◌, ◌≤◌, ◌⊎◌, ℕ, List, [], Option, None, Some, map, IfErr, OnOk};
 ghost use Rattle.std.specs.Option.{option_copied};
 ghost use Rattle.std.specs.IoError.{error_kind};
 ghost use Rattle.std.specs.Io.KnownBytes.{Keeps, Appends};
 ghost use Rattle.clap.specs.Words.{kind_of};
-ghost use Rattle.dq_server.specs.Printing.{printed};
+ghost use Rattle.dq_core.specs.Shared.{replies};
 ghost use Rattle.dq_server.specs.Surroundings.{AppendsPart};
 ghost use Rattle.dq_server.specs.Words.{asked};
-ghost use Rattle.dq_server.specs.Program.{no_memory, status_of, IsTold, IsBadConfig, IsBadCapture, RefusesFile, RefusesCapture, Cuts, IsReplay, HasConfig, PrintsFirst};
+ghost use Rattle.dq_server.specs.Program.{no_memory, status_of, IsTold, IsBadConfig, IsBadCapture, RefusesFile, RefusesCapture, CutsTask, text_of, IsBy, HasConfig, PrintsFirst};
 
 use crate::answering::answer;
 use crate::reading::{configured, read_events};
+use crate::reporting::report;
 use crate::stop::Stop;
 use crate::surroundings::{Folder, Sink, Source};
-use crate::words::{line_of, parse};
+use crate::words::{Task, line_of, parse};
 use clap::error::ErrorKind;
 use std::alloc::AllocError;
 use std::convert::AsStr;
 use std::io;
 use std::io::ErrorKind as IoKind;
 
-/// Replays a capture: reads the configuration, then the capture, and prints the replies.
-fn replay<Rt: AllocGlobal + Folder, R: Source, W: Sink>(
+/// Does a task: reads the configuration, then the capture, and prints the replies or the report.
+fn play<Rt: AllocGlobal + Folder, R: Source, W: Sink>(
     rt: &Rt,
+    task: Task,
     file: Option<&str>,
     input: R,
     output: &mut W,
 ) -> Result<(), Stop>
-    ensures done { OnOk result (IsReplay (Rt.held rt.now) (option_copied file.entry)
-        (R.octets input) (λ replies.
-        Appends (W.written output.old) (W.written output.new) (printed replies))) }
+    ensures done { OnOk result (IsBy (Rt.held rt.now) (option_copied file.entry)
+        (R.octets input) (λ institutions events.
+        Appends (W.written output.old) (W.written output.new)
+        (text_of task institutions events))) }
     ensures flushed { OnOk result (W.is_flushed output.new) }
     ensures stops { IfErr result (λ stop.
         (Keeps (W.written output.old) (W.written output.new)
@@ -38,9 +41,9 @@ fn replay<Rt: AllocGlobal + Folder, R: Source, W: Sink>(
         ⊎ (Keeps (W.written output.old) (W.written output.new)
         × HasConfig (Rt.held rt.now) (option_copied file.entry)
         × RefusesCapture (R.may_fail input) (R.octets input) stop)
-        ⊎ IsReplay (Rt.held rt.now) (option_copied file.entry) (R.octets input)
-        (λ replies. Cuts (W.may_fail output.old) (W.written output.old) (W.written output.new)
-        replies stop)) }
+        ⊎ IsBy (Rt.held rt.now) (option_copied file.entry) (R.octets input)
+        (λ institutions events. CutsTask task (W.may_fail output.old) (W.written output.old)
+        (W.written output.new) institutions events stop)) }
 {
     let config = match configured(rt, file) {
         Ok(config) => config,
@@ -50,7 +53,10 @@ fn replay<Rt: AllocGlobal + Folder, R: Source, W: Sink>(
         Ok(events) => events,
         Err(stop) => return Err(stop),
     };
-    answer(rt.alloc(), config, events, output)
+    match task {
+        Task::Replay => answer(rt.alloc(), config, events, output),
+        Task::Report => report(rt.alloc(), config, events, output),
+    }
 }
 
 /// Tells of a stop. The exit status is its own.
@@ -88,46 +94,52 @@ pub fn perform<Rt: AllocGlobal + Folder, S: AsStr, R: Source, W: Sink, E: Sink>(
     errors: &mut E,
 ) -> u8
     ensures statuses { result ≤ 4 }
-    ensures done { result ≡ 0 → (file : Option (List ℕ)) × (asked (map S.text words.now) ≡ Some file)
-        × IsReplay (Rt.held rt.now) file (R.octets input) (λ replies.
-        Appends (W.written output.old) (W.written output.new) (printed replies)) }
+    ensures done { result ≡ 0 → (task : Task) × (file : Option (List ℕ))
+        × (asked (map S.text words.now) ≡ Some (task, file))
+        × IsBy (Rt.held rt.now) file (R.octets input) (λ institutions events.
+        Appends (W.written output.old) (W.written output.new)
+        (text_of task institutions events)) }
     ensures flushed { result ≡ 0 → W.is_flushed output.new }
     ensures quiet { result ≡ 0 → Keeps (E.written errors.old) (E.written errors.new) }
     ensures usage { result ≡ 1 → (asked (map S.text words.now) ≡ None)
         × Keeps (W.written output.old) (W.written output.new) }
     ensures refused { asked (map S.text words.now) ≡ None → (result ≡ 1) ⊎ (result ≡ 4) }
-    ensures config { result ≡ 2 → (path : List ℕ) × (number : ℕ)
-        × (asked (map S.text words.now) ≡ Some (Some path))
+    ensures config { result ≡ 2 → (task : Task) × (path : List ℕ) × (number : ℕ)
+        × (asked (map S.text words.now) ≡ Some (task, Some path))
         × IsBadConfig (Rt.may_fail rt.now path) (Rt.held rt.now path) number
         × IsTold (E.may_fail errors.old) (E.written errors.old) (E.written errors.new)
         (Stop.Config number) × Keeps (W.written output.old) (W.written output.new) }
-    ensures capture { result ≡ 3 → (file : Option (List ℕ)) × (number : ℕ)
-        × (asked (map S.text words.now) ≡ Some file) × HasConfig (Rt.held rt.now) file
+    ensures capture { result ≡ 3 → (task : Task) × (file : Option (List ℕ)) × (number : ℕ)
+        × (asked (map S.text words.now) ≡ Some (task, file)) × HasConfig (Rt.held rt.now) file
         × IsBadCapture (R.may_fail input) (R.octets input) number
         × IsTold (E.may_fail errors.old) (E.written errors.old) (E.written errors.new)
         (Stop.Capture number) × Keeps (W.written output.old) (W.written output.new) }
-    // A fault, where nothing or the lines of the first replies were printed, or an output that
-    // fails, where the first octets of the lines were.
+    // A fault, where nothing was printed, or the lines of the first replies, and none of a report; or
+    // an output that fails, where the first octets of the lines were.
     ensures fault { result ≡ 4 →
         (IsTold (E.may_fail errors.old) (E.written errors.old) (E.written errors.new)
         (Stop.Fault no_memory) × Keeps (W.written output.old) (W.written output.new))
-        ⊎ (file : Option (List ℕ)) × (asked (map S.text words.now) ≡ Some file)
-        × IsReplay (Rt.held rt.now) file (R.octets input) (λ replies.
-        (IsTold (E.may_fail errors.old) (E.written errors.old) (E.written errors.new)
-        (Stop.Fault no_memory)
-        × PrintsFirst (W.written output.old) (W.written output.new) replies)
-        ⊎ (IsTold (E.may_fail errors.old) (E.written errors.old) (E.written errors.new) Stop.Output
-        × W.may_fail output.old × AppendsPart (W.written output.old) (W.written output.new) (printed replies))) }
+        ⊎ ((file : Option (List ℕ)) × (asked (map S.text words.now) ≡ Some (Task.Replay, file))
+        × IsBy (Rt.held rt.now) file (R.octets input) (λ institutions events.
+        IsTold (E.may_fail errors.old) (E.written errors.old) (E.written errors.new)
+        (Stop.Fault no_memory) × PrintsFirst (W.written output.old) (W.written output.new)
+        (replies institutions [] events)))
+        ⊎ ((task : Task) × (file : Option (List ℕ))
+        × (asked (map S.text words.now) ≡ Some (task, file))
+        × IsBy (Rt.held rt.now) file (R.octets input) (λ institutions events.
+        IsTold (E.may_fail errors.old) (E.written errors.old) (E.written errors.new) Stop.Output
+        × W.may_fail output.old × AppendsPart (W.written output.old) (W.written output.new)
+        (text_of task institutions events))) }
 {
     let line = match line_of(rt.alloc(), words) {
         Ok(line) => line,
         Err(error) => return stopped(Stop::from(error), errors),
     };
-    let file = match parse(rt.alloc(), line.as_slice()) {
-        Ok(file) => file,
+    let (task, file) = match parse(rt.alloc(), line.as_slice()) {
+        Ok(asked) => asked,
         Err(error) => return refused(&error, errors),
     };
-    match replay(rt, file, input, output) {
+    match play(rt, task, file, input, output) {
         Ok(()) => 0,
         Err(stop) => stopped(stop, errors),
     }
