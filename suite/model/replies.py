@@ -5,12 +5,10 @@ Written from PS3.8 section 9 (PDUs and the state machine), PS3.7 (messages and s
 K (services), with the choices that docs/DECISIONS.md lists where the standard leaves one. It shares nothing with the
 server's code.
 
-Use: replies.py [--config FILE] [--report] [--services NAME,..] < CAPTURE. It prints the lines of the replies, or with
---report a line for each institution. The server has the services that the file `services` names; --services names others. On
-a bad line it prints none, tells the line on standard error, and exits with 3; on a bad configuration with 2.
+Use: replies.py [--config FILE] [--report] < CAPTURE. It prints the lines of the replies, or with --report a line for each
+institution. On a bad line it prints none, tells the line on standard error, and exits with 3; on a bad configuration with 2.
 """
 import argparse
-import pathlib
 import re
 import sys
 import tomllib
@@ -199,7 +197,7 @@ class Connection:
 
         if command.field == C_CANCEL:
             return b""
-        if command.field not in COMMANDS[service] or service not in self.server.services:
+        if command.field not in COMMANDS[service]:
             return reply(UNRECOGNIZED_OPERATION)
         instance = command.sop_instance if command.field in (C_STORE, N_CREATE, N_SET) else b""
         if command.sop_class != sop_class:
@@ -219,9 +217,8 @@ class Connection:
 
 
 class Server:
-    def __init__(self, institutions, served):
+    def __init__(self, institutions):
         self.institutions = institutions
-        self.services = served
         self.held = {}
 
     def routed(self, request):
@@ -316,7 +313,6 @@ def main():
     words = argparse.ArgumentParser()
     words.add_argument("--config")
     words.add_argument("--report", action="store_true")
-    words.add_argument("--services", default=(pathlib.Path(__file__).parent / "services").read_text(encoding="utf-8"))
     words = words.parse_args()
     try:
         text = BUILT_IN if words.config is None else open(words.config, encoding="utf-8").read()
@@ -328,7 +324,7 @@ def main():
     if isinstance(events, int):
         print(f"capture line {events}", file=sys.stderr)
         return 3
-    server = Server(institutions, set(words.services.strip().split(",")))
+    server = Server(institutions)
     for event in events:
         line = server.reply(*event)
         if not words.report:
