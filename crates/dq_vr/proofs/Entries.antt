@@ -63,13 +63,15 @@ unfolding vr_in
 vr_in-none [] tag h = refl
 vr_in-none (x ∷ xs) tag h = rw (h 0 x (omega arith)) (vr_in-none xs tag (λ k d lt. h (suc k) d (omega arith)))
 
-vr_in-at : (xs : List Entry) (tag : Tag) (i : ℕ) (d : Entry) → i < length xs → has_tag (get_or xs i d) tag ≡ true → ((k : ℕ) → k < i → has_tag (get_or xs k d) tag ≡ false) → vr_in xs tag ≡ Some (get_or xs i d).1
+vr_in-at : (xs : List Entry) (tag : Tag) (i : ℕ) (d : Entry) → i < length xs → has_tag (get_or xs i d) tag ≡ true
+    → ((k : ℕ) → k < i → has_tag (get_or xs k d) tag ≡ false) → vr_in xs tag ≡ Some (get_or xs i d).1
 unfolding vr_in
 vr_in-at [] tag i d lt here before = absurd (omega arith)
 vr_in-at (x ∷ xs) tag zero d lt here before = rw here refl
 vr_in-at (x ∷ xs) tag (suc i) d lt here before = rw (before 0 (omega arith)) (vr_in-at xs tag i d (omega arith) here (λ k l. before (suc k) (omega arith)))
 
-module _ (xs : List Entry) (rises : Rises xs) (small : (k : ℕ) (d : Entry) → k < length xs → (get_or xs k d).0.element < 65536) (tag : Tag) (short : tag.element < 65536) where
+module _ (xs : List Entry) (rises : Rises xs) (small : (k : ℕ) (d : Entry) → k < length xs → (get_or xs k d).0.element < 65536) (tag : Tag)
+    (short : tag.element < 65536) where
   later : (i j : ℕ) (d : Entry) → i < j → j < length xs → number_of (get_or xs i d).0 < number_of (get_or xs j d).0
   unfolding Rises
   later i j d lt within =
@@ -84,7 +86,8 @@ module _ (xs : List Entry) (rises : Rises xs) (small : (k : ℕ) (d : Entry) →
         | inr same ↦ rw same (omega arith)
       ]
 
-  pub searched : (n : ℕ) → n ≡ number_of tag → (r : Result ℕ ℕ) → IsSearchInRange r (length xs) → IsBinarySearchResult (λ y. nat_cmp (number_of y.0) n) xs r → MatchResult r (λ i. (d : Entry) → vr_in xs tag ≡ Some (get_or xs i d).1) (λ i. vr_in xs tag ≡ None)
+  pub searched : (n : ℕ) → n ≡ number_of tag → (r : Result ℕ ℕ) → IsSearchInRange r (length xs) → IsBinarySearchResult (λ y. nat_cmp (number_of y.0) n) xs r
+      → MatchResult r (λ i. (d : Entry) → vr_in xs tag ≡ Some (get_or xs i d).1) (λ i. vr_in xs tag ≡ None)
   searched n named (Ok i) within here = λ d.
       let at : number_of (get_or xs i d).0 ≡ number_of tag = cmp_equal (number_of (get_or xs i d).0) n (here d) ∙ named in
       vr_in-at xs tag i d within (same_tag (get_or xs i d).0 tag (small i d within) short at) (λ k lt.

@@ -42,7 +42,8 @@ named US = refl
 named UT = refl
 named UV = refl
 
-own_case : (b : Bool) (x vr : Vr) (letters : List ℕ) (rest : Option Vr) → b ≡ pointwise nat_eq (letters_of x) letters → (rest ≡ Some vr → letters_of vr ≡ letters) → cond b (Some x) rest ≡ Some vr → letters_of vr ≡ letters
+own_case : (b : Bool) (x vr : Vr) (letters : List ℕ) (rest : Option Vr) → b ≡ pointwise nat_eq (letters_of x) letters
+    → (rest ≡ Some vr → letters_of vr ≡ letters) → cond b (Some x) rest ≡ Some vr → letters_of vr ≡ letters
 own_case true x vr letters rest same later e =
     let is_it : letters_of x ≡ letters = (bytes_decides (letters_of x) letters).0 (sym same) in
     let is_x : x ≡ vr = cc in

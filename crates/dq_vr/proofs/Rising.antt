@@ -1,5 +1,6 @@
 -- The tags of the dictionary rise.
-use Rattle.std.proofs.Common.{◌≡◌, ℕ, ◌<◌, Bool, true, false, List, [], ◌∷◌, length, get_or, Some, refl, arith, zero, suc, nat_lt, ◌&&◌, Contains}
+use Rattle.std.proofs.Common.{◌≡◌, ℕ, ◌<◌, Bool, true, List, [], ◌∷◌, length, get_or, Some, refl, arith, zero, suc, nat_lt, ◌&&◌, Contains}
+use Rattle.std.proofs.lemmas.Bool.{and_parts}
 use Rattle.std.proofs.lemmas.Bool.Decides.{nat_tests}
 use Rattle.dq_vr.specs.declared.Tag.{Tag}
 use Rattle.dq_vr.specs.Tag.{is_below}
@@ -15,15 +16,11 @@ is_below-trans : (a b c : Tag) → is_below a b ≡ true → is_below b c ≡ tr
 unfolding is_below
 is_below-trans a b c p q = grind (arith, nat_tests)
 
-both : (a b : Bool) → (a && b) ≡ true → (a ≡ true) × (b ≡ true)
-both true b h = (refl, h)
-both false b h = absurd (cc)
-
 below_later : (entry : Entry) (xs : List Entry) → rising_after entry xs ≡ true → (k : ℕ) (d : Entry) → k < length xs → is_below entry.0 (get_or xs k d).0 ≡ true
 unfolding rising_after
 below_later entry [] h k d lt = absurd (omega arith)
-below_later entry (x ∷ xs) h zero d lt = (both _ _ h).0
-below_later entry (x ∷ xs) h (suc k) d lt = is_below-trans entry.0 x.0 (get_or xs k d).0 (both _ _ h).0 (below_later x xs (both _ _ h).1 k d (omega arith))
+below_later entry (x ∷ xs) h zero d lt = (and_parts _ _ h).0
+below_later entry (x ∷ xs) h (suc k) d lt = is_below-trans entry.0 x.0 (get_or xs k d).0 (and_parts _ _ h).0 (below_later x xs (and_parts _ _ h).1 k d (omega arith))
 
 rises_from : (entry : Entry) (xs : List Entry) → rising_after entry xs ≡ true → Rises (entry ∷ xs)
 unfolding Rises rising_after
@@ -31,7 +28,7 @@ rises_from entry xs h zero zero d lt within = absurd (omega arith)
 rises_from entry xs h zero (suc j) d lt within = below_later entry xs h j d (omega arith)
 rises_from entry xs h (suc i) zero d lt within = absurd (omega arith)
 rises_from entry [] h (suc i) (suc j) d lt within = absurd (omega arith)
-rises_from entry (x ∷ xs) h (suc i) (suc j) d lt within = rises_from x xs (both _ _ h).1 i j d (omega arith) (omega arith)
+rises_from entry (x ∷ xs) h (suc i) (suc j) d lt within = rises_from x xs (and_parts _ _ h).1 i j d (omega arith) (omega arith)
 
 pub dictionary_rises : Rises dictionary
 unfolding dictionary rising_after is_below
@@ -46,9 +43,9 @@ short_each : (xs : List Entry) → are_short xs ≡ true → (k : ℕ) (d : Entr
 unfolding are_short
 short_each [] h k d lt = absurd (omega arith)
 short_each (x ∷ xs) h zero d lt =
-    let first = (both (nat_lt x.0.element 65536) (are_short xs) h).0 in
+    let first = (and_parts (nat_lt x.0.element 65536) (are_short xs) h).0 in
     grind (arith, nat_tests)
-short_each (x ∷ xs) h (suc k) d lt = short_each xs (both (nat_lt x.0.element 65536) (are_short xs) h).1 k d (omega arith)
+short_each (x ∷ xs) h (suc k) d lt = short_each xs (and_parts (nat_lt x.0.element 65536) (are_short xs) h).1 k d (omega arith)
 
 pub dictionary_short : (k : ℕ) (d : Entry) → k < length dictionary → (get_or dictionary k d).0.element < 65536
 unfolding dictionary are_short

@@ -1,4 +1,5 @@
--- Value representations: their letters, which of them hold text, and how an explicit spelling gives their length.
+-- Value representations: their letters, which of them hold text, and how an explicit spelling gives
+-- their length.
 use Rattle.std.specs.Prelude.{ℕ, Bool, true, false, List, [], ◌∷◌, Option, Some, None, nat_eq, codes, if◌then◌else◌}
 use Rattle.std.specs.Cmp.Lexicographic.{pointwise}
 use Rattle.dq_vr.specs.declared.Vr.{Vr}
@@ -6,7 +7,7 @@ use Rattle.dq_vr.specs.declared.Vr.TheVariants.{AE, AS, AT, CS, DA, DS, DT, FD, 
 use Rattle.dq_vr.specs.declared.LengthForm.{LengthForm}
 use Rattle.dq_vr.specs.declared.LengthForm.TheVariants.{Two, Four}
 
--- the octets of the length field in an explicit spelling (PS3.5 section 7.1.2, tables 7.1-1 and 7.1-2)
+-- the length field in an explicit spelling (PS3.5 section 7.1.2, tables 7.1-1 and 7.1-2)
 unfoldable pub length_form_of : Vr → LengthForm
 length_form_of AE = Two
 length_form_of AS = Two
@@ -109,7 +110,8 @@ every_vr =
 -- the first VR of a list with these letters
 unfoldable pub vr_among : List Vr → List ℕ → Option Vr
 vr_among [] letters = None
-vr_among (vr ∷ others) letters = if pointwise nat_eq (letters_of vr) letters then Some vr else vr_among others letters
+vr_among (vr ∷ others) letters =
+    if pointwise nat_eq (letters_of vr) letters then Some vr else vr_among others letters
 
 -- the VR that two letters name
 unfoldable pub vr_with_letters : List ℕ → Option Vr

@@ -261,7 +261,8 @@ fn vr_in(entries: &[(Tag, Vr)], tag: Tag) -> Option<Vr>
     }
 }
 
-/// The tags of the dictionary rise, so that no tag is there twice, and `lookup` answers each entry's VR.
+/// The tags of the dictionary rise, so that no tag is there twice, and `lookup` answers each
+/// entry's VR.
 pub fn dictionary_law()
     ensures keywords { DICTIONARY ≡ dictionary }
     ensures rises { Rises dictionary }
@@ -301,8 +302,8 @@ pub fn length_form(vr: Vr) -> LengthForm
 }
 
 impl Vr {
-    /// Whether values are character strings that are padded with spaces (PS3.5 section 6.2). UI is not
-    /// among them: it is padded with 00H.
+    /// Whether values are character strings that are padded with spaces (PS3.5 section 6.2). UI is
+    /// not among them: it is padded with 00H.
     #[tactic(auto, unfolding(crate::specs::Vr::is_text))]
     pub fn is_text(self) -> bool
         ensures { result ≡ is_text self }
@@ -418,6 +419,7 @@ impl Vr {
     /// Each VR is named by its letters, and letters that name a VR are its own.
     pub fn letters_law()
         ensures named { (vr : Vr) → vr_with_letters (letters_of vr) ≡ Some vr }
-        ensures own { (vr : Vr) (letters : List ℕ) → vr_with_letters letters ≡ Some vr → letters_of vr ≡ letters }
+        ensures own { (vr : Vr) (letters : List ℕ) → vr_with_letters letters ≡ Some vr
+            → letters_of vr ≡ letters }
     {}
 }
