@@ -33,7 +33,8 @@ unfolding pieces
 pieces_some separator [] = omega arith
 pieces_some separator (x ∷ xs) = some-case (nat_eq x separator) x (pieces separator xs)
 
-whole-case : (b : Bool) (separator x : ℕ) (ps : List (List ℕ)) → b ≡ nat_eq x separator → 0 < length ps → join_with_byte separator (cond b ([] ∷ ps) (joined x ps)) ≡ x ∷ join_with_byte separator ps
+whole-case : (b : Bool) (separator x : ℕ) (ps : List (List ℕ)) → b ≡ nat_eq x separator → 0 < length ps
+    → join_with_byte separator (cond b ([] ∷ ps) (joined x ps)) ≡ x ∷ join_with_byte separator ps
 whole-case true separator x ps same some =
     let equal : separator ≡ x = grind (arith, nat_tests) in
     join-empty separator ps some ∙ ap (λ o. o ∷ join_with_byte separator ps) equal
@@ -45,7 +46,8 @@ pieces_whole separator [] = refl
 pieces_whole separator (x ∷ xs) =
     whole-case (nat_eq x separator) separator x (pieces separator xs) refl (pieces_some separator xs) ∙ ap (λ rest. x ∷ rest) (pieces_whole separator xs)
 
-free-case : (b : Bool) (separator x : ℕ) (ps : List (List ℕ)) → nat_eq x separator ≡ b → list_any (holds separator) ps ≡ false → list_any (holds separator) (cond b ([] ∷ ps) (joined x ps)) ≡ false
+free-case : (b : Bool) (separator x : ℕ) (ps : List (List ℕ)) → nat_eq x separator ≡ b → list_any (holds separator) ps ≡ false
+    → list_any (holds separator) (cond b ([] ∷ ps) (joined x ps)) ≡ false
 unfolding joined
 free-case true separator x ps same free = free
 free-case false separator x [] apart free = rw apart refl
@@ -98,7 +100,8 @@ range_read octets from to range =
 abbrev AreHalves : ℕ → List ℕ → List ℕ × List ℕ → Type 0
 AreHalves separator xs h = (xs ≡ h.0 ++ separator ∷ h.1) × (holds separator h.0 ≡ false)
 
-found-case : (b : Bool) (separator x : ℕ) (xs : List ℕ) (o : Option (List ℕ × List ℕ)) (h : List ℕ × List ℕ) → nat_eq x separator ≡ b → ((g : List ℕ × List ℕ) → o ≡ Some g → AreHalves separator xs g) → cond b (Some ([], xs)) (behind x o) ≡ Some h → AreHalves separator (x ∷ xs) h
+found-case : (b : Bool) (separator x : ℕ) (xs : List ℕ) (o : Option (List ℕ × List ℕ)) (h : List ℕ × List ℕ) → nat_eq x separator ≡ b
+    → ((g : List ℕ × List ℕ) → o ≡ Some g → AreHalves separator xs g) → cond b (Some ([], xs)) (behind x o) ≡ Some h → AreHalves separator (x ∷ xs) h
 unfolding behind
 found-case true separator x xs o h same inner e =
     let equal : x ≡ separator = grind (arith, nat_tests) in

@@ -37,7 +37,8 @@ last_later : (other : ℕ → Bool) (x : ℕ) (xs : List ℕ) → last_is other 
 last_later other x [] h = refl
 last_later other x (y ∷ ys) h = h
 
-stays-case : (b : Bool) (other : ℕ → Bool) (x : ℕ) (xs rest : List ℕ) → last_is other (x ∷ xs) ≡ false → last_is other rest ≡ false → last_is other (cond b rest (x ∷ xs)) ≡ false
+stays-case : (b : Bool) (other : ℕ → Bool) (x : ℕ) (xs rest : List ℕ) → last_is other (x ∷ xs) ≡ false → last_is other rest ≡ false
+    → last_is other (cond b rest (x ∷ xs)) ≡ false
 stays-case true other x xs rest whole inner = inner
 stays-case false other x xs rest whole inner = whole
 
@@ -87,7 +88,8 @@ trailing_same test (x ∷ (y ∷ ys)) h = ap (kept_before test x) (trailing_same
 
 -- trimming by what the VR says
 abbrev trim : Bool → Bool → List ℕ → List ℕ
-trim leading padded octets = cond leading (without_leading is_space (cond padded (without_trailing is_pad octets) octets)) (cond padded (without_trailing is_pad octets) octets)
+trim leading padded octets =
+    cond leading (without_leading is_space (cond padded (without_trailing is_pad octets) octets)) (cond padded (without_trailing is_pad octets) octets)
 
 trims : (leading padded : Bool) (octets : List ℕ) → IsTrimming leading padded octets (trim leading padded octets)
 trims false false octets = record { before = []; after = []; whole = sym (append-nil octets); spaces = refl; pads = refl; no_space = refl; no_pad = refl }
@@ -96,14 +98,23 @@ trims false true octets =
     record { before = []; after = behind.after; whole = behind.whole; spaces = refl; pads = behind.all; no_space = refl; no_pad = last_kept is_pad octets }
 trims true false octets =
     let front = leads is_space octets in
-    record { before = front.before; after = []; whole = front.whole ∙ ap (λ ys. front.before ++ ys) (sym (append-nil _)); spaces = front.all; pads = refl; no_space = first_kept is_space octets; no_pad = refl }
+    record {
+      before = front.before;
+      after = [];
+      whole = front.whole ∙ ap (λ ys. front.before ++ ys) (sym (append-nil _));
+      spaces = front.all;
+      pads = refl;
+      no_space = first_kept is_space octets;
+      no_pad = refl;
+    }
 trims true true octets =
     let behind = trails is_pad octets in
     let front = leads is_space (without_trailing is_pad octets) in
     record {
       before = front.before;
       after = behind.after;
-      whole = behind.whole ∙ ap (λ ys. ys ++ behind.after) front.whole ∙ append_assoc front.before (without_leading is_space (without_trailing is_pad octets)) behind.after;
+      whole = behind.whole ∙ ap (λ ys. ys ++ behind.after) front.whole
+          ∙ append_assoc front.before (without_leading is_space (without_trailing is_pad octets)) behind.after;
       spaces = front.all;
       pads = behind.all;
       no_space = first_kept is_space (without_trailing is_pad octets);
@@ -111,7 +122,8 @@ trims true true octets =
     }
 
 -- nothing is trimmed where nothing is to be
-clean : (leading padded : Bool) (kept : List ℕ) → (leading && first_is is_space kept) ≡ false → (padded && last_is is_pad kept) ≡ false → trim leading padded kept ≡ kept
+clean : (leading padded : Bool) (kept : List ℕ) → (leading && first_is is_space kept) ≡ false → (padded && last_is is_pad kept) ≡ false
+    → trim leading padded kept ≡ kept
 clean false false kept first last = refl
 clean false true kept first last = trailing_same is_pad kept last
 clean true false kept first last = leading_same is_space kept first

@@ -1,12 +1,12 @@
 -- Dates and times against their digits.
-use Rattle.std.proofs.Common.{◌≡◌, ℕ, zero, suc, ◌+◌, ◌-◌, ◌*◌, ◌/◌, ◌^◌, ◌<◌, ◌≤◌, Bool, true, false, cond, List, [], ◌∷◌, ◌++◌, length, take, drop, slice_index, Option, Some, None, ◌&&◌, ◌||◌, ◌==◌, ◌⊎◌, inl, inr, drop-cons, nat_le, nat_eq, refl, sym, subst, ap, ◌∙◌, arith, length-append, append-nil, drop-drop, ℤ, pos}
+use Rattle.std.proofs.Common.{◌≡◌, ℕ, suc, ◌+◌, ◌-◌, ◌*◌, ◌^◌, ◌<◌, ◌≤◌, Bool, true, false, cond, List, [], ◌∷◌, ◌++◌, length, take, drop, slice_index, Option, Some, None, ◌&&◌, ◌||◌, ◌==◌, ◌⊎◌, inl, inr, drop-cons, nat_le, nat_eq, refl, sym, subst, ap, ◌∙◌, arith, length-append, append-nil, drop-drop, ℤ, pos}
 use Rattle.std.proofs.lemmas.List.{take-append-drop, length-take-le, length-drop, get_or-drop}
 use Rattle.std.proofs.Math.Seq.{take-append_seam, drop-append_seam}
 use Rattle.std.proofs.lemmas.Bool.Decides.{nat_tests}
 use Rattle.jiff_core.specs.Calendar.{days_in_month, is_leap_year}
 use Rattle.dq_value.specs.Digits.{number, digits, ◌>>=◌}
 use Rattle.dq_value.specs.Day.{Ymd, SpellsDate, is_in_calendar, date_in, digits_of_date, spelled_date}
-use Rattle.dq_value.specs.Time.{Span, IsClock, SpellsTime, to_hour, to_minute, to_second, to_fraction, unit_of, has_fraction, span, span_from, field, hour_start, minute_start, second_start, hour_span, minute_span, second_span, fraction_span, micros_at, spelled_minute, spelled_second, spelled_fraction}
+use Rattle.dq_value.specs.Time.{Span, IsClock, SpellsTime, to_hour, to_minute, to_second, to_fraction, unit_at, unit_of, has_fraction, span, span_from, field, hour_start, minute_start, second_start, hour_span, minute_span, second_span, fraction_span, micros_at, spelled_minute, spelled_second, spelled_fraction}
 use Rattle.dq_value.proofs.Spelled.{length-digits, number-digits, number-only}
 
 take_front : (n : ℕ) (xs ys : List ℕ) → length xs ≡ n → take n (xs ++ ys) ≡ xs
@@ -15,7 +15,8 @@ take_front n xs ys e = ap (λ m. take m (xs ++ ys)) (sym e) ∙ take-append_seam
 drop_front : (n : ℕ) (xs ys : List ℕ) → length xs ≡ n → drop n (xs ++ ys) ≡ ys
 drop_front n xs ys e = ap (λ m. drop m (xs ++ ys)) (sym e) ∙ drop-append_seam xs ys
 
-date_at : (a b c : List ℕ) (y m d : ℕ) → length a ≡ 4 → length b ≡ 2 → length c ≡ 2 → number a ≡ Some y → number b ≡ Some m → number c ≡ Some d → is_in_calendar (pos y, m, d) ≡ true → date_in (a ++ (b ++ c)) ≡ Some (pos y, m, d)
+date_at : (a b c : List ℕ) (y m d : ℕ) → length a ≡ 4 → length b ≡ 2 → length c ≡ 2 → number a ≡ Some y → number b ≡ Some m → number c ≡ Some d
+    → is_in_calendar (pos y, m, d) ≡ true → date_in (a ++ (b ++ c)) ≡ Some (pos y, m, d)
 unfolding date_in digits_of_date
 date_at a b c y m d four two too year month day good =
     let len : length (a ++ (b ++ c)) ≡ 8 = simp length-append (omega arith) in
@@ -77,7 +78,8 @@ spells xs count n len e =
     let found = number-only xs n e in
     record { is = found.0 ∙ ap (λ k. digits k n) len; few = rw len at found.1 }
 
-date_spelled : (octets : List ℕ) (date : Ymd) (y m d : ℕ) → length octets ≡ 8 → number (take 4 octets) ≡ Some y → number (take 2 (drop 4 octets)) ≡ Some m → number (drop 6 octets) ≡ Some d → is_in_calendar (pos y, m, d) ≡ true → Some (pos y, m, d) ≡ Some date → SpellsDate octets date
+date_spelled : (octets : List ℕ) (date : Ymd) (y m d : ℕ) → length octets ≡ 8 → number (take 4 octets) ≡ Some y → number (take 2 (drop 4 octets)) ≡ Some m
+    → number (drop 6 octets) ≡ Some d → is_in_calendar (pos y, m, d) ≡ true → Some (pos y, m, d) ≡ Some date → SpellsDate octets date
 date_spelled octets date y m d eight year month day good e =
     let same : (pos y, m, d) ≡ date = cc in
     let rest : length (drop 4 octets) ≡ 4 = length-drop 4 octets ∙ ap (λ n. n - 4) eight in
@@ -86,7 +88,9 @@ date_spelled octets date y m d eight year month day good e =
     let years = spells (take 4 octets) 4 y (length-take-le 4 octets (omega arith)) year in
     let months = spells (take 2 (drop 4 octets)) 2 m (length-take-le 2 (drop 4 octets) (omega arith)) month in
     let days = spells (drop 6 octets) 2 d two day in
-    let behind : drop 4 octets ≡ digits 2 m ++ digits 2 d = sym (take-append-drop 2 (drop 4 octets)) ∙ ap (λ xs. xs ++ drop 2 (drop 4 octets)) months.is ∙ ap (λ xs. digits 2 m ++ xs) (last ∙ days.is) in
+    let behind : drop 4 octets ≡ digits 2 m ++ digits 2 d =
+    sym (take-append-drop 2 (drop 4 octets)) ∙ ap (λ xs. xs ++ drop 2 (drop 4 octets)) months.is
+    ∙ ap (λ xs. digits 2 m ++ xs) (last ∙ days.is) in
     let whole : octets ≡ spelled_date y m d = sym (take-append-drop 4 octets) ∙ ap (λ xs. xs ++ drop 4 octets) years.is ∙ ap (λ xs. digits 4 y ++ xs) behind in
     subst (SpellsDate octets) same (record { year = y; in_calendar = good; four_digits = (refl, years.few); spelled = whole })
 
@@ -106,14 +110,16 @@ date_only octets date e =
     date_parts octets date (grind (arith, nat_tests)) eight.answer
 
 -- a field of two digits, at the front or behind what is before it
-field_at : (place greatest n : ℕ) (octets xs ys : List ℕ) → drop place octets ≡ xs ++ ys → length xs ≡ 2 → number xs ≡ Some n → n ≤ greatest → field place greatest octets ≡ Some n
+field_at : (place greatest n : ℕ) (octets xs ys : List ℕ) → drop place octets ≡ xs ++ ys → length xs ≡ 2 → number xs ≡ Some n → n ≤ greatest
+    → field place greatest octets ≡ Some n
 unfolding field
 field_at place greatest n octets xs ys at two e few =
     let digits_here : take 2 (drop place octets) ≡ xs = ap (take 2) at ∙ take_front 2 xs ys two in
     let fits : nat_le n greatest ≡ true = grind (arith, nat_tests) in
     rw (digits_here, e, fits) refl
 
-fraction_case : (octets fraction : List ℕ) (start n : ℕ) → 8 ≤ length octets → length octets ≤ 13 → slice_index octets 6 ≡ 0x2e → drop 7 octets ≡ fraction → second_start octets ≡ Some start → number fraction ≡ Some n → span octets ≡ span_from (start + n * unit_of fraction) (unit_of fraction)
+fraction_case : (octets fraction : List ℕ) (start n : ℕ) → 8 ≤ length octets → length octets ≤ 13 → slice_index octets 6 ≡ 0x2e → drop 7 octets ≡ fraction
+    → second_start octets ≡ Some start → number fraction ≡ Some n → span octets ≡ span_from (start + n * unit_of fraction) (unit_of fraction)
 unfolding span fraction_span
 fraction_case octets fraction start n low high point cut second e =
     let not_two : nat_eq (length octets) 2 ≡ false = grind (arith, nat_tests) in
@@ -135,7 +141,8 @@ module _ (h m s : ℕ) (clock : IsClock h m s) where
       let minutes = clock.minutes in
       let octets = digits 2 h ++ (digits 2 m ++ rest) in
       let at = drop_front 2 (digits 2 h) (digits 2 m ++ rest) (length-digits 2 h) in
-      rw (hour_at (digits 2 m ++ rest), field_at 2 59 m octets (digits 2 m) rest at (length-digits 2 m) (number-digits 2 m (omega arith) (omega arith)) minutes) refl
+      let number_is = number-digits 2 m (omega arith) (omega arith) in
+      rw (hour_at (digits 2 m ++ rest), field_at 2 59 m octets (digits 2 m) rest at (length-digits 2 m) number_is minutes) refl
 
   behind_minute : (rest : List ℕ) → drop 4 (digits 2 h ++ (digits 2 m ++ rest)) ≡ rest
   behind_minute rest =
@@ -148,7 +155,9 @@ module _ (h m s : ℕ) (clock : IsClock h m s) where
   second_at rest =
       let seconds = clock.seconds in
       let octets = digits 2 h ++ (digits 2 m ++ (digits 2 s ++ rest)) in
-      rw (minute_at (digits 2 s ++ rest), field_at 4 60 s octets (digits 2 s) rest (behind_minute (digits 2 s ++ rest)) (length-digits 2 s) (number-digits 2 s (omega arith) (omega arith)) seconds) refl
+      let at = behind_minute (digits 2 s ++ rest) in
+      let number_is = number-digits 2 s (omega arith) (omega arith) in
+      rw (minute_at (digits 2 s ++ rest), field_at 4 60 s octets (digits 2 s) rest at (length-digits 2 s) number_is seconds) refl
 
   behind_second : (rest : List ℕ) → drop 6 (digits 2 h ++ (digits 2 m ++ (digits 2 s ++ rest))) ≡ rest
   behind_second rest =
@@ -172,7 +181,8 @@ module _ (h m s : ℕ) (clock : IsClock h m s) where
   minutes_read =
       let octets = spelled_minute h m in
       let len : length octets ≡ 4 = simp length-append (rw (length-digits 2 h, length-digits 2 m) refl) in
-      let start : minute_start octets ≡ Some (h * 3_600_000_000 + m * 60_000_000) = ap (λ xs. minute_start (digits 2 h ++ xs)) (sym (append-nil (digits 2 m))) ∙ minute_at [] in
+      let start : minute_start octets ≡ Some (h * 3_600_000_000 + m * 60_000_000) =
+      ap (λ xs. minute_start (digits 2 h ++ xs)) (sym (append-nil (digits 2 m))) ∙ minute_at [] in
       let micros : h * 3_600_000_000 + m * 60_000_000 ≡ micros_at h m 0 = omega arith in
       rw (len, start) (ap (λ n. span_from n 60_000_000) micros)
 
@@ -186,7 +196,8 @@ module _ (h m s : ℕ) (clock : IsClock h m s) where
       let micros : h * 3_600_000_000 + m * 60_000_000 + s * 1_000_000 ≡ micros_at h m s = omega arith in
       rw (len, start) (ap (λ n. span_from n 1_000_000) micros)
 
-  pub fractions_read : (count fraction : ℕ) → 1 ≤ count → count ≤ 6 → fraction < 10 ^ count → span (spelled_fraction h m s count fraction) ≡ span_from (micros_at h m s + fraction * 10 ^ (6 - count)) (10 ^ (6 - count))
+  pub fractions_read : (count fraction : ℕ) → 1 ≤ count → count ≤ 6 → fraction < 10 ^ count
+      → span (spelled_fraction h m s count fraction) ≡ span_from (micros_at h m s + fraction * 10 ^ (6 - count)) (10 ^ (6 - count))
   unfolding span fraction_span
   fractions_read count fraction some few small =
       let octets = spelled_fraction h m s count fraction in
@@ -197,7 +208,8 @@ module _ (h m s : ℕ) (clock : IsClock h m s) where
       let cut : drop 7 octets ≡ digits count fraction = sym (drop-drop 1 6 octets) ∙ ap (drop 1) at_six in
       let micros : h * 3_600_000_000 + m * 60_000_000 + s * 1_000_000 ≡ micros_at h m s = omega arith in
       let unit : unit_of (digits count fraction) ≡ 10 ^ (6 - count) = ap (λ n. 10 ^ (6 - n)) (length-digits count fraction) in
-      fraction_case octets (digits count fraction) (h * 3_600_000_000 + m * 60_000_000 + s * 1_000_000) fraction (omega arith) (omega arith) point cut (second_at behind) (number-digits count fraction (omega arith) small)
+      fraction_case octets (digits count fraction) (h * 3_600_000_000 + m * 60_000_000 + s * 1_000_000) fraction (omega arith) (omega arith) point cut
+      (second_at behind) (number-digits count fraction (omega arith) small)
       ∙ ap (λ u. span_from (h * 3_600_000_000 + m * 60_000_000 + s * 1_000_000 + fraction * u) u) unit
       ∙ ap (λ n. span_from (n + fraction * 10 ^ (6 - count)) (10 ^ (6 - count))) micros
 
@@ -222,7 +234,8 @@ field_only place greatest n octets long e =
     let spelled = spells (take 2 (drop place octets)) 2 n len (read.was ∙ ap Some same) in
     let most : n ≤ greatest = rw same at (nat_le_true read.value greatest fits.test) in
     record {
-      here = sym (take-append-drop 2 (drop place octets)) ∙ ap (λ xs. xs ++ drop 2 (drop place octets)) spelled.is ∙ ap (λ xs. digits 2 n ++ xs) (drop-drop 2 place octets);
+      here = sym (take-append-drop 2 (drop place octets)) ∙ ap (λ xs. xs ++ drop 2 (drop place octets)) spelled.is
+          ∙ ap (λ xs. digits 2 n ++ xs) (drop-drop 2 place octets);
       most = most;
     }
 
@@ -297,7 +310,8 @@ nothing_behind n octets e = empty (drop n octets) (length-drop n octets ∙ ap (
 minute_fields : (octets : List ℕ) (h m : ℕ) → Field 0 23 h octets → Field 2 59 m octets → octets ≡ digits 2 h ++ (digits 2 m ++ drop 4 octets)
 minute_fields octets h m hours minutes = hours.here ∙ ap (λ xs. digits 2 h ++ xs) minutes.here
 
-second_fields : (octets : List ℕ) (h m s : ℕ) → Field 0 23 h octets → Field 2 59 m octets → Field 4 60 s octets → octets ≡ digits 2 h ++ (digits 2 m ++ (digits 2 s ++ drop 6 octets))
+second_fields : (octets : List ℕ) (h m s : ℕ) → Field 0 23 h octets → Field 2 59 m octets → Field 4 60 s octets
+    → octets ≡ digits 2 h ++ (digits 2 m ++ (digits 2 s ++ drop 6 octets))
 second_fields octets h m s hours minutes seconds = minute_fields octets h m hours minutes ∙ ap (λ xs. digits 2 h ++ (digits 2 m ++ xs)) seconds.here
 
 hour_spelled : (octets : List ℕ) (found : Span) → length octets ≡ 2 → hour_span octets ≡ Some found → SpellsTime octets found
@@ -307,25 +321,34 @@ hour_spelled octets found len e =
     let at = hour_only octets start.value (omega arith) start.was in
     let same : octets ≡ digits 2 at.hour = at.hours.here ∙ ap (λ xs. digits 2 at.hour ++ xs) (nothing_behind 2 octets len) ∙ append-nil (digits 2 at.hour) in
     let micros : micros_at at.hour 0 0 ≡ start.value = omega (arith, at.is) in
-    to_hour at.hour (record { hours = at.hours.most; minutes = omega arith; seconds = omega arith }) same (ap (λ n. span_from n 3_600_000_000) micros ∙ start.answer)
+    to_hour at.hour (record { hours = at.hours.most; minutes = omega arith; seconds = omega arith }) same
+    (ap (λ n. span_from n 3_600_000_000) micros ∙ start.answer)
 
 minute_spelled : (octets : List ℕ) (found : Span) → length octets ≡ 4 → minute_span octets ≡ Some found → SpellsTime octets found
 unfolding minute_span
 minute_spelled octets found len e =
     let start = went_on (minute_start octets) _ found e in
     let at = minute_only octets start.value (omega arith) start.was in
-    let same : octets ≡ spelled_minute at.hour at.minute = minute_fields octets at.hour at.minute at.hours at.minutes ∙ ap (λ xs. digits 2 at.hour ++ (digits 2 at.minute ++ xs)) (nothing_behind 4 octets len) ∙ ap (λ xs. digits 2 at.hour ++ xs) (append-nil (digits 2 at.minute)) in
+    let same : octets ≡ spelled_minute at.hour at.minute =
+    minute_fields octets at.hour at.minute at.hours at.minutes
+    ∙ ap (λ xs. digits 2 at.hour ++ (digits 2 at.minute ++ xs)) (nothing_behind 4 octets len)
+    ∙ ap (λ xs. digits 2 at.hour ++ xs) (append-nil (digits 2 at.minute)) in
     let micros : micros_at at.hour at.minute 0 ≡ start.value = omega (arith, at.is) in
-    to_minute at.hour at.minute (record { hours = at.hours.most; minutes = at.minutes.most; seconds = omega arith }) same (ap (λ n. span_from n 60_000_000) micros ∙ start.answer)
+    to_minute at.hour at.minute (record { hours = at.hours.most; minutes = at.minutes.most; seconds = omega arith }) same
+    (ap (λ n. span_from n 60_000_000) micros ∙ start.answer)
 
 second_spelled : (octets : List ℕ) (found : Span) → length octets ≡ 6 → second_span octets ≡ Some found → SpellsTime octets found
 unfolding second_span
 second_spelled octets found len e =
     let start = went_on (second_start octets) _ found e in
     let at = second_only octets start.value (omega arith) start.was in
-    let same : octets ≡ spelled_second at.hour at.minute at.second = second_fields octets at.hour at.minute at.second at.hours at.minutes at.seconds ∙ ap (λ xs. digits 2 at.hour ++ (digits 2 at.minute ++ (digits 2 at.second ++ xs))) (nothing_behind 6 octets len) ∙ ap (λ xs. digits 2 at.hour ++ (digits 2 at.minute ++ xs)) (append-nil (digits 2 at.second)) in
+    let same : octets ≡ spelled_second at.hour at.minute at.second =
+    second_fields octets at.hour at.minute at.second at.hours at.minutes at.seconds
+    ∙ ap (λ xs. digits 2 at.hour ++ (digits 2 at.minute ++ (digits 2 at.second ++ xs))) (nothing_behind 6 octets len)
+    ∙ ap (λ xs. digits 2 at.hour ++ (digits 2 at.minute ++ xs)) (append-nil (digits 2 at.second)) in
     let micros : micros_at at.hour at.minute at.second ≡ start.value = omega (arith, at.is) in
-    to_second at.hour at.minute at.second (record { hours = at.hours.most; minutes = at.minutes.most; seconds = at.seconds.most }) same (ap (λ n. span_from n 1_000_000) micros ∙ start.answer)
+    to_second at.hour at.minute at.second (record { hours = at.hours.most; minutes = at.minutes.most; seconds = at.seconds.most }) same
+    (ap (λ n. span_from n 1_000_000) micros ∙ start.answer)
 
 fraction_spelled : (octets : List ℕ) (found : Span) → has_fraction octets ≡ true → fraction_span octets (drop 7 octets) ≡ Some found → SpellsTime octets found
 unfolding fraction_span
@@ -340,11 +363,15 @@ fraction_spelled octets found has e =
     let count = length octets - 7 in
     let len : length (drop 7 octets) ≡ count = length-drop 7 octets in
     let spelled = spells (drop 7 octets) count parts.value len parts.was in
-    let same : octets ≡ spelled_fraction at.hour at.minute at.second count parts.value = second_fields octets at.hour at.minute at.second at.hours at.minutes at.seconds ∙ ap (λ xs. digits 2 at.hour ++ (digits 2 at.minute ++ (digits 2 at.second ++ xs))) (behind ∙ ap (λ xs. 0x2e ∷ xs) spelled.is) in
+    let same : octets ≡ spelled_fraction at.hour at.minute at.second count parts.value =
+    second_fields octets at.hour at.minute at.second at.hours at.minutes at.seconds
+    ∙ ap (λ xs. digits 2 at.hour ++ (digits 2 at.minute ++ (digits 2 at.second ++ xs))) (behind ∙ ap (λ xs. 0x2e ∷ xs) spelled.is) in
     let micros : micros_at at.hour at.minute at.second ≡ start.value = omega (arith, at.is) in
-    let unit : 10 ^ (6 - count) ≡ unit_of (drop 7 octets) = ap (λ n. 10 ^ (6 - n)) (sym len) in
-    to_fraction at.hour at.minute at.second count parts.value (record { hours = at.hours.most; minutes = at.minutes.most; seconds = at.seconds.most }) (omega arith) (omega arith) spelled.few same
-    (ap (λ n. span_from (n + parts.value * 10 ^ (6 - count)) (10 ^ (6 - count))) micros ∙ ap (λ u. span_from (start.value + parts.value * u) u) unit ∙ parts.answer)
+    let unit : unit_at count ≡ unit_of (drop 7 octets) = ap unit_at (sym len) in
+    let clock : IsClock at.hour at.minute at.second = record { hours = at.hours.most; minutes = at.minutes.most; seconds = at.seconds.most } in
+    to_fraction at.hour at.minute at.second count parts.value clock (omega arith) (omega arith) spelled.few same
+    (ap (λ n. span_from (n + parts.value * unit_at count) (unit_at count)) micros
+    ∙ ap (λ u. span_from (start.value + parts.value * u) u) unit ∙ parts.answer)
 
 chosen : (b : Bool) (x y : Option Span) (found : Span) → cond b x y ≡ Some found → ((b ≡ true) × (x ≡ Some found)) ⊎ (y ≡ Some found)
 chosen true x y found e = inl (refl, e)
@@ -362,7 +389,8 @@ time_only octets found e =
         | inl four ↦ minute_spelled octets found (nat_eq_true (length octets) 4 four.0) four.1
         | inr later ↦ elim (chosen (nat_eq (length octets) 6) (second_span octets) _ found later) [
           | inl six ↦ second_spelled octets found (nat_eq_true (length octets) 6 six.0) six.1
-          | inr last ↦ fraction_spelled octets found (passed (has_fraction octets) (fraction_span octets (drop 7 octets)) found last).test (passed (has_fraction octets) (fraction_span octets (drop 7 octets)) found last).answer
+          | inr last ↦ fraction_spelled octets found (passed (has_fraction octets) (fraction_span octets (drop 7 octets)) found last).test
+              (passed (has_fraction octets) (fraction_span octets (drop 7 octets)) found last).answer
         ]
       ]
     ]

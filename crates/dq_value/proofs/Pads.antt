@@ -7,27 +7,32 @@ unfolding kept_before
 kept_before-push test octet last [] = refl
 kept_before-push test octet last (x ∷ xs) = refl
 
-kept_before-cond : (test : ℕ → Bool) (octet last : ℕ) (xs : List ℕ) (b : Bool) → kept_before test octet (cond b (without_trailing test xs) (xs ++ last ∷ [])) ≡ cond b (without_trailing test (octet ∷ xs)) (octet ∷ (xs ++ last ∷ []))
+kept_before-cond : (test : ℕ → Bool) (octet last : ℕ) (xs : List ℕ) (b : Bool)
+    → kept_before test octet (cond b (without_trailing test xs) (xs ++ last ∷ [])) ≡ cond b (without_trailing test (octet ∷ xs)) (octet ∷ (xs ++ last ∷ []))
 unfolding without_trailing
 kept_before-cond test octet last xs true = refl
 kept_before-cond test octet last xs false = kept_before-push test octet last xs
 
-pub without_trailing-push : (test : ℕ → Bool) (last : ℕ) (xs : List ℕ) → without_trailing test (xs ++ last ∷ []) ≡ cond (test last) (without_trailing test xs) (xs ++ last ∷ [])
+pub without_trailing-push : (test : ℕ → Bool) (last : ℕ) (xs : List ℕ)
+    → without_trailing test (xs ++ last ∷ []) ≡ cond (test last) (without_trailing test xs) (xs ++ last ∷ [])
 unfolding without_trailing kept_before
 without_trailing-push test last [] = refl
 without_trailing-push test last (x ∷ xs) = rw (without_trailing-push test last xs) (kept_before-cond test x last xs (test last))
 
-pub pad_taken : (kept others octets : List ℕ) (last : ℕ) → kept ≡ others ++ last ∷ [] → is_pad last ≡ true → without_trailing is_pad kept ≡ without_trailing is_pad octets → without_trailing is_pad others ≡ without_trailing is_pad octets
+pub pad_taken : (kept others octets : List ℕ) (last : ℕ) → kept ≡ others ++ last ∷ [] → is_pad last ≡ true
+    → without_trailing is_pad kept ≡ without_trailing is_pad octets → without_trailing is_pad others ≡ without_trailing is_pad octets
 pad_taken kept others octets last cut pad same =
     sym (without_trailing-push is_pad last others ∙ ap (λ b. cond b (without_trailing is_pad others) (others ++ last ∷ [])) pad)
     ∙ ap (without_trailing is_pad) (sym cut) ∙ same
 
-pub no_pad_left : (kept others octets : List ℕ) (last : ℕ) → kept ≡ others ++ last ∷ [] → is_pad last ≡ false → without_trailing is_pad kept ≡ without_trailing is_pad octets → kept ≡ without_trailing is_pad octets
+pub no_pad_left : (kept others octets : List ℕ) (last : ℕ) → kept ≡ others ++ last ∷ [] → is_pad last ≡ false
+    → without_trailing is_pad kept ≡ without_trailing is_pad octets → kept ≡ without_trailing is_pad octets
 no_pad_left kept others octets last cut pad same =
     cut ∙ sym (without_trailing-push is_pad last others ∙ ap (λ b. cond b (without_trailing is_pad others) (others ++ last ∷ [])) pad)
     ∙ ap (without_trailing is_pad) (sym cut) ∙ same
 
-pub nothing_left : (kept octets : List ℕ) → length kept ≡ 0 → without_trailing is_pad kept ≡ without_trailing is_pad octets → kept ≡ without_trailing is_pad octets
+pub nothing_left : (kept octets : List ℕ) → length kept ≡ 0 → without_trailing is_pad kept ≡ without_trailing is_pad octets
+    → kept ≡ without_trailing is_pad octets
 unfolding without_trailing
 nothing_left [] octets none same = same
 nothing_left (x ∷ kept) octets none same = absurd (omega arith)

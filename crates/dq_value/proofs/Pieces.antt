@@ -6,7 +6,9 @@ use Rattle.dq_vr.specs.declared.Vr.{Vr}
 use Rattle.dq_value.specs.Range.{halves, behind}
 use Rattle.dq_value.specs.Parts.{pieces, joined, has_separator, pieces_of, pieces_left}
 
-position-case : (b : Bool) (n len : ℕ) → cond (nat_lt (cond (not b) (1 + n) 0) (suc len)) (Some (cond (not b) (1 + n) 0)) None ≡ cond b (Some 0) (option_map suc (cond (nat_lt n len) (Some n) None))
+position-case : (b : Bool) (n len : ℕ)
+    → cond (nat_lt (cond (not b) (1 + n) 0) (suc len)) (Some (cond (not b) (1 + n) 0)) None
+    ≡ cond b (Some 0) (option_map suc (cond (nat_lt n len) (Some n) None))
 position-case true n len = grind (arith, nat_tests)
 position-case false n len = grind (arith, nat_tests)
 
@@ -17,7 +19,8 @@ abbrev pub halves_at : List ℕ → Option ℕ → Option (List ℕ × List ℕ)
 halves_at xs None = None
 halves_at xs (Some i) = Some (take i xs, drop (suc i) xs)
 
-halves_at-case : (b : Bool) (x : ℕ) (xs : List ℕ) (at : Option ℕ) → cond b (Some ([], xs)) (behind x (halves_at xs at)) ≡ halves_at (x ∷ xs) (cond b (Some 0) (option_map suc at))
+halves_at-case : (b : Bool) (x : ℕ) (xs : List ℕ) (at : Option ℕ)
+    → cond b (Some ([], xs)) (behind x (halves_at xs at)) ≡ halves_at (x ∷ xs) (cond b (Some 0) (option_map suc at))
 unfolding behind
 halves_at-case true x xs at = refl
 halves_at-case false x xs None = refl
@@ -33,10 +36,12 @@ halves-position separator (x ∷ xs) =
 pub no_halves : (separator : ℕ) (xs : List ℕ) → position (λ octet. octet == separator) xs ≡ None → halves separator xs ≡ None
 no_halves separator xs e = halves-position separator xs ∙ ap (halves_at xs) e
 
-pub halves_found : (separator : ℕ) (xs : List ℕ) (i : ℕ) → position (λ octet. octet == separator) xs ≡ Some i → halves separator xs ≡ Some (take i xs, drop (suc i) xs)
+pub halves_found : (separator : ℕ) (xs : List ℕ) (i : ℕ) → position (λ octet. octet == separator) xs ≡ Some i
+    → halves separator xs ≡ Some (take i xs, drop (suc i) xs)
 halves_found separator xs i e = halves-position separator xs ∙ ap (halves_at xs) e
 
-pub halves_cut : (separator : ℕ) (xs before others rest : List ℕ) (i : ℕ) → Some i ≡ position (λ octet. octet == separator) xs → before ≡ take i xs → others ≡ drop i xs → rest ≡ drop 1 others → Some (before, rest) ≡ halves separator xs
+pub halves_cut : (separator : ℕ) (xs before others rest : List ℕ) (i : ℕ) → Some i ≡ position (λ octet. octet == separator) xs → before ≡ take i xs
+    → others ≡ drop i xs → rest ≡ drop 1 others → Some (before, rest) ≡ halves separator xs
 halves_cut separator xs before others rest i at e f g =
     let behind_it : drop 1 (drop i xs) ≡ drop (suc i) xs = drop-drop 1 i xs ∙ ap (λ n. drop n xs) (add-one i) in
     sym (halves_found separator xs i (sym at) ∙ rw (e, g, f, behind_it) refl)
@@ -46,7 +51,8 @@ abbrev pub pieces_at : ℕ → List ℕ → Option (List ℕ × List ℕ) → Li
 pieces_at separator xs None = xs ∷ []
 pieces_at separator xs (Some h) = h.0 ∷ pieces separator h.1
 
-pieces-case : (b : Bool) (separator x : ℕ) (xs : List ℕ) (h : Option (List ℕ × List ℕ)) → cond b ([] ∷ pieces separator xs) (joined x (pieces_at separator xs h)) ≡ pieces_at separator (x ∷ xs) (cond b (Some ([], xs)) (behind x h))
+pieces-case : (b : Bool) (separator x : ℕ) (xs : List ℕ) (h : Option (List ℕ × List ℕ))
+    → cond b ([] ∷ pieces separator xs) (joined x (pieces_at separator xs h)) ≡ pieces_at separator (x ∷ xs) (cond b (Some ([], xs)) (behind x h))
 unfolding joined behind
 pieces-case true separator x xs h = refl
 pieces-case false separator x xs None = refl
@@ -68,6 +74,7 @@ pub last_piece : (vr : Vr) (octets : List ℕ) → has_separator vr ≡ true →
 unfolding pieces_of pieces_left
 last_piece vr octets splits none = rw splits (pieces-halves 0x5c octets ∙ ap (pieces_at 0x5c octets) (sym none))
 
-pub next_piece : (vr : Vr) (octets piece others : List ℕ) → has_separator vr ≡ true → Some (piece, others) ≡ halves 0x5c octets → pieces_of vr octets ≡ piece ∷ pieces_left vr (Some others)
+pub next_piece : (vr : Vr) (octets piece others : List ℕ) → has_separator vr ≡ true → Some (piece, others) ≡ halves 0x5c octets
+    → pieces_of vr octets ≡ piece ∷ pieces_left vr (Some others)
 unfolding pieces_of pieces_left
 next_piece vr octets piece others splits some = rw splits (pieces-halves 0x5c octets ∙ ap (pieces_at 0x5c octets) (sym some))

@@ -23,7 +23,8 @@ strips title =
     record {
       before = front.before;
       after = behind.after;
-      whole = behind.whole ∙ ap (λ ys. ys ++ behind.after) front.whole ∙ append_assoc front.before (without_leading is_space (without_trailing is_space title)) behind.after;
+      whole = behind.whole ∙ ap (λ ys. ys ++ behind.after) front.whole
+          ∙ append_assoc front.before (without_leading is_space (without_trailing is_space title)) behind.after;
       spaces_before = front.all;
       spaces_after = behind.all;
       no_space_first = first_kept is_space (without_trailing is_space title);
@@ -59,7 +60,8 @@ last_after (y ∷ z ∷ before) kept x h = last_after (z ∷ before) kept x h
 cleared : (before kept : List ℕ) → list_all is_space before ≡ true → first_is is_space kept ≡ false → last_is is_space kept ≡ false
     → without_leading is_space (without_trailing is_space (before ++ kept)) ≡ kept
 unfolding without_leading
-cleared before [] spaces first last = ap (λ ys. without_leading is_space (without_trailing is_space ys)) (append-nil before) ∙ ap (without_leading is_space) (all_taken before spaces)
+cleared before [] spaces first last =
+    ap (λ ys. without_leading is_space (without_trailing is_space ys)) (append-nil before) ∙ ap (without_leading is_space) (all_taken before spaces)
 cleared before (x ∷ kept) spaces first last =
     ap (without_leading is_space) (trailing_same is_space (before ++ x ∷ kept) (last_after before kept x last))
     ∙ leading_taken before (x ∷ kept) spaces

@@ -18,7 +18,8 @@ number_after-push : (before x : ℕ) (xs : List ℕ) → number_after before (xs
 unfolding number_after
 number_after-push before x [] = refl
 number_after-push before x (y ∷ ys) =
-    push-case (is_digit y) x (number_after (10 * before + (y - 48)) ys) (number_after (10 * before + (y - 48)) (ys ++ x ∷ [])) (number_after-push (10 * before + (y - 48)) x ys)
+    push-case (is_digit y) x (number_after (10 * before + (y - 48)) ys) (number_after (10 * before + (y - 48)) (ys ++ x ∷ []))
+    (number_after-push (10 * before + (y - 48)) x ys)
 
 with_last : (n r : ℕ) → r < 10 → with_digit (48 + r) (Some n) ≡ Some (10 * n + r)
 with_last n r small =
@@ -68,7 +69,9 @@ first_digit m before x e low high = omega arith
 digits_before : (m before x : ℕ) → m ≡ 10 * before + (x - 48) → 48 ≤ x → x ≤ 57 → m / 10 ≡ before
 digits_before m before x e low high = omega arith
 
-only-case : (b : Bool) (x before n : ℕ) (xs : List ℕ) → is_digit x ≡ b → (number_after (10 * before + (x - 48)) xs ≡ Some n → AreDigits xs (10 * before + (x - 48)) n) → cond b (number_after (10 * before + (x - 48)) xs) None ≡ Some n → AreDigits (x ∷ xs) before n
+only-case : (b : Bool) (x before n : ℕ) (xs : List ℕ) → is_digit x ≡ b
+    → (number_after (10 * before + (x - 48)) xs ≡ Some n → AreDigits xs (10 * before + (x - 48)) n)
+    → cond b (number_after (10 * before + (x - 48)) xs) None ≡ Some n → AreDigits (x ∷ xs) before n
 only-case false x before n xs shown inner e = absurd (cc)
 only-case true x before n xs shown inner e =
     let low : 48 ≤ x = grind (arith, nat_tests) in

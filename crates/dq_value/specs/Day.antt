@@ -14,7 +14,8 @@ ymd_of date = (date.year, date.month, date.day)
 -- the Gregorian calendar, from the year 0000 on, has the day
 abbrev pub is_in_calendar : Ymd → Bool
 is_in_calendar date =
-    (nat_le 1 date.1 && nat_le date.1 12) && (nat_le 1 date.2 && nat_le date.2 (days_in_month date.0 date.1))
+    (nat_le 1 date.1 && nat_le date.1 12)
+    && (nat_le 1 date.2 && nat_le date.2 (days_in_month date.0 date.1))
 
 -- four digits of the year, two of the month and two of the day
 unfoldable pub digits_of_date : List ℕ → Option Ymd

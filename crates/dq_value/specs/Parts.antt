@@ -6,8 +6,8 @@ use Rattle.dq_vr.specs.declared.Vr.TheVariants.{LT, ST, UT, UR, UI}
 use Rattle.dq_vr.specs.Vr.{is_text}
 use Rattle.dq_value.specs.Trimming.{trimmed}
 
--- a backslash, 5CH, stands between values (PS3.5 section 6.4): in UI, and in character strings but for
--- LT, ST, UT and UR, whose one value may hold it
+-- a backslash, 5CH, stands between values (PS3.5 section 6.4): in UI, and in character strings but
+-- for LT, ST, UT and UR, whose one value may hold it
 unfoldable pub has_separator : Vr → Bool
 has_separator UI = true
 has_separator LT = false
@@ -25,7 +25,8 @@ joined octet (piece ∷ pieces) = (octet ∷ piece) ∷ pieces
 unfoldable pub pieces : ℕ → List ℕ → List (List ℕ)
 pieces separator [] = [] ∷ []
 pieces separator (octet ∷ others) =
-    if nat_eq octet separator then [] ∷ pieces separator others else joined octet (pieces separator others)
+    if nat_eq octet separator then [] ∷ pieces separator others
+    else joined octet (pieces separator others)
 
 -- the values as they stand, padding included, where there are any
 unfoldable pub pieces_of : Vr → List ℕ → List (List ℕ)
@@ -42,9 +43,11 @@ parts_left vr rest = map (trimmed vr) (pieces_left vr rest)
 
 -- the values of an element: none where nothing but padding is there, else each piece, trimmed
 unfoldable pub parts : Vr → List ℕ → List (List ℕ)
-parts vr octets = if length (trimmed vr octets) == 0 then [] else map (trimmed vr) (pieces_of vr octets)
+parts vr octets =
+    if length (trimmed vr octets) == 0 then [] else map (trimmed vr) (pieces_of vr octets)
 
--- a list of pieces is a parting of the octets: joined by the separator they are the octets, and none holds it
+-- a list of pieces is a parting of the octets: joined by the separator they are the octets, and
+-- none holds it
 pub record IsParting (separator : ℕ) (octets : List ℕ) (found : List (List ℕ)) : Type 0 where
   pub whole : join_with_byte separator found ≡ octets
   pub some : 0 < length found

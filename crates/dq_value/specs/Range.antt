@@ -32,13 +32,15 @@ Ends = Option (List ℕ) × Option (List ℕ)
 unfoldable pub ends_of_halves : Option (List ℕ × List ℕ) → Option Ends
 ends_of_halves None = None
 ends_of_halves (Some h) =
-    if list_any is_hyphen h.1 || (is_empty h.0 && is_empty h.1) then None else Some (end_of h.0, end_of h.1)
+    if list_any is_hyphen h.1 || (is_empty h.0 && is_empty h.1) then None
+    else Some (end_of h.0, end_of h.1)
 
 -- the ends round the only hyphen
 unfoldable pub ends : List ℕ → Option Ends
 ends octets = ends_of_halves (halves 0x2d octets)
 
--- a text is a range from one text to another: a hyphen between them, none in them, and not both empty
+-- a text is a range from one text to another: a hyphen between them, none in them, and not both
+-- empty
 pub record IsRange (octets from to : List ℕ) : Type 0 where
   pub whole : octets ≡ from ++ 0x2d ∷ to
   pub before : list_any is_hyphen from ≡ false

@@ -1,5 +1,5 @@
--- A time, VR TM: HH, HHMM, HHMMSS or HHMMSS.F with one to six digits F (PS3.5 table 6.2-1). What is left out
--- at the end may be anything, so that a time is a span of microseconds of the day.
+-- A time, VR TM: HH, HHMM, HHMMSS or HHMMSS.F with one to six digits F (PS3.5 table 6.2-1). What is
+-- left out at the end may be anything, so that a time is a span of microseconds of the day.
 use Rattle.std.specs.Prelude.{◌≡◌, ◌≤◌, ◌<◌, ◌++◌, ◌∷◌, ℕ, ◌+◌, ◌-◌, ◌*◌, ◌^◌, Bool, List, length, take, drop, slice_index, Option, Some, None, nat_eq, nat_le, ◌&&◌, if◌then◌else◌}
 use Rattle.dq_value.specs.Digits.{number, digits, ◌>>=◌}
 
@@ -34,9 +34,12 @@ second_start octets = do
   second ← field 4 60 octets
   Some (start + second * 1_000_000)
 
--- how many microseconds the last digit of a fraction stands for
+-- how many microseconds the last of so many digits of a fraction stands for
+abbrev pub unit_at : ℕ → ℕ
+unit_at count = 10 ^ (6 - count)
+
 abbrev pub unit_of : List ℕ → ℕ
-unit_of fraction = 10 ^ (6 - length fraction)
+unit_of fraction = unit_at (length fraction)
 
 -- the span that HH, HHMM, HHMMSS or HHMMSS.F names
 unfoldable pub hour_span : List ℕ → Option Span
@@ -62,7 +65,8 @@ fraction_span octets fraction = do
 
 -- a point and one to six digits behind HHMMSS
 abbrev pub has_fraction : List ℕ → Bool
-has_fraction octets = (nat_le 8 (length octets) && nat_le (length octets) 13) && nat_eq (slice_index octets 6) 0x2e
+has_fraction octets =
+    (nat_le 8 (length octets) && nat_le (length octets) 13) && nat_eq (slice_index octets 6) 0x2e
 
 -- the span that a time names, by its length
 unfoldable pub span : List ℕ → Option Span
@@ -93,15 +97,18 @@ abbrev pub spelled_fraction : ℕ → ℕ → ℕ → ℕ → ℕ → List ℕ
 spelled_fraction hour minute second count fraction =
     digits 2 hour ++ (digits 2 minute ++ (digits 2 second ++ 0x2e ∷ digits count fraction))
 
--- octets spell a time, to the hour, the minute, the second or one of the digits behind it, which is a span
+-- octets spell a time, to the hour, the minute, the second or one of the digits behind it, and the
+-- time is a span
 pub data SpellsTime (octets : List ℕ) (found : Span) : Type 0 where
   to_hour : (hour : ℕ) → IsClock hour 0 0 → octets ≡ digits 2 hour
       → span_from (micros_at hour 0 0) 3_600_000_000 ≡ Some found → SpellsTime octets found
   to_minute : (hour minute : ℕ) → IsClock hour minute 0 → octets ≡ spelled_minute hour minute
       → span_from (micros_at hour minute 0) 60_000_000 ≡ Some found → SpellsTime octets found
-  to_second : (hour minute second : ℕ) → IsClock hour minute second → octets ≡ spelled_second hour minute second
+  to_second : (hour minute second : ℕ) → IsClock hour minute second
+      → octets ≡ spelled_second hour minute second
       → span_from (micros_at hour minute second) 1_000_000 ≡ Some found → SpellsTime octets found
   to_fraction : (hour minute second count fraction : ℕ) → IsClock hour minute second
-      → 1 ≤ count → count ≤ 6 → fraction < 10 ^ count → octets ≡ spelled_fraction hour minute second count fraction
-      → span_from (micros_at hour minute second + fraction * 10 ^ (6 - count)) (10 ^ (6 - count)) ≡ Some found
-      → SpellsTime octets found
+      → 1 ≤ count → count ≤ 6 → fraction < 10 ^ count
+      → octets ≡ spelled_fraction hour minute second count fraction
+      → span_from (micros_at hour minute second + fraction * unit_at count) (unit_at count)
+      ≡ Some found → SpellsTime octets found

@@ -1,4 +1,5 @@
--- An application entity title without the spaces at its ends, which have no meaning (PS3.5 table 6.2-1, AE).
+-- An application entity title without the spaces at its ends, which have no meaning (PS3.5 table
+-- 6.2-1, AE).
 use Rattle.std.specs.Prelude.{◌≡◌, ℕ, true, false, List, ◌++◌}
 use Rattle.std.specs.List.{list_all}
 use Rattle.dq_value.specs.Trimming.{is_space, without_leading, without_trailing, first_is, last_is}

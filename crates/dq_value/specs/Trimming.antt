@@ -30,7 +30,8 @@ is_pad octet = nat_eq octet 0x20 || nat_eq octet 0
 -- the octets from the first that fails the test on
 unfoldable pub without_leading : (ℕ → Bool) → List ℕ → List ℕ
 without_leading test [] = []
-without_leading test (octet ∷ others) = if test octet then without_leading test others else octet ∷ others
+without_leading test (octet ∷ others) =
+    if test octet then without_leading test others else octet ∷ others
 
 -- an octet is kept before another that is, and at the end where it fails the test
 unfoldable pub kept_before : (ℕ → Bool) → ℕ → List ℕ → List ℕ
@@ -49,7 +50,8 @@ unpadded vr octets = if is_padded vr then without_trailing is_pad octets else oc
 -- a value without padding at its end, and without leading spaces where they are not significant
 unfoldable pub trimmed : Vr → List ℕ → List ℕ
 trimmed vr octets =
-    if ignores_leading_spaces vr then without_leading is_space (unpadded vr octets) else unpadded vr octets
+    if ignores_leading_spaces vr then without_leading is_space (unpadded vr octets)
+    else unpadded vr octets
 
 -- the first octet, or the last, passes the test
 abbrev pub first_is : (ℕ → Bool) → List ℕ → Bool
@@ -61,8 +63,8 @@ last_is test [] = false
 last_is test (octet ∷ []) = test octet
 last_is test (octet ∷ (next ∷ others)) = last_is test (next ∷ others)
 
--- what is kept of a value: all but spaces before it, where leading ones have no meaning, and pads behind it,
--- where it is padded, and none of those is left
+-- what is kept of a value: all but spaces before it, where leading ones have no meaning, and pads
+-- behind it, where it is padded, and none of those is left
 pub record IsTrimming (leading padded : Bool) (octets kept : List ℕ) : Type 0 where
   pub before : List ℕ
   pub after : List ℕ

@@ -9,4 +9,5 @@ is_uid_octet octet = is_digit octet || nat_eq octet 0x2e
 
 -- 1 to 64 octets of digits and points
 unfoldable pub is_uid : List ℕ → Bool
-is_uid octets = (nat_le 1 (length octets) && nat_le (length octets) 64) && list_all is_uid_octet octets
+is_uid octets =
+    (nat_le 1 (length octets) && nat_le (length octets) 64) && list_all is_uid_octet octets

@@ -5,8 +5,9 @@ ghost use Rattle.dq_value.specs.Day.{Ymd, SpellsDate, ymd_of, date_in, day};
 use crate::digits::number;
 use jiff::civil::Date;
 
-/// The date that a DA value names (PS3.5 section 6.2): eight digits YYYYMMDD of a day of the Gregorian
-/// calendar, from 0000-01-01 to 9999-12-31. The year 0000 is a leap year. Spaces are no part of a date.
+/// The date that a DA value names (PS3.5 section 6.2): eight digits YYYYMMDD of a day of the
+/// Gregorian calendar, from 0000-01-01 to 9999-12-31. The year 0000 is a leap year. Spaces are no
+/// part of a date.
 #[tactic(auto, unfolding(crate::specs::Day::date_in, crate::specs::Day::digits_of_date, crate::specs::Day::day))]
 pub fn date_of(octets: &[u8]) -> Option<Date>
     ensures ymd { option_map ymd_of result ≡ date_in octets.now }
@@ -25,6 +26,8 @@ pub fn date_of(octets: &[u8]) -> Option<Date>
 
 /// A date is read from its digits YYYYMMDD, and from nothing else.
 pub fn date_law()
-    ensures read { (octets : List ℕ) (date : Ymd) → SpellsDate octets date → date_in octets ≡ Some date }
-    ensures only { (octets : List ℕ) (date : Ymd) → date_in octets ≡ Some date → SpellsDate octets date }
+    ensures read { (octets : List ℕ) (date : Ymd) → SpellsDate octets date
+        → date_in octets ≡ Some date }
+    ensures only { (octets : List ℕ) (date : Ymd) → date_in octets ≡ Some date
+        → SpellsDate octets date }
 {}

@@ -21,8 +21,9 @@ impl<'a> Model for Parts<'a> {
     ghost view = { λ p. parts_left p.vr (option_copied p.rest) };
 }
 
-/// The values that the octets of an element hold (PS3.5 section 6.4): none where nothing but padding is
-/// there, else the pieces between backslashes where the VR has several values, each trimmed.
+/// The values that the octets of an element hold (PS3.5 section 6.4): none where nothing but
+/// padding is there, else the pieces between backslashes where the VR has several values, each
+/// trimmed.
 #[tactic(auto, unfolding(crate::specs::Parts::parts, crate::specs::Parts::parts_left, crate::specs::Parts::pieces_left))]
 pub fn values(vr: Vr, octets: &[u8]) -> Parts<'_>
     ensures { result ≡ parts vr octets.now }

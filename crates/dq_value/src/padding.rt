@@ -5,8 +5,8 @@ ghost use Rattle.dq_value.specs.Trimming.{is_padded, ignores_leading_spaces, is_
 use dq_vr::Vr;
 
 /// A value without the padding at its end, spaces and 00H, and without its leading spaces where the
-/// VR gives them no meaning (PS3.5 section 6.2). Values of other VRs than the character strings and UI
-/// stay as they are.
+/// VR gives them no meaning (PS3.5 section 6.2). Values of other VRs than the character strings and
+/// UI stay as they are.
 #[tactic(auto, unfolding(crate::specs::Trimming::trimmed, crate::specs::Trimming::unpadded))]
 pub fn trimmed(vr: Vr, octets: &[u8]) -> &[u8]
     ensures { result.now ≡ trimmed vr octets.now }
@@ -27,7 +27,8 @@ pub fn trimmed(vr: Vr, octets: &[u8]) -> &[u8]
 pub fn trimming_law()
     ensures trims { (vr : Vr) (octets : List ℕ)
         → IsTrimming (ignores_leading_spaces vr) (is_padded vr) octets (trimmed vr octets) }
-    ensures again { (vr : Vr) (octets : List ℕ) → trimmed vr (trimmed vr octets) ≡ trimmed vr octets }
+    ensures again { (vr : Vr) (octets : List ℕ)
+        → trimmed vr (trimmed vr octets) ≡ trimmed vr octets }
 {}
 
 #[tactic(auto, unfolding(crate::specs::Trimming::is_padded))]

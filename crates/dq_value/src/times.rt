@@ -9,9 +9,9 @@ const MINUTE: u64 = 60_000_000;
 
 const SECOND: u64 = 1_000_000;
 
-/// The first and the last microsecond of the day that a TM value names (PS3.5 section 6.2): HH, HHMM,
-/// HHMMSS or HHMMSS.F with one to six digits F, hours to 23, minutes to 59, seconds to 60. What is left
-/// out at the end may be anything: 0900 is the whole minute.
+/// The first and the last microsecond of the day that a TM value names (PS3.5 section 6.2): HH,
+/// HHMM, HHMMSS or HHMMSS.F with one to six digits F, hours to 23, minutes to 59, seconds to 60.
+/// What is left out at the end may be anything: 0900 is the whole minute.
 #[tactic(auto, unfolding(crate::specs::Time::span, crate::specs::Time::hour_span, crate::specs::Time::minute_span, crate::specs::Time::second_span))]
 pub fn time_of(octets: &[u8]) -> Option<(u64, u64)>
     ensures { result ≡ span octets.now }
@@ -27,8 +27,10 @@ pub fn time_of(octets: &[u8]) -> Option<(u64, u64)>
 
 /// A time is read as its span from its digits, and from nothing else.
 pub fn time_law()
-    ensures read { (octets : List ℕ) (found : Span) → SpellsTime octets found → span octets ≡ Some found }
-    ensures only { (octets : List ℕ) (found : Span) → span octets ≡ Some found → SpellsTime octets found }
+    ensures read { (octets : List ℕ) (found : Span) → SpellsTime octets found
+        → span octets ≡ Some found }
+    ensures only { (octets : List ℕ) (found : Span) → span octets ≡ Some found
+        → SpellsTime octets found }
 {}
 
 fn span_from(first: u64, length: u64) -> (u64, u64)

@@ -6,4 +6,5 @@ pub overflow_mul-number : goal.overflow_mul-number
 overflow_mul-number c = omega (arith, one_more_fits c.loop-octet.number 0 c.loop-octet.octet-index c.loop-octet.invariant.bound (omega arith) (omega arith))
 
 pub overflow_add-number : goal.overflow_add-number
-overflow_add-number c = omega (arith, one_more_fits c.loop-octet.number c.from.result c.loop-octet.octet-index c.loop-octet.invariant.bound (omega arith) (omega arith))
+overflow_add-number c =
+    omega (arith, one_more_fits c.loop-octet.number c.from.result c.loop-octet.octet-index c.loop-octet.invariant.bound (omega arith) (omega arith))

@@ -10,4 +10,5 @@ returns-in_err-at c =
 
 pub returns : goal.returns
 returns c =
-    halves_cut c.args.separator c.args.octets.now c.split_at.result.0.now c.split_at.result.1.now c.split_at-2.result.1.now c.in_ok-at.at c.in_ok-at.ensures c.split_at.ensures.front c.split_at.ensures.back c.split_at-2.ensures.back
+    halves_cut c.args.separator c.args.octets.now c.split_at.result.0.now c.split_at.result.1.now c.split_at-2.result.1.now c.in_ok-at.at c.in_ok-at.ensures
+    c.split_at.ensures.front c.split_at.ensures.back c.split_at-2.ensures.back
