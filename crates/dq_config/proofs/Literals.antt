@@ -9,5 +9,6 @@ use Rattle.dq_config.specs.Conditions.{configuration, is_name, is_name_octet, is
 use Rattle.dq_config.specs.Routing.{joins, has_route}
 
 pub built_in_spelled : configuration BUILT_IN.now ≡ Ok built_in
-unfolding configuration toml_on_literals without_leading without_trailing kept_before stripped string_at integer_at array_at limit_at table_of built_in is_name is_name_octet is_title is_title_octet is_limit is_association_limit is_name_taken is_route_taken joins has_route
+unfolding configuration toml_on_literals without_leading without_trailing kept_before stripped string_at integer_at array_at limit_at table_of built_in is_name
+    is_name_octet is_title is_title_octet is_limit is_association_limit is_name_taken is_route_taken joins has_route
 built_in_spelled = refl

@@ -1,8 +1,8 @@
 -- What follows for institutions that meet all conditions.
-use Rattle.std.proofs.Common.{◌≡◌, ◌≢◌, ℕ, zero, suc, ◌<◌, Bool, true, false, not, ◌&&◌, ◌||◌, cond, List, [], ◌∷◌, ◌++◌, length, get_or, Option, Some, None, refl, sym, ap, ◌∙◌, arith}
+use Rattle.std.proofs.Common.{◌≡◌, ◌≢◌, ℕ, zero, suc, ◌<◌, Bool, true, false, not, ◌||◌, cond, List, [], ◌∷◌, ◌++◌, length, get_or, Option, Some, None, refl, sym, ap, ◌∙◌, arith}
 use Rattle.std.specs.Prelude.{IsTrue, Contains, AllPairs, find, is_none}
 use Rattle.std.specs.List.{list_any}
-use Rattle.std.proofs.lemmas.Bool.{false≢true}
+use Rattle.std.proofs.lemmas.Bool.{false≢true, and_parts, or_parts, not-true}
 use Rattle.std.proofs.lemmas.List.Folds.{list_any-append}
 use Rattle.std.proofs.lemmas.List.Kept.{AllPairs-cons}
 use Rattle.std.proofs.lemmas.Slice.Eq.{bytes_eq-Decides}
@@ -19,7 +19,8 @@ record AreBoth (xs ys : List Condition) : Type 0 where
   first : first_fault xs ≡ None
   second : first_fault ys ≡ None
 
-both-case : (b : Bool) (fault : ConfigFault) (xs ys : List Condition) → cond b (first_fault (xs ++ ys)) (Some fault) ≡ None → (first_fault (xs ++ ys) ≡ None → AreBoth xs ys)
+both-case : (b : Bool) (fault : ConfigFault) (xs ys : List Condition) → cond b (first_fault (xs ++ ys)) (Some fault) ≡ None
+    → (first_fault (xs ++ ys) ≡ None → AreBoth xs ys)
     → (cond b (first_fault xs) (Some fault) ≡ None) × (first_fault ys ≡ None)
 both-case true fault xs ys h rest = let parts = rest h in (parts.first, parts.second)
 both-case false fault xs ys h rest = cc
@@ -43,28 +44,20 @@ record Meets (before : List Institution) (x : Institution) : Type 0 where
   routes : first_fault (routes_conditions before [] x.routes) ≡ None
   limits : first_fault (limit_conditions x) ≡ None
 
-unnot : (b : Bool) → not b ≡ true → b ≡ false
-unnot true h = sym h
-unnot false h = refl
-
 meets : (before : List Institution) (x : Institution) → first_fault (institution_conditions before x) ≡ None → Meets before x
 meets before x h =
     let others : List Condition = routes_conditions before [] x.routes ++ limit_conditions x in
     let name : Condition = (not (is_name_taken before x.name), NameTaken) in
     let free = met name others (met (is_name x.name, BadName) (name ∷ others) h).1 in
     let rest = both (routes_conditions before [] x.routes) (limit_conditions x) free.1 in
-    record { free = unnot _ free.0; routes = rest.first; limits = rest.second }
+    record { free = not-true _ free.0; routes = rest.first; limits = rest.second }
 
 -- no one of a front and of a back where no one is of both
-or_false : (a b : Bool) → (a || b) ≡ false → (a ≡ false) × (b ≡ false)
-or_false true b h = absurd (false≢true (sym h))
-or_false false b h = (refl, h)
-
 none_of : (p : Institution → Bool) (xs ys : List Institution) → list_any p (xs ++ ys) ≡ false → (list_any p xs ≡ false) × (list_any p ys ≡ false)
-none_of p xs ys h = or_false (list_any p xs) (list_any p ys) (sym (list_any-append p xs ys) ∙ h)
+none_of p xs ys h = or_parts (list_any p xs) (list_any p ys) (sym (list_any-append p xs ys) ∙ h)
 
 none_last : (p : Institution → Bool) (xs : List Institution) (y : Institution) → list_any p (xs ++ y ∷ []) ≡ false → p y ≡ false
-none_last p xs y h = (or_false (p y) false ((none_of p xs (y ∷ []) h).1)).0
+none_last p xs y h = (or_parts (p y) false ((none_of p xs (y ∷ []) h).1)).0
 
 -- a test that only one institution can pass: where it passes one that meets its conditions, it passes none before
 abbrev Fresh : (Institution → Bool) → Type 0
@@ -78,25 +71,23 @@ unfolding is_name_taken
 fresh_name name before x given here =
     ap (λ taken. list_any (is_of_name taken) before) (sym ((bytes_eq-Decides x.name name).0 here)) ∙ given.free
 
-and_true : (a b : Bool) → (a && b) ≡ true → (a ≡ true) × (b ≡ true)
-and_true true b h = (refl, h)
-and_true false b h = absurd (false≢true h)
-
 joined : (called calling : List ℕ) (route : Route) → joins called calling route ≡ true → (route.called ≡ called) × (route.calling ≡ calling)
 unfolding joins
 joined called calling route h =
-    let parts = and_true (same_octets route.called called) (same_octets route.calling calling) h in
+    let parts = and_parts (same_octets route.called called) (same_octets route.calling calling) h in
     ((bytes_eq-Decides route.called called).0 parts.0, (bytes_eq-Decides route.calling calling).0 parts.1)
 
-untaken : (before : List Institution) (done : List Route) (route : Route) → first_fault (route_conditions before done route) ≡ None → list_any (has_route route.called route.calling) before ≡ false
+untaken : (before : List Institution) (done : List Route) (route : Route) → first_fault (route_conditions before done route) ≡ None
+    → list_any (has_route route.called route.calling) before ≡ false
 unfolding is_route_taken
 untaken before done route h =
     let calling : Condition = (is_title route.calling, BadTitle) in
     let taken : Condition = (not (is_route_taken before done route), RouteTaken) in
     let free = met taken [] (met calling (taken ∷ []) (met (is_title route.called, BadTitle) (calling ∷ taken ∷ []) h).1).1 in
-    (or_false (list_any (has_route route.called route.calling) before) (list_any (joins route.called route.calling) done) (unnot _ free.0)).0
+    (or_parts (list_any (has_route route.called route.calling) before) (list_any (joins route.called route.calling) done) (not-true _ free.0)).0
 
-routes_free-case : (b : Bool) (called calling : List ℕ) (before : List Institution) (done : List Route) (route : Route) (routes : List Route) → joins called calling route ≡ b
+routes_free-case : (b : Bool) (called calling : List ℕ) (before : List Institution) (done : List Route) (route : Route) (routes : List Route)
+    → joins called calling route ≡ b
     → first_fault (route_conditions before done route) ≡ None → (b || list_any (joins called calling) routes) ≡ true
     → (list_any (joins called calling) routes ≡ true → list_any (has_route called calling) before ≡ false) → list_any (has_route called calling) before ≡ false
 routes_free-case true called calling before done route routes is h any rest =
@@ -109,7 +100,8 @@ routes_free : (called calling : List ℕ) (before : List Institution) (done rout
 routes_free called calling before done [] h any = absurd (false≢true any)
 routes_free called calling before done (route ∷ routes) h any =
     let parts = both (route_conditions before done route) (routes_conditions before (done ++ route ∷ []) routes) h in
-    routes_free-case (joins called calling route) called calling before done route routes refl parts.first any (routes_free called calling before (done ++ route ∷ []) routes parts.second)
+    routes_free-case (joins called calling route) called calling before done route routes refl parts.first any
+    (routes_free called calling before (done ++ route ∷ []) routes parts.second)
 
 fresh_route : (called calling : List ℕ) → Fresh (has_route called calling)
 fresh_route called calling before x given here = routes_free called calling before [] x.routes given.routes (unfold has_route in here)
@@ -144,7 +136,8 @@ record IsFound (p : Institution → Bool) (xs : List Institution) (y : Instituti
 listed_later : (x : Institution) (xs : List Institution) (y : Institution) → Contains xs y → Contains (x ∷ xs) y
 listed_later x xs y (k, within, is) = (suc k, omega arith, is)
 
-find_some-case : (b : Bool) (p : Institution → Bool) (x : Institution) (xs : List Institution) (y : Institution) → p x ≡ b → cond b (Some x) (find p xs) ≡ Some y
+find_some-case : (b : Bool) (p : Institution → Bool) (x : Institution) (xs : List Institution) (y : Institution) → p x ≡ b
+    → cond b (Some x) (find p xs) ≡ Some y
     → (find p xs ≡ Some y → IsFound p xs y) → IsFound p (x ∷ xs) y
 find_some-case true p x xs y passes h rest =
     let is : x ≡ y = cc in
@@ -157,7 +150,8 @@ find_some : (p : Institution → Bool) (xs : List Institution) (y : Institution)
 find_some p [] y h = cc
 find_some p (x ∷ xs) y h = find_some-case (p x) p x xs y refl h (find_some p xs y)
 
-find_none-case : (b : Bool) (p : Institution → Bool) (x : Institution) (xs : List Institution) → p x ≡ b → cond b (Some x) (find p xs) ≡ None → (p x ≡ false) × (find p xs ≡ None)
+find_none-case : (b : Bool) (p : Institution → Bool) (x : Institution) (xs : List Institution) → p x ≡ b → cond b (Some x) (find p xs) ≡ None
+    → (p x ≡ false) × (find p xs ≡ None)
 find_none-case true p x xs passes h = cc
 find_none-case false p x xs fails h = (fails, h)
 
@@ -180,42 +174,51 @@ sound xs h = nothing (first_fault (conditions [] xs)) h
 found : (p : Institution → Bool) → Fresh p → (xs : List Institution) (y : Institution) → IsTrue (is_sound xs) → Contains xs y → p y ≡ true → find p xs ≡ Some y
 found p fresh xs y h (k, within, is) here = found_at p fresh [] xs y y k within is (sound xs h) here
 
-distinct : (before xs : List Institution) → first_fault (conditions before xs) ≡ None → AllPairs (λ (one : Institution). λ (other : Institution). one.name ≢ other.name) xs
+distinct : (before xs : List Institution) → first_fault (conditions before xs) ≡ None
+    → AllPairs (λ (one other : Institution). one.name ≢ other.name) xs
 distinct before [] h = λ i j d below within. absurd (omega arith)
 distinct before (x ∷ xs) h =
     let parts = both (institution_conditions before x) (conditions (before ++ x ∷ []) xs) h in
-    AllPairs-cons (λ (one : Institution). λ (other : Institution). one.name ≢ other.name) x xs
+    AllPairs-cons (λ (one other : Institution). one.name ≢ other.name) x xs
     (λ k d within. λ same. differs k d within same parts.second)
     (distinct (before ++ x ∷ []) xs parts.second)
   where
     differs : (k : ℕ) (d : Institution) → k < length xs → x.name ≡ (get_or xs k d).name → first_fault (conditions (before ++ x ∷ []) xs) ≡ None → ⊥
     differs k d within same rest =
         let name = (get_or xs k d).name in
-        let none = fresh_at (is_of_name name) (fresh_name name) (before ++ x ∷ []) xs (get_or xs k d) d k within refl rest ((bytes_eq-Decides name name).1 refl) in
+        let none = fresh_at (is_of_name name) (fresh_name name) (before ++ x ∷ []) xs (get_or xs k d) d k within refl rest
+        ((bytes_eq-Decides name name).1 refl) in
         false≢true (sym (none_last (is_of_name name) before x none) ∙ (bytes_eq-Decides x.name name).1 same)
 
-pub distinct_names : (institutions : List Institution) → IsTrue (is_sound institutions) → AllPairs (λ (one : Institution). λ (other : Institution). one.name ≢ other.name) institutions
+pub distinct_names : (institutions : List Institution) → IsTrue (is_sound institutions)
+    → AllPairs (λ (one other : Institution). one.name ≢ other.name) institutions
 distinct_names institutions h = distinct [] institutions (sound institutions h)
 
-pub named_found : (institutions : List Institution) (institution : Institution) → IsTrue (is_sound institutions) → Contains institutions institution → named institutions institution.name ≡ Some institution
+pub named_found : (institutions : List Institution) (institution : Institution) → IsTrue (is_sound institutions) → Contains institutions institution
+    → named institutions institution.name ≡ Some institution
 unfolding named
 named_found institutions institution h listed =
-    found (is_of_name institution.name) (fresh_name institution.name) institutions institution h listed ((bytes_eq-Decides institution.name institution.name).1 refl)
+    found (is_of_name institution.name) (fresh_name institution.name) institutions institution h listed
+    ((bytes_eq-Decides institution.name institution.name).1 refl)
 
-pub named_listed : (institutions : List Institution) (name : List ℕ) (institution : Institution) → named institutions name ≡ Some institution → Contains institutions institution
+pub named_listed : (institutions : List Institution) (name : List ℕ) (institution : Institution) → named institutions name ≡ Some institution
+    → Contains institutions institution
 unfolding named
 named_listed institutions name institution h = (find_some (is_of_name name) institutions institution h).listed
 
-pub named_so : (institutions : List Institution) (name : List ℕ) (institution : Institution) → named institutions name ≡ Some institution → institution.name ≡ name
+pub named_so : (institutions : List Institution) (name : List ℕ) (institution : Institution) → named institutions name ≡ Some institution
+    → institution.name ≡ name
 unfolding named
 named_so institutions name institution h = (bytes_eq-Decides institution.name name).0 (find_some (is_of_name name) institutions institution h).passes
 
-pub named_none : (institutions : List Institution) (name : List ℕ) (institution : Institution) → named institutions name ≡ None → Contains institutions institution → institution.name ≢ name
+pub named_none : (institutions : List Institution) (name : List ℕ) (institution : Institution) → named institutions name ≡ None
+    → Contains institutions institution → institution.name ≢ name
 unfolding named
 named_none institutions name institution h (k, within, is) same =
     false≢true (sym (find_none (is_of_name name) institutions institution institution k within is h) ∙ (bytes_eq-Decides institution.name name).1 same)
 
-pub routed_is : (institutions : List Institution) (called calling : List ℕ) (institution : Institution) → IsTrue (is_sound institutions) → routed institutions called calling ≡ Some institution
+pub routed_is : (institutions : List Institution) (called calling : List ℕ) (institution : Institution) → IsTrue (is_sound institutions)
+    → routed institutions called calling ≡ Some institution
     → IsRouted institutions called calling institution
 unfolding routed
 routed_is institutions called calling institution h r =
@@ -230,19 +233,22 @@ routed_is institutions called calling institution h r =
     only : (other : Institution) → find (has_route (stripped called) (stripped calling)) institutions ≡ Some other → other ≡ institution
     only other f = cc (f, r)
 
-pub routed_found : (institutions : List Institution) (called calling : List ℕ) (institution : Institution) → IsTrue (is_sound institutions) → IsRouted institutions called calling institution
+pub routed_found : (institutions : List Institution) (called calling : List ℕ) (institution : Institution) → IsTrue (is_sound institutions)
+    → IsRouted institutions called calling institution
     → routed institutions called calling ≡ Some institution
 unfolding routed
 routed_found institutions called calling institution h is =
     found (has_route (stripped called) (stripped calling)) (fresh_route (stripped called) (stripped calling)) institutions institution h is.listed is.has
 
-pub routed_none : (institutions : List Institution) (called calling : List ℕ) (institution : Institution) → routed institutions called calling ≡ None → Contains institutions institution
+pub routed_none : (institutions : List Institution) (called calling : List ℕ) (institution : Institution) → routed institutions called calling ≡ None
+    → Contains institutions institution
     → has_route (stripped called) (stripped calling) institution ≡ false
 unfolding routed
 routed_none institutions called calling institution h (k, within, is) =
     find_none (has_route (stripped called) (stripped calling)) institutions institution institution k within is h
 
-limits_at : (before xs : List Institution) (y d : Institution) (k : ℕ) → k < length xs → get_or xs k d ≡ y → first_fault (conditions before xs) ≡ None → first_fault (limit_conditions y) ≡ None
+limits_at : (before xs : List Institution) (y d : Institution) (k : ℕ) → k < length xs → get_or xs k d ≡ y → first_fault (conditions before xs) ≡ None
+    → first_fault (limit_conditions y) ≡ None
 limits_at before [] y d k within is h = absurd (omega arith)
 limits_at before (x ∷ xs) y d zero within is h =
     let parts = both (institution_conditions before x) (conditions (before ++ x ∷ []) xs) h in
@@ -265,5 +271,7 @@ are_limits y h =
     let associations = met (is_association_limit y.associations, BadLimit) [] steps.1 in
     record { studies = studies.0; images = images.0; entries = entries.0; steps = steps.0; associations = associations.0 }
 
-pub limits_in_range : (institutions : List Institution) (institution : Institution) → IsTrue (is_sound institutions) → Contains institutions institution → AreLimits institution
-limits_in_range institutions institution h (k, within, is) = are_limits institution (limits_at [] institutions institution institution k within is (sound institutions h))
+pub limits_in_range : (institutions : List Institution) (institution : Institution) → IsTrue (is_sound institutions) → Contains institutions institution
+    → AreLimits institution
+limits_in_range institutions institution h (k, within, is) =
+    are_limits institution (limits_at [] institutions institution institution k within is (sound institutions h))

@@ -32,7 +32,7 @@ is_title title = is_text_of is_title_octet title
 
 -- a limit of rows, and of associations at a time
 unfoldable pub is_limit : ℕ → Bool
-is_limit limit = is_between 1 1000000 limit
+is_limit limit = is_between 1 1_000_000 limit
 
 unfoldable pub is_association_limit : ℕ → Bool
 is_association_limit limit = is_between 1 64 limit
@@ -43,7 +43,9 @@ is_name_taken before name = list_any (λ (other : Institution). same_octets othe
 
 -- an institution before has the pair, or a route of the same institution before
 unfoldable pub is_route_taken : List Institution → List Route → Route → Bool
-is_route_taken before routes route = list_any (has_route route.called route.calling) before || list_any (joins route.called route.calling) routes
+is_route_taken before routes route =
+    list_any (has_route route.called route.calling) before
+    || list_any (joins route.called route.calling) routes
 
 -- a condition, and the fault where it is not met
 abbrev pub Condition : Type 0
@@ -51,12 +53,16 @@ Condition = Bool × ConfigFault
 
 abbrev pub route_conditions : List Institution → List Route → Route → List Condition
 route_conditions before done route =
-    (is_title route.called, BadTitle) ∷ (is_title route.calling, BadTitle) ∷ (not (is_route_taken before done route), RouteTaken) ∷ []
+    (is_title route.called, BadTitle)
+    ∷ (is_title route.calling, BadTitle)
+    ∷ (not (is_route_taken before done route), RouteTaken)
+    ∷ []
 
 -- the conditions on routes, from the first to the last, after others of the same institution
 abbrev pub routes_conditions : List Institution → List Route → List Route → List Condition
 routes_conditions before done [] = []
-routes_conditions before done (route ∷ routes) = route_conditions before done route ++ routes_conditions before (done ++ route ∷ []) routes
+routes_conditions before done (route ∷ routes) =
+    route_conditions before done route ++ routes_conditions before (done ++ route ∷ []) routes
 
 abbrev pub limit_conditions : Institution → List Condition
 limit_conditions institution =
@@ -76,7 +82,9 @@ institution_conditions before institution =
 -- the conditions on institutions, from the first to the last, after others
 abbrev pub conditions : List Institution → List Institution → List Condition
 conditions before [] = []
-conditions before (institution ∷ institutions) = institution_conditions before institution ++ conditions (before ++ institution ∷ []) institutions
+conditions before (institution ∷ institutions) =
+    institution_conditions before institution
+    ++ conditions (before ++ institution ∷ []) institutions
 
 -- the fault of the first condition that is not met
 abbrev pub first_fault : List Condition → Option ConfigFault

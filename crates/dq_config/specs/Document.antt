@@ -1,6 +1,8 @@
--- The institutions that a TOML document writes: a table of seven keys for each, in an array at the key 'institution'.
-use Rattle.std.specs.Prelude.{ℕ, suc, ℤ, pos, negsuc, ◌==◌, nat_lt, if◌then◌else◌, List, [], ◌∷◌, codes, Option, Some, None, option_map, option_and_then}
+-- The institutions that a TOML document writes: a table of seven keys for each, in an array at the
+-- key 'institution'.
+use Rattle.std.specs.Prelude.{ℕ, suc, ℤ, pos, negsuc, ◌==◌, nat_lt, if◌then◌else◌, List, [], ◌∷◌, codes, Option, Some, None, option_map}
 use Rattle.toml.specs.Data.{Data, Items, no_items, item, Members, no_members, member, get_member, as_str, as_integer, as_array, as_table}
+use Rattle.dq_list.specs.Readers.{◌>>=◌}
 use Rattle.dq_value.specs.Title.{stripped}
 use Rattle.dq_config.specs.declared.config.Institution.{Institution}
 use Rattle.dq_config.specs.declared.config.Route.{Route}
@@ -12,13 +14,13 @@ size (member key value others) = suc (size others)
 
 -- the value at a key, where it is of the wanted type
 unfoldable pub string_at : List ℕ → Members → Option (List ℕ)
-string_at key keys = option_and_then as_str (get_member key keys)
+string_at key keys = get_member key keys >>= as_str
 
 unfoldable pub integer_at : List ℕ → Members → Option ℤ
-integer_at key keys = option_and_then as_integer (get_member key keys)
+integer_at key keys = get_member key keys >>= as_integer
 
 unfoldable pub array_at : List ℕ → Members → Option Items
-array_at key keys = option_and_then as_array (get_member key keys)
+array_at key keys = get_member key keys >>= as_array
 
 -- a limit as it is kept: a number that is none of 32 bits is kept as 0, which is no limit either
 abbrev pub limit_of : ℤ → ℕ
@@ -30,51 +32,53 @@ limit_at key keys = option_map limit_of (integer_at key keys)
 
 -- a table of so many keys
 unfoldable pub table_of : ℕ → Data → Option Members
-table_of keys value = option_and_then (λ members. if size members == keys then Some members else None) (as_table value)
+table_of keys value = do
+  members ← as_table value
+  if size members == keys then Some members else None
 
 -- what each item is read as, where each is read
-abbrev pub before_others : {X : Type 0} → Option X → Option (List X) → Option (List X)
-before_others (Some first) (Some others) = Some (first ∷ others)
-before_others _ _ = None
-
 abbrev pub each : {X : Type 0} → (Data → Option X) → Items → Option (List X)
 each reads no_items = Some []
-each reads (item value others) = before_others (reads value) (each reads others)
+each reads (item value others) = do
+  first ← reads value
+  behind ← each reads others
+  Some (first ∷ behind)
 
 -- a route: a table of two titles, each meant without the spaces at its ends
-abbrev pub route_of : Option (List ℕ) → Option (List ℕ) → Option Route
-route_of (Some called) (Some calling) = Some (record { called = stripped called; calling = stripped calling })
-route_of _ _ = None
-
 abbrev pub route_in : Data → Option Route
-route_in value = option_and_then (λ keys. route_of (string_at (codes "called") keys) (string_at (codes "calling") keys)) (table_of 2 value)
+route_in value = do
+  keys ← table_of 2 value
+  called ← string_at (codes "called") keys
+  calling ← string_at (codes "calling") keys
+  Some (record { called = stripped called; calling = stripped calling })
 
 -- an institution: a table of its name, its routes and its five limits
-abbrev pub institution_of : Option (List ℕ) → Option (List Route) → Option ℕ → Option ℕ → Option ℕ → Option ℕ → Option ℕ → Option Institution
-institution_of (Some name) (Some routes) (Some studies) (Some images) (Some entries) (Some steps) (Some associations) = Some (record {
-  name = name;
-  routes = routes;
-  studies = studies;
-  images = images;
-  entries = entries;
-  steps = steps;
-  associations = associations;
-})
-institution_of _ _ _ _ _ _ _ = None
-
-abbrev pub institution_at : Members → Option Institution
-institution_at keys =
-    institution_of (string_at (codes "name") keys) (option_and_then (each route_in) (array_at (codes "routes") keys)) (limit_at (codes "studies") keys)
-    (limit_at (codes "images") keys) (limit_at (codes "entries") keys) (limit_at (codes "steps") keys) (limit_at (codes "associations") keys)
-
 abbrev pub institution_in : Data → Option Institution
-institution_in value = option_and_then institution_at (table_of 7 value)
+institution_in value = do
+  keys ← table_of 7 value
+  name ← string_at (codes "name") keys
+  values ← array_at (codes "routes") keys
+  routes ← each route_in values
+  studies ← limit_at (codes "studies") keys
+  images ← limit_at (codes "images") keys
+  entries ← limit_at (codes "entries") keys
+  steps ← limit_at (codes "steps") keys
+  associations ← limit_at (codes "associations") keys
+  Some (record {
+    name = name;
+    routes = routes;
+    studies = studies;
+    images = images;
+    entries = entries;
+    steps = steps;
+    associations = associations;
+  })
 
 -- a document: no key, or 'institution' alone
 abbrev pub institutions_in : Members → Option (List Institution)
 institutions_in keys =
     if size keys == 0 then Some []
-    else if size keys == 1 then option_and_then (each institution_in) (array_at (codes "institution") keys)
+    else if size keys == 1 then (array_at (codes "institution") keys >>= each institution_in)
     else None
 
 -- the institutions of the configuration that is built in

@@ -16,16 +16,21 @@ joins called calling route = same_octets route.called called && same_octets rout
 unfoldable pub has_route : List ℕ → List ℕ → Institution → Bool
 has_route called calling institution = list_any (joins called calling) institution.routes
 
--- the institution is the one that has the pair, which is compared without the spaces at the ends of its titles
-pub record IsRouted (institutions : List Institution) (called calling : List ℕ) (institution : Institution) : Type 0 where
+-- the institution is the one that has the pair, which is compared without the spaces at the ends of
+-- its titles
+pub record IsRouted (institutions : List Institution) (called calling : List ℕ)
+    (institution : Institution) : Type 0 where
   pub listed : Contains institutions institution
   pub has : IsTrue (has_route (stripped called) (stripped calling) institution)
-  pub alone : (other : Institution) → Contains institutions other → IsTrue (has_route (stripped called) (stripped calling) other) → other ≡ institution
+  pub alone : (other : Institution) → Contains institutions other
+      → IsTrue (has_route (stripped called) (stripped calling) other) → other ≡ institution
 
 -- the institution, found from the first on
 unfoldable pub routed : List Institution → List ℕ → List ℕ → Option Institution
-routed institutions called calling = find (has_route (stripped called) (stripped calling)) institutions
+routed institutions called calling =
+    find (has_route (stripped called) (stripped calling)) institutions
 
 -- the institution of a name
 unfoldable pub named : List Institution → List ℕ → Option Institution
-named institutions name = find (λ (institution : Institution). same_octets institution.name name) institutions
+named institutions name =
+    find (λ (institution : Institution). same_octets institution.name name) institutions

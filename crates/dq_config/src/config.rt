@@ -16,8 +16,16 @@ use std::alloc::{AllocError, Global};
 use std::marker::Model;
 
 /// The text of the configuration that is built in.
-pub const BUILT_IN: &str =
-    "[[institution]]\nname = \"DEMO\"\nroutes = [{ called = \"ARCHIVE\", calling = \"MODALITY\" }]\nstudies = 100\nimages = 1000\nentries = 100\nsteps = 100\nassociations = 4\n";
+pub const BUILT_IN: &str = "\
+[[institution]]
+name = \"DEMO\"
+routes = [{ called = \"ARCHIVE\", calling = \"MODALITY\" }]
+studies = 100
+images = 1000
+entries = 100
+steps = 100
+associations = 4
+";
 
 /// A pair of application entity titles, without the spaces at their ends.
 #[derive(Debug, Drop)]
@@ -26,8 +34,8 @@ pub struct Route {
     pub calling: Listed<u8>,
 }
 
-/// An institution: its name, the pairs of titles that are its own, and how many studies, images, worklist entries,
-/// performed steps and open associations it may have.
+/// An institution: its name, the pairs of titles that are its own, and how many studies, images,
+/// worklist entries, performed steps and open associations it may have.
 #[derive(Debug, Drop)]
 pub struct Institution {
     pub name: Listed<u8>,
@@ -39,8 +47,8 @@ pub struct Institution {
     pub associations: u32,
 }
 
-/// The institutions, in the order of the configuration. No name and no pair of titles comes twice, and each limit is in
-/// its range.
+/// The institutions, in the order of the configuration. No name and no pair of titles comes twice,
+/// and each limit is in its range.
 #[derive(Debug, Drop)]
 pub struct Config {
     institutions: Listed<Institution>,
@@ -89,9 +97,10 @@ impl Route {
 }
 
 impl Config {
-    /// The configuration that a TOML text spells: for each institution a table `[[institution]]` with its `name`, its
-    /// `routes`, each a table of the titles `called` and `calling`, and its limits `studies`, `images`, `entries`,
-    /// `steps` (1 to 1,000,000) and `associations` (1 to 64).
+    /// The configuration that a TOML text spells: for each institution a table `[[institution]]`
+    /// with its `name`, its `routes`, each a table of the titles `called` and `calling`, and its
+    /// limits `studies`, `images`, `entries`, `steps` (1 to 1,000,000) and `associations` (1 to
+    /// 64).
     ///
     /// # Errors
     /// The fault of the first condition that the text does not meet, or want of memory.
@@ -110,7 +119,8 @@ impl Config {
         Ok(Config { institutions })
     }
 
-    /// The configuration that is built in: one institution, DEMO, with one route. It is what its text spells.
+    /// The configuration that is built in: one institution, DEMO, with one route. It is what its
+    /// text spells.
     #[tactic(auto, using(crate::proofs::Literals::built_in_spelled), unfolding(crate::specs::Conditions::configuration))]
     pub fn built_in(alloc: Global) -> Result<Config, AllocError>
         ensures value { IfOk result (λ config. config ≡ built_in) }
@@ -133,7 +143,8 @@ impl Config {
         let _institutions = &self.institutions;
     }
 
-    /// The institution that has the pair of titles, which are compared without the spaces at their ends.
+    /// The institution that has the pair of titles, which are compared without the spaces at their
+    /// ends.
     #[tactic(auto, unfolding(crate::specs::Routing::routed))]
     pub fn route(&self, called: &[u8], calling: &[u8]) -> Option<&Institution>
         ensures { option_copied result ≡ routed self.now called.now calling.now }

@@ -1,5 +1,5 @@
-//! What holds of institutions that meet the conditions on a configuration. Each function's contract is a law; its body
-//! does nothing.
+//! What holds of institutions that meet the conditions on a configuration. Each function's contract
+//! is a law; its body does nothing.
 
 ghost use Rattle.std.specs.Prelude.{◌≡◌, ◌≢◌, ℕ, List, Some, None, IsTrue, Contains, AllPairs, false};
 ghost use Rattle.dq_value.specs.Title.{stripped};
@@ -10,7 +10,7 @@ ghost use Rattle.dq_config.specs.Conditions.{is_sound, AreLimits};
 /// No two institutions have one name.
 pub fn names_are_distinct()
     ensures { (institutions : List Institution) → IsTrue (is_sound institutions)
-        → AllPairs (λ (one : Institution). λ (other : Institution). one.name ≢ other.name) institutions }
+        → AllPairs (λ (one other : Institution). one.name ≢ other.name) institutions }
 {}
 
 /// A name finds the one institution that has it, and finds none where none has it.

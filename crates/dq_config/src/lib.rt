@@ -1,5 +1,5 @@
-//! The configuration of the server: the institutions that share it, each with its name, the pairs of titles that are
-//! its own, and its limits. It is read from a TOML text.
+//! The configuration of the server: the institutions that share it, each with its name, the pairs
+//! of titles that are its own, and its limits. It is read from a TOML text.
 #![tactic(auto)]
 
 mod config;

@@ -11,11 +11,13 @@ returns-in_err-judge_routes c =
     let name : is_name c.args.institution.now.name ≡ true = grind (arith, common_steps) in
     let free : is_name_taken c.args.before.now c.args.institution.now.name ≡ false = grind (arith, common_steps) in
     left
-    ∙ institution_fails c.args.before.now c.args.institution.now c.in_err-judge_routes.field-0.0 name free (c.in_err-judge_routes.ensures ∙ ap (λ routes. first_fault (routes_conditions c.args.before.now [] routes)) c.as_slice-3.ensures)
+    ∙ institution_fails c.args.before.now c.args.institution.now c.in_err-judge_routes.field-0.0 name free
+    (c.in_err-judge_routes.ensures ∙ ap (λ routes. first_fault (routes_conditions c.args.before.now [] routes)) c.as_slice-3.ensures)
 
 pub returns : goal.returns
 returns c =
     let name : is_name c.args.institution.now.name ≡ true = grind (arith, common_steps) in
     let free : is_name_taken c.args.before.now c.args.institution.now.name ≡ false = grind (arith, common_steps) in
     c.judge_limits.ensures
-    ∙ institution_passes c.args.before.now c.args.institution.now name free (c.in_ok-judge_routes.ensures ∙ ap (λ routes. first_fault (routes_conditions c.args.before.now [] routes)) c.as_slice-3.ensures)
+    ∙ institution_passes c.args.before.now c.args.institution.now name free
+    (c.in_ok-judge_routes.ensures ∙ ap (λ routes. first_fault (routes_conditions c.args.before.now [] routes)) c.as_slice-3.ensures)

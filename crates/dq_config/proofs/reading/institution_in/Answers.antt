@@ -6,7 +6,8 @@ use Rattle.dq_config.proofs.reading.institution_in.Goals as goal
 
 pub returns-clause-ok : goal.returns-clause-ok
 returns-clause-ok c =
-    institution_read (view c.args.value.now) (table_view c.in_ok-table.table.now) (array_view c.in_ok-values.values.now) c.in_ok-copy_of.field-0 c.in_ok-routes.field-0
-    c.in_ok-ok_or.field-0 c.in_ok-ok_or-2.field-0 c.in_ok-ok_or-3.field-0 c.in_ok-ok_or-4.field-0 c.in_ok-ok_or-5.field-0
-    (grind (arith, common_steps)) (grind (arith, common_steps)) (grind (arith, common_steps)) (grind (arith, common_steps)) (grind (arith, common_steps))
-    (grind (arith, common_steps)) (grind (arith, common_steps)) (grind (arith, common_steps)) (sym c.limit_at-5.ensures ∙ ok_or_is _ _ _ (sym c.ok_or-8.ensures.value ∙ c.in_ok-ok_or-5.was))
+    let last = sym c.limit_at-5.ensures ∙ ok_or_is _ _ _ (sym c.ok_or-8.ensures.value ∙ c.in_ok-ok_or-5.was) in
+    institution_read (view c.args.value.now) (table_view c.in_ok-table.table.now) (array_view c.in_ok-values.values.now) c.in_ok-copy_of.field-0
+    c.in_ok-routes.field-0 c.in_ok-ok_or.field-0 c.in_ok-ok_or-2.field-0 c.in_ok-ok_or-3.field-0 c.in_ok-ok_or-4.field-0 c.in_ok-ok_or-5.field-0
+    (grind (arith, common_steps)) (grind (arith, common_steps)) (grind (arith, common_steps)) (grind (arith, common_steps))
+    (grind (arith, common_steps)) (grind (arith, common_steps)) (grind (arith, common_steps)) (grind (arith, common_steps)) last
