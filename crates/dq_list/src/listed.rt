@@ -60,12 +60,14 @@ impl<T> Listed<T> {
         self.inner.as_slice()
     }
 
+    /// How many items there are.
     pub fn len(&self) -> usize
         ensures { result ≡ length self.now }
     {
         self.inner.len()
     }
 
+    /// Whether there are none.
     pub fn is_empty(&self) -> bool
         ensures { result ≡ is_empty self.now }
     {
