@@ -1,16 +1,13 @@
 -- Pieces and halves against the octets that they part.
 use Rattle.std.proofs.Common.{◌≡◌, ℕ, ◌<◌, Bool, true, false, cond, List, [], ◌∷◌, ◌++◌, length, Option, Some, None, ◌||◌, ◌&&◌, nat_eq, refl, sym, subst, ap, ◌∙◌, arith, ◌↔◌}
 use Rattle.std.specs.List.{list_any, join_with_byte}
+use Rattle.std.proofs.lemmas.Bool.{or_parts}
 use Rattle.std.proofs.lemmas.Bool.Decides.{nat_tests}
 use Rattle.dq_value.specs.Parts.{pieces, joined, IsParting}
 use Rattle.dq_value.specs.Range.{halves, behind, ends, ends_of_halves, end_of, is_empty, is_hyphen, Ends, IsRange}
 
 abbrev holds : ℕ → List ℕ → Bool
 holds separator octets = list_any (λ octet. nat_eq octet separator) octets
-
-neither : (a b : Bool) → (a || b) ≡ false → (a ≡ false) × (b ≡ false)
-neither true b h = absurd (cc)
-neither false b h = (refl, h)
 
 join-joined : (separator x : ℕ) (ps : List (List ℕ)) → join_with_byte separator (joined x ps) ≡ x ∷ join_with_byte separator ps
 unfolding joined
@@ -62,21 +59,21 @@ pieces-free : (separator : ℕ) (xs : List ℕ) → holds separator xs ≡ false
 unfolding pieces joined
 pieces-free separator [] h = refl
 pieces-free separator (x ∷ xs) h =
-    let parts = neither (nat_eq x separator) (holds separator xs) h in
+    let parts = or_parts (nat_eq x separator) (holds separator xs) h in
     rw (parts.0, pieces-free separator xs parts.1) refl
 
 pieces-append : (separator : ℕ) (xs ys : List ℕ) → holds separator xs ≡ false → pieces separator (xs ++ separator ∷ ys) ≡ xs ∷ pieces separator ys
 unfolding pieces joined
 pieces-append separator [] ys h = grind (arith, nat_tests)
 pieces-append separator (x ∷ xs) ys h =
-    let parts = neither (nat_eq x separator) (holds separator xs) h in
+    let parts = or_parts (nat_eq x separator) (holds separator xs) h in
     rw (parts.0, pieces-append separator xs ys parts.1) refl
 
 pieces-join : (separator : ℕ) (ps : List (List ℕ)) → 0 < length ps → list_any (holds separator) ps ≡ false → pieces separator (join_with_byte separator ps) ≡ ps
 pieces-join separator [] some free = absurd (omega arith)
-pieces-join separator (p ∷ []) some free = pieces-free separator p (neither (holds separator p) false free).0
+pieces-join separator (p ∷ []) some free = pieces-free separator p (or_parts (holds separator p) false free).0
 pieces-join separator (p ∷ (q ∷ ps)) some free =
-    let parts = neither (holds separator p) (list_any (holds separator) (q ∷ ps)) free in
+    let parts = or_parts (holds separator p) (list_any (holds separator) (q ∷ ps)) free in
     pieces-append separator p (join_with_byte separator (q ∷ ps)) parts.0 ∙ ap (λ rest. p ∷ rest) (pieces-join separator (q ∷ ps) (omega arith) parts.1)
 
 pub one_parting : (separator : ℕ) (octets : List ℕ) (found : List (List ℕ)) → IsParting separator octets found ↔ (found ≡ pieces separator octets)
@@ -89,7 +86,7 @@ halves-append : (separator : ℕ) (xs ys : List ℕ) → holds separator xs ≡ 
 unfolding halves behind
 halves-append separator [] ys h = grind (arith, nat_tests)
 halves-append separator (x ∷ xs) ys h =
-    let parts = neither (nat_eq x separator) (holds separator xs) h in
+    let parts = or_parts (nat_eq x separator) (holds separator xs) h in
     rw (parts.0, halves-append separator xs ys parts.1) refl
 
 pub range_read : (octets from to : List ℕ) → IsRange octets from to → ends octets ≡ Some (end_of from, end_of to)
@@ -130,7 +127,7 @@ unfolding ends_of_halves
 only-case octets None found same e = absurd (cc)
 only-case octets (Some h) found same e =
     let test = test-case (list_any is_hyphen h.1 || (is_empty h.0 && is_empty h.1)) (end_of h.0, end_of h.1) found e in
-    let free = neither (list_any is_hyphen h.1) (is_empty h.0 && is_empty h.1) test.0 in
+    let free = or_parts (list_any is_hyphen h.1) (is_empty h.0 && is_empty h.1) test.0 in
     let cut = are_halves 0x2d octets h same in
     (h.0, h.1, record { whole = cut.0; before = cut.1; after = free.0; closed = free.1 }, test.1)
 

@@ -197,7 +197,7 @@ module _ (h m s : ℕ) (clock : IsClock h m s) where
       rw (len, start) (ap (λ n. span_from n 1_000_000) micros)
 
   pub fractions_read : (count fraction : ℕ) → 1 ≤ count → count ≤ 6 → fraction < 10 ^ count
-      → span (spelled_fraction h m s count fraction) ≡ span_from (micros_at h m s + fraction * 10 ^ (6 - count)) (10 ^ (6 - count))
+      → span (spelled_fraction h m s count fraction) ≡ span_from (micros_at h m s + fraction * unit_at count) (unit_at count)
   unfolding span fraction_span
   fractions_read count fraction some few small =
       let octets = spelled_fraction h m s count fraction in
@@ -207,11 +207,11 @@ module _ (h m s : ℕ) (clock : IsClock h m s) where
       let point : slice_index octets 6 ≡ 0x2e = sym (get_or-drop 6 octets 0 0) ∙ ap (λ xs. slice_index xs 0) at_six in
       let cut : drop 7 octets ≡ digits count fraction = sym (drop-drop 1 6 octets) ∙ ap (drop 1) at_six in
       let micros : h * 3_600_000_000 + m * 60_000_000 + s * 1_000_000 ≡ micros_at h m s = omega arith in
-      let unit : unit_of (digits count fraction) ≡ 10 ^ (6 - count) = ap (λ n. 10 ^ (6 - n)) (length-digits count fraction) in
+      let unit : unit_of (digits count fraction) ≡ unit_at count = ap unit_at (length-digits count fraction) in
       fraction_case octets (digits count fraction) (h * 3_600_000_000 + m * 60_000_000 + s * 1_000_000) fraction (omega arith) (omega arith) point cut
       (second_at behind) (number-digits count fraction (omega arith) small)
       ∙ ap (λ u. span_from (h * 3_600_000_000 + m * 60_000_000 + s * 1_000_000 + fraction * u) u) unit
-      ∙ ap (λ n. span_from (n + fraction * 10 ^ (6 - count)) (10 ^ (6 - count))) micros
+      ∙ ap (λ n. span_from (n + fraction * unit_at count) (unit_at count)) micros
 
 pub time_read : (octets : List ℕ) (found : Span) → SpellsTime octets found → span octets ≡ Some found
 time_read octets found (to_hour h clock e is) = ap span e ∙ hours_read h 0 0 clock ∙ is
