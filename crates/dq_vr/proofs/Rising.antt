@@ -2,6 +2,7 @@
 use Rattle.std.proofs.Common.{◌≡◌, ℕ, ◌<◌, Bool, true, List, [], ◌∷◌, length, get_or, Some, refl, arith, zero, suc, nat_lt, ◌&&◌, Contains}
 use Rattle.std.proofs.lemmas.Bool.{and_parts}
 use Rattle.std.proofs.lemmas.Bool.Decides.{nat_tests}
+use Rattle.std.proofs.lemmas.List.Kept.{AllPairs-cons}
 use Rattle.dq_vr.specs.declared.Tag.{Tag}
 use Rattle.dq_vr.specs.Tag.{is_below}
 use Rattle.dq_vr.specs.Dictionary.{Entry, Rises, dictionary, known_vr}
@@ -22,13 +23,14 @@ below_later entry [] h k d lt = absurd (omega arith)
 below_later entry (x ∷ xs) h zero d lt = (and_parts _ _ h).0
 below_later entry (x ∷ xs) h (suc k) d lt = is_below-trans entry.0 x.0 (get_or xs k d).0 (and_parts _ _ h).0 (below_later x xs (and_parts _ _ h).1 k d (omega arith))
 
+abbrev AreBelow : Entry → Entry → Type 0
+AreBelow earlier later = is_below earlier.0 later.0 ≡ true
+
 rises_from : (entry : Entry) (xs : List Entry) → rising_after entry xs ≡ true → Rises (entry ∷ xs)
 unfolding Rises rising_after
-rises_from entry xs h zero zero d lt within = absurd (omega arith)
-rises_from entry xs h zero (suc j) d lt within = below_later entry xs h j d (omega arith)
-rises_from entry xs h (suc i) zero d lt within = absurd (omega arith)
-rises_from entry [] h (suc i) (suc j) d lt within = absurd (omega arith)
-rises_from entry (x ∷ xs) h (suc i) (suc j) d lt within = rises_from x xs (and_parts _ _ h).1 i j d (omega arith) (omega arith)
+rises_from entry [] h = AllPairs-cons AreBelow entry [] (λ k d lt. absurd (omega arith)) (λ i j d lt within. absurd (omega arith))
+rises_from entry (x ∷ xs) h =
+    AllPairs-cons AreBelow entry (x ∷ xs) (below_later entry (x ∷ xs) h) (rises_from x xs (and_parts _ _ h).1)
 
 pub dictionary_rises : Rises dictionary
 unfolding dictionary rising_after is_below
