@@ -4,7 +4,8 @@ use Rattle.std.proofs.lemmas.List.{take-append-drop, length-take-le, length-drop
 use Rattle.std.proofs.Math.Seq.{take-append_seam, drop-append_seam}
 use Rattle.std.proofs.lemmas.Bool.Decides.{nat_tests}
 use Rattle.jiff_core.specs.Calendar.{days_in_month, is_leap_year}
-use Rattle.dq_value.specs.Digits.{number, digits, ◌>>=◌}
+use Rattle.dq_list.proofs.Readers.{bind_some, provided_some}
+use Rattle.dq_value.specs.Digits.{number, digits}
 use Rattle.dq_value.specs.Day.{Ymd, SpellsDate, is_in_calendar, date_in, digits_of_date, spelled_date}
 use Rattle.dq_value.specs.Time.{Span, IsClock, SpellsTime, to_hour, to_minute, to_second, to_fraction, unit_at, unit_of, has_fraction, span, span_from, field, hour_start, minute_start, second_start, hour_span, minute_span, second_span, fraction_span, micros_at, spelled_minute, spelled_second, spelled_fraction}
 use Rattle.dq_value.proofs.Spelled.{length-digits, number-digits, number-only}
@@ -60,15 +61,6 @@ passed : {A : Type 0} (b : Bool) (o : Option A) (x : A) → cond b o None ≡ So
 passed true o x e = record { test = refl; answer = e }
 passed false o x e = absurd (cc)
 
-record WentOn {A B : Type 0} (o : Option A) (f : A → Option B) (x : B) : Type 0 where
-  value : A
-  was : o ≡ Some value
-  answer : f value ≡ Some x
-
-went_on : {A B : Type 0} (o : Option A) (f : A → Option B) (x : B) → (o >>= f) ≡ Some x → WentOn o f x
-went_on None f x e = absurd (cc)
-went_on (Some a) f x e = record { value = a; was = refl; answer = e }
-
 record Spells (xs : List ℕ) (count n : ℕ) : Type 0 where
   is : xs ≡ digits count n
   few : n < 10 ^ count
@@ -79,9 +71,8 @@ spells xs count n len e =
     record { is = found.0 ∙ ap (λ k. digits k n) len; few = rw len at found.1 }
 
 date_spelled : (octets : List ℕ) (date : Ymd) (y m d : ℕ) → length octets ≡ 8 → number (take 4 octets) ≡ Some y → number (take 2 (drop 4 octets)) ≡ Some m
-    → number (drop 6 octets) ≡ Some d → is_in_calendar (pos y, m, d) ≡ true → Some (pos y, m, d) ≡ Some date → SpellsDate octets date
-date_spelled octets date y m d eight year month day good e =
-    let same : (pos y, m, d) ≡ date = cc in
+    → number (drop 6 octets) ≡ Some d → is_in_calendar (pos y, m, d) ≡ true → (pos y, m, d) ≡ date → SpellsDate octets date
+date_spelled octets date y m d eight year month day good same =
     let rest : length (drop 4 octets) ≡ 4 = length-drop 4 octets ∙ ap (λ n. n - 4) eight in
     let last : drop 2 (drop 4 octets) ≡ drop 6 octets = drop-drop 2 4 octets in
     let two : length (drop 6 octets) ≡ 2 = length-drop 6 octets ∙ ap (λ n. n - 6) eight in
@@ -97,11 +88,11 @@ date_spelled octets date y m d eight year month day good e =
 date_parts : (octets : List ℕ) (date : Ymd) → length octets ≡ 8 → digits_of_date octets ≡ Some date → SpellsDate octets date
 unfolding digits_of_date
 date_parts octets date eight e =
-    let year = went_on (number (take 4 octets)) _ date e in
-    let month = went_on (number (take 2 (drop 4 octets))) _ date year.answer in
-    let day = went_on (number (drop 6 octets)) _ date month.answer in
-    let good = passed (is_in_calendar (pos year.value, month.value, day.value)) (Some (pos year.value, month.value, day.value)) date day.answer in
-    date_spelled octets date year.value month.value day.value eight year.was month.was day.was good.test good.answer
+    let year = bind_some (number (take 4 octets)) _ date e in
+    let month = bind_some (number (take 2 (drop 4 octets))) _ date year.2 in
+    let day = bind_some (number (drop 6 octets)) _ date month.2 in
+    let good = provided_some (is_in_calendar (pos year.0, month.0, day.0)) (pos year.0, month.0, day.0) date day.2 in
+    date_spelled octets date year.0 month.0 day.0 eight year.1 month.1 day.1 good.0 good.1
 
 pub date_only : (octets : List ℕ) (date : Ymd) → date_in octets ≡ Some date → SpellsDate octets date
 unfolding date_in
@@ -227,12 +218,12 @@ record Field (place greatest n : ℕ) (octets : List ℕ) : Type 0 where
 field_only : (place greatest n : ℕ) (octets : List ℕ) → place + 2 ≤ length octets → field place greatest octets ≡ Some n → Field place greatest n octets
 unfolding field
 field_only place greatest n octets long e =
-    let read = went_on (number (take 2 (drop place octets))) _ n e in
-    let fits = passed (nat_le read.value greatest) (Some read.value) n read.answer in
-    let same : read.value ≡ n = cc in
+    let read = bind_some (number (take 2 (drop place octets))) _ n e in
+    let fits = provided_some (nat_le read.0 greatest) read.0 n read.2 in
+    let same : read.0 ≡ n = fits.1 in
     let len : length (take 2 (drop place octets)) ≡ 2 = length-take-le 2 (drop place octets) (rw length-drop (omega arith)) in
-    let spelled = spells (take 2 (drop place octets)) 2 n len (read.was ∙ ap Some same) in
-    let most : n ≤ greatest = rw same at (nat_le_true read.value greatest fits.test) in
+    let spelled = spells (take 2 (drop place octets)) 2 n len (read.1 ∙ ap Some same) in
+    let most : n ≤ greatest = rw same at (nat_le_true read.0 greatest fits.0) in
     record {
       here = sym (take-append-drop 2 (drop place octets)) ∙ ap (λ xs. xs ++ drop 2 (drop place octets)) spelled.is
           ∙ ap (λ xs. digits 2 n ++ xs) (drop-drop 2 place octets);
@@ -263,40 +254,40 @@ record Second (octets : List ℕ) (start : ℕ) : Type 0 where
 hour_only : (octets : List ℕ) (start : ℕ) → 2 ≤ length octets → hour_start octets ≡ Some start → Hour octets start
 unfolding hour_start
 hour_only octets start long e =
-    let hour = went_on (field 0 23 octets) _ start e in
-    let is : hour.value * 3_600_000_000 ≡ start = cc in
-    record { hour = hour.value; hours = field_only 0 23 hour.value octets (omega arith) hour.was; is = is }
+    let hour = bind_some (field 0 23 octets) _ start e in
+    let is : hour.0 * 3_600_000_000 ≡ start = cc in
+    record { hour = hour.0; hours = field_only 0 23 hour.0 octets (omega arith) hour.1; is = is }
 
 minute_only : (octets : List ℕ) (start : ℕ) → 4 ≤ length octets → minute_start octets ≡ Some start → Minute octets start
 unfolding minute_start
 minute_only octets start long e =
-    let before = went_on (hour_start octets) _ start e in
-    let minute = went_on (field 2 59 octets) _ start before.answer in
-    let hour = hour_only octets before.value (omega arith) before.was in
-    let is : before.value + minute.value * 60_000_000 ≡ start = cc in
+    let before = bind_some (hour_start octets) _ start e in
+    let minute = bind_some (field 2 59 octets) _ start before.2 in
+    let hour = hour_only octets before.0 (omega arith) before.1 in
+    let is : before.0 + minute.0 * 60_000_000 ≡ start = cc in
     record {
       hour = hour.hour;
-      minute = minute.value;
+      minute = minute.0;
       hours = hour.hours;
-      minutes = field_only 2 59 minute.value octets (omega arith) minute.was;
-      is = ap (λ n. n + minute.value * 60_000_000) hour.is ∙ is;
+      minutes = field_only 2 59 minute.0 octets (omega arith) minute.1;
+      is = ap (λ n. n + minute.0 * 60_000_000) hour.is ∙ is;
     }
 
 second_only : (octets : List ℕ) (start : ℕ) → 6 ≤ length octets → second_start octets ≡ Some start → Second octets start
 unfolding second_start
 second_only octets start long e =
-    let before = went_on (minute_start octets) _ start e in
-    let second = went_on (field 4 60 octets) _ start before.answer in
-    let minute = minute_only octets before.value (omega arith) before.was in
-    let is : before.value + second.value * 1_000_000 ≡ start = cc in
+    let before = bind_some (minute_start octets) _ start e in
+    let second = bind_some (field 4 60 octets) _ start before.2 in
+    let minute = minute_only octets before.0 (omega arith) before.1 in
+    let is : before.0 + second.0 * 1_000_000 ≡ start = cc in
     record {
       hour = minute.hour;
       minute = minute.minute;
-      second = second.value;
+      second = second.0;
       hours = minute.hours;
       minutes = minute.minutes;
-      seconds = field_only 4 60 second.value octets (omega arith) second.was;
-      is = ap (λ n. n + second.value * 1_000_000) minute.is ∙ is;
+      seconds = field_only 4 60 second.0 octets (omega arith) second.1;
+      is = ap (λ n. n + second.0 * 1_000_000) minute.is ∙ is;
     }
 
 empty : (xs : List ℕ) → length xs ≡ 0 → xs ≡ []
@@ -317,38 +308,38 @@ second_fields octets h m s hours minutes seconds = minute_fields octets h m hour
 hour_spelled : (octets : List ℕ) (found : Span) → length octets ≡ 2 → hour_span octets ≡ Some found → SpellsTime octets found
 unfolding hour_span
 hour_spelled octets found len e =
-    let start = went_on (hour_start octets) _ found e in
-    let at = hour_only octets start.value (omega arith) start.was in
+    let start = bind_some (hour_start octets) _ found e in
+    let at = hour_only octets start.0 (omega arith) start.1 in
     let same : octets ≡ digits 2 at.hour = at.hours.here ∙ ap (λ xs. digits 2 at.hour ++ xs) (nothing_behind 2 octets len) ∙ append-nil (digits 2 at.hour) in
-    let micros : micros_at at.hour 0 0 ≡ start.value = omega (arith, at.is) in
+    let micros : micros_at at.hour 0 0 ≡ start.0 = omega (arith, at.is) in
     to_hour at.hour (record { hours = at.hours.most; minutes = omega arith; seconds = omega arith }) same
-    (ap (λ n. span_from n 3_600_000_000) micros ∙ start.answer)
+    (ap (λ n. span_from n 3_600_000_000) micros ∙ start.2)
 
 minute_spelled : (octets : List ℕ) (found : Span) → length octets ≡ 4 → minute_span octets ≡ Some found → SpellsTime octets found
 unfolding minute_span
 minute_spelled octets found len e =
-    let start = went_on (minute_start octets) _ found e in
-    let at = minute_only octets start.value (omega arith) start.was in
+    let start = bind_some (minute_start octets) _ found e in
+    let at = minute_only octets start.0 (omega arith) start.1 in
     let same : octets ≡ spelled_minute at.hour at.minute =
     minute_fields octets at.hour at.minute at.hours at.minutes
     ∙ ap (λ xs. digits 2 at.hour ++ (digits 2 at.minute ++ xs)) (nothing_behind 4 octets len)
     ∙ ap (λ xs. digits 2 at.hour ++ xs) (append-nil (digits 2 at.minute)) in
-    let micros : micros_at at.hour at.minute 0 ≡ start.value = omega (arith, at.is) in
+    let micros : micros_at at.hour at.minute 0 ≡ start.0 = omega (arith, at.is) in
     to_minute at.hour at.minute (record { hours = at.hours.most; minutes = at.minutes.most; seconds = omega arith }) same
-    (ap (λ n. span_from n 60_000_000) micros ∙ start.answer)
+    (ap (λ n. span_from n 60_000_000) micros ∙ start.2)
 
 second_spelled : (octets : List ℕ) (found : Span) → length octets ≡ 6 → second_span octets ≡ Some found → SpellsTime octets found
 unfolding second_span
 second_spelled octets found len e =
-    let start = went_on (second_start octets) _ found e in
-    let at = second_only octets start.value (omega arith) start.was in
+    let start = bind_some (second_start octets) _ found e in
+    let at = second_only octets start.0 (omega arith) start.1 in
     let same : octets ≡ spelled_second at.hour at.minute at.second =
     second_fields octets at.hour at.minute at.second at.hours at.minutes at.seconds
     ∙ ap (λ xs. digits 2 at.hour ++ (digits 2 at.minute ++ (digits 2 at.second ++ xs))) (nothing_behind 6 octets len)
     ∙ ap (λ xs. digits 2 at.hour ++ (digits 2 at.minute ++ xs)) (append-nil (digits 2 at.second)) in
-    let micros : micros_at at.hour at.minute at.second ≡ start.value = omega (arith, at.is) in
+    let micros : micros_at at.hour at.minute at.second ≡ start.0 = omega (arith, at.is) in
     to_second at.hour at.minute at.second (record { hours = at.hours.most; minutes = at.minutes.most; seconds = at.seconds.most }) same
-    (ap (λ n. span_from n 1_000_000) micros ∙ start.answer)
+    (ap (λ n. span_from n 1_000_000) micros ∙ start.2)
 
 fraction_spelled : (octets : List ℕ) (found : Span) → has_fraction octets ≡ true → fraction_span octets (drop 7 octets) ≡ Some found → SpellsTime octets found
 unfolding fraction_span
@@ -356,22 +347,22 @@ fraction_spelled octets found has e =
     let low : 8 ≤ length octets = grind (arith, nat_tests) in
     let high : length octets ≤ 13 = grind (arith, nat_tests) in
     let point : slice_index octets 6 ≡ 0x2e = grind (arith, nat_tests) in
-    let start = went_on (second_start octets) _ found e in
-    let at = second_only octets start.value (omega arith) start.was in
-    let parts = went_on (number (drop 7 octets)) _ found start.answer in
+    let start = bind_some (second_start octets) _ found e in
+    let at = second_only octets start.0 (omega arith) start.1 in
+    let parts = bind_some (number (drop 7 octets)) _ found start.2 in
     let behind : drop 6 octets ≡ 0x2e ∷ drop 7 octets = drop-cons octets 6 0 (omega arith) ∙ ap (λ o. o ∷ drop 7 octets) point in
     let count = length octets - 7 in
     let len : length (drop 7 octets) ≡ count = length-drop 7 octets in
-    let spelled = spells (drop 7 octets) count parts.value len parts.was in
-    let same : octets ≡ spelled_fraction at.hour at.minute at.second count parts.value =
+    let spelled = spells (drop 7 octets) count parts.0 len parts.1 in
+    let same : octets ≡ spelled_fraction at.hour at.minute at.second count parts.0 =
     second_fields octets at.hour at.minute at.second at.hours at.minutes at.seconds
     ∙ ap (λ xs. digits 2 at.hour ++ (digits 2 at.minute ++ (digits 2 at.second ++ xs))) (behind ∙ ap (λ xs. 0x2e ∷ xs) spelled.is) in
-    let micros : micros_at at.hour at.minute at.second ≡ start.value = omega (arith, at.is) in
+    let micros : micros_at at.hour at.minute at.second ≡ start.0 = omega (arith, at.is) in
     let unit : unit_at count ≡ unit_of (drop 7 octets) = ap unit_at (sym len) in
     let clock : IsClock at.hour at.minute at.second = record { hours = at.hours.most; minutes = at.minutes.most; seconds = at.seconds.most } in
-    to_fraction at.hour at.minute at.second count parts.value clock (omega arith) (omega arith) spelled.few same
-    (ap (λ n. span_from (n + parts.value * unit_at count) (unit_at count)) micros
-    ∙ ap (λ u. span_from (start.value + parts.value * u) u) unit ∙ parts.answer)
+    to_fraction at.hour at.minute at.second count parts.0 clock (omega arith) (omega arith) spelled.few same
+    (ap (λ n. span_from (n + parts.0 * unit_at count) (unit_at count)) micros
+    ∙ ap (λ u. span_from (start.0 + parts.0 * u) u) unit ∙ parts.2)
 
 chosen : (b : Bool) (x y : Option Span) (found : Span) → cond b x y ≡ Some found → ((b ≡ true) × (x ≡ Some found)) ⊎ (y ≡ Some found)
 chosen true x y found e = inl (refl, e)

@@ -1,8 +1,9 @@
 -- A date, VR DA: YYYYMMDD (PS3.5 table 6.2-1).
-use Rattle.std.specs.Prelude.{◌≡◌, ◌<◌, ◌++◌, ℕ, Bool, true, List, length, take, drop, Option, Some, None, option_map, nat_eq, nat_le, ◌&&◌, if◌then◌else◌, ℤ, pos}
+use Rattle.std.specs.Prelude.{◌≡◌, ◌<◌, ◌++◌, ℕ, Bool, true, List, length, take, drop, Option, None, option_map, nat_eq, nat_le, ◌&&◌, if◌then◌else◌, ℤ, pos}
 use Rattle.jiff_core.specs.Calendar.{days_in_month, days_from_civil}
 use Rattle.jiff_core.specs.declared.civil.date.Date.{Date}
-use Rattle.dq_value.specs.Digits.{number, digits, ◌>>=◌}
+use Rattle.dq_list.specs.Readers.{◌>>=◌, provided}
+use Rattle.dq_value.specs.Digits.{number, digits}
 
 -- year, month and day of the month
 abbrev pub Ymd : Type 0
@@ -23,7 +24,7 @@ digits_of_date octets = do
   year ← number (take 4 octets)
   month ← number (take 2 (drop 4 octets))
   day ← number (drop 6 octets)
-  if is_in_calendar (pos year, month, day) then Some (pos year, month, day) else None
+  provided (is_in_calendar (pos year, month, day)) (pos year, month, day)
 
 -- eight digits that name a day of the calendar
 unfoldable pub date_in : List ℕ → Option Ymd

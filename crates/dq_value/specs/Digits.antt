@@ -1,9 +1,6 @@
 -- Decimal numbers in character strings (PS3.5 section 6.2, the VRs DA and TM).
-use Rattle.std.specs.Prelude.{ℕ, zero, suc, ◌++◌, ◌/◌, ◌%◌, ◌+◌, ◌-◌, ◌*◌, Bool, List, [], ◌∷◌, Option, Some, None, option_and_then, nat_le, ◌&&◌, if◌then◌else◌}
-
-infixl 10 ◌>>=◌
-abbrev pub ◌>>=◌ : {A B : Type 0} → Option A → (A → Option B) → Option B
-value >>= next = option_and_then next value
+use Rattle.std.specs.Prelude.{ℕ, zero, suc, ◌++◌, ◌/◌, ◌%◌, ◌+◌, ◌-◌, ◌*◌, Bool, List, [], ◌∷◌, Option, Some, None, nat_le, ◌&&◌, if◌then◌else◌}
+pub use Rattle.dq_list.specs.Readers.{◌>>=◌}
 
 abbrev pub is_digit : ℕ → Bool
 is_digit octet = nat_le 0x30 octet && nat_le octet 0x39
