@@ -58,9 +58,6 @@ after_fault r bound syntax levels (Ok x) f e = absurd cc
 after_fault r bound syntax levels (Err g) f e = cc
 
 module _ (bound : Bound) (syntax : Syntax) (levels : ℕ) (all : List ℕ) where
-  pub elements_start : ElementsBehind bound syntax levels all None all
-  elements_start = record { shorter = omega arith; told = λ n h. (n, h, refl) }
-
   module _ (last : Option Tag) (rest : List ℕ) where
     elements_at : (m : ℕ) → length rest < m → (e : Result (List ℕ) ReadFault) → e ≡ rest_of ((readers m).elements bound syntax levels last rest)
         → (k : ℕ) × (length rest ≤ k) × (e ≡ rest_of (elements_by (readers k) bound syntax levels last rest))
@@ -130,9 +127,6 @@ item_fault_after r bound syntax levels (Ok x) f e = absurd cc
 item_fault_after r bound syntax levels (Err g) f e = cc
 
 module _ (bound : Bound) (syntax : Syntax) (levels : ℕ) (all : List ℕ) where
-  pub items_start : ItemsBehind bound syntax levels all all
-  items_start = record { shorter = omega arith; told = λ n h. (n, h, refl) }
-
   module _ (rest : List ℕ) where
     items_at : (m : ℕ) → length rest < m → (e : Result (List ℕ) ReadFault) → e ≡ rest_of ((readers m).items bound syntax levels rest)
         → (k : ℕ) × (length rest ≤ k) × (e ≡ rest_of (items_by (readers k) bound syntax levels rest))

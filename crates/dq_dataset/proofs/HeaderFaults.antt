@@ -38,19 +38,12 @@ other_end n p q = absurd (omega arith)
 
 -- ---- eight octets at least
 
-abbrev eight : ℕ → ℕ → ℕ → ℕ → ℕ → ℕ → ℕ → ℕ → List ℕ → List ℕ
+abbrev pub eight : ℕ → ℕ → ℕ → ℕ → ℕ → ℕ → ℕ → ℕ → List ℕ → List ℕ
 eight a b c d e f g h rest = a ∷ b ∷ c ∷ d ∷ e ∷ f ∷ g ∷ h ∷ rest
 
-by_eight : (P : List ℕ → Type 0) → ((a b c d e f g h : ℕ) (rest : List ℕ) → P (eight a b c d e f g h rest)) → (octets : List ℕ) → 8 ≤ length octets → P octets
-by_eight P each [] le = absurd (omega arith)
-by_eight P each (a ∷ []) le = absurd (omega arith)
-by_eight P each (a ∷ b ∷ []) le = absurd (omega arith)
-by_eight P each (a ∷ b ∷ c ∷ []) le = absurd (omega arith)
-by_eight P each (a ∷ b ∷ c ∷ d ∷ []) le = absurd (omega arith)
-by_eight P each (a ∷ b ∷ c ∷ d ∷ e ∷ []) le = absurd (omega arith)
-by_eight P each (a ∷ b ∷ c ∷ d ∷ e ∷ f ∷ []) le = absurd (omega arith)
-by_eight P each (a ∷ b ∷ c ∷ d ∷ e ∷ f ∷ g ∷ []) le = absurd (omega arith)
+pub by_eight : (P : List ℕ → Type 0) → ((a b c d e f g h : ℕ) (rest : List ℕ) → P (eight a b c d e f g h rest)) → (octets : List ℕ) → 8 ≤ length octets → P octets
 by_eight P each (a ∷ b ∷ c ∷ d ∷ e ∷ f ∷ g ∷ h ∷ rest) le = each a b c d e f g h rest
+by_eight P each octets le = absurd (omega arith)
 
 number_of : (w : Width) (octets : List ℕ) → byte_len w ≤ length octets → number_at w octets ≡ Ok (from_le_bytes w (take (byte_len w) octets), drop (byte_len w) octets)
 number_of w octets le = rw (le-ltb (length octets) (byte_len w) le) refl

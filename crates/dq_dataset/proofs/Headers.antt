@@ -1,7 +1,7 @@
 -- Headers, and the ends of elements and items: what is read is spelled so, and what is spelled so is read.
 use Rattle.std.proofs.Common.{◌≡◌, ℕ, suc, ◌^◌, ◌<◌, ◌≤◌, Bool, true, false, not, cond, ltb, eqb, eq-eqb, ◌&&◌, List, [], ◌∷◌, ◌++◌, length, take, Option, Some, None, Result, Ok, refl, sym, ap, subst, ◌∙◌, append_assoc, lit<, arith}
 use Rattle.std.specs.Int.{w16, w32, from_le_bytes, to_le_bytes}
-use Rattle.std.proofs.lemmas.Bool.{le-ltb, eqb-true, eqb-false, ne_eqb}
+use Rattle.std.proofs.lemmas.Bool.{le-ltb, eqb-true, eqb-false, ne_eqb, not-true}
 use Rattle.std.proofs.lemmas.List.{drop_at, length-append}
 use Rattle.dq_vr.specs.declared.Tag.{Tag}
 use Rattle.dq_vr.specs.declared.Vr.{Vr}
@@ -135,10 +135,6 @@ placed_step syntax levels last tag rest placed = check (follows last tag) TagOrd
 abbrev pub tag_step : Syntax → ℕ → Option Tag → Tag × List ℕ → Result (Header × List ℕ) ReadFault
 tag_step syntax levels last tag = check (not (eqb tag.0.group 0xFFFE)) BadItem >>= placed_step syntax levels last tag.0 tag.1
 
-not_true : (b : Bool) → not b ≡ true → b ≡ false
-not_true true e = absurd cc
-not_true false e = refl
-
 -- a header that was read
 pub record ReadsHeader (syntax : Syntax) (levels : ℕ) (last : Option Tag) (bytes : List ℕ) (read : Header) (rest : List ℕ) : Type 0 where
   pub octets : List ℕ
@@ -166,7 +162,7 @@ header_takes syntax levels last bytes header rest ok e =
     let found : ReadsHeader syntax levels last bytes (header_of tag f.0) d.0.1 = record {
       octets = tag_octets tag ++ s.0;
       takes = Takes-then bytes (tag_octets tag) a.0.1 s.0 d.0.1 t.0 s.2;
-      placed = record { rises = c.0; no_delimiter = eqb-false tag.group 0xFFFE (not_true _ b.0); group = t.1; number = t.2 };
+      placed = record { rises = c.0; no_delimiter = eqb-false tag.group 0xFFFE (not-true _ b.0); group = t.1; number = t.2 };
       header = record { spelled = d.0.0.0; extent = d.0.0.1; allowed = f.1; behind = s.0; spelling = s.1; whole = refl };
       vr = refl;
       nests = g.0;
@@ -323,28 +319,3 @@ end_other Filled end tag behind g n long other =
     let some : eqb (length (tag_octets tag ++ behind)) 0 ≡ false = ne_eqb _ _ (λ e. omega (arith, length-append (tag_octets tag) behind)) in
     rw some refl
 end_other Delimited end tag behind g n long other = rw (tag_again tag behind g n long, other) refl
-
--- ---- the length of what was read is no longer than what is left
-
-pub header_fits : (syntax : Syntax) (levels : ℕ) (last : Option Tag) (bytes : List ℕ) (header : Header) (rest : List ℕ)
-    → header_at syntax levels last bytes ≡ Ok (header, rest) → fits (length_of header.content) rest ≡ true
-unfolding header_at
-header_fits syntax levels last bytes header rest e =
-    let a = bind_ok (tag_at bytes) (tag_step syntax levels last) (header, rest) e in
-    let tag = a.0.0 in
-    let b = check_ok (not (eqb tag.group 0xFFFE)) BadItem (placed_step syntax levels last tag a.0.1) (header, rest) a.2 in
-    let c = check_ok (follows last tag) TagOrder (rises_step syntax levels tag a.0.1) (header, rest) b.1 in
-    let d = bind_ok (spelling_at syntax (known_vr tag) a.0.1) (spelling_step levels tag) (header, rest) c.1 in
-    let f = bind_ok (content_of (known_vr tag) d.0.0.0 d.0.0.1) (content_step levels tag d.0.1) (header, rest) d.2 in
-    let g = check_ok (may_nest levels f.0) TooDeep (whole_step tag f.0 d.0.1) (header, rest) f.2 in
-    let h = check_ok (fits (length_of f.0) d.0.1) Truncated (λ whole. Ok (header_of tag f.0, d.0.1)) (header, rest) g.1 in
-    subst (λ (p : Header × List ℕ). fits (length_of p.0.content) p.1 ≡ true) (ok_is (header_of tag f.0, d.0.1) (header, rest) h.1) h.0
-
-pub item_fits : (bytes : List ℕ) (extent : Option ℕ) (rest : List ℕ) → item_header_at bytes ≡ Ok (extent, rest) → fits extent rest ≡ true
-unfolding item_header_at
-item_fits bytes extent rest e =
-    let a = bind_ok (tag_at bytes) item_step (extent, rest) e in
-    let c = check_ok (eqb a.0.0.group 0xFFFE && eqb a.0.0.element 0xE000) BadItem (λ is_item. long_length_at a.0.1 >>= item_length_step) (extent, rest) a.2 in
-    let b = bind_ok (long_length_at a.0.1) item_length_step (extent, rest) c.1 in
-    let w = check_ok (fits b.0.0 b.0.1) Truncated (λ whole. Ok b.0) (extent, rest) b.2 in
-    subst (λ (p : Option ℕ × List ℕ). fits p.0 p.1 ≡ true) (ok_is b.0 (extent, rest) w.1) w.0

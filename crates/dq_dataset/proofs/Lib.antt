@@ -12,7 +12,6 @@ pub mod SpelledIsShort
 pub mod Whole
 pub mod Ends
 pub mod LentLemmas
-pub mod SameReaders
 pub mod LentAgrees
 pub mod Copies
 pub mod FaultStays

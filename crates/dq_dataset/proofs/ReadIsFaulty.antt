@@ -284,7 +284,3 @@ fails f = Err f
 
 pub one_fault_only : (f g : ReadFault) → fails f ≡ Err g → f ≡ g
 one_fault_only f g e = cc
-
--- the octets in front of others
-pub front_is_bytes : (octets more : List ℕ) → IsBytes (octets ++ more) → IsBytes octets
-front_is_bytes octets more ok = subst IsBytes (take_at octets more (length octets) refl) (IsBytes-take (length octets) (octets ++ more) ok)

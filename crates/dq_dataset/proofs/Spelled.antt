@@ -27,14 +27,6 @@ count-cons e es = element_count e.tag e.vr e.value (as_elements es)
 abbrev one : Tag → Vr → Value → Element
 one t v x = record { tag = t; vr = v; value = x }
 
-canonical_value : (s : Syntax) (t : Tag) (v : Vr) (x : Value) (rest : ElementList)
-    → canonical s (with_value (one t v x) x rest) ≡ canonical_element s (one t v x) ++ canonical s rest
-canonical_value s t v (Octets o) rest = simp (append_assoc, append-nil)
-canonical_value s t v (Items ds) rest = simp (append_assoc, append-nil)
-
-pub canonical-cons : (s : Syntax) (e : Element) (es : List Element) → canonical s (as_elements (e ∷ es)) ≡ canonical_element s e ++ canonical s (as_elements es)
-canonical-cons s e es = canonical_value s e.tag e.vr e.value (as_elements es)
-
 lengths_value : (s : Syntax) (t : Tag) (v : Vr) (x : Value) (rest : ElementList)
     → HasLengths s (with_value (one t v x) x rest) → ElementHasLengths s (one t v x) × HasLengths s rest
 lengths_value s t v (Octets o) rest h = ((h.0, tt), h.1)
@@ -60,21 +52,6 @@ module _ (s : Syntax) (all : List Element) (before out : List ℕ) (i : ℕ) (le
       let h = lengths-cons s e (drop (i + 1) all) (rw parts at left.lengths) in
       (h.0, h.1, rw parts (omega (arith, count-cons e (drop (i + 1) all))))
 
-  pub element_written : (e : Element) → i < length all → e ≡ get_or all i e → ElementsToWrite s all before (out ++ canonical_element s e) (i + 1)
-  element_written e lt is =
-      let parts : drop i all ≡ e ∷ drop (i + 1) all = rw add-one (drop-cons all i e lt ∙ ap (λ (x : Element). x ∷ drop (suc i) all) (sym is)) in
-      record {
-        lengths = (next_element e lt is).1;
-        told = append_assoc out (canonical_element s e) (canonical s (as_elements (drop (i + 1) all)))
-            ∙ ap (λ (x : List ℕ). out ++ x) (sym (canonical-cons s e (drop (i + 1) all)))
-            ∙ ap (λ (x : List Element). out ++ canonical s (as_elements x)) (sym parts) ∙ left.told;
-      }
-
-  pub elements_written : length all ≤ i → out ≡ before ++ canonical s (as_elements all)
-  elements_written le =
-      let none : drop i all ≡ [] = drop_all i all le in
-      sym (append-nil out) ∙ ap (λ (x : List Element). out ++ canonical s (as_elements x)) (sym none) ∙ left.told
-
 module _ (s : Syntax) (all : List ElementList) (before out : List ℕ) (i : ℕ) (left : ItemsToWrite s all before out i) where
   pub next_item : (d : ElementList) → i < length all → d ≡ get_or all i d
       → (length (canonical s d) < 0xFFFFFFFF) × HasLengths s d × ItemsHaveLengths s (items_of (drop (i + 1) all)) × (item_count d < items_count (items_of (drop i all)))
@@ -92,11 +69,6 @@ module _ (s : Syntax) (all : List ElementList) (before out : List ℕ) (i : ℕ)
         lengths = (next_item d lt is).2;
         told = joined ∙ ap (λ (x : List ElementList). out ++ canonical_items s (items_of x)) (sym parts) ∙ left.told;
       }
-
-  pub items_written : length all ≤ i → out ≡ before ++ canonical_items s (items_of all)
-  items_written le =
-      let none : drop i all ≡ [] = drop_all i all le in
-      sym (append-nil out) ∙ ap (λ (x : List ElementList). out ++ canonical_items s (items_of x)) (sym none) ∙ left.told
 
 pub count-drop : (i : ℕ) (es : List Element) → item_count (as_elements (drop i es)) ≤ item_count (as_elements es)
 count-drop zero es = omega arith

@@ -36,11 +36,6 @@ pub value_fits : (levels : ℕ) (vr : Vr) (content : Content) (octets : List ℕ
 value_fits levels vr content octets held rest (plain _ _ n _ len) = extent_fits (Some n) octets rest len
 value_fits levels vr content octets held rest (nested fewer _ syntax extent _ items has spells) = extent_fits extent octets rest has
 
--- with steps enough, one is left
-a_step_is_left : (P : ℕ → Type 0) (k n : ℕ) → k < n → ((m : ℕ) → k ≤ m → P (suc m)) → P n
-a_step_is_left P k zero lt h = absurd (omega arith)
-a_step_is_left P k (suc m) lt h = h m (omega arith)
-
 -- reading the octets with what follows them
 abbrev pub ElementsAgain : Bound → Syntax → ℕ → Option Tag → List ℕ → ElementList → Type 0
 ElementsAgain bound syntax levels last octets d =

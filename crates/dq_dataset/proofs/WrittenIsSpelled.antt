@@ -1,11 +1,11 @@
 -- The canonical spelling spells its data set.
-use Rattle.std.proofs.Common.{◌≡◌, ◌≢◌, eq-eqb, ℕ, zero, suc, ◌-◌, ◌%◌, ◌<◌, ◌≤◌, Bool, true, false, cond, ltb, ◌||◌, List, [], ◌∷◌, ◌++◌, length, Option, Some, None, Ok, refl, sym, ap, subst, ◌∙◌, append_assoc, arith}
+use Rattle.std.proofs.Common.{◌≡◌, ◌≢◌, eq-eqb, ℕ, zero, suc, ◌-◌, ◌%◌, ◌<◌, ◌≤◌, Bool, true, false, cond, ltb, ◌||◌, List, [], ◌∷◌, ◌++◌, length, get_or, Option, Some, None, Ok, refl, sym, ap, subst, ◌∙◌, append_assoc, arith}
 use Rattle.std.specs.Prelude.{is_none, unwrap_or}
 use Rattle.std.specs.Int.{w16, w32, to_le_bytes}
 use Rattle.std.proofs.lemmas.Bool.{ltb-false, ne_eqb}
 use Rattle.dq_vr.specs.declared.Tag.{Tag}
 use Rattle.dq_vr.specs.declared.Vr.{Vr}
-use Rattle.dq_vr.specs.declared.Vr.TheVariants.{AE, AS, AT, CS, DA, DS, DT, FD, FL, IS, LO, LT, OB, OD, OF, OL, OV, OW, PN, SH, SL, SQ, SS, ST, SV, TM, UC, UI, UL, UN, UR, US, UT, UV}
+use Rattle.dq_vr.specs.declared.Vr.TheVariants.{AE, SQ, UN}
 use Rattle.dq_vr.specs.declared.LengthForm.{LengthForm}
 use Rattle.dq_vr.specs.declared.LengthForm.TheVariants.{Two, Four}
 use Rattle.dq_vr.specs.Dictionary.{known_vr}
@@ -38,39 +38,7 @@ pub record HasLetters (vr : Vr) : Type 0 where
 pub two_letters : (vr : Vr) → HasLetters vr
 unfolding letters_of
 two_letters AE = record { first = 65; second = 69; are = refl }
-two_letters AS = record { first = 65; second = 83; are = refl }
-two_letters AT = record { first = 65; second = 84; are = refl }
-two_letters CS = record { first = 67; second = 83; are = refl }
-two_letters DA = record { first = 68; second = 65; are = refl }
-two_letters DS = record { first = 68; second = 83; are = refl }
-two_letters DT = record { first = 68; second = 84; are = refl }
-two_letters FD = record { first = 70; second = 68; are = refl }
-two_letters FL = record { first = 70; second = 76; are = refl }
-two_letters IS = record { first = 73; second = 83; are = refl }
-two_letters LO = record { first = 76; second = 79; are = refl }
-two_letters LT = record { first = 76; second = 84; are = refl }
-two_letters OB = record { first = 79; second = 66; are = refl }
-two_letters OD = record { first = 79; second = 68; are = refl }
-two_letters OF = record { first = 79; second = 70; are = refl }
-two_letters OL = record { first = 79; second = 76; are = refl }
-two_letters OV = record { first = 79; second = 86; are = refl }
-two_letters OW = record { first = 79; second = 87; are = refl }
-two_letters PN = record { first = 80; second = 78; are = refl }
-two_letters SH = record { first = 83; second = 72; are = refl }
-two_letters SL = record { first = 83; second = 76; are = refl }
-two_letters SQ = record { first = 83; second = 81; are = refl }
-two_letters SS = record { first = 83; second = 83; are = refl }
-two_letters ST = record { first = 83; second = 84; are = refl }
-two_letters SV = record { first = 83; second = 86; are = refl }
-two_letters TM = record { first = 84; second = 77; are = refl }
-two_letters UC = record { first = 85; second = 67; are = refl }
-two_letters UI = record { first = 85; second = 73; are = refl }
-two_letters UL = record { first = 85; second = 76; are = refl }
-two_letters UN = record { first = 85; second = 78; are = refl }
-two_letters UR = record { first = 85; second = 82; are = refl }
-two_letters US = record { first = 85; second = 83; are = refl }
-two_letters UT = record { first = 85; second = 84; are = refl }
-two_letters UV = record { first = 85; second = 86; are = refl }
+two_letters vr = record { first = get_or (letters_of vr) 0 0; second = get_or (letters_of vr) 1 0; are = refl }
 
 -- ---- headers
 

@@ -1,6 +1,6 @@
 use Rattle.std.proofs.Common.{◌≡◌, Ok, Err, sym, ◌∙◌, inl, inr}
 use Rattle.dq_dataset.proofs.FaultyIsRead.{faulty_is_read}
-use Rattle.dq_dataset.proofs.ReadIsFaulty.{read_is_faulty, one_of_both, spelled_or_not, one_fault_only, front_is_bytes}
+use Rattle.dq_dataset.proofs.ReadIsFaulty.{read_is_faulty, one_of_both, spelled_or_not, one_fault_only}
 use Rattle.dq_dataset.proofs.SpelledIsRead.{spelled_is_read}
 use Rattle.dq_dataset.proofs.FaultStays.{fault_stays}
 use Rattle.dq_dataset.proofs.laws.fault_law.Goals as goal
@@ -22,11 +22,11 @@ returns-clause-faulty c = λ syntax octets fault ok e. read_is_faulty syntax oct
 
 pub returns-clause-stays_faulty : goal.returns-clause-stays_faulty
 returns-clause-stays_faulty c = λ syntax octets more fault ok other faulty.
-    elim (fault_stays syntax octets more fault (front_is_bytes octets more ok) (faulty_is_read syntax octets fault faulty)) [
-      | inl missing ↦ absurd (other missing)
-      | inr is ↦ read_is_faulty syntax _ fault ok is
-    ]
+    elim (fault_stays syntax octets more fault faulty) [ inl missing ↦ absurd (other missing) | inr is ↦ is ]
 
 pub returns-clause-stays : goal.returns-clause-stays
 returns-clause-stays c = λ syntax octets more fault ok other e.
-    elim (fault_stays syntax octets more fault ok e) [ inl missing ↦ absurd (other missing) | inr is ↦ is ]
+    elim (fault_stays syntax octets more fault (read_is_faulty syntax octets fault ok e)) [
+      | inl missing ↦ absurd (other missing)
+      | inr is ↦ faulty_is_read syntax _ fault is
+    ]
