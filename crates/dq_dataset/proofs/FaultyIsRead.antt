@@ -101,7 +101,7 @@ reach_fits : (extent : Option ℕ) (value rest : List ℕ) → HasReach extent v
 reach_fits None value rest has = refl
 reach_fits (Some n) value rest has = extent_fits (Some n) value rest has
 
-items_in_value : (levels : ℕ) (vr : Vr) (inner : Syntax) (extent : Option ℕ) (value rest : List ℕ) (f : ReadFault) → HasReach extent value rest
+pub items_in_value : (levels : ℕ) (vr : Vr) (inner : Syntax) (extent : Option ℕ) (value rest : List ℕ) (f : ReadFault) → HasReach extent value rest
     → ItemsFail (bound_of extent) inner (levels - 1) value f → (m : ℕ) → length (value ++ rest) ≤ m → value_by (readers (suc m)) levels vr (Sequence inner extent) (value ++ rest) ≡ Err f
 unfolding value_by
 items_in_value levels vr inner None value rest f has fails m le =
@@ -136,7 +136,7 @@ module _ (bound : Bound) (syntax : Syntax) (levels : ℕ) (extent : Option ℕ) 
       let first = read m shorter in
       rw (no_end_before_item, item_again extent header behind is_header whole, first.1, fails m (omega arith)) refl
 
-elements_in_item : (syntax : Syntax) (levels : ℕ) (extent : Option ℕ) (value rest : List ℕ) (f : ReadFault) → HasReach extent value rest
+pub elements_in_item : (syntax : Syntax) (levels : ℕ) (extent : Option ℕ) (value rest : List ℕ) (f : ReadFault) → HasReach extent value rest
     → ElementsFail (bound_of extent) syntax levels None value f → (m : ℕ) → length (value ++ rest) ≤ m → content_by (readers (suc m)) syntax levels extent (value ++ rest) ≡ Err f
 unfolding content_by
 elements_in_item syntax levels None value rest f has fails m le =
@@ -146,7 +146,7 @@ elements_in_item syntax levels (Some n) value rest f has fails m le =
     rw (take_at value rest n has, fails m (omega (arith, length-append value rest))) refl
 
 mutual
-  elements_fail : (bound : Bound) (syntax : Syntax) (levels : ℕ) (last : Option Tag) (octets : List ℕ) (f : ReadFault) → HasFault bound syntax levels last octets f
+  pub elements_fail : (bound : Bound) (syntax : Syntax) (levels : ℕ) (last : Option Tag) (octets : List ℕ) (f : ReadFault) → HasFault bound syntax levels last octets f
       → ElementsFail bound syntax levels last octets f
   elements_fail bound syntax levels last octets f (at_header _ _ _ _ _ _ open_here first) =
       header_fails bound syntax levels last octets f (no_end_here bound 0xE00D octets open_here) first
@@ -160,7 +160,7 @@ mutual
       (value_fits levels (vr_of (known_vr tag) content) content value held rest spells) f held rest (omega (arith, length-append value rest))
       (value_again levels (vr_of (known_vr tag) content) content value held spells rest) (elements_fail bound syntax levels (Some tag) rest f faulty))
 
-  items_fail : (bound : Bound) (syntax : Syntax) (levels : ℕ) (octets : List ℕ) (f : ReadFault) → ItemsHaveFault bound syntax levels octets f → ItemsFail bound syntax levels octets f
+  pub items_fail : (bound : Bound) (syntax : Syntax) (levels : ℕ) (octets : List ℕ) (f : ReadFault) → ItemsHaveFault bound syntax levels octets f → ItemsFail bound syntax levels octets f
   items_fail bound syntax levels octets f (at_item _ _ _ _ _ open_here first) = item_fails bound syntax levels octets f (no_end_here bound 0xE0DD octets open_here) first
   items_fail bound syntax levels octets f (in_item _ _ _ _ _ extent header value rest is_header has faulty e) =
       subst (λ (o : List ℕ). ItemsFail bound syntax levels o f) (sym e)

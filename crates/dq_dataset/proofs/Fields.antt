@@ -1,5 +1,5 @@
 -- Numbers, tags and lengths that are read are spelled so, and what is spelled so is read.
-use Rattle.std.proofs.Common.{◌≡◌, ℕ, ◌+◌, ◌^◌, ◌<◌, ◌≤◌, Bool, true, false, cond, ltb, eqb, List, ◌++◌, length, get_or, take, drop, Option, Some, None, Result, Ok, Err, refl, sym, ap, subst, ◌∙◌, append_assoc, lit<, arith, inl, inr}
+use Rattle.std.proofs.Common.{◌≡◌, ℕ, ◌+◌, ◌^◌, ◌<◌, ◌≤◌, Bool, true, false, cond, ltb, eqb, List, ◌++◌, length, get_or, take, drop, Option, Some, None, Result, Ok, Err, refl, sym, ap, subst, ◌∙◌, append_assoc, lit<, arith, inl, inr, ◌⊎◌}
 use Rattle.std.specs.Int.{Width, w16, w32, byte_len, from_le_bytes, to_le_bytes}
 use Rattle.std.proofs.lemmas.Bool.{cases_lt, ltb-false, le-ltb, eqb-true, eqb-false, ne_eqb}
 use Rattle.std.proofs.lemmas.List.{take_at, drop_at, take-append-drop, length-append, length-take, get_or-drop, get_or-take, get_or_past}
@@ -29,6 +29,12 @@ pub bind_ok : {A B : Type 0} (r : Result A ReadFault) (f : A → Result B ReadFa
 bind_ok (Ok x) f y e = (x, refl, e)
 bind_ok (Err d) f y e = absurd cc
 
+-- the fault of a step, or of what follows it
+pub bind_err : {A B : Type 0} (r : Result A ReadFault) (k : A → Result B ReadFault) (f : ReadFault) → (r >>= k) ≡ Err f
+    → (r ≡ Err f) ⊎ ((x : A) × (r ≡ Ok x) × (k x ≡ Err f))
+bind_err (Ok x) k f e = inr (x, refl, e)
+bind_err (Err g) k f e = inl (let same : g ≡ f = cc in ap (λ (x : ReadFault). Err x) same)
+
 -- a test that did not fail
 pub guard_ok : {A : Type 0} (b : Bool) (d : ReadFault) (x y : A) → cond b (Err d) (Ok x) ≡ Ok y → (b ≡ false) × (x ≡ y)
 guard_ok true d x y e = absurd cc
@@ -39,6 +45,15 @@ done x = Ok x
 
 pub ok_is : {A : Type 0} (x y : A) → done x ≡ done y → x ≡ y
 ok_is x y e = cc
+
+abbrev failed : (A : Type 0) → ReadFault → Result A ReadFault
+failed A f = Err f
+
+pub err_is : {A : Type 0} (f g : ReadFault) → failed A f ≡ failed A g → f ≡ g
+err_is f g e = cc
+
+pub no_fault : {A : Type 0} (x : A) (f : ReadFault) → done x ≡ Err f → ⊥
+no_fault x f e = absurd cc
 
 -- what a reader took from the front
 pub record Takes (bytes text rest : List ℕ) : Type 0 where

@@ -25,7 +25,7 @@ use Rattle.dq_dataset.specs.Agreement.{IsLentValue, IsLent, Lends, FaultAfter, a
 use Rattle.dq_dataset.proofs.Views.{elements_of-with_value}
 use Rattle.dq_dataset.proofs.LentLemmas.{Found, NextReads, next_reads, next_shorter}
 use Rattle.dq_dataset.proofs.LentFaults.{next_is_spelled, next_is_faulty}
-use Rattle.dq_dataset.proofs.ReadIsSpelled.{ReadsValue}
+use Rattle.dq_dataset.proofs.SpelledOrFaulty.{ReadsValue}
 
 -- ---- values
 

@@ -15,25 +15,17 @@ use Rattle.dq_dataset.specs.Grammar.{AreOctets, IsPlaced, IsHeader, SpellsValue}
 use Rattle.dq_dataset.specs.Faults.{HasFault, at_header}
 use Rattle.dq_dataset.specs.Lending.{value_octets, next_at}
 use Rattle.dq_dataset.proofs.Headers.{ReadsHeader, header_takes, header_again}
-use Rattle.dq_dataset.proofs.HeaderFaults.{header_faults_are}
+use Rattle.dq_dataset.proofs.HeaderFaults.{fault_of, header_faults_are}
 use Rattle.dq_dataset.proofs.SpelledIsRead.{value_nests, value_fits, value_again}
-use Rattle.dq_dataset.proofs.ReadIsFaulty.{bind_err, no_fault, named, done, readers_faulty, in_a_value}
-
-abbrev Found : Type 0
-Found = (Header × List ℕ) × List ℕ
-
-abbrev found_step : Header × List ℕ → Value × List ℕ → Result Found ReadFault
-found_step header value = Ok ((header.0, value_octets (length_of header.0.content) header.1 value.1), value.1)
-
-abbrev header_step : Header × List ℕ → Result Found ReadFault
-header_step header = value_by (readers (length header.1 + 1)) 16 header.0.vr header.0.content header.1 >>= found_step header
+use Rattle.dq_dataset.proofs.SpelledOrFaulty.{in_a_value}
+use Rattle.dq_dataset.proofs.LentLemmas.{found_step, header_step}
+use Rattle.dq_dataset.proofs.Fields.{bind_err, no_fault}
 
 value_failed : (syntax : Syntax) (last : Option Tag) (octets : List ℕ) (f : ReadFault) (h : Header × List ℕ) → ReadsHeader syntax 16 last octets h.0 h.1 → header_step h ≡ Err f
     → HasFault Filled syntax 16 last octets f
 value_failed syntax last octets f h reads e =
-    let n = length h.1 + 1 in
-    elim (bind_err (value_by (readers n) 16 h.0.vr h.0.content h.1) (found_step h) f e) [
-      | inl failed ↦ in_a_value n (readers_faulty n) Filled syntax 16 last octets h.0 h.0.content h.1 f (omega arith) refl reads failed
+    elim (bind_err (value_by (readers (length h.1 + 1)) 16 h.0.vr h.0.content h.1) (found_step h) f e) [
+      | inl failed ↦ in_a_value Filled syntax 16 last octets h.0 h.1 f reads failed
       | inr later ↦ absurd (no_fault _ f later.2)
     ]
 
@@ -42,7 +34,7 @@ pub next_is_faulty : (syntax : Syntax) (last : Option Tag) (octets : List ℕ) (
 unfolding next_at
 next_is_faulty syntax last octets f ok some e =
     elim (bind_err (header_at syntax 16 last octets) header_step f e) [
-      | inl failed ↦ at_header Filled syntax 16 last octets f some (sym (header_faults_are syntax 16 last octets) ∙ named (header_at syntax 16 last octets) f failed)
+      | inl failed ↦ at_header Filled syntax 16 last octets f some (sym (header_faults_are syntax 16 last octets) ∙ ap fault_of failed)
       | inr later ↦ value_failed syntax last octets f later.0 (header_takes syntax 16 last octets later.0.0 later.0.1 ok later.1) later.2
     ]
 

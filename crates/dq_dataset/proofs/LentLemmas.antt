@@ -12,7 +12,7 @@ use Rattle.dq_dataset.specs.Grammar.{AreOctets}
 use Rattle.dq_dataset.specs.Lending.{Spelled, inner_syntax, spelled_as, value_octets, next_at, lent_after, lent_in, lent_from}
 use Rattle.dq_dataset.proofs.Fields.{bind_ok, ok_is}
 use Rattle.dq_dataset.proofs.Headers.{ReadsHeader, header_takes, header_long}
-use Rattle.dq_dataset.proofs.ReadIsSpelled.{readers_sound, ReadsValue, value_takes}
+use Rattle.dq_dataset.proofs.SpelledOrFaulty.{ReadsValue, value_takes}
 
 abbrev pub Found : Type 0
 Found = (Header × List ℕ) × List ℕ
@@ -22,20 +22,20 @@ NextReads syntax last octets found =
     (behind : List ℕ) × ReadsHeader syntax 16 last octets found.0.0 behind × (held : Value) × ReadsValue 16 found.0.0.vr found.0.0.content behind held found.1
     × (found.0.1 ≡ value_octets (length_of found.0.0.content) behind found.1)
 
-abbrev found_step : Header × List ℕ → Value × List ℕ → Result Found ReadFault
+abbrev pub found_step : Header × List ℕ → Value × List ℕ → Result Found ReadFault
 found_step header value = Ok ((header.0, value_octets (length_of header.0.content) header.1 value.1), value.1)
 
-abbrev header_step : Header × List ℕ → Result Found ReadFault
+abbrev pub header_step : Header × List ℕ → Result Found ReadFault
 header_step header = value_by (readers (length header.1 + 1)) 16 header.0.vr header.0.content header.1 >>= found_step header
 
 pub next_reads : (syntax : Syntax) (last : Option Tag) (octets : List ℕ) (found : Found) → AreOctets octets → next_at syntax last octets ≡ Ok found → NextReads syntax last octets found
 unfolding next_at
 next_reads syntax last octets found ok e =
     let h = bind_ok (header_at syntax 16 last octets) header_step found e in
-    let n = length h.0.1 + 1 in
-    let v = bind_ok (value_by (readers n) 16 h.0.0.vr h.0.0.content h.0.1) (found_step h.0) found h.2 in
-    let header = header_takes syntax 16 last octets h.0.0 h.0.1 ok h.1 in
-    let value = value_takes (readers n) (readers_sound n) 16 h.0.0.vr h.0.0.content h.0.1 v.0.0 v.0.1 header.nests header.whole header.takes.rest_fits v.1 in
+    let behind = h.0.1 in
+    let v = bind_ok (value_by (readers (length behind + 1)) 16 h.0.0.vr h.0.0.content behind) (found_step h.0) found h.2 in
+    let header = header_takes syntax 16 last octets h.0.0 behind ok h.1 in
+    let value = value_takes 16 h.0.0.vr h.0.0.content behind header.nests header.whole header.takes.rest_fits v.0.0 v.0.1 v.1 in
     let one : NextReads syntax last octets ((h.0.0, value_octets (length_of h.0.0.content) h.0.1 v.0.1), v.0.1) = (h.0.1, header, v.0.0, value, refl) in
     let same = ok_is ((h.0.0, value_octets (length_of h.0.0.content) h.0.1 v.0.1), v.0.1) found v.2 in
     subst (λ (x : Found). NextReads syntax last octets x) same one

@@ -3,7 +3,6 @@ pub mod Loops
 pub mod Spelled
 pub mod Fields
 pub mod Headers
-pub mod ReadIsSpelled
 pub mod SpelledIsRead
 pub mod SpelledIsSound
 pub mod ReadIsSound
@@ -18,6 +17,6 @@ pub mod FaultStays
 pub mod Edits
 pub mod HeaderFaults
 pub mod FaultyIsRead
-pub mod ReadIsFaulty
+pub mod SpelledOrFaulty
 pub mod LentFaults
 pub mod Lengths

@@ -8,8 +8,7 @@ use Rattle.dq_dataset.specs.Reading.{Gives, reading}
 use Rattle.dq_dataset.specs.declared.fault.ReadFault.TheVariants.{NoMemory}
 use Rattle.dq_dataset.specs.Faults.{IsFaulty}
 use Rattle.dq_dataset.specs.Grammar.{AreOctets, IsSpelled}
-use Rattle.dq_dataset.proofs.ReadIsSpelled.{reading_is_spelled}
-use Rattle.dq_dataset.proofs.ReadIsFaulty.{read_is_faulty}
+use Rattle.dq_dataset.proofs.SpelledOrFaulty.{reading_is_spelled, read_is_faulty}
 use Rattle.dq_dataset.proofs.SpelledIsRead.{spelled_is_read}
 
 pub found_is_spelled : (syntax : Syntax) (octets : List ℕ) (r : Result ElementList ReadFault) → AreOctets octets → Gives (λ d. d) r (reading syntax octets) → IfOk r (λ d. IsSpelled syntax octets d)

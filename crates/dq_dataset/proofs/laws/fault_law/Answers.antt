@@ -1,6 +1,8 @@
 use Rattle.std.proofs.Common.{◌≡◌, Ok, Err, sym, ◌∙◌, inl, inr}
 use Rattle.dq_dataset.proofs.FaultyIsRead.{faulty_is_read}
-use Rattle.dq_dataset.proofs.ReadIsFaulty.{read_is_faulty, one_of_both, spelled_or_not, one_fault_only}
+use Rattle.dq_dataset.specs.Tree.{ElementList}
+use Rattle.dq_dataset.proofs.Fields.{err_is, no_fault}
+use Rattle.dq_dataset.proofs.SpelledOrFaulty.{read_is_faulty, one_of_both}
 use Rattle.dq_dataset.proofs.SpelledIsRead.{spelled_is_read}
 use Rattle.dq_dataset.proofs.FaultStays.{fault_stays}
 use Rattle.dq_dataset.proofs.laws.fault_law.Goals as goal
@@ -9,10 +11,10 @@ pub returns-clause-some : goal.returns-clause-some
 returns-clause-some c = one_of_both
 
 pub returns-clause-no_other : goal.returns-clause-no_other
-returns-clause-no_other c = λ syntax octets d fault spells faulty. spelled_or_not d fault (sym (spelled_is_read syntax octets d spells) ∙ faulty_is_read syntax octets fault faulty)
+returns-clause-no_other c = λ syntax octets d fault spells faulty. no_fault d fault (sym (spelled_is_read syntax octets d spells) ∙ faulty_is_read syntax octets fault faulty)
 
 pub returns-clause-one : goal.returns-clause-one
-returns-clause-one c = λ syntax octets f g p q. one_fault_only f g (sym (faulty_is_read syntax octets f p) ∙ faulty_is_read syntax octets g q)
+returns-clause-one c = λ syntax octets f g p q. err_is {A = ElementList} f g (sym (faulty_is_read syntax octets f p) ∙ faulty_is_read syntax octets g q)
 
 pub returns-clause-read : goal.returns-clause-read
 returns-clause-read c = faulty_is_read

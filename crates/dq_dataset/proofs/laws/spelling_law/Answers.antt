@@ -1,6 +1,6 @@
 use Rattle.std.proofs.Common.{sym, ◌∙◌}
 use Rattle.dq_dataset.proofs.Fields.{ok_is}
-use Rattle.dq_dataset.proofs.ReadIsSpelled.{reading_is_spelled}
+use Rattle.dq_dataset.proofs.SpelledOrFaulty.{reading_is_spelled}
 use Rattle.dq_dataset.proofs.SpelledIsRead.{spelled_is_read}
 use Rattle.dq_dataset.proofs.SpelledIsSound.{spelled_is_sound}
 use Rattle.dq_dataset.proofs.SpelledIsShort.{spelled_is_short}
