@@ -1,6 +1,6 @@
 -- What is cut out of a data set, and what is merged from two.
-use Rattle.std.proofs.Common.{◌≡◌, ℕ, suc, ◌-◌, ◌<◌, Bool, true, false, cond, ◌&&◌, ◌||◌, List, [], ◌∷◌, ◌++◌, length, get_or, take, drop, Option, Some, None, refl, sym, ap, subst, ◌∙◌, append_assoc, ◌+◌, arith, inl, inr, ◌⊎◌}
-use Rattle.std.specs.Prelude.{filter, nat_lt, nat_eq}
+use Rattle.std.proofs.Common.{◌≡◌, ℕ, ◌-◌, ◌<◌, Bool, true, false, cond, ◌&&◌, List, [], ◌∷◌, ◌++◌, length, get_or, take, drop, Option, Some, None, refl, sym, ap, subst, ◌∙◌, append_assoc, ◌+◌, arith}
+use Rattle.std.specs.Prelude.{filter, nat_eq}
 use Rattle.std.proofs.lemmas.List.{take_all, take_more}
 use Rattle.std.proofs.lemmas.Bool.Decides.{nat_tests}
 use Rattle.dq_vr.specs.declared.Tag.{Tag}
@@ -11,15 +11,14 @@ use Rattle.dq_dataset.specs.declared.data_set.Element.{Element}
 use Rattle.dq_dataset.specs.declared.data_set.Value.{Value}
 use Rattle.dq_dataset.specs.declared.data_set.Value.TheVariants.{Octets, Items}
 use Rattle.dq_dataset.specs.Tree.{ElementList}
-use Rattle.dq_dataset.specs.View.{as_elements, elements_of, with_value, has_tag}
-use Rattle.dq_dataset.specs.Reading.{follows}
+use Rattle.dq_dataset.specs.View.{as_elements, elements_of, with_value}
 use Rattle.dq_dataset.specs.Facts.{IsElementTag, AreElements, IsDataSet}
 use Rattle.dq_dataset.specs.Canonical.{HasLengths}
 use Rattle.dq_dataset.specs.Parts.{ElementHasLengths}
 use Rattle.dq_dataset.specs.Editing.{is_listed, cut_out, elements_below, elements_above, merged_elements, merged}
-use Rattle.dq_dataset.proofs.SpelledIsSound.{after_earlier, IsValue, with_value_is}
+use Rattle.dq_dataset.proofs.SpelledIsSound.{behind_another, after_earlier, IsValue, with_value_is}
 use Rattle.dq_dataset.proofs.Spelled.{lengths-cons}
-use Rattle.dq_dataset.proofs.Views.{as_elements-elements_of, elements_of-as_elements}
+use Rattle.dq_dataset.proofs.Views.{as_elements-elements_of}
 
 -- ---- tags
 
@@ -67,7 +66,7 @@ filter_by : (b : Bool) (levels : ℕ) (last : Option Tag) (e : Element) (es : Li
 filter_by true levels last e es t v rest = facts-cons levels last e es t v rest
 filter_by false levels last e es t v rest = after_earlier levels last e.tag (as_elements es) t.rises rest
 
-pub facts-filter : (p : Element → Bool) (levels : ℕ) (last : Option Tag) (es : List Element) → AreElements levels last (as_elements es) → AreElements levels last (as_elements (filter p es))
+facts-filter : (p : Element → Bool) (levels : ℕ) (last : Option Tag) (es : List Element) → AreElements levels last (as_elements es) → AreElements levels last (as_elements (filter p es))
 facts-filter p levels last [] h = tt
 facts-filter p levels last (e ∷ es) h =
     let parts = facts-parts levels last e es h in
@@ -99,10 +98,6 @@ all_above levels tag (e ∷ es) h =
     let later = all_above levels tag es (after_earlier levels (Some tag) e.tag (as_elements es) above parts.2) in
     (rw (below-asym tag e.tag above) later.0, rw above (ap (λ (xs : List Element). e ∷ xs) later.1))
 
-pub next_is_kept : (first : Element) (rest : List Element) (new : Element) (others : List Element) → is_below first.tag new.tag ≡ true
-    → merged_elements (first ∷ rest) (new ∷ others) ≡ first ∷ merged_elements rest (new ∷ others)
-next_is_kept first rest new others h = rw (h, below-asym first.tag new.tag h) refl
-
 next_is_new_by : (new : Element) (kept others below above : List Element) → below ≡ [] → above ≡ kept → below ++ new ∷ merged_elements above others ≡ new ∷ merged_elements kept others
 next_is_new_by new kept others below above b a = rw (b, a) refl
 
@@ -110,7 +105,7 @@ irreflexive : (a : Tag) → is_below a a ≡ false
 unfolding is_below
 irreflexive a = grind (arith, nat_tests)
 
-pub next_replaces : (first : Element) (rest : List Element) (new : Element) (others : List Element) → IsDataSet (as_elements (first ∷ rest))
+next_replaces : (first : Element) (rest : List Element) (new : Element) (others : List Element) → IsDataSet (as_elements (first ∷ rest))
     → (nat_eq first.tag.group new.tag.group && nat_eq first.tag.element new.tag.element) ≡ true → merged_elements (first ∷ rest) (new ∷ others) ≡ new ∷ merged_elements rest others
 next_replaces first rest new others h same =
     let one : first.tag ≡ new.tag = same_tags first.tag new.tag same in
@@ -120,13 +115,12 @@ next_replaces first rest new others h same =
     let no' : is_below new.tag first.tag ≡ false = rw one (irreflexive new.tag) in
     rw (no, no') (next_is_new_by new rest others (elements_below new.tag rest) (elements_above new.tag rest) above.0 above.1)
 
-pub next_joins : (first : Element) (rest : List Element) (new : Element) (others : List Element) → IsDataSet (as_elements (first ∷ rest)) → is_below first.tag new.tag ≡ false
+next_joins : (first : Element) (rest : List Element) (new : Element) (others : List Element) → IsDataSet (as_elements (first ∷ rest)) → is_below first.tag new.tag ≡ false
     → (nat_eq first.tag.group new.tag.group && nat_eq first.tag.element new.tag.element) ≡ false → merged_elements (first ∷ rest) (new ∷ others) ≡ new ∷ merged_elements (first ∷ rest) others
 next_joins first rest new others h not_below other =
     let after : is_below new.tag first.tag ≡ true = below-other first.tag new.tag not_below other in
     let rises = facts-parts 16 None first rest h in
-    let tag_is = rises.0 in
-    let placed : IsElementTag (Some new.tag) first.tag = record { rises = after; no_delimiter = tag_is.no_delimiter; no_length = tag_is.no_length; group = tag_is.group; number = tag_is.number } in
+    let placed = behind_another None (Some new.tag) first.tag after rises.0 in
     let above = all_above 16 new.tag (first ∷ rest) (facts-cons 16 (Some new.tag) first rest placed rises.1 rises.2) in
     next_is_new_by new (first ∷ rest) others (elements_below new.tag (first ∷ rest)) (elements_above new.tag (first ∷ rest)) above.0 above.1
 
@@ -147,7 +141,7 @@ same_so_far {A} items others left rest i x y lt is before parts same =
 -- the same of slices
 pub kept_first : (kept sent : List Element) (first : Element) (rest : List Element) (new : Element) (others : List Element) → kept ≡ first ∷ rest → sent ≡ new ∷ others
     → is_below first.tag new.tag ≡ true → merged_elements kept sent ≡ first ∷ merged_elements rest sent
-kept_first kept sent first rest new others k s h = rw (k, s) (next_is_kept first rest new others h)
+kept_first kept sent first rest new others k s h = rw (k, s, h, below-asym first.tag new.tag h) refl
 
 pub replaced_first : (kept sent : List Element) (first : Element) (rest : List Element) (new : Element) (others : List Element) → kept ≡ first ∷ rest → sent ≡ new ∷ others
     → IsDataSet (as_elements kept) → (nat_eq first.tag.group new.tag.group && nat_eq first.tag.element new.tag.element) ≡ true → merged_elements kept sent ≡ new ∷ merged_elements rest others
@@ -160,13 +154,10 @@ joined_first kept sent first rest new others k s h below other = rw (k, s) (next
 
 -- ---- what is merged is a data set
 
-with_last : (last next : Option Tag) (tag : Tag) → follows next tag ≡ true → IsElementTag last tag → IsElementTag next tag
-with_last last next tag rises h = record { rises = rises; no_delimiter = h.no_delimiter; no_length = h.no_length; group = h.group; number = h.number }
-
 before_by : (b : Bool) (levels : ℕ) (last : Option Tag) (x : Element) (below : List Element) (e : Element) (rest : List Element) → is_below x.tag e.tag ≡ b → IsElementTag last x.tag
     → IsValue levels x.tag x.vr x.value → IsElementTag last e.tag → (IsElementTag (Some x.tag) e.tag → AreElements levels (Some x.tag) (as_elements (below ++ e ∷ rest)))
     → AreElements levels last (as_elements (below ++ e ∷ rest)) → AreElements levels last (as_elements (cond b (x ∷ below) below ++ e ∷ rest))
-before_by true levels last x below e rest is tx vx te later others = facts-cons levels last x (below ++ e ∷ rest) tx vx (later (with_last last (Some x.tag) e.tag is te))
+before_by true levels last x below e rest is tx vx te later others = facts-cons levels last x (below ++ e ∷ rest) tx vx (later (behind_another last (Some x.tag) e.tag is te))
 before_by false levels last x below e rest is tx vx te later others = others
 
 before_one : (levels : ℕ) (last : Option Tag) (kept : List Element) (e : Element) (rest : List Element) → AreElements levels last (as_elements kept) → IsElementTag last e.tag
@@ -179,7 +170,7 @@ before_one levels last (x ∷ xs) e rest k t v r =
 
 above_by : (b : Bool) (levels : ℕ) (last : Option Tag) (tag : Tag) (x : Element) (above : List Element) → is_below tag x.tag ≡ b → IsElementTag last x.tag → IsValue levels x.tag x.vr x.value
     → AreElements levels (Some x.tag) (as_elements above) → AreElements levels (Some tag) (as_elements above) → AreElements levels (Some tag) (as_elements (cond b (x ∷ above) above))
-above_by true levels last tag x above is t v later others = facts-cons levels (Some tag) x above (with_last last (Some tag) x.tag is t) v later
+above_by true levels last tag x above is t v later others = facts-cons levels (Some tag) x above (behind_another last (Some tag) x.tag is t) v later
 above_by false levels last tag x above is t v later others = others
 
 facts-above : (levels : ℕ) (last : Option Tag) (tag : Tag) (es : List Element) → AreElements levels last (as_elements es) → AreElements levels (Some tag) (as_elements (elements_above tag es))

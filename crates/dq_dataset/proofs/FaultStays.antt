@@ -1,5 +1,5 @@
 -- A fault other than that octets are missing stays, whatever octets follow.
-use Rattle.std.proofs.Common.{◌≡◌, ℕ, ◌-◌, ◌≤◌, Bool, true, false, not, cond, ltb, eqb, leb, ◌&&◌, List, [], ◌∷◌, ◌++◌, length, drop, Option, Some, None, Err, refl, ap, ◌∙◌, append_assoc, sym, arith, inl, inr, ◌⊎◌}
+use Rattle.std.proofs.Common.{◌≡◌, ℕ, ◌-◌, ◌≤◌, Bool, true, false, not, cond, ltb, leb, List, [], ◌∷◌, ◌++◌, length, drop, Option, Some, None, refl, ap, ◌∙◌, append_assoc, arith, inl, inr, ◌⊎◌}
 use Rattle.std.specs.Int.{w32, from_le_bytes}
 use Rattle.std.proofs.lemmas.Bool.{ltb-false, le-ltb, leb-true, le-leb, ne_eqb, not-false, not_from_true}
 use Rattle.std.proofs.lemmas.List.{length-append, take-append-le, drop-append-le, append-nil}
@@ -15,10 +15,8 @@ use Rattle.dq_dataset.specs.declared.header.Syntax.{Syntax}
 use Rattle.dq_dataset.specs.declared.header.Syntax.TheVariants.{Implicit, Explicit}
 use Rattle.dq_dataset.specs.declared.header.Bound.{Bound}
 use Rattle.dq_dataset.specs.declared.header.Bound.TheVariants.{Filled, Delimited}
-use Rattle.dq_dataset.specs.Rules.{follows, fits}
-use Rattle.dq_dataset.specs.Reading.{reading}
-use Rattle.dq_dataset.specs.Grammar.{AreOctets, bound_of}
-use Rattle.dq_dataset.specs.Faults.{tag_in, vr_in, defined, size_by, header_size, extent_by, extent_in, first_of, is_allowed, holds_items, faults_of_content, faults_of_header, header_faults, item_faults, ends_here, HasFault, at_header, in_value, after_element, ItemsHaveFault, at_item, in_item, after_item, IsFaulty}
+use Rattle.dq_dataset.specs.Rules.{fits}
+use Rattle.dq_dataset.specs.Faults.{tag_in, defined, size_by, header_size, extent_by, extent_in, first_of, faults_of_content, faults_of_header, header_faults, item_faults, ends_here, HasFault, at_header, in_value, after_element, ItemsHaveFault, at_item, in_item, after_item, IsFaulty}
 use Rattle.dq_dataset.proofs.HeaderFaults.{eight, by_eight}
 
 -- ---- tests of a header
@@ -67,7 +65,7 @@ module _ (a b c d e f g h : ℕ) (rest t : List ℕ) where
 
   after_vr : (levels : ℕ) (tag : Tag) (spelled : Option Vr) → ltb (length all) (header_size spelled) ≡ false
       → Stays (first_of (faults_of_content levels (known_vr tag) spelled (extent_in spelled all) (drop (header_size spelled) all)))
-        (first_of (faults_of_content levels (known_vr tag) spelled (extent_in spelled (all ++ t)) (drop (header_size spelled) (all ++ t))))
+      (first_of (faults_of_content levels (known_vr tag) spelled (extent_in spelled (all ++ t)) (drop (header_size spelled) (all ++ t))))
   after_vr levels tag spelled long =
       let le = ltb-false (length all) (header_size spelled) long in
       rw (same_extent spelled le, drop-append-le (header_size spelled) all t le)

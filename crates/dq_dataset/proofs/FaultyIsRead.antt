@@ -1,28 +1,25 @@
 -- Reading answers the first fault.
-use Rattle.std.proofs.Common.{◌≡◌, ℕ, zero, suc, ◌+◌, ◌-◌, ◌<◌, ◌≤◌, Bool, true, false, eqb, List, [], ◌∷◌, ◌++◌, length, take, drop, Option, Some, None, Result, Ok, Err, refl, sym, ap, subst, ◌∙◌, append_assoc, lit<, arith, inl, inr, ◌⊎◌}
-use Rattle.std.proofs.lemmas.Bool.{lt-ltb, ne_eqb, le-leb}
-use Rattle.std.proofs.lemmas.List.{take_at, drop_at, length-append, append-nil}
+use Rattle.std.proofs.Common.{◌≡◌, ℕ, zero, suc, ◌+◌, ◌-◌, ◌≤◌, true, List, ◌++◌, length, Option, Some, None, Result, Ok, Err, refl, sym, ap, subst, ◌∙◌, arith, inl, inr}
+use Rattle.std.proofs.lemmas.Bool.{lt-ltb}
+use Rattle.std.proofs.lemmas.List.{take_at, length-append, append-nil}
 use Rattle.dq_vr.specs.declared.Tag.{Tag}
 use Rattle.dq_vr.specs.declared.Vr.{Vr}
 use Rattle.dq_vr.specs.Dictionary.{known_vr}
 use Rattle.dq_dataset.specs.declared.fault.ReadFault.{ReadFault}
 use Rattle.dq_dataset.specs.declared.header.Syntax.{Syntax}
 use Rattle.dq_dataset.specs.declared.header.Bound.{Bound}
-use Rattle.dq_dataset.specs.declared.header.Bound.TheVariants.{Filled, Delimited}
+use Rattle.dq_dataset.specs.declared.header.Bound.TheVariants.{Filled}
 use Rattle.dq_dataset.specs.declared.header.Content.{Content}
 use Rattle.dq_dataset.specs.declared.header.Content.TheVariants.{Sequence}
-use Rattle.dq_dataset.specs.declared.header.Header.{Header}
 use Rattle.dq_dataset.specs.declared.data_set.Value.{Value}
 use Rattle.dq_dataset.specs.Tree.{ElementList}
 use Rattle.dq_dataset.specs.Rules.{vr_of}
-use Rattle.dq_dataset.specs.Reading.{◌>>=◌, may_nest, length_of, fits, header_at, item_header_at, end_at, unless_ended, value_by, element_by, elements_after, elements_by, content_by, item_by, items_after, items_by, readers, reading}
-use Rattle.dq_dataset.specs.Canonical.{tag_octets}
-use Rattle.dq_dataset.specs.Grammar.{IsHeader, IsPlaced, IsItemHeader, HasExtent, Spells, SpellsValue, bound_of}
-use Rattle.dq_dataset.specs.Faults.{first_of, header_faults, item_faults, ends_here, HasReach, HasFault, at_header, in_value, after_element, ItemsHaveFault, at_item, in_item, after_item, IsFaulty}
-use Rattle.dq_dataset.proofs.Fields.{length_four}
-use Rattle.dq_dataset.proofs.Headers.{header_again, header_long, spelling_long, item_again, item_long, end_other}
+use Rattle.dq_dataset.specs.Reading.{may_nest, length_of, fits, header_at, item_header_at, end_at, value_by, element_by, elements_after, elements_by, content_by, item_by, items_after, items_by, readers, reading}
+use Rattle.dq_dataset.specs.Grammar.{IsHeader, IsPlaced, IsItemHeader, bound_of}
+use Rattle.dq_dataset.specs.Faults.{first_of, header_faults, item_faults, HasReach, HasFault, at_header, in_value, after_element, ItemsHaveFault, at_item, in_item, after_item, IsFaulty}
+use Rattle.dq_dataset.proofs.Headers.{header_again, header_long, item_again, item_long, no_end_before, no_end_before_item}
 use Rattle.dq_dataset.proofs.HeaderFaults.{fault_of, header_faults_are, item_faults_are, NoEnd, no_end_here, end_fault_first, end_fault_item}
-use Rattle.dq_dataset.proofs.SpelledIsRead.{extent_fits, value_nests, value_fits, ValueAgain, value_again, elements_again, content_again}
+use Rattle.dq_dataset.proofs.SpelledIsRead.{extent_fits, value_nests, value_fits, value_again, elements_again, content_again}
 
 -- what names a fault is that fault
 some_fault : {X : Type 0} (r : Result X ReadFault) (f : ReadFault) → fault_of r ≡ Some f → r ≡ Err f
@@ -69,13 +66,8 @@ item_fails bound syntax levels octets f (inr (inr bad)) first m le =
 -- the header, and no end before it
 module _ (bound : Bound) (syntax : Syntax) (levels : ℕ) (last : Option Tag) (tag : Tag) (content : Content) (header behind : List ℕ)
     (placed : IsPlaced last tag) (is_header : IsHeader syntax tag content header) (nests : may_nest levels content ≡ true) (whole : fits (length_of content) behind ≡ true) where
-  no_end_before : end_at bound 0xE00D (header ++ behind) ≡ Ok None
-  no_end_before =
-      let more = is_header.behind in
-      let long : 4 ≤ length (more ++ behind) = omega (arith, length-append more behind, spelling_long syntax (known_vr tag) is_header.spelled is_header.extent more is_header.spelling) in
-      let group : eqb tag.group 0xFFFE ≡ false = ne_eqb tag.group 0xFFFE placed.no_delimiter in
-      ap (end_at bound 0xE00D) (ap (λ (x : List ℕ). x ++ behind) is_header.whole ∙ append_assoc (tag_octets tag) more behind)
-      ∙ end_other bound 0xE00D tag (more ++ behind) placed.group placed.number long (rw group refl)
+  no_end : end_at bound 0xE00D (header ++ behind) ≡ Ok None
+  no_end = no_end_before bound last syntax tag content header behind placed is_header
 
   the_header : header_at syntax levels last (header ++ behind) ≡ Ok (record { tag = tag; vr = vr_of (known_vr tag) content; content = content }, behind)
   the_header = header_again syntax levels last tag content header behind placed is_header nests whole
@@ -86,7 +78,7 @@ module _ (bound : Bound) (syntax : Syntax) (levels : ℕ) (last : Option Tag) (t
   value_fails f fails zero le = absurd (omega (arith, header_long syntax tag content header is_header, length-append header behind))
   value_fails f fails (suc m) le =
       let shorter : length behind ≤ m = omega (arith, header_long syntax tag content header is_header, length-append header behind) in
-      rw (no_end_before, the_header, fails m shorter) refl
+      rw (no_end, the_header, fails m shorter) refl
 
   others_fail : (f : ReadFault) (held : Value) (rest : List ℕ) → length rest ≤ length behind
       → ((m : ℕ) → length behind ≤ m → value_by (readers (suc m)) levels (vr_of (known_vr tag) content) content behind ≡ Ok (held, rest))
@@ -95,7 +87,7 @@ module _ (bound : Bound) (syntax : Syntax) (levels : ℕ) (last : Option Tag) (t
   others_fail f held rest le' read fails zero le = absurd (omega (arith, header_long syntax tag content header is_header, length-append header behind))
   others_fail f held rest le' read fails (suc m) le =
       let shorter : length behind ≤ m = omega (arith, header_long syntax tag content header is_header, length-append header behind) in
-      rw (no_end_before, the_header, read m shorter, fails m (omega arith)) refl
+      rw (no_end, the_header, read m shorter, fails m (omega arith)) refl
 
 reach_fits : (extent : Option ℕ) (value rest : List ℕ) → HasReach extent value rest → fits extent (value ++ rest) ≡ true
 reach_fits None value rest has = refl
@@ -111,20 +103,15 @@ items_in_value levels vr inner (Some n) value rest f has fails m le =
     rw (take_at value rest n has, fails m (omega (arith, length-append value rest))) refl
 
 module _ (bound : Bound) (syntax : Syntax) (levels : ℕ) (extent : Option ℕ) (header behind : List ℕ) (is_header : IsItemHeader extent header) (whole : fits extent behind ≡ true) where
-  no_end_before_item : end_at bound 0xE0DD (header ++ behind) ≡ Ok None
-  no_end_before_item =
-      let four = is_header.four in
-      let item : Tag = record { group = 0xFFFE; element = 0xE000 } in
-      let long : 4 ≤ length (four ++ behind) = omega (arith, length-append four behind, length_four extent four is_header.is_length) in
-      ap (end_at bound 0xE0DD) (ap (λ (x : List ℕ). x ++ behind) is_header.whole ∙ append_assoc (tag_octets item) four behind)
-      ∙ end_other bound 0xE0DD item (four ++ behind) (lit< tt) (lit< tt) long refl
+  no_item_end : end_at bound 0xE0DD (header ++ behind) ≡ Ok None
+  no_item_end = no_end_before_item bound extent header behind is_header
 
   content_fails : (f : ReadFault) → ((m : ℕ) → length behind ≤ m → content_by (readers (suc m)) syntax levels extent behind ≡ Err f) → ItemsFail bound syntax levels (header ++ behind) f
   unfolding readers items_by item_by
   content_fails f fails zero le = absurd (omega (arith, item_long extent header is_header, length-append header behind))
   content_fails f fails (suc m) le =
       let shorter : length behind ≤ m = omega (arith, item_long extent header is_header, length-append header behind) in
-      rw (no_end_before_item, item_again extent header behind is_header whole, fails m shorter) refl
+      rw (no_item_end, item_again extent header behind is_header whole, fails m shorter) refl
 
   other_items_fail : (f : ReadFault) (d : ElementList) (rest : List ℕ) → length rest ≤ length behind
       → ((m : ℕ) → length behind ≤ m → (read : List _) × (content_by (readers (suc m)) syntax levels extent behind ≡ Ok (read, rest)))
@@ -134,7 +121,7 @@ module _ (bound : Bound) (syntax : Syntax) (levels : ℕ) (extent : Option ℕ) 
   other_items_fail f d rest le' read fails (suc m) le =
       let shorter : length behind ≤ m = omega (arith, item_long extent header is_header, length-append header behind) in
       let first = read m shorter in
-      rw (no_end_before_item, item_again extent header behind is_header whole, first.1, fails m (omega arith)) refl
+      rw (no_item_end, item_again extent header behind is_header whole, first.1, fails m (omega arith)) refl
 
 pub elements_in_item : (syntax : Syntax) (levels : ℕ) (extent : Option ℕ) (value rest : List ℕ) (f : ReadFault) → HasReach extent value rest
     → ElementsFail (bound_of extent) syntax levels None value f → (m : ℕ) → length (value ++ rest) ≤ m → content_by (readers (suc m)) syntax levels extent (value ++ rest) ≡ Err f

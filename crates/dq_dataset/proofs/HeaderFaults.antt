@@ -1,5 +1,5 @@
 -- The faults at a header, in their order, are those that reading meets.
-use Rattle.std.proofs.Common.{◌≡◌, ℕ, zero, suc, ◌-◌, ◌<◌, ◌≤◌, Bool, true, false, not, cond, ltb, eqb, ◌&&◌, ◌||◌, List, [], ◌∷◌, ◌++◌, length, take, drop, Option, Some, None, Result, Ok, Err, refl, sym, ap, subst, ◌∙◌, arith, inl, inr, ◌⊎◌}
+use Rattle.std.proofs.Common.{◌≡◌, ℕ, zero, suc, ◌≤◌, Bool, true, false, not, cond, ltb, eqb, ◌&&◌, ◌||◌, List, [], ◌∷◌, length, take, drop, Option, Some, None, Result, Ok, Err, refl, sym, ap, subst, ◌∙◌, arith, inl, inr, ◌⊎◌}
 use Rattle.std.specs.Prelude.{is_none}
 use Rattle.std.specs.Int.{Width, w16, w32, byte_len, from_le_bytes}
 use Rattle.std.proofs.lemmas.Bool.{ltb-true, ltb-false, lt-ltb, le-ltb, ne_eqb, eqb-true}
@@ -17,11 +17,10 @@ use Rattle.dq_dataset.specs.declared.header.Bound.{Bound}
 use Rattle.dq_dataset.specs.declared.header.Bound.TheVariants.{Filled, Delimited}
 use Rattle.dq_dataset.specs.declared.header.Content.{Content}
 use Rattle.dq_dataset.specs.declared.header.Content.TheVariants.{Plain, Sequence}
-use Rattle.dq_dataset.specs.declared.header.Header.{Header}
-use Rattle.dq_dataset.specs.Rules.{is_sequence, is_unknown, agrees, content_of, vr_of}
-use Rattle.dq_dataset.specs.Reading.{◌>>=◌, check, number_at, tag_at, long_length_at, length_at, vr_or_fault, vr_at, spelling_at, follows, may_nest, length_of, fits, header_at, item_header_at, end_at}
-use Rattle.dq_dataset.specs.Faults.{number_in, tag_in, vr_in, defined, size_by, header_size, extent_by, extent_in, first_of, is_allowed, holds_items, faults_of_content, faults_of_header, header_faults, item_faults, ends_here}
-use Rattle.dq_dataset.proofs.Headers.{content_step, spelling_step, rises_step, placed_step, tag_step, item_length_step, item_step, zero_step, end_step}
+use Rattle.dq_dataset.specs.Rules.{is_sequence, is_unknown, agrees, content_of}
+use Rattle.dq_dataset.specs.Reading.{◌>>=◌, check, number_at, tag_at, long_length_at, length_at, vr_or_fault, vr_at, spelling_at, follows, fits, header_at, item_header_at, end_at}
+use Rattle.dq_dataset.specs.Faults.{number_in, tag_in, vr_in, defined, size_by, header_size, extent_by, extent_in, first_of, is_allowed, faults_of_content, header_faults, item_faults, ends_here}
+use Rattle.dq_dataset.proofs.Headers.{content_step, spelling_step, rises_step, placed_step}
 
 abbrev pub fault_of : {X : Type 0} → Result X ReadFault → Option ReadFault
 fault_of (Ok x) = None

@@ -105,7 +105,7 @@ after_long Two None behind h = absurd h
 after_long Two (Some n) behind (lt, e) = omega (arith, ap length e)
 after_long Four extent behind (reserved, two, four, is, e) = omega (arith, ap length e, length-append reserved four, two)
 
-pub spelling_long : (syntax : Syntax) (known spelled : Option Vr) (extent : Option ℕ) (behind : List ℕ) → IsSpelling syntax known spelled extent behind → 4 ≤ length behind
+spelling_long : (syntax : Syntax) (known spelled : Option Vr) (extent : Option ℕ) (behind : List ℕ) → IsSpelling syntax known spelled extent behind → 4 ≤ length behind
 spelling_long Implicit known None extent behind h = omega (arith, length_four extent behind h)
 spelling_long Implicit known (Some vr) extent behind h = absurd h
 spelling_long Explicit known None extent behind h = absurd h
@@ -312,10 +312,27 @@ end_again Delimited end octets rest lt is trails =
     rw (e, tag_again tag (to_le_bytes w32 0 ++ rest) (lit< tt) lt long, same, number_again w32 (2 ^ 32) wide32 0 rest (lit< tt)) refl
 
 -- no end stands where another tag does
-pub end_other : (bound : Bound) (end : ℕ) (tag : Tag) (behind : List ℕ) → tag.group < 2 ^ 16 → tag.element < 2 ^ 16 → 4 ≤ length behind
+end_other : (bound : Bound) (end : ℕ) (tag : Tag) (behind : List ℕ) → tag.group < 2 ^ 16 → tag.element < 2 ^ 16 → 4 ≤ length behind
     → (eqb tag.group 0xFFFE && eqb tag.element end) ≡ false → end_at bound end (tag_octets tag ++ behind) ≡ Ok None
 unfolding end_at
 end_other Filled end tag behind g n long other =
     let some : eqb (length (tag_octets tag ++ behind)) 0 ≡ false = ne_eqb _ _ (λ e. omega (arith, length-append (tag_octets tag) behind)) in
     rw some refl
 end_other Delimited end tag behind g n long other = rw (tag_again tag behind g n long, other) refl
+
+-- where a header stands, nothing ends
+pub no_end_before : (bound : Bound) (last : Option Tag) (syntax : Syntax) (tag : Tag) (content : Content) (header behind : List ℕ)
+    → IsPlaced last tag → IsHeader syntax tag content header → end_at bound 0xE00D (header ++ behind) ≡ Ok None
+no_end_before bound last syntax tag content header behind placed h =
+    let four = spelling_long syntax (known_vr tag) h.spelled h.extent h.behind h.spelling in
+    let group : eqb tag.group 0xFFFE ≡ false = ne_eqb tag.group 0xFFFE placed.no_delimiter in
+    ap (end_at bound 0xE00D) (ap (λ (x : List ℕ). x ++ behind) h.whole ∙ append_assoc (tag_octets tag) h.behind behind)
+    ∙ end_other bound 0xE00D tag (h.behind ++ behind) placed.group placed.number (omega (arith, length-append h.behind behind, four)) (rw group refl)
+
+pub no_end_before_item : (bound : Bound) (extent : Option ℕ) (header behind : List ℕ)
+    → IsItemHeader extent header → end_at bound 0xE0DD (header ++ behind) ≡ Ok None
+no_end_before_item bound extent header behind h =
+    let four = length_four extent h.four h.is_length in
+    let item : Tag = record { group = 0xFFFE; element = 0xE000 } in
+    ap (end_at bound 0xE0DD) (ap (λ (x : List ℕ). x ++ behind) h.whole ∙ append_assoc (tag_octets item) h.four behind)
+    ∙ end_other bound 0xE0DD item (h.four ++ behind) (lit< tt) (lit< tt) (omega (arith, length-append h.four behind, four)) refl

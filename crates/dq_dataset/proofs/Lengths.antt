@@ -1,5 +1,5 @@
 -- A length that is written after what it measures.
-use Rattle.std.proofs.Common.{◌≡◌, ℕ, zero, suc, ◌+◌, ◌-◌, ◌<◌, ◌≤◌, List, [], ◌∷◌, ◌++◌, length, get_or, take, drop, Some, None, Option, refl, sym, ap, subst, ◌∙◌, append_assoc, drop-cons, arith}
+use Rattle.std.proofs.Common.{◌≡◌, ℕ, zero, suc, ◌-◌, ◌<◌, ◌≤◌, List, [], ◌∷◌, ◌++◌, length, get_or, take, drop, Some, Option, refl, sym, ap, subst, ◌∙◌, append_assoc, arith}
 use Rattle.std.specs.Int.{w32, to_le_bytes}
 use Rattle.std.proofs.lemmas.List.{take_at, drop_at, length-append, append-nil}
 use Rattle.dq_vr.specs.declared.Tag.{Tag}
@@ -11,10 +11,10 @@ use Rattle.dq_dataset.specs.declared.header.Syntax.TheVariants.{Implicit, Explic
 use Rattle.dq_dataset.specs.declared.data_set.Element.{Element}
 use Rattle.dq_dataset.specs.declared.data_set.Value.{Value}
 use Rattle.dq_dataset.specs.declared.data_set.Value.TheVariants.{Octets, Items}
-use Rattle.dq_dataset.specs.Tree.{ElementList, ItemList, no_elements}
+use Rattle.dq_dataset.specs.Tree.{ElementList, no_elements}
 use Rattle.dq_dataset.specs.View.{as_elements, with_value, items_of}
 use Rattle.dq_dataset.specs.Canonical.{tag_octets, vr_and_length, header_of, item_header_of, canonical, canonical_items}
-use Rattle.dq_dataset.specs.Facts.{AreElements, IsDataSet}
+use Rattle.dq_dataset.specs.Facts.{AreElements}
 use Rattle.dq_dataset.specs.Parts.{canonical_element, has_sequence_vr, HasSequenceVr}
 use Rattle.dq_dataset.proofs.Edits.{facts-parts}
 use Rattle.dq_dataset.proofs.SpelledIsSound.{IsValue}

@@ -1,7 +1,6 @@
 -- Where the next element cannot be lent, the first fault is met in it.
-use Rattle.std.proofs.Common.{◌≡◌, ℕ, suc, ◌+◌, ◌≤◌, ◌<◌, Bool, false, eqb, List, ◌++◌, length, Option, Some, None, Result, Ok, Err, refl, sym, ap, subst, ◌∙◌, arith, inl, inr}
+use Rattle.std.proofs.Common.{◌≡◌, ℕ, suc, ◌+◌, false, eqb, List, ◌++◌, length, Option, Ok, Err, refl, sym, ap, ◌∙◌, arith, inl, inr}
 use Rattle.dq_vr.specs.declared.Tag.{Tag}
-use Rattle.dq_vr.specs.declared.Vr.{Vr}
 use Rattle.dq_vr.specs.Dictionary.{known_vr}
 use Rattle.dq_dataset.specs.declared.fault.ReadFault.{ReadFault}
 use Rattle.dq_dataset.specs.declared.header.Syntax.{Syntax}
@@ -10,7 +9,7 @@ use Rattle.dq_dataset.specs.declared.header.Bound.TheVariants.{Filled}
 use Rattle.dq_dataset.specs.declared.header.Header.{Header}
 use Rattle.dq_dataset.specs.declared.data_set.Value.{Value}
 use Rattle.dq_dataset.specs.Rules.{vr_of}
-use Rattle.dq_dataset.specs.Reading.{◌>>=◌, length_of, header_at, value_by, readers}
+use Rattle.dq_dataset.specs.Reading.{length_of, header_at, value_by, readers}
 use Rattle.dq_dataset.specs.Grammar.{AreOctets, IsPlaced, IsHeader, SpellsValue}
 use Rattle.dq_dataset.specs.Faults.{HasFault, at_header}
 use Rattle.dq_dataset.specs.Lending.{value_octets, next_at}

@@ -36,8 +36,8 @@ content_is_data_set syntax levels extent bytes es rest le enough ok e =
       | inl s ↦ (
           let spells = elements_again (bound_of extent) syntax levels None s.2.octets s.0 s.2.spells.1 in
           let again : content_by (readers (suc n)) syntax levels extent bytes ≡ Ok (elements_of s.0, s.1) =
-              ap (content_by (readers (suc n)) syntax levels extent) s.2.takes.parts
-              ∙ content_again syntax levels extent s.2.octets s.0 s.2.spells.0 spells s.1 n (omega (arith, ap length s.2.takes.parts)) in
+          ap (content_by (readers (suc n)) syntax levels extent) s.2.takes.parts
+          ∙ content_again syntax levels extent s.2.octets s.0 s.2.spells.0 spells s.1 n (omega (arith, ap length s.2.takes.parts)) in
           let same : elements_of s.0 ≡ es = ap (λ (p : List Element × List ℕ). p.0) (ok_is (elements_of s.0, s.1) (es, rest) (sym again ∙ read)) in
           AreElements-deeper levels 16 None (as_elements es) le
           (subst (λ (d : ElementList). AreElements levels None d) (sym (as_elements-elements_of s.0) ∙ ap as_elements same)

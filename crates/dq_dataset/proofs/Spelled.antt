@@ -1,6 +1,5 @@
 -- Writing elements or items one after the other, as a loop does.
 use Rattle.std.proofs.Common.{◌≡◌, ℕ, zero, suc, ◌+◌, ◌≤◌, ◌<◌, List, [], ◌∷◌, ◌++◌, length, get_or, drop, sym, ap, ◌∙◌, append_assoc, arith}
-use Rattle.std.proofs.lemmas.List.{append-nil, drop_all}
 use Rattle.std.proofs.Common.{add-one, drop-cons}
 use Rattle.dq_vr.specs.declared.Tag.{Tag}
 use Rattle.dq_vr.specs.declared.Vr.{Vr}
@@ -11,7 +10,7 @@ use Rattle.dq_dataset.specs.declared.data_set.Value.TheVariants.{Octets, Items}
 use Rattle.dq_dataset.specs.Tree.{ElementList, no_elements, item_count, items_count}
 use Rattle.dq_dataset.specs.View.{as_elements, items_of, with_value}
 use Rattle.dq_dataset.specs.Canonical.{canonical, canonical_items, item_header_of, HasLengths, ItemsHaveLengths}
-use Rattle.dq_dataset.specs.Parts.{canonical_element, ElementHasLengths}
+use Rattle.dq_dataset.specs.Parts.{ElementHasLengths}
 
 abbrev pub count_in : Element → ℕ
 count_in e = item_count (with_value e e.value no_elements)

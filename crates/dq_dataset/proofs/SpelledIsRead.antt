@@ -1,6 +1,6 @@
 -- What is spelled is read.
-use Rattle.std.proofs.Common.{◌≡◌, ℕ, zero, suc, ◌+◌, ◌-◌, ◌<◌, ◌≤◌, Bool, true, false, cond, eqb, List, [], ◌∷◌, ◌++◌, length, Option, Some, None, Ok, refl, sym, ap, subst, ◌∙◌, append_assoc, lit<, arith}
-use Rattle.std.proofs.lemmas.Bool.{le-leb, lt-ltb, ne_eqb}
+use Rattle.std.proofs.Common.{◌≡◌, ℕ, zero, suc, ◌+◌, ◌-◌, ◌≤◌, Bool, true, false, cond, eqb, List, [], ◌∷◌, ◌++◌, length, Option, Some, None, Ok, refl, sym, ap, subst, ◌∙◌, append_assoc, lit<, arith}
+use Rattle.std.proofs.lemmas.Bool.{le-leb, lt-ltb}
 use Rattle.std.proofs.lemmas.List.{take_at, drop_at, length-append, append-nil}
 use Rattle.dq_vr.specs.declared.Tag.{Tag}
 use Rattle.dq_vr.specs.declared.Vr.{Vr}
@@ -16,12 +16,10 @@ use Rattle.dq_dataset.specs.declared.data_set.Value.TheVariants.{Octets, Items}
 use Rattle.dq_dataset.specs.Tree.{ElementList, no_elements}
 use Rattle.dq_dataset.specs.View.{elements_of, with_value}
 use Rattle.dq_dataset.specs.Rules.{vr_of, padded}
-use Rattle.dq_dataset.specs.Reading.{may_nest, length_of, fits, end_at, value_by, element_by, elements_after, elements_by, content_by, item_by, items_after, items_by, readers, reading}
-use Rattle.dq_dataset.specs.Canonical.{tag_octets}
+use Rattle.dq_dataset.specs.Reading.{may_nest, length_of, fits, value_by, element_by, elements_after, elements_by, content_by, item_by, items_after, items_by, readers, reading}
 use Rattle.dq_dataset.specs.Grammar.{IsHeader, IsPlaced, IsEnd, IsItemHeader, Spells, no_more, more, SpellsValue, plain, nested, SpellsItems, no_item, one_item, bound_of, HasExtent, kept_value, IsSpelled}
 use Rattle.dq_dataset.proofs.Views.{as_elements-elements_of, elements_of-with_value}
-use Rattle.dq_dataset.proofs.Fields.{length_four}
-use Rattle.dq_dataset.proofs.Headers.{header_again, header_long, spelling_long, item_again, item_long, Trails, end_again, end_other}
+use Rattle.dq_dataset.proofs.Headers.{header_again, header_long, item_again, item_long, Trails, end_again, no_end_before, no_end_before_item}
 
 pub extent_fits : (extent : Option ℕ) (octets rest : List ℕ) → HasExtent extent octets → fits extent (octets ++ rest) ≡ true
 extent_fits None octets rest has = refl
@@ -77,12 +75,7 @@ more_again bound syntax levels last tag content header value rest held others pl
     let all : (header ++ (value ++ rest)) ++ t ≡ header ++ (value ++ (rest ++ t)) = simp append_assoc in
     let eight = header_long syntax tag content header is_header in
     let shorter : length (value ++ (rest ++ t)) ≤ m = omega (arith, ap length all, length-append header (value ++ (rest ++ t))) in
-    let behind = is_header.behind in
-    let long : 4 ≤ length (behind ++ (value ++ (rest ++ t))) = omega (arith, length-append behind (value ++ (rest ++ t)), spelling_long syntax (known_vr tag) is_header.spelled is_header.extent behind is_header.spelling) in
-    let group : eqb tag.group 0xFFFE ≡ false = ne_eqb tag.group 0xFFFE placed.no_delimiter in
-    let no_end : end_at bound 0xE00D (header ++ (value ++ (rest ++ t))) ≡ Ok None =
-    ap (end_at bound 0xE00D) (ap (λ (x : List ℕ). x ++ (value ++ (rest ++ t))) is_header.whole ∙ append_assoc (tag_octets tag) behind (value ++ (rest ++ t)))
-    ∙ end_other bound 0xE00D tag (behind ++ (value ++ (rest ++ t))) placed.group placed.number long (rw group refl) in
+    let no_end = no_end_before bound last syntax tag content header (value ++ (rest ++ t)) placed is_header in
     let the_header = header_again syntax levels last tag content header (value ++ (rest ++ t)) placed is_header (value_nests levels (vr_of (known_vr tag) content) content value held spells)
     (value_fits levels (vr_of (known_vr tag) content) content value held (rest ++ t) spells) in
     let the_value = value_again (rest ++ t) m (omega (arith, shorter)) in
@@ -112,12 +105,7 @@ one_item_again bound syntax levels extent header value rest first others is_head
     let all : (header ++ (value ++ rest)) ++ t ≡ header ++ (value ++ (rest ++ t)) = simp append_assoc in
     let eight = item_long extent header is_header in
     let shorter : length (value ++ (rest ++ t)) ≤ m = omega (arith, ap length all, length-append header (value ++ (rest ++ t))) in
-    let four = is_header.four in
-    let item : Tag = record { group = 0xFFFE; element = 0xE000 } in
-    let long : 4 ≤ length (four ++ (value ++ (rest ++ t))) = omega (arith, length-append four (value ++ (rest ++ t)), length_four extent four is_header.is_length) in
-    let no_end : end_at bound 0xE0DD (header ++ (value ++ (rest ++ t))) ≡ Ok None =
-    ap (end_at bound 0xE0DD) (ap (λ (x : List ℕ). x ++ (value ++ (rest ++ t))) is_header.whole ∙ append_assoc (tag_octets item) four (value ++ (rest ++ t)))
-    ∙ end_other bound 0xE0DD item (four ++ (value ++ (rest ++ t))) (lit< tt) (lit< tt) long refl in
+    let no_end = no_end_before_item bound extent header (value ++ (rest ++ t)) is_header in
     let the_header = item_again extent header (value ++ (rest ++ t)) is_header (extent_fits extent value (rest ++ t) has) in
     let the_first = content_again syntax levels extent value first has first_again (rest ++ t) m (omega (arith, shorter)) in
     let the_others = others_again t trails m (omega (arith, shorter, length-append value (rest ++ t))) in

@@ -1,7 +1,8 @@
 -- What is spelled has the facts of every data set.
-use Rattle.std.proofs.Common.{◌≡◌, eq-eqb, ℕ, suc, ◌-◌, ◌%◌, ◌<◌, Bool, true, false, not, cond, ltb, ◌&&◌, ◌||◌, List, [], ◌∷◌, ◌++◌, length, Option, Some, None, Result, Ok, Err, refl, sym, subst, ◌∙◌, arith, inl, inr, ◌⊎◌}
+use Rattle.std.proofs.Common.{◌≡◌, ℕ, suc, ◌-◌, ◌%◌, ◌<◌, Bool, true, false, not, cond, ◌&&◌, ◌||◌, List, [], ◌∷◌, ◌++◌, length, Option, Some, None, Result, Ok, Err, refl, sym, subst, arith, inl, inr, ◌⊎◌}
 use Rattle.std.specs.Prelude.{is_none, nat_eq}
-use Rattle.std.proofs.lemmas.Bool.{eqb-true, eqb-false, ltb-true, lt-ltb}
+use Rattle.std.proofs.lemmas.Bool.{eqb-true, eqb-false, or_right}
+use Rattle.std.proofs.lemmas.Bool.Decides.{nat_tests}
 use Rattle.std.proofs.lemmas.List.{length-append}
 use Rattle.dq_vr.specs.declared.Tag.{Tag}
 use Rattle.dq_vr.specs.declared.Vr.{Vr}
@@ -26,57 +27,22 @@ use Rattle.dq_dataset.specs.Facts.{IsElementTag, IsPlain, IsSequence, AreElement
 abbrev done : Content → Result Content ReadFault
 done x = Ok x
 
-same_number : (n : ℕ) → (nat_eq n n && true) ≡ true
-same_number n = rw (eq-eqb n n refl) refl
-
 -- ---- the order of tags
 
-pub or_true : (a b : Bool) → (a || b) ≡ true → (a ≡ true) ⊎ (b ≡ true)
-or_true true b e = inl refl
-or_true false b e = inr e
-
-or_left : (a b : Bool) → a ≡ true → (a || b) ≡ true
-or_left a b e = rw e refl
-
-or_right : (a b : Bool) → b ≡ true → (a || b) ≡ true
-or_right true b e = refl
-or_right false b e = e
-
-pub and_true : (a b : Bool) → (a && b) ≡ true → (a ≡ true) × (b ≡ true)
-and_true true b e = (refl, e)
-and_true false b e = absurd cc
-
-abbrev pub IsBelow : Tag → Tag → Type 0
-IsBelow a b = (a.group < b.group) ⊎ ((a.group ≡ b.group) × (a.element < b.element))
-
-pub below_means : (a b : Tag) → is_below a b ≡ true → IsBelow a b
-unfolding is_below
-below_means a b e =
-    elim (or_true _ _ e) [
-      | inl lt ↦ inl (ltb-true a.group b.group lt)
-      | inr both ↦ let p = and_true _ _ both in inr (eqb-true a.group b.group p.0, ltb-true a.element b.element p.1)
-    ]
-
-pub means_below : (a b : Tag) → IsBelow a b → is_below a b ≡ true
-unfolding is_below
-means_below a b (inl lt) = or_left _ _ (lt-ltb a.group b.group lt)
-means_below a b (inr p) = or_right (ltb a.group b.group) _ (rw (p.0, lt-ltb a.element b.element p.1) (same_number b.group))
-
 is_below-trans : (a b c : Tag) → is_below a b ≡ true → is_below b c ≡ true → is_below a c ≡ true
-is_below-trans a b c e f =
-    let p = below_means a b e in
-    let q = below_means b c f in
-    means_below a c (elim p [
-      | inl lt ↦ elim q [ inl lt' ↦ inl (omega arith) | inr s ↦ inl (omega (arith, s.0)) ]
-      | inr s ↦ elim q [ inl lt' ↦ inl (omega (arith, s.0)) | inr s' ↦ inr (s.0 ∙ s'.0, omega (arith, s.1, s'.1)) ]
-    ])
+unfolding is_below
+is_below-trans a b c e f = grind (arith, nat_tests)
 
 pub follows-trans : (last : Option Tag) (tag next : Tag) → follows last tag ≡ true → follows (Some tag) next ≡ true → follows last next ≡ true
 follows-trans None tag next e f = refl
 follows-trans (Some last) tag next e f = is_below-trans last tag next e f
 
+-- an element's tag, behind another one
+pub behind_another : (last next : Option Tag) (tag : Tag) → follows next tag ≡ true → IsElementTag last tag → IsElementTag next tag
+behind_another last next tag rises h = record { rises = rises; no_delimiter = h.no_delimiter; no_length = h.no_length; group = h.group; number = h.number }
+
 earlier : (last : Option Tag) (tag next : Tag) → follows last tag ≡ true → IsElementTag (Some tag) next → IsElementTag last next
-earlier last tag next e h = record { rises = follows-trans last tag next e h.rises; no_delimiter = h.no_delimiter; no_length = h.no_length; group = h.group; number = h.number }
+earlier last tag next e h = behind_another (Some tag) last next (follows-trans last tag next e h.rises) h
 
 -- what stands after a tag stands after an earlier one
 pub after_earlier : (levels : ℕ) (last : Option Tag) (tag : Tag) (d : ElementList) → follows last tag ≡ true → AreElements levels (Some tag) d → AreElements levels last d

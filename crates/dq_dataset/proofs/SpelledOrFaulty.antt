@@ -76,11 +76,15 @@ module _ (X : Type 0) (Spelt : Bound → List ℕ → X → Type 0) (Faulty : Bo
   body_told (Some k) bytes enough ok lt =
       let t = taken k bytes ok enough in
       elim (told Filled (take k bytes) (IsBytes-take k bytes ok) (omega (arith, length-take k bytes))) [
-        | inl s ↦ inl (s.0, drop k bytes, record {
+        | inl s ↦ inl (
+          s.0,
+          drop k bytes,
+          record {
             octets = take k bytes;
             takes = t.0;
             spells = (t.1, subst (λ (o : List ℕ). Spelt Filled o s.0) (filled (take k bytes) s.3.octets s.1 s.3.takes.parts s.2) s.3.spells);
-          })
+          },
+        )
         | inr f ↦ inr (record { value = take k bytes; rest = drop k bytes; parts = t.0.parts; reach = t.1; fault = f.0; faulty = f.1 })
       ]
   body_told None bytes enough ok lt =
@@ -122,12 +126,16 @@ module _ (n : ℕ) (told : AreTold n) where
   value_told (suc levels) vr (Sequence inner extent) bytes nests enough ok lt =
       let one_less : suc levels - 1 ≡ levels = omega arith in
       elim (body_told _ _ _ n (told.items inner (suc levels - 1)) extent bytes enough ok lt) [
-        | inl s ↦ inl (Items s.0, s.1, record {
+        | inl s ↦ inl (
+          Items s.0,
+          s.1,
+          record {
             octets = s.2.octets;
             takes = s.2.takes;
             spells = nested levels vr inner extent s.2.octets s.0 s.2.spells.0
                 (subst (λ (k : ℕ). SpellsItems (bound_of extent) inner k s.2.octets s.0) one_less s.2.spells.1);
-          })
+          },
+        )
         | inr bad ↦ inr (record { inner = inner; extent = extent; is = refl; body = bad })
       ]
 
@@ -139,26 +147,39 @@ module _ (n : ℕ) (told : AreTold n) where
     after_value h behind header held rest value =
         let parts : bytes ≡ header.octets ++ (value.octets ++ rest) = header.takes.parts ∙ ap (λ (x : List ℕ). header.octets ++ x) value.takes.parts in
         let spelled : SpellsValue levels (vr_of (known_vr h.tag) h.content) h.content value.octets held =
-            subst (λ (x : Vr). SpellsValue levels x h.content value.octets held) header.vr value.spells in
+        subst (λ (x : Vr). SpellsValue levels x h.content value.octets held) header.vr value.spells in
         let shorter : length rest < n =
-            omega (arith, ap length parts, length-append header.octets (value.octets ++ rest), length-append value.octets rest,
-            header_long syntax h.tag h.content header.octets header.header) in
+        omega (
+          arith,
+          ap length parts,
+          length-append header.octets (value.octets ++ rest),
+          length-append value.octets rest,
+          header_long syntax h.tag h.content header.octets header.header,
+        ) in
         elim (told.elements syntax levels (Some h.tag) bound rest value.takes.rest_fits shorter) [
-          | inl s ↦ inl (kept_value h.tag (vr_of (known_vr h.tag) h.content) held s.0, s.1, s.2, record {
+          | inl s ↦ inl (
+            kept_value h.tag (vr_of (known_vr h.tag) h.content) held s.0,
+            s.1,
+            s.2,
+            record {
               octets = header.octets ++ (value.octets ++ s.3.octets);
               takes = Takes-then bytes header.octets behind (value.octets ++ s.3.octets) s.1 header.takes
                   (Takes-then behind value.octets rest s.3.octets s.1 value.takes s.3.takes);
               spells = more bound syntax levels last _ _ h.tag h.content header.octets value.octets s.3.octets held s.0
                   header.placed header.header spelled s.3.spells refl refl;
-            })
-          | inr f ↦ inr (f.0, after_element bound syntax levels last bytes f.0 h.tag h.content header.octets value.octets rest held
-              header.placed header.header spelled f.1 parts)
+            },
+          )
+          | inr f ↦ inr (
+            f.0,
+            after_element bound syntax levels last bytes f.0 h.tag h.content header.octets value.octets rest held
+                header.placed header.header spelled f.1 parts,
+          )
         ]
 
     after_header : (h : Header) (behind : List ℕ) → ReadsHeader syntax levels last bytes h behind → ElementsTold syntax levels last bound bytes
     after_header h behind header =
         let shorter : length behind < n =
-            omega (arith, ap length header.takes.parts, length-append header.octets behind, header_long syntax h.tag h.content header.octets header.header) in
+        omega (arith, ap length header.takes.parts, length-append header.octets behind, header_long syntax h.tag h.content header.octets header.header) in
         elim (value_told levels h.vr h.content behind header.nests header.whole header.takes.rest_fits shorter) [
           | inl v ↦ after_value h behind header v.0 v.1 v.2
           | inr bad ↦ inr (bad.body.fault, faulty_value bound syntax levels last bytes h behind header bad)
@@ -182,18 +203,31 @@ module _ (n : ℕ) (told : AreTold n) where
     after_content extent behind header first rest value =
         let parts : bytes ≡ header.octets ++ (value.octets ++ rest) = header.takes.parts ∙ ap (λ (x : List ℕ). header.octets ++ x) value.takes.parts in
         let shorter : length rest < n =
-            omega (arith, ap length parts, length-append header.octets (value.octets ++ rest), length-append value.octets rest,
-            item_long extent header.octets header.header) in
+        omega (
+          arith,
+          ap length parts,
+          length-append header.octets (value.octets ++ rest),
+          length-append value.octets rest,
+          item_long extent header.octets header.header,
+        ) in
         elim (told.items syntax levels bound rest value.takes.rest_fits shorter) [
-          | inl s ↦ inl (first ∷ s.0, s.1, s.2, record {
+          | inl s ↦ inl (
+            first ∷ s.0,
+            s.1,
+            s.2,
+            record {
               octets = header.octets ++ (value.octets ++ s.3.octets);
               takes = Takes-then bytes header.octets behind (value.octets ++ s.3.octets) s.1 header.takes
                   (Takes-then behind value.octets rest s.3.octets s.1 value.takes s.3.takes);
               spells = one_item bound syntax levels _ extent header.octets value.octets s.3.octets first s.0
                   header.header value.spells.0 value.spells.1 s.3.spells refl;
-            })
-          | inr f ↦ inr (f.0, after_item bound syntax levels bytes f.0 extent header.octets value.octets rest first
-              header.header value.spells.0 value.spells.1 f.1 parts)
+            },
+          )
+          | inr f ↦ inr (
+            f.0,
+            after_item bound syntax levels bytes f.0 extent header.octets value.octets rest first
+                header.header value.spells.0 value.spells.1 f.1 parts,
+          )
         ]
 
     items_told : (ended : Bool) → ends_here bound 0xE0DD bytes ≡ ended → (r : Result (Option ℕ × List ℕ) ReadFault) → item_header_at bytes ≡ r
@@ -208,8 +242,11 @@ module _ (n : ℕ) (told : AreTold n) where
         let shorter : length h.1 < n = omega (arith, ap length header.takes.parts, length-append header.octets h.1, item_long h.0 header.octets header.header) in
         elim (body_told _ _ _ n (told.elements syntax levels None) h.0 h.1 header.whole header.takes.rest_fits shorter) [
           | inl v ↦ after_content h.0 h.1 header v.0 v.1 v.2
-          | inr bad ↦ inr (bad.fault, in_item bound syntax levels bytes bad.fault h.0 header.octets bad.value bad.rest header.header bad.reach bad.faulty
-              (header.takes.parts ∙ ap (λ (x : List ℕ). header.octets ++ x) bad.parts))
+          | inr bad ↦ inr (
+            bad.fault,
+            in_item bound syntax levels bytes bad.fault h.0 header.octets bad.value bad.rest header.header bad.reach bad.faulty
+                (header.takes.parts ∙ ap (λ (x : List ℕ). header.octets ++ x) bad.parts),
+          )
         ]
 
 pub are_told : (n : ℕ) → AreTold n

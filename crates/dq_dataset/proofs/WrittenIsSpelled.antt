@@ -2,7 +2,7 @@
 use Rattle.std.proofs.Common.{◌≡◌, ◌≢◌, eq-eqb, ℕ, zero, suc, ◌-◌, ◌%◌, ◌<◌, ◌≤◌, Bool, true, false, cond, ltb, ◌||◌, List, [], ◌∷◌, ◌++◌, length, get_or, Option, Some, None, Ok, refl, sym, ap, subst, ◌∙◌, append_assoc, arith}
 use Rattle.std.specs.Prelude.{is_none, unwrap_or}
 use Rattle.std.specs.Int.{w16, w32, to_le_bytes}
-use Rattle.std.proofs.lemmas.Bool.{ltb-false, ne_eqb}
+use Rattle.std.proofs.lemmas.Bool.{ltb-false, ne_eqb, or_right}
 use Rattle.dq_vr.specs.declared.Tag.{Tag}
 use Rattle.dq_vr.specs.declared.Vr.{Vr}
 use Rattle.dq_vr.specs.declared.Vr.TheVariants.{AE, SQ, UN}
@@ -22,8 +22,13 @@ use Rattle.dq_dataset.specs.Rules.{is_sequence, agrees, content_of, padded}
 use Rattle.dq_dataset.specs.Canonical.{tag_octets, long_length, vr_and_length, header_of, item_header_of, canonical, canonical_items, HasLengths, ItemsHaveLengths}
 use Rattle.dq_dataset.specs.Grammar.{IsLengthBehind, IsSpelling, IsHeader, IsPlaced, IsItemHeader, Spells, no_more, more, SpellsValue, plain, nested, SpellsItems, no_item, one_item, kept_value, IsSpelled}
 use Rattle.dq_dataset.specs.Facts.{IsElementTag, IsPlain, IsSequence, AreElements, AreItems, IsDataSet}
-use Rattle.dq_dataset.specs.Written.{IsReadBack, AreReadBack}
+use Rattle.dq_dataset.specs.Written.{IsReadBack, HaveKnownSequences}
 use Rattle.dq_dataset.proofs.Views.{items_of-list_of}
+
+-- of items
+abbrev AreReadBack : Syntax → ItemList → Type 0
+AreReadBack Explicit items = Unit {0}
+AreReadBack Implicit items = HaveKnownSequences items
 
 -- each VR is named by its letters
 abbrev pub LettersName : Type 0
@@ -47,10 +52,6 @@ long_after n lt = (0 ∷ 0 ∷ [], refl, to_le_bytes w32 n, (lt, refl), refl)
 
 short_after : (n : ℕ) → n ≤ 65534 → IsLengthBehind Two (Some n) (to_le_bytes w16 n)
 short_after n le = (omega arith, refl)
-
-or_right : (a b : Bool) → b ≡ true → (a || b) ≡ true
-or_right true b e = refl
-or_right false b e = e
 
 content_plain : (known spelled : Option Vr) (n : ℕ) → is_sequence spelled ≡ false → is_sequence known ≡ false → content_of known spelled (Some n) ≡ Ok (Plain n)
 unfolding content_of

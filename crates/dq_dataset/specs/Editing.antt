@@ -25,7 +25,8 @@ elements_above tag es = filter (λ e. is_below tag e.tag) es
 -- Each element that is sent takes the place of the kept one with its tag, or a place of its own.
 abbrev pub merged_elements : List Element → List Element → List Element
 merged_elements kept [] = kept
-merged_elements kept (e ∷ sent) = elements_below e.tag kept ++ e ∷ merged_elements (elements_above e.tag kept) sent
+merged_elements kept (e ∷ sent) =
+    elements_below e.tag kept ++ e ∷ merged_elements (elements_above e.tag kept) sent
 
 abbrev pub merged : ElementList → ElementList → ElementList
 merged kept sent = as_elements (merged_elements (elements_of kept) (elements_of sent))

@@ -1,5 +1,6 @@
--- The facts of every data set (PS3.5 sections 6.2, 7.1 and 7.5): tags rise, none is that of an item, an end or a group length,
--- VRs are the dictionary's, values are even, and sequences nest at most 16 deep.
+-- The facts of every data set (PS3.5 sections 6.2, 7.1 and 7.5): tags rise, none is that of an
+-- item, an end or a group length, VRs are the dictionary's, values are even, and sequences nest at
+-- most 16 deep.
 use Rattle.std.specs.Prelude.{◌≡◌, ◌≢◌, ℕ, ◌-◌, ◌<◌, ◌^◌, ◌%◌, true, false, ◌||◌, List, length, Option, Some, None, is_none, unwrap_or}
 use Rattle.dq_vr.specs.declared.Tag.{Tag}
 use Rattle.dq_vr.specs.declared.Vr.{Vr}
@@ -30,9 +31,11 @@ pub record IsSequence (tag : Tag) (vr : Vr) : Type 0 where
 abbrev mutual
   pub AreElements : ℕ → Option Tag → ElementList → Type 0
   AreElements levels last no_elements = Unit {0}
-  AreElements levels last (element tag vr octets rest) = IsElementTag last tag × IsPlain tag vr octets × AreElements levels (Some tag) rest
+  AreElements levels last (element tag vr octets rest) =
+      IsElementTag last tag × IsPlain tag vr octets × AreElements levels (Some tag) rest
   AreElements levels last (sequence tag vr items rest) =
-      IsElementTag last tag × IsSequence tag vr × (0 < levels) × AreItems (levels - 1) items × AreElements levels (Some tag) rest
+      IsElementTag last tag × IsSequence tag vr × (0 < levels) × AreItems (levels - 1) items
+      × AreElements levels (Some tag) rest
 
   pub AreItems : ℕ → ItemList → Type 0
   AreItems levels no_items = Unit {0}

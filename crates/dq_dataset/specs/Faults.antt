@@ -1,4 +1,5 @@
--- The first fault of octets that spell no data set (PS3.5 sections 7.1, 7.2 and 7.5), by cases on whole octets.
+-- The first fault of octets that spell no data set (PS3.5 sections 7.1, 7.2 and 7.5), by cases on
+-- whole octets.
 use Rattle.std.specs.Prelude.{◌≡◌, ℕ, ◌-◌, ◌<◌, Bool, true, false, not, List, [], ◌∷◌, ◌++◌, length, take, drop, Option, Some, None, is_none, nat_lt, ◌==◌, ◌&&◌, ◌||◌, if◌then◌else◌}
 use Rattle.std.specs.Int.{Width, w16, w32, byte_len, from_le_bytes}
 use Rattle.dq_vr.specs.declared.Tag.{Tag}
@@ -67,29 +68,35 @@ is_allowed Implicit known spelled = true
 is_allowed Explicit known None = false
 is_allowed Explicit known (Some vr) = agrees known vr
 
--- Whether items follow: after SQ, for a known sequence, and where the length is undefined after UN or no VR for an unknown tag.
+-- Whether items follow: after SQ, for a known sequence, and where the length is undefined after UN
+-- or no VR for an unknown tag.
 abbrev pub holds_items : Option Vr → Option Vr → Option ℕ → Bool
 holds_items known spelled extent =
-    is_sequence spelled || (is_sequence known || (is_none extent && (is_none known && (is_none spelled || is_unknown spelled))))
+    is_sequence spelled || (is_sequence known
+    || (is_none extent && (is_none known && (is_none spelled || is_unknown spelled))))
 
-abbrev pub faults_of_content : ℕ → Option Vr → Option Vr → Option ℕ → List ℕ → List (Bool × ReadFault)
+abbrev pub faults_of_content : ℕ → Option Vr → Option Vr → Option ℕ → List ℕ
+    → List (Bool × ReadFault)
 faults_of_content levels known spelled extent rest =
     (is_none extent && not (holds_items known spelled extent), BadUndefined) ∷
     (holds_items known spelled extent && (levels == 0), TooDeep) ∷
     (not (fits extent rest), Truncated) ∷ []
 
-abbrev pub faults_of_header : Syntax → ℕ → Option Tag → Tag → Option Vr → List ℕ → List (Bool × ReadFault)
+abbrev pub faults_of_header : Syntax → ℕ → Option Tag → Tag → Option Vr → List ℕ
+    → List (Bool × ReadFault)
 faults_of_header syntax levels last tag spelled octets =
     (nat_lt (length octets) 8, Truncated) ∷
     (tag.group == 0xFFFE, BadItem) ∷
     (not (follows last tag), TagOrder) ∷
     (not (is_allowed syntax (known_vr tag) spelled), BadVr) ∷
     (nat_lt (length octets) (header_size spelled), Truncated) ∷
-    faults_of_content levels (known_vr tag) spelled (extent_in spelled octets) (drop (header_size spelled) octets)
+    faults_of_content levels (known_vr tag) spelled (extent_in spelled octets)
+    (drop (header_size spelled) octets)
 
--- At the header of an element after the tag last, where so many more levels of sequences are allowed.
+-- At the header of an element after the tag last, with so many more levels of sequences allowed.
 abbrev pub header_faults : Syntax → ℕ → Option Tag → List ℕ → List (Bool × ReadFault)
-header_faults syntax levels last octets = faults_of_header syntax levels last (tag_in octets) (vr_in syntax octets) octets
+header_faults syntax levels last octets =
+    faults_of_header syntax levels last (tag_in octets) (vr_in syntax octets) octets
 
 -- At the header of an item.
 abbrev pub item_faults : List ℕ → List (Bool × ReadFault)
@@ -104,7 +111,9 @@ item_faults octets =
 abbrev pub ends_here : Bound → ℕ → List ℕ → Bool
 ends_here Filled element octets = length octets == 0
 ends_here Delimited element octets =
-    not (nat_lt (length octets) 8) && ((((tag_in octets).group == 0xFFFE) && ((tag_in octets).element == element)) && (number_in w32 4 octets == 0))
+    not (nat_lt (length octets) 8)
+    && ((((tag_in octets).group == 0xFFFE) && ((tag_in octets).element == element))
+    && (number_in w32 4 octets == 0))
 
 -- What may be faulty in a value: its octets, or, where the length is undefined, all that follows.
 abbrev pub HasReach : Option ℕ → List ℕ → List ℕ → Type 0
@@ -112,33 +121,46 @@ HasReach None value rest = rest ≡ []
 HasReach (Some n) value rest = length value ≡ n
 
 mutual
-  -- Reading elements from the left, the first fault is met at a header, in the items of a value, or after an element that is spelled.
+  -- Reading elements from the left, the first fault is met at a header, in the items of a value, or
+  -- after an element that is spelled.
   pub data HasFault : Bound → Syntax → ℕ → Option Tag → List ℕ → ReadFault → Type 0 where
-    at_header : (bound : Bound) (syntax : Syntax) (levels : ℕ) (last : Option Tag) (octets : List ℕ) (fault : ReadFault)
-        → ends_here bound 0xE00D octets ≡ false → first_of (header_faults syntax levels last octets) ≡ Some fault
+    at_header : (bound : Bound) (syntax : Syntax) (levels : ℕ) (last : Option Tag) (octets : List ℕ)
+        (fault : ReadFault) → ends_here bound 0xE00D octets ≡ false
+        → first_of (header_faults syntax levels last octets) ≡ Some fault
         → HasFault bound syntax levels last octets fault
-    in_value : (bound : Bound) (syntax : Syntax) (levels : ℕ) (last : Option Tag) (octets : List ℕ) (fault : ReadFault)
-        (tag : Tag) (inner : Syntax) (extent : Option ℕ) (header value rest : List ℕ)
-        → IsPlaced last tag → IsHeader syntax tag (Sequence inner extent) header → 0 < levels → HasReach extent value rest
-        → ItemsHaveFault (bound_of extent) inner (levels - 1) value fault → octets ≡ header ++ (value ++ rest)
+    in_value : (bound : Bound) (syntax : Syntax) (levels : ℕ) (last : Option Tag) (octets : List ℕ)
+        (fault : ReadFault) (tag : Tag) (inner : Syntax) (extent : Option ℕ)
+        (header value rest : List ℕ)
+        → IsPlaced last tag → IsHeader syntax tag (Sequence inner extent) header → 0 < levels
+        → HasReach extent value rest
+        → ItemsHaveFault (bound_of extent) inner (levels - 1) value fault
+        → octets ≡ header ++ (value ++ rest)
         → HasFault bound syntax levels last octets fault
-    after_element : (bound : Bound) (syntax : Syntax) (levels : ℕ) (last : Option Tag) (octets : List ℕ) (fault : ReadFault)
+    after_element : (bound : Bound) (syntax : Syntax) (levels : ℕ) (last : Option Tag)
+        (octets : List ℕ) (fault : ReadFault)
         (tag : Tag) (content : Content) (header value rest : List ℕ) (held : Value)
-        → IsPlaced last tag → IsHeader syntax tag content header → SpellsValue levels (vr_of (known_vr tag) content) content value held
+        → IsPlaced last tag → IsHeader syntax tag content header
+        → SpellsValue levels (vr_of (known_vr tag) content) content value held
         → HasFault bound syntax levels (Some tag) rest fault → octets ≡ header ++ (value ++ rest)
         → HasFault bound syntax levels last octets fault
 
   -- The same of items: at a header, in an item, or after an item that is spelled.
   pub data ItemsHaveFault : Bound → Syntax → ℕ → List ℕ → ReadFault → Type 0 where
     at_item : (bound : Bound) (syntax : Syntax) (levels : ℕ) (octets : List ℕ) (fault : ReadFault)
-        → ends_here bound 0xE0DD octets ≡ false → first_of (item_faults octets) ≡ Some fault → ItemsHaveFault bound syntax levels octets fault
-    in_item : (bound : Bound) (syntax : Syntax) (levels : ℕ) (octets : List ℕ) (fault : ReadFault) (extent : Option ℕ) (header value rest : List ℕ)
-        → IsItemHeader extent header → HasReach extent value rest → HasFault (bound_of extent) syntax levels None value fault
+        → ends_here bound 0xE0DD octets ≡ false → first_of (item_faults octets) ≡ Some fault
+        → ItemsHaveFault bound syntax levels octets fault
+    in_item : (bound : Bound) (syntax : Syntax) (levels : ℕ) (octets : List ℕ) (fault : ReadFault)
+        (extent : Option ℕ) (header value rest : List ℕ)
+        → IsItemHeader extent header → HasReach extent value rest
+        → HasFault (bound_of extent) syntax levels None value fault
         → octets ≡ header ++ (value ++ rest) → ItemsHaveFault bound syntax levels octets fault
-    after_item : (bound : Bound) (syntax : Syntax) (levels : ℕ) (octets : List ℕ) (fault : ReadFault)
+    after_item : (bound : Bound) (syntax : Syntax) (levels : ℕ) (octets : List ℕ)
+        (fault : ReadFault)
         (extent : Option ℕ) (header value rest : List ℕ) (first : ElementList)
-        → IsItemHeader extent header → HasExtent extent value → Spells (bound_of extent) syntax levels None value first
-        → ItemsHaveFault bound syntax levels rest fault → octets ≡ header ++ (value ++ rest) → ItemsHaveFault bound syntax levels octets fault
+        → IsItemHeader extent header → HasExtent extent value
+        → Spells (bound_of extent) syntax levels None value first
+        → ItemsHaveFault bound syntax levels rest fault → octets ≡ header ++ (value ++ rest)
+        → ItemsHaveFault bound syntax levels octets fault
 
 -- The octets, read as a data set, have this first fault.
 abbrev pub IsFaulty : Syntax → List ℕ → ReadFault → Type 0

@@ -22,19 +22,25 @@ is_unknown _ = false
 -- A known sequence is spelled SQ or UN, and no other known tag is spelled SQ.
 unfoldable pub agrees : Option Vr → Vr → Bool
 agrees known spelled =
-    if is_sequence known then is_sequence (Some spelled) || is_unknown (Some spelled) else (is_none known || not (is_sequence (Some spelled)))
+    if is_sequence known then is_sequence (Some spelled) || is_unknown (Some spelled)
+    else (is_none known || not (is_sequence (Some spelled)))
 
--- What the value of a tag holds, by the dictionary's VR, the spelled one and the length. After SQ stand items in the same syntax.
--- Items in Implicit stand after UN for a known sequence and after UN of undefined length, and where no VR is spelled, so also
--- for a known sequence and for an unknown tag of undefined length. No other length may be undefined.
+-- What the value of a tag holds, by the dictionary's VR, the spelled one and the length. After SQ
+-- stand items in the same syntax. Items in Implicit stand after UN for a known sequence and after
+-- UN of undefined length, and where no VR is spelled, so also for a known sequence and for an
+-- unknown tag of undefined length. No other length may be undefined.
 unfoldable pub content_of : Option Vr → Option Vr → Option ℕ → Result Content ReadFault
 content_of known spelled (Some n) =
-    if is_sequence spelled then Ok (Sequence Explicit (Some n)) else (if is_sequence known then Ok (Sequence Implicit (Some n)) else Ok (Plain n))
+    if is_sequence spelled then Ok (Sequence Explicit (Some n))
+    else (if is_sequence known then Ok (Sequence Implicit (Some n)) else Ok (Plain n))
 content_of known spelled None =
-    if is_sequence spelled then Ok (Sequence Explicit None) else (if is_sequence known then Ok (Sequence Implicit None)
-    else (if is_none known && (is_none spelled || is_unknown spelled) then Ok (Sequence Implicit None) else Err BadUndefined))
+    if is_sequence spelled then Ok (Sequence Explicit None)
+    else (if is_sequence known then Ok (Sequence Implicit None)
+    else (if is_none known && (is_none spelled || is_unknown spelled)
+    then Ok (Sequence Implicit None) else Err BadUndefined))
 
--- A known tag has the dictionary's VR, whatever was spelled. An unknown one is SQ where it holds items, else UN.
+-- A known tag has the dictionary's VR, whatever was spelled. An unknown one is SQ where it holds
+-- items, else UN.
 abbrev pub vr_of : Option Vr → Content → Vr
 vr_of known (Plain n) = unwrap_or known UN
 vr_of known (Sequence syntax length) = SQ

@@ -8,7 +8,7 @@ use Rattle.dq_vr.specs.declared.Vr.{Vr}
 use Rattle.dq_vr.specs.contracts.Tag as tag
 use Rattle.dq_vr.specs.contracts.Vr as vr
 
--- ElementList in order, each with octets or with the items of a sequence. An item is itself elements.
+-- Elements in order, each with octets or with the items of a sequence. An item is itself elements.
 mutual
   pub data ElementList : Type 0 where
     no_elements : ElementList
@@ -32,8 +32,12 @@ abbrev mutual
 abbrev mutual
   pub code : ElementList → Gv
   code no_elements = gnil
-  code (element t v o rest) = gcons (gcons (gnum 0) (gcons (tag.the_row.coded.code t) (gcons (vr.the_row.coded.code v) ((coded_list coded_ℕ).code o)))) (code rest)
-  code (sequence t v items rest) = gcons (gcons (gnum 1) (gcons (tag.the_row.coded.code t) (gcons (vr.the_row.coded.code v) (code_items items)))) (code rest)
+  code (element t v o rest) =
+      gcons (gcons (gnum 0) (gcons (tag.the_row.coded.code t)
+      (gcons (vr.the_row.coded.code v) ((coded_list coded_ℕ).code o)))) (code rest)
+  code (sequence t v items rest) =
+      gcons (gcons (gnum 1) (gcons (tag.the_row.coded.code t)
+      (gcons (vr.the_row.coded.code v) (code_items items)))) (code rest)
 
   pub code_items : ItemList → Gv
   code_items no_items = gnil
@@ -59,17 +63,21 @@ mutual
   inj (element t v o r) (sequence t' v' s' r') p = cc
   inj (sequence t v s r) (element t' v' o' r') p = cc
   inj (element t v o r) (element t' v' o' r') p = λ i.
-      element (tag.the_row.coded.inj t t' (ap (λ g. head (tail (head g))) p) i) (vr.the_row.coded.inj v v' (ap (λ g. head (tail (tail (head g)))) p) i)
-      ((coded_list coded_ℕ).inj o o' (ap (λ g. tail (tail (tail (head g)))) p) i) (inj r r' (ap tail p) i)
+      element (tag.the_row.coded.inj t t' (ap (λ g. head (tail (head g))) p) i)
+      (vr.the_row.coded.inj v v' (ap (λ g. head (tail (tail (head g)))) p) i)
+      ((coded_list coded_ℕ).inj o o' (ap (λ g. tail (tail (tail (head g)))) p) i)
+      (inj r r' (ap tail p) i)
   inj (sequence t v s r) (sequence t' v' s' r') p = λ i.
-      sequence (tag.the_row.coded.inj t t' (ap (λ g. head (tail (head g))) p) i) (vr.the_row.coded.inj v v' (ap (λ g. head (tail (tail (head g)))) p) i)
+      sequence (tag.the_row.coded.inj t t' (ap (λ g. head (tail (head g))) p) i)
+      (vr.the_row.coded.inj v v' (ap (λ g. head (tail (tail (head g)))) p) i)
       (inj_items s s' (ap (λ g. tail (tail (tail (head g)))) p) i) (inj r r' (ap tail p) i)
 
   pub inj_items : (x y : ItemList) → code_items x ≡ code_items y → x ≡ y
   inj_items no_items no_items p = refl
   inj_items no_items (item d r) p = cc
   inj_items (item d r) no_items p = cc
-  inj_items (item d r) (item d' r') p = λ i. item (inj d d' (ap head p) i) (inj_items r r' (ap tail p) i)
+  inj_items (item d r) (item d' r') p =
+      λ i. item (inj d d' (ap head p) i) (inj_items r r' (ap tail p) i)
 
 abbrev pub elements_code : Coded ElementList
 elements_code = record { code = code; inj = inj }

@@ -25,7 +25,8 @@ list_of (item d ds) = d ∷ list_of ds
 abbrev pub elements_of : ElementList → List Element
 elements_of no_elements = []
 elements_of (element t v o rest) = record { tag = t; vr = v; value = Octets o } ∷ elements_of rest
-elements_of (sequence t v items rest) = record { tag = t; vr = v; value = Items (list_of items) } ∷ elements_of rest
+elements_of (sequence t v items rest) =
+    record { tag = t; vr = v; value = Items (list_of items) } ∷ elements_of rest
 
 abbrev pub has_tag : Tag → Element → Bool
 has_tag tag e = (e.tag.group == tag.group) && (e.tag.element == tag.element)

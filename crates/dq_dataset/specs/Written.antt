@@ -11,7 +11,8 @@ abbrev mutual
   pub HasKnownSequences : ElementList → Type 0
   HasKnownSequences no_elements = Unit {0}
   HasKnownSequences (element tag vr octets rest) = HasKnownSequences rest
-  HasKnownSequences (sequence tag vr items rest) = (is_sequence (known_vr tag) ≡ true) × HaveKnownSequences items × HasKnownSequences rest
+  HasKnownSequences (sequence tag vr items rest) =
+      (is_sequence (known_vr tag) ≡ true) × HaveKnownSequences items × HasKnownSequences rest
 
   pub HaveKnownSequences : ItemList → Type 0
   HaveKnownSequences no_items = Unit {0}
@@ -21,7 +22,3 @@ abbrev mutual
 abbrev pub IsReadBack : Syntax → ElementList → Type 0
 IsReadBack Explicit d = Unit {0}
 IsReadBack Implicit d = HasKnownSequences d
-
-abbrev pub AreReadBack : Syntax → ItemList → Type 0
-AreReadBack Explicit items = Unit {0}
-AreReadBack Implicit items = HaveKnownSequences items

@@ -16,7 +16,9 @@ use dq_vr::Tag;
 pub fn value_end<'a>(levels: u8, content: Content, octets: &'a [u8]) -> Result<&'a [u8], ReadFault>
     requires nests { may_nest levels content ≡ true }
     requires whole { fits (length_of content) octets.now ≡ true }
-    ensures value { (vr : Vr) (n : ℕ) → length octets.now < n → Answers (λ x. x.now) result (rest_of (value_by (readers n) levels vr content octets.now)) }
+    ensures value { (vr : Vr) (n : ℕ) → length octets.now < n
+        → Answers (λ x. x.now) result
+        (rest_of (value_by (readers n) levels vr content octets.now)) }
     ensures shorter { IfOk result (λ x. length x.now ≤ length octets.now) }
 {
     match content {
@@ -40,7 +42,9 @@ fn element_end<'a>(
     last: Option<Tag>,
     octets: &'a [u8],
 ) -> Result<(Option<Header>, &'a [u8]), ReadFault>
-    ensures value { (n : ℕ) → length octets.now ≤ n → Answers (λ x. (x.0, x.1.now)) result (header_of (element_by (readers n) bound syntax levels last octets.now)) }
+    ensures value { (n : ℕ) → length octets.now ≤ n
+        → Answers (λ x. (x.0, x.1.now)) result
+        (header_of (element_by (readers n) bound syntax levels last octets.now)) }
     ensures shorter { IfOk result (λ x. length x.1.now ≤ length octets.now) }
     ensures goes_on { IfOk result (λ x. OnSome x.0 (length x.1.now < length octets.now)) }
 {
@@ -59,7 +63,9 @@ fn elements_end<'a>(
     levels: u8,
     octets: &'a [u8],
 ) -> Result<&'a [u8], ReadFault>
-    ensures value { (n : ℕ) → length octets.now < n → Answers (λ x. x.now) result (rest_of ((readers n).elements bound syntax levels None octets.now)) }
+    ensures value { (n : ℕ) → length octets.now < n
+        → Answers (λ x. x.now) result
+        (rest_of ((readers n).elements bound syntax levels None octets.now)) }
     ensures shorter { IfOk result (λ x. length x.now ≤ length octets.now) }
 {
     let mut last = None;
@@ -83,7 +89,9 @@ fn content_end<'a>(
     octets: &'a [u8],
 ) -> Result<&'a [u8], ReadFault>
     requires whole { fits extent octets.now ≡ true }
-    ensures value { (n : ℕ) → length octets.now < n → Answers (λ x. x.now) result (rest_of (content_by (readers n) syntax levels extent octets.now)) }
+    ensures value { (n : ℕ) → length octets.now < n
+        → Answers (λ x. x.now) result
+        (rest_of (content_by (readers n) syntax levels extent octets.now)) }
     ensures shorter { IfOk result (λ x. length x.now ≤ length octets.now) }
 {
     match extent {
@@ -105,7 +113,9 @@ fn item_end<'a>(
     levels: u8,
     octets: &'a [u8],
 ) -> Result<(Option<()>, &'a [u8]), ReadFault>
-    ensures value { (n : ℕ) → length octets.now ≤ n → Answers (λ x. (x.0, x.1.now)) result (item_of (item_by (readers n) bound syntax levels octets.now)) }
+    ensures value { (n : ℕ) → length octets.now ≤ n
+        → Answers (λ x. (x.0, x.1.now)) result
+        (item_of (item_by (readers n) bound syntax levels octets.now)) }
     ensures shorter { IfOk result (λ x. length x.1.now ≤ length octets.now) }
     ensures goes_on { IfOk result (λ x. OnSome x.0 (length x.1.now < length octets.now)) }
 {
@@ -124,7 +134,8 @@ fn items_end<'a>(
     levels: u8,
     octets: &'a [u8],
 ) -> Result<&'a [u8], ReadFault>
-    ensures value { (n : ℕ) → length octets.now < n → Answers (λ x. x.now) result (rest_of ((readers n).items bound syntax levels octets.now)) }
+    ensures value { (n : ℕ) → length octets.now < n
+        → Answers (λ x. x.now) result (rest_of ((readers n).items bound syntax levels octets.now)) }
     ensures shorter { IfOk result (λ x. length x.now ≤ length octets.now) }
 {
     let mut rest = octets;

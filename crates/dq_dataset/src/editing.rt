@@ -23,8 +23,8 @@ impl DataSet {
         Ok(DataSet::from_elements(elements))
     }
 
-    /// A copy of the data set with the elements of another: each takes the place of the one with its tag, or
-    /// joins the others in the order of tags.
+    /// A copy of the data set with the elements of another: each takes the place of the one with
+    /// its tag, or joins the others in the order of tags.
     pub fn merged(&self, alloc: Global, sent: &DataSet) -> Result<DataSet, AllocError>
         ensures { IfOk result (λ all. all ≡ merged self.now sent.now) }
     {
@@ -51,10 +51,12 @@ type Merging<'a> = (&'a Element, &'a [Element], &'a [Element]);
 /// The first element of what is merged, and what is left of both.
 fn first_merged<'a>(kept: &'a [Element], sent: &'a [Element]) -> Option<Merging<'a>>
     requires { IsDataSet (as_elements kept.now) }
-    ensures some { IfSome result (λ x. merged_elements kept.now sent.now ≡ x.0.now ∷ merged_elements x.1.now x.2.now) }
+    ensures some { IfSome result
+        (λ x. merged_elements kept.now sent.now ≡ x.0.now ∷ merged_elements x.1.now x.2.now) }
     ensures none { IfNone result (merged_elements kept.now sent.now ≡ []) }
     ensures rises { IfSome result (λ x. IsDataSet (as_elements x.1.now)) }
-    ensures shorter { IfSome result (λ x. length x.1.now + length x.2.now < length kept.now + length sent.now) }
+    ensures shorter { IfSome result
+        (λ x. length x.1.now + length x.2.now < length kept.now + length sent.now) }
 {
     let [new, others @ ..] = sent else {
         let [first, rest @ ..] = kept else {

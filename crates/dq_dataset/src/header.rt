@@ -22,7 +22,8 @@ pub enum Bound {
     Delimited,
 }
 
-/// What follows a header: so many octets, or items in a syntax, up to an end of their own where there is no length.
+/// What follows a header: so many octets, or items in a syntax, up to an end of their own where
+/// there is no length.
 #[derive(Clone, Copy, Debug, PartialEq, Eq)]
 pub enum Content {
     Plain(u32),
@@ -250,7 +251,7 @@ fn fits(length: Option<u32>, octets: &[u8]) -> bool
     }
 }
 
-/// The header of an element after the tag `last`, where so many more levels of sequences are allowed.
+/// The header of an element after the tag `last`, with so many more levels of sequences allowed.
 #[tactic(auto, unfolding(crate::specs::Reading::header_at))]
 pub fn header_at(
     syntax: Syntax,

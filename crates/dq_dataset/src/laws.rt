@@ -20,56 +20,80 @@ use dq_vr::Vr;
 /// Octets spell at most one data set, and reading answers it (PS3.5 section 7).
 pub fn spelling_law()
     // No octets spell two data sets.
-    ensures one { (syntax : Syntax) (octets : List ℕ) (a b : ElementList) → IsSpelled syntax octets a → IsSpelled syntax octets b → a ≡ b }
+    ensures one { (syntax : Syntax) (octets : List ℕ) (a b : ElementList)
+        → IsSpelled syntax octets a → IsSpelled syntax octets b → a ≡ b }
     // What is spelled has the facts of every data set.
-    ensures facts { (syntax : Syntax) (octets : List ℕ) (d : ElementList) → IsSpelled syntax octets d → IsDataSet d }
+    ensures facts { (syntax : Syntax) (octets : List ℕ) (d : ElementList)
+        → IsSpelled syntax octets d → IsDataSet d }
     // What is spelled is read, so octets with a fault spell nothing.
-    ensures read { (syntax : Syntax) (octets : List ℕ) (d : ElementList) → IsSpelled syntax octets d → reading syntax octets ≡ Ok d }
+    ensures read { (syntax : Syntax) (octets : List ℕ) (d : ElementList) → IsSpelled syntax octets d
+        → reading syntax octets ≡ Ok d }
     // What is read is spelled.
-    ensures spelled { (syntax : Syntax) (octets : List ℕ) (d : ElementList) → AreOctets octets → reading syntax octets ≡ Ok d → IsSpelled syntax octets d }
+    ensures spelled { (syntax : Syntax) (octets : List ℕ) (d : ElementList) → AreOctets octets
+        → reading syntax octets ≡ Ok d → IsSpelled syntax octets d }
     // What fewer than 2^31 octets spell has a canonical spelling, in both syntaxes.
-    ensures lengths { (from to : Syntax) (octets : List ℕ) (d : ElementList) → IsSpelled from octets d → length octets < 2 ^ 31 → HasLengths to d }
+    ensures lengths { (from to : Syntax) (octets : List ℕ) (d : ElementList)
+        → IsSpelled from octets d → length octets < 2 ^ 31 → HasLengths to d }
 {}
 
-/// What is written is read back: in Explicit always, and in Implicit where the dictionary has the tag of each sequence.
+/// What is written is read back: in Explicit always, and in Implicit where the dictionary has the
+/// tag of each sequence.
 pub fn written_law()
-    ensures spelled { (syntax : Syntax) (d : ElementList) → IsDataSet d → HasLengths syntax d → IsReadBack syntax d → IsSpelled syntax (canonical syntax d) d }
-    ensures read_back { (syntax : Syntax) (d : ElementList) → IsDataSet d → HasLengths syntax d → IsReadBack syntax d → reading syntax (canonical syntax d) ≡ Ok d }
+    ensures spelled { (syntax : Syntax) (d : ElementList) → IsDataSet d → HasLengths syntax d
+        → IsReadBack syntax d → IsSpelled syntax (canonical syntax d) d }
+    ensures read_back { (syntax : Syntax) (d : ElementList) → IsDataSet d → HasLengths syntax d
+        → IsReadBack syntax d → reading syntax (canonical syntax d) ≡ Ok d }
 {
     Vr::letters_law();
 }
 
-/// Octets spell a data set or have a first fault, and reading answers which. But for octets that are missing, the fault
-/// stays whatever octets follow.
+/// Octets spell a data set or have a first fault, and reading answers which. But for octets that
+/// are missing, the fault stays whatever octets follow.
 pub fn fault_law()
     // Octets spell a data set, or have a fault.
-    ensures some { (syntax : Syntax) (octets : List ℕ) → AreOctets octets → ((d : ElementList) × IsSpelled syntax octets d) ⊎ ((fault : ReadFault) × IsFaulty syntax octets fault) }
+    ensures some { (syntax : Syntax) (octets : List ℕ) → AreOctets octets
+        → ((d : ElementList) × IsSpelled syntax octets d)
+        ⊎ ((fault : ReadFault) × IsFaulty syntax octets fault) }
     // Not both, and no two faults.
-    ensures no_other { (syntax : Syntax) (octets : List ℕ) (d : ElementList) (fault : ReadFault) → IsSpelled syntax octets d → IsFaulty syntax octets fault → ⊥ }
-    ensures one { (syntax : Syntax) (octets : List ℕ) (f g : ReadFault) → IsFaulty syntax octets f → IsFaulty syntax octets g → f ≡ g }
+    ensures no_other { (syntax : Syntax) (octets : List ℕ) (d : ElementList) (fault : ReadFault)
+        → IsSpelled syntax octets d → IsFaulty syntax octets fault → ⊥ }
+    ensures one { (syntax : Syntax) (octets : List ℕ) (f g : ReadFault) → IsFaulty syntax octets f
+        → IsFaulty syntax octets g → f ≡ g }
     // Reading answers it.
-    ensures read { (syntax : Syntax) (octets : List ℕ) (fault : ReadFault) → IsFaulty syntax octets fault → reading syntax octets ≡ Err fault }
-    ensures faulty { (syntax : Syntax) (octets : List ℕ) (fault : ReadFault) → AreOctets octets → reading syntax octets ≡ Err fault → IsFaulty syntax octets fault }
+    ensures read { (syntax : Syntax) (octets : List ℕ) (fault : ReadFault)
+        → IsFaulty syntax octets fault → reading syntax octets ≡ Err fault }
+    ensures faulty { (syntax : Syntax) (octets : List ℕ) (fault : ReadFault) → AreOctets octets
+        → reading syntax octets ≡ Err fault → IsFaulty syntax octets fault }
     // It stays.
-    ensures stays_faulty { (syntax : Syntax) (octets more : List ℕ) (fault : ReadFault) → AreOctets (octets ++ more) → fault ≢ Truncated
+    ensures stays_faulty { (syntax : Syntax) (octets more : List ℕ) (fault : ReadFault)
+        → AreOctets (octets ++ more) → fault ≢ Truncated
         → IsFaulty syntax octets fault → IsFaulty syntax (octets ++ more) fault }
-    ensures stays { (syntax : Syntax) (octets more : List ℕ) (fault : ReadFault) → AreOctets octets → fault ≢ Truncated
+    ensures stays { (syntax : Syntax) (octets more : List ℕ) (fault : ReadFault) → AreOctets octets
+        → fault ≢ Truncated
         → reading syntax octets ≡ Err fault → reading syntax (octets ++ more) ≡ Err fault }
 {}
 
-/// What is lent of one level: one for each element that is spelled, and then the first fault, if there is one.
+/// What is lent of one level: one for each element that is spelled, and then the first fault, if
+/// there is one.
 pub fn lending_law()
-    ensures lent { (syntax : Syntax) (octets : List ℕ) → AreOctets octets → AgreesWith syntax octets (lent syntax octets) }
-    // The elements before the first fault are those of a data set that the front of the octets spells.
-    ensures front { (syntax : Syntax) (octets : List ℕ) (d : ElementList) (fault : ReadFault) → FaultAfter syntax None octets d fault
+    ensures lent { (syntax : Syntax) (octets : List ℕ) → AreOctets octets
+        → AgreesWith syntax octets (lent syntax octets) }
+    // The elements before the first fault are those that the front of the octets spells.
+    ensures front { (syntax : Syntax) (octets : List ℕ) (d : ElementList) (fault : ReadFault)
+        → FaultAfter syntax None octets d fault
         → (front : List ℕ) × (rest : List ℕ) × (octets ≡ front ++ rest) × IsSpelled syntax front d }
-    ensures fault { (syntax : Syntax) (octets : List ℕ) (d : ElementList) (fault : ReadFault) → FaultAfter syntax None octets d fault → IsFaulty syntax octets fault }
+    ensures fault { (syntax : Syntax) (octets : List ℕ) (d : ElementList) (fault : ReadFault)
+        → FaultAfter syntax None octets d fault → IsFaulty syntax octets fault }
 {}
 
-/// What is cut out of a data set, and what is merged from two, is a data set, and has lengths that can be written.
+/// What is cut out of a data set, and what is merged from two, is a data set, and has lengths that
+/// can be written.
 pub fn editing_law()
     ensures cut { (tags : List Tag) (d : ElementList) → IsDataSet d → IsDataSet (cut_out tags d) }
-    ensures cut_lengths { (syntax : Syntax) (tags : List Tag) (d : ElementList) → HasLengths syntax d → HasLengths syntax (cut_out tags d) }
-    ensures merged { (kept sent : ElementList) → IsDataSet kept → IsDataSet sent → IsDataSet (merged kept sent) }
-    ensures merged_lengths { (syntax : Syntax) (kept sent : ElementList) → HasLengths syntax kept → HasLengths syntax sent → HasLengths syntax (merged kept sent) }
+    ensures cut_lengths { (syntax : Syntax) (tags : List Tag) (d : ElementList)
+        → HasLengths syntax d → HasLengths syntax (cut_out tags d) }
+    ensures merged { (kept sent : ElementList) → IsDataSet kept → IsDataSet sent
+        → IsDataSet (merged kept sent) }
+    ensures merged_lengths { (syntax : Syntax) (kept sent : ElementList) → HasLengths syntax kept
+        → HasLengths syntax sent → HasLengths syntax (merged kept sent) }
 {}

@@ -11,8 +11,8 @@ use crate::reading::DEPTH;
 use dq_vr::{Tag, Vr};
 use std::marker::Model;
 
-/// An element, with the octets of its value as spelled, without the end of an undefined length, and the syntax in which
-/// they spell items where the VR is SQ.
+/// An element, with the octets of its value as spelled, without the end of an undefined length, and
+/// the syntax in which they spell items where the VR is SQ.
 #[derive(Clone, Copy, Debug, PartialEq, Eq)]
 pub struct Lent<'a> {
     pub tag: Tag,
@@ -21,7 +21,8 @@ pub struct Lent<'a> {
     pub octets: &'a [u8],
 }
 
-/// Goes over the elements of the outer level, and ends after the first fault. Group lengths are left out.
+/// Goes over the elements of the outer level, and ends after the first fault. Group lengths are
+/// left out.
 #[derive(Drop)]
 pub struct Elements<'a> {
     syntax: Syntax,
@@ -47,7 +48,8 @@ type Next<'a> = ((Header, &'a [u8]), &'a [u8]);
 /// The next element: its header, the octets of its value, and what is left.
 #[tactic(auto, unfolding(crate::specs::Lending::next_at))]
 fn next_at<'a>(syntax: Syntax, last: Option<Tag>, octets: &'a [u8]) -> Result<Next<'a>, ReadFault>
-    ensures value { Answers (λ x. ((x.0.0, x.0.1.now), x.1.now)) result (next_at syntax last octets.now) }
+    ensures value { Answers (λ x. ((x.0.0, x.0.1.now), x.1.now)) result
+        (next_at syntax last octets.now) }
     ensures shorter { IfOk result (λ x. length x.1.now < length octets.now) }
 {
     let (header, behind) = header_at(syntax, DEPTH, last, octets)?;
@@ -75,7 +77,7 @@ impl<'a> Elements<'a> {
     /// The elements that the octets spell in the syntax.
     pub fn new(octets: &'a [u8], syntax: Syntax) -> Elements<'a>
         ensures lent { result ≡ lent syntax octets.now }
-        // One for each element of the data set, or for each before the first fault, and then that fault.
+        // One for each element of the data set, or for each before the first fault, then that.
         ensures agrees { AgreesWith syntax octets.now result }
     {
         Elements {

@@ -39,7 +39,8 @@ fn value_of<'a>(
     requires shallow { levels ≤ 16 }
     requires nests { may_nest levels content ≡ true }
     requires whole { fits (length_of content) octets.now ≡ true }
-    ensures value { (n : ℕ) → length octets.now < n → Gives (λ x. (x.0, x.1.now)) result (value_by (readers n) levels vr content octets.now) }
+    ensures value { (n : ℕ) → length octets.now < n
+        → Gives (λ x. (x.0, x.1.now)) result (value_by (readers n) levels vr content octets.now) }
     ensures shorter { IfOk result (λ x. length x.1.now ≤ length octets.now) }
 {
     match content {
@@ -71,7 +72,9 @@ fn element_of<'a>(
     octets: &'a [u8],
 ) -> Result<(Option<(Header, Value)>, &'a [u8]), ReadFault>
     requires { levels ≤ 16 }
-    ensures value { (n : ℕ) → length octets.now ≤ n → Gives (λ x. (x.0, x.1.now)) result (element_by (readers n) bound syntax levels last octets.now) }
+    ensures value { (n : ℕ) → length octets.now ≤ n
+        → Gives (λ x. (x.0, x.1.now)) result
+        (element_by (readers n) bound syntax levels last octets.now) }
     ensures shorter { IfOk result (λ x. length x.1.now ≤ length octets.now) }
     ensures goes_on { IfOk result (λ x. OnSome x.0 (length x.1.now < length octets.now)) }
 {
@@ -92,7 +95,9 @@ fn elements_of<'a>(
     octets: &'a [u8],
 ) -> Result<(Vec<Element>, &'a [u8]), ReadFault>
     requires { levels ≤ 16 }
-    ensures value { (n : ℕ) → length octets.now < n → Gives (λ x. (x.0.items, x.1.now)) result ((readers n).elements bound syntax levels None octets.now) }
+    ensures value { (n : ℕ) → length octets.now < n
+        → Gives (λ x. (x.0.items, x.1.now)) result
+        ((readers n).elements bound syntax levels None octets.now) }
     ensures shorter { IfOk result (λ x. length x.1.now ≤ length octets.now) }
 {
     let mut elements = Vec::new(alloc);
@@ -123,7 +128,9 @@ fn content_of<'a>(
 ) -> Result<(Vec<Element>, &'a [u8]), ReadFault>
     requires shallow { levels ≤ 16 }
     requires whole { fits extent octets.now ≡ true }
-    ensures value { (n : ℕ) → length octets.now < n → Gives (λ x. (x.0.items, x.1.now)) result (content_by (readers n) syntax levels extent octets.now) }
+    ensures value { (n : ℕ) → length octets.now < n
+        → Gives (λ x. (x.0.items, x.1.now)) result
+        (content_by (readers n) syntax levels extent octets.now) }
     ensures shorter { IfOk result (λ x. length x.1.now ≤ length octets.now) }
 {
     match extent {
@@ -146,7 +153,8 @@ fn item_of<'a>(
     octets: &'a [u8],
 ) -> Result<(Option<DataSet>, &'a [u8]), ReadFault>
     requires { levels ≤ 16 }
-    ensures value { (n : ℕ) → length octets.now ≤ n → Gives (λ x. (x.0, x.1.now)) result (item_by (readers n) bound syntax levels octets.now) }
+    ensures value { (n : ℕ) → length octets.now ≤ n
+        → Gives (λ x. (x.0, x.1.now)) result (item_by (readers n) bound syntax levels octets.now) }
     ensures shorter { IfOk result (λ x. length x.1.now ≤ length octets.now) }
     ensures goes_on { IfOk result (λ x. OnSome x.0 (length x.1.now < length octets.now)) }
 {
@@ -167,7 +175,9 @@ fn items_of<'a>(
     octets: &'a [u8],
 ) -> Result<(Vec<DataSet>, &'a [u8]), ReadFault>
     requires { levels ≤ 16 }
-    ensures value { (n : ℕ) → length octets.now < n → Gives (λ x. (x.0.items, x.1.now)) result ((readers n).items bound syntax levels octets.now) }
+    ensures value { (n : ℕ) → length octets.now < n
+        → Gives (λ x. (x.0.items, x.1.now)) result
+        ((readers n).items bound syntax levels octets.now) }
     ensures shorter { IfOk result (λ x. length x.1.now ≤ length octets.now) }
 {
     let mut items = Vec::new(alloc);
@@ -193,12 +203,14 @@ fn all_of(alloc: Global, octets: &[u8], syntax: Syntax) -> Result<DataSet, ReadF
     Ok(DataSet::from_elements(elements))
 }
 
-/// The data set that the octets spell, all of them (PS3.5 section 7). Octets that spell none have a first fault.
+/// The data set that the octets spell, all of them (PS3.5 section 7). Octets that spell none have a
+/// first fault.
 pub fn read(alloc: Global, octets: &[u8], syntax: Syntax) -> Result<DataSet, ReadFault>
     // What is read is spelled so.
     ensures found { IfOk result (λ d. IsSpelled syntax octets.now d) }
     // What is spelled so is read, unless memory runs out.
-    ensures only { (d : ElementList) → IsSpelled syntax octets.now d → Gives (λ d. d) result (Ok d) }
+    ensures only { (d : ElementList) → IsSpelled syntax octets.now d
+        → Gives (λ d. d) result (Ok d) }
     // An error is want of memory, or exactly the first fault.
     ensures fault { IfErr result (λ f. (f ≡ NoMemory) ⊎ IsFaulty syntax octets.now f) }
     // The same, computed.

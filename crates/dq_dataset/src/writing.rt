@@ -24,7 +24,8 @@ fn put_tag(out: &mut Vec<u8>, tag: Tag) -> Result<(), AllocError>
 
 #[tactic(auto, unfolding(crate::specs::Canonical::vr_and_length))]
 fn put_vr(out: &mut Vec<u8>, vr: Vr, length: u32) -> Result<(), AllocError>
-    ensures { OnOk result (out.new.items ≡ out.old.items ++ vr_and_length (length_form_of vr) vr length) }
+    ensures { OnOk result
+        (out.new.items ≡ out.old.items ++ vr_and_length (length_form_of vr) vr length) }
 {
     let is_short = length_form(vr) == LengthForm::Two;
     if is_short && length <= SHORT {
@@ -71,7 +72,8 @@ fn put_length_before(out: &mut Vec<u8>, start: usize)
     requires place { 4 ≤ start }
     requires within { start ≤ vec_len out.old }
     requires short { vec_len out.old < start + 0xFFFFFFFF }
-    ensures { out.new.items ≡ take (start - 4) out.old.items ++ (to_le_bytes w32 (vec_len out.old - start) ++ drop start out.old.items) }
+    ensures { out.new.items ≡ take (start - 4) out.old.items
+        ++ (to_le_bytes w32 (vec_len out.old - start) ++ drop start out.old.items) }
 {
     let length = (out.len() - start) as u32;
     out[start - 4..start].copy_from_slice(&length.to_le_bytes());
@@ -103,7 +105,8 @@ fn put_element(out: &mut Vec<u8>, syntax: Syntax, element: &Element) -> Result<(
 fn put_elements(out: &mut Vec<u8>, syntax: Syntax, elements: &[Element]) -> Result<(), AllocError>
     requires lengths { HasLengths syntax (as_elements elements.now) }
     requires facts { IsDataSet (as_elements elements.now) }
-    ensures { OnOk result (out.new.items ≡ out.old.items ++ canonical syntax (as_elements elements.now)) }
+    ensures { OnOk result
+        (out.new.items ≡ out.old.items ++ canonical syntax (as_elements elements.now)) }
 {
     for element in elements {
         put_element(out, syntax, element)?;
@@ -114,7 +117,8 @@ fn put_elements(out: &mut Vec<u8>, syntax: Syntax, elements: &[Element]) -> Resu
 #[cycle(writing)]
 fn put_items(out: &mut Vec<u8>, syntax: Syntax, items: &[DataSet]) -> Result<(), AllocError>
     requires { ItemsHaveLengths syntax (items_of items.now) }
-    ensures { OnOk result (out.new.items ≡ out.old.items ++ canonical_items syntax (items_of items.now)) }
+    ensures { OnOk result
+        (out.new.items ≡ out.old.items ++ canonical_items syntax (items_of items.now)) }
 {
     for item in items {
         put_item_header(out, 0)?;

@@ -1,4 +1,4 @@
-use Rattle.std.proofs.Common.{◌≡◌, Ok, Err, sym, ◌∙◌, inl, inr}
+use Rattle.std.proofs.Common.{sym, ◌∙◌, inl, inr}
 use Rattle.dq_dataset.proofs.FaultyIsRead.{faulty_is_read}
 use Rattle.dq_dataset.specs.Tree.{ElementList}
 use Rattle.dq_dataset.proofs.Fields.{err_is, no_fault}

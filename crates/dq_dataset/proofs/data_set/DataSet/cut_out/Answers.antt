@@ -1,10 +1,10 @@
-use Rattle.std.proofs.Common.{◌≡◌, arith, sym, ap, ◌∙◌, subst, take, List}
+use Rattle.std.proofs.Common.{◌≡◌, arith, sym, ap, ◌∙◌, subst, List}
 use Rattle.std.specs.Prelude.{filter}
 use Rattle.std.proofs.lemmas.List.{take_all}
 use Rattle.dq_dataset.specs.declared.data_set.Element.{Element}
 use Rattle.dq_dataset.specs.View.{as_elements, elements_of}
 use Rattle.dq_dataset.specs.Facts.{IsDataSet}
-use Rattle.dq_dataset.specs.Editing.{is_listed, cut_out}
+use Rattle.dq_dataset.specs.Editing.{is_listed}
 use Rattle.dq_dataset.proofs.Edits.{cut_is}
 use Rattle.dq_dataset.proofs.data_set.DataSet.cut_out.Goals as goal
 
