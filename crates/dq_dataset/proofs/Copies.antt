@@ -1,11 +1,7 @@
 -- How much is left to copy.
 use Rattle.std.proofs.Common.{◌≡◌, ℕ, suc, ◌≤◌, ◌<◌, List, ◌∷◌, length, get_or, drop, sym, ap, ◌∙◌, drop-cons, arith}
-use Rattle.dq_vr.specs.declared.Tag.{Tag}
-use Rattle.dq_vr.specs.declared.Vr.{Vr}
-use Rattle.dq_dataset.specs.declared.data_set.Element.{Element}
-use Rattle.dq_dataset.specs.declared.data_set.Value.{Value}
-use Rattle.dq_dataset.specs.declared.data_set.Value.TheVariants.{Octets, Items}
-use Rattle.dq_dataset.specs.Tree.{ElementList, item_count, items_count}
+use Rattle.dq_dataset.proofs.Types.{Tag, Vr, Element, Value, Octets, Items, ElementList}
+use Rattle.dq_dataset.specs.Tree.{item_count, items_count}
 use Rattle.dq_dataset.specs.View.{as_elements, items_of, with_value}
 use Rattle.dq_dataset.proofs.Spelled.{count-drop, items_count-drop}
 

@@ -1,13 +1,6 @@
 -- Checking elements or items one after the other, as a loop does.
 use Rattle.std.proofs.Common.{◌≡◌, ℕ, zero, suc, ◌≤◌, ◌<◌, List, ◌∷◌, length, Option, Some, None, Result, Ok, Err, refl, ap, ◌∙◌, arith}
-use Rattle.dq_vr.specs.declared.Tag.{Tag}
-use Rattle.dq_dataset.specs.declared.fault.ReadFault.{ReadFault}
-use Rattle.dq_dataset.specs.declared.header.Syntax.{Syntax}
-use Rattle.dq_dataset.specs.declared.header.Bound.{Bound}
-use Rattle.dq_dataset.specs.declared.header.Header.{Header}
-use Rattle.dq_dataset.specs.declared.data_set.Element.{Element}
-use Rattle.dq_dataset.specs.declared.data_set.Value.{Value}
-use Rattle.dq_dataset.specs.Tree.{ElementList}
+use Rattle.dq_dataset.proofs.Types.{Tag, ReadFault, Syntax, Bound, Header, Element, Value, ElementList}
 use Rattle.dq_dataset.specs.Reading.{◌>>=◌, Readers, readers, kept, element_by, elements_by, elements_after, item_by, items_by, items_after}
 use Rattle.dq_dataset.specs.Lending.{rest_of, header_of, item_of}
 use Rattle.dq_dataset.proofs.Fields.{ok_is}

@@ -3,18 +3,9 @@ use Rattle.std.proofs.Common.{◌≡◌, ℕ, ◌-◌, ◌≤◌, Bool, true, fa
 use Rattle.std.specs.Int.{w32, from_le_bytes}
 use Rattle.std.proofs.lemmas.Bool.{ltb-false, le-ltb, leb-true, le-leb, ne_eqb, not-false, not_from_true}
 use Rattle.std.proofs.lemmas.List.{length-append, take-append-le, drop-append-le, append-nil}
-use Rattle.dq_vr.specs.declared.Tag.{Tag}
-use Rattle.dq_vr.specs.declared.Vr.{Vr}
-use Rattle.dq_vr.specs.declared.LengthForm.{LengthForm}
-use Rattle.dq_vr.specs.declared.LengthForm.TheVariants.{Two, Four}
+use Rattle.dq_dataset.proofs.Types.{Tag, Vr, LengthForm, Two, Four, ReadFault, Truncated, BadVr, TagOrder, BadItem, BadUndefined, TooDeep, Syntax, Implicit, Explicit, Bound, Filled, Delimited}
 use Rattle.dq_vr.specs.Dictionary.{known_vr}
 use Rattle.dq_vr.specs.Vr.{length_form_of, vr_with_letters}
-use Rattle.dq_dataset.specs.declared.fault.ReadFault.{ReadFault}
-use Rattle.dq_dataset.specs.declared.fault.ReadFault.TheVariants.{Truncated, BadVr, TagOrder, BadItem, BadUndefined, TooDeep}
-use Rattle.dq_dataset.specs.declared.header.Syntax.{Syntax}
-use Rattle.dq_dataset.specs.declared.header.Syntax.TheVariants.{Implicit, Explicit}
-use Rattle.dq_dataset.specs.declared.header.Bound.{Bound}
-use Rattle.dq_dataset.specs.declared.header.Bound.TheVariants.{Filled, Delimited}
 use Rattle.dq_dataset.specs.Rules.{fits}
 use Rattle.dq_dataset.specs.Faults.{tag_in, defined, size_by, header_size, extent_by, extent_in, first_of, faults_of_content, faults_of_header, header_faults, item_faults, ends_here, HasFault, at_header, in_value, after_element, ItemsHaveFault, at_item, in_item, after_item, IsFaulty}
 use Rattle.dq_dataset.proofs.HeaderFaults.{eight, by_eight}

@@ -3,20 +3,9 @@ use Rattle.std.proofs.Common.{◌≡◌, ℕ, zero, suc, ◌≤◌, Bool, true, 
 use Rattle.std.specs.Prelude.{is_none}
 use Rattle.std.specs.Int.{Width, w16, w32, byte_len, from_le_bytes}
 use Rattle.std.proofs.lemmas.Bool.{ltb-true, ltb-false, lt-ltb, le-ltb, ne_eqb, eqb-true}
-use Rattle.dq_vr.specs.declared.Tag.{Tag}
-use Rattle.dq_vr.specs.declared.Vr.{Vr}
-use Rattle.dq_vr.specs.declared.LengthForm.{LengthForm}
-use Rattle.dq_vr.specs.declared.LengthForm.TheVariants.{Two, Four}
+use Rattle.dq_dataset.proofs.Types.{Tag, Vr, LengthForm, Two, Four, ReadFault, Truncated, BadVr, TagOrder, BadItem, BadUndefined, TooDeep, Syntax, Implicit, Explicit, Bound, Filled, Delimited, Content, Plain, Sequence}
 use Rattle.dq_vr.specs.Dictionary.{known_vr}
 use Rattle.dq_vr.specs.Vr.{length_form_of, vr_with_letters}
-use Rattle.dq_dataset.specs.declared.fault.ReadFault.{ReadFault}
-use Rattle.dq_dataset.specs.declared.fault.ReadFault.TheVariants.{Truncated, BadVr, TagOrder, BadItem, BadUndefined, TooDeep}
-use Rattle.dq_dataset.specs.declared.header.Syntax.{Syntax}
-use Rattle.dq_dataset.specs.declared.header.Syntax.TheVariants.{Implicit, Explicit}
-use Rattle.dq_dataset.specs.declared.header.Bound.{Bound}
-use Rattle.dq_dataset.specs.declared.header.Bound.TheVariants.{Filled, Delimited}
-use Rattle.dq_dataset.specs.declared.header.Content.{Content}
-use Rattle.dq_dataset.specs.declared.header.Content.TheVariants.{Plain, Sequence}
 use Rattle.dq_dataset.specs.Rules.{is_sequence, is_unknown, agrees, content_of}
 use Rattle.dq_dataset.specs.Reading.{◌>>=◌, check, number_at, tag_at, long_length_at, length_at, vr_or_fault, vr_at, spelling_at, follows, fits, header_at, item_header_at, end_at}
 use Rattle.dq_dataset.specs.Faults.{number_in, tag_in, vr_in, defined, size_by, header_size, extent_by, extent_in, first_of, is_allowed, faults_of_content, header_faults, item_faults, ends_here}

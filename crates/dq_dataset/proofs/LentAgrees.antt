@@ -3,18 +3,8 @@ use Rattle.std.proofs.Common.{◌≡◌, ℕ, zero, suc, ◌-◌, ◌≤◌, Boo
 use Rattle.std.specs.Int.{w32, to_le_bytes}
 use Rattle.std.proofs.lemmas.Bool.{eqb-true}
 use Rattle.std.proofs.lemmas.List.{take_at, length-append}
-use Rattle.dq_vr.specs.declared.Tag.{Tag}
-use Rattle.dq_vr.specs.declared.Vr.{Vr}
+use Rattle.dq_dataset.proofs.Types.{Tag, Vr, ReadFault, Syntax, Bound, Filled, Delimited, Content, Header, Element, Value, ElementList, no_elements}
 use Rattle.dq_vr.specs.Dictionary.{known_vr}
-use Rattle.dq_dataset.specs.declared.fault.ReadFault.{ReadFault}
-use Rattle.dq_dataset.specs.declared.header.Syntax.{Syntax}
-use Rattle.dq_dataset.specs.declared.header.Content.{Content}
-use Rattle.dq_dataset.specs.declared.header.Bound.{Bound}
-use Rattle.dq_dataset.specs.declared.header.Bound.TheVariants.{Filled, Delimited}
-use Rattle.dq_dataset.specs.declared.header.Header.{Header}
-use Rattle.dq_dataset.specs.declared.data_set.Element.{Element}
-use Rattle.dq_dataset.specs.declared.data_set.Value.{Value}
-use Rattle.dq_dataset.specs.Tree.{ElementList, no_elements}
 use Rattle.dq_dataset.specs.View.{elements_of, with_value}
 use Rattle.dq_dataset.specs.Rules.{padded, vr_of}
 use Rattle.dq_dataset.specs.Reading.{length_of}

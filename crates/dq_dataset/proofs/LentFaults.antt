@@ -1,13 +1,7 @@
 -- Where the next element cannot be lent, the first fault is met in it.
 use Rattle.std.proofs.Common.{◌≡◌, ℕ, suc, ◌+◌, false, eqb, List, ◌++◌, length, Option, Ok, Err, refl, sym, ap, ◌∙◌, arith, inl, inr}
-use Rattle.dq_vr.specs.declared.Tag.{Tag}
+use Rattle.dq_dataset.proofs.Types.{Tag, ReadFault, Syntax, Filled, Content, Header, Value}
 use Rattle.dq_vr.specs.Dictionary.{known_vr}
-use Rattle.dq_dataset.specs.declared.fault.ReadFault.{ReadFault}
-use Rattle.dq_dataset.specs.declared.header.Syntax.{Syntax}
-use Rattle.dq_dataset.specs.declared.header.Content.{Content}
-use Rattle.dq_dataset.specs.declared.header.Bound.TheVariants.{Filled}
-use Rattle.dq_dataset.specs.declared.header.Header.{Header}
-use Rattle.dq_dataset.specs.declared.data_set.Value.{Value}
 use Rattle.dq_dataset.specs.Rules.{vr_of}
 use Rattle.dq_dataset.specs.Reading.{length_of, header_at, value_by, readers}
 use Rattle.dq_dataset.specs.Grammar.{AreOctets, IsPlaced, IsHeader, SpellsValue}

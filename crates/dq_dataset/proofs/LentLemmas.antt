@@ -2,11 +2,7 @@
 use Rattle.std.proofs.Common.{◌≡◌, ◌≢◌, ℕ, zero, suc, ◌+◌, ◌≤◌, ◌<◌, Bool, false, cond, eqb, eq-eqb, List, [], ◌∷◌, length, Option, Some, Result, Ok, Err, refl, sym, ap, subst, ◌∙◌, arith}
 use Rattle.std.proofs.lemmas.Bool.{ne_eqb}
 use Rattle.std.proofs.lemmas.List.{length-append}
-use Rattle.dq_vr.specs.declared.Tag.{Tag}
-use Rattle.dq_dataset.specs.declared.fault.ReadFault.{ReadFault}
-use Rattle.dq_dataset.specs.declared.header.Syntax.{Syntax}
-use Rattle.dq_dataset.specs.declared.header.Header.{Header}
-use Rattle.dq_dataset.specs.declared.data_set.Value.{Value}
+use Rattle.dq_dataset.proofs.Types.{Tag, ReadFault, Syntax, Header, Value}
 use Rattle.dq_dataset.specs.Reading.{◌>>=◌, length_of, header_at, value_by, readers}
 use Rattle.dq_dataset.specs.Grammar.{AreOctets}
 use Rattle.dq_dataset.specs.Lending.{Spelled, inner_syntax, spelled_as, value_octets, next_at, lent_after, lent_in, lent_from}

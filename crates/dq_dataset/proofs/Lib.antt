@@ -1,3 +1,4 @@
+pub mod Types
 pub mod Views
 pub mod Loops
 pub mod Spelled

@@ -2,17 +2,7 @@
 use Rattle.std.proofs.Common.{◌≡◌, ◌≢◌, eq-eqb, ℕ, zero, suc, ◌≤◌, ◌<◌, List, [], ◌∷◌, ◌++◌, length, Option, Some, None, Result, Ok, Err, cond, eqb, true, false, refl, sym, ap, ◌∙◌, append_assoc, arith, inl, inr, ◌⊎◌}
 use Rattle.std.proofs.lemmas.List.{append-nil}
 use Rattle.std.proofs.lemmas.Bool.{ltb-true, ne_eqb}
-use Rattle.dq_dataset.specs.declared.header.Content.{Content}
-use Rattle.dq_dataset.specs.declared.header.Content.TheVariants.{Sequence}
-use Rattle.dq_vr.specs.declared.Tag.{Tag}
-use Rattle.dq_dataset.specs.declared.fault.ReadFault.{ReadFault}
-use Rattle.dq_dataset.specs.declared.fault.ReadFault.TheVariants.{NoMemory}
-use Rattle.dq_dataset.specs.declared.header.Syntax.{Syntax}
-use Rattle.dq_dataset.specs.declared.header.Bound.{Bound}
-use Rattle.dq_dataset.specs.declared.header.Header.{Header}
-use Rattle.dq_dataset.specs.declared.data_set.Element.{Element}
-use Rattle.dq_dataset.specs.declared.data_set.Value.{Value}
-use Rattle.dq_dataset.specs.Tree.{ElementList}
+use Rattle.dq_dataset.proofs.Types.{Tag, ReadFault, NoMemory, Syntax, Bound, Content, Sequence, Header, Element, Value, ElementList}
 use Rattle.dq_dataset.specs.Reading.{◌>>=◌, readers, kept, may_nest, element_by, elements_by, elements_after, item_by, items_by, items_after}
 
 -- what was read before, and what is still read

@@ -1,10 +1,6 @@
 -- What is read has the facts of every data set.
 use Rattle.std.proofs.Common.{◌≡◌, ℕ, suc, refl, sym, ap, subst, ◌∙◌, inl, inr, ◌+◌, ◌-◌, ◌<◌, ◌≤◌, true, List, length, Option, Some, None, Ok, arith}
-use Rattle.dq_vr.specs.declared.Tag.{Tag}
-use Rattle.dq_dataset.specs.declared.header.Syntax.{Syntax}
-use Rattle.dq_dataset.specs.declared.header.Bound.TheVariants.{Filled}
-use Rattle.dq_dataset.specs.declared.data_set.Element.{Element}
-use Rattle.dq_dataset.specs.Tree.{ElementList, no_elements, element, sequence, ItemList, no_items, item}
+use Rattle.dq_dataset.proofs.Types.{Tag, Syntax, Filled, Element, ElementList, no_elements, element, sequence, ItemList, no_items, item}
 use Rattle.dq_dataset.specs.View.{as_elements, elements_of}
 use Rattle.dq_dataset.specs.Reading.{fits, content_by, readers, reading}
 use Rattle.dq_dataset.specs.Grammar.{bound_of}

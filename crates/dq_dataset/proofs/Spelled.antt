@@ -1,13 +1,8 @@
 -- Writing elements or items one after the other, as a loop does.
 use Rattle.std.proofs.Common.{◌≡◌, ℕ, zero, suc, ◌+◌, ◌≤◌, ◌<◌, List, [], ◌∷◌, ◌++◌, length, get_or, drop, sym, ap, ◌∙◌, append_assoc, arith}
 use Rattle.std.proofs.Common.{add-one, drop-cons}
-use Rattle.dq_vr.specs.declared.Tag.{Tag}
-use Rattle.dq_vr.specs.declared.Vr.{Vr}
-use Rattle.dq_dataset.specs.declared.header.Syntax.{Syntax}
-use Rattle.dq_dataset.specs.declared.data_set.Element.{Element}
-use Rattle.dq_dataset.specs.declared.data_set.Value.{Value}
-use Rattle.dq_dataset.specs.declared.data_set.Value.TheVariants.{Octets, Items}
-use Rattle.dq_dataset.specs.Tree.{ElementList, no_elements, item_count, items_count}
+use Rattle.dq_dataset.proofs.Types.{Tag, Vr, Syntax, Element, Value, Octets, Items, ElementList, no_elements}
+use Rattle.dq_dataset.specs.Tree.{item_count, items_count}
 use Rattle.dq_dataset.specs.View.{as_elements, items_of, with_value}
 use Rattle.dq_dataset.specs.Canonical.{canonical, canonical_items, item_header_of, HasLengths, ItemsHaveLengths}
 use Rattle.dq_dataset.specs.Parts.{ElementHasLengths}

@@ -2,18 +2,8 @@
 use Rattle.std.proofs.Common.{◌≡◌, ℕ, zero, suc, ◌+◌, ◌-◌, ◌≤◌, Bool, true, false, cond, eqb, List, [], ◌∷◌, ◌++◌, length, Option, Some, None, Ok, refl, sym, ap, subst, ◌∙◌, append_assoc, lit<, arith}
 use Rattle.std.proofs.lemmas.Bool.{le-leb, lt-ltb}
 use Rattle.std.proofs.lemmas.List.{take_at, drop_at, length-append, append-nil}
-use Rattle.dq_vr.specs.declared.Tag.{Tag}
-use Rattle.dq_vr.specs.declared.Vr.{Vr}
+use Rattle.dq_dataset.proofs.Types.{Tag, Vr, Syntax, Bound, Filled, Content, Plain, Sequence, Element, Value, Octets, Items, ElementList, no_elements}
 use Rattle.dq_vr.specs.Dictionary.{known_vr}
-use Rattle.dq_dataset.specs.declared.header.Syntax.{Syntax}
-use Rattle.dq_dataset.specs.declared.header.Content.{Content}
-use Rattle.dq_dataset.specs.declared.header.Content.TheVariants.{Plain, Sequence}
-use Rattle.dq_dataset.specs.declared.header.Bound.{Bound}
-use Rattle.dq_dataset.specs.declared.header.Bound.TheVariants.{Filled}
-use Rattle.dq_dataset.specs.declared.data_set.Element.{Element}
-use Rattle.dq_dataset.specs.declared.data_set.Value.{Value}
-use Rattle.dq_dataset.specs.declared.data_set.Value.TheVariants.{Octets, Items}
-use Rattle.dq_dataset.specs.Tree.{ElementList, no_elements}
 use Rattle.dq_dataset.specs.View.{elements_of, with_value}
 use Rattle.dq_dataset.specs.Rules.{vr_of, padded}
 use Rattle.dq_dataset.specs.Reading.{may_nest, length_of, fits, value_by, element_by, elements_after, elements_by, content_by, item_by, items_after, items_by, readers, reading}

@@ -3,20 +3,9 @@ use Rattle.std.proofs.Common.{◌≡◌, ℕ, ◌+◌, ◌*◌, ◌%◌, ◌^◌
 use Rattle.std.specs.Prelude.{nat_eq}
 use Rattle.std.specs.Int.{w16, w32, to_le_bytes}
 use Rattle.std.proofs.lemmas.List.{length-append}
-use Rattle.dq_vr.specs.declared.Tag.{Tag}
-use Rattle.dq_vr.specs.declared.Vr.{Vr}
-use Rattle.dq_vr.specs.declared.Vr.TheVariants.{UN}
-use Rattle.dq_vr.specs.declared.LengthForm.{LengthForm}
-use Rattle.dq_vr.specs.declared.LengthForm.TheVariants.{Two, Four}
+use Rattle.dq_dataset.proofs.Types.{Tag, Vr, UN, LengthForm, Two, Four, Syntax, Implicit, Explicit, Bound, Content, Value, Octets, Items, ElementList, ItemList, item}
 use Rattle.dq_vr.specs.Dictionary.{known_vr}
 use Rattle.dq_vr.specs.Vr.{length_form_of, letters_of}
-use Rattle.dq_dataset.specs.declared.header.Syntax.{Syntax}
-use Rattle.dq_dataset.specs.declared.header.Syntax.TheVariants.{Implicit, Explicit}
-use Rattle.dq_dataset.specs.declared.header.Content.{Content}
-use Rattle.dq_dataset.specs.declared.header.Bound.{Bound}
-use Rattle.dq_dataset.specs.declared.data_set.Value.{Value}
-use Rattle.dq_dataset.specs.declared.data_set.Value.TheVariants.{Octets, Items}
-use Rattle.dq_dataset.specs.Tree.{ElementList, ItemList, item}
 use Rattle.dq_dataset.specs.View.{items_of, with_value}
 use Rattle.dq_dataset.specs.Rules.{vr_of, padded, pad_of}
 use Rattle.dq_dataset.specs.Canonical.{tag_octets, long_length, vr_and_length, header_of, item_header_of, canonical, canonical_items, HasLengths, ItemsHaveLengths}

@@ -1,12 +1,7 @@
 -- The elements of the code and those of the definitions say the same.
 use Rattle.std.proofs.Common.{◌≡◌, List, [], ◌∷◌, ◌++◌, Result, Ok, Err, OnOk, OnErr, refl, sym, ap, subst, ◌∙◌}
 use Rattle.dq_dataset.specs.Facts.{IsDataSet}
-use Rattle.dq_vr.specs.declared.Tag.{Tag}
-use Rattle.dq_vr.specs.declared.Vr.{Vr}
-use Rattle.dq_dataset.specs.declared.data_set.Element.{Element}
-use Rattle.dq_dataset.specs.declared.data_set.Value.{Value}
-use Rattle.dq_dataset.specs.declared.data_set.Value.TheVariants.{Octets, Items}
-use Rattle.dq_dataset.specs.Tree.{ElementList, no_elements, element, sequence, ItemList, no_items, item}
+use Rattle.dq_dataset.proofs.Types.{Tag, Vr, Element, Value, Octets, Items, ElementList, no_elements, element, sequence, ItemList, no_items, item}
 use Rattle.dq_dataset.specs.View.{as_elements, items_of, list_of, with_value, elements_of}
 
 pub list_of-items_of : (ds : List ElementList) → list_of (items_of ds) ≡ ds

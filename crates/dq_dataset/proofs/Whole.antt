@@ -1,11 +1,8 @@
 -- What a reader answers, beside the grammar.
 use Rattle.std.proofs.Common.{◌≡◌, ◌⊎◌, ℕ, List, Result, Ok, Err, sym, ◌∙◌, inl, inr}
 use Rattle.std.specs.Prelude.{IfOk, IfErr}
-use Rattle.dq_dataset.specs.declared.fault.ReadFault.{ReadFault}
-use Rattle.dq_dataset.specs.declared.header.Syntax.{Syntax}
-use Rattle.dq_dataset.specs.Tree.{ElementList}
+use Rattle.dq_dataset.proofs.Types.{ReadFault, NoMemory, Syntax, ElementList}
 use Rattle.dq_dataset.specs.Reading.{Gives, reading}
-use Rattle.dq_dataset.specs.declared.fault.ReadFault.TheVariants.{NoMemory}
 use Rattle.dq_dataset.specs.Faults.{IsFaulty}
 use Rattle.dq_dataset.specs.Grammar.{AreOctets, IsSpelled}
 use Rattle.dq_dataset.proofs.SpelledOrFaulty.{reading_is_spelled, read_is_faulty}

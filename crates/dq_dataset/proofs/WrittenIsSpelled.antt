@@ -3,20 +3,9 @@ use Rattle.std.proofs.Common.{◌≡◌, ◌≢◌, eq-eqb, ℕ, zero, suc, ◌-
 use Rattle.std.specs.Prelude.{is_none, unwrap_or}
 use Rattle.std.specs.Int.{w16, w32, to_le_bytes}
 use Rattle.std.proofs.lemmas.Bool.{ltb-false, ne_eqb, or_right}
-use Rattle.dq_vr.specs.declared.Tag.{Tag}
-use Rattle.dq_vr.specs.declared.Vr.{Vr}
-use Rattle.dq_vr.specs.declared.Vr.TheVariants.{AE, SQ, UN}
-use Rattle.dq_vr.specs.declared.LengthForm.{LengthForm}
-use Rattle.dq_vr.specs.declared.LengthForm.TheVariants.{Two, Four}
+use Rattle.dq_dataset.proofs.Types.{Tag, Vr, AE, SQ, UN, LengthForm, Two, Four, Syntax, Implicit, Explicit, Filled, Plain, Sequence, Value, Octets, Items, ElementList, no_elements, element, sequence, ItemList, no_items, item}
 use Rattle.dq_vr.specs.Dictionary.{known_vr}
 use Rattle.dq_vr.specs.Vr.{length_form_of, letters_of, vr_with_letters}
-use Rattle.dq_dataset.specs.declared.header.Syntax.{Syntax}
-use Rattle.dq_dataset.specs.declared.header.Syntax.TheVariants.{Implicit, Explicit}
-use Rattle.dq_dataset.specs.declared.header.Content.TheVariants.{Plain, Sequence}
-use Rattle.dq_dataset.specs.declared.header.Bound.TheVariants.{Filled}
-use Rattle.dq_dataset.specs.declared.data_set.Value.{Value}
-use Rattle.dq_dataset.specs.declared.data_set.Value.TheVariants.{Octets, Items}
-use Rattle.dq_dataset.specs.Tree.{ElementList, no_elements, element, sequence, ItemList, no_items, item}
 use Rattle.dq_dataset.specs.View.{list_of, with_value}
 use Rattle.dq_dataset.specs.Rules.{is_sequence, agrees, content_of, padded}
 use Rattle.dq_dataset.specs.Canonical.{tag_octets, long_length, vr_and_length, header_of, item_header_of, canonical, canonical_items, HasLengths, ItemsHaveLengths}

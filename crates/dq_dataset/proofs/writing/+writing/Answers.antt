@@ -1,7 +1,6 @@
 use Rattle.std.proofs.Common.{◌≡◌, ℕ, ◌++◌, List, length, arith, refl, sym, ap, ◌∙◌, append_assoc}
 use Rattle.std.proofs.lemmas.List.{length-append}
-use Rattle.dq_vr.specs.declared.Vr.{Vr}
-use Rattle.dq_vr.specs.declared.Vr.TheVariants.{SQ}
+use Rattle.dq_dataset.proofs.Types.{Vr, SQ}
 use Rattle.dq_dataset.specs.Canonical.{header_of, item_header_of, canonical, canonical_items}
 use Rattle.dq_dataset.specs.View.{items_of}
 use Rattle.dq_dataset.proofs.Views.{as_elements-elements_of}
