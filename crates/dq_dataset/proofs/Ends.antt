@@ -22,8 +22,10 @@ rest_of-kept f (Ok x) = refl
 rest_of-kept f (Err e) = refl
 
 -- what the header that was found tells of the reading after it
-after_header : (r : Readers) (bound : Bound) (syntax : Syntax) (levels : ℕ) (read : Result (Option (Header × Value) × List ℕ) ReadFault) (h : Header) (after : List ℕ)
-    → header_of read ≡ Ok (Some h, after) → rest_of (read >>= λ first. elements_after r bound syntax levels first.0 first.1) ≡ rest_of (r.elements bound syntax levels (Some h.tag) after)
+after_header : (r : Readers) (bound : Bound) (syntax : Syntax) (levels : ℕ) (read : Result (Option (Header × Value) × List ℕ) ReadFault) (h : Header)
+    (after : List ℕ)
+    → header_of read ≡ Ok (Some h, after) → rest_of (read >>= λ first. elements_after r bound syntax levels first.0 first.1)
+    ≡ rest_of (r.elements bound syntax levels (Some h.tag) after)
 unfolding elements_after
 after_header r bound syntax levels (Ok (None, rest)) h after e =
     let bad : None ≡ Some h = ap (λ (x : Option Header × List ℕ). x.0) (ok_is (None, rest) (Some h, after) e) in
@@ -33,7 +35,8 @@ after_header r bound syntax levels (Ok (Some first, rest)) h after e =
     let header_is : Some first.0 ≡ Some h = ap (λ (x : Option Header × List ℕ). x.0) both in
     let same : first.0 ≡ h = cc in
     let rest_is : rest ≡ after = ap (λ (x : Option Header × List ℕ). x.1) both in
-    rest_of-kept (kept first.0 first.1) (r.elements bound syntax levels (Some first.0.tag) rest) ∙ (λ i. rest_of (r.elements bound syntax levels (Some (same i).tag) (rest_is i)))
+    rest_of-kept (kept first.0 first.1) (r.elements bound syntax levels (Some first.0.tag) rest)
+    ∙ (λ i. rest_of (r.elements bound syntax levels (Some (same i).tag) (rest_is i)))
 after_header r bound syntax levels (Err f) h after e = absurd cc
 
 after_none : (r : Readers) (bound : Bound) (syntax : Syntax) (levels : ℕ) (read : Result (Option (Header × Value) × List ℕ) ReadFault) (after : List ℕ)
@@ -84,8 +87,12 @@ module _ (bound : Bound) (syntax : Syntax) (levels : ℕ) (all : List ℕ) where
       shorter = omega (arith, left.shorter);
       told = λ n lt.
           let t = left.told n lt in
-          let k = elements_at t.0 t.1 (rest_of ((readers n).elements bound syntax levels None all)) t.2 in
-          (k.0, omega (arith, k.1), k.2 ∙ after_header (readers k.0) bound syntax levels (element_by (readers k.0) bound syntax levels last rest) h after (found k.0 k.1));
+          let k = elements_at t.0 t.1 (rest_of ((readers n).elements bound syntax levels None all)) t.2 in (
+            k.0,
+            omega (arith, k.1),
+            k.2 ∙ after_header (readers k.0) bound syntax levels (element_by (readers k.0) bound syntax levels last rest) h after
+                (found k.0 k.1),
+          );
     }
 
 -- ---- items
@@ -95,7 +102,8 @@ rest_of-first d (Ok x) = refl
 rest_of-first d (Err e) = refl
 
 after_item : (r : Readers) (bound : Bound) (syntax : Syntax) (levels : ℕ) (read : Result (Option ElementList × List ℕ) ReadFault) (after : List ℕ)
-    → item_of read ≡ Ok (Some tt, after) → rest_of (read >>= λ first. items_after r bound syntax levels first.0 first.1) ≡ rest_of (r.items bound syntax levels after)
+    → item_of read ≡ Ok (Some tt, after) → rest_of (read >>= λ first. items_after r bound syntax levels first.0 first.1)
+    ≡ rest_of (r.items bound syntax levels after)
 unfolding items_after
 after_item r bound syntax levels (Ok (None, rest)) after e =
     let bad : None ≡ Some tt = ap (λ (x : Option (Unit {0}) × List ℕ). x.0) (ok_is (None, rest) (Some tt, after) e) in

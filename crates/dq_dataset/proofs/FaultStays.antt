@@ -67,7 +67,9 @@ module _ (a b c d e f g h : ℕ) (rest t : List ℕ) where
   from_tag syntax levels last tag spelled =
       short_test _ _ _ _ (λ e. (
         longer 8 all t e,
-        same_test _ BadItem _ _ (same_test _ TagOrder _ _ (same_test _ BadVr _ _ (short_test _ _ _ _ (λ e. (longer (header_size spelled) all t e, after_vr levels tag spelled e))))),
+        same_test _ BadItem _ _
+            (same_test _ TagOrder _ _
+            (same_test _ BadVr _ _ (short_test _ _ _ _ (λ e. (longer (header_size spelled) all t e, after_vr levels tag spelled e))))),
       ))
 
   header_stays : (syntax : Syntax) (levels : ℕ) (last : Option Tag)

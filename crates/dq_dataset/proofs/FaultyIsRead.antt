@@ -56,7 +56,8 @@ item_fails bound syntax levels octets f (inr (inr bad)) first m le =
 
 -- the header, and no end before it
 module _ (bound : Bound) (syntax : Syntax) (levels : ℕ) (last : Option Tag) (tag : Tag) (content : Content) (header behind : List ℕ)
-    (placed : IsPlaced last tag) (is_header : IsHeader syntax tag content header) (nests : may_nest levels content ≡ true) (whole : fits (length_of content) behind ≡ true) where
+    (placed : IsPlaced last tag) (is_header : IsHeader syntax tag content header) (nests : may_nest levels content ≡ true)
+    (whole : fits (length_of content) behind ≡ true) where
   no_end : end_at bound 0xE00D (header ++ behind) ≡ Ok None
   no_end = no_end_before bound last syntax tag content header behind placed is_header
 
@@ -85,7 +86,8 @@ reach_fits None value rest has = refl
 reach_fits (Some n) value rest has = extent_fits (Some n) value rest has
 
 pub items_in_value : (levels : ℕ) (vr : Vr) (inner : Syntax) (extent : Option ℕ) (value rest : List ℕ) (f : ReadFault) → HasReach extent value rest
-    → ItemsFail (bound_of extent) inner (levels - 1) value f → (m : ℕ) → length (value ++ rest) ≤ m → value_by (readers (suc m)) levels vr (Sequence inner extent) (value ++ rest) ≡ Err f
+    → ItemsFail (bound_of extent) inner (levels - 1) value f → (m : ℕ) → length (value ++ rest) ≤ m
+    → value_by (readers (suc m)) levels vr (Sequence inner extent) (value ++ rest) ≡ Err f
 unfolding value_by
 items_in_value levels vr inner None value rest f has fails m le =
     let all : value ++ rest ≡ value = ap (λ (x : List ℕ). value ++ x) has ∙ append-nil value in
@@ -93,11 +95,13 @@ items_in_value levels vr inner None value rest f has fails m le =
 items_in_value levels vr inner (Some n) value rest f has fails m le =
     rw (take_at value rest n has, fails m (omega (arith, length-append value rest))) refl
 
-module _ (bound : Bound) (syntax : Syntax) (levels : ℕ) (extent : Option ℕ) (header behind : List ℕ) (is_header : IsItemHeader extent header) (whole : fits extent behind ≡ true) where
+module _ (bound : Bound) (syntax : Syntax) (levels : ℕ) (extent : Option ℕ) (header behind : List ℕ) (is_header : IsItemHeader extent header)
+    (whole : fits extent behind ≡ true) where
   no_item_end : end_at bound 0xE0DD (header ++ behind) ≡ Ok None
   no_item_end = no_end_before_item bound extent header behind is_header
 
-  content_fails : (f : ReadFault) → ((m : ℕ) → length behind ≤ m → content_by (readers (suc m)) syntax levels extent behind ≡ Err f) → ItemsFail bound syntax levels (header ++ behind) f
+  content_fails : (f : ReadFault) → ((m : ℕ) → length behind ≤ m → content_by (readers (suc m)) syntax levels extent behind ≡ Err f)
+      → ItemsFail bound syntax levels (header ++ behind) f
   unfolding readers items_by item_by
   content_fails f fails zero le = absurd (omega (arith, item_long extent header is_header, length-append header behind))
   content_fails f fails (suc m) le =
@@ -115,7 +119,8 @@ module _ (bound : Bound) (syntax : Syntax) (levels : ℕ) (extent : Option ℕ) 
       rw (no_item_end, item_again extent header behind is_header whole, first.1, fails m (omega arith)) refl
 
 pub elements_in_item : (syntax : Syntax) (levels : ℕ) (extent : Option ℕ) (value rest : List ℕ) (f : ReadFault) → HasReach extent value rest
-    → ElementsFail (bound_of extent) syntax levels None value f → (m : ℕ) → length (value ++ rest) ≤ m → content_by (readers (suc m)) syntax levels extent (value ++ rest) ≡ Err f
+    → ElementsFail (bound_of extent) syntax levels None value f → (m : ℕ) → length (value ++ rest) ≤ m
+    → content_by (readers (suc m)) syntax levels extent (value ++ rest) ≡ Err f
 unfolding content_by
 elements_in_item syntax levels None value rest f has fails m le =
     let all : value ++ rest ≡ value = ap (λ (x : List ℕ). value ++ x) has ∙ append-nil value in
@@ -124,29 +129,36 @@ elements_in_item syntax levels (Some n) value rest f has fails m le =
     rw (take_at value rest n has, fails m (omega (arith, length-append value rest))) refl
 
 mutual
-  pub elements_fail : (bound : Bound) (syntax : Syntax) (levels : ℕ) (last : Option Tag) (octets : List ℕ) (f : ReadFault) → HasFault bound syntax levels last octets f
+  pub elements_fail : (bound : Bound) (syntax : Syntax) (levels : ℕ) (last : Option Tag) (octets : List ℕ) (f : ReadFault)
+      → HasFault bound syntax levels last octets f
       → ElementsFail bound syntax levels last octets f
   elements_fail bound syntax levels last octets f (at_header _ _ _ _ _ _ open_here first) =
       header_fails bound syntax levels last octets f (no_end_here bound 0xE00D octets open_here) first
   elements_fail bound syntax levels last octets f (in_value _ _ _ _ _ _ tag inner extent header value rest placed is_header lt has faulty e) =
       subst (λ (o : List ℕ). ElementsFail bound syntax levels last o f) (sym e)
-      (value_fails bound syntax levels last tag (Sequence inner extent) header (value ++ rest) placed is_header (lt-ltb 0 levels lt) (reach_fits extent value rest has) f
-      (items_in_value levels (vr_of (known_vr tag) (Sequence inner extent)) inner extent value rest f has (items_fail (bound_of extent) inner (levels - 1) value f faulty)))
+      (value_fails bound syntax levels last tag (Sequence inner extent) header (value ++ rest) placed is_header (lt-ltb 0 levels lt)
+      (reach_fits extent value rest has) f
+      (items_in_value levels (vr_of (known_vr tag) (Sequence inner extent)) inner extent value rest f has
+      (items_fail (bound_of extent) inner (levels - 1) value f faulty)))
   elements_fail bound syntax levels last octets f (after_element _ _ _ _ _ _ tag content header value rest held placed is_header spells faulty e) =
       subst (λ (o : List ℕ). ElementsFail bound syntax levels last o f) (sym e)
-      (others_fail bound syntax levels last tag content header (value ++ rest) placed is_header (value_nests levels (vr_of (known_vr tag) content) content value held spells)
+      (others_fail bound syntax levels last tag content header (value ++ rest) placed is_header
+      (value_nests levels (vr_of (known_vr tag) content) content value held spells)
       (value_fits levels (vr_of (known_vr tag) content) content value held rest spells) f held rest (omega (arith, length-append value rest))
       (value_again levels (vr_of (known_vr tag) content) content value held spells rest) (elements_fail bound syntax levels (Some tag) rest f faulty))
 
-  pub items_fail : (bound : Bound) (syntax : Syntax) (levels : ℕ) (octets : List ℕ) (f : ReadFault) → ItemsHaveFault bound syntax levels octets f → ItemsFail bound syntax levels octets f
-  items_fail bound syntax levels octets f (at_item _ _ _ _ _ open_here first) = item_fails bound syntax levels octets f (no_end_here bound 0xE0DD octets open_here) first
+  pub items_fail : (bound : Bound) (syntax : Syntax) (levels : ℕ) (octets : List ℕ) (f : ReadFault) → ItemsHaveFault bound syntax levels octets f
+      → ItemsFail bound syntax levels octets f
+  items_fail bound syntax levels octets f (at_item _ _ _ _ _ open_here first) =
+      item_fails bound syntax levels octets f (no_end_here bound 0xE0DD octets open_here) first
   items_fail bound syntax levels octets f (in_item _ _ _ _ _ extent header value rest is_header has faulty e) =
       subst (λ (o : List ℕ). ItemsFail bound syntax levels o f) (sym e)
       (content_fails bound syntax levels extent header (value ++ rest) is_header (reach_fits extent value rest has) f
       (elements_in_item syntax levels extent value rest f has (elements_fail (bound_of extent) syntax levels None value f faulty)))
   items_fail bound syntax levels octets f (after_item _ _ _ _ _ extent header value rest first is_header has spells faulty e) =
       subst (λ (o : List ℕ). ItemsFail bound syntax levels o f) (sym e)
-      (other_items_fail bound syntax levels extent header (value ++ rest) is_header (extent_fits extent value rest has) f first rest (omega (arith, length-append value rest))
+      (other_items_fail bound syntax levels extent header (value ++ rest) is_header (extent_fits extent value rest has) f first rest
+      (omega (arith, length-append value rest))
       (λ m le. (_, content_again syntax levels extent value first has (elements_again (bound_of extent) syntax levels None value first spells) rest m le))
       (items_fail bound syntax levels rest f faulty))
 

@@ -85,14 +85,18 @@ wide32 = record {
   below = λ bytes fits. omega (arith, fits 0, fits 1, fits 2, fits 3);
 }
 
-pub number_takes : (w : Width) (limit : ℕ) (wide : IsWide w limit) (bytes : List ℕ) (n : ℕ) (rest : List ℕ) → IsBytes bytes → number_at w bytes ≡ Ok (n, rest) → Takes bytes (to_le_bytes w n) rest × (n < limit)
+pub number_takes : (w : Width) (limit : ℕ) (wide : IsWide w limit) (bytes : List ℕ) (n : ℕ) (rest : List ℕ) → IsBytes bytes → number_at w bytes ≡ Ok (n, rest)
+    → Takes bytes (to_le_bytes w n) rest × (n < limit)
 number_takes w limit wide bytes n rest fits e =
     let g = guard_ok (ltb (length bytes) (byte_len w)) Truncated (from_le_bytes w (take (byte_len w) bytes), drop (byte_len w) bytes) (n, rest) e in
     let long : byte_len w ≤ length bytes = ltb-false _ _ g.0 in
     let n-is : from_le_bytes w (take (byte_len w) bytes) ≡ n = ap (λ (p : ℕ × List ℕ). p.0) g.1 in
     let rest-is : drop (byte_len w) bytes ≡ rest = ap (λ (p : ℕ × List ℕ). p.1) g.1 in
-    let front : to_le_bytes w n ≡ take (byte_len w) bytes = rw (← n-is) (wide.back (take (byte_len w) bytes) (omega (arith, length-take (byte_len w) bytes)) (IsBytes-take (byte_len w) bytes fits)) in
-    (record { parts = rw (front, ← rest-is) (sym (take-append-drop (byte_len w) bytes)); rest_fits = rw (← rest-is) (IsBytes-drop (byte_len w) bytes fits) }, rw (← n-is) (wide.below (take (byte_len w) bytes) (IsBytes-take (byte_len w) bytes fits)))
+    let front : to_le_bytes w n ≡ take (byte_len w) bytes =
+    rw (← n-is) (wide.back (take (byte_len w) bytes) (omega (arith, length-take (byte_len w) bytes)) (IsBytes-take (byte_len w) bytes fits)) in (
+      record { parts = rw (front, ← rest-is) (sym (take-append-drop (byte_len w) bytes)); rest_fits = rw (← rest-is) (IsBytes-drop (byte_len w) bytes fits) },
+      rw (← n-is) (wide.below (take (byte_len w) bytes) (IsBytes-take (byte_len w) bytes fits)),
+    )
 
 pub number_again : (w : Width) (limit : ℕ) (wide : IsWide w limit) (n : ℕ) (rest : List ℕ) → n < limit → number_at w (to_le_bytes w n ++ rest) ≡ Ok (n, rest)
 number_again w limit wide n rest lt =
@@ -149,8 +153,10 @@ pub tag_takes : (bytes : List ℕ) (tag : Tag) (rest : List ℕ) → IsBytes byt
     → Takes bytes (tag_octets tag) rest × (tag.group < 2 ^ 16) × (tag.element < 2 ^ 16)
 unfolding tag_at
 tag_takes bytes tag rest fits e =
-    let u = unless_ok (ltb (length bytes) 8) Truncated (number_at w16 bytes >>= λ group. number_at w16 group.1 >>= λ number. Ok (record { group = group.0; element = number.0 }, number.1)) (tag, rest) e in
-    let a = bind_ok (number_at w16 bytes) (λ group. number_at w16 group.1 >>= λ number. Ok (record { group = group.0; element = number.0 }, number.1)) (tag, rest) u.1 in
+    let u = unless_ok (ltb (length bytes) 8) Truncated (number_at w16 bytes >>= λ group. number_at w16 group.1
+    >>= λ number. Ok (record { group = group.0; element = number.0 }, number.1)) (tag, rest) e in
+    let a = bind_ok (number_at w16 bytes) (λ group. number_at w16 group.1 >>= λ number. Ok (record { group = group.0; element = number.0 }, number.1))
+    (tag, rest) u.1 in
     let b = bind_ok (number_at w16 a.0.1) (λ number. Ok (record { group = a.0.0; element = number.0 }, number.1)) (tag, rest) a.2 in
     let t = number_takes w16 (2 ^ 16) wide16 bytes a.0.0 a.0.1 fits a.1 in
     let v = number_takes w16 (2 ^ 16) wide16 a.0.1 b.0.0 b.0.1 t.0.rest_fits b.1 in

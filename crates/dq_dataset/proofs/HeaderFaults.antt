@@ -29,11 +29,13 @@ other_end n p q = absurd (omega arith)
 abbrev pub eight : ℕ → ℕ → ℕ → ℕ → ℕ → ℕ → ℕ → ℕ → List ℕ → List ℕ
 eight a b c d e f g h rest = a ∷ b ∷ c ∷ d ∷ e ∷ f ∷ g ∷ h ∷ rest
 
-pub by_eight : (P : List ℕ → Type 0) → ((a b c d e f g h : ℕ) (rest : List ℕ) → P (eight a b c d e f g h rest)) → (octets : List ℕ) → 8 ≤ length octets → P octets
+pub by_eight : (P : List ℕ → Type 0) → ((a b c d e f g h : ℕ) (rest : List ℕ) → P (eight a b c d e f g h rest)) → (octets : List ℕ) → 8 ≤ length octets
+    → P octets
 by_eight P each (a ∷ b ∷ c ∷ d ∷ e ∷ f ∷ g ∷ h ∷ rest) le = each a b c d e f g h rest
 by_eight P each octets le = absurd (omega arith)
 
-number_of : (w : Width) (octets : List ℕ) → byte_len w ≤ length octets → number_at w octets ≡ Ok (from_le_bytes w (take (byte_len w) octets), drop (byte_len w) octets)
+number_of : (w : Width) (octets : List ℕ) → byte_len w ≤ length octets
+    → number_at w octets ≡ Ok (from_le_bytes w (take (byte_len w) octets), drop (byte_len w) octets)
 number_of w octets le = rw (le-ltb (length octets) (byte_len w) le) refl
 
 tag_of : (a b c d e f g h : ℕ) (rest : List ℕ) → tag_at (eight a b c d e f g h rest) ≡ Ok (tag_in (eight a b c d e f g h rest), e ∷ f ∷ g ∷ h ∷ rest)
@@ -78,7 +80,8 @@ some_faults levels tag n rest false true = nest_faults levels tag Implicit (Some
 some_faults levels tag n rest false false = fits_fault _ (fits (Some n) rest)
 
 none_faults : (levels : ℕ) (tag : Tag) (rest : List ℕ) (a b c : Bool)
-    → fault_of (cond a (content (Sequence Explicit None)) (cond b (Ok (Sequence Implicit None)) (cond c (Ok (Sequence Implicit None)) (Err BadUndefined))) >>= content_step levels tag rest)
+    → fault_of (cond a (content (Sequence Explicit None)) (cond b (Ok (Sequence Implicit None)) (cond c (Ok (Sequence Implicit None)) (Err BadUndefined)))
+    >>= content_step levels tag rest)
     ≡ first_of ((not (a || (b || c)), BadUndefined) ∷ ((a || (b || c)) && eqb levels 0, TooDeep) ∷ (false, Truncated) ∷ [])
 none_faults levels tag rest true b c = nest_faults levels tag Explicit None rest
 none_faults levels tag rest false true c = nest_faults levels tag Implicit None rest
@@ -86,7 +89,8 @@ none_faults levels tag rest false false true = nest_faults levels tag Implicit N
 none_faults levels tag rest false false false = refl
 
 content_faults : (levels : ℕ) (tag : Tag) (spelled : Option Vr) (extent : Option ℕ) (rest : List ℕ)
-    → fault_of (content_of (known_vr tag) spelled extent >>= content_step levels tag rest) ≡ first_of (faults_of_content levels (known_vr tag) spelled extent rest)
+    → fault_of (content_of (known_vr tag) spelled extent >>= content_step levels tag rest)
+    ≡ first_of (faults_of_content levels (known_vr tag) spelled extent rest)
 unfolding content_of
 content_faults levels tag spelled (Some n) rest = some_faults levels tag n rest (is_sequence spelled) (is_sequence (known_vr tag))
 content_faults levels tag spelled None rest =
@@ -138,15 +142,19 @@ module _ (levels : ℕ) (tag : Tag) (a b c d e f g h : ℕ) (rest : List ℕ) wh
 
   by_form : (vr : Vr) (agreed : Bool) (form : LengthForm)
       → fault_of ((check agreed BadVr >>= λ ok. length_at form (g ∷ h ∷ rest) >>= explicit_step vr) >>= spelling_step levels tag)
-      ≡ first_of ((not agreed, BadVr) ∷ (ltb (length all) (size_by form), Truncated) ∷ faults_of_content levels (known_vr tag) (Some vr) (extent_by form all) (drop (size_by form) all))
+      ≡ first_of ((not agreed, BadVr) ∷ (ltb (length all) (size_by form), Truncated) ∷ faults_of_content levels (known_vr tag) (Some vr) (extent_by form all)
+      (drop (size_by form) all))
   unfolding length_at
   by_form vr false form = refl
   by_form vr true Two = rw (number_of w16 (g ∷ h ∷ rest) (omega arith), eight_at_least) (content_faults levels tag (Some vr) (Some (number_in w16 6 all)) rest)
   by_form vr true Four = rw (number_of w16 (g ∷ h ∷ rest) (omega arith)) (short_rest vr (ltb (length rest) 4) refl)
 
   explicit_faults : (o : Option Vr)
-      → fault_of ((vr_or_fault o (g ∷ h ∷ rest) >>= λ vr. check (agrees (known_vr tag) vr.0) BadVr >>= λ ok. length_at (length_form_of vr.0) vr.1 >>= explicit_step vr.0) >>= spelling_step levels tag)
-      ≡ first_of ((not (is_allowed Explicit (known_vr tag) o), BadVr) ∷ (ltb (length all) (header_size o), Truncated) ∷ faults_of_content levels (known_vr tag) o (extent_in o all) (drop (header_size o) all))
+      → fault_of
+      ((vr_or_fault o (g ∷ h ∷ rest) >>= λ vr. check (agrees (known_vr tag) vr.0) BadVr >>= λ ok. length_at (length_form_of vr.0) vr.1 >>= explicit_step vr.0)
+      >>= spelling_step levels tag)
+      ≡ first_of ((not (is_allowed Explicit (known_vr tag) o), BadVr) ∷ (ltb (length all) (header_size o), Truncated)
+      ∷ faults_of_content levels (known_vr tag) o (extent_in o all) (drop (header_size o) all))
   unfolding vr_or_fault
   explicit_faults None = refl
   explicit_faults (Some vr) = by_form vr (agrees (known_vr tag) vr) (length_form_of vr)
@@ -166,14 +174,16 @@ long_header syntax levels last a b c d e f g h rest =
     rw (tag_of a b c d e f g h rest, le-ltb (length (eight a b c d e f g h rest)) 8 (omega arith))
     (gate_not (eqb tag.group 0xFFFE) BadItem (placed_step syntax levels last tag (e ∷ f ∷ g ∷ h ∷ rest))
     ((not (follows last tag), TagOrder) ∷ from_vr syntax levels tag (eight a b c d e f g h rest))
-    (gate (follows last tag) TagOrder (rises_step syntax levels tag (e ∷ f ∷ g ∷ h ∷ rest)) (from_vr syntax levels tag (eight a b c d e f g h rest)) (spelling_faults levels tag a b c d e f g h rest syntax)))
+    (gate (follows last tag) TagOrder (rises_step syntax levels tag (e ∷ f ∷ g ∷ h ∷ rest)) (from_vr syntax levels tag (eight a b c d e f g h rest))
+    (spelling_faults levels tag a b c d e f g h rest syntax)))
 
 header_by : (syntax : Syntax) (levels : ℕ) (last : Option Tag) (octets : List ℕ) (b : Bool) → ltb (length octets) 8 ≡ b
     → fault_of (header_at syntax levels last octets) ≡ first_of (header_faults syntax levels last octets)
 unfolding header_at
 header_by syntax levels last octets true short = rw (no_tag octets short, short) refl
 header_by syntax levels last octets false long =
-    by_eight (λ octets. fault_of (header_at syntax levels last octets) ≡ first_of (header_faults syntax levels last octets)) (long_header syntax levels last) octets (ltb-false (length octets) 8 long)
+    by_eight (λ octets. fault_of (header_at syntax levels last octets) ≡ first_of (header_faults syntax levels last octets)) (long_header syntax levels last)
+    octets (ltb-false (length octets) 8 long)
 
 pub header_faults_are : (syntax : Syntax) (levels : ℕ) (last : Option Tag) (octets : List ℕ)
     → fault_of (header_at syntax levels last octets) ≡ first_of (header_faults syntax levels last octets)
@@ -192,7 +202,8 @@ long_item a b c d e f g h rest =
 item_by_length : (octets : List ℕ) (b : Bool) → ltb (length octets) 8 ≡ b → fault_of (item_header_at octets) ≡ first_of (item_faults octets)
 unfolding item_header_at
 item_by_length octets true short = rw (no_tag octets short, short) refl
-item_by_length octets false long = by_eight (λ octets. fault_of (item_header_at octets) ≡ first_of (item_faults octets)) long_item octets (ltb-false (length octets) 8 long)
+item_by_length octets false long = by_eight (λ octets. fault_of (item_header_at octets) ≡ first_of (item_faults octets)) long_item octets
+    (ltb-false (length octets) 8 long)
 
 pub item_faults_are : (octets : List ℕ) → fault_of (item_header_at octets) ≡ first_of (item_faults octets)
 item_faults_are octets = item_by_length octets (ltb (length octets) 8) refl
@@ -204,7 +215,8 @@ abbrev pub NoEnd : Bound → ℕ → List ℕ → Type 0
 NoEnd bound element octets =
     (end_at bound element octets ≡ Ok None)
     ⊎ (((end_at bound element octets ≡ Err Truncated) × (ltb (length octets) 8 ≡ true))
-    ⊎ ((end_at bound element octets ≡ Err BadItem) × (ltb (length octets) 8 ≡ false) × (eqb (tag_in octets).group 0xFFFE ≡ true) × (eqb (tag_in octets).element element ≡ true)))
+    ⊎ ((end_at bound element octets ≡ Err BadItem) × (ltb (length octets) 8 ≡ false) × (eqb (tag_in octets).group 0xFFFE ≡ true)
+    × (eqb (tag_in octets).element element ≡ true)))
 
 abbrev AnEnd : Bound → ℕ → List ℕ → Type 0
 AnEnd bound element octets = (rest : List ℕ) × (end_at bound element octets ≡ Ok (Some rest))
@@ -220,11 +232,13 @@ module _ (element a b c d e f g h : ℕ) (rest : List ℕ) where
   abbrev whole : List ℕ
   whole = eight a b c d e f g h rest
 
-  end_is_said : end_at Delimited element whole ≡ end_says rest (eqb (tag_in whole).group 0xFFFE) (eqb (tag_in whole).element element) (eqb (number_in w32 4 whole) 0)
+  end_is_said : end_at Delimited element whole ≡ end_says rest (eqb (tag_in whole).group 0xFFFE) (eqb (tag_in whole).element element)
+      (eqb (number_in w32 4 whole) 0)
   unfolding end_at
   end_is_said = rw (tag_of a b c d e f g h rest, number_of w32 (e ∷ f ∷ g ∷ h ∷ rest) (omega arith)) refl
 
-  ending_by : (x y z : Bool) → end_at Delimited element whole ≡ end_says rest x y z → eqb (tag_in whole).group 0xFFFE ≡ x → eqb (tag_in whole).element element ≡ y
+  ending_by : (x y z : Bool) → end_at Delimited element whole ≡ end_says rest x y z → eqb (tag_in whole).group 0xFFFE ≡ x
+      → eqb (tag_in whole).element element ≡ y
       → Ending ((x && y) && z) Delimited element whole
   ending_by true true true is p q = (rest, is)
   ending_by true true false is p q = inr (inr (is, le-ltb (length whole) 8 (omega arith), p, q))
@@ -257,11 +271,13 @@ ending Delimited element octets = delimited_by element octets (ltb (length octet
 pub no_end_here : (bound : Bound) (element : ℕ) (octets : List ℕ) → ends_here bound element octets ≡ false → NoEnd bound element octets
 no_end_here bound element octets other = subst (λ (b : Bool). Ending b bound element octets) other (ending bound element octets)
 
-pub an_end_here : (bound : Bound) (element : ℕ) (octets : List ℕ) → ends_here bound element octets ≡ true → (rest : List ℕ) × (end_at bound element octets ≡ Ok (Some rest))
+pub an_end_here : (bound : Bound) (element : ℕ) (octets : List ℕ) → ends_here bound element octets ≡ true → (rest : List ℕ)
+    × (end_at bound element octets ≡ Ok (Some rest))
 an_end_here bound element octets here = subst (λ (b : Bool). Ending b bound element octets) here (ending bound element octets)
 
 -- an end that is no end is the first fault at a header, be it an element's or an item's
-pub end_fault_first : (bound : Bound) (syntax : Syntax) (levels : ℕ) (last : Option Tag) (octets : List ℕ) (f : ReadFault) → NoEnd bound 0xE00D octets → end_at bound 0xE00D octets ≡ Err f
+pub end_fault_first : (bound : Bound) (syntax : Syntax) (levels : ℕ) (last : Option Tag) (octets : List ℕ) (f : ReadFault) → NoEnd bound 0xE00D octets
+    → end_at bound 0xE00D octets ≡ Err f
     → first_of (header_faults syntax levels last octets) ≡ Some f
 end_fault_first bound syntax levels last octets f (inl none) is = let bad : Ok None ≡ Err f = sym none ∙ is in absurd cc
 end_fault_first bound syntax levels last octets f (inr (inl short)) is =
@@ -271,12 +287,14 @@ end_fault_first bound syntax levels last octets f (inr (inr bad)) is =
     let same : BadItem ≡ f = fault_same (sym bad.0 ∙ is) in
     rw (bad.1, bad.2) (ap (λ (x : ReadFault). Some x) same)
 
-pub end_fault_item : (bound : Bound) (octets : List ℕ) (f : ReadFault) → NoEnd bound 0xE0DD octets → end_at bound 0xE0DD octets ≡ Err f → first_of (item_faults octets) ≡ Some f
+pub end_fault_item : (bound : Bound) (octets : List ℕ) (f : ReadFault) → NoEnd bound 0xE0DD octets → end_at bound 0xE0DD octets ≡ Err f
+    → first_of (item_faults octets) ≡ Some f
 end_fault_item bound octets f (inl none) is = let bad : Ok None ≡ Err f = sym none ∙ is in absurd cc
 end_fault_item bound octets f (inr (inl short)) is =
     let same : Truncated ≡ f = fault_same (sym short.0 ∙ is) in
     rw short.1 (ap (λ (x : ReadFault). Some x) same)
 end_fault_item bound octets f (inr (inr bad)) is =
     let same : BadItem ≡ f = fault_same (sym bad.0 ∙ is) in
-    let other : eqb (tag_in octets).element 0xE000 ≡ false = ne_eqb (tag_in octets).element 0xE000 (other_end (tag_in octets).element (eqb-true (tag_in octets).element 0xE0DD bad.3)) in
+    let other : eqb (tag_in octets).element 0xE000 ≡ false =
+    ne_eqb (tag_in octets).element 0xE000 (other_end (tag_in octets).element (eqb-true (tag_in octets).element 0xE0DD bad.3)) in
     rw (bad.1, bad.2, other) (ap (λ (x : ReadFault). Some x) same)

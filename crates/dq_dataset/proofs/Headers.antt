@@ -36,7 +36,8 @@ reserved_again reserved rest two =
     let long : ltb (length (reserved ++ rest)) 2 ≡ false = le-ltb _ _ (omega (arith, length-append reserved rest)) in
     rw (long, drop_at reserved rest 2 two) refl
 
-after_again : (form : LengthForm) (extent : Option ℕ) (behind rest : List ℕ) → IsLengthBehind form extent behind → length_at form (behind ++ rest) ≡ Ok (extent, rest)
+after_again : (form : LengthForm) (extent : Option ℕ) (behind rest : List ℕ) → IsLengthBehind form extent behind
+    → length_at form (behind ++ rest) ≡ Ok (extent, rest)
 unfolding length_at
 after_again Two None behind rest h = absurd h
 after_again Two (Some n) behind rest (lt, e) = rw (e, number_again w16 (2 ^ 16) wide16 n rest lt) refl
@@ -53,7 +54,8 @@ vr_named a b bytes vr rest (Some v) i h =
     let same : (v, bytes) ≡ (vr, rest) = ok_is (v, bytes) (vr, rest) h in
     (a, b, i ∙ ap (λ (p : Vr × List ℕ). Some p.0) same, ap (λ (p : Vr × List ℕ). a ∷ b ∷ p.1) same)
 
-vr_takes : (bytes : List ℕ) (vr : Vr) (rest : List ℕ) → vr_at bytes ≡ Ok (vr, rest) → (a : ℕ) × (b : ℕ) × (vr_with_letters (a ∷ b ∷ []) ≡ Some vr) × (bytes ≡ a ∷ b ∷ rest)
+vr_takes : (bytes : List ℕ) (vr : Vr) (rest : List ℕ) → vr_at bytes ≡ Ok (vr, rest) → (a : ℕ) × (b : ℕ) × (vr_with_letters (a ∷ b ∷ []) ≡ Some vr)
+    × (bytes ≡ a ∷ b ∷ rest)
 unfolding vr_at
 vr_takes [] vr rest e = absurd cc
 vr_takes (a ∷ []) vr rest e = absurd cc
@@ -64,21 +66,29 @@ unfolding vr_at vr_or_fault
 vr_again a b rest vr e = rw e refl
 
 pub spelling_takes : (syntax : Syntax) (known : Option Vr) (bytes : List ℕ) (spelled : Option Vr) (extent : Option ℕ) (rest : List ℕ) → IsBytes bytes
-    → spelling_at syntax known bytes ≡ Ok ((spelled, extent), rest) → (behind : List ℕ) × IsSpelling syntax known spelled extent behind × Takes bytes behind rest
+    → spelling_at syntax known bytes ≡ Ok ((spelled, extent), rest) → (behind : List ℕ) × IsSpelling syntax known spelled extent behind
+    × Takes bytes behind rest
 unfolding spelling_at
 spelling_takes Implicit known bytes spelled extent rest ok e =
     let b = bind_ok (long_length_at bytes) (λ n. Ok ((None, n.0), n.1)) ((spelled, extent), rest) e in
     let l = length_takes bytes b.0.0 b.0.1 ok b.1 in
-    subst (λ (p : (Option Vr × Option ℕ) × List ℕ). (behind : List ℕ) × IsSpelling Implicit known p.0.0 p.0.1 behind × Takes bytes behind p.1) (ok_is ((None, b.0.0), b.0.1) ((spelled, extent), rest) b.2) l
+    subst (λ (p : (Option Vr × Option ℕ) × List ℕ). (behind : List ℕ) × IsSpelling Implicit known p.0.0 p.0.1 behind × Takes bytes behind p.1)
+    (ok_is ((None, b.0.0), b.0.1) ((spelled, extent), rest) b.2) l
 spelling_takes Explicit known bytes spelled extent rest ok e =
-    let v = bind_ok (vr_at bytes) (λ vr. check (agrees known vr.0) BadVr >>= λ ok. length_at (length_form_of vr.0) vr.1 >>= λ n. Ok ((Some vr.0, n.0), n.1)) ((spelled, extent), rest) e in
-    let c = check_ok (agrees known v.0.0) BadVr (λ ok. length_at (length_form_of v.0.0) v.0.1 >>= λ n. Ok ((Some v.0.0, n.0), n.1)) ((spelled, extent), rest) v.2 in
+    let v = bind_ok (vr_at bytes) (λ vr. check (agrees known vr.0) BadVr >>= λ ok. length_at (length_form_of vr.0) vr.1 >>= λ n. Ok ((Some vr.0, n.0), n.1))
+    ((spelled, extent), rest) e in
+    let c = check_ok (agrees known v.0.0) BadVr (λ ok. length_at (length_form_of v.0.0) v.0.1 >>= λ n. Ok ((Some v.0.0, n.0), n.1)) ((spelled, extent), rest)
+    v.2 in
     let b = bind_ok (length_at (length_form_of v.0.0) v.0.1) (λ n. Ok ((Some v.0.0, n.0), n.1)) ((spelled, extent), rest) c.1 in
     let letters = vr_takes bytes v.0.0 v.0.1 v.1 in
     let rest_ok : IsBytes v.0.1 = IsBytes-rest letters.1 v.0.1 (IsBytes-rest letters.0 (letters.1 ∷ v.0.1) (subst IsBytes letters.3 ok)) in
     let l = behind_takes (length_form_of v.0.0) v.0.1 b.0.0 b.0.1 rest_ok b.1 in
-    subst (λ (p : (Option Vr × Option ℕ) × List ℕ). (behind : List ℕ) × IsSpelling Explicit known p.0.0 p.0.1 behind × Takes bytes behind p.1) (ok_is ((Some v.0.0, b.0.0), b.0.1) ((spelled, extent), rest) b.2)
-    (letters.0 ∷ letters.1 ∷ l.0, (c.0, letters.0, letters.1, letters.2, l.0, l.1, refl), record { parts = letters.3 ∙ ap (λ (x : List ℕ). letters.0 ∷ letters.1 ∷ x) l.2.parts; rest_fits = l.2.rest_fits })
+    subst (λ (p : (Option Vr × Option ℕ) × List ℕ). (behind : List ℕ) × IsSpelling Explicit known p.0.0 p.0.1 behind × Takes bytes behind p.1)
+    (ok_is ((Some v.0.0, b.0.0), b.0.1) ((spelled, extent), rest) b.2) (
+      letters.0 ∷ letters.1 ∷ l.0,
+      (c.0, letters.0, letters.1, letters.2, l.0, l.1, refl),
+      record { parts = letters.3 ∙ ap (λ (x : List ℕ). letters.0 ∷ letters.1 ∷ x) l.2.parts; rest_fits = l.2.rest_fits },
+    )
 
 pub spelling_again : (syntax : Syntax) (known spelled : Option Vr) (extent : Option ℕ) (behind rest : List ℕ) → IsSpelling syntax known spelled extent behind
     → spelling_at syntax known (behind ++ rest) ≡ Ok ((spelled, extent), rest)
@@ -94,7 +104,8 @@ after_long Two None behind h = absurd h
 after_long Two (Some n) behind (lt, e) = omega (arith, ap length e)
 after_long Four extent behind (reserved, two, four, is, e) = omega (arith, ap length e, length-append reserved four, two)
 
-spelling_long : (syntax : Syntax) (known spelled : Option Vr) (extent : Option ℕ) (behind : List ℕ) → IsSpelling syntax known spelled extent behind → 4 ≤ length behind
+spelling_long : (syntax : Syntax) (known spelled : Option Vr) (extent : Option ℕ) (behind : List ℕ) → IsSpelling syntax known spelled extent behind
+    → 4 ≤ length behind
 spelling_long Implicit known None extent behind h = omega (arith, length_four extent behind h)
 spelling_long Implicit known (Some vr) extent behind h = absurd h
 spelling_long Explicit known None extent behind h = absurd h
@@ -164,16 +175,32 @@ pub header_again : (syntax : Syntax) (levels : ℕ) (last : Option Tag) (tag : T
     → header_at syntax levels last (octets ++ rest) ≡ Ok (header_of tag content, rest)
 unfolding header_at
 header_again syntax levels last tag content octets rest placed header nests whole =
-    let long : 4 ≤ length (header.behind ++ rest) = omega (arith, length-append header.behind rest, spelling_long syntax (known_vr tag) header.spelled header.extent header.behind header.spelling) in
-    let e : octets ++ rest ≡ tag_octets tag ++ (header.behind ++ rest) = ap (λ (x : List ℕ). x ++ rest) header.whole ∙ append_assoc (tag_octets tag) header.behind rest in
+    let long : 4 ≤ length (header.behind ++ rest) =
+    omega (arith, length-append header.behind rest, spelling_long syntax (known_vr tag) header.spelled header.extent header.behind header.spelling) in
+    let e : octets ++ rest ≡ tag_octets tag ++ (header.behind ++ rest) = ap (λ (x : List ℕ). x ++ rest) header.whole
+    ∙ append_assoc (tag_octets tag) header.behind rest in
     let other : eqb tag.group 0xFFFE ≡ false = ne_eqb tag.group 0xFFFE placed.no_delimiter in
     let allowed = header.allowed in
-    rw (e, tag_again tag (header.behind ++ rest) placed.group placed.number long, other, placed.rises, spelling_again syntax (known_vr tag) header.spelled header.extent header.behind rest header.spelling, allowed, nests, whole) refl
+    rw (
+      e,
+      tag_again tag (header.behind ++ rest) placed.group placed.number long,
+      other,
+      placed.rises,
+      spelling_again syntax (known_vr tag) header.spelled header.extent header.behind rest header.spelling,
+      allowed,
+      nests,
+      whole,
+    ) refl
 
 -- a header has at least 8 octets
 pub header_long : (syntax : Syntax) (tag : Tag) (content : Content) (octets : List ℕ) → IsHeader syntax tag content octets → 8 ≤ length octets
 header_long syntax tag content octets header =
-    omega (arith, ap length header.whole, length-append (tag_octets tag) header.behind, spelling_long syntax (known_vr tag) header.spelled header.extent header.behind header.spelling)
+    omega (
+      arith,
+      ap length header.whole,
+      length-append (tag_octets tag) header.behind,
+      spelling_long syntax (known_vr tag) header.spelled header.extent header.behind header.spelling,
+    )
 
 -- ---- the header of an item
 
@@ -218,16 +245,19 @@ item_takes bytes extent rest ok e =
     } in
     subst (λ (p : Option ℕ × List ℕ). ReadsItem bytes p.0 p.1) (ok_is b.0 (extent, rest) w.1) found
 
-pub item_again : (extent : Option ℕ) (octets rest : List ℕ) → IsItemHeader extent octets → fits extent rest ≡ true → item_header_at (octets ++ rest) ≡ Ok (extent, rest)
+pub item_again : (extent : Option ℕ) (octets rest : List ℕ) → IsItemHeader extent octets → fits extent rest ≡ true
+    → item_header_at (octets ++ rest) ≡ Ok (extent, rest)
 unfolding item_header_at
 item_again extent octets rest header whole =
     let item : Tag = record { group = 0xFFFE; element = 0xE000 } in
     let long : 4 ≤ length (header.four ++ rest) = omega (arith, length-append header.four rest, length_four extent header.four header.is_length) in
-    let e : octets ++ rest ≡ tag_octets item ++ (header.four ++ rest) = ap (λ (x : List ℕ). x ++ rest) header.whole ∙ append_assoc (tag_octets item) header.four rest in
+    let e : octets ++ rest ≡ tag_octets item ++ (header.four ++ rest) = ap (λ (x : List ℕ). x ++ rest) header.whole
+    ∙ append_assoc (tag_octets item) header.four rest in
     rw (e, tag_again item (header.four ++ rest) (lit< tt) (lit< tt) long, length_again extent header.four rest header.is_length, whole) refl
 
 pub item_long : (extent : Option ℕ) (octets : List ℕ) → IsItemHeader extent octets → 8 ≤ length octets
-item_long extent octets header = omega (arith, ap length header.whole, length-append (delimiter 0xE000) header.four, length_four extent header.four header.is_length)
+item_long extent octets header =
+    omega (arith, ap length header.whole, length-append (delimiter 0xE000) header.four, length_four extent header.four header.is_length)
 
 -- ---- ends
 
@@ -290,13 +320,15 @@ end_takes Delimited end bytes rest ok e =
       trails = tt;
     }
 
-pub end_again : (bound : Bound) (end : ℕ) (octets rest : List ℕ) → end < 2 ^ 16 → IsEnd bound end octets → Trails bound rest → end_at bound end (octets ++ rest) ≡ Ok (Some rest)
+pub end_again : (bound : Bound) (end : ℕ) (octets rest : List ℕ) → end < 2 ^ 16 → IsEnd bound end octets → Trails bound rest
+    → end_at bound end (octets ++ rest) ≡ Ok (Some rest)
 unfolding end_at
 end_again Filled end octets rest lt is trails = rw (is, trails) refl
 end_again Delimited end octets rest lt is trails =
     let tag : Tag = record { group = 0xFFFE; element = end } in
     let long : 4 ≤ length (to_le_bytes w32 0 ++ rest) = omega (arith, length-append (to_le_bytes w32 0) rest) in
-    let e : octets ++ rest ≡ tag_octets tag ++ (to_le_bytes w32 0 ++ rest) = ap (λ (x : List ℕ). x ++ rest) is ∙ append_assoc (tag_octets tag) (to_le_bytes w32 0) rest in
+    let e : octets ++ rest ≡ tag_octets tag ++ (to_le_bytes w32 0 ++ rest) = ap (λ (x : List ℕ). x ++ rest) is
+    ∙ append_assoc (tag_octets tag) (to_le_bytes w32 0) rest in
     let same : eqb end end ≡ true = eq-eqb end end refl in
     rw (e, tag_again tag (to_le_bytes w32 0 ++ rest) (lit< tt) lt long, same, number_again w32 (2 ^ 32) wide32 0 rest (lit< tt)) refl
 

@@ -30,16 +30,19 @@ closing : (front place body out four : List ℕ) (start : ℕ) → out ≡ (fron
     → take (start - 4) out ++ (four ++ drop start out) ≡ front ++ (four ++ body)
 closing front place body out four start parts four_long at =
     let before : length front ≡ start - 4 = omega (arith, length-append front place, at, four_long) in
-    let first : take (start - 4) out ≡ front = ap (take (start - 4)) (parts ∙ append_assoc front place body) ∙ take_at front (place ++ body) (start - 4) before in
+    let first : take (start - 4) out ≡ front = ap (take (start - 4)) (parts ∙ append_assoc front place body)
+    ∙ take_at front (place ++ body) (start - 4) before in
     let last : drop start out ≡ body = ap (drop start) parts ∙ drop_at (front ++ place) body start (sym at) in
     λ i. first i ++ (four ++ last i)
 
 -- the header with the length of what stands after it
-pub sequence_closed : (syntax : Syntax) (tag : Tag) (old body first out : List ℕ) (start n : ℕ) → first ≡ old ++ header_of syntax tag SQ 0 → out ≡ first ++ body → start ≡ length first → n ≡ length body
+pub sequence_closed : (syntax : Syntax) (tag : Tag) (old body first out : List ℕ) (start n : ℕ) → first ≡ old ++ header_of syntax tag SQ 0 → out ≡ first ++ body
+    → start ≡ length first → n ≡ length body
     → take (start - 4) out ++ (to_le_bytes w32 n ++ drop start out) ≡ old ++ (header_of syntax tag SQ (length body) ++ body)
 sequence_closed syntax tag old body first out start n begun whole at count =
     let front = old ++ front_of syntax tag in
-    let first_is : first ≡ front ++ to_le_bytes w32 0 = begun ∙ ap (λ (x : List ℕ). old ++ x) (header_parts syntax tag 0) ∙ sym (append_assoc old (front_of syntax tag) (to_le_bytes w32 0)) in
+    let first_is : first ≡ front ++ to_le_bytes w32 0 = begun ∙ ap (λ (x : List ℕ). old ++ x) (header_parts syntax tag 0)
+    ∙ sym (append_assoc old (front_of syntax tag) (to_le_bytes w32 0)) in
     closing front (to_le_bytes w32 0) body out (to_le_bytes w32 n) start (whole ∙ ap (λ (x : List ℕ). x ++ body) first_is) refl (at ∙ ap length first_is)
     ∙ append_assoc old (front_of syntax tag) (to_le_bytes w32 n ++ body)
     ∙ ap (λ (x : List ℕ). old ++ x) (sym (append_assoc (front_of syntax tag) (to_le_bytes w32 n) body)
@@ -50,17 +53,20 @@ pub item_closed : (old body first out : List ℕ) (start n : ℕ) → first ≡ 
 item_closed old body first out start n begun whole at count =
     let item = tag_octets (record { group = 0xFFFE; element = 0xE000 }) in
     let front = old ++ item in
-    let first_is : first ≡ front ++ to_le_bytes w32 0 = begun ∙ ap (λ (x : List ℕ). old ++ x) (item_parts 0) ∙ sym (append_assoc old item (to_le_bytes w32 0)) in
+    let first_is : first ≡ front ++ to_le_bytes w32 0 = begun ∙ ap (λ (x : List ℕ). old ++ x) (item_parts 0)
+    ∙ sym (append_assoc old item (to_le_bytes w32 0)) in
     closing front (to_le_bytes w32 0) body out (to_le_bytes w32 n) start (whole ∙ ap (λ (x : List ℕ). x ++ body) first_is) refl (at ∙ ap length first_is)
     ∙ append_assoc old item (to_le_bytes w32 n ++ body)
-    ∙ ap (λ (x : List ℕ). old ++ x) (sym (append_assoc item (to_le_bytes w32 n) body) ∙ ap (λ (x : List ℕ). x ++ body) (sym (item_parts n) ∙ ap item_header_of count))
+    ∙ ap (λ (x : List ℕ). old ++ x) (sym (append_assoc item (to_le_bytes w32 n) body)
+    ∙ ap (λ (x : List ℕ). x ++ body) (sym (item_parts n) ∙ ap item_header_of count))
 
 value_has_vr : (tag : Tag) (vr : Vr) (x : Value) → IsValue 16 tag vr x → has_sequence_vr vr x
 value_has_vr tag vr (Octets octets) h = tt
 value_has_vr tag vr (Items items) h = h.0.is_sq
 
 -- items of a data set have the VR SQ
-pub element_has_vr : (i : ℕ) (last : Option Tag) (es : List Element) (e : Element) → AreElements 16 last (as_elements es) → i < length es → e ≡ get_or es i e → HasSequenceVr e
+pub element_has_vr : (i : ℕ) (last : Option Tag) (es : List Element) (e : Element) → AreElements 16 last (as_elements es) → i < length es → e ≡ get_or es i e
+    → HasSequenceVr e
 element_has_vr i last [] e h lt is = absurd (omega arith)
 element_has_vr zero last (x ∷ es) e h lt is = subst HasSequenceVr (sym is) (value_has_vr x.tag x.vr x.value (facts-parts 16 last x es h).1)
 element_has_vr (suc i) last (x ∷ es) e h lt is = element_has_vr i (Some x.tag) es e (facts-parts 16 last x es h).2 (omega arith) is
@@ -77,8 +83,20 @@ canonical-sequence s e items is vr =
 
 pub sequence_start : (syntax : Syntax) (tag : Tag) (old first : List ℕ) → first ≡ old ++ header_of syntax tag SQ 0 → 4 ≤ length first
 sequence_start syntax tag old first e =
-    omega (arith, ap length e, length-append old (header_of syntax tag SQ 0), ap length (header_parts syntax tag 0), length-append (front_of syntax tag) (to_le_bytes w32 0))
+    omega (
+      arith,
+      ap length e,
+      length-append old (header_of syntax tag SQ 0),
+      ap length (header_parts syntax tag 0),
+      length-append (front_of syntax tag) (to_le_bytes w32 0),
+    )
 
 pub item_start : (old first : List ℕ) → first ≡ old ++ item_header_of 0 → 4 ≤ length first
 item_start old first e =
-    omega (arith, ap length e, length-append old (item_header_of 0), ap length (item_parts 0), length-append (tag_octets (record { group = 0xFFFE; element = 0xE000 })) (to_le_bytes w32 0))
+    omega (
+      arith,
+      ap length e,
+      length-append old (item_header_of 0),
+      ap length (item_parts 0),
+      length-append (tag_octets (record { group = 0xFFFE; element = 0xE000 })) (to_le_bytes w32 0),
+    )

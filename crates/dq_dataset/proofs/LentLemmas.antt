@@ -24,7 +24,8 @@ found_step header value = Ok ((header.0, value_octets (length_of header.0.conten
 abbrev pub header_step : Header × List ℕ → Result Found ReadFault
 header_step header = value_by (readers (length header.1 + 1)) 16 header.0.vr header.0.content header.1 >>= found_step header
 
-pub next_reads : (syntax : Syntax) (last : Option Tag) (octets : List ℕ) (found : Found) → AreOctets octets → next_at syntax last octets ≡ Ok found → NextReads syntax last octets found
+pub next_reads : (syntax : Syntax) (last : Option Tag) (octets : List ℕ) (found : Found) → AreOctets octets → next_at syntax last octets ≡ Ok found
+    → NextReads syntax last octets found
 unfolding next_at
 next_reads syntax last octets found ok e =
     let h = bind_ok (header_at syntax 16 last octets) header_step found e in
@@ -37,7 +38,8 @@ next_reads syntax last octets found ok e =
     subst (λ (x : Found). NextReads syntax last octets x) same one
 
 -- what is left is shorter
-pub next_shorter : (syntax : Syntax) (last : Option Tag) (octets : List ℕ) (found : Found) → AreOctets octets → next_at syntax last octets ≡ Ok found → AreOctets found.1 × (length found.1 < length octets)
+pub next_shorter : (syntax : Syntax) (last : Option Tag) (octets : List ℕ) (found : Found) → AreOctets octets → next_at syntax last octets ≡ Ok found
+    → AreOctets found.1 × (length found.1 < length octets)
 next_shorter syntax last octets found ok e =
     let (behind, header, held, value, is) = next_reads syntax last octets found ok e in (
       value.takes.rest_fits,
@@ -62,9 +64,11 @@ same_choice : (b : Bool) (x y : Lent) (f : Result Spelled ReadFault) → x ≡ y
 same_choice b x y f e = ap (λ (z : Lent). cond b z (f ∷ z)) e
 
 abbrev SameLent : ℕ → Syntax → Type 0
-SameLent n syntax = (m : ℕ) (last : Option Tag) (octets : List ℕ) → AreOctets octets → length octets ≤ n → length octets ≤ m → lent_in n syntax last octets ≡ lent_in m syntax last octets
+SameLent n syntax = (m : ℕ) (last : Option Tag) (octets : List ℕ) → AreOctets octets → length octets ≤ n → length octets ≤ m
+    → lent_in n syntax last octets ≡ lent_in m syntax last octets
 
-same_after : (n m : ℕ) (syntax : Syntax) (last : Option Tag) (octets : List ℕ) (r : Result Found ReadFault) → SameLent n syntax → AreOctets octets → length octets ≤ suc n → length octets ≤ suc m → next_at syntax last octets ≡ r
+same_after : (n m : ℕ) (syntax : Syntax) (last : Option Tag) (octets : List ℕ) (r : Result Found ReadFault) → SameLent n syntax → AreOctets octets
+    → length octets ≤ suc n → length octets ≤ suc m → next_at syntax last octets ≡ r
     → lent_after syntax (lent_in n syntax) r ≡ lent_after syntax (lent_in m syntax) r
 same_after n m syntax last octets (Err f) ih ok le le' e = refl
 same_after n m syntax last octets (Ok found) ih ok le le' e =
@@ -86,39 +90,48 @@ same_lent (suc n) syntax (suc m) last octets ok le le' =
 
 -- ---- one step
 
-lent_some : (k : ℕ) (syntax : Syntax) (last : Option Tag) (octets : List ℕ) (r : Result Found ReadFault) → length octets ≡ suc k → next_at syntax last octets ≡ r
+lent_some : (k : ℕ) (syntax : Syntax) (last : Option Tag) (octets : List ℕ) (r : Result Found ReadFault) → length octets ≡ suc k
+    → next_at syntax last octets ≡ r
     → lent_from syntax last octets ≡ lent_after syntax (lent_in k syntax) r
 unfolding lent_in
 lent_some k syntax last octets r len e =
     let some : eqb (length octets) 0 ≡ false = ne_eqb (length octets) 0 (λ bad. omega (arith, len)) in
-    ap (λ (n : ℕ). lent_in n syntax last octets) len ∙ ap (λ (b : Bool). cond b [] (lent_after syntax (lent_in k syntax) (next_at syntax last octets))) some ∙ ap (lent_after syntax (lent_in k syntax)) e
+    ap (λ (n : ℕ). lent_in n syntax last octets) len ∙ ap (λ (b : Bool). cond b [] (lent_after syntax (lent_in k syntax) (next_at syntax last octets))) some
+    ∙ ap (lent_after syntax (lent_in k syntax)) e
 
 a_step : (n : ℕ) → 0 < n → (k : ℕ) × (n ≡ suc k)
 a_step zero h = absurd (omega arith)
 a_step (suc k) h = (k, refl)
 
-pub lent_fault : (syntax : Syntax) (last : Option Tag) (octets : List ℕ) (f : ReadFault) → 0 < length octets → next_at syntax last octets ≡ Err f → lent_from syntax last octets ≡ Err f ∷ []
+pub lent_fault : (syntax : Syntax) (last : Option Tag) (octets : List ℕ) (f : ReadFault) → 0 < length octets → next_at syntax last octets ≡ Err f
+    → lent_from syntax last octets ≡ Err f ∷ []
 lent_fault syntax last octets f some e = let k = a_step (length octets) some in lent_some k.0 syntax last octets (Err f) k.1 e
 
 pub lent_end : (syntax : Syntax) (last : Option Tag) (octets : List ℕ) → length octets ≡ 0 → lent_from syntax last octets ≡ []
 lent_end syntax last octets e = lent_nothing (length octets) syntax last octets e
 
-lent_next : (syntax : Syntax) (last : Option Tag) (octets : List ℕ) (found : Found) → AreOctets octets → 0 < length octets → next_at syntax last octets ≡ Ok found
-    → lent_from syntax last octets ≡ cond (eqb found.0.0.tag.element 0) (lent_from syntax (Some found.0.0.tag) found.1) (Ok (spelled syntax found) ∷ lent_from syntax (Some found.0.0.tag) found.1)
+lent_next : (syntax : Syntax) (last : Option Tag) (octets : List ℕ) (found : Found) → AreOctets octets → 0 < length octets
+    → next_at syntax last octets ≡ Ok found
+    → lent_from syntax last octets ≡ cond (eqb found.0.0.tag.element 0) (lent_from syntax (Some found.0.0.tag) found.1)
+    (Ok (spelled syntax found) ∷ lent_from syntax (Some found.0.0.tag) found.1)
 lent_next syntax last octets found ok some e =
     let k = a_step (length octets) some in
     let s = next_shorter syntax last octets found ok e in
     lent_some k.0 syntax last octets (Ok found) k.1 e
-    ∙ same_choice (eqb found.0.0.tag.element 0) _ _ (Ok (spelled syntax found)) (same_lent k.0 syntax (length found.1) (Some found.0.0.tag) found.1 s.0 (omega (arith, s.1, k.1)) (omega arith))
+    ∙ same_choice (eqb found.0.0.tag.element 0) _ _ (Ok (spelled syntax found))
+    (same_lent k.0 syntax (length found.1) (Some found.0.0.tag) found.1 s.0 (omega (arith, s.1, k.1)) (omega arith))
 
-pub lent_dropped : (syntax : Syntax) (last : Option Tag) (octets : List ℕ) (h : Header) (value rest : List ℕ) → AreOctets octets → 0 < length octets → next_at syntax last octets ≡ Ok ((h, value), rest)
+pub lent_dropped : (syntax : Syntax) (last : Option Tag) (octets : List ℕ) (h : Header) (value rest : List ℕ) → AreOctets octets → 0 < length octets
+    → next_at syntax last octets ≡ Ok ((h, value), rest)
     → h.tag.element ≡ 0 → lent_from syntax last octets ≡ lent_from syntax (Some h.tag) rest
 lent_dropped syntax last octets h value rest ok some e none = lent_next syntax last octets ((h, value), rest) ok some e ∙ rw (eq-eqb h.tag.element 0 none) refl
 
-pub lent_element : (syntax : Syntax) (last : Option Tag) (octets : List ℕ) (h : Header) (value rest : List ℕ) (inner : Syntax) → AreOctets octets → 0 < length octets
+pub lent_element : (syntax : Syntax) (last : Option Tag) (octets : List ℕ) (h : Header) (value rest : List ℕ) (inner : Syntax) → AreOctets octets
+    → 0 < length octets
     → next_at syntax last octets ≡ Ok ((h, value), rest) → h.tag.element ≢ 0 → inner ≡ inner_syntax syntax h.content
     → lent_from syntax last octets ≡ Ok (record { tag = h.tag; vr = h.vr; syntax = inner; octets = value }) ∷ lent_from syntax (Some h.tag) rest
-lent_element syntax last octets h value rest inner ok some e ne is = rw is (lent_next syntax last octets ((h, value), rest) ok some e ∙ rw (ne_eqb h.tag.element 0 ne) refl)
+lent_element syntax last octets h value rest inner ok some e ne is =
+    rw is (lent_next syntax last octets ((h, value), rest) ok some e ∙ rw (ne_eqb h.tag.element 0 ne) refl)
 
 pub not_empty : (b : Bool) (octets : List ℕ) → b ≡ eqb (length octets) 0 → b ≡ false → 0 < length octets
 not_empty b [] e f = absurd cc

@@ -26,11 +26,14 @@ with_front-nil (Err e) = refl
 -- ---- elements
 
 kept-append : (h : Header) (v : Value) (others : List Element) → kept h v others ≡ kept h v [] ++ others
-kept-append h v others = elim (eqb h.tag.element 0) as (λ b. cond b others (record { tag = h.tag; vr = h.vr; value = v } ∷ others) ≡ cond b [] (record { tag = h.tag; vr = h.vr; value = v } ∷ []) ++ others) [ true ↦ refl | false ↦ refl ]
+kept-append h v others =
+    elim (eqb h.tag.element 0) as (λ b. cond b others (record { tag = h.tag; vr = h.vr; value = v } ∷ others)
+    ≡ cond b [] (record { tag = h.tag; vr = h.vr; value = v } ∷ []) ++ others) [ true ↦ refl | false ↦ refl ]
 
 after_kept : (done : List Element) (h : Header) (v : Value) (read : Result (List Element × List ℕ) ReadFault)
     → with_front done (read >>= λ x. Ok (kept h v x.0, x.1)) ≡ with_front (done ++ kept h v []) read
-after_kept done h v (Ok x) = ap (λ (es : List Element). Ok (es, x.1)) (ap (λ (es : List Element). done ++ es) (kept-append h v x.0) ∙ sym (append_assoc done (kept h v []) x.0))
+after_kept done h v (Ok x) =
+    ap (λ (es : List Element). Ok (es, x.1)) (ap (λ (es : List Element). done ++ es) (kept-append h v x.0) ∙ sym (append_assoc done (kept h v []) x.0))
 after_kept done h v (Err e) = refl
 
 module _ (bound : Bound) (syntax : Syntax) (levels : ℕ) (all : List ℕ) where

@@ -23,7 +23,8 @@ mutual
   AreItems-deeper a b no_items le h = tt
   AreItems-deeper a b (item d rest) le h = (AreElements-deeper a b None d le h.0, AreItems-deeper a b rest le h.1)
 
-pub content_is_data_set : (syntax : Syntax) (levels : ℕ) (extent : Option ℕ) (bytes : List ℕ) (es : List Element) (rest : List ℕ) → levels ≤ 16 → fits extent bytes ≡ true → IsBytes bytes
+pub content_is_data_set : (syntax : Syntax) (levels : ℕ) (extent : Option ℕ) (bytes : List ℕ) (es : List Element) (rest : List ℕ) → levels ≤ 16
+    → fits extent bytes ≡ true → IsBytes bytes
     → ((n : ℕ) → length bytes < n → content_by (readers n) syntax levels extent bytes ≡ Ok (es, rest)) → IsDataSet (as_elements es)
 content_is_data_set syntax levels extent bytes es rest le enough ok e =
     let n = length bytes in

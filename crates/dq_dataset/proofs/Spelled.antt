@@ -48,7 +48,8 @@ module _ (s : Syntax) (all : List Element) (before out : List ℕ) (i : ℕ) (le
 
 module _ (s : Syntax) (all : List ElementList) (before out : List ℕ) (i : ℕ) (left : ItemsToWrite s all before out i) where
   pub next_item : (d : ElementList) → i < length all → d ≡ get_or all i d
-      → (length (canonical s d) < 0xFFFFFFFF) × HasLengths s d × ItemsHaveLengths s (items_of (drop (i + 1) all)) × (item_count d < items_count (items_of (drop i all)))
+      → (length (canonical s d) < 0xFFFFFFFF) × HasLengths s d × ItemsHaveLengths s (items_of (drop (i + 1) all))
+      × (item_count d < items_count (items_of (drop i all)))
   next_item d lt is =
       let parts : drop i all ≡ d ∷ drop (i + 1) all = rw add-one (drop-cons all i d lt ∙ ap (λ (x : ElementList). x ∷ drop (suc i) all) (sym is)) in
       let h = rw parts at left.lengths in
@@ -58,7 +59,8 @@ module _ (s : Syntax) (all : List ElementList) (before out : List ℕ) (i : ℕ)
       → ItemsToWrite s all before (out ++ item_header_of (length (canonical s d)) ++ canonical s d) (i + 1)
   item_written d lt is =
       let parts : drop i all ≡ d ∷ drop (i + 1) all = rw add-one (drop-cons all i d lt ∙ ap (λ (x : ElementList). x ∷ drop (suc i) all) (sym is)) in
-      let joined : (out ++ item_header_of (length (canonical s d)) ++ canonical s d) ++ canonical_items s (items_of (drop (i + 1) all)) ≡ out ++ canonical_items s (items_of (d ∷ drop (i + 1) all)) = simp append_assoc in
+      let joined : (out ++ item_header_of (length (canonical s d)) ++ canonical s d) ++ canonical_items s (items_of (drop (i + 1) all))
+      ≡ out ++ canonical_items s (items_of (d ∷ drop (i + 1) all)) = simp append_assoc in
       record {
         lengths = (next_item d lt is).2;
         told = joined ∙ ap (λ (x : List ElementList). out ++ canonical_items s (items_of x)) (sym parts) ∙ left.told;

@@ -31,7 +31,8 @@ length-vr_and_length Four vr n = omega (arith, length-append (letters_of vr) (lo
 length-header_of : (syntax : Syntax) (tag : Tag) (vr : Vr) (n : ℕ) → length (header_of syntax tag vr n) ≤ 12
 unfolding header_of
 length-header_of Implicit tag vr n = omega (arith, length-append (tag_octets tag) (to_le_bytes w32 n))
-length-header_of Explicit tag vr n = omega (arith, length-append (tag_octets tag) (vr_and_length (length_form_of vr) vr n), length-vr_and_length (length_form_of vr) vr n)
+length-header_of Explicit tag vr n =
+    omega (arith, length-append (tag_octets tag) (vr_and_length (length_form_of vr) vr n), length-vr_and_length (length_form_of vr) vr n)
 
 length-item_header_of : (n : ℕ) → length (item_header_of n) ≡ 8
 unfolding item_header_of
@@ -57,7 +58,8 @@ abbrev ValueIsShort : Syntax → List ℕ → Value → Type 0
 ValueIsShort to octets (Octets held) = length held ≤ length octets + 1
 ValueIsShort to octets (Items items) = AreShort to octets (items_of items)
 
-with_value_short : (to : Syntax) (tag : Tag) (vr : Vr) (held : Value) (others : ElementList) (header value rest : List ℕ) → 8 ≤ length header → ValueIsShort to value held → IsShort to rest others
+with_value_short : (to : Syntax) (tag : Tag) (vr : Vr) (held : Value) (others : ElementList) (header value rest : List ℕ) → 8 ≤ length header
+    → ValueIsShort to value held → IsShort to rest others
     → IsShort to (header ++ (value ++ rest)) (with_value (record { tag = tag; vr = vr; value = held }) held others)
 with_value_short to tag vr (Octets held) others header value rest long short tail =
     let all = length-append header (value ++ rest) in
@@ -84,7 +86,8 @@ with_value_short to tag vr (Items items) others header value rest long short tai
       lengths = λ small. (omega (arith, all, inner, it), short.lengths (omega (arith, all, inner)), tail.lengths (omega (arith, all, inner)));
     }
 
-kept_short : (b : Bool) (to : Syntax) (tag : Tag) (vr : Vr) (held : Value) (others : ElementList) (header value rest : List ℕ) → 8 ≤ length header → ValueIsShort to value held → IsShort to rest others
+kept_short : (b : Bool) (to : Syntax) (tag : Tag) (vr : Vr) (held : Value) (others : ElementList) (header value rest : List ℕ) → 8 ≤ length header
+    → ValueIsShort to value held → IsShort to rest others
     → IsShort to (header ++ (value ++ rest)) (cond b others (with_value (record { tag = tag; vr = vr; value = held }) held others))
 kept_short true to tag vr held others header value rest long short tail =
     let all = length-append header (value ++ rest) in
@@ -92,7 +95,8 @@ kept_short true to tag vr held others header value rest long short tail =
     record { twice = omega (arith, all, inner, tail.twice); lengths = λ small. tail.lengths (omega (arith, all, inner)) }
 kept_short false to tag vr held others header value rest long short tail = with_value_short to tag vr held others header value rest long short tail
 
-one_item_short : (to : Syntax) (first : ElementList) (others : ItemList) (header value rest : List ℕ) → 8 ≤ length header → IsShort to value first → AreShort to rest others
+one_item_short : (to : Syntax) (first : ElementList) (others : ItemList) (header value rest : List ℕ) → 8 ≤ length header → IsShort to value first
+    → AreShort to rest others
     → AreShort to (header ++ (value ++ rest)) (item first others)
 one_item_short to first others header value rest long short tail =
     let octets = canonical to first in
@@ -109,19 +113,24 @@ one_item_short to first others header value rest long short tail =
     }
 
 mutual
-  elements_short : (to : Syntax) (bound : Bound) (syntax : Syntax) (levels : ℕ) (last : Option Tag) (octets : List ℕ) (d : ElementList) → Spells bound syntax levels last octets d → IsShort to octets d
+  elements_short : (to : Syntax) (bound : Bound) (syntax : Syntax) (levels : ℕ) (last : Option Tag) (octets : List ℕ) (d : ElementList)
+      → Spells bound syntax levels last octets d → IsShort to octets d
   elements_short to bound syntax levels last octets d (no_more _ _ _ _ _ end) = record { twice = omega arith; lengths = λ small. tt }
-  elements_short to bound syntax levels last octets d (more _ _ _ _ _ _ tag content header value rest held others placed is_header value_spelled others_spelled e1 e2) =
+  elements_short to bound syntax levels last octets d
+      (more _ _ _ _ _ _ tag content header value rest held others placed is_header value_spelled others_spelled e1 e2) =
       subst (λ (o : List ℕ). IsShort to o d) (sym e1) (subst (λ (x : ElementList). IsShort to (header ++ (value ++ rest)) x) (sym e2)
       (kept_short (nat_eq tag.element 0) to tag (vr_of (known_vr tag) content) held others header value rest (header_long syntax tag content header is_header)
       (value_short to levels (vr_of (known_vr tag) content) content value held value_spelled)
       (elements_short to bound syntax levels (Some tag) rest others others_spelled)))
 
-  value_short : (to : Syntax) (levels : ℕ) (vr : Vr) (content : Content) (octets : List ℕ) (held : Value) → SpellsValue levels vr content octets held → ValueIsShort to octets held
+  value_short : (to : Syntax) (levels : ℕ) (vr : Vr) (content : Content) (octets : List ℕ) (held : Value) → SpellsValue levels vr content octets held
+      → ValueIsShort to octets held
   value_short to levels vr content octets held (plain _ _ n _ len) = length-padded vr octets
-  value_short to levels vr content octets held (nested fewer _ inner extent _ items has spells) = items_short to (bound_of extent) inner fewer octets items spells
+  value_short to levels vr content octets held (nested fewer _ inner extent _ items has spells) =
+      items_short to (bound_of extent) inner fewer octets items spells
 
-  items_short : (to : Syntax) (bound : Bound) (syntax : Syntax) (levels : ℕ) (octets : List ℕ) (ds : List ElementList) → SpellsItems bound syntax levels octets ds → AreShort to octets (items_of ds)
+  items_short : (to : Syntax) (bound : Bound) (syntax : Syntax) (levels : ℕ) (octets : List ℕ) (ds : List ElementList)
+      → SpellsItems bound syntax levels octets ds → AreShort to octets (items_of ds)
   items_short to bound syntax levels octets ds (no_item _ _ _ _ end) = record { twice = omega arith; lengths = λ small. tt }
   items_short to bound syntax levels octets ds (one_item _ _ _ _ extent header value rest first others is_header has first_spelled others_spelled e) =
       subst (λ (o : List ℕ). AreShort to o (item first (items_of others))) (sym e)

@@ -34,19 +34,23 @@ earlier : (last : Option Tag) (tag next : Tag) → follows last tag ≡ true →
 earlier last tag next e h = behind_another (Some tag) last next (follows-trans last tag next e h.rises) h
 
 -- what stands after a tag stands after an earlier one
-pub after_earlier : (levels : ℕ) (last : Option Tag) (tag : Tag) (d : ElementList) → follows last tag ≡ true → AreElements levels (Some tag) d → AreElements levels last d
+pub after_earlier : (levels : ℕ) (last : Option Tag) (tag : Tag) (d : ElementList) → follows last tag ≡ true → AreElements levels (Some tag) d
+    → AreElements levels last d
 after_earlier levels last tag no_elements e h = tt
 after_earlier levels last tag (element t vr octets rest) e h = (earlier last tag t e h.0, h.1, h.2)
 after_earlier levels last tag (sequence t vr items rest) e h = (earlier last tag t e h.0, h.1, h.2, h.3, h.4)
 
 -- ---- VRs
 
-plain_some : (a b : Bool) (n m : ℕ) → cond a (done (Sequence Explicit (Some n))) (cond b (Ok (Sequence Implicit (Some n))) (Ok (Plain n))) ≡ Ok (Plain m) → b ≡ false
+plain_some : (a b : Bool) (n m : ℕ) → cond a (done (Sequence Explicit (Some n))) (cond b (Ok (Sequence Implicit (Some n))) (Ok (Plain n))) ≡ Ok (Plain m)
+    → b ≡ false
 plain_some true b n m e = absurd cc
 plain_some false true n m e = absurd cc
 plain_some false false n m e = refl
 
-plain_none : (a b c : Bool) (m : ℕ) → cond a (done (Sequence Explicit None)) (cond b (Ok (Sequence Implicit None)) (cond c (Ok (Sequence Implicit None)) (Err BadUndefined))) ≡ Ok (Plain m) → b ≡ false
+plain_none : (a b c : Bool) (m : ℕ)
+    → cond a (done (Sequence Explicit None)) (cond b (Ok (Sequence Implicit None)) (cond c (Ok (Sequence Implicit None)) (Err BadUndefined))) ≡ Ok (Plain m)
+    → b ≡ false
 plain_none true b c m e = absurd cc
 plain_none false true c m e = absurd cc
 plain_none false false c m e = refl
@@ -55,7 +59,8 @@ plain_none false false c m e = refl
 plain_is_no_sequence : (known spelled : Option Vr) (extent : Option ℕ) (n : ℕ) → content_of known spelled extent ≡ Ok (Plain n) → is_sequence known ≡ false
 unfolding content_of
 plain_is_no_sequence known spelled (Some m) n e = plain_some (is_sequence spelled) (is_sequence known) m n e
-plain_is_no_sequence known spelled None n e = plain_none (is_sequence spelled) (is_sequence known) (is_none known && (is_none spelled || is_unknown spelled)) n e
+plain_is_no_sequence known spelled None n e = plain_none (is_sequence spelled) (is_sequence known) (is_none known && (is_none spelled || is_unknown spelled)) n
+    e
 
 sequence_some : (a b c : Bool) (n : ℕ) (s : Syntax) (x : Option ℕ) → (b ≡ true) ⊎ ((c || not a) ≡ true)
     → cond a (done (Sequence Explicit (Some n))) (cond b (Ok (Sequence Implicit (Some n))) (Ok (Plain n))) ≡ Ok (Sequence s x) → (c || b) ≡ true
@@ -67,7 +72,8 @@ sequence_some true false false n s x (inr h) e = absurd cc
 sequence_some false false false n s x h e = absurd cc
 
 sequence_none : (a b c u : Bool) (s : Syntax) (x : Option ℕ) → (b ≡ true) ⊎ ((c || not a) ≡ true)
-    → cond a (done (Sequence Explicit None)) (cond b (Ok (Sequence Implicit None)) (cond (c && u) (Ok (Sequence Implicit None)) (Err BadUndefined))) ≡ Ok (Sequence s x) → (c || b) ≡ true
+    → cond a (done (Sequence Explicit None)) (cond b (Ok (Sequence Implicit None)) (cond (c && u) (Ok (Sequence Implicit None)) (Err BadUndefined)))
+    ≡ Ok (Sequence s x) → (c || b) ≡ true
 sequence_none a true true u s x h e = refl
 sequence_none a true false u s x h e = refl
 sequence_none a false true u s x h e = refl
@@ -89,11 +95,13 @@ spelling_agrees Explicit known (Some vr) extent behind h =
     agrees_means (is_sequence known) (is_sequence (Some vr) || is_unknown (Some vr)) (is_none known) (is_sequence (Some vr)) h.0
 
 -- items stand after a known sequence or an unknown tag
-sequence_is_allowed : (known spelled : Option Vr) (extent : Option ℕ) (s : Syntax) (x : Option ℕ) → (is_sequence known ≡ true) ⊎ ((is_none known || not (is_sequence spelled)) ≡ true)
+sequence_is_allowed : (known spelled : Option Vr) (extent : Option ℕ) (s : Syntax) (x : Option ℕ) → (is_sequence known ≡ true)
+    ⊎ ((is_none known || not (is_sequence spelled)) ≡ true)
     → content_of known spelled extent ≡ Ok (Sequence s x) → (is_none known || is_sequence known) ≡ true
 unfolding content_of
 sequence_is_allowed known spelled (Some n) s x h e = sequence_some (is_sequence spelled) (is_sequence known) (is_none known) n s x h e
-sequence_is_allowed known spelled None s x h e = sequence_none (is_sequence spelled) (is_sequence known) (is_none known) (is_none spelled || is_unknown spelled) s x h e
+sequence_is_allowed known spelled None s x h e = sequence_none (is_sequence spelled) (is_sequence known) (is_none known) (is_none spelled || is_unknown spelled)
+    s x h e
 
 -- ---- values
 
@@ -109,42 +117,54 @@ abbrev pub IsValue : ℕ → Tag → Vr → Value → Type 0
 IsValue levels tag vr (Octets octets) = IsPlain tag vr octets
 IsValue levels tag vr (Items items) = IsSequence tag vr × (0 < levels) × AreItems (levels - 1) (items_of items)
 
-pub with_value_is : (levels : ℕ) (last : Option Tag) (tag : Tag) (vr : Vr) (held : Value) (others : ElementList) → IsElementTag last tag → IsValue levels tag vr held → AreElements levels (Some tag) others
+pub with_value_is : (levels : ℕ) (last : Option Tag) (tag : Tag) (vr : Vr) (held : Value) (others : ElementList) → IsElementTag last tag
+    → IsValue levels tag vr held → AreElements levels (Some tag) others
     → AreElements levels last (with_value (record { tag = tag; vr = vr; value = held }) held others)
 with_value_is levels last tag vr (Octets octets) others t v rest = (t, v, rest)
 with_value_is levels last tag vr (Items items) others t v rest = (t, v.0, v.1, v.2, rest)
 
-kept_is : (b : Bool) (levels : ℕ) (last : Option Tag) (tag : Tag) (vr : Vr) (held : Value) (others : ElementList) → nat_eq tag.element 0 ≡ b → IsPlaced last tag → IsValue levels tag vr held
+kept_is : (b : Bool) (levels : ℕ) (last : Option Tag) (tag : Tag) (vr : Vr) (held : Value) (others : ElementList) → nat_eq tag.element 0 ≡ b → IsPlaced last tag
+    → IsValue levels tag vr held
     → AreElements levels (Some tag) others → AreElements levels last (cond b others (with_value (record { tag = tag; vr = vr; value = held }) held others))
 kept_is true levels last tag vr held others e placed v rest = after_earlier levels last tag others placed.rises rest
 kept_is false levels last tag vr held others e placed v rest =
     with_value_is levels last tag vr held others
-    (record { rises = placed.rises; no_delimiter = placed.no_delimiter; no_length = eqb-false tag.element 0 e; group = placed.group; number = placed.number }) v rest
+    (record { rises = placed.rises; no_delimiter = placed.no_delimiter; no_length = eqb-false tag.element 0 e; group = placed.group; number = placed.number }) v
+    rest
 
 mutual
-  pub elements_are : (bound : Bound) (syntax : Syntax) (levels : ℕ) (last : Option Tag) (octets : List ℕ) (d : ElementList) → Spells bound syntax levels last octets d → AreElements levels last d
+  pub elements_are : (bound : Bound) (syntax : Syntax) (levels : ℕ) (last : Option Tag) (octets : List ℕ) (d : ElementList)
+      → Spells bound syntax levels last octets d → AreElements levels last d
   elements_are bound syntax levels last octets d (no_more _ _ _ _ _ end) = tt
-  elements_are bound syntax levels last octets d (more _ _ _ _ _ _ tag content header value rest held others placed is_header value_spelled others_spelled e1 e2) =
+  elements_are bound syntax levels last octets d (more _ _ _ _ _ _ tag content header value rest held others placed is_header value_spelled others_spelled e1
+      e2) =
       subst (λ (x : ElementList). AreElements levels last x) (sym e2)
       (kept_is (nat_eq tag.element 0) levels last tag (vr_of (known_vr tag) content) held others refl placed
       (value_is syntax tag header (vr_of (known_vr tag) content) levels content value held value_spelled is_header refl)
       (elements_are bound syntax levels (Some tag) rest others others_spelled))
 
-  value_is : (syntax : Syntax) (tag : Tag) (header : List ℕ) (vr : Vr) (levels : ℕ) (content : Content) (octets : List ℕ) (held : Value) → SpellsValue levels vr content octets held
+  value_is : (syntax : Syntax) (tag : Tag) (header : List ℕ) (vr : Vr) (levels : ℕ) (content : Content) (octets : List ℕ) (held : Value)
+      → SpellsValue levels vr content octets held
       → IsHeader syntax tag content header → vr ≡ vr_of (known_vr tag) content → IsValue levels tag vr held
   value_is syntax tag header vr levels content octets held (plain _ _ n _ len) is_header e =
-      record { by_dictionary = e; no_sequence = plain_is_no_sequence (known_vr tag) is_header.spelled is_header.extent n is_header.allowed; even = even-padded vr octets }
+      record {
+        by_dictionary = e;
+        no_sequence = plain_is_no_sequence (known_vr tag) is_header.spelled is_header.extent n is_header.allowed;
+        even = even-padded vr octets;
+      }
   value_is syntax tag header vr levels content octets held (nested fewer _ inner extent _ items has spells) is_header e =
       let one_less : suc fewer - 1 ≡ fewer = omega arith in (
         record {
           is_sq = e;
-          allowed = sequence_is_allowed (known_vr tag) is_header.spelled is_header.extent inner extent (spelling_agrees syntax (known_vr tag) is_header.spelled is_header.extent is_header.behind is_header.spelling) is_header.allowed;
+          allowed = sequence_is_allowed (known_vr tag) is_header.spelled is_header.extent inner extent
+              (spelling_agrees syntax (known_vr tag) is_header.spelled is_header.extent is_header.behind is_header.spelling) is_header.allowed;
         },
         omega arith,
         rw one_less (items_are (bound_of extent) inner fewer octets items spells),
       )
 
-  items_are : (bound : Bound) (syntax : Syntax) (levels : ℕ) (octets : List ℕ) (ds : List ElementList) → SpellsItems bound syntax levels octets ds → AreItems levels (items_of ds)
+  items_are : (bound : Bound) (syntax : Syntax) (levels : ℕ) (octets : List ℕ) (ds : List ElementList) → SpellsItems bound syntax levels octets ds
+      → AreItems levels (items_of ds)
   items_are bound syntax levels octets ds (no_item _ _ _ _ end) = tt
   items_are bound syntax levels octets ds (one_item _ _ _ _ extent header value rest first others is_header has first_spelled others_spelled e) =
       (elements_are (bound_of extent) syntax levels None value first first_spelled, items_are bound syntax levels rest others others_spelled)

@@ -188,7 +188,8 @@ module _ (n : ℕ) (told : AreTold n) where
 
   module _ (bound : Bound) (syntax : Syntax) (levels : ℕ) (bytes : List ℕ) (ok : IsBytes bytes) (lt : length bytes < suc n) where
     after_content : (extent : Option ℕ) (behind : List ℕ) → ReadsItem bytes extent behind → (first : ElementList) (rest : List ℕ)
-        → Reads ElementList (λ o d. HasExtent extent o × Spells (bound_of extent) syntax levels None o d) behind first rest → ItemsTold syntax levels bound bytes
+        → Reads ElementList (λ o d. HasExtent extent o × Spells (bound_of extent) syntax levels None o d) behind first rest
+        → ItemsTold syntax levels bound bytes
     after_content extent behind header first rest value =
         let parts : bytes ≡ header.octets ++ (value.octets ++ rest) = header.takes.parts ∙ ap (λ (x : List ℕ). header.octets ++ x) value.takes.parts in
         let shorter : length rest < n =
@@ -228,7 +229,8 @@ module _ (n : ℕ) (told : AreTold n) where
     items_told false is (Err f) e = inr (f, at_item bound syntax levels bytes f is (sym (item_faults_are bytes) ∙ ap fault_of e))
     items_told false is (Ok h) e =
         let header = item_takes bytes h.0 h.1 ok e in
-        let shorter : length h.1 < n = omega (arith, ap length header.takes.parts, length-append header.octets h.1, item_long h.0 header.octets header.header) in
+        let shorter : length h.1 < n =
+        omega (arith, ap length header.takes.parts, length-append header.octets h.1, item_long h.0 header.octets header.header) in
         elim (body_told _ _ _ n (told.elements syntax levels None) h.0 h.1 header.whole header.takes.rest_fits shorter) [
           | inl v ↦ after_content h.0 h.1 header v.0 v.1 v.2
           | inr bad ↦ inr (
@@ -239,7 +241,8 @@ module _ (n : ℕ) (told : AreTold n) where
         ]
 
 pub are_told : (n : ℕ) → AreTold n
-are_told zero = record { elements = λ syntax levels last bound bytes ok lt. absurd (omega arith); items = λ syntax levels bound bytes ok lt. absurd (omega arith) }
+are_told zero =
+    record { elements = λ syntax levels last bound bytes ok lt. absurd (omega arith); items = λ syntax levels bound bytes ok lt. absurd (omega arith) }
 are_told (suc n) = record {
   elements = λ syntax levels last bound bytes ok lt.
       elements_told n (are_told n) bound syntax levels last bytes ok lt (ends_here bound 0xE00D bytes) refl (header_at syntax levels last bytes) refl;

@@ -11,7 +11,8 @@ list_of-items_of (d ∷ ds) = ap (λ (xs : List ElementList). d ∷ xs) (list_of
 pub elements_of-with_value : (t : Tag) (v : Vr) (x : Value) (rest : ElementList)
     → elements_of (with_value (record { tag = t; vr = v; value = x }) x rest) ≡ record { tag = t; vr = v; value = x } ∷ elements_of rest
 elements_of-with_value t v (Octets o) rest = refl
-elements_of-with_value t v (Items ds) rest = ap (λ (xs : List ElementList). record { tag = t; vr = v; value = Items xs } ∷ elements_of rest) (list_of-items_of ds)
+elements_of-with_value t v (Items ds) rest = ap (λ (xs : List ElementList). record { tag = t; vr = v; value = Items xs } ∷ elements_of rest)
+    (list_of-items_of ds)
 
 pub elements_of-as_elements : (es : List Element) → elements_of (as_elements es) ≡ es
 elements_of-as_elements [] = refl
@@ -29,7 +30,8 @@ mutual
 
 -- ---- pushing an element
 
-pub pushed_facts : {E : Type 0} (r : Result (Unit {0}) E) (old new : List Element) (d : ElementList) (e : Element) → as_elements old ≡ d → IsDataSet (as_elements old)
+pub pushed_facts : {E : Type 0} (r : Result (Unit {0}) E) (old new : List Element) (d : ElementList) (e : Element) → as_elements old ≡ d
+    → IsDataSet (as_elements old)
     → IsDataSet (as_elements (elements_of d ++ e ∷ [])) → OnOk r (new ≡ old ++ e ∷ []) → OnErr r (new ≡ old) → IsDataSet (as_elements new)
 pushed_facts (Ok x) old new d e is facts next ok err =
     let same : elements_of d ≡ old = ap elements_of (sym is) ∙ elements_of-as_elements old in

@@ -8,7 +8,8 @@ use Rattle.dq_dataset.specs.Grammar.{AreOctets, IsSpelled}
 use Rattle.dq_dataset.proofs.SpelledOrFaulty.{reading_is_spelled, read_is_faulty}
 use Rattle.dq_dataset.proofs.SpelledIsRead.{spelled_is_read}
 
-pub found_is_spelled : (syntax : Syntax) (octets : List ℕ) (r : Result ElementList ReadFault) → AreOctets octets → Gives (λ d. d) r (reading syntax octets) → IfOk r (λ d. IsSpelled syntax octets d)
+pub found_is_spelled : (syntax : Syntax) (octets : List ℕ) (r : Result ElementList ReadFault) → AreOctets octets → Gives (λ d. d) r (reading syntax octets)
+    → IfOk r (λ d. IsSpelled syntax octets d)
 found_is_spelled syntax octets (Ok d) ok e = reading_is_spelled syntax octets d ok e
 found_is_spelled syntax octets (Err f) ok e = tt
 
@@ -18,7 +19,8 @@ err_is_faulty syntax octets (Ok d) ok e = tt
 err_is_faulty syntax octets (Err f) ok (inl memory) = inl memory
 err_is_faulty syntax octets (Err f) ok (inr e) = inr (read_is_faulty syntax octets f ok e)
 
-pub spelled_is_given : (syntax : Syntax) (octets : List ℕ) (r : Result ElementList ReadFault) (d : ElementList) → IsSpelled syntax octets d → Gives (λ d. d) r (reading syntax octets) → Gives (λ d. d) r (Ok d)
+pub spelled_is_given : (syntax : Syntax) (octets : List ℕ) (r : Result ElementList ReadFault) (d : ElementList) → IsSpelled syntax octets d
+    → Gives (λ d. d) r (reading syntax octets) → Gives (λ d. d) r (Ok d)
 spelled_is_given syntax octets (Ok x) d spells e = sym (spelled_is_read syntax octets d spells) ∙ e
 spelled_is_given syntax octets (Err f) d spells (inl memory) = inl memory
 spelled_is_given syntax octets (Err f) d spells (inr e) = inr (sym (spelled_is_read syntax octets d spells) ∙ e)

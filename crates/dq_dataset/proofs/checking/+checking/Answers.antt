@@ -8,7 +8,8 @@ elements_end-returns-in_err-found-clause-value t c =
     rw (p.1, p.2) (elements_fail _ _ _ _ _ _ c.loop-found.invariant _ c.in_err-found.ensures.value)
 
 pub elements_end-returns-in_default-clause-value : goal.elements_end-returns-in_default-clause-value
-elements_end-returns-in_default-clause-value t c = elements_end _ _ _ _ _ _ c.loop-found.invariant c.in_ok-found.after.now (rw c.in_default.is at c.in_ok-found.ensures.value)
+elements_end-returns-in_default-clause-value t c =
+    elements_end _ _ _ _ _ _ c.loop-found.invariant c.in_ok-found.after.now (rw c.in_default.is at c.in_ok-found.ensures.value)
 
 pub elements_end-loop-found-preserved : goal.elements_end-loop-found-preserved
 elements_end-loop-found-preserved t c =
@@ -21,7 +22,8 @@ items_end-returns-in_err-found-clause-value t c =
     rw (p.1, p.2) (items_fail _ _ _ _ _ c.loop-found.invariant _ c.in_err-found.ensures.value)
 
 pub items_end-returns-in_default-clause-value : goal.items_end-returns-in_default-clause-value
-items_end-returns-in_default-clause-value t c = items_end _ _ _ _ _ c.loop-found.invariant c.in_ok-found.after.now (rw c.in_default.is at c.in_ok-found.ensures.value)
+items_end-returns-in_default-clause-value t c =
+    items_end _ _ _ _ _ c.loop-found.invariant c.in_ok-found.after.now (rw c.in_default.is at c.in_ok-found.ensures.value)
 
 pub items_end-loop-found-preserved : goal.items_end-loop-found-preserved
 items_end-loop-found-preserved t c =

@@ -22,7 +22,8 @@ pub copied_items-loop-item-preserved : goal.copied_items-loop-item-preserved
 copied_items-loop-item-preserved t c =
     let d = c.item-item.result in
     let i = c.loop-item.item-index in
-    let same : c.from_elements.result ≡ d = c.from_elements.ensures ∙ rw (c.in_ok-elements.ensures, c.elements.ensures.elements, as_elements-elements_of) refl in
+    let same : c.from_elements.result ≡ d = c.from_elements.ensures
+    ∙ rw (c.in_ok-elements.ensures, c.elements.ensures.elements, as_elements-elements_of) refl in
     let next : take (i + 1) c.args.items.now ≡ take i c.args.items.now ++ d ∷ [] =
     take_more c.args.items.now i d (omega arith) ∙ ap (λ (x : ElementList). take i c.args.items.now ++ x ∷ []) (sym c.item-item.is) in
     c.in_ok-push.ensures.items ∙ (λ j. c.loop-item.invariant j ++ same j ∷ []) ∙ sym next

@@ -11,7 +11,8 @@ pub returns-clause-some : goal.returns-clause-some
 returns-clause-some c = one_of_both
 
 pub returns-clause-no_other : goal.returns-clause-no_other
-returns-clause-no_other c = λ syntax octets d fault spells faulty. no_fault d fault (sym (spelled_is_read syntax octets d spells) ∙ faulty_is_read syntax octets fault faulty)
+returns-clause-no_other c = λ syntax octets d fault spells faulty.
+    no_fault d fault (sym (spelled_is_read syntax octets d spells) ∙ faulty_is_read syntax octets fault faulty)
 
 pub returns-clause-one : goal.returns-clause-one
 returns-clause-one c = λ syntax octets f g p q. err_is {A = ElementList} f g (sym (faulty_is_read syntax octets f p) ∙ faulty_is_read syntax octets g q)

@@ -7,4 +7,5 @@ pub returns-clause-spelled : goal.returns-clause-spelled
 returns-clause-spelled c = written_is_spelled c.letters_law.ensures.named
 
 pub returns-clause-read_back : goal.returns-clause-read_back
-returns-clause-read_back c = λ syntax d facts lengths back. spelled_is_read syntax (canonical syntax d) d (written_is_spelled c.letters_law.ensures.named syntax d facts lengths back)
+returns-clause-read_back c =
+    λ syntax d facts lengths back. spelled_is_read syntax (canonical syntax d) d (written_is_spelled c.letters_law.ensures.named syntax d facts lengths back)

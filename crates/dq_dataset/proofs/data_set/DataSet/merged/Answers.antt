@@ -17,6 +17,8 @@ loop-next-init c = record {
 pub from_elements-requires : goal.from_elements-requires
 from_elements-requires c =
     let all : c.loop-next.elements.items ≡ merged_elements (elements_of c.args.self.now) (elements_of c.args.sent.now) =
-    sym (append-nil c.loop-next.elements.items) ∙ ap (λ (x : List Element). c.loop-next.elements.items ++ x) (sym c.in_default.ensures.none) ∙ c.loop-next.invariant.gathered
+    sym (append-nil c.loop-next.elements.items) ∙ ap (λ (x : List Element). c.loop-next.elements.items ++ x) (sym c.in_default.ensures.none)
+    ∙ c.loop-next.invariant.gathered
     ∙ rw (c.elements-kept.ensures.elements, c.elements-new.ensures.elements) refl in
-    subst (λ (es : List Element). IsDataSet (as_elements es)) (sym all) (merged_is c.args.self.now c.args.sent.now c.elements-kept.ensures.facts c.elements-new.ensures.facts)
+    subst (λ (es : List Element). IsDataSet (as_elements es)) (sym all)
+    (merged_is c.args.self.now c.args.sent.now c.elements-kept.ensures.facts c.elements-new.ensures.facts)

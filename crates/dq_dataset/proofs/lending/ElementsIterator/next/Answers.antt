@@ -30,13 +30,15 @@ pub returns-then-tag-ne0-clause-steps : goal.returns-then-tag-ne0-clause-steps
 returns-then-tag-ne0-clause-steps c =
     let at = c.loop-self.self-inside in
     let some = not_empty c.is_empty.result at.rest.now c.is_empty.ensures c.loop-self-test.true in
-    sym c.loop-self.invariant.1 ∙ lent_element at.syntax at.last at.rest.now c.in-Ok.header c.in-Ok.octets.now c.in-Ok.rest.now c.inner_syntax-syntax.result c.loop-self.invariant.0 some c.in-Ok.ensures.value c.if-tag-ne0.true c.inner_syntax-syntax.ensures
+    sym c.loop-self.invariant.1 ∙ lent_element at.syntax at.last at.rest.now c.in-Ok.header c.in-Ok.octets.now c.in-Ok.rest.now c.inner_syntax-syntax.result
+    c.loop-self.invariant.0 some c.in-Ok.ensures.value c.if-tag-ne0.true c.inner_syntax-syntax.ensures
 
 pub returns-then-tag-ne0-clause-goes : goal.returns-then-tag-ne0-clause-goes
 returns-then-tag-ne0-clause-goes c =
     let at = c.loop-self.self-inside in
     let some = not_empty c.is_empty.result at.rest.now c.is_empty.ensures c.loop-self-test.true in
-    let gave = sym c.loop-self.invariant.1 ∙ lent_element at.syntax at.last at.rest.now c.in-Ok.header c.in-Ok.octets.now c.in-Ok.rest.now c.inner_syntax-syntax.result c.loop-self.invariant.0 some c.in-Ok.ensures.value c.if-tag-ne0.true c.inner_syntax-syntax.ensures in
+    let gave = sym c.loop-self.invariant.1 ∙ lent_element at.syntax at.last at.rest.now c.in-Ok.header c.in-Ok.octets.now c.in-Ok.rest.now
+    c.inner_syntax-syntax.result c.loop-self.invariant.0 some c.in-Ok.ensures.value c.if-tag-ne0.true c.inner_syntax-syntax.ensures in
     search rules
 
 pub loop-self-preserved : goal.loop-self-preserved
@@ -44,7 +46,8 @@ loop-self-preserved c =
     let at = c.loop-self.self-inside in
     let some = not_empty c.is_empty.result at.rest.now c.is_empty.ensures c.loop-self-test.true in (
       (next_shorter at.syntax at.last at.rest.now ((c.in-Ok.header, c.in-Ok.octets.now), c.in-Ok.rest.now) c.loop-self.invariant.0 c.in-Ok.ensures.value).0,
-      sym (lent_dropped at.syntax at.last at.rest.now c.in-Ok.header c.in-Ok.octets.now c.in-Ok.rest.now c.loop-self.invariant.0 some c.in-Ok.ensures.value c.if-tag-ne0.false) ∙ c.loop-self.invariant.1,
+      sym (lent_dropped at.syntax at.last at.rest.now c.in-Ok.header c.in-Ok.octets.now c.in-Ok.rest.now c.loop-self.invariant.0 some c.in-Ok.ensures.value
+          c.if-tag-ne0.false) ∙ c.loop-self.invariant.1,
     )
 
 pub returns-clause-steps : goal.returns-clause-steps
