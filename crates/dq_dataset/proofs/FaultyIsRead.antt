@@ -1,24 +1,21 @@
 -- Reading answers the first fault.
-use Rattle.std.proofs.Common.{◌≡◌, ℕ, zero, suc, ◌+◌, ◌-◌, ◌≤◌, true, List, ◌++◌, length, Option, Some, None, Result, Ok, Err, refl, sym, ap, subst, ◌∙◌, arith, inl, inr}
-use Rattle.std.proofs.lemmas.Bool.{lt-ltb}
+use Rattle.std.proofs.Common.{◌≡◌, false, eqb, ℕ, zero, suc, ◌+◌, ◌-◌, ◌≤◌, true, List, ◌++◌, length, Option, Some, None, Result, Ok, Err, refl, sym, ap, subst, ◌∙◌, arith, inl, inr}
+use Rattle.std.proofs.lemmas.Bool.{lt-ltb, eqb-true, ne_eqb}
 use Rattle.std.proofs.lemmas.List.{take_at, length-append, append-nil}
-use Rattle.dq_dataset.proofs.Types.{Tag, Vr, ReadFault, Syntax, Bound, Filled, Content, Sequence, Value, ElementList}
+use Rattle.dq_dataset.proofs.Types.{Truncated, BadItem, Tag, Vr, ReadFault, Syntax, Bound, Filled, Content, Sequence, Value, ElementList}
 use Rattle.dq_vr.specs.Dictionary.{known_vr}
 use Rattle.dq_dataset.specs.Rules.{vr_of}
 use Rattle.dq_dataset.specs.Reading.{may_nest, length_of, fits, header_at, item_header_at, end_at, value_by, element_by, elements_after, elements_by, content_by, item_by, items_after, items_by, readers, reading}
 use Rattle.dq_dataset.specs.Grammar.{IsHeader, IsPlaced, IsItemHeader, bound_of}
-use Rattle.dq_dataset.specs.Faults.{first_of, header_faults, item_faults, HasReach, HasFault, at_header, in_value, after_element, ItemsHaveFault, at_item, in_item, after_item, IsFaulty}
+use Rattle.dq_dataset.specs.Faults.{tag_in, first_of, header_faults, item_faults, HasReach, HasFault, at_header, in_value, after_element, ItemsHaveFault, at_item, in_item, after_item, IsFaulty}
 use Rattle.dq_dataset.proofs.Headers.{header_again, header_long, item_again, item_long, no_end_before, no_end_before_item}
-use Rattle.dq_dataset.proofs.HeaderFaults.{fault_of, header_faults_are, item_faults_are, NoEnd, no_end_here, end_fault_first, end_fault_item}
+use Rattle.dq_dataset.proofs.HeaderFaults.{fault_of, header_faults_are, item_faults_are, NoEnd, no_end_here}
 use Rattle.dq_dataset.proofs.SpelledIsRead.{extent_fits, value_nests, value_fits, value_again, elements_again, content_again}
 
 -- what names a fault is that fault
 some_fault : {X : Type 0} (r : Result X ReadFault) (f : ReadFault) → fault_of r ≡ Some f → r ≡ Err f
 some_fault (Ok x) f e = absurd cc
 some_fault (Err g) f e = let same : g ≡ f = cc in ap (λ (x : ReadFault). Err x) same
-
-one_fault : (o : Option ReadFault) (f g : ReadFault) → o ≡ Some f → o ≡ Some g → f ≡ g
-one_fault o f g p q = cc
 
 abbrev ElementsFail : Bound → Syntax → ℕ → Option Tag → List ℕ → ReadFault → Type 0
 ElementsFail bound syntax levels last octets f = (m : ℕ) → length octets ≤ m → (readers (suc m)).elements bound syntax levels last octets ≡ Err f
@@ -34,10 +31,12 @@ unfolding readers elements_by element_by
 header_fails bound syntax levels last octets f (inl none) first m le =
     rw (none, some_fault (header_at syntax levels last octets) f (header_faults_are syntax levels last octets ∙ first)) refl
 header_fails bound syntax levels last octets f (inr (inl short)) first m le =
-    let same = one_fault _ _ f (end_fault_first bound syntax levels last octets _ (inr (inl short)) short.0) first in
+    let is = rw short.1 at first in
+    let same : Truncated ≡ f = cc in
     rw (short.0, same) refl
 header_fails bound syntax levels last octets f (inr (inr bad)) first m le =
-    let same = one_fault _ _ f (end_fault_first bound syntax levels last octets _ (inr (inr bad)) bad.0) first in
+    let is = rw (bad.1, bad.2) at first in
+    let same : BadItem ≡ f = cc in
     rw (bad.0, same) refl
 
 item_fails : (bound : Bound) (syntax : Syntax) (levels : ℕ) (octets : List ℕ) (f : ReadFault) → NoEnd bound 0xE0DD octets
@@ -46,10 +45,14 @@ unfolding readers items_by item_by
 item_fails bound syntax levels octets f (inl none) first m le =
     rw (none, some_fault (item_header_at octets) f (item_faults_are octets ∙ first)) refl
 item_fails bound syntax levels octets f (inr (inl short)) first m le =
-    let same = one_fault _ _ f (end_fault_item bound octets _ (inr (inl short)) short.0) first in
+    let is = rw short.1 at first in
+    let same : Truncated ≡ f = cc in
     rw (short.0, same) refl
 item_fails bound syntax levels octets f (inr (inr bad)) first m le =
-    let same = one_fault _ _ f (end_fault_item bound octets _ (inr (inr bad)) bad.0) first in
+    let end : (tag_in octets).element ≡ 0xE0DD = eqb-true (tag_in octets).element 0xE0DD bad.3 in
+    let no_item : eqb (tag_in octets).element 0xE000 ≡ false = ne_eqb (tag_in octets).element 0xE000 (λ item. omega (arith, end, item)) in
+    let is = rw (bad.1, bad.2, no_item) at first in
+    let same : BadItem ≡ f = cc in
     rw (bad.0, same) refl
 
 -- ---- behind a header

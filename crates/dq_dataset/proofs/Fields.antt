@@ -129,12 +129,10 @@ unfolding long_length_at
 length_takes bytes extent rest fits e =
     let b = bind_ok (number_at w32 bytes) (λ n. Ok (extent_of (eqb n.0 0xFFFFFFFF) n.0, n.1)) (extent, rest) e in
     let t = number_takes w32 (2 ^ 32) wide32 bytes b.0.0 b.0.1 fits b.1 in
-    let extent-is : extent_of (eqb b.0.0 0xFFFFFFFF) b.0.0 ≡ extent = ap (λ (p : Option ℕ × List ℕ). p.0) (ok_is _ _ b.2) in
-    let rest-is : b.0.1 ≡ rest = ap (λ (p : Option ℕ × List ℕ). p.1) (ok_is _ _ b.2) in (
-      to_le_bytes w32 b.0.0,
-      subst (λ (x : Option ℕ). IsLength x (to_le_bytes w32 b.0.0)) extent-is (IsLength-number b.0.0 (eqb b.0.0 0xFFFFFFFF) refl t.1),
-      subst (λ (x : List ℕ). Takes bytes (to_le_bytes w32 b.0.0) x) rest-is t.0,
-    )
+    let n = b.0.0 in
+    let is = IsLength-number n (eqb n 0xFFFFFFFF) refl t.1 in
+    subst (λ (p : Option ℕ × List ℕ). (four : List ℕ) × IsLength p.0 four × Takes bytes four p.1)
+    (ok_is (extent_of (eqb n 0xFFFFFFFF) n, b.0.1) (extent, rest) b.2) (to_le_bytes w32 n, is, t.0)
 
 pub length_again : (extent : Option ℕ) (four rest : List ℕ) → IsLength extent four → long_length_at (four ++ rest) ≡ Ok (extent, rest)
 unfolding long_length_at
@@ -149,19 +147,24 @@ length_four (Some n) four e = ap length e.1
 
 -- ---- tags
 
+abbrev tag_number : ℕ → ℕ × List ℕ → Result (Tag × List ℕ) ReadFault
+tag_number group number = Ok (record { group = group; element = number.0 }, number.1)
+
+abbrev tag_group : ℕ × List ℕ → Result (Tag × List ℕ) ReadFault
+tag_group group = number_at w16 group.1 >>= tag_number group.0
+
 pub tag_takes : (bytes : List ℕ) (tag : Tag) (rest : List ℕ) → IsBytes bytes → tag_at bytes ≡ Ok (tag, rest)
     → Takes bytes (tag_octets tag) rest × (tag.group < 2 ^ 16) × (tag.element < 2 ^ 16)
 unfolding tag_at
 tag_takes bytes tag rest fits e =
-    let u = unless_ok (ltb (length bytes) 8) Truncated (number_at w16 bytes >>= λ group. number_at w16 group.1
-    >>= λ number. Ok (record { group = group.0; element = number.0 }, number.1)) (tag, rest) e in
-    let a = bind_ok (number_at w16 bytes) (λ group. number_at w16 group.1 >>= λ number. Ok (record { group = group.0; element = number.0 }, number.1))
-    (tag, rest) u.1 in
-    let b = bind_ok (number_at w16 a.0.1) (λ number. Ok (record { group = a.0.0; element = number.0 }, number.1)) (tag, rest) a.2 in
+    let u = unless_ok (ltb (length bytes) 8) Truncated (number_at w16 bytes >>= tag_group) (tag, rest) e in
+    let a = bind_ok (number_at w16 bytes) tag_group (tag, rest) u.1 in
+    let b = bind_ok (number_at w16 a.0.1) (tag_number a.0.0) (tag, rest) a.2 in
     let t = number_takes w16 (2 ^ 16) wide16 bytes a.0.0 a.0.1 fits a.1 in
     let v = number_takes w16 (2 ^ 16) wide16 a.0.1 b.0.0 b.0.1 t.0.rest_fits b.1 in
     let both = Takes-then bytes (to_le_bytes w16 a.0.0) a.0.1 (to_le_bytes w16 b.0.0) b.0.1 t.0 v.0 in
-    subst (λ (p : Tag × List ℕ). Takes bytes (tag_octets p.0) p.1 × (p.0.group < 2 ^ 16) × (p.0.element < 2 ^ 16)) (ok_is _ _ b.2) (both, t.1, v.1)
+    let same = ok_is (record { group = a.0.0; element = b.0.0 }, b.0.1) (tag, rest) b.2 in
+    subst (λ (p : Tag × List ℕ). Takes bytes (tag_octets p.0) p.1 × (p.0.group < 2 ^ 16) × (p.0.element < 2 ^ 16)) same (both, t.1, v.1)
 
 pub tag_again : (tag : Tag) (rest : List ℕ) → tag.group < 2 ^ 16 → tag.element < 2 ^ 16 → 4 ≤ length rest → tag_at (tag_octets tag ++ rest) ≡ Ok (tag, rest)
 unfolding tag_at

@@ -1,8 +1,8 @@
 -- The faults at a header, in their order, are those that reading meets.
-use Rattle.std.proofs.Common.{◌≡◌, ℕ, zero, suc, ◌≤◌, Bool, true, false, not, cond, ltb, eqb, ◌&&◌, ◌||◌, List, [], ◌∷◌, length, take, drop, Option, Some, None, Result, Ok, Err, refl, sym, ap, subst, ◌∙◌, arith, inl, inr, ◌⊎◌}
+use Rattle.std.proofs.Common.{◌≡◌, ℕ, zero, suc, ◌≤◌, Bool, true, false, not, cond, ltb, eqb, ◌&&◌, ◌||◌, List, [], ◌∷◌, length, take, drop, Option, Some, None, Result, Ok, Err, refl, subst, arith, inl, inr, ◌⊎◌}
 use Rattle.std.specs.Prelude.{is_none}
 use Rattle.std.specs.Int.{Width, w16, w32, byte_len, from_le_bytes}
-use Rattle.std.proofs.lemmas.Bool.{ltb-true, ltb-false, lt-ltb, le-ltb, ne_eqb, eqb-true}
+use Rattle.std.proofs.lemmas.Bool.{ltb-true, ltb-false, lt-ltb, le-ltb, ne_eqb}
 use Rattle.dq_dataset.proofs.Types.{Tag, Vr, LengthForm, Two, Four, ReadFault, Truncated, BadVr, TagOrder, BadItem, BadUndefined, TooDeep, Syntax, Implicit, Explicit, Bound, Filled, Delimited, Content, Plain, Sequence}
 use Rattle.dq_vr.specs.Dictionary.{known_vr}
 use Rattle.dq_vr.specs.Vr.{length_form_of, vr_with_letters}
@@ -14,15 +14,6 @@ use Rattle.dq_dataset.proofs.Headers.{content_step, spelling_step, rises_step, p
 abbrev pub fault_of : {X : Type 0} → Result X ReadFault → Option ReadFault
 fault_of (Ok x) = None
 fault_of (Err fault) = Some fault
-
-abbrev failed : ReadFault → Result (Option (List ℕ)) ReadFault
-failed f = Err f
-
-pub fault_same : {f g : ReadFault} → failed f ≡ failed g → f ≡ g
-fault_same e = cc
-
-other_end : (n : ℕ) → n ≡ 0xE0DD → n ≡ 0xE000 → ⊥
-other_end n p q = absurd (omega arith)
 
 -- ---- eight octets at least
 
@@ -274,27 +265,3 @@ no_end_here bound element octets other = subst (λ (b : Bool). Ending b bound el
 pub an_end_here : (bound : Bound) (element : ℕ) (octets : List ℕ) → ends_here bound element octets ≡ true → (rest : List ℕ)
     × (end_at bound element octets ≡ Ok (Some rest))
 an_end_here bound element octets here = subst (λ (b : Bool). Ending b bound element octets) here (ending bound element octets)
-
--- an end that is no end is the first fault at a header, be it an element's or an item's
-pub end_fault_first : (bound : Bound) (syntax : Syntax) (levels : ℕ) (last : Option Tag) (octets : List ℕ) (f : ReadFault) → NoEnd bound 0xE00D octets
-    → end_at bound 0xE00D octets ≡ Err f
-    → first_of (header_faults syntax levels last octets) ≡ Some f
-end_fault_first bound syntax levels last octets f (inl none) is = let bad : Ok None ≡ Err f = sym none ∙ is in absurd cc
-end_fault_first bound syntax levels last octets f (inr (inl short)) is =
-    let same : Truncated ≡ f = fault_same (sym short.0 ∙ is) in
-    rw short.1 (ap (λ (x : ReadFault). Some x) same)
-end_fault_first bound syntax levels last octets f (inr (inr bad)) is =
-    let same : BadItem ≡ f = fault_same (sym bad.0 ∙ is) in
-    rw (bad.1, bad.2) (ap (λ (x : ReadFault). Some x) same)
-
-pub end_fault_item : (bound : Bound) (octets : List ℕ) (f : ReadFault) → NoEnd bound 0xE0DD octets → end_at bound 0xE0DD octets ≡ Err f
-    → first_of (item_faults octets) ≡ Some f
-end_fault_item bound octets f (inl none) is = let bad : Ok None ≡ Err f = sym none ∙ is in absurd cc
-end_fault_item bound octets f (inr (inl short)) is =
-    let same : Truncated ≡ f = fault_same (sym short.0 ∙ is) in
-    rw short.1 (ap (λ (x : ReadFault). Some x) same)
-end_fault_item bound octets f (inr (inr bad)) is =
-    let same : BadItem ≡ f = fault_same (sym bad.0 ∙ is) in
-    let other : eqb (tag_in octets).element 0xE000 ≡ false =
-    ne_eqb (tag_in octets).element 0xE000 (other_end (tag_in octets).element (eqb-true (tag_in octets).element 0xE0DD bad.3)) in
-    rw (bad.1, bad.2, other) (ap (λ (x : ReadFault). Some x) same)

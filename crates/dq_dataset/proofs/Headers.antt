@@ -65,6 +65,15 @@ vr_again : (a b : ℕ) (rest : List ℕ) (vr : Vr) → vr_with_letters (a ∷ b 
 unfolding vr_at vr_or_fault
 vr_again a b rest vr e = rw e refl
 
+abbrev length_step : Vr → Option ℕ × List ℕ → Result ((Option Vr × Option ℕ) × List ℕ) ReadFault
+length_step vr n = Ok ((Some vr, n.0), n.1)
+
+abbrev agreed_step : Vr × List ℕ → Unit {0} → Result ((Option Vr × Option ℕ) × List ℕ) ReadFault
+agreed_step vr agreed = length_at (length_form_of vr.0) vr.1 >>= length_step vr.0
+
+abbrev vr_step : Option Vr → Vr × List ℕ → Result ((Option Vr × Option ℕ) × List ℕ) ReadFault
+vr_step known vr = check (agrees known vr.0) BadVr >>= agreed_step vr
+
 pub spelling_takes : (syntax : Syntax) (known : Option Vr) (bytes : List ℕ) (spelled : Option Vr) (extent : Option ℕ) (rest : List ℕ) → IsBytes bytes
     → spelling_at syntax known bytes ≡ Ok ((spelled, extent), rest) → (behind : List ℕ) × IsSpelling syntax known spelled extent behind
     × Takes bytes behind rest
@@ -75,20 +84,17 @@ spelling_takes Implicit known bytes spelled extent rest ok e =
     subst (λ (p : (Option Vr × Option ℕ) × List ℕ). (behind : List ℕ) × IsSpelling Implicit known p.0.0 p.0.1 behind × Takes bytes behind p.1)
     (ok_is ((None, b.0.0), b.0.1) ((spelled, extent), rest) b.2) l
 spelling_takes Explicit known bytes spelled extent rest ok e =
-    let v = bind_ok (vr_at bytes) (λ vr. check (agrees known vr.0) BadVr >>= λ ok. length_at (length_form_of vr.0) vr.1 >>= λ n. Ok ((Some vr.0, n.0), n.1))
-    ((spelled, extent), rest) e in
-    let c = check_ok (agrees known v.0.0) BadVr (λ ok. length_at (length_form_of v.0.0) v.0.1 >>= λ n. Ok ((Some v.0.0, n.0), n.1)) ((spelled, extent), rest)
-    v.2 in
-    let b = bind_ok (length_at (length_form_of v.0.0) v.0.1) (λ n. Ok ((Some v.0.0, n.0), n.1)) ((spelled, extent), rest) c.1 in
-    let letters = vr_takes bytes v.0.0 v.0.1 v.1 in
+    let v = bind_ok (vr_at bytes) (vr_step known) ((spelled, extent), rest) e in
+    let vr = v.0.0 in
+    let c = check_ok (agrees known vr) BadVr (agreed_step v.0) ((spelled, extent), rest) v.2 in
+    let b = bind_ok (length_at (length_form_of vr) v.0.1) (length_step vr) ((spelled, extent), rest) c.1 in
+    let letters = vr_takes bytes vr v.0.1 v.1 in
     let rest_ok : IsBytes v.0.1 = IsBytes-rest letters.1 v.0.1 (IsBytes-rest letters.0 (letters.1 ∷ v.0.1) (subst IsBytes letters.3 ok)) in
-    let l = behind_takes (length_form_of v.0.0) v.0.1 b.0.0 b.0.1 rest_ok b.1 in
+    let l = behind_takes (length_form_of vr) v.0.1 b.0.0 b.0.1 rest_ok b.1 in
+    let parts = letters.3 ∙ ap (λ (x : List ℕ). letters.0 ∷ letters.1 ∷ x) l.2.parts in
     subst (λ (p : (Option Vr × Option ℕ) × List ℕ). (behind : List ℕ) × IsSpelling Explicit known p.0.0 p.0.1 behind × Takes bytes behind p.1)
-    (ok_is ((Some v.0.0, b.0.0), b.0.1) ((spelled, extent), rest) b.2) (
-      letters.0 ∷ letters.1 ∷ l.0,
-      (c.0, letters.0, letters.1, letters.2, l.0, l.1, refl),
-      record { parts = letters.3 ∙ ap (λ (x : List ℕ). letters.0 ∷ letters.1 ∷ x) l.2.parts; rest_fits = l.2.rest_fits },
-    )
+    (ok_is ((Some vr, b.0.0), b.0.1) ((spelled, extent), rest) b.2)
+    (letters.0 ∷ letters.1 ∷ l.0, (c.0, letters.0, letters.1, letters.2, l.0, l.1, refl), record { parts = parts; rest_fits = l.2.rest_fits })
 
 pub spelling_again : (syntax : Syntax) (known spelled : Option Vr) (extent : Option ℕ) (behind rest : List ℕ) → IsSpelling syntax known spelled extent behind
     → spelling_at syntax known (behind ++ rest) ≡ Ok ((spelled, extent), rest)
@@ -195,12 +201,8 @@ header_again syntax levels last tag content octets rest placed header nests whol
 -- a header has at least 8 octets
 pub header_long : (syntax : Syntax) (tag : Tag) (content : Content) (octets : List ℕ) → IsHeader syntax tag content octets → 8 ≤ length octets
 header_long syntax tag content octets header =
-    omega (
-      arith,
-      ap length header.whole,
-      length-append (tag_octets tag) header.behind,
-      spelling_long syntax (known_vr tag) header.spelled header.extent header.behind header.spelling,
-    )
+    let four = spelling_long syntax (known_vr tag) header.spelled header.extent header.behind header.spelling in
+    omega (arith, ap length header.whole, length-append (tag_octets tag) header.behind, four)
 
 -- ---- the header of an item
 

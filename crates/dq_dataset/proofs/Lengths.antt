@@ -6,6 +6,7 @@ use Rattle.dq_dataset.proofs.Types.{Tag, Vr, SQ, Syntax, Implicit, Explicit, Ele
 use Rattle.dq_vr.specs.Vr.{length_form_of, letters_of}
 use Rattle.dq_dataset.specs.View.{as_elements, with_value, items_of}
 use Rattle.dq_dataset.specs.Canonical.{tag_octets, vr_and_length, header_of, item_header_of, canonical, canonical_items}
+use Rattle.dq_dataset.specs.Grammar.{delimiter}
 use Rattle.dq_dataset.specs.Facts.{AreElements}
 use Rattle.dq_dataset.specs.Parts.{canonical_element, has_sequence_vr, HasSequenceVr}
 use Rattle.dq_dataset.proofs.Edits.{facts-parts}
@@ -21,7 +22,7 @@ unfolding header_of vr_and_length length_form_of
 header_parts Implicit tag n = refl
 header_parts Explicit tag n = simp append_assoc
 
-item_parts : (n : ℕ) → item_header_of n ≡ tag_octets (record { group = 0xFFFE; element = 0xE000 }) ++ to_le_bytes w32 n
+item_parts : (n : ℕ) → item_header_of n ≡ delimiter 0xE000 ++ to_le_bytes w32 n
 unfolding item_header_of
 item_parts n = refl
 
@@ -35,30 +36,39 @@ closing front place body out four start parts four_long at =
     let last : drop start out ≡ body = ap (drop start) parts ∙ drop_at (front ++ place) body start (sym at) in
     λ i. first i ++ (four ++ last i)
 
--- the header with the length of what stands after it
-pub sequence_closed : (syntax : Syntax) (tag : Tag) (old body first out : List ℕ) (start n : ℕ) → first ≡ old ++ header_of syntax tag SQ 0 → out ≡ first ++ body
-    → start ≡ length first → n ≡ length body
-    → take (start - 4) out ++ (to_le_bytes w32 n ++ drop start out) ≡ old ++ (header_of syntax tag SQ (length body) ++ body)
-sequence_closed syntax tag old body first out start n begun whole at count =
-    let front = old ++ front_of syntax tag in
-    let first_is : first ≡ front ++ to_le_bytes w32 0 = begun ∙ ap (λ (x : List ℕ). old ++ x) (header_parts syntax tag 0)
-    ∙ sym (append_assoc old (front_of syntax tag) (to_le_bytes w32 0)) in
-    closing front (to_le_bytes w32 0) body out (to_le_bytes w32 n) start (whole ∙ ap (λ (x : List ℕ). x ++ body) first_is) refl (at ∙ ap length first_is)
-    ∙ append_assoc old (front_of syntax tag) (to_le_bytes w32 n ++ body)
-    ∙ ap (λ (x : List ℕ). old ++ x) (sym (append_assoc (front_of syntax tag) (to_le_bytes w32 n) body)
-    ∙ ap (λ (x : List ℕ). x ++ body) (sym (header_parts syntax tag n) ∙ ap (header_of syntax tag SQ) count))
+-- a header with the length of what stands after it, in place of 0
+module _ (header : ℕ → List ℕ) (front : List ℕ) (parts : (n : ℕ) → header n ≡ front ++ to_le_bytes w32 n)
+    (old first : List ℕ) (begun : first ≡ old ++ header 0) where
+  first_is : first ≡ (old ++ front) ++ to_le_bytes w32 0
+  first_is = begun ∙ ap (λ (x : List ℕ). old ++ x) (parts 0) ∙ sym (append_assoc old front (to_le_bytes w32 0))
 
-pub item_closed : (old body first out : List ℕ) (start n : ℕ) → first ≡ old ++ item_header_of 0 → out ≡ first ++ body → start ≡ length first → n ≡ length body
+  closed_by : (body out : List ℕ) (start n : ℕ) → out ≡ first ++ body → start ≡ length first → n ≡ length body
+      → take (start - 4) out ++ (to_le_bytes w32 n ++ drop start out) ≡ old ++ (header (length body) ++ body)
+  closed_by body out start n whole at count =
+      closing (old ++ front) (to_le_bytes w32 0) body out (to_le_bytes w32 n) start (whole ∙ ap (λ (x : List ℕ). x ++ body) first_is) refl
+      (at ∙ ap length first_is)
+      ∙ append_assoc old front (to_le_bytes w32 n ++ body)
+      ∙ ap (λ (x : List ℕ). old ++ x) (sym (append_assoc front (to_le_bytes w32 n) body)
+      ∙ ap (λ (x : List ℕ). x ++ body) (sym (parts n) ∙ ap header count))
+
+  started_by : 4 ≤ length first
+  started_by = omega (arith, ap length first_is, length-append (old ++ front) (to_le_bytes w32 0))
+
+pub sequence_closed : (syntax : Syntax) (tag : Tag) (old first : List ℕ) → first ≡ old ++ header_of syntax tag SQ 0 → (body out : List ℕ) (start n : ℕ)
+    → out ≡ first ++ body → start ≡ length first → n ≡ length body
+    → take (start - 4) out ++ (to_le_bytes w32 n ++ drop start out) ≡ old ++ (header_of syntax tag SQ (length body) ++ body)
+sequence_closed syntax tag = closed_by (header_of syntax tag SQ) (front_of syntax tag) (header_parts syntax tag)
+
+pub item_closed : (old first : List ℕ) → first ≡ old ++ item_header_of 0 → (body out : List ℕ) (start n : ℕ)
+    → out ≡ first ++ body → start ≡ length first → n ≡ length body
     → take (start - 4) out ++ (to_le_bytes w32 n ++ drop start out) ≡ old ++ (item_header_of (length body) ++ body)
-item_closed old body first out start n begun whole at count =
-    let item = tag_octets (record { group = 0xFFFE; element = 0xE000 }) in
-    let front = old ++ item in
-    let first_is : first ≡ front ++ to_le_bytes w32 0 = begun ∙ ap (λ (x : List ℕ). old ++ x) (item_parts 0)
-    ∙ sym (append_assoc old item (to_le_bytes w32 0)) in
-    closing front (to_le_bytes w32 0) body out (to_le_bytes w32 n) start (whole ∙ ap (λ (x : List ℕ). x ++ body) first_is) refl (at ∙ ap length first_is)
-    ∙ append_assoc old item (to_le_bytes w32 n ++ body)
-    ∙ ap (λ (x : List ℕ). old ++ x) (sym (append_assoc item (to_le_bytes w32 n) body)
-    ∙ ap (λ (x : List ℕ). x ++ body) (sym (item_parts n) ∙ ap item_header_of count))
+item_closed = closed_by item_header_of (delimiter 0xE000) item_parts
+
+pub sequence_start : (syntax : Syntax) (tag : Tag) (old first : List ℕ) → first ≡ old ++ header_of syntax tag SQ 0 → 4 ≤ length first
+sequence_start syntax tag = started_by (header_of syntax tag SQ) (front_of syntax tag) (header_parts syntax tag)
+
+pub item_start : (old first : List ℕ) → first ≡ old ++ item_header_of 0 → 4 ≤ length first
+item_start = started_by item_header_of (delimiter 0xE000) item_parts
 
 value_has_vr : (tag : Tag) (vr : Vr) (x : Value) → IsValue 16 tag vr x → has_sequence_vr vr x
 value_has_vr tag vr (Octets octets) h = tt
@@ -80,23 +90,3 @@ pub canonical-sequence : (s : Syntax) (e : Element) (items : List ElementList) �
 canonical-sequence s e items is vr =
     ap (λ (x : Value). canonical s (with_value (record { tag = e.tag; vr = e.vr; value = x }) x no_elements)) is
     ∙ rw vr (simp (append_assoc, append-nil))
-
-pub sequence_start : (syntax : Syntax) (tag : Tag) (old first : List ℕ) → first ≡ old ++ header_of syntax tag SQ 0 → 4 ≤ length first
-sequence_start syntax tag old first e =
-    omega (
-      arith,
-      ap length e,
-      length-append old (header_of syntax tag SQ 0),
-      ap length (header_parts syntax tag 0),
-      length-append (front_of syntax tag) (to_le_bytes w32 0),
-    )
-
-pub item_start : (old first : List ℕ) → first ≡ old ++ item_header_of 0 → 4 ≤ length first
-item_start old first e =
-    omega (
-      arith,
-      ap length e,
-      length-append old (item_header_of 0),
-      ap length (item_parts 0),
-      length-append (tag_octets (record { group = 0xFFFE; element = 0xE000 })) (to_le_bytes w32 0),
-    )

@@ -46,10 +46,9 @@ next_shorter syntax last octets found ok e =
       omega (
         arith,
         ap length header.takes.parts,
-        length-append header.octets behind,
-        header_long syntax found.0.0.tag found.0.0.content header.octets header.header,
         ap length value.takes.parts,
-        length-append value.octets found.1,
+        length-append {A = ℕ},
+        header_long syntax found.0.0.tag found.0.0.content header.octets header.header,
       ),
     )
 

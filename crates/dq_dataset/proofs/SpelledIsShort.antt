@@ -58,41 +58,39 @@ abbrev ValueIsShort : Syntax → List ℕ → Value → Type 0
 ValueIsShort to octets (Octets held) = length held ≤ length octets + 1
 ValueIsShort to octets (Items items) = AreShort to octets (items_of items)
 
+three : (a b c : List ℕ) → length (a ++ (b ++ c)) ≡ length a + (length b + length c)
+three a b c = simp length-append
+
+three_left : (a b c : List ℕ) → length ((a ++ b) ++ c) ≡ (length a + length b) + length c
+three_left a b c = simp length-append
+
 with_value_short : (to : Syntax) (tag : Tag) (vr : Vr) (held : Value) (others : ElementList) (header value rest : List ℕ) → 8 ≤ length header
     → ValueIsShort to value held → IsShort to rest others
     → IsShort to (header ++ (value ++ rest)) (with_value (record { tag = tag; vr = vr; value = held }) held others)
 with_value_short to tag vr (Octets held) others header value rest long short tail =
-    let all = length-append header (value ++ rest) in
-    let inner = length-append value rest in
+    let all = three header value rest in
     let h = length-header_of to tag vr (length held) in
-    let c1 = length-append (header_of to tag vr (length held) ++ held) (canonical to others) in
-    let c2 = length-append (header_of to tag vr (length held)) held in
-    let lt = tail.twice in
+    let written = three_left (header_of to tag vr (length held)) held (canonical to others) in
     record {
-      twice = omega (arith, all, inner, h, c1, c2, lt);
-      lengths = λ small. (omega (arith, all, inner), tail.lengths (omega (arith, all, inner)));
+      twice = omega (arith, all, h, written, tail.twice);
+      lengths = λ small. (omega (arith, all), tail.lengths (omega (arith, all)));
     }
 with_value_short to tag vr (Items items) others header value rest long short tail =
     let octets = canonical_items to (items_of items) in
-    let all = length-append header (value ++ rest) in
-    let inner = length-append value rest in
+    let all = three header value rest in
     let h = length-header_of to tag vr (length octets) in
-    let c1 = length-append (header_of to tag vr (length octets) ++ octets) (canonical to others) in
-    let c2 = length-append (header_of to tag vr (length octets)) octets in
-    let lt = tail.twice in
-    let it = short.twice in
+    let written = three_left (header_of to tag vr (length octets)) octets (canonical to others) in
     record {
-      twice = omega (arith, all, inner, h, c1, c2, lt, it);
-      lengths = λ small. (omega (arith, all, inner, it), short.lengths (omega (arith, all, inner)), tail.lengths (omega (arith, all, inner)));
+      twice = omega (arith, all, h, written, tail.twice, short.twice);
+      lengths = λ small. (omega (arith, all, short.twice), short.lengths (omega (arith, all)), tail.lengths (omega (arith, all)));
     }
 
 kept_short : (b : Bool) (to : Syntax) (tag : Tag) (vr : Vr) (held : Value) (others : ElementList) (header value rest : List ℕ) → 8 ≤ length header
     → ValueIsShort to value held → IsShort to rest others
     → IsShort to (header ++ (value ++ rest)) (cond b others (with_value (record { tag = tag; vr = vr; value = held }) held others))
 kept_short true to tag vr held others header value rest long short tail =
-    let all = length-append header (value ++ rest) in
-    let inner = length-append value rest in
-    record { twice = omega (arith, all, inner, tail.twice); lengths = λ small. tail.lengths (omega (arith, all, inner)) }
+    let all = three header value rest in
+    record { twice = omega (arith, all, tail.twice); lengths = λ small. tail.lengths (omega (arith, all)) }
 kept_short false to tag vr held others header value rest long short tail = with_value_short to tag vr held others header value rest long short tail
 
 one_item_short : (to : Syntax) (first : ElementList) (others : ItemList) (header value rest : List ℕ) → 8 ≤ length header → IsShort to value first
@@ -100,16 +98,12 @@ one_item_short : (to : Syntax) (first : ElementList) (others : ItemList) (header
     → AreShort to (header ++ (value ++ rest)) (item first others)
 one_item_short to first others header value rest long short tail =
     let octets = canonical to first in
-    let all = length-append header (value ++ rest) in
-    let inner = length-append value rest in
+    let all = three header value rest in
     let h = length-item_header_of (length octets) in
-    let c1 = length-append (item_header_of (length octets) ++ octets) (canonical_items to others) in
-    let c2 = length-append (item_header_of (length octets)) octets in
-    let lt = tail.twice in
-    let it = short.twice in
+    let written = three_left (item_header_of (length octets)) octets (canonical_items to others) in
     record {
-      twice = omega (arith, all, inner, h, c1, c2, lt, it);
-      lengths = λ small. (omega (arith, all, inner, it), short.lengths (omega (arith, all, inner)), tail.lengths (omega (arith, all, inner)));
+      twice = omega (arith, all, h, written, tail.twice, short.twice);
+      lengths = λ small. (omega (arith, all, short.twice), short.lengths (omega (arith, all)), tail.lengths (omega (arith, all)));
     }
 
 mutual

@@ -22,6 +22,13 @@ pub record Reads (X : Type 0) (Spelt : List ℕ → X → Type 0) (bytes : List 
   pub takes : Takes bytes octets rest
   pub spells : Spelt octets x
 
+reads : {X : Type 0} {Spelt : List ℕ → X → Type 0} {bytes : List ℕ} {x : X} {rest : List ℕ} (octets : List ℕ)
+    → Takes bytes octets rest → Spelt octets x → Reads X Spelt bytes x rest
+reads octets takes spells = record { octets = octets; takes = takes; spells = spells }
+
+takes_all : (a x b y c z d : List ℕ) → Takes a x b → Takes b y c → Takes c z d → Takes a (x ++ (y ++ z)) d
+takes_all a x b y c z d p q r = Takes-then a x b (y ++ z) d p (Takes-then b y c z d q r)
+
 abbrev Told : (X : Type 0) → (Bound → List ℕ → X → Type 0) → (Bound → List ℕ → ReadFault → Type 0) → Bound → List ℕ → Type 0
 Told X Spelt Faulty bound bytes =
     ((x : X) × (rest : List ℕ) × Trails bound rest × Reads X (Spelt bound) bytes x rest) ⊎ ((f : ReadFault) × Faulty bound bytes f)
@@ -65,20 +72,14 @@ module _ (X : Type 0) (Spelt : Bound → List ℕ → X → Type 0) (Faulty : Bo
   body_told (Some k) bytes enough ok lt =
       let t = taken k bytes ok enough in
       elim (told Filled (take k bytes) (IsBytes-take k bytes ok) (omega (arith, length-take k bytes))) [
-        | inl s ↦ inl (
-          s.0,
-          drop k bytes,
-          record {
-            octets = take k bytes;
-            takes = t.0;
-            spells = (t.1, subst (λ (o : List ℕ). Spelt Filled o s.0) (filled (take k bytes) s.3.octets s.1 s.3.takes.parts s.2) s.3.spells);
-          },
-        )
+        | inl s ↦
+            let all = filled (take k bytes) s.3.octets s.1 s.3.takes.parts s.2 in
+            inl (s.0, drop k bytes, reads (take k bytes) t.0 (t.1, subst (λ (o : List ℕ). Spelt Filled o s.0) all s.3.spells))
         | inr f ↦ inr (record { value = take k bytes; rest = drop k bytes; parts = t.0.parts; reach = t.1; fault = f.0; faulty = f.1 })
       ]
   body_told None bytes enough ok lt =
       elim (told Delimited bytes ok lt) [
-        | inl s ↦ inl (s.0, s.1, record { octets = s.3.octets; takes = s.3.takes; spells = (tt, s.3.spells) })
+        | inl s ↦ inl (s.0, s.1, reads s.3.octets s.3.takes (tt, s.3.spells))
         | inr f ↦ inr (record { value = bytes; rest = []; parts = sym (append-nil bytes); reach = refl; fault = f.0; faulty = f.1 })
       ]
 
@@ -110,21 +111,14 @@ module _ (n : ℕ) (told : AreTold n) where
       → IsBytes bytes → length bytes < n → ValueTold levels vr content bytes
   value_told levels vr (Plain k) bytes nests enough ok lt =
       let t = taken k bytes ok enough in
-      inl (Octets (padded vr (take k bytes)), drop k bytes, record { octets = take k bytes; takes = t.0; spells = plain levels vr k (take k bytes) t.1 })
+      inl (Octets (padded vr (take k bytes)), drop k bytes, reads (take k bytes) t.0 (plain levels vr k (take k bytes) t.1))
   value_told zero vr (Sequence inner extent) bytes nests enough ok lt = absurd (omega (arith, ltb-true 0 0 nests))
   value_told (suc levels) vr (Sequence inner extent) bytes nests enough ok lt =
       let one_less : suc levels - 1 ≡ levels = omega arith in
       elim (body_told _ _ _ n (told.items inner (suc levels - 1)) extent bytes enough ok lt) [
-        | inl s ↦ inl (
-          Items s.0,
-          s.1,
-          record {
-            octets = s.2.octets;
-            takes = s.2.takes;
-            spells = nested levels vr inner extent s.2.octets s.0 s.2.spells.0
-                (subst (λ (k : ℕ). SpellsItems (bound_of extent) inner k s.2.octets s.0) one_less s.2.spells.1);
-          },
-        )
+        | inl s ↦
+            let items = subst (λ (k : ℕ). SpellsItems (bound_of extent) inner k s.2.octets s.0) one_less s.2.spells.1 in
+            inl (Items s.0, s.1, reads s.2.octets s.2.takes (nested levels vr inner extent s.2.octets s.0 s.2.spells.0 items))
         | inr bad ↦ inr (record { inner = inner; extent = extent; is = refl; body = bad })
       ]
 
@@ -138,31 +132,18 @@ module _ (n : ℕ) (told : AreTold n) where
         let spelled : SpellsValue levels (vr_of (known_vr h.tag) h.content) h.content value.octets held =
         subst (λ (x : Vr). SpellsValue levels x h.content value.octets held) header.vr value.spells in
         let shorter : length rest < n =
-        omega (
-          arith,
-          ap length parts,
-          length-append header.octets (value.octets ++ rest),
-          length-append value.octets rest,
-          header_long syntax h.tag h.content header.octets header.header,
-        ) in
+        omega (arith, ap length parts, length-append {A = ℕ}, header_long syntax h.tag h.content header.octets header.header) in
         elim (told.elements syntax levels (Some h.tag) bound rest value.takes.rest_fits shorter) [
-          | inl s ↦ inl (
-            kept_value h.tag (vr_of (known_vr h.tag) h.content) held s.0,
-            s.1,
-            s.2,
-            record {
-              octets = header.octets ++ (value.octets ++ s.3.octets);
-              takes = Takes-then bytes header.octets behind (value.octets ++ s.3.octets) s.1 header.takes
-                  (Takes-then behind value.octets rest s.3.octets s.1 value.takes s.3.takes);
-              spells = more bound syntax levels last _ _ h.tag h.content header.octets value.octets s.3.octets held s.0
-                  header.placed header.header spelled s.3.spells refl refl;
-            },
-          )
-          | inr f ↦ inr (
-            f.0,
-            after_element bound syntax levels last bytes f.0 h.tag h.content header.octets value.octets rest held
-                header.placed header.header spelled f.1 parts,
-          )
+          | inl s ↦
+              let all = header.octets ++ (value.octets ++ s.3.octets) in
+              let d = kept_value h.tag (vr_of (known_vr h.tag) h.content) held s.0 in
+              let spells = more bound syntax levels last all d h.tag h.content header.octets value.octets s.3.octets held s.0
+              header.placed header.header spelled s.3.spells refl refl in
+              inl (d, s.1, s.2, reads all (takes_all bytes header.octets behind value.octets rest s.3.octets s.1 header.takes value.takes s.3.takes) spells)
+          | inr f ↦
+              let faulty = after_element bound syntax levels last bytes f.0 h.tag h.content header.octets value.octets rest held
+              header.placed header.header spelled f.1 parts in
+              inr (f.0, faulty)
         ]
 
     after_header : (h : Header) (behind : List ℕ) → ReadsHeader syntax levels last bytes h behind → ElementsTold syntax levels last bound bytes
@@ -179,7 +160,7 @@ module _ (n : ℕ) (told : AreTold n) where
     elements_told true is r e =
         let end = an_end_here bound 0xE00D bytes is in
         let t = end_takes bound 0xE00D bytes end.0 ok end.1 in
-        inl (no_elements, end.0, t.trails, record { octets = t.octets; takes = t.takes; spells = no_more bound syntax levels last t.octets t.is_end })
+        inl (no_elements, end.0, t.trails, reads t.octets t.takes (no_more bound syntax levels last t.octets t.is_end))
     elements_told false is (Err f) e =
         inr (f, at_header bound syntax levels last bytes f is (sym (header_faults_are syntax levels last bytes) ∙ ap fault_of e))
     elements_told false is (Ok h) e = after_header h.0 h.1 (header_takes syntax levels last bytes h.0 h.1 ok e)
@@ -193,31 +174,18 @@ module _ (n : ℕ) (told : AreTold n) where
     after_content extent behind header first rest value =
         let parts : bytes ≡ header.octets ++ (value.octets ++ rest) = header.takes.parts ∙ ap (λ (x : List ℕ). header.octets ++ x) value.takes.parts in
         let shorter : length rest < n =
-        omega (
-          arith,
-          ap length parts,
-          length-append header.octets (value.octets ++ rest),
-          length-append value.octets rest,
-          item_long extent header.octets header.header,
-        ) in
+        omega (arith, ap length parts, length-append {A = ℕ}, item_long extent header.octets header.header) in
         elim (told.items syntax levels bound rest value.takes.rest_fits shorter) [
-          | inl s ↦ inl (
-            first ∷ s.0,
-            s.1,
-            s.2,
-            record {
-              octets = header.octets ++ (value.octets ++ s.3.octets);
-              takes = Takes-then bytes header.octets behind (value.octets ++ s.3.octets) s.1 header.takes
-                  (Takes-then behind value.octets rest s.3.octets s.1 value.takes s.3.takes);
-              spells = one_item bound syntax levels _ extent header.octets value.octets s.3.octets first s.0
-                  header.header value.spells.0 value.spells.1 s.3.spells refl;
-            },
-          )
-          | inr f ↦ inr (
-            f.0,
-            after_item bound syntax levels bytes f.0 extent header.octets value.octets rest first
-                header.header value.spells.0 value.spells.1 f.1 parts,
-          )
+          | inl s ↦
+              let all = header.octets ++ (value.octets ++ s.3.octets) in
+              let takes = takes_all bytes header.octets behind value.octets rest s.3.octets s.1 header.takes value.takes s.3.takes in
+              let spells = one_item bound syntax levels all extent header.octets value.octets s.3.octets first s.0
+              header.header value.spells.0 value.spells.1 s.3.spells refl in
+              inl (first ∷ s.0, s.1, s.2, reads all takes spells)
+          | inr f ↦
+              let faulty = after_item bound syntax levels bytes f.0 extent header.octets value.octets rest first
+              header.header value.spells.0 value.spells.1 f.1 parts in
+              inr (f.0, faulty)
         ]
 
     items_told : (ended : Bool) → ends_here bound 0xE0DD bytes ≡ ended → (r : Result (Option ℕ × List ℕ) ReadFault) → item_header_at bytes ≡ r
@@ -225,7 +193,7 @@ module _ (n : ℕ) (told : AreTold n) where
     items_told true is r e =
         let end = an_end_here bound 0xE0DD bytes is in
         let t = end_takes bound 0xE0DD bytes end.0 ok end.1 in
-        inl ([], end.0, t.trails, record { octets = t.octets; takes = t.takes; spells = no_item bound syntax levels t.octets t.is_end })
+        inl ([], end.0, t.trails, reads t.octets t.takes (no_item bound syntax levels t.octets t.is_end))
     items_told false is (Err f) e = inr (f, at_item bound syntax levels bytes f is (sym (item_faults_are bytes) ∙ ap fault_of e))
     items_told false is (Ok h) e =
         let header = item_takes bytes h.0 h.1 ok e in
@@ -233,11 +201,9 @@ module _ (n : ℕ) (told : AreTold n) where
         omega (arith, ap length header.takes.parts, length-append header.octets h.1, item_long h.0 header.octets header.header) in
         elim (body_told _ _ _ n (told.elements syntax levels None) h.0 h.1 header.whole header.takes.rest_fits shorter) [
           | inl v ↦ after_content h.0 h.1 header v.0 v.1 v.2
-          | inr bad ↦ inr (
-            bad.fault,
-            in_item bound syntax levels bytes bad.fault h.0 header.octets bad.value bad.rest header.header bad.reach bad.faulty
-                (header.takes.parts ∙ ap (λ (x : List ℕ). header.octets ++ x) bad.parts),
-          )
+          | inr bad ↦
+              let parts = header.takes.parts ∙ ap (λ (x : List ℕ). header.octets ++ x) bad.parts in
+              inr (bad.fault, in_item bound syntax levels bytes bad.fault h.0 header.octets bad.value bad.rest header.header bad.reach bad.faulty parts)
         ]
 
 pub are_told : (n : ℕ) → AreTold n

@@ -28,7 +28,7 @@ put_element-returns-in_ok-put_items-in-Items t c =
     let whole : c.put_items.new.out.items ≡ c.put_header-in-Items.new.out.items ++ body = c.in_ok-put_items-in-Items.ensures
     ∙ rw (c.deref-in-Items.ensures.value, c.inner.ensures) refl in
     c.put_length_before.ensures
-    ∙ sequence_closed c.args.syntax e.tag c.args.out.now.items body c.put_header-in-Items.new.out.items c.put_items.new.out.items c.len-start.result _ begun
+    ∙ sequence_closed c.args.syntax e.tag c.args.out.now.items c.put_header-in-Items.new.out.items begun body c.put_items.new.out.items c.len-start.result _
     whole
     (omega (arith, c.put_header-in-Items.new.out.ok.0))
     (omega (arith, c.put_header-in-Items.new.out.ok.0, c.put_items.new.out.ok.0, ap length whole, length-append c.put_header-in-Items.new.out.items body))
@@ -36,15 +36,13 @@ put_element-returns-in_ok-put_items-in-Items t c =
 
 pub put_elements-put_element-requires : goal.put_elements-put_element-requires
 put_elements-put_element-requires t c =
-    let next = next_element c.args.syntax c.args.elements.now c.args.out.now.items c.loop-element.out.items c.loop-element.element-index
-    c.loop-element.invariant c.element-item.result (omega arith) c.element-item.is in
+    let next = next_element _ _ _ _ _ c.loop-element.invariant c.element-item.result (omega arith) c.element-item.is in
     let vr = element_has_vr c.loop-element.element-index _ c.args.elements.now c.element-item.result c.requires.facts (omega arith) c.element-item.is in
     (omega (arith, next.2, count-drop c.loop-element.element-index c.args.elements.now), (next.0, vr))
 
 pub put_items-put_elements-requires : goal.put_items-put_elements-requires
 put_items-put_elements-requires t c =
-    let next = next_item c.args.syntax c.args.items.now c.args.out.now.items c.loop-item.out.items c.loop-item.item-index c.loop-item.invariant
-    c.item-item.result c.loop-item-test.true c.item-item.is in
+    let next = next_item _ _ _ _ _ c.loop-item.invariant c.item-item.result c.loop-item-test.true c.item-item.is in
     rw (c.elements.ensures.elements, as_elements-elements_of) (
       omega (arith, next.3, items_count-drop c.loop-item.item-index c.args.items.now),
       (next.1, c.elements.ensures.facts),
@@ -58,8 +56,7 @@ put_items-put_length_before-requires-clause-place t c =
 pub put_items-put_length_before-requires-clause-short : goal.put_items-put_length_before-requires-clause-short
 put_items-put_length_before-requires-clause-short t c =
     let d = c.item-item.result in
-    let next = next_item c.args.syntax c.args.items.now c.args.out.now.items c.loop-item.out.items c.loop-item.item-index c.loop-item.invariant d
-    c.loop-item-test.true c.item-item.is in
+    let next = next_item _ _ _ _ _ c.loop-item.invariant d c.loop-item-test.true c.item-item.is in
     let whole : c.put_elements.new.out.items ≡ c.put_item_header.new.out.items ++ canonical c.args.syntax d = c.in_ok-put_elements.ensures
     ∙ rw (c.elements.ensures.elements, as_elements-elements_of) refl in
     omega (
@@ -79,10 +76,9 @@ put_items-loop-item-preserved t c =
     ∙ rw (c.elements.ensures.elements, as_elements-elements_of) refl in
     let closed : c.put_length_before.new.out.items ≡ c.loop-item.out.items ++ (item_header_of (length body) ++ body) =
     c.put_length_before.ensures
-    ∙ item_closed c.loop-item.out.items body c.put_item_header.new.out.items c.put_elements.new.out.items c.len-start.result _ c.in_ok-put_item_header.ensures
+    ∙ item_closed c.loop-item.out.items c.put_item_header.new.out.items c.in_ok-put_item_header.ensures body c.put_elements.new.out.items c.len-start.result _
     whole
     (omega (arith, c.put_item_header.new.out.ok.0))
     (omega (arith, c.put_item_header.new.out.ok.0, c.put_elements.new.out.ok.0, ap length whole, length-append c.put_item_header.new.out.items body)) in
     rw (closed, ← append_assoc c.loop-item.out.items (item_header_of (length body)) body)
-    (item_written c.args.syntax c.args.items.now c.args.out.now.items c.loop-item.out.items c.loop-item.item-index c.loop-item.invariant d c.loop-item-test.true
-    c.item-item.is)
+    (item_written _ _ _ _ _ c.loop-item.invariant d c.loop-item-test.true c.item-item.is)
