@@ -13,7 +13,7 @@ use Rattle.dq_dataset.specs.Faults.{HasFault, after_element}
 use Rattle.dq_dataset.specs.Lending.{Spelled, spelled_as, value_octets, next_at, lent_after, lent_in, lent}
 use Rattle.dq_dataset.specs.Agreement.{IsLentValue, IsLent, Lends, FaultAfter, at_once, after_one, AgreesWith}
 use Rattle.dq_dataset.proofs.Views.{elements_of-with_value}
-use Rattle.dq_dataset.proofs.LentLemmas.{Found, NextReads, next_reads, next_shorter}
+use Rattle.dq_dataset.proofs.LentLemmas.{Found, Lent, NextReads, next_reads, next_shorter}
 use Rattle.dq_dataset.proofs.LentFaults.{next_is_spelled, next_is_faulty}
 use Rattle.dq_dataset.proofs.SpelledOrFaulty.{ReadsValue}
 
@@ -71,9 +71,6 @@ read_value outer h behind held rest r =
 
 -- ---- one step
 
-abbrev Lent : Type 0
-Lent = List (Result Spelled ReadFault)
-
 -- of the octets after a tag
 abbrev Agrees : Syntax → Option Tag → List ℕ → Lent → Type 0
 Agrees syntax last octets lent =
@@ -95,45 +92,30 @@ module _ (n : ℕ) (syntax : Syntax) (last : Option Tag) (octets : List ℕ) (ok
   element_agrees found (behind, header, held, value, is) others =
       let h = found.0.0 in
       let parts : octets ≡ header.octets ++ (value.octets ++ found.1) = header.takes.parts ∙ ap (λ (x : List ℕ). header.octets ++ x) value.takes.parts in
-      let spelled : SpellsValue 16 (vr_of (known_vr h.tag) h.content) h.content value.octets held =
-      subst (λ (x : Vr). SpellsValue 16 x h.content value.octets held) header.vr value.spells in
-      let lent_is : IsLent (spelled_as syntax h found.0.1) (record { tag = h.tag; vr = vr_of (known_vr h.tag) h.content; value = held }) =
-      record {
-        tag = refl;
-        vr = header.vr;
-        value = subst (λ (o : List ℕ). IsLentValue (spelled_as syntax h o) held) (sym is) (read_value syntax h behind held found.1 value);
-      } in
-      let more_lent = lent_in n syntax (Some h.tag) found.1 in
+      let vr = vr_of (known_vr h.tag) h.content in
+      let spelled : SpellsValue 16 vr h.content value.octets held = subst (λ (x : Vr). SpellsValue 16 x h.content value.octets held) header.vr value.spells in
+      let read = subst (λ (o : List ℕ). IsLentValue (spelled_as syntax h o) held) (sym is) (read_value syntax h behind held found.1 value) in
+      let lent_is : IsLent (spelled_as syntax h found.0.1) (record { tag = h.tag; vr = vr; value = held }) = record { tag = refl; vr = header.vr; value = read } in
+      let all = λ (d : ElementList). kept_value h.tag vr held d in
+      let lends = λ (d : ElementList) (end : Lent). kept_lends (eqb h.tag.element 0) (spelled_as syntax h found.0.1) h.tag vr held d
+      (lent_in n syntax (Some h.tag) found.1) end lent_is in
       elim others [
-        | inl whole ↦ inl (
-          kept_value h.tag (vr_of (known_vr h.tag) h.content) held whole.0,
-          more Filled syntax 16 last octets (kept_value h.tag (vr_of (known_vr h.tag) h.content) held whole.0) h.tag h.content header.octets value.octets
-              found.1 held whole.0
-              header.placed header.header spelled whole.1 parts refl,
-          kept_lends (eqb h.tag.element 0) (spelled_as syntax h found.0.1) h.tag (vr_of (known_vr h.tag) h.content) held whole.0 more_lent [] lent_is whole.2,
-        )
-        | inr faulty ↦ inr (
-          kept_value h.tag (vr_of (known_vr h.tag) h.content) held faulty.0,
-          faulty.1,
-          after_one syntax last octets (kept_value h.tag (vr_of (known_vr h.tag) h.content) held faulty.0) faulty.1 h.tag h.content header.octets value.octets
-              found.1 held faulty.0
-              header.placed header.header spelled faulty.2 parts refl,
-          kept_lends (eqb h.tag.element 0) (spelled_as syntax h found.0.1) h.tag (vr_of (known_vr h.tag) h.content) held faulty.0 more_lent (Err faulty.1 ∷ [])
-              lent_is faulty.3,
-        )
+        | inl whole ↦
+            let spells = more Filled syntax 16 last octets (all whole.0) h.tag h.content header.octets value.octets found.1 held whole.0
+            header.placed header.header spelled whole.1 parts refl in
+            inl (all whole.0, spells, lends whole.0 [] whole.2)
+        | inr faulty ↦
+            let after = after_one syntax last octets (all faulty.0) faulty.1 h.tag h.content header.octets value.octets found.1 held faulty.0
+            header.placed header.header spelled faulty.2 parts refl in
+            inr (all faulty.0, faulty.1, after, lends faulty.0 (Err faulty.1 ∷ []) faulty.3)
       ]
 
   -- where the next fails, no element stands
   fault_agrees : (f : ReadFault) → eqb (length octets) 0 ≡ false → next_at syntax last octets ≡ Err f → Agrees syntax last octets (Err f ∷ [])
   fault_agrees f some e =
-      inr (
-        no_elements,
-        f,
-        at_once syntax last octets f (λ tag content header value rest held placed is_header spells parts.
-            next_is_spelled syntax last octets f tag content header value rest held placed is_header spells parts e)
-            (next_is_faulty syntax last octets f ok some e),
-        refl,
-      )
+      let none = at_once syntax last octets f (λ tag content header value rest held placed is_header spells parts.
+      next_is_spelled syntax last octets f tag content header value rest held placed is_header spells parts e) in
+      inr (no_elements, f, none (next_is_faulty syntax last octets f ok some e), refl)
 
 empty_agrees : (syntax : Syntax) (last : Option Tag) (octets : List ℕ) → length octets ≡ 0 → Agrees syntax last octets []
 empty_agrees syntax last [] e = inl (no_elements, no_more Filled syntax 16 last [] refl, refl)
@@ -173,13 +155,9 @@ pub front_before : (syntax : Syntax) (last : Option Tag) (octets : List ℕ) (d 
 front_before syntax last octets d fault (at_once _ _ _ _ none faulty) = ([], octets, refl, no_more Filled syntax 16 last [] refl)
 front_before syntax last octets d fault (after_one _ _ _ _ _ tag content header value rest held others placed is_header spells later e1 e2) =
     let f = front_before syntax (Some tag) rest others fault later in
-    let all : octets ≡ (header ++ (value ++ f.0)) ++ f.1 = e1 ∙ ap (λ (x : List ℕ). header ++ (value ++ x)) f.2 ∙ simp append_assoc in (
-      header ++ (value ++ f.0),
-      f.1,
-      all,
-      more Filled syntax 16 last (header ++ (value ++ f.0)) d tag content header value f.0 held others placed is_header
-          spells f.3 refl e2,
-    )
+    let all : octets ≡ (header ++ (value ++ f.0)) ++ f.1 = e1 ∙ ap (λ (x : List ℕ). header ++ (value ++ x)) f.2 ∙ simp append_assoc in
+    let front = header ++ (value ++ f.0) in
+    (front, f.1, all, more Filled syntax 16 last front d tag content header value f.0 held others placed is_header spells f.3 refl e2)
 
 pub fault_after : (syntax : Syntax) (last : Option Tag) (octets : List ℕ) (d : ElementList) (fault : ReadFault) → FaultAfter syntax last octets d fault
     → HasFault Filled syntax 16 last octets fault

@@ -41,18 +41,11 @@ next_reads syntax last octets found ok e =
 pub next_shorter : (syntax : Syntax) (last : Option Tag) (octets : List ℕ) (found : Found) → AreOctets octets → next_at syntax last octets ≡ Ok found
     → AreOctets found.1 × (length found.1 < length octets)
 next_shorter syntax last octets found ok e =
-    let (behind, header, held, value, is) = next_reads syntax last octets found ok e in (
-      value.takes.rest_fits,
-      omega (
-        arith,
-        ap length header.takes.parts,
-        ap length value.takes.parts,
-        length-append {A = ℕ},
-        header_long syntax found.0.0.tag found.0.0.content header.octets header.header,
-      ),
-    )
+    let (behind, header, held, value, is) = next_reads syntax last octets found ok e in
+    let eight = header_long syntax found.0.0.tag found.0.0.content header.octets header.header in
+    (value.takes.rest_fits, omega (arith, ap length header.takes.parts, ap length value.takes.parts, length-append {A = ℕ}, eight))
 
-abbrev Lent : Type 0
+abbrev pub Lent : Type 0
 Lent = List (Result Spelled ReadFault)
 
 abbrev spelled : Syntax → Found → Spelled

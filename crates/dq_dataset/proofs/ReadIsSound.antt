@@ -30,7 +30,7 @@ content_is_data_set syntax levels extent bytes es rest le enough ok e =
     let n = length bytes in
     let read = e (suc n) (omega arith) in
     elim (body_told _ _ _ (suc n) ((are_told (suc n)).elements syntax levels None) extent bytes enough ok (omega arith)) [
-      | inl s ↦ (
+      | inl s ↦
           let spells = elements_again (bound_of extent) syntax levels None s.2.octets s.0 s.2.spells.1 in
           let again : content_by (readers (suc n)) syntax levels extent bytes ≡ Ok (elements_of s.0, s.1) =
           ap (content_by (readers (suc n)) syntax levels extent) s.2.takes.parts
@@ -39,13 +39,11 @@ content_is_data_set syntax levels extent bytes es rest le enough ok e =
           AreElements-deeper levels 16 None (as_elements es) le
           (subst (λ (d : ElementList). AreElements levels None d) (sym (as_elements-elements_of s.0) ∙ ap as_elements same)
           (elements_are (bound_of extent) syntax levels None s.2.octets s.0 s.2.spells.1))
-          )
-      | inr bad ↦ (
+      | inr bad ↦
           let failed = ap (content_by (readers (suc n)) syntax levels extent) bad.parts
           ∙ elements_in_item syntax levels extent bad.value bad.rest bad.fault bad.reach
           (elements_fail (bound_of extent) syntax levels None bad.value bad.fault bad.faulty) n (omega (arith, ap length bad.parts)) in
           absurd (no_fault (es, rest) bad.fault (sym read ∙ failed))
-          )
     ]
 
 pub elements_are_data_set : (syntax : Syntax) (bytes : List ℕ) (es : List Element) (rest : List ℕ) → IsBytes bytes

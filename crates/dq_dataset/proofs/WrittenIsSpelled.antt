@@ -46,14 +46,6 @@ content_plain : (known spelled : Option Vr) (n : ℕ) → is_sequence spelled �
 unfolding content_of
 content_plain known spelled n a b = rw (a, b) refl
 
-content_known : (known : Option Vr) (n : ℕ) → is_sequence known ≡ true → content_of known None (Some n) ≡ Ok (Sequence Implicit (Some n))
-unfolding content_of
-content_known known n e = rw e refl
-
-content_sq : (known : Option Vr) (n : ℕ) → content_of known (Some SQ) (Some n) ≡ Ok (Sequence Explicit (Some n))
-unfolding content_of
-content_sq known n = refl
-
 agrees_un : (known : Option Vr) → is_sequence known ≡ false → agrees known UN ≡ true
 unfolding agrees
 agrees_un known e = rw e (or_right (is_none known) true refl)
@@ -75,10 +67,6 @@ sq_agrees false false e = absurd cc
 agrees_sq : (known : Option Vr) → (is_none known || is_sequence known) ≡ true → agrees known SQ ≡ true
 unfolding agrees
 agrees_sq known e = sq_agrees (is_sequence known) (is_none known) e
-
-form_un : length_form_of UN ≡ Four
-unfolding length_form_of
-form_un = refl
 
 -- the VR is that of the data set, and no sequence's
 abbrev IsOwn : Tag → Vr → Type 0
@@ -107,9 +95,10 @@ module _ (named : LettersName) where
   -- the header of a value that fits a length of 2 octets, or does not, in Explicit
   plain_short : (tag : Tag) (vr : Vr) (n : ℕ) (long : Bool) → ltb 65534 n ≡ long → length_form_of vr ≡ Two → IsOwn tag vr → n < 0xFFFFFFFF
       → IsHeader Explicit tag (Plain n) (tag_octets tag ++ cond long (letters_of UN ++ long_length n) (letters_of vr ++ to_le_bytes w16 n))
+  unfolding length_form_of
   plain_short tag vr n true e form (own, other) lt =
       header_with Explicit tag (Plain n) (Some UN) n _ (content_plain (known_vr tag) (Some UN) n refl other)
-      (spelled_as (known_vr tag) UN n (long_length n) (agrees_un (known_vr tag) other) (rw form_un (long_after n lt)))
+      (spelled_as (known_vr tag) UN n (long_length n) (agrees_un (known_vr tag) other) (long_after n lt))
   plain_short tag vr n false e form own lt = own_header tag vr n (to_le_bytes w16 n) own (rw form (short_after n (ltb-false 65534 n e)))
 
   plain_explicit : (tag : Tag) (vr : Vr) (n : ℕ) (form : LengthForm) → length_form_of vr ≡ form → IsOwn tag vr → n < 0xFFFFFFFF
@@ -128,11 +117,11 @@ module _ (named : LettersName) where
   sequence_header : (syntax : Syntax) (tag : Tag) (n : ℕ) (rest : ElementList) (items : ItemList)
       → (is_none (known_vr tag) || is_sequence (known_vr tag)) ≡ true → IsReadBack syntax (sequence tag SQ items rest) → n < 0xFFFFFFFF
       → IsHeader syntax tag (Sequence syntax (Some n)) (header_of syntax tag SQ n)
-  unfolding header_of vr_and_length length_form_of
+  unfolding header_of vr_and_length length_form_of content_of
   sequence_header Implicit tag n rest items allowed back lt =
-      header_with Implicit tag (Sequence Implicit (Some n)) None n (to_le_bytes w32 n) (content_known (known_vr tag) n back.0) (lt, refl)
+      header_with Implicit tag (Sequence Implicit (Some n)) None n (to_le_bytes w32 n) (rw back.0 refl) (lt, refl)
   sequence_header Explicit tag n rest items allowed back lt =
-      header_with Explicit tag (Sequence Explicit (Some n)) (Some SQ) n _ (content_sq (known_vr tag) n)
+      header_with Explicit tag (Sequence Explicit (Some n)) (Some SQ) n _ refl
       (spelled_as (known_vr tag) SQ n (long_length n) (agrees_sq (known_vr tag) allowed) (long_after n lt))
 
   item_header : (n : ℕ) → n < 0xFFFFFFFF → IsItemHeader (Some n) (item_header_of n)
