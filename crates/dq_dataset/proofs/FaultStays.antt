@@ -93,15 +93,14 @@ module _ (bound : Bound) (element : ℕ) (first : List ℕ → Option ReadFault)
   -- a fault that is met at a header
   stays_met : ((octets : List ℕ) → ltb (length octets) 8 ≡ true → first octets ≡ Some Truncated)
       → ((a b c d e f g h : ℕ) (rest : List ℕ) → Stays (first (eight a b c d e f g h rest)) (first (eight a b c d e f g h rest ++ t)))
-      → (octets : List ℕ) (short : Bool) → ltb (length octets) 8 ≡ short → Meets octets → (fault ≡ Truncated) ⊎ Meets (octets ++ t)
-  stays_met missing stays octets true short (open_here, met) = let is = missing octets short in inl cc
-  stays_met missing stays octets false long meets =
+      → (octets : List ℕ) → Meets octets → (fault ≡ Truncated) ⊎ Meets (octets ++ t)
+  stays_met missing stays =
       by_eight (λ octets. Meets octets → (fault ≡ Truncated) ⊎ Meets (octets ++ t))
+      (λ octets short met. let is = missing octets short in inl cc)
       (λ a b c d e f g h rest met. elim (stays a b c d e f g h rest fault met.1) [
         | inl less ↦ inl less
         | inr same ↦ inr (no_end_stays a b c d e f g h rest t bound element met.0, same)
       ])
-      octets (ltb-false (length octets) 8 long) meets
 
 abbrev parts_of : List ℕ → List ℕ → List ℕ → List ℕ
 parts_of header value rest = header ++ (value ++ rest)
@@ -117,7 +116,7 @@ mutual
       → HasFault bound syntax levels last octets f → (f ≡ Truncated) ⊎ HasFault bound syntax levels last (octets ++ t) f
   elements_stay t bound syntax levels last octets f (at_header _ _ _ _ _ _ open_here first) =
       elim (stays_met bound 0xE00D (λ o. first_of (header_faults syntax levels last o)) t f (λ o short. rw short refl)
-      (λ a b c d e f g h rest. header_stays a b c d e f g h rest t syntax levels last) octets (ltb (length octets) 8) refl (open_here, first)) [
+      (λ a b c d e f g h rest. header_stays a b c d e f g h rest t syntax levels last) octets (open_here, first)) [
         | inl missing ↦ inl missing
         | inr met ↦ inr (at_header bound syntax levels last (octets ++ t) f met.0 met.1)
       ]
@@ -141,7 +140,7 @@ mutual
       → ItemsHaveFault bound syntax levels octets f → (f ≡ Truncated) ⊎ ItemsHaveFault bound syntax levels (octets ++ t) f
   items_stay t bound syntax levels octets f (at_item _ _ _ _ _ open_here first) =
       elim (stays_met bound 0xE0DD (λ o. first_of (item_faults o)) t f (λ o short. rw short refl)
-      (λ a b c d e f g h rest. item_stays a b c d e f g h rest t) octets (ltb (length octets) 8) refl (open_here, first)) [
+      (λ a b c d e f g h rest. item_stays a b c d e f g h rest t) octets (open_here, first)) [
         | inl missing ↦ inl missing
         | inr met ↦ inr (at_item bound syntax levels (octets ++ t) f met.0 met.1)
       ]

@@ -34,9 +34,9 @@ bind_err (Ok x) k f e = inr (x, refl, e)
 bind_err (Err g) k f e = inl (let same : g ≡ f = cc in ap (λ (x : ReadFault). Err x) same)
 
 -- a test that did not fail
-pub guard_ok : {A : Type 0} (b : Bool) (d : ReadFault) (x y : A) → cond b (Err d) (Ok x) ≡ Ok y → (b ≡ false) × (x ≡ y)
-guard_ok true d x y e = absurd cc
-guard_ok false d x y e = (refl, cc)
+pub unless_ok : {A : Type 0} (b : Bool) (d : ReadFault) (r : Result A ReadFault) (y : A) → cond b (Err d) r ≡ Ok y → (b ≡ false) × (r ≡ Ok y)
+unless_ok true d r y e = absurd cc
+unless_ok false d r y e = (refl, e)
 
 abbrev done : {A : Type 0} → A → Result A ReadFault
 done x = Ok x
@@ -88,15 +88,13 @@ wide32 = record {
 pub number_takes : (w : Width) (limit : ℕ) (wide : IsWide w limit) (bytes : List ℕ) (n : ℕ) (rest : List ℕ) → IsBytes bytes → number_at w bytes ≡ Ok (n, rest)
     → Takes bytes (to_le_bytes w n) rest × (n < limit)
 number_takes w limit wide bytes n rest fits e =
-    let g = guard_ok (ltb (length bytes) (byte_len w)) Truncated (from_le_bytes w (take (byte_len w) bytes), drop (byte_len w) bytes) (n, rest) e in
+    let text = take (byte_len w) bytes in
+    let g = unless_ok (ltb (length bytes) (byte_len w)) Truncated (Ok (from_le_bytes w text, drop (byte_len w) bytes)) (n, rest) e in
     let long : byte_len w ≤ length bytes = ltb-false _ _ g.0 in
-    let n-is : from_le_bytes w (take (byte_len w) bytes) ≡ n = ap (λ (p : ℕ × List ℕ). p.0) g.1 in
-    let rest-is : drop (byte_len w) bytes ≡ rest = ap (λ (p : ℕ × List ℕ). p.1) g.1 in
-    let front : to_le_bytes w n ≡ take (byte_len w) bytes =
-    rw (← n-is) (wide.back (take (byte_len w) bytes) (omega (arith, length-take (byte_len w) bytes)) (IsBytes-take (byte_len w) bytes fits)) in (
-      record { parts = rw (front, ← rest-is) (sym (take-append-drop (byte_len w) bytes)); rest_fits = rw (← rest-is) (IsBytes-drop (byte_len w) bytes fits) },
-      rw (← n-is) (wide.below (take (byte_len w) bytes) (IsBytes-take (byte_len w) bytes fits)),
-    )
+    let ok = IsBytes-take (byte_len w) bytes fits in
+    let front = wide.back text (omega (arith, length-take (byte_len w) bytes)) ok in
+    subst (λ (p : ℕ × List ℕ). Takes bytes (to_le_bytes w p.0) p.1 × (p.0 < limit)) (ok_is (from_le_bytes w text, drop (byte_len w) bytes) (n, rest) g.1)
+    (record { parts = rw front (sym (take-append-drop (byte_len w) bytes)); rest_fits = IsBytes-drop (byte_len w) bytes fits }, wide.below text ok)
 
 pub number_again : (w : Width) (limit : ℕ) (wide : IsWide w limit) (n : ℕ) (rest : List ℕ) → n < limit → number_at w (to_le_bytes w n ++ rest) ≡ Ok (n, rest)
 number_again w limit wide n rest lt =
@@ -109,10 +107,6 @@ number_again w limit wide n rest lt =
 pub check_ok : {B : Type 0} (b : Bool) (d : ReadFault) (f : Unit {0} → Result B ReadFault) (y : B) → (check b d >>= f) ≡ Ok y → (b ≡ true) × (f tt ≡ Ok y)
 check_ok true d f y e = (refl, e)
 check_ok false d f y e = absurd cc
-
-pub unless_ok : {A : Type 0} (b : Bool) (d : ReadFault) (r : Result A ReadFault) (y : A) → cond b (Err d) r ≡ Ok y → (b ≡ false) × (r ≡ Ok y)
-unless_ok true d r y e = absurd cc
-unless_ok false d r y e = (refl, e)
 
 -- ---- lengths
 

@@ -20,10 +20,11 @@ fault_of (Err fault) = Some fault
 abbrev pub eight : ℕ → ℕ → ℕ → ℕ → ℕ → ℕ → ℕ → ℕ → List ℕ → List ℕ
 eight a b c d e f g h rest = a ∷ b ∷ c ∷ d ∷ e ∷ f ∷ g ∷ h ∷ rest
 
-pub by_eight : (P : List ℕ → Type 0) → ((a b c d e f g h : ℕ) (rest : List ℕ) → P (eight a b c d e f g h rest)) → (octets : List ℕ) → 8 ≤ length octets
-    → P octets
-by_eight P each (a ∷ b ∷ c ∷ d ∷ e ∷ f ∷ g ∷ h ∷ rest) le = each a b c d e f g h rest
-by_eight P each octets le = absurd (omega arith)
+-- fewer than eight octets, or eight and others
+pub by_eight : (P : List ℕ → Type 0) → ((octets : List ℕ) → ltb (length octets) 8 ≡ true → P octets)
+    → ((a b c d e f g h : ℕ) (rest : List ℕ) → P (eight a b c d e f g h rest)) → (octets : List ℕ) → P octets
+by_eight P short each (a ∷ b ∷ c ∷ d ∷ e ∷ f ∷ g ∷ h ∷ rest) = each a b c d e f g h rest
+by_eight P short each octets = short octets (lt-ltb (length octets) 8 (omega arith))
 
 number_of : (w : Width) (octets : List ℕ) → byte_len w ≤ length octets
     → number_at w octets ≡ Ok (from_le_bytes w (take (byte_len w) octets), drop (byte_len w) octets)
@@ -168,17 +169,12 @@ long_header syntax levels last a b c d e f g h rest =
     (gate (follows last tag) TagOrder (rises_step syntax levels tag (e ∷ f ∷ g ∷ h ∷ rest)) (from_vr syntax levels tag (eight a b c d e f g h rest))
     (spelling_faults levels tag a b c d e f g h rest syntax)))
 
-header_by : (syntax : Syntax) (levels : ℕ) (last : Option Tag) (octets : List ℕ) (b : Bool) → ltb (length octets) 8 ≡ b
-    → fault_of (header_at syntax levels last octets) ≡ first_of (header_faults syntax levels last octets)
-unfolding header_at
-header_by syntax levels last octets true short = rw (no_tag octets short, short) refl
-header_by syntax levels last octets false long =
-    by_eight (λ octets. fault_of (header_at syntax levels last octets) ≡ first_of (header_faults syntax levels last octets)) (long_header syntax levels last)
-    octets (ltb-false (length octets) 8 long)
-
 pub header_faults_are : (syntax : Syntax) (levels : ℕ) (last : Option Tag) (octets : List ℕ)
     → fault_of (header_at syntax levels last octets) ≡ first_of (header_faults syntax levels last octets)
-header_faults_are syntax levels last octets = header_by syntax levels last octets (ltb (length octets) 8) refl
+unfolding header_at
+header_faults_are syntax levels last =
+    by_eight (λ octets. fault_of (header_at syntax levels last octets) ≡ first_of (header_faults syntax levels last octets))
+    (λ octets short. rw (no_tag octets short, short) refl) (long_header syntax levels last)
 
 -- ---- the header of an item
 
@@ -190,14 +186,10 @@ long_item a b c d e f g h rest =
     rw (tag_of a b c d e f g h rest, le-ltb (length (eight a b c d e f g h rest)) 8 (omega arith), long_length (e ∷ f ∷ g ∷ h ∷ rest) (omega arith))
     (gate (eqb tag.group 0xFFFE && eqb tag.element 0xE000) BadItem _ ((not (fits extent rest), Truncated) ∷ []) (fits_fault _ (fits extent rest)))
 
-item_by_length : (octets : List ℕ) (b : Bool) → ltb (length octets) 8 ≡ b → fault_of (item_header_at octets) ≡ first_of (item_faults octets)
-unfolding item_header_at
-item_by_length octets true short = rw (no_tag octets short, short) refl
-item_by_length octets false long = by_eight (λ octets. fault_of (item_header_at octets) ≡ first_of (item_faults octets)) long_item octets
-    (ltb-false (length octets) 8 long)
-
 pub item_faults_are : (octets : List ℕ) → fault_of (item_header_at octets) ≡ first_of (item_faults octets)
-item_faults_are octets = item_by_length octets (ltb (length octets) 8) refl
+unfolding item_header_at
+item_faults_are =
+    by_eight (λ octets. fault_of (item_header_at octets) ≡ first_of (item_faults octets)) (λ octets short. rw (no_tag octets short, short) refl) long_item
 
 -- ---- ends
 
@@ -245,19 +237,12 @@ filled_by : (element : ℕ) (octets : List ℕ) (b : Bool) → end_at Filled ele
 filled_by element octets true is = (octets, is)
 filled_by element octets false is = inl is
 
-missing_end : (element : ℕ) (octets : List ℕ) → ltb (length octets) 8 ≡ true → end_at Delimited element octets ≡ Err Truncated
-unfolding end_at
-missing_end element octets short = rw (no_tag octets short) refl
-
-delimited_by : (element : ℕ) (octets : List ℕ) (b : Bool) → ltb (length octets) 8 ≡ b → Ending (ends_here Delimited element octets) Delimited element octets
-delimited_by element octets true short = rw short (inr (inl (missing_end element octets short, short)))
-delimited_by element octets false long =
-    by_eight (λ octets. Ending (ends_here Delimited element octets) Delimited element octets) (long_ending element) octets (ltb-false (length octets) 8 long)
-
 ending : (bound : Bound) (element : ℕ) (octets : List ℕ) → Ending (ends_here bound element octets) bound element octets
 unfolding end_at
 ending Filled element octets = filled_by element octets (eqb (length octets) 0) refl
-ending Delimited element octets = delimited_by element octets (ltb (length octets) 8) refl
+ending Delimited element octets =
+    by_eight (λ octets. Ending (ends_here Delimited element octets) Delimited element octets)
+    (λ octets short. rw short (inr (inl (rw (no_tag octets short) refl, short)))) (long_ending element) octets
 
 pub no_end_here : (bound : Bound) (element : ℕ) (octets : List ℕ) → ends_here bound element octets ≡ false → NoEnd bound element octets
 no_end_here bound element octets other = subst (λ (b : Bool). Ending b bound element octets) other (ending bound element octets)
