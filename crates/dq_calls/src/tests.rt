@@ -1,10 +1,16 @@
+mod assemblers;
 mod associations;
 mod configurations;
 mod data_sets;
 mod dictionary;
 mod lists;
+mod matching;
 mod messages;
+mod procedure_steps;
+mod searches;
+mod servers;
 mod stores;
 mod streams;
 mod tables;
 mod values;
+mod worklists;

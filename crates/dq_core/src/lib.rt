@@ -10,8 +10,6 @@ mod responses;
 mod server;
 mod service;
 mod slot;
-#[cfg(test)]
-mod tests;
 
 pub use event::{Event, Reply};
 pub use fault::Fault;

@@ -16,6 +16,3 @@ pub use assembler::Assembler;
 pub use command::{Command, Message};
 pub use fault::DimseFault;
 pub use sending::write_message;
-
-#[cfg(test)]
-mod tests;

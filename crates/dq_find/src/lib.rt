@@ -11,6 +11,3 @@ mod query;
 pub use finding::find;
 pub use level::Level;
 pub use query::Query;
-
-#[cfg(test)]
-mod tests;

@@ -19,6 +19,3 @@ pub use matching::{fits, meets};
 pub use responses::{Found, shown};
 pub use supported::{KeyList, strike};
 pub use wildcards::wild;
-
-#[cfg(test)]
-mod tests;

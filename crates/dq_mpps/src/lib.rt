@@ -9,6 +9,3 @@ mod steps;
 
 pub use changing::set;
 pub use creating::create;
-
-#[cfg(test)]
-mod tests;

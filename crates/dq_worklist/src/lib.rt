@@ -12,6 +12,3 @@ mod scheduling;
 pub use answering::query;
 pub use refusal::Refusal;
 pub use scheduling::{schedule, withdraw};
-
-#[cfg(test)]
-mod tests;

@@ -67,7 +67,7 @@ fn a_release_is_answered(rt: HostRuntime) -> Result<(), Fail> {
 
 fn echoed(alloc: Global) -> Result<Vec<Pdu>, AllocError> {
     let mut values = Listed::empty(alloc);
-    values.push(command(alloc, ECHO_REQUEST)?)?;
+    values.push(command(alloc, &ECHO_REQUEST)?)?;
     let mut pdus = Vec::new(alloc);
     pdus.push(Pdu::PData(values))?;
     Ok(pdus)

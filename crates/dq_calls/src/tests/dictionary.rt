@@ -2,7 +2,7 @@ use dq_vr::{LengthForm, Tag, Vr, length_form, lookup, tags};
 use std::test::Fail;
 
 // The selection of the data dictionary (PS3.6, chapter 6), a group a row.
-const SELECTION: [(u16, &str); 9] = [
+static SELECTION: [(u16, &str); 9] = [
     (
         0x0008,
         "0005 CS, 0008 CS, 0012 DA, 0013 TM, 0014 UI, 0016 UI, 0018 UI, 0020 DA, 0021 DA, 0022 DA, 0023 DA, 002A DT, 0030 TM, 0031 TM, 0032 TM, 0033 TM, 0050 SH, 0052 CS, 0054 AE, 0056 CS, 0060 CS, 0061 CS, 0062 UI, 0064 CS, 0070 LO, 0080 LO, 0081 ST, 0090 PN, 0100 SH, 0102 SH, 0103 SH, 0104 LO, 0201 SH, 1010 SH, 1030 LO, 1032 SQ, 103E LO, 1040 LO, 1048 PN, 1050 PN, 1060 PN, 1070 PN, 1080 LO, 1090 LO, 1110 SQ, 1111 SQ, 1115 SQ, 1120 SQ, 1140 SQ, 1150 UI, 1155 UI, 1199 SQ, 2111 ST, 2112 SQ",
@@ -33,7 +33,7 @@ const SELECTION: [(u16, &str); 9] = [
 ];
 
 // The tags of the keywords (PS3.6, chapter 6), each as the standard prints it: GGGGEEEE.
-const KEYWORDS: [(Tag, u32); 160] = [
+static KEYWORDS: [(Tag, u32); 160] = [
     (tags::SPECIFIC_CHARACTER_SET, 0x0008_0005),
     (tags::IMAGE_TYPE, 0x0008_0008),
     (tags::INSTANCE_CREATION_DATE, 0x0008_0012),
@@ -213,21 +213,21 @@ const KEYWORDS: [(Tag, u32); 160] = [
 
 #[test]
 fn keywords_have_their_tags(rt: HostRuntime) {
-    for (tag, number) in KEYWORDS {
+    for (tag, number) in &KEYWORDS {
         let found = (u32::from(tag.group) << 16) | u32::from(tag.element);
-        assert_eq!(rt; found, number, "at {tag:?}");
-        assert!(rt; lookup(tag).is_some(), "at {tag:?}");
+        assert_eq!(rt; found, *number, "at {tag:?}");
+        assert!(rt; lookup(*tag).is_some(), "at {tag:?}");
     }
 }
 
 #[test]
 fn the_dictionary_is_the_selection(rt: HostRuntime) -> Result<(), Fail> {
     let mut listed = 0usize;
-    for (group, row) in SELECTION {
+    for (group, row) in &SELECTION {
         for item in row.split(", ") {
             let (element, letters) = item.split_once(" ").ok_or("no letters")?;
             let tag = Tag {
-                group,
+                group: *group,
                 element: u16::from_str_radix(element, 16)?,
             };
             let vr = lookup(tag).ok_or("an unknown tag")?;
@@ -238,9 +238,14 @@ fn the_dictionary_is_the_selection(rt: HostRuntime) -> Result<(), Fail> {
     }
     assert_eq!(rt; listed, 160);
     let mut known = 0usize;
-    for (group, _) in SELECTION {
+    for (group, _) in &SELECTION {
         for element in 0..=u16::MAX {
-            if lookup(Tag { group, element }).is_some() {
+            if lookup(Tag {
+                group: *group,
+                element,
+            })
+            .is_some()
+            {
                 known = known.saturating_add(1);
             }
         }

@@ -8,7 +8,7 @@ use std::test::*;
 const VERIFICATION: &[u8] = b"1.2.840.10008.1.1";
 
 /// A C-ECHO request of Message ID 1, as a command set.
-pub(super) const ECHO_REQUEST: &[u8] = b"\0\0\0\0\x04\0\0\0\x38\0\0\0\
+pub(super) const ECHO_REQUEST: [u8; 68] = *b"\0\0\0\0\x04\0\0\0\x38\0\0\0\
 \0\0\x02\0\x12\0\0\01.2.840.10008.1.1\0\0\0\0\x01\x02\0\0\0\x30\0\
 \0\0\x10\x01\x02\0\0\0\x01\0\0\0\0\x08\x02\0\0\0\x01\x01";
 
@@ -27,6 +27,29 @@ pub(super) fn command(alloc: Global, octets: &[u8]) -> Result<Pdv, AllocError> {
     })
 }
 
+/// A request with a data set of these octets.
+pub(super) fn request(
+    alloc: Global,
+    code: u16,
+    sop_class: &[u8],
+    sop_instance: &[u8],
+    octets: &[u8],
+) -> Result<Message, AllocError> {
+    Ok(Message {
+        context: 1,
+        command: Command {
+            code,
+            id: 1,
+            sop_class: Listed::copy_of(alloc, sop_class)?,
+            sop_instance: Listed::copy_of(alloc, sop_instance)?,
+            with_data: true,
+            status: 0,
+        },
+        octets: Listed::copy_of(alloc, octets)?,
+        over: false,
+    })
+}
+
 /// What an assembler of context 1 answers to a command set in one fragment.
 fn taken(alloc: Global, octets: &[u8]) -> Result<Option<Message>, DimseFault> {
     let ids = Listed::copy_of(alloc, &[1])?;
@@ -36,7 +59,7 @@ fn taken(alloc: Global, octets: &[u8]) -> Result<Option<Message>, DimseFault> {
 
 #[test]
 fn a_request_is_read(rt: HostRuntime) -> Result<(), Fail> {
-    let message = taken(rt.alloc(), ECHO_REQUEST)?.ok_or("no message")?;
+    let message = taken(rt.alloc(), &ECHO_REQUEST)?.ok_or("no message")?;
     assert_eq!(rt; message.command.id, 1);
     assert!(rt; message.command.sop_class.as_slice() == VERIFICATION);
     Ok(())

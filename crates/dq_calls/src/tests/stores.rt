@@ -1,14 +1,14 @@
 //! C-STORE over rows in memory.
+use super::messages::request;
 use dq_config::{Config, Institution};
 use dq_dataset::Syntax;
-use dq_dimse::{Command, Message, command_field, status};
-use dq_list::Listed;
+use dq_dimse::{command_field, status};
 use dq_store::store;
 use dq_tables::{Fused, Kind, PlainTables, TableFault, Tables};
-use std::alloc::{AllocError, Global};
+use std::alloc::Global;
 use std::test::*;
 
-const CONFIG: &str = "[[institution]]
+pub(super) const CONFIG: &str = "[[institution]]
 name = \"NORTH\"
 routes = [{ called = \"ARCHIVE\", calling = \"CT1\" }]
 studies = 1
@@ -35,22 +35,7 @@ const DATA_SET: [u8; 100] = *b"\x08\x00\x16\x00UI\x1a\x001.2.840.10008.5.1.4.1.1
 \x20\x00\x0d\x00UI\x06\x001.2.3\x00\
 \x20\x00\x0e\x00UI\x06\x001.2.5\x00";
 
-/// A request to store an instance with these octets.
-fn request(alloc: Global, image: &[u8], octets: &[u8]) -> Result<Message, AllocError> {
-    Ok(Message {
-        context: 1,
-        command: Command {
-            code: command_field::C_STORE,
-            id: 1,
-            sop_class: Listed::copy_of(alloc, b"1.2.840.10008.5.1.4.1.1.2")?,
-            sop_instance: Listed::copy_of(alloc, image)?,
-            with_data: true,
-            status: 0,
-        },
-        octets: Listed::copy_of(alloc, octets)?,
-        over: false,
-    })
-}
+const CT: &[u8] = b"1.2.840.10008.5.1.4.1.1.2";
 
 /// The status of an instance that is sent: the last digits of its own UID, its study's and its
 /// series', and the first letter of the patient's name.
@@ -66,7 +51,7 @@ fn sent<T: Tables>(
     octets[84] = study;
     octets[98] = series;
     let uid = [b'1', b'.', b'2', b'.', image];
-    let message = request(alloc, &uid, &octets)?;
+    let message = request(alloc, command_field::C_STORE, CT, &uid, &octets)?;
     store(alloc, tables, institution, &message, Syntax::Explicit)
 }
 

@@ -83,7 +83,7 @@ fn begun(alloc: Global) -> Result<Change, Fail>
 }
 
 /// Tables with a study, a series and an image of NORTH.
-fn with_image(alloc: Global) -> Result<PlainTables, Fail> {
+pub(super) fn with_image(alloc: Global) -> Result<PlainTables, Fail> {
     let mut tables = PlainTables::new(alloc);
     tables.apply(alloc, &stored(alloc)?)?;
     Ok(tables)

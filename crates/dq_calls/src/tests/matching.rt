@@ -1,5 +1,5 @@
-use super::*;
 use dq_dataset::{DataSet, Syntax, read};
+use dq_match::{KeyList, fits, is_query, meets, shown, strike, wild};
 use dq_vr::{Tag, tags};
 use std::alloc::Global;
 use std::test::Fail;

@@ -1,12 +1,14 @@
 //! A step over rows in memory, from its creation to its end.
-use super::*;
+use super::messages::request;
 use dq_config::{Config, Institution};
 use dq_dataset::Syntax;
-use dq_dimse::{Command, Message, command_field, status};
-use dq_list::Listed;
+use dq_dimse::{command_field, status};
+use dq_mpps::{create, set};
 use dq_tables::{PlainTables, TableFault};
 use std::alloc::Global;
 use std::test::*;
+
+const PROCEDURE_STEP: &[u8] = b"1.2.840.10008.3.1.2.3.3";
 
 /// The data set of an N-CREATE, in Explicit.
 const NEW: &[u8] = b"\x08\x00\x60\x00CS\x02\x00MR\
@@ -28,19 +30,7 @@ fn answered(
     code: u16,
     octets: &[u8],
 ) -> Result<u16, TableFault> {
-    let message = Message {
-        context: 1,
-        command: Command {
-            code,
-            id: 1,
-            sop_class: Listed::copy_of(alloc, b"1.2.840.10008.3.1.2.3.3")?,
-            sop_instance: Listed::copy_of(alloc, b"1.2.9")?,
-            with_data: true,
-            status: 0,
-        },
-        octets: Listed::copy_of(alloc, octets)?,
-        over: false,
-    };
+    let message = request(alloc, code, PROCEDURE_STEP, b"1.2.9", octets)?;
     if code == command_field::N_CREATE {
         create(alloc, tables, institution, &message, Syntax::Explicit)
     } else {

@@ -1,11 +1,11 @@
 //! Orders and queries over rows in memory.
-use super::*;
+use super::messages::request;
 use dq_config::{Config, Institution};
 use dq_dataset::{DataSet, Syntax, Value};
-use dq_dimse::{Command, Message, command_field};
-use dq_list::Listed;
+use dq_dimse::command_field;
 use dq_tables::{PlainTables, TableFault, Tables};
-use std::alloc::{AllocError, Global};
+use dq_worklist::{Refusal, query, schedule, withdraw};
+use std::alloc::Global;
 use std::test::*;
 
 const CONFIG: &str = "[[institution]]
@@ -68,22 +68,7 @@ fn orders_in_turn(rt: HostRuntime) -> Result<(), Fail> {
     Ok(())
 }
 
-/// A query with these octets.
-fn request(alloc: Global, octets: &[u8]) -> Result<Message, AllocError> {
-    Ok(Message {
-        context: 1,
-        command: Command {
-            code: command_field::C_FIND,
-            id: 1,
-            sop_class: Listed::copy_of(alloc, b"1.2.840.10008.5.1.4.31")?,
-            sop_instance: Listed::empty(alloc),
-            with_data: true,
-            status: 0,
-        },
-        octets: Listed::copy_of(alloc, octets)?,
-        over: false,
-    })
-}
+const WORKLIST: &[u8] = b"1.2.840.10008.5.1.4.31";
 
 /// Whether a data set holds the patient's name alone.
 fn is_name_alone(data_set: &DataSet) -> bool {
@@ -103,16 +88,10 @@ fn what_is_scheduled_is_listed(rt: HostRuntime) -> Result<(), Fail> {
     let north = config.institution(b"NORTH").ok_or("NORTH")?;
     let mut tables = PlainTables::new(alloc);
     assert_eq!(rt; ordered(alloc, &mut tables, north, *b"P21")?, None);
-    let message = request(alloc, b"\x10\x00\x10\x00PN\x00\x00")?;
+    let names = b"\x10\x00\x10\x00PN\x00\x00";
+    let message = request(alloc, command_field::C_FIND, WORKLIST, b"", names)?;
     let found = query(alloc, &mut tables, north, &message, Syntax::Explicit)?;
     assert_eq!(rt; found.status, 0);
-    assert_eq!(rt; found.answers.len(), 1);
-    assert!(rt;
-        found
-            .answers
-            .as_slice()
-            .iter()
-            .all(|answer| is_name_alone(answer))
-    );
+    assert!(rt; matches!(found.answers.as_slice(), [answer] if is_name_alone(answer)));
     Ok(())
 }

@@ -1,0 +1,59 @@
+//! Data sets of messages, as long as their limits.
+use super::messages::{ECHO_REQUEST, command};
+use dq_dimse::{Assembler, Message, command_field};
+use dq_list::Listed;
+use dq_pdu::Pdv;
+use std::alloc::Global;
+use std::test::*;
+
+/// A data fragment of context 1, of zero octets.
+fn data(alloc: Global, length: usize, last: bool) -> Result<Pdv, Fail> {
+    Ok(Pdv {
+        context: 1,
+        command: false,
+        last,
+        octets: Listed::from_inner(vec![in alloc; 0; length]?),
+    })
+}
+
+/// An assembler that was given a request of a Command Field, with a data set to follow.
+fn begun(alloc: Global, code: u16) -> Result<Assembler, Fail> {
+    let mut request = ECHO_REQUEST;
+    request[46..48].copy_from_slice(&code.to_le_bytes());
+    request[66] = 0;
+    let mut assembler = Assembler::new(alloc, Listed::copy_of(alloc, &[1, 3])?);
+    if assembler.take(&command(alloc, &request)?)?.is_some() {
+        return Err("the data set is still to come".into());
+    }
+    Ok(assembler)
+}
+
+/// A message whose data set has so many octets, in fragments.
+fn with_data_of(alloc: Global, code: u16, length: usize) -> Result<Message, Fail> {
+    let mut assembler = begun(alloc, code)?;
+    let fragment = data(alloc, 0x1_0000, false)?;
+    for _ in 0..length / 0x1_0000 {
+        if assembler.take(&fragment)?.is_some() {
+            return Err("the data set is still to come".into());
+        }
+    }
+    let last = data(alloc, length % 0x1_0000, true)?;
+    Ok(assembler.take(&last)?.ok_or("the message is whole")?)
+}
+
+/// A C-FIND's data set may have 1,048,576 octets, and a C-STORE's 67,108,864.
+#[test]
+fn data_sets_at_their_limits(rt: HostRuntime) -> Result<(), Fail> {
+    let alloc = rt.alloc();
+    for (code, limit) in [
+        (command_field::C_FIND, 0x10_0000),
+        (command_field::C_STORE, 0x400_0000),
+    ] {
+        assert!(rt; !with_data_of(alloc, code, limit - 2)?.over);
+        let at = with_data_of(alloc, code, limit)?;
+        assert!(rt; !at.over && at.octets.len() == limit);
+        let above = with_data_of(alloc, code, limit + 2)?;
+        assert!(rt; above.over && above.octets.is_empty());
+    }
+    Ok(())
+}

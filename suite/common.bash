@@ -1,0 +1,67 @@
+# What the suites share, to be sourced: the folders `top` and `work` (the latter is removed at the end), an empty file
+# $work/nothing, comparisons that are counted, and runs in which an allocation is refused.
+set -u
+top=$(cd "$(dirname "${BASH_SOURCE[0]}")/.." && pwd)
+work=$(mktemp -d)
+trap 'rm -rf "$work"' EXIT
+passed=0
+failed=0
+most_allocations=100000
+: > "$work/nothing"
+
+# needs PROGRAM: ends the suite where the program is not built
+needs() {
+    [ -x "$1" ] || { echo "$0: there is no program at $1: run ./test, or tools/build with its name" >&2; exit 1; }
+}
+
+fail() {
+    failed=$((failed + 1))
+    echo "FAILED $1"
+}
+
+# check NAME STATUS EXPECTED ERRORS GOT: compares the files $work/out and $work/err, and the status; ERRORS may be
+# a file, 'none' (nothing is told) or 'some' (usage is told)
+check() {
+    local name=$1 status=$2 expected=$3 errors=$4 got=$5 why=
+    [ "$got" = "$status" ] || why+=" exit $got in place of $status;"
+    cmp -s "$work/out" "$expected" || why+=" other output;"
+    case $errors in
+    none) [ -s "$work/err" ] && why+=" something on standard error;" ;;
+    some) [ -s "$work/err" ] || why+=" nothing on standard error;" ;;
+    *) cmp -s "$work/err" "$errors" || why+=" other standard error;" ;;
+    esac
+    if [ -z "$why" ]; then
+        passed=$((passed + 1))
+    else
+        fail "$name:${why%;}"
+        diff "$expected" "$work/out" | cut -c1-160 | head -n 4
+        head -c 400 "$work/err"
+    fi
+}
+
+# ready_to_refuse: makes the library that refuses allocations
+ready_to_refuse() {
+    "${CC:-cc}" -O1 -shared -fPIC -o "$work/refuse_alloc.so" "$top/tools/refuse_alloc.c" -ldl && return
+    fail 'no C compiler made tools/refuse_alloc.c'
+    finish
+    exit 1
+}
+
+# refusing N COMMAND..: runs a command whose Nth allocation is refused; $work/refused is there if it came to that
+refusing() {
+    local number=$1
+    shift
+    rm -f "$work/refused"
+    REFUSE_ALLOC=$number REFUSE_ALLOC_MARK=$work/refused LD_PRELOAD=$work/refuse_alloc.so "$@"
+}
+
+# configuration_of SCENE: the configuration that its first line names
+configuration_of() {
+    echo "$top/suite/configurations/$(sed -n 's/^# config: //p' "$1").toml"
+}
+
+# finish: the last line
+finish() {
+    echo "$passed passed, $failed failed"
+    [ "$failed" -eq 0 ]
+}
