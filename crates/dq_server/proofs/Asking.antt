@@ -32,7 +32,8 @@ among-none k [] among none = among
 among-none k (x ∷ xs) among none = cc
 
 -- an error that is no want of memory comes only where the words are not understood
-pub asked-refused : (words : List (List ℕ)) (kinds : Kinds) (e : Error) → All IsUtf8 words → HasKind kinds e → kind_of e ≢ OutOfMemory → kinds ≡ fault_of command (line_of words)
+pub asked-refused : (words : List (List ℕ)) (kinds : Kinds) (e : Error) → All IsUtf8 words → HasKind kinds e → kind_of e ≢ OutOfMemory
+    → kinds ≡ fault_of command (line_of words)
     → asked words ≡ None
 asked-refused words kinds e texts (inl memory) other same = absurd (other memory)
 asked-refused words kinds e texts (inr among) other same = go (asked words) refl

@@ -213,10 +213,12 @@ chars_first x xs text [] none =
     absurd (longer x xs (ap encode_utf8_all (sym all) ∙ back))
 chars_first x xs text (c ∷ cs) some = (c, ap (λ l. slice_get l 0) some)
 
-bundle-fails : (h : Held) (x : ℕ) (xs : Text) (c : ℕ) → h.skip ≡ 0 → slice_get (chars (x ∷ xs)) 0 ≡ Some c → (b : Bool) → (104 == c) ≡ b → Fails (bundle_fault sub.rules false (x ∷ xs) h)
+bundle-fails : (h : Held) (x : ℕ) (xs : Text) (c : ℕ) → h.skip ≡ 0 → slice_get (chars (x ∷ xs)) 0 ≡ Some c → (b : Bool) → (104 == c) ≡ b
+    → Fails (bundle_fault sub.rules false (x ∷ xs) h)
 unfolding flags_fault
 bundle-fails h x xs c skip char true is =
-    rw (skip, char, is) (Fails-first _ _ (Fails-second (settle_fault sub.rules false (record h { skip = 0 })) (kind.DisplayHelp ∷ []) (Fails-kind kind.DisplayHelp [])))
+    rw (skip, char, is)
+    (Fails-first _ _ (Fails-second (settle_fault sub.rules false (record h { skip = 0 })) (kind.DisplayHelp ∷ []) (Fails-kind kind.DisplayHelp [])))
 bundle-fails h x xs c skip char false is = rw (skip, char, is) (Fails-kind kind.UnknownArgument [])
 
 turn-short : (h : Held) (waiting : Waiting) (word : Text) → IsShort word → IsUtf8 word → h.skip ≡ 0 → Fails (turn_fault sub [] (before h waiting) word)
@@ -279,7 +281,8 @@ module _ (h : Held) (fails : Fails (settle_fault sub.rules false h)) (skip : h.s
   ended words = Agrees-turn (before h waiting) (after h waiting) (codes "--") words (turn-end h waiting) (walked-end h waiting) None
       (after-fails h waiting (Fails-first _ _ fails) words)
 
-  long-fails : (word : Text) (l : IsLong word) (a b c : Bool) → bytes_eq (codes "config") (name_of l.rest) ≡ a → bytes_eq (codes "help") (name_of l.rest) ≡ b → has_value l.rest ≡ c
+  long-fails : (word : Text) (l : IsLong word) (a b c : Bool) → bytes_eq (codes "config") (name_of l.rest) ≡ a → bytes_eq (codes "help") (name_of l.rest) ≡ b
+      → has_value l.rest ≡ c
       → Fails (turn_fault sub [] (before h waiting) word)
   long-fails word l true b true config help value =
       rw (turn-joined h waiting word l config value) (Fails-first _ [] (Fails-first _ _ fails))
@@ -334,7 +337,8 @@ unfolding clap_on_literals
 turn-value rows word p = rw (p.apart, p.long, p.short) refl
 
 walked-value : (rows : List Row) (word : Text) → IsPlain word
-    → walked sub.rules [] (before (named rows) (option (codes "config"))) word ≡ before (record { rows = rows; pending = Some (codes "config", word ∷ []); skip = 0 }) idle
+    → walked sub.rules [] (before (named rows) (option (codes "config"))) word
+    ≡ before (record { rows = rows; pending = Some (codes "config", word ∷ []); skip = 0 }) idle
 unfolding clap_on_literals
 walked-value rows word p = rw (p.apart, p.long, p.short) refl
 
@@ -353,7 +357,8 @@ again-fails file (word ∷ words) texts =
       | inl end ↦ rw end (ended h fails refl waits words)
       | inr (inl long) ↦ Fails-turn (before h waits) word words (long-fails h fails refl waits word long _ _ _ refl refl refl)
       | inr (inr (inl short)) ↦ Fails-turn (before h waits) word words (turn-short h waits word short (texts 0 word (omega arith)) refl)
-      | inr (inr (inr plain)) ↦ Agrees-turn (before h waits) (before (twice file word) idle) word words (turn-value (given_row file ∷ []) word plain) (walked-value (given_row file ∷ []) word plain) None
+      | inr (inr (inr plain)) ↦ Agrees-turn (before h waits) (before (twice file word) idle) word words (turn-value (given_row file ∷ []) word plain)
+          (walked-value (given_row file ∷ []) word plain) None
           (doomed (twice file word) (twice-fails file word) refl words (All-tail word words texts))
     ]
 
@@ -382,7 +387,8 @@ given-after true file = (refl, refl)
 given-after false file = (refl, refl)
 
 joined-again : (b : Bool) (file other : Text)
-    → Fails (or_else (or_else (settle_fault sub.rules false (given b file)) (use_fault false config_built (other ∷ []) (settled sub.rules (given b file)).rows)) [])
+    → Fails (or_else (or_else (settle_fault sub.rules false (given b file)) (use_fault false config_built (other ∷ []) (settled sub.rules (given b file)).rows))
+    [])
 joined-again true file other = Fails-kind kind.ArgumentConflict []
 joined-again false file other = Fails-kind kind.ArgumentConflict []
 
@@ -398,7 +404,8 @@ module _ (b : Bool) (file : Text) where
       let goes : walked sub.rules [] (before (given b file) idle) word ≡ before (named (given_row file ∷ [])) (option (codes "config")) =
       walked-config (given b file) idle word l config value
       ∙ ap (λ (h : Held). before (record h { pending = Some (codes "config", []) }) (option (codes "config"))) (given-settled b file) in
-      Agrees-turn (before (given b file) idle) (before (named (given_row file ∷ [])) (option (codes "config"))) word words quiet goes None (again-fails file words texts)
+      Agrees-turn (before (given b file) idle) (before (named (given_row file ∷ [])) (option (codes "config"))) word words quiet goes None
+      (again-fails file words texts)
   given-long word l words texts false true z config help value =
       Fails-turn (before (given b file) idle) word words (turn-help (given b file) idle word l config help z value)
   given-long word l words texts false false z config help value =
@@ -415,7 +422,8 @@ module _ (b : Bool) (file : Text) where
   given-agrees : (words : List Text) → All IsUtf8 words → Agrees (before (given b file) idle) words (only_where (end_soon words) (Some file))
   given-agrees [] texts = given-ends b file
   given-agrees (word ∷ words) texts = elim (look word) [
-    | inl end ↦ rw end (Agrees-turn (before (given b file) idle) (after (given b file) idle) (codes "--") words (turn-end (given b file) idle) (walked-end (given b file) idle)
+    | inl end ↦ rw end (Agrees-turn (before (given b file) idle) (after (given b file) idle) (codes "--") words (turn-end (given b file) idle)
+        (walked-end (given b file) idle)
         (only_where (end_here words) (Some file)) (given-end words))
     | inr (inl long) ↦ not_end word words long.apart (given-long word long words (All-tail word words texts) _ _ _ refl refl refl)
     | inr (inr (inl short)) ↦ not_end word words short.apart
@@ -448,7 +456,8 @@ apart-agrees (word ∷ words) texts =
       | inr (inr (inl short)) ↦ refused_value word words short.refused
           (Fails-turn w word words (turn-short (named []) (option (codes "config")) word short (texts 0 word (omega arith)) refl))
       | inr (inr (inr plain)) ↦ taken_value word words plain.value
-          (Agrees-turn w (before (given true word) idle) word words (turn-value [] word plain) (walked-value [] word plain) (only_where (end_soon words) (Some word))
+          (Agrees-turn w (before (given true word) idle) word words (turn-value [] word plain) (walked-value [] word plain)
+          (only_where (end_soon words) (Some word))
           (given-agrees true word words (All-tail word words texts)))
     ]
 
@@ -477,7 +486,8 @@ start-after [] = (refl, refl)
 start-after (word ∷ words) = Fails-turn (after nothing_held idle) word words (rw (turn-after nothing_held idle word) (Fails-kind kind.UnknownArgument []))
 
 -- a word that is no option and does not end the words
-other_word : (word : Text) (words : List Text) → bytes_eq (codes "--config") (name_of word) ≡ false → bytes_eq word (codes "--") ≡ false → Fails (rest_fault start (word ∷ words))
+other_word : (word : Text) (words : List Text) → bytes_eq (codes "--config") (name_of word) ≡ false → bytes_eq word (codes "--") ≡ false
+    → Fails (rest_fault start (word ∷ words))
     → Agrees start (word ∷ words) (options_after (word ∷ words))
 other_word word words unnamed apart fails = rw (unnamed, apart) fails
 
@@ -489,7 +499,8 @@ joined_word : (word : Text) (words : List Text) → has_value word ≡ true → 
     → Agrees start (word ∷ words) (file_option word words)
 joined_word word words has agrees = rw has agrees
 
-apart_word : (word : Text) (words : List Text) → has_value word ≡ false → Agrees start (word ∷ words) (file_apart words) → Agrees start (word ∷ words) (file_option word words)
+apart_word : (word : Text) (words : List Text) → has_value word ≡ false → Agrees start (word ∷ words) (file_apart words)
+    → Agrees start (word ∷ words) (file_option word words)
 apart_word word words has agrees = rw has agrees
 
 long-agrees : (word : Text) (l : IsLong word) (words : List Text) → All IsUtf8 words → (x y z : Bool)
@@ -514,13 +525,15 @@ long-agrees word l words texts false true z config help value =
     other_word word words name l.apart (Fails-turn start word words (turn-help nothing_held idle word l config help z value))
 long-agrees word l words texts false false z config help value =
     let name : bytes_eq (codes "--config") (name_of word) ≡ false = ap (λ w. bytes_eq (codes "--config") (name_of w)) l.is ∙ config_name l.rest ∙ config in
-    other_word word words name l.apart (Fails-turn start word words (rw (turn-unknown nothing_held idle word l config help) (Fails-kind kind.UnknownArgument [])))
+    other_word word words name l.apart
+    (Fails-turn start word words (rw (turn-unknown nothing_held idle word l config help) (Fails-kind kind.UnknownArgument [])))
 
 start-agrees : (words : List Text) → All IsUtf8 words → Agrees start words (options_after words)
 unfolding walk_fault defaults_fault
 start-agrees [] texts = (refl, refl)
 start-agrees (word ∷ words) texts = elim (look word) [
-  | inl end ↦ rw end (Agrees-turn start (after nothing_held idle) (codes "--") words (turn-end nothing_held idle) (walked-end nothing_held idle) (only_where (end_here words) None) (start-after words))
+  | inl end ↦ rw end (Agrees-turn start (after nothing_held idle) (codes "--") words (turn-end nothing_held idle) (walked-end nothing_held idle)
+      (only_where (end_here words) None) (start-after words))
   | inr (inl long) ↦ long-agrees word long words (All-tail word words texts) _ _ _ refl refl refl
   | inr (inr (inl short)) ↦ other_word word words (not_config word short.long) short.apart
       (Fails-turn start word words (turn-short nothing_held idle word short (texts 0 word (omega arith)) refl))
@@ -539,7 +552,8 @@ names = names_of (built command)
 -- the faults of a command line, from where its walk ends and the faults on its way
 abbrev line_fault : Walk → Kinds → Kinds
 line_fault w kinds = or_else kinds (or_else (entered_fault (built command) w.stopped) (or_else (settle_fault top.rules false w.held)
-    (or_else (defaults_fault (settled top.rules w.held).rows top.rules) (check_fault top (finished top.rules w.held) (is_some (entered (built command) w.stopped))))))
+    (or_else (defaults_fault (settled top.rules w.held).rows top.rules) (check_fault top (finished top.rules w.held)
+    (is_some (entered (built command) w.stopped))))))
 
 line_fault-is : (words : List Text) → fault_of command (line_of words) ≡ line_fault (walk top.rules names nothing_held words) (walk_fault top names start words)
 line_fault-is words = refl
@@ -602,7 +616,8 @@ module _ (words : List Text) where
   unfolding clap_on_literals
   walk_fault-report = stopped_fault top names start (codes "report", []) words
 
-  fault-report : fault_of command (line_of (codes "report" ∷ words)) ≡ or_else (or_else (walk_fault report_sub [] start words) (end_fault (end_of start words))) []
+  fault-report : fault_of command (line_of (codes "report" ∷ words)) ≡ or_else (or_else (walk_fault report_sub [] start words) (end_fault (end_of start words)))
+      []
   unfolding clap_on_literals
   fault-report = ap₂ line_fault walk-report walk_fault-report
 

@@ -9,7 +9,8 @@ use Rattle.dq_server.specs.declared.words.Task.TheVariants.{Replay, Report}
 use Rattle.dq_server.specs.Program.{no_memory, status_of, IsBadConfig, IsBadCapture, RefusesFile, RefusesCapture, CutsTask, text_of, IsBy, HasConfig, PrintsFirst}
 use Rattle.dq_server.specs.Surroundings.{AppendsPart}
 
-file_memory : (may_fail : List ℕ → Type 0) (held : List ℕ → Option (List ℕ)) (file : Option (List ℕ)) (number : ℕ) → RefusesFile may_fail held file (Fault number) → number ≡ no_memory
+file_memory : (may_fail : List ℕ → Type 0) (held : List ℕ → Option (List ℕ)) (file : Option (List ℕ)) (number : ℕ)
+    → RefusesFile may_fail held file (Fault number) → number ≡ no_memory
 file_memory may_fail held None number is = cc
 file_memory may_fail held (Some path) number is = is
 
@@ -17,19 +18,23 @@ file_output : (may_fail : List ℕ → Type 0) (held : List ℕ → Option (List
 file_output may_fail held None is = cc
 file_output may_fail held (Some path) is = is
 
-file_capture : (may_fail : List ℕ → Type 0) (held : List ℕ → Option (List ℕ)) (file : Option (List ℕ)) (number : ℕ) → RefusesFile may_fail held file (Capture number) → ⊥
+file_capture : (may_fail : List ℕ → Type 0) (held : List ℕ → Option (List ℕ)) (file : Option (List ℕ)) (number : ℕ)
+    → RefusesFile may_fail held file (Capture number) → ⊥
 file_capture may_fail held None number is = cc
 file_capture may_fail held (Some path) number is = is
 
-config_path : (may_fail : List ℕ → Type 0) (held : List ℕ → Option (List ℕ)) (file : Option (List ℕ)) (number : ℕ) → RefusesFile may_fail held file (Config number)
+config_path : (may_fail : List ℕ → Type 0) (held : List ℕ → Option (List ℕ)) (file : Option (List ℕ)) (number : ℕ)
+    → RefusesFile may_fail held file (Config number)
     → (path : List ℕ) × (file ≡ Some path) × IsBadConfig (may_fail path) (held path) number
 config_path may_fail held None number is = cc
 config_path may_fail held (Some path) number is = (path, refl, is)
 
-module _ (task : Task) (file_fails : List ℕ → Type 0) (held : List ℕ → Option (List ℕ)) (file : Option (List ℕ)) (input_fails : Type 0) (input : Option (List ℕ))
+module _ (task : Task) (file_fails : List ℕ → Type 0) (held : List ℕ → Option (List ℕ)) (file : Option (List ℕ)) (input_fails : Type 0)
+    (input : Option (List ℕ))
     (fails : Type 0) (before after : Option (List ℕ)) (Told : Stop → Type 0) where
   abbrev pub Stops : Stop → Type 0
-  Stops cause = (Keeps before after × RefusesFile file_fails held file cause) ⊎ (Keeps before after × HasConfig held file × RefusesCapture input_fails input cause)
+  Stops cause = (Keeps before after × RefusesFile file_fails held file cause)
+      ⊎ (Keeps before after × HasConfig held file × RefusesCapture input_fails input cause)
       ⊎ IsBy held file input (λ institutions events. CutsTask task fails before after institutions events cause)
 
   abbrev pub Faults : Type 0
@@ -42,10 +47,12 @@ memory Told number is told = rw (← is) told
 
 module _ (file_fails : List ℕ → Type 0) (held : List ℕ → Option (List ℕ)) (file : Option (List ℕ)) (input_fails : Type 0) (input : Option (List ℕ))
     (fails : Type 0) (before after : Option (List ℕ)) (Told : Stop → Type 0) where
-  cut_memory : (task : Task) (number : ℕ) → Told (Fault number) → IsBy held file input (λ institutions events. CutsTask task fails before after institutions events (Fault number))
+  cut_memory : (task : Task) (number : ℕ) → Told (Fault number) → IsBy held file input
+      (λ institutions events. CutsTask task fails before after institutions events (Fault number))
       → Faults task file_fails held file input_fails input fails before after Told
   cut_memory Replay number told (institutions, events, by, tells, (is, inl kept)) = inl (memory Told number is told, kept)
-  cut_memory Replay number told (institutions, events, by, tells, (is, inr first)) = inr (inl (refl, (institutions, events, by, tells, (memory Told number is told, first))))
+  cut_memory Replay number told (institutions, events, by, tells, (is, inr first)) =
+      inr (inl (refl, (institutions, events, by, tells, (memory Told number is told, first))))
   cut_memory Report number told (institutions, events, by, tells, (is, kept)) = inl (memory Told number is told, kept)
 
   cut_output : (task : Task) → Told Output → IsBy held file input (λ institutions events. CutsTask task fails before after institutions events Output)
@@ -65,7 +72,8 @@ module _ (file_fails : List ℕ → Type 0) (held : List ℕ → Option (List �
   faults task Output status told (inr (inl refused)) = absurd refused.2
   faults task Output status told (inr (inr cut)) = cut_output task told cut
 
-  uncut : (task : Task) (cause : Stop) → (status_of cause ≡ 2) ⊎ (status_of cause ≡ 3) → IsBy held file input (λ institutions events. CutsTask task fails before after institutions events cause) → ⊥
+  uncut : (task : Task) (cause : Stop) → (status_of cause ≡ 2) ⊎ (status_of cause ≡ 3)
+      → IsBy held file input (λ institutions events. CutsTask task fails before after institutions events cause) → ⊥
   uncut task Usage (inl status) cut = omega (arith, status)
   uncut task Usage (inr status) cut = omega (arith, status)
   uncut Replay (Config number) status cut = cut.4
@@ -77,7 +85,8 @@ module _ (file_fails : List ℕ → Type 0) (held : List ℕ → Option (List �
   uncut task Output (inl status) cut = omega (arith, status)
   uncut task Output (inr status) cut = omega (arith, status)
 
-  pub bad_configs : (task : Task) (cause : Stop) → status_of cause ≡ 2 → Told cause → Stops task file_fails held file input_fails input fails before after Told cause
+  pub bad_configs : (task : Task) (cause : Stop) → status_of cause ≡ 2 → Told cause
+      → Stops task file_fails held file input_fails input fails before after Told cause
       → (path : List ℕ) × (number : ℕ) × (file ≡ Some path) × IsBadConfig (file_fails path) (held path) number × Told (Config number) × Keeps before after
   bad_configs task Usage status told stops = absurd (omega (arith, status))
   bad_configs task (Config number) status told (inl refused) =
@@ -88,7 +97,8 @@ module _ (file_fails : List ℕ → Type 0) (held : List ℕ → Option (List �
   bad_configs task (Fault number) status told stops = absurd (omega (arith, status))
   bad_configs task Output status told stops = absurd (omega (arith, status))
 
-  pub bad_captures : (task : Task) (cause : Stop) → status_of cause ≡ 3 → Told cause → Stops task file_fails held file input_fails input fails before after Told cause
+  pub bad_captures : (task : Task) (cause : Stop) → status_of cause ≡ 3 → Told cause
+      → Stops task file_fails held file input_fails input fails before after Told cause
       → (number : ℕ) × HasConfig held file × IsBadCapture input_fails input number × Told (Capture number) × Keeps before after
   bad_captures task Usage status told stops = absurd (omega (arith, status))
   bad_captures task (Config number) status told stops = absurd (omega (arith, status))

@@ -19,12 +19,15 @@ SpellsPiece-split text r split (End number) spells = absurd spells
 SpellsPiece-split text r split (Schedule inst octets) spells = absurd spells
 SpellsPiece-split text r split (Withdraw inst id) spells = absurd spells
 SpellsPiece-split text None split (Piece number octets) spells =
-    split_after 32 text spells.0 spells.1 None split (lit< tt) (spells.2 ∙ append_assoc spells.0 (codes " ") spells.1) (IsNumber-spaceless spells.0 number spells.3)
+    split_after 32 text spells.0 spells.1 None split (lit< tt) (spells.2 ∙ append_assoc spells.0 (codes " ") spells.1)
+    (IsNumber-spaceless spells.0 number spells.3)
 SpellsPiece-split text (Some x) split (Piece number octets) spells =
-    let parts = split_after 32 text spells.0 spells.1 (Some x) split (lit< tt) (spells.2 ∙ append_assoc spells.0 (codes " ") spells.1) (IsNumber-spaceless spells.0 number spells.3) in
+    let parts = split_after 32 text spells.0 spells.1 (Some x) split (lit< tt) (spells.2 ∙ append_assoc spells.0 (codes " ") spells.1)
+    (IsNumber-spaceless spells.0 number spells.3) in
     (number, octets, rw parts.0 spells.3, rw parts.1 spells.4)
 
-pub SpellsPiece-unsplit : (text : List ℕ) (r : Option (Bor (List ℕ) × Bor (List ℕ))) → IsSplitOnceResult 32 text r → r ≡ None → (event : Event) → SpellsPiece text event → ⊥
+pub SpellsPiece-unsplit : (text : List ℕ) (r : Option (Bor (List ℕ) × Bor (List ℕ))) → IsSplitOnceResult 32 text r → r ≡ None
+    → (event : Event) → SpellsPiece text event → ⊥
 SpellsPiece-unsplit text r split none event spells = rw none at (SpellsPiece-split text r split event spells)
 
 pub other_word : (m n : ℕ) (xs ys : List ℕ) → m ≢ n → m ∷ xs ≡ n ∷ ys → ⊥
@@ -67,26 +70,31 @@ is_name-spaceless name is i below = λ space.
     false≢true (sym none ∙ second_true (is_between 1 16 (length name)) (list_all is_name_octet name) is)
 
 -- the split at the first space parts the name from the octets
-pub SpellsOrder-split : (text : List ℕ) (r : Option (Bor (List ℕ) × Bor (List ℕ))) → IsSplitOnceResult 32 text r → (name octets : List ℕ) → SpellsOrder text name octets
+pub SpellsOrder-split : (text : List ℕ) (r : Option (Bor (List ℕ) × Bor (List ℕ))) → IsSplitOnceResult 32 text r
+    → (name octets : List ℕ) → SpellsOrder text name octets
     → MatchOption r ⊥ (λ x. (x.0.now ≡ name) × IsTrue (is_name name) × AreOctets x.1.now octets)
 SpellsOrder-split text None split name octets spells =
     split_after 32 text name spells.0 None split (lit< tt) (spells.1 ∙ append_assoc name (codes " ") spells.0) (is_name-spaceless name spells.2)
 SpellsOrder-split text (Some x) split name octets spells =
-    let parts = split_after 32 text name spells.0 (Some x) split (lit< tt) (spells.1 ∙ append_assoc name (codes " ") spells.0) (is_name-spaceless name spells.2) in
+    let parts = split_after 32 text name spells.0 (Some x) split (lit< tt) (spells.1 ∙ append_assoc name (codes " ") spells.0) (is_name-spaceless name spells.2)
+    in
     (parts.0, spells.2, rw parts.1 spells.3)
 
-pub SpellsOrder-unsplit : (text : List ℕ) (r : Option (Bor (List ℕ) × Bor (List ℕ))) → IsSplitOnceResult 32 text r → r ≡ None → (name octets : List ℕ) → SpellsOrder text name octets → ⊥
+pub SpellsOrder-unsplit : (text : List ℕ) (r : Option (Bor (List ℕ) × Bor (List ℕ))) → IsSplitOnceResult 32 text r → r ≡ None
+    → (name octets : List ℕ) → SpellsOrder text name octets → ⊥
 SpellsOrder-unsplit text r split none name octets spells = rw none at (SpellsOrder-split text r split name octets spells)
 
 -- a line that begins with the word of an order spells what stands after the word
-pub no_schedule : (line rest : List ℕ) → ((name octets : List ℕ) → SpellsOrder rest name octets → ⊥) → line ≡ codes "schedule " ++ rest → (event : Event) → Spells line event → ⊥
+pub no_schedule : (line rest : List ℕ) → ((name octets : List ℕ) → SpellsOrder rest name octets → ⊥) → line ≡ codes "schedule " ++ rest
+    → (event : Event) → Spells line event → ⊥
 no_schedule line rest none begins (Open number) spells = other_word 115 111 _ _ (omega arith) (sym begins ∙ spells.1)
 no_schedule line rest none begins (Piece number octets) spells = other_word 115 112 _ _ (omega arith) (sym begins ∙ spells.1)
 no_schedule line rest none begins (End number) spells = other_word 115 101 _ _ (omega arith) (sym begins ∙ spells.1)
 no_schedule line rest none begins (Schedule inst octets) spells = none inst octets (rw (ap (drop 9) (sym begins ∙ spells.1)) spells.2)
 no_schedule line rest none begins (Withdraw inst id) spells = other_word 115 119 _ _ (omega arith) (sym begins ∙ spells.1)
 
-pub no_withdrawal : (line rest : List ℕ) → ((name octets : List ℕ) → SpellsOrder rest name octets → ⊥) → line ≡ codes "withdraw " ++ rest → (event : Event) → Spells line event → ⊥
+pub no_withdrawal : (line rest : List ℕ) → ((name octets : List ℕ) → SpellsOrder rest name octets → ⊥) → line ≡ codes "withdraw " ++ rest
+    → (event : Event) → Spells line event → ⊥
 no_withdrawal line rest none begins (Open number) spells = other_word 119 111 _ _ (omega arith) (sym begins ∙ spells.1)
 no_withdrawal line rest none begins (Piece number octets) spells = other_word 119 112 _ _ (omega arith) (sym begins ∙ spells.1)
 no_withdrawal line rest none begins (End number) spells = other_word 119 101 _ _ (omega arith) (sym begins ∙ spells.1)

@@ -24,7 +24,8 @@ same_octets text xs ys (inr first) (inl second) = absurd (no_octets text xs seco
 same_octets text xs ys (inr first) (inr second) = decode_of-same text xs ys first.1 second.1
 
 -- texts without spaces, each before a space, are one
-same_cut : (xs ys vs ws : List ℕ) → xs ++ 32 ∷ vs ≡ ys ++ 32 ∷ ws → ((i : ℕ) → i < length xs → get_or xs i 0 ≢ 32) → ((i : ℕ) → i < length ys → get_or ys i 0 ≢ 32) → (xs ≡ ys) × (vs ≡ ws)
+same_cut : (xs ys vs ws : List ℕ) → xs ++ 32 ∷ vs ≡ ys ++ 32 ∷ ws → ((i : ℕ) → i < length xs → get_or xs i 0 ≢ 32)
+    → ((i : ℕ) → i < length ys → get_or ys i 0 ≢ 32) → (xs ≡ ys) × (vs ≡ ws)
 same_cut [] [] vs ws same first second = (refl, ap (drop 1) same)
 same_cut [] (y ∷ ys) vs ws same first second = absurd (second 0 (omega arith) (sym (ap (λ l. get_or l 0 0) same)))
 same_cut (x ∷ xs) [] vs ws same first second = absurd (first 0 (omega arith) (ap (λ l. get_or l 0 0) same))

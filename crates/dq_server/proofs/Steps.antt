@@ -32,7 +32,8 @@ newest_after-push newest (End n ∷ es) e = newest_after-push newest es e
 newest_after-push newest (Schedule inst octets ∷ es) e = newest_after-push newest es e
 newest_after-push newest (Withdraw inst id ∷ es) e = newest_after-push newest es e
 
-pub rises_from-push : (newest : Option ℕ) (es : List Event) (e : Event) → rises_from newest (es ++ e ∷ []) ≡ (rises_from newest es && rises_from (newest_after newest es) (e ∷ []))
+pub rises_from-push : (newest : Option ℕ) (es : List Event) (e : Event) → rises_from newest (es ++ e ∷ [])
+    ≡ (rises_from newest es && rises_from (newest_after newest es) (e ∷ []))
 rises_from-push newest [] e = refl
 rises_from-push newest (Open n ∷ es) e =
     ap (λ b. is_above newest n && b) (rises_from-push (Some n) es e) ∙ and_assoc (is_above newest n) _ _
@@ -43,14 +44,16 @@ rises_from-push newest (Withdraw inst id ∷ es) e = rises_from-push newest es e
 
 -- ---- lines that are spelled, one line further
 
-SpellEach-push : (ls : List (List ℕ)) (es : List Event) (line : List ℕ) (e : Event) → SpellEach ls es → Spells line e → SpellEach (ls ++ line ∷ []) (es ++ e ∷ [])
+SpellEach-push : (ls : List (List ℕ)) (es : List Event) (line : List ℕ) (e : Event) → SpellEach ls es → Spells line e
+    → SpellEach (ls ++ line ∷ []) (es ++ e ∷ [])
 SpellEach-push [] [] line e each spells = (spells, tt)
 SpellEach-push [] (f ∷ es) line e each spells = absurd each
 SpellEach-push (l ∷ ls) [] line e each spells = absurd each
 SpellEach-push (l ∷ ls) (f ∷ es) line e each spells = (each.0, SpellEach-push ls es line e each.1 spells)
 
 -- the last line spells the last event
-SpellEach-last : (ls : List (List ℕ)) (line : List ℕ) (fs : List Event) → SpellEach (ls ++ line ∷ []) fs → (es : List Event) × (e : Event) × (fs ≡ es ++ e ∷ []) × SpellEach ls es × Spells line e
+SpellEach-last : (ls : List (List ℕ)) (line : List ℕ) (fs : List Event) → SpellEach (ls ++ line ∷ []) fs → (es : List Event) × (e : Event) × (fs ≡ es ++ e ∷ [])
+    × SpellEach ls es × Spells line e
 SpellEach-last [] line [] each = absurd each
 SpellEach-last [] line (f ∷ []) each = ([], f, refl, tt, each.0)
 SpellEach-last [] line (f ∷ g ∷ fs) each = absurd each.1
@@ -96,7 +99,8 @@ module _ (ls : List (List ℕ)) (n : ℕ) (line : List ℕ) (here : (n < length 
     bad = none;
   }
 
-  pub IsFirstBadLine-unspelled : (es : List Event) → is_skipped line ≡ false → ((e : Event) → Spells line e → ⊥) → AreCapture (take n ls) es → IsFirstBadLine ls (n + 1)
+  pub IsFirstBadLine-unspelled : (es : List Event) → is_skipped line ≡ false → ((e : Event) → Spells line e → ⊥) → AreCapture (take n ls) es
+      → IsFirstBadLine ls (n + 1)
   IsFirstBadLine-unspelled es unskipped none so_far = first_bad es so_far (λ fs all.
       let last = SpellEach-last (told (take n ls)) line fs (rw (told-line unskipped) at all.spelled) in none last.1 last.4)
 
@@ -106,12 +110,14 @@ module _ (ls : List (List ℕ)) (n : ℕ) (line : List ℕ) (here : (n < length 
       let last = SpellEach-last (told (take n ls)) line fs (rw (told-line unskipped) at all.spelled) in
       let same_before = same_events _ last.0 es last.3 so_far.spelled in
       let same_last = same_event line last.1 e last.4 spells in
-      let rises = second_true (rises_from None last.0) (rises_from (newest_after None last.0) (last.1 ∷ [])) (sym (rises_from-push None last.0 last.1) ∙ rw last.2 at all.rising) in
+      let rises = second_true (rises_from None last.0) (rises_from (newest_after None last.0) (last.1 ∷ [])) (sym (rises_from-push None last.0 last.1)
+      ∙ rw last.2 at all.rising) in
       false≢true (sym sinks ∙ rw (same_before, same_last) at rises))
 
 -- ---- the front of a capture is a capture
 
-SpellEach-front : (xs ys : List (List ℕ)) (es : List Event) → SpellEach (xs ++ ys) es → (fs : List Event) × (gs : List Event) × (es ≡ fs ++ gs) × SpellEach xs fs
+SpellEach-front : (xs ys : List (List ℕ)) (es : List Event) → SpellEach (xs ++ ys) es → (fs : List Event) × (gs : List Event) × (es ≡ fs ++ gs)
+    × SpellEach xs fs
 SpellEach-front [] ys es each = ([], es, refl, tt)
 SpellEach-front (x ∷ xs) ys [] each = absurd each
 SpellEach-front (x ∷ xs) ys (e ∷ es) each =

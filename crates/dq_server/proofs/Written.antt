@@ -12,7 +12,8 @@ take_of_front : (k : ℕ) (line rest : List ℕ) → take (min k (length line)) 
 take_of_front k line rest = take-append-le (min k (length line)) line rest (omega arith) ∙ take_min k line
 
 -- a part of what comes after what was written
-pub AppendsPart-after : (before mid after : Option (List ℕ)) (done line rest : List ℕ) → Appends before mid done → AppendsPart mid after line → AppendsPart before after (done ++ (line ++ rest))
+pub AppendsPart-after : (before mid after : Option (List ℕ)) (done line rest : List ℕ) → Appends before mid done → AppendsPart mid after line
+    → AppendsPart before after (done ++ (line ++ rest))
 AppendsPart-after None mid after done line rest first part = (0, tt)
 AppendsPart-after (Some xs) None after done line rest first part = absurd first
 AppendsPart-after (Some xs) (Some ys) None done line rest first part = absurd part.1
@@ -46,14 +47,18 @@ printed-at : (replies : List Reply) (i : ℕ) (reply : Reply) → i < length rep
     → printed replies ≡ printed (take i replies) ++ (printed_line reply ++ printed (drop (suc i) replies))
 printed-at replies i reply below here =
     let rest : drop i replies ≡ reply ∷ drop (suc i) replies = drop-cons replies i reply below ∙ ap (λ r. r ∷ drop (suc i) replies) (sym here) in
-    ap printed (sym (take-append-drop i replies)) ∙ flat_map-append printed_line (take i replies) (drop i replies) ∙ ap (λ l. printed (take i replies) ++ printed l) rest
+    ap printed (sym (take-append-drop i replies)) ∙ flat_map-append printed_line (take i replies) (drop i replies)
+    ∙ ap (λ l. printed (take i replies) ++ printed l) rest
 
-pub AppendsPart-line : (before mid after : Option (List ℕ)) (replies : List Reply) (i : ℕ) (reply : Reply) (line : List ℕ) → i < length replies → reply ≡ get_or replies i reply
+pub AppendsPart-line : (before mid after : Option (List ℕ)) (replies : List Reply) (i : ℕ) (reply : Reply) (line : List ℕ) → i < length replies
+    → reply ≡ get_or replies i reply
     → line ≡ printed_line reply → Appends before mid (printed (take i replies)) → AppendsPart mid after line → AppendsPart before after (printed replies)
 AppendsPart-line before mid after replies i reply line below here spells done part =
-    rw (printed-at replies i reply below here) (AppendsPart-after before mid after (printed (take i replies)) (printed_line reply) (printed (drop (suc i) replies)) done (rw spells at part))
+    rw (printed-at replies i reply below here) (AppendsPart-after before mid after (printed (take i replies)) (printed_line reply)
+    (printed (drop (suc i) replies)) done (rw spells at part))
 
-pub AppendsPart-replies : (before after : Option (List ℕ)) (replies : List Reply) (k : ℕ) → AppendsPart before after (printed (take k replies)) → AppendsPart before after (printed replies)
+pub AppendsPart-replies : (before after : Option (List ℕ)) (replies : List Reply) (k : ℕ) → AppendsPart before after (printed (take k replies))
+    → AppendsPart before after (printed replies)
 AppendsPart-replies before after replies k part =
     let whole : printed replies ≡ printed (take k replies) ++ printed (drop k replies) =
     ap printed (sym (take-append-drop k replies)) ∙ flat_map-append printed_line (take k replies) (drop k replies) in
@@ -78,7 +83,8 @@ Written before now octets rest = (done : List ℕ) × (done ++ rest ≡ octets) 
 pub Written-none : (known : Option (List ℕ)) (octets : List ℕ) → Written known known octets octets
 Written-none known octets = ([], refl, Appends-none known)
 
-pub Written-more : (before mid after : Option (List ℕ)) (octets rest : List ℕ) (k : ℕ) → Written before mid octets rest → Appends mid after (take k rest) → Written before after octets (drop k rest)
+pub Written-more : (before mid after : Option (List ℕ)) (octets rest : List ℕ) (k : ℕ) → Written before mid octets rest → Appends mid after (take k rest)
+    → Written before after octets (drop k rest)
 Written-more None mid after octets rest k done added =
     (done.0 ++ take k rest, append_assoc done.0 (take k rest) (drop k rest) ∙ ap (λ l. done.0 ++ l) (take-append-drop k rest) ∙ done.1, tt)
 Written-more (Some xs) None after octets rest k done added = absurd done.2
@@ -107,5 +113,6 @@ pub OnErr-known : {T E P : Type 0} (r : Result T E) → P → OnErr r P
 OnErr-known (Ok x) known = tt
 OnErr-known (Err e) known = known
 
-pub Written-kept : (before mid after : Option (List ℕ)) (octets rest : List ℕ) → Written before mid octets rest → Keeps mid after → Written before after octets rest
+pub Written-kept : (before mid after : Option (List ℕ)) (octets rest : List ℕ) → Written before mid octets rest → Keeps mid after
+    → Written before after octets rest
 Written-kept before mid after octets rest done kept = (done.0, done.1, Appends-kept before mid after done.0 done.2 kept)

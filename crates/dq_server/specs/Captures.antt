@@ -1,6 +1,6 @@
 -- Captures: the text of a history, an event a line.
 use Rattle.std.specs.Prelude.{◌≡◌, ℕ, ◌-◌, ◌^◌, ◌<◌, ◌≤◌, ◌⊎◌, ◌==◌, Bool, true, not, IsTrue, codes}
-use Rattle.std.specs.Prelude.{List, [], ◌∷◌, ◌++◌, length, take, filter, Ok}
+use Rattle.std.specs.Prelude.{List, [], ◌∷◌, ◌++◌, length, take, filter, Ok, Option, MatchOption}
 use Rattle.std.specs.Fmt.{decimal}
 use Rattle.std.specs.List.{slice_split}
 use Rattle.hex.specs.Hex.{decode_of}
@@ -15,7 +15,7 @@ line_feed = 10
 abbrev pub number_sign : ℕ
 number_sign = 35
 
--- Lines end by a line feed. What is after the last one counts as a line too, empty where nothing is there.
+-- Lines end by a line feed. What is after the last one counts as a line too, even if it is empty.
 abbrev pub lines_of : List ℕ → List (List ℕ)
 lines_of text = slice_split (λ octet. octet == line_feed) text
 
@@ -30,6 +30,11 @@ told lines = filter (λ line. not (is_skipped line)) lines
 -- the number of a connection: decimal digits, without leading zeros
 abbrev pub IsNumber : List ℕ → ℕ → Type 0
 IsNumber text number = (number < 2 ^ 64) × (text ≡ decimal number)
+
+-- What is found is so; or nothing is found, and nothing is so.
+module _ {T : Type 0} where
+  abbrev pub Finds : (T → Type 0) → Option T → Type 0
+  Finds IsSo found = MatchOption found ((x : T) → IsSo x → ⊥) IsSo
 
 -- octets: a hyphen for none, else two hexadecimal digits of either case for each
 abbrev pub AreOctets : List ℕ → List ℕ → Type 0
@@ -76,7 +81,7 @@ pub record AreCapture (lines : List (List ℕ)) (events : List Event) : Type 0 w
   pub spelled : SpellEach (told lines) events
   pub rising : IsTrue (is_well_formed events)
 
--- The lines before the one of this number are a capture, and with it they are none. Lines are counted from 1.
+-- The lines before the one of this number are a capture, with it they are none. Counted from 1.
 pub record IsFirstBadLine (lines : List (List ℕ)) (number : ℕ) : Type 0 where
   pub counted : (0 < number) × (number ≤ length lines)
   pub before : (events : List Event) × AreCapture (take (number - 1) lines) events

@@ -167,8 +167,8 @@ pub record AreGiven (all given : List Reply) (end : Option Fault) : Type 0 where
   pub fewer : end ≢ None → length given < length all
   pub memory : IfSome end (λ f. f ≡ fault.NoMemory)
 
--- How a text that is printed at once is cut short: for want of memory nothing was printed; where the
--- output fails, its first octets.
+-- How a text that is printed at once is cut short: for want of memory nothing was printed; where
+-- the output fails, its first octets.
 abbrev pub Breaks : Type 0 → Option (List ℕ) → Option (List ℕ) → List ℕ → Stop → Type 0
 Breaks may_fail before after text (stop.Fault number) = (number ≡ no_memory) × Keeps before after
 Breaks may_fail before after text stop.Output = may_fail × AppendsPart before after text

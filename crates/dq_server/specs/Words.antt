@@ -32,11 +32,12 @@ is_value [] = true
 is_value (octet ∷ []) = true
 is_value (octet ∷ next ∷ octets) = not (octet == 45)
 
--- There are no more words, or `--` alone, which says so.
+-- there are no more words
 abbrev pub end_here : List (List ℕ) → Bool
 end_here [] = true
 end_here (word ∷ words) = false
 
+-- there are no more words, or only `--`, which says so
 abbrev pub end_soon : List (List ℕ) → Bool
 end_soon [] = true
 end_soon (word ∷ words) = bytes_eq word (codes "--") && end_here words

@@ -73,9 +73,6 @@ pub fn answer<W: Sink>(
     ensures cut { IfErr result (Cuts (W.may_fail output.old) (W.written output.old)
         (W.written output.new) (replies config [] events.items)) }
 {
-    let (replies, fault) = match replies_to(alloc, config, events) {
-        Ok(ran) => ran,
-        Err(stop) => return Err(stop),
-    };
+    let (replies, fault) = replies_to(alloc, config, events)?;
     print_all(alloc, replies.as_slice(), fault, output)
 }

@@ -3,7 +3,7 @@
 ghost use Rattle.std.specs.Prelude.{◌≡◌, ℕ, ◌++◌, ◌∷◌, [], List, codes, IfOk, IsErrOf, MatchOption, MatchResult};
 ghost use Rattle.dq_core.specs.declared.event.Event.{Event};
 ghost use Rattle.dq_core.specs.Histories.{rises_from, newest_after};
-ghost use Rattle.dq_server.specs.Captures.{lines_of, is_skipped, IsNumber, AreOctets, SpellsPiece, SpellsOrder, Spells, AreCapture, IsFirstBadLine};
+ghost use Rattle.dq_server.specs.Captures.{lines_of, is_skipped, IsNumber, AreOctets, SpellsPiece, SpellsOrder, Spells, AreCapture, IsFirstBadLine, Finds};
 
 use dq_config::is_name;
 use dq_core::Event;
@@ -24,14 +24,15 @@ pub enum CaptureFault {
 
 /// What stands after a word at the front of a line.
 fn behind<'a>(line: &'a str, word: &str) -> Option<&'a str>
-    ensures { MatchOption result ((rest : List ℕ) → line.now ≡ word.now ++ rest → ⊥) (λ rest. line.now ≡ word.now ++ rest.now) }
+    ensures { MatchOption result ((rest : List ℕ) → line.now ≡ word.now ++ rest → ⊥)
+        (λ rest. line.now ≡ word.now ++ rest.now) }
 {
     line.strip_prefix(word)
 }
 
-// A sign is none of the digits.
+// `parse` takes a sign, and zeros in front.
 fn number_of(digits: &str) -> Option<u64>
-    ensures { MatchOption result ((number : ℕ) → IsNumber digits.now number → ⊥) (IsNumber digits.now) }
+    ensures { Finds (IsNumber digits.now) result }
 {
     if digits.starts_with('+') {
         return None;
@@ -43,7 +44,9 @@ fn number_of(digits: &str) -> Option<u64>
 }
 
 fn octets_of(alloc: Global, text: &str) -> Result<Option<Vec<u8>>, AllocError>
-    ensures { IfOk result (λ found. MatchOption found ((octets : List ℕ) → AreOctets text.now octets → ⊥) (λ octets. AreOctets text.now octets.items)) }
+    ensures { IfOk result (λ found. MatchOption found
+        ((octets : List ℕ) → AreOctets text.now octets → ⊥)
+        (λ octets. AreOctets text.now octets.items)) }
 {
     if text == "-" {
         return Ok(Some(Vec::new(alloc)));
@@ -59,7 +62,7 @@ fn octets_of(alloc: Global, text: &str) -> Result<Option<Vec<u8>>, AllocError>
 }
 
 fn piece_of(alloc: Global, rest: &str) -> Result<Option<Event>, AllocError>
-    ensures { IfOk result (λ found. MatchOption found ((event : Event) → SpellsPiece rest.now event → ⊥) (SpellsPiece rest.now)) }
+    ensures { IfOk result (Finds (SpellsPiece rest.now)) }
 {
     let Some((digits, text)) = rest.split_once(' ') else {
         return Ok(None);
@@ -94,7 +97,7 @@ fn order_of(alloc: Global, rest: &str) -> Result<Option<(Listed<u8>, Listed<u8>)
 
 fn schedule_of(alloc: Global, rest: &str) -> Result<Option<Event>, AllocError>
     ensures { IfOk result (λ found. (line : List ℕ) → line ≡ codes "schedule " ++ rest.now →
-        MatchOption found ((event : Event) → Spells line event → ⊥) (Spells line)) }
+        Finds (Spells line) found) }
 {
     match order_of(alloc, rest)? {
         Some((inst, octets)) => Ok(Some(Event::Schedule { inst, octets })),
@@ -104,7 +107,7 @@ fn schedule_of(alloc: Global, rest: &str) -> Result<Option<Event>, AllocError>
 
 fn withdrawal_of(alloc: Global, rest: &str) -> Result<Option<Event>, AllocError>
     ensures { IfOk result (λ found. (line : List ℕ) → line ≡ codes "withdraw " ++ rest.now →
-        MatchOption found ((event : Event) → Spells line event → ⊥) (Spells line)) }
+        Finds (Spells line) found) }
 {
     match order_of(alloc, rest)? {
         Some((inst, id)) => Ok(Some(Event::Withdraw { inst, id })),
@@ -113,7 +116,7 @@ fn withdrawal_of(alloc: Global, rest: &str) -> Result<Option<Event>, AllocError>
 }
 
 fn event_of(alloc: Global, line: &str) -> Result<Option<Event>, AllocError>
-    ensures { IfOk result (λ found. MatchOption found ((event : Event) → Spells line.now event → ⊥) (Spells line.now)) }
+    ensures { IfOk result (Finds (Spells line.now)) }
 {
     if let Some(digits) = behind(line, "open ") {
         return Ok(number_of(digits).map(Event::Open));
@@ -159,7 +162,8 @@ fn newest_after(newest: Option<u64>, event: &Event) -> Option<u64>
 
 fn read_lines(alloc: Global, text: &str) -> Result<Vec<Event>, CaptureFault>
     ensures events { IfOk result (λ events. AreCapture (lines_of text.now) events.items) }
-    ensures line { (number : ℕ) → IsErrOf result (CaptureFault.Line number) → IsFirstBadLine (lines_of text.now) number }
+    ensures line { (number : ℕ) → IsErrOf result (CaptureFault.Line number)
+        → IsFirstBadLine (lines_of text.now) number }
 {
     let mut events = Vec::new(alloc);
     let mut newest = None;
@@ -185,10 +189,11 @@ fn read_lines(alloc: Global, text: &str) -> Result<Vec<Event>, CaptureFault>
     Ok(events)
 }
 
-/// The events that the lines of a text tell. A bad line is answered with its number, counted from 1.
+/// The events that the lines of a text tell, or the number of the first bad line, counted from 1.
 pub fn read_capture(alloc: Global, text: &str) -> Result<Vec<Event>, CaptureFault>
     ensures events { IfOk result (λ events. AreCapture (lines_of text.now) events.items) }
-    ensures line { (number : ℕ) → IsErrOf result (CaptureFault.Line number) → IsFirstBadLine (lines_of text.now) number }
+    ensures line { (number : ℕ) → IsErrOf result (CaptureFault.Line number)
+        → IsFirstBadLine (lines_of text.now) number }
     // Lines that tell events are read, unless memory runs out.
     ensures only { (events : List Event) → AreCapture (lines_of text.now) events →
         MatchResult result (λ read. read.items ≡ events) (λ fault. fault ≡ CaptureFault.NoMemory) }
@@ -198,5 +203,6 @@ pub fn read_capture(alloc: Global, text: &str) -> Result<Vec<Event>, CaptureFaul
 
 /// Lines tell at most one list of events.
 pub fn lines_tell_one()
-    ensures { (lines : List (List ℕ)) (es fs : List Event) → AreCapture lines es → AreCapture lines fs → es ≡ fs }
+    ensures { (lines : List (List ℕ)) (es fs : List Event) →
+        AreCapture lines es → AreCapture lines fs → es ≡ fs }
 {}

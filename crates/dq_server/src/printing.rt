@@ -58,7 +58,8 @@ pub fn print_replies<W: Sink>(
     replies: &[Reply],
     output: &mut W,
 ) -> Result<(), PrintFault>
-    ensures written { OnOk result (Appends (W.written output.old) (W.written output.new) (printed replies.now)) }
+    ensures written { OnOk result
+        (Appends (W.written output.old) (W.written output.new) (printed replies.now)) }
     // Where memory runs out, the lines of the first replies were written whole.
     ensures no_memory { IsErrOf result PrintFault.NoMemory → (k : ℕ) × (k < length replies.now)
         × Appends (W.written output.old) (W.written output.new) (printed (take k replies.now)) }

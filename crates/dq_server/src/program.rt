@@ -45,14 +45,8 @@ fn play<Rt: AllocGlobal + Folder, R: Source, W: Sink>(
         (λ institutions events. CutsTask task (W.may_fail output.old) (W.written output.old)
         (W.written output.new) institutions events stop)) }
 {
-    let config = match configured(rt, file) {
-        Ok(config) => config,
-        Err(stop) => return Err(stop),
-    };
-    let events = match read_events(rt.alloc(), input) {
-        Ok(events) => events,
-        Err(stop) => return Err(stop),
-    };
+    let config = configured(rt, file)?;
+    let events = read_events(rt.alloc(), input)?;
     match task {
         Task::Replay => answer(rt.alloc(), config, events, output),
         Task::Report => report(rt.alloc(), config, events, output),
@@ -62,7 +56,8 @@ fn play<Rt: AllocGlobal + Folder, R: Source, W: Sink>(
 /// Tells of a stop. The exit status is its own.
 fn stopped<E: Sink>(stop: Stop, errors: &mut E) -> u8
     ensures status { result ≡ status_of stop }
-    ensures told { IsTold (E.may_fail errors.old) (E.written errors.old) (E.written errors.new) stop }
+    ensures told { IsTold (E.may_fail errors.old) (E.written errors.old) (E.written errors.new)
+        stop }
 {
     let _ = stop.tell(errors);
     stop.status()
@@ -114,8 +109,8 @@ pub fn perform<Rt: AllocGlobal + Folder, S: AsStr, R: Source, W: Sink, E: Sink>(
         × IsBadCapture (R.may_fail input) (R.octets input) number
         × IsTold (E.may_fail errors.old) (E.written errors.old) (E.written errors.new)
         (Stop.Capture number) × Keeps (W.written output.old) (W.written output.new) }
-    // A fault, where nothing was printed, or the lines of the first replies, and none of a report; or
-    // an output that fails, where the first octets of the lines were.
+    // A fault, where nothing was printed, or the lines of the first replies, and none of a report;
+    // or an output that fails, where the first octets of the lines were.
     ensures fault { result ≡ 4 →
         (IsTold (E.may_fail errors.old) (E.written errors.old) (E.written errors.new)
         (Stop.Fault no_memory) × Keeps (W.written output.old) (W.written output.new))

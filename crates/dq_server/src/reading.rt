@@ -44,10 +44,7 @@ pub fn configured<Rt: AllocGlobal + Folder>(rt: &Rt, file: Option<&str>) -> Resu
 {
     match file {
         Some(path) => read_config(rt, path),
-        None => match Config::built_in(rt.alloc()) {
-            Ok(config) => Ok(config),
-            Err(error) => Err(Stop::from(error)),
-        },
+        None => Ok(Config::built_in(rt.alloc())?),
     }
 }
 
@@ -78,8 +75,5 @@ pub fn read_events<R: Source>(alloc: Global, input: R) -> Result<Vec<Event>, Sto
     let Ok(text) = str::from_utf8(octets.as_slice()) else {
         return Err(Stop::Capture(0));
     };
-    match read_capture(alloc, text) {
-        Ok(events) => Ok(events),
-        Err(fault) => Err(Stop::from(fault)),
-    }
+    Ok(read_capture(alloc, text)?)
 }

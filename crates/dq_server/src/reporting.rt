@@ -145,8 +145,8 @@ fn put_whole<W: Sink>(text: &[u8], output: &mut W) -> Result<(), Stop>
     Ok(())
 }
 
-/// Counts what is kept after the events of a capture, over tables without rows, and prints a line for
-/// each institution in the order of the configuration. Where a fault comes, no line is printed.
+/// Counts what is kept after the events of a capture, over tables without rows, and prints a line
+/// for each institution in the order of the configuration. Where a fault comes, no line is printed.
 pub fn report<W: Sink>(
     alloc: Global,
     config: Config,
@@ -160,9 +160,6 @@ pub fn report<W: Sink>(
     ensures cut { IfErr result (Breaks (W.may_fail output.old) (W.written output.old)
         (W.written output.new) (text_of Report config events.items)) }
 {
-    let text = match report_of(alloc, config, events) {
-        Ok(text) => text,
-        Err(fault) => return Err(Stop::from(fault)),
-    };
+    let text = report_of(alloc, config, events)?;
     put_whole(text.as_slice(), output)
 }

@@ -140,7 +140,8 @@ impl Stop {
 
     /// Tells of the stop by its line, if it has one.
     pub fn tell<E: Sink>(self, errors: &mut E) -> io::Result<()>
-        ensures written { OnOk result (Appends (E.written errors.old) (E.written errors.new) (stop_text self)) }
+        ensures written { OnOk result
+            (Appends (E.written errors.old) (E.written errors.new) (stop_text self)) }
         ensures failed { OnErr result (E.may_fail errors.old) }
     {
         match self {

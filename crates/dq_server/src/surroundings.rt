@@ -28,7 +28,8 @@ pub trait Source: Drop {
 
     /// All its octets, or the first of them where there are more than `most`.
     fn read_up_to(self, alloc: Global, most: u64) -> Result<Vec<u8>, Unread>
-        ensures read { IfOk result (λ read. IfSome (octets self) (λ all. read.items ≡ take most all)) }
+        ensures read { IfOk result (λ read.
+            IfSome (octets self) (λ all. read.items ≡ take most all)) }
         ensures failed { IsErrOf result Unread.Failed → may_fail self };
 }
 
@@ -52,7 +53,8 @@ pub trait Sink {
 
     /// Writes a text and a line feed.
     fn put_line<D: Display + Drop>(&mut self, text: D) -> io::Result<()>
-        ensures written { OnOk result (IfSome (with_newline (D.output text)) (Appends (written self.old) (written self.new))) }
+        ensures written { OnOk result (IfSome (with_newline (D.output text))
+            (Appends (written self.old) (written self.new))) }
         ensures failed { OnErr result (may_fail self.old) };
 
     /// Hands on what was held back.
@@ -72,11 +74,12 @@ pub trait Folder {
 
     /// All octets of a file.
     fn read_file(&self, alloc: Global, path: &str) -> Result<Vec<u8>, Unread>
-        ensures read { IfOk result (λ read. IfSome (held self.now path.now) (λ all. read.items ≡ all)) }
+        ensures read { IfOk result (λ read.
+            IfSome (held self.now path.now) (λ all. read.items ≡ all)) }
         ensures failed { IsErrOf result Unread.Failed → may_fail self.now path.now };
 }
 
-// The number of a reader's error.
+// Why octets are not read, by the error of what reads them.
 fn why_unread(error: &io::Error) -> Unread {
     match error.kind() {
         io::ErrorKind::OutOfMemory => Unread::NoMemory,
@@ -119,8 +122,10 @@ fn write_some<W: Write>(output: &mut W, octets: &[u8]) -> io::Result<usize>
 }
 
 fn write_whole<W: Write>(output: &mut W, octets: &[u8]) -> io::Result<()>
-    ensures written { OnOk result (Appends (W.contents output.old) (W.contents output.new) octets.now) }
-    ensures part { OnErr result (AppendsPart (W.contents output.old) (W.contents output.new) octets.now) }
+    ensures written { OnOk result
+        (Appends (W.contents output.old) (W.contents output.new) octets.now) }
+    ensures part { OnErr result
+        (AppendsPart (W.contents output.old) (W.contents output.new) octets.now) }
 {
     let mut rest = octets;
     for _ in 0..u64::MAX {

@@ -160,7 +160,7 @@ fn performs_over_a_failing_output(rt: HostRuntime) -> Result<(), Fail> {
     Ok(())
 }
 
-// What the program answers to words and an input: its status, what it prints and what it tells of errors.
+/// What the program answers to words and an input: its status, and what it prints and tells.
 fn answered(rt: &HostRuntime, words: &[&str], input: Torn<'_>) -> Result<String, Fail> {
     let mut output = Vec::new(rt.alloc());
     let mut errors = Vec::new(rt.alloc());

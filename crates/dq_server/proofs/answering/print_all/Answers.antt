@@ -4,7 +4,8 @@ use Rattle.dq_server.proofs.answering.print_all.Goals as goal
 
 pub returns-in-Err-clause-cut : goal.returns-in-Err-clause-cut
 returns-in-Err-clause-cut g c = λ all are.
-    rw c.from.ensures (Cuts-unprinted _ _ _ all c.args.replies.now c.args.fault c.in-Err.unprinted are (λ is. c.in-Err.ensures.no_memory (ap Err is)) (λ is. c.in-Err.ensures.output (ap Err is)))
+    rw c.from.ensures (Cuts-unprinted _ _ _ all c.args.replies.now c.args.fault c.in-Err.unprinted are (λ is. c.in-Err.ensures.no_memory (ap Err is))
+    (λ is. c.in-Err.ensures.output (ap Err is)))
 
 pub returns-then-is_err-clause-cut : goal.returns-then-is_err-clause-cut
 returns-then-is_err-clause-cut g c = λ all are.

@@ -18,10 +18,15 @@ returns-clause-fault g c = λ status.
     (g.R.Source.may_fail c.args.input) (g.R.Source.octets c.args.input)
     (g.W.Sink.may_fail c.args.output.now) (g.W.Sink.written c.args.output.now) (g.W.Sink.written c.play.new.output)
     (IsTold (g.E.Sink.may_fail c.args.errors.now) (g.E.Sink.written c.args.errors.now) (g.E.Sink.written c.stopped-in-Err-play.new.errors))
-    c.in-Ok-parse.asked.0 c.in-Err-play.stop (sym c.stopped-in-Err-play.ensures.status ∙ status) c.stopped-in-Err-play.ensures.told c.in-Err-play.ensures.stops in
+    c.in-Ok-parse.asked.0 c.in-Err-play.stop (sym c.stopped-in-Err-play.ensures.status ∙ status) c.stopped-in-Err-play.ensures.told c.in-Err-play.ensures.stops
+    in
     elim ends [
       | inl early ↦ inl early
-      | inr (inl first) ↦ inr (inl (option_copied c.in-Ok-parse.asked.1, understood ∙ ap (λ (t : Task). Some (t, option_copied c.in-Ok-parse.asked.1)) first.0, first.1))
+      | inr (inl first) ↦ inr (inl (
+        option_copied c.in-Ok-parse.asked.1,
+        understood ∙ ap (λ (t : Task). Some (t, option_copied c.in-Ok-parse.asked.1)) first.0,
+        first.1,
+      ))
       | inr (inr part) ↦ inr (inr (c.in-Ok-parse.asked.0, option_copied c.in-Ok-parse.asked.1, understood, part))
     ]
 
@@ -34,7 +39,8 @@ returns-clause-config g c = λ status.
     (g.R.Source.may_fail c.args.input) (g.R.Source.octets c.args.input)
     (g.W.Sink.may_fail c.args.output.now) (g.W.Sink.written c.args.output.now) (g.W.Sink.written c.play.new.output)
     (IsTold (g.E.Sink.may_fail c.args.errors.now) (g.E.Sink.written c.args.errors.now) (g.E.Sink.written c.stopped-in-Err-play.new.errors))
-    c.in-Ok-parse.asked.0 c.in-Err-play.stop (sym c.stopped-in-Err-play.ensures.status ∙ status) c.stopped-in-Err-play.ensures.told c.in-Err-play.ensures.stops in
+    c.in-Ok-parse.asked.0 c.in-Err-play.stop (sym c.stopped-in-Err-play.ensures.status ∙ status) c.stopped-in-Err-play.ensures.told c.in-Err-play.ensures.stops
+    in
     (c.in-Ok-parse.asked.0, ends.0, ends.1, understood ∙ ap (λ (f : Option (List ℕ)). Some (c.in-Ok-parse.asked.0, f)) ends.2, ends.3, ends.4, ends.5)
 
 pub returns-clause-capture : goal.returns-clause-capture
@@ -46,5 +52,6 @@ returns-clause-capture g c = λ status.
     (g.R.Source.may_fail c.args.input) (g.R.Source.octets c.args.input)
     (g.W.Sink.may_fail c.args.output.now) (g.W.Sink.written c.args.output.now) (g.W.Sink.written c.play.new.output)
     (IsTold (g.E.Sink.may_fail c.args.errors.now) (g.E.Sink.written c.args.errors.now) (g.E.Sink.written c.stopped-in-Err-play.new.errors))
-    c.in-Ok-parse.asked.0 c.in-Err-play.stop (sym c.stopped-in-Err-play.ensures.status ∙ status) c.stopped-in-Err-play.ensures.told c.in-Err-play.ensures.stops in
+    c.in-Ok-parse.asked.0 c.in-Err-play.stop (sym c.stopped-in-Err-play.ensures.status ∙ status) c.stopped-in-Err-play.ensures.told c.in-Err-play.ensures.stops
+    in
     (c.in-Ok-parse.asked.0, option_copied c.in-Ok-parse.asked.1, ends.0, understood, ends.1, ends.2, ends.3, ends.4)

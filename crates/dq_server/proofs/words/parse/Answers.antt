@@ -27,4 +27,5 @@ returns-in-Ok-clause-ok c = λ words line.
 pub returns-in-Err-clause-err : goal.returns-in-Err-clause-err
 returns-in-Err-clause-err c = λ words line memory.
     let same = c.in_ok-command.ensures in
-    asked-refused words _ c.in-Err.error (texts-line words _ line c.requires) (c.in-Err.ensures.kinds (ap is_simple_and_free same ∙ is_free)) memory (ap₂ fault_of same line)
+    asked-refused words _ c.in-Err.error (texts-line words _ line c.requires) (c.in-Err.ensures.kinds (ap is_simple_and_free same ∙ is_free)) memory
+    (ap₂ fault_of same line)
