@@ -14,15 +14,17 @@ sys.path.insert(0, str(TOP / "suite" / "model"))
 
 import compose  # noqa: E402
 import data_sets  # noqa: E402
-from messages import C_FIND, C_STORE, DATA_SET, command_set, padded, sent, two  # noqa: E402
+from messages import C_ECHO, C_FIND, C_STORE, DATA_SET, NO_DATA_SET, command_set, padded, sent, two  # noqa: E402
 from upper_layer import EXPLICIT, pdu, request_pdu  # noqa: E402
 
 RELEASE = pdu(0x05, bytes(4))
+ECHO = sent(1, command_set([(0x0002, padded(compose.CLASSES["echo"])), (0x0100, two(C_ECHO)), (0x0110, two(1)),
+                            (0x0800, two(NO_DATA_SET))]), None, 0)
 
 
-def check_program():
-    if not PROGRAM.exists():
-        sys.exit(f"{sys.argv[0]}: build the program first, by ./run")
+def check_program(program=PROGRAM):
+    if not program.exists():
+        sys.exit(f"{sys.argv[0]}: build the program first, by tools/build {program.name}")
 
 
 def associate(*names):
@@ -36,7 +38,7 @@ def message(context, field, name, elements, instance=b""):
     parts = []
     for keyword, value in elements.items():
         tag, vr = compose.tag_of(keyword)
-        parts.append((tag, vr, value + (b" " if vr in data_sets.TEXT else b"\0") * (len(value) % 2)))
+        parts.append((tag, vr, data_sets.padded(vr, value)))
     data = data_sets.canonical(sorted(parts), data_sets.EXPLICIT)
     command = [(0x0002, padded(compose.CLASSES[name])), (0x0100, two(field)), (0x0110, two(1)), (0x0800, two(DATA_SET))]
     if instance:
@@ -58,6 +60,17 @@ def piece(number, octets):
     return f"piece {number} {octets.hex()}\n"
 
 
+def run(command, source, out):
+    """The seconds of the processor and the megabytes of memory at most of a run, whose output is rewound."""
+    child = subprocess.Popen(list(map(str, command)), stdin=source, stdout=out)
+    _, status, used = os.wait4(child.pid, 0)
+    child.returncode = os.waitstatus_to_exitcode(status)
+    if child.returncode != 0:
+        sys.exit(f"{sys.argv[0]}: exit {child.returncode}")
+    out.seek(0)
+    return used.ru_utime + used.ru_stime, used.ru_maxrss / 1024
+
+
 def play(lines, count, runs=5):
     """The least seconds of the processor, the megabytes of memory at most, and what `count` makes of the output."""
     best = None
@@ -66,14 +79,7 @@ def play(lines, count, runs=5):
         capture.flush()
         for _ in range(runs):
             with open(capture.name) as source, tempfile.TemporaryFile() as out:
-                child = subprocess.Popen([PROGRAM, "replay", "--config", CONFIGURATION], stdin=source, stdout=out)
-                _, status, used = os.wait4(child.pid, 0)
-                child.returncode = os.waitstatus_to_exitcode(status)
-                out.seek(0)
-                counted = count(out)
-            if child.returncode != 0:
-                sys.exit(f"{sys.argv[0]}: exit {child.returncode}")
-            figures = (used.ru_utime + used.ru_stime, used.ru_maxrss / 1024, counted)
+                figures = (*run([PROGRAM, "replay", "--config", CONFIGURATION], source, out), count(out))
             best = min(best or figures, figures)
     return best
 
@@ -88,8 +94,33 @@ def statuses(name):
     return lambda out: sum(line.count(text) for line in out)
 
 
-def ratio(name, first, second, most=MOST):
+def ratio(name, first, second):
     """Prints how many times the seconds and the memory of the first figures the second are; whether the time is within."""
     times = second[0] / max(first[0], 0.001)
     print(f"  {name}: {times:.2f} times the seconds, {second[1] / first[1]:.2f} times the memory")
-    return times <= most
+    return times <= MOST
+
+
+def search(name, history, records, size, asked):
+    """Prints what queries cost over so many records, and over ten times as many; history makes the lines of a number of
+    records and of queries. Answers whether the seconds are at most 12 times as many, and the answers a second of each."""
+    seconds, rates = [], []
+    for count in (size, 10 * size):
+        kept = play(history(count, 0), statuses("ff00"), runs=3)
+        found = play(history(count, asked), statuses("ff00"), runs=3)
+        spent = max(found[0] - kept[0], 0.001)
+        seconds.append(spent)
+        rates.append(found[2] / spent)
+        print(f"{name}, {count} {records}: {asked / spent:.0f} queries and {rates[-1]:.0f} answers a second")
+    print(f"  ten times the {records}: {seconds[1] / seconds[0]:.1f} times the seconds")
+    return seconds[1] / seconds[0] <= 12 or seconds[1] < 0.02, rates
+
+
+def size(usual):
+    """The number that the command line names, if it does."""
+    return int(sys.argv[1]) if len(sys.argv) > 1 else usual
+
+
+def finish(good, bounds=f"{MOST} times"):
+    print(f"within {bounds}" if good else f"more than {bounds}")
+    sys.exit(0 if good else 1)

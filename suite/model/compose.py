@@ -28,7 +28,8 @@ import sys
 
 import data_sets
 from keywords import KEYWORDS
-from messages import C_CANCEL, C_ECHO, C_FIND, C_STORE, DATA_SET, N_CREATE, N_SET, NO_DATA_SET, command_set, padded, sent, two
+from messages import (C_CANCEL, C_ECHO, C_FIND, C_STORE, DATA_SET, N_CREATE, N_SET, NO_DATA_SET, command_set, form_of,
+                      padded, sent, two)
 from upper_layer import APPLICATION_CONTEXT, EXPLICIT, IMPLICIT, pdu, request_pdu
 
 IMAGES = b"1.2.840.10008.5.1.4.1.1."
@@ -67,8 +68,7 @@ def data_set(words):
                 value.append(data_set(words))
                 words.pop(0)
         else:
-            value = spelled(text)
-            value += (b" " if vr in data_sets.TEXT else b"\0") * (len(value) % 2)
+            value = data_sets.padded(vr, spelled(text))
         found.append((tag, vr, value))
     return sorted(found)
 
@@ -94,8 +94,7 @@ class Scene:
         proposed, syntaxes, maximum = self.contexts[number, context]
         data = None
         if field not in (C_ECHO, C_CANCEL) and words[-1] != "nodata":
-            form = data_sets.EXPLICIT if syntaxes[0] == EXPLICIT else data_sets.IMPLICIT
-            data = data_sets.canonical(data_set(elements[1]), form)
+            data = data_sets.canonical(data_set(elements[1]), form_of(syntaxes[0]))
         kind = two(NO_DATA_SET if data is None else DATA_SET)
         identity = (0x0120 if field == C_CANCEL else 0x0110, two(int(words[2])))
         is_set = field == N_SET
@@ -123,6 +122,10 @@ class Scene:
         self.piece(number, request_pdu(called, calling, contexts, None if maximum == "none" else int(maximum),
                                        int(options.get("version", "1")),
                                        options.get("application", APPLICATION_CONTEXT.decode()).encode()))
+
+    def play_line(self, line):
+        word, *words = shlex.split(line)
+        self.play(word, words)
 
     def play(self, word, words):
         if word in ("open", "end"):
@@ -167,8 +170,7 @@ def main():
                 scene.lines.append(text)
             continue
         try:
-            word, *words = shlex.split(text)
-            scene.play(word, words)
+            scene.play_line(text)
         except (ValueError, IndexError, KeyError) as bad:
             print(f"line {number}: {bad}", file=sys.stderr)
             return 3

@@ -131,9 +131,12 @@ def element(octets, tag, syntax, depth):
         return "SQ", items(part, undefined, inner, depth + 1)
     value = octets.take(length)
     vr = known or "UN"
-    if len(value) % 2 == 1:
-        value += b" " if vr in TEXT else b"\0"
-    return vr, value
+    return vr, padded(vr, value)
+
+
+def padded(vr, value):
+    """A value of even length (PS3.5 section 6.2)."""
+    return value + (b" " if vr in TEXT else b"\0") * (len(value) % 2)
 
 
 def items(octets, delimited, syntax, depth):

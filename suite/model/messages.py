@@ -1,11 +1,16 @@
 """Command sets and messages (PS3.7 section 6.3 and annex E)."""
 import data_sets
-from upper_layer import INVALID, BadPdu, fragments
+from upper_layer import EXPLICIT, INVALID, BadPdu, fragments
 
 LONGEST_COMMAND = 16384
 LONGEST_STORED, LONGEST_OTHER = 67108864, 1048576
 C_STORE, C_FIND, C_ECHO, N_SET, N_CREATE, C_CANCEL = 0x0001, 0x0020, 0x0030, 0x0120, 0x0140, 0x0FFF
 NO_DATA_SET, DATA_SET = 0x0101, 0x0001
+
+
+def form_of(syntax):
+    """What data_sets calls a transfer syntax."""
+    return data_sets.EXPLICIT if syntax == EXPLICIT else data_sets.IMPLICIT
 
 
 def little(octets):

@@ -42,6 +42,9 @@ CLASS_NOT_SUPPORTED, UNRECOGNIZED_OPERATION = 0x0122, 0x0211
 LIMITS = {"studies": 1000000, "images": 1000000, "entries": 1000000, "steps": 1000000, "associations": 64}
 
 
+NAME = re.compile(r"[A-Z0-9_]{1,16}", re.ASCII)
+
+
 class BadConfiguration(Exception):
     pass
 
@@ -89,7 +92,7 @@ def read_configuration(text):
         raise BadConfiguration(1) from None
     names, pairs, institutions = set(), set(), []
     for table in tables:
-        if not re.fullmatch(r"[A-Z0-9_]{1,16}", table["name"], re.ASCII):
+        if not NAME.fullmatch(table["name"]):
             raise BadConfiguration(2)
         if table["name"] in names:
             raise BadConfiguration(4)
@@ -262,7 +265,7 @@ def number_of(text):
 
 
 def name_of(text):
-    if not re.fullmatch(r"[A-Z0-9_]{1,16}", text, re.ASCII):
+    if not NAME.fullmatch(text):
         raise ValueError
     return text
 

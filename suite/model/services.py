@@ -5,6 +5,7 @@ from dataclasses import dataclass, field
 import data_sets
 import matching
 from matching import element_of, only_value, trimmed, values
+from messages import form_of
 from upper_layer import EXPLICIT
 
 SUCCESS, B006, PENDING, PENDING_OPTIONAL = 0x0000, 0xB006, 0xFF00, 0xFF01
@@ -41,15 +42,14 @@ class Records:
 def read(octets, syntax, over, unreadable):
     if octets is None:
         raise Refused(over)
-    form = data_sets.EXPLICIT if syntax == EXPLICIT else data_sets.IMPLICIT
     try:
-        return data_sets.elements(data_sets.Octets(octets), False, form, 0)
+        return data_sets.elements(data_sets.Octets(octets), False, form_of(syntax), 0)
     except data_sets.Fault:
         raise Refused(unreadable) from None
 
 
 def written(data_set, syntax):
-    return data_sets.canonical(data_set, data_sets.EXPLICIT if syntax == EXPLICIT else data_sets.IMPLICIT)
+    return data_sets.canonical(data_set, form_of(syntax))
 
 
 def is_uid(octets):
@@ -88,30 +88,33 @@ def store(records, command, octets, syntax):
     return SUCCESS if all(any(element in one for one in kept) for element in sent) else B006
 
 
-def number(count):
-    text = str(count).encode()
-    return text + b" " * (len(text) % 2)
-
-
 def with_element(data_set, element):
     return sorted([one for one in data_set if one[0] != element[0]] + [element])
+
+
+def with_texts(data_set, *texts):
+    """A data set with these elements, whose values are padded."""
+    for tag, vr, text in texts:
+        data_set = with_element(data_set, (tag, vr, data_sets.padded(vr, text)))
+    return data_set
+
+
+def counted(tag, found):
+    return tag, "IS", str(len(found)).encode()
 
 
 def completed(records, level, key, data_set):
     """A record with its computed keys (PS3.4 section C.6.2.1)."""
     if level == "SERIES":
         images = [one for one, (above, _) in records.images.items() if above == key]
-        return with_element(data_set, ((0x0020, 0x1209), "IS", number(len(images))))
+        return with_texts(data_set, counted((0x0020, 0x1209), images))
     if level != "STUDY":
         return data_set
     series = [one for one, (above, _) in records.series.items() if above == key]
     images = [one for one, (above, _) in records.images.items() if above in series]
     modalities = {value for one in series for value in modalities_of(records.series[one][1])}
-    text = b"\\".join(sorted(modalities)[:1000])
-    for element in ((MODALITIES, "CS", text + b" " * (len(text) % 2)), ((0x0020, 0x1206), "IS", number(len(series))),
-                    ((0x0020, 0x1208), "IS", number(len(images)))):
-        data_set = with_element(data_set, element)
-    return data_set
+    return with_texts(data_set, (MODALITIES, "CS", b"\\".join(sorted(modalities)[:1000])),
+                      counted((0x0020, 0x1206), series), counted((0x0020, 0x1208), images))
 
 
 def modalities_of(data_set):
@@ -152,13 +155,8 @@ def find(records, called, octets, syntax):
 
 
 def found_answer(answer, level, called):
-    text = level.encode()
-    title = called.strip(b" ")
-    for element in ((LEVEL, "CS", text + b" " * (len(text) % 2)),
-                    ((0x0008, 0x0054), "AE", title + b" " * (len(title) % 2)),
-                    ((0x0008, 0x0056), "CS", b"UNAVAILABLE ")):
-        answer = with_element(answer, element)
-    return answer
+    return with_texts(answer, (LEVEL, "CS", level.encode()), ((0x0008, 0x0054), "AE", called.strip(b" ")),
+                      ((0x0008, 0x0056), "CS", b"UNAVAILABLE"))
 
 
 def query(records, octets, syntax):

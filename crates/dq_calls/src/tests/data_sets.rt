@@ -1,4 +1,5 @@
-//! Data sets. What is read and written of the standard's examples and of real clients' data sets is for the suites.
+//! Data sets. What is read and written of the standard's examples and of real clients' data sets is
+//! for the suites.
 use dq_dataset::{DataSet, Element, Elements, Lent, ReadFault, Syntax, Value, laws, read, write};
 use dq_list::Listed;
 use dq_vr::{Tag, Vr, tags};

@@ -130,16 +130,15 @@ fn unsupported_keys_are_struck(rt: HostRuntime) -> Result<(), Fail> {
     Ok(())
 }
 
-// The code item A with meaning Y is in no one of the items (A, X) and (B, Y), as PS3.5 section 7.5 spells
-// them: one item of defined length after another.
+// The code item A with meaning Y is in no one of the items (A, X) and (B, Y), as PS3.5 section 7.5
+// spells them: one item of defined length after another.
 #[test]
 fn one_item_meets_all_keys(rt: HostRuntime) -> Result<(), Fail> {
     let code = tags::REQUESTED_PROCEDURE_CODE_SEQUENCE;
-    let items =
-        b"\xfe\xff\x00\xe0\x14\x00\x00\x00\x08\x00\x00\x01\x02\x00\x00\x00A \x08\x00\x02\x01\x02\x00\x00\x00X \xfe\xff\x00\xe0\x14\x00\x00\x00\x08\x00\x00\x01\x02\x00\x00\x00B \x08\x00\x02\x01\x02\x00\x00\x00Y ";
-    let across =
-        b"\xfe\xff\x00\xe0\x14\x00\x00\x00\x08\x00\x00\x01\x02\x00\x00\x00A \x08\x00\x02\x01\x02\x00\x00\x00Y ";
-    let alone = b"\xfe\xff\x00\xe0\x0a\x00\x00\x00\x08\x00\x00\x01\x02\x00\x00\x00A ";
+    let items = b"\xfe\xff\0\xe0\x14\0\0\0\x08\0\0\x01\x02\0\0\0A \x08\0\x02\x01\x02\0\0\0X \
+        \xfe\xff\0\xe0\x14\0\0\0\x08\0\0\x01\x02\0\0\0B \x08\0\x02\x01\x02\0\0\0Y ";
+    let across = b"\xfe\xff\0\xe0\x14\0\0\0\x08\0\0\x01\x02\0\0\0A \x08\0\x02\x01\x02\0\0\0Y ";
+    let alone = b"\xfe\xff\0\xe0\x0a\0\0\0\x08\0\0\x01\x02\0\0\0A ";
     let held = data_set(rt.alloc(), &[(code, items)])?;
     let two = data_set(rt.alloc(), &[(code, across)])?;
     let one = data_set(rt.alloc(), &[(code, alone)])?;

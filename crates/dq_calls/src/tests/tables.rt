@@ -17,7 +17,7 @@ const SERIES: [u8; 24] = *b"\x20\x00\x0d\x00UI\x04\x001.2\x00\x20\x00\x0e\x00UI\
 const IMAGE: [u8; 24] = *b"\x08\x00\x18\x00UI\x04\x001.4\x00\x20\x00\x0e\x00UI\x04\x001.3\x00";
 
 const ENTRY: [u8; 30] =
-    *b"\x40\x00\x00\x01SQ\x00\x00\x12\x00\x00\x00\xfe\xff\x00\xe0\x0a\x00\x00\x00\x40\x00\x09\x00SH\x02\x00S1";
+    *b"\x40\0\0\x01SQ\0\0\x12\0\0\0\xfe\xff\0\xe0\x0a\0\0\0\x40\0\x09\0SH\x02\0S1";
 
 fn row(
     alloc: Global,
@@ -27,7 +27,13 @@ fn row(
     octets: &[u8],
 ) -> Result<Row, AllocError>
     ensures { IfOk result (λ row. row
-        ≡ record { kind = kind; inst = NORTH.now; key = key.now; above = above.now; octets = octets.now }) }
+        ≡ record {
+          kind = kind;
+          inst = NORTH.now;
+          key = key.now;
+          above = above.now;
+          octets = octets.now;
+        }) }
 {
     Ok(Row {
         kind,
@@ -42,7 +48,13 @@ fn row(
 fn own(alloc: Global, kind: Kind, key: &[u8], above: &[u8], octets: &[u8]) -> Result<Row, Fail>
     requires { length octets.now < 2 ^ 31 }
     ensures same { IfOk result (λ row. row
-        ≡ record { kind = kind; inst = NORTH.now; key = key.now; above = above.now; octets = octets.now }) }
+        ≡ record {
+          kind = kind;
+          inst = NORTH.now;
+          key = key.now;
+          above = above.now;
+          octets = octets.now;
+        }) }
     ensures own { IfOk result (λ row. is_own row ≡ true) }
 {
     let row = row(alloc, kind, key, above, octets)?;

@@ -33,8 +33,8 @@ fn titles_are_stripped_of_spaces(rt: HostRuntime) {
     assert_eq!(rt; stripped(b"    "), b"".as_slice());
 }
 
-// A backslash parts values, but for LT, ST, UT, UR and binary VRs (PS3.5 section 6.4). The parts stand
-// here with a bar behind each.
+// A backslash parts values, but for LT, ST, UT, UR and binary VRs (PS3.5 section 6.4). The parts
+// stand here with a bar behind each.
 #[test]
 fn values_are_parted_by_the_vr(rt: HostRuntime) -> Result<(), Fail> {
     let rows: [(Vr, &[u8], &[u8]); 14] = [
