@@ -118,14 +118,14 @@ unfolding records_above
 above_to k above r records h e under =
     among_filter (λ (s : Record). bytes_eq s.above above) r (records_of k records) (of_kind_to k r records h e) ((bytes_eq-Decides r.above above).1 under)
 
-asked_from : (level : Level) (keys : ElementList) (r : Record) (records : List Record) → IsAmong r (records_asked records level keys)
+pub asked_from : (level : Level) (keys : ElementList) (r : Record) (records : List Record) → IsAmong r (records_asked records level keys)
     → IsAmong r records × (r.kind ≡ kind_of level) × IsUnder level keys r
 unfolding records_asked
 asked_from Study keys r records h = let one = of_kind_from kind.Study r records h in (one.0, one.1, tt)
 asked_from Series keys r records h = above_from kind.Series (key_above tags.study_instance_uid keys) r records h
 asked_from Image keys r records h = above_from kind.Image (key_above tags.series_instance_uid keys) r records h
 
-asked_to : (level : Level) (keys : ElementList) (r : Record) (records : List Record) → IsAmong r records → r.kind ≡ kind_of level → IsUnder level keys r
+pub asked_to : (level : Level) (keys : ElementList) (r : Record) (records : List Record) → IsAmong r records → r.kind ≡ kind_of level → IsUnder level keys r
     → IsAmong r (records_asked records level keys)
 unfolding records_asked
 asked_to Study keys r records h e under = of_kind_to kind.Study r records h e

@@ -7,3 +7,5 @@ mod Counting
 mod InOrder
 mod Looking
 mod Texts
+mod Asked
+mod Modalities

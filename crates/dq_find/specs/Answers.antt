@@ -12,11 +12,12 @@ use Rattle.dq_dataset.specs.Tree.{ElementList}
 use Rattle.dq_match.specs.Keys.{element_at, octets_in}
 use Rattle.dq_match.specs.Matching.{fits}
 use Rattle.dq_tables.specs.Rows.{Record, octet_order}
+use Rattle.dq_tables.specs.Keys.{uid_at}
 use Rattle.dq_find.specs.declared.level.Level.{Level}
 use Rattle.dq_find.specs.declared.level.Level.TheVariants.{Study, Series, Image}
 use Rattle.dq_find.specs.declared.query.Query.{Query}
 use Rattle.dq_find.specs.Levels.{kind_of, name_of}
-use Rattle.dq_find.specs.Computed.{completed}
+use Rattle.dq_find.specs.Computed.{data_set_of, completed}
 use Rattle.dq_find.specs.Queries.{answer, key_above}
 
 -- one of some values
@@ -37,6 +38,18 @@ pub record IsAnswered (records : List Record) (query : Query) (r : Record) : Typ
   pub kind : r.kind ≡ kind_of query.level
   pub under : IsUnder query.level query.keys r
   pub fit : fits query.keys (completed records query.level r) ≡ true
+
+-- the same by what the record holds: it is one of the query's level, and the unique key above has in
+-- its data set the value that the query gives (PS3.4 section C.4.1.2.1)
+abbrev pub HasKeyAbove : Level → ElementList → ElementList → Type 0
+HasKeyAbove Study keys d = Unit {0}
+HasKeyAbove Series keys d = uid_at tags.study_instance_uid d ≡ uid_at tags.study_instance_uid keys
+HasKeyAbove Image keys d = uid_at tags.series_instance_uid d ≡ uid_at tags.series_instance_uid keys
+
+pub record IsAsked (records : List Record) (query : Query) (r : Record) : Type 0 where
+  pub kept : IsAmong r records
+  pub kind : r.kind ≡ kind_of query.level
+  pub key : HasKeyAbove query.level query.keys (data_set_of r.octets)
 
 abbrev pub IsAnswer : List Record → List ℕ → Query → ElementList → Type 0
 IsAnswer records called query d =

@@ -3,3 +3,4 @@ pub mod Computed
 pub mod Queries
 pub mod Looking
 pub mod Answers
+pub mod Modalities

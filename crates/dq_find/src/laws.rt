@@ -1,15 +1,20 @@
 //! Laws of queries. Each function's contract is a law; its body does nothing.
-ghost use Rattle.std.specs.Prelude.{◌≡◌, ◌≢◌, ◌↔◌, ℕ, List, [], Ok};
+ghost use Rattle.std.specs.Prelude.{◌≡◌, ◌≢◌, ◌↔◌, ◌⊎◌, ℕ, true, List, [], Ok};
 ghost use Rattle.std.specs.List.{AllByRecursion};
+ghost use Rattle.std.specs.List.Sorted.{IsStrictlySortedBy};
 ghost use Rattle.dq_dataset.specs.declared.header.Syntax.{Syntax};
 ghost use Rattle.dq_dataset.specs.Tree.{ElementList};
 ghost use Rattle.dq_dimse.specs.Statuses.{success};
 ghost use Rattle.dq_dimse.specs.declared.command.Message.{Message};
 ghost use Rattle.dq_tables.specs.declared.row.Row.{Row};
-ghost use Rattle.dq_tables.specs.Rows.{Record, Edit, IsRising, of, by, after};
+ghost use Rattle.dq_tables.specs.Rows.{Record, Edit, IsRising, octet_order, of, by, after};
+ghost use Rattle.dq_tables.specs.Sound.{IsSound};
 ghost use Rattle.dq_find.specs.declared.query.Query.{Query};
 ghost use Rattle.dq_find.specs.Queries.{query_of, asked_records, answers, found};
-ghost use Rattle.dq_find.specs.Answers.{IsAmong, IsAnswer, AreInOrder, Tells};
+ghost use Rattle.dq_find.specs.Levels.{has_keys_above};
+ghost use Rattle.dq_find.specs.Computed.{modalities_in};
+ghost use Rattle.dq_find.specs.Answers.{IsAmong, IsAsked, IsAnswer, AreInOrder, Tells};
+ghost use Rattle.dq_find.specs.Modalities.{IsModalityOf, IsPast};
 
 /// A query is answered with exactly the records of its level that are under its unique keys and
 /// fit, in the order of their keys (PS3.4 section C.4.1.2.1).
@@ -47,4 +52,24 @@ pub fn other_institutions_change_no_answer()
 pub fn each_answer_tells_who_answers()
     ensures { (records : List Record) (called : List ℕ) (query : Query)
         → AllByRecursion (Tells called query.level) (answers records called query) }
+{}
+
+/// The records that a query asks for are those of its level whose data set has the value that the
+/// query gives the unique key above (PS3.4 section C.4.1.2.1).
+pub fn records_are_asked_by_the_key_above()
+    ensures { (institution : List ℕ) (rows : List Row) (query : Query) (r : Record) → IsSound rows
+        → has_keys_above query.level query.keys ≡ true
+        → IsAmong r (asked_records (of institution rows) query)
+        ↔ IsAsked (of institution rows) query r }
+{}
+
+/// Modalities in Study are the modalities of the study's series, each once, in the order of their
+/// octets: all of them, or the first 1,000 (PS3.4 section C.3.4).
+pub fn modalities_are_those_of_the_series()
+    ensures in_order { (series : List Record)
+        → IsStrictlySortedBy octet_order (modalities_in series) }
+    ensures own { (series : List Record) (value : List ℕ)
+        → IsAmong value (modalities_in series) → IsModalityOf series value }
+    ensures all { (series : List Record) (value : List ℕ) → IsModalityOf series value
+        → IsAmong value (modalities_in series) ⊎ IsPast (modalities_in series) value }
 {}
