@@ -96,7 +96,8 @@ pub element_counted : (s : Syntax) (all : List Element) (i total : ℕ) (e : Ele
     ≡ min (length (canonical s (as_elements all))) 0xFFFFFFFF
 element_counted s all i total e header octets lt is cut head so_far =
     let rest = as_elements (drop (i + 1) all) in
-    let parts : length (canonical s (as_elements (drop i all))) ≡ length (header_of s e.tag e.vr (value_octets s e.value)) + value_octets s e.value + length (canonical s rest) =
+    let parts : length (canonical s (as_elements (drop i all))) ≡ length (header_of s e.tag e.vr (value_octets s e.value)) + value_octets s e.value
+    + length (canonical s rest) =
     ap (λ (x : List Element). length (canonical s (as_elements x))) (from_place all i e lt is) ∙ value_length s e.tag e.vr e.value rest in
     let header_is : header ≡ length (header_of s e.tag e.vr (value_octets s e.value)) =
     head ∙ ap (λ (n : ℕ). length (header_of s e.tag e.vr n)) cut ∙ header_cut s e.tag e.vr (value_octets s e.value) in

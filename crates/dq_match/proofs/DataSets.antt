@@ -62,7 +62,8 @@ elements_by true levels last whole rest h k = h
 elements_by false levels last whole rest h k = k
 
 mutual
-  pub part_facts : (level : Level) (levels : ℕ) (last : Option Tag) (d : ElementList) → AreElements levels last d → AreElements levels last (supported_part level d)
+  pub part_facts : (level : Level) (levels : ℕ) (last : Option Tag) (d : ElementList) → AreElements levels last d
+      → AreElements levels last (supported_part level d)
   part_facts level levels last no_elements h = tt
   part_facts level levels last (element t v o rest) h =
       let others = part_facts level levels (Some t) rest h.2 in
@@ -70,7 +71,8 @@ mutual
       (h.0, h.1, others) (after_earlier levels last t (supported_part level rest) h.0.rises others)
   part_facts level levels last (sequence t v items rest) h =
       let others = part_facts level levels (Some t) rest h.4 in
-      elements_by (is_supported level t) levels last (sequence t v (supported_items (below level t) items) (supported_part level rest)) (supported_part level rest)
+      elements_by (is_supported level t) levels last (sequence t v (supported_items (below level t) items) (supported_part level rest))
+      (supported_part level rest)
       (h.0, h.1, h.2, items_facts (below level t) (levels - 1) items h.3, others) (after_earlier levels last t (supported_part level rest) h.0.rises others)
 
   pub items_facts : (level : Level) (levels : ℕ) (items : ItemList) → AreItems levels items → AreItems levels (supported_items level items)

@@ -55,3 +55,5 @@ pub time_itself : (value : List ℕ) (first last : ℕ) → ends value ≡ None 
 unfolding time_meets bounds
 time_itself value first last one is_time rises =
     rw (one, is_time, true_nat_le first first (omega arith), true_nat_le first last rises) refl
+
+pub ruleset met_by_itself = (wild_itself, same_itself, time_itself)

@@ -68,7 +68,9 @@ unfolding leaves
 left_known Study tag h = among_known tag other_than_keys others_known h
 left_known Series tag h = among_known tag other_than_keys others_known h
 left_known Image tag h = among_known tag other_than_keys others_known h
-left_known Entry tag h = among_known tag other_than_keys others_known (ap (λ (b : Bool). b || is_among tag (tags.query_retrieve_level ∷ tags.retrieve_ae_title ∷ tags.instance_availability ∷ [])) h)
+left_known Entry tag h =
+    among_known tag other_than_keys others_known
+    (ap (λ (b : Bool). b || is_among tag (tags.query_retrieve_level ∷ tags.retrieve_ae_title ∷ tags.instance_availability ∷ [])) h)
 
 supported_known : (level : Level) (tag : Tag) → is_supported level tag ≡ true → is_some (known_vr tag) ≡ true
 unfolding is_supported
@@ -94,7 +96,8 @@ mutual
       known_by (is_supported level t) t (element t v o (supported_part level rest)) (supported_part level rest) (supported_known level t)
       (λ h. (h, part_known level rest)) (part_known level rest)
   part_known level (sequence t v items rest) =
-      known_by (is_supported level t) t (sequence t v (supported_items (below level t) items) (supported_part level rest)) (supported_part level rest) (supported_known level t)
+      known_by (is_supported level t) t (sequence t v (supported_items (below level t) items) (supported_part level rest)) (supported_part level rest)
+      (supported_known level t)
       (λ h. (h, items_known (below level t) items, part_known level rest)) (part_known level rest)
 
   items_known : (level : Level) (items : ItemList) → HaveKnownTags (supported_items level items)

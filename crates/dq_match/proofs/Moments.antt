@@ -70,7 +70,8 @@ is_from_is_order first time date microsecond = (
   ]),
   λ h. (elim h [
     | inl before ↦ or_left (int_lt first date) (int_eq first date && nat_le time.0 microsecond) (true_lt first date before)
-    | inr on ↦ or_right (int_lt first date) (int_eq first date && nat_le time.0 microsecond) (λ i. true_eq first date on.0 i && true_nat_le time.0 microsecond on.1 i)
+    | inr on ↦ or_right (int_lt first date) (int_eq first date && nat_le time.0 microsecond)
+        (λ i. true_eq first date on.0 i && true_nat_le time.0 microsecond on.1 i)
   ]),
 )
 
@@ -83,7 +84,8 @@ is_until_is_order last time date microsecond = (
   ]),
   λ h. (elim h [
     | inl before ↦ or_left (int_lt date last) (int_eq date last && nat_le microsecond time.1) (true_lt date last before)
-    | inr on ↦ or_right (int_lt date last) (int_eq date last && nat_le microsecond time.1) (λ i. true_eq date last on.0 i && true_nat_le microsecond time.1 on.1 i)
+    | inr on ↦ or_right (int_lt date last) (int_eq date last && nat_le microsecond time.1)
+        (λ i. true_eq date last on.0 i && true_nat_le microsecond time.1 on.1 i)
   ]),
 )
 
@@ -125,3 +127,7 @@ same_day d = (λ i. true_le d d (omega (arith, ints)) i && true_le d d (omega (a
 pub single_met : (value : List ℕ) (date : ℤ) → ends value ≡ None → day value ≡ Some date → date_meets value value ≡ true
 unfolding date_meets bounds
 single_met value date one is_date = rw (one, is_date) (same_day date)
+
+pub ruleset ranges = (has_day_between, range_met, single_met, day_halves, time_halves)
+
+pub ruleset periods = (is_from_is_order, is_until_is_order)

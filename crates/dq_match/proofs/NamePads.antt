@@ -13,7 +13,8 @@ unfolding without_trailing
 kept_before-cond test octet last xs true = refl
 kept_before-cond test octet last xs false = kept_before-push test octet last xs
 
-pub without_trailing-push : (test : ℕ → Bool) (last : ℕ) (xs : List ℕ) → without_trailing test (xs ++ last ∷ []) ≡ cond (test last) (without_trailing test xs) (xs ++ last ∷ [])
+pub without_trailing-push : (test : ℕ → Bool) (last : ℕ) (xs : List ℕ) → without_trailing test (xs ++ last ∷ [])
+    ≡ cond (test last) (without_trailing test xs) (xs ++ last ∷ [])
 unfolding without_trailing kept_before
 without_trailing-push test last [] = refl
 without_trailing-push test last (x ∷ xs) = rw (without_trailing-push test last xs) (kept_before-cond test x last xs (test last))
@@ -29,7 +30,8 @@ module _ (test : ℕ → Bool) (kept octets : List ℕ) (same : without_trailing
       cut ∙ sym (without_trailing-push test last others ∙ ap (λ b. cond b (without_trailing test others) (others ++ last ∷ [])) pad)
       ∙ ap (without_trailing test) (sym cut) ∙ same
 
-pub nothing_left : (test : ℕ → Bool) (kept octets : List ℕ) → length kept ≡ 0 → without_trailing test kept ≡ without_trailing test octets → kept ≡ without_trailing test octets
+pub nothing_left : (test : ℕ → Bool) (kept octets : List ℕ) → length kept ≡ 0 → without_trailing test kept ≡ without_trailing test octets
+    → kept ≡ without_trailing test octets
 unfolding without_trailing
 nothing_left test [] octets none same = same
 nothing_left test (x ∷ kept) octets none same = absurd (omega arith)

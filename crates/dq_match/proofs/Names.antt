@@ -39,7 +39,8 @@ wild_alike [] [] (y ∷ ys) h = absurd cc
 wild_alike [] (x ∷ xs) [] h = absurd cc
 wild_alike [] (x ∷ xs) (y ∷ ys) h = refl
 wild_alike (wanted ∷ pattern) a b h =
-    λ i. cond (nat_eq wanted any_run) (run_alike (wild Folded pattern) (wild_alike pattern) a b h i) (one_alike wanted (wild Folded pattern) (wild_alike pattern) a b h i)
+    λ i. cond (nat_eq wanted any_run) (run_alike (wild Folded pattern) (wild_alike pattern) a b h i)
+    (one_alike wanted (wild Folded pattern) (wild_alike pattern) a b h i)
 
 pub name_case : (key value other : List ℕ) → map to_ascii_lowercase (name_of value) ≡ map to_ascii_lowercase (name_of other)
     → value_meets Name key value ≡ value_meets Name key other

@@ -41,7 +41,8 @@ not_same a b differ = grind (arith, nat_tests)
 pub at_octet : (casing : Casing) (first : ℕ) (others text : List ℕ) → (first ≡ any_run → ⊥)
     → wild casing (first ∷ others) text ≡ after_one (stands_for casing first) (wild casing others) text
 at_octet casing first others text differ =
-    ap (λ (b : Bool). cond b (after_run (wild casing others) text) (after_one (stands_for casing first) (wild casing others) text)) (not_same first any_run differ)
+    ap (λ (b : Bool). cond b (after_run (wild casing others) text) (after_one (stands_for casing first) (wild casing others) text))
+    (not_same first any_run differ)
 
 drop_one : (count : ℕ) (xs : List ℕ) (x : ℕ) (rest : List ℕ) → drop count xs ≡ x ∷ rest → drop (count + 1) xs ≡ rest
 drop_one zero (y ∷ ys) x rest h = cc
@@ -71,7 +72,8 @@ IsAlong-more casing pattern text wanted left first octet others rest along is_wa
       no_longer = omega (arith, ap length is_wanted, along.no_longer);
       leads = λ start h.
           after_one_rest (stands_for casing first) (wild casing others) start along.count
-          (sym (at_octet casing first others (drop along.count start) differ) ∙ subst (λ w. wild casing w (drop along.count start) ≡ true) is_wanted (along.leads start h));
+          (sym (at_octet casing first others (drop along.count start) differ)
+          ∙ subst (λ w. wild casing w (drop along.count start) ≡ true) is_wanted (along.leads start h));
       as_well = along.as_well ∙ (λ i. wild casing (is_wanted i) (is_left i)) ∙ at_octet casing first others (octet ∷ rest) differ
           ∙ ap (λ (b : Bool). b && wild casing others rest) stands;
     }
@@ -86,7 +88,8 @@ IsPassed-at casing pattern text wanted left first others along is_wanted is = re
   behind = along.behind;
   shorter = omega (arith, ap length is_wanted, along.no_longer);
   leads = λ start h.
-      sym (at_asterisk casing first others (drop along.count start) is) ∙ subst (λ w. wild casing w (drop along.count start) ≡ true) is_wanted (along.leads start h);
+      sym (at_asterisk casing first others (drop along.count start) is)
+      ∙ subst (λ w. wild casing w (drop along.count start) ≡ true) is_wanted (along.leads start h);
   as_well = along.as_well ∙ ap (λ (w : List ℕ). wild casing w left) is_wanted ∙ at_asterisk casing first others left is;
 }
 

@@ -120,14 +120,16 @@ mutual
       let others = shown_facts rest levels (Some t) place held h.2 k in
       let e : Element = or_empty t v (Octets o) (element_at t held) in
       elements_by (is_key place t) levels last (put e (shown_keys rest place held)) (shown_keys rest place held)
-      (put_facts levels last t e (shown_keys rest place held) h.0 (plain_or_empty levels t v o (element_at t held) h.1 (found_facts levels None t held k)) others)
+      (put_facts levels last t e (shown_keys rest place held) h.0 (plain_or_empty levels t v o (element_at t held) h.1 (found_facts levels None t held k))
+      others)
       (after_earlier levels last t (shown_keys rest place held) h.0.rises others)
   shown_facts (sequence t v items rest) levels last place held h k =
       let others = shown_facts rest levels (Some t) place held h.4 k in
       let e : Element = or_empty t v (Items []) (option_map (with_cut (shown_items items)) (element_at t held)) in
       elements_by (is_key place t) levels last (put e (shown_keys rest place held)) (shown_keys rest place held)
       (put_facts levels last t e (shown_keys rest place held) h.0
-      (sequence_or_empty levels t v (shown_items items) (element_at t held) h.1 h.2 (λ its. items_shown_facts items (levels - 1) its h.3) (found_facts levels None t held k)) others)
+      (sequence_or_empty levels t v (shown_items items) (element_at t held) h.1 h.2 (λ its. items_shown_facts items (levels - 1) its h.3)
+      (found_facts levels None t held k)) others)
       (after_earlier levels last t (shown_keys rest place held) h.0.rises others)
 
   items_shown_facts : (items : ItemList) (levels : ℕ) (held : List ElementList) → AreItems levels items
@@ -180,7 +182,8 @@ known_above tag known key =
     let found : is_some (cond (is_tag specific_character_set tag) (Some CS) others) ≡ true =
     subst (λ (listed : List Entry). is_some (vr_in listed tag) ≡ true) first_of_dictionary known in
     let other : is_tag specific_character_set tag ≡ false =
-    neither (is_tag specific_character_set tag) (list_any (λ wanted. is_tag wanted tag) (query_retrieve_level ∷ retrieve_ae_title ∷ instance_availability ∷ [])) key in
+    neither (is_tag specific_character_set tag)
+    (list_any (λ wanted. is_tag wanted tag) (query_retrieve_level ∷ retrieve_ae_title ∷ instance_availability ∷ [])) key in
     above_all (others_of dictionary) tag rest_above (subst (λ (b : Bool). is_some (cond b (Some CS) others) ≡ true) other found)
 
 set_by : (b : Bool) (whole rest : ElementList) → (b ≡ true → AreElements 16 (Some specific_character_set) whole)
@@ -188,7 +191,8 @@ set_by : (b : Bool) (whole rest : ElementList) → (b ≡ true → AreElements 1
 set_by true whole rest h k = h refl
 set_by false whole rest h k = k
 
-placed_above : (last : Option Tag) (tag : Tag) → IsElementTag last tag → is_below specific_character_set tag ≡ true → IsElementTag (Some specific_character_set) tag
+placed_above : (last : Option Tag) (tag : Tag) → IsElementTag last tag → is_below specific_character_set tag ≡ true
+    → IsElementTag (Some specific_character_set) tag
 placed_above last tag placed above = record {
   rises = above;
   no_delimiter = placed.no_delimiter;
@@ -239,12 +243,14 @@ first_facts (Some e) rest h k above = put_facts 16 None specific_character_set e
 pub shown_is_whole : (identifier held : ElementList) → IsDataSet identifier → HasKnownTags identifier → IsDataSet held
     → IsDataSet (put_first (character_set held) (shown_keys identifier Outer held))
 shown_is_whole identifier held h known k =
-    first_facts (character_set held) (shown_keys identifier Outer held) (set_facts (element_at specific_character_set held) (found_facts 16 None specific_character_set held k))
+    first_facts (character_set held) (shown_keys identifier Outer held)
+    (set_facts (element_at specific_character_set held) (found_facts 16 None specific_character_set held k))
     (shown_is_data_set identifier Outer held h k) (shown_after_set identifier None held h known k)
 
 -- ---- key by key
 
-cut_by_first : (b : Bool) (keys : ElementList) (held : List ElementList) → cond b held (map (λ d. shown_keys keys Inner d) (filter (λ d. all_met Inner keys d) held))
+cut_by_first : (b : Bool) (keys : ElementList) (held : List ElementList)
+    → cond b held (map (λ d. shown_keys keys Inner d) (filter (λ d. all_met Inner keys d) held))
     ≡ cut_by (cond b None (Some keys)) held
 cut_by_first true keys held = refl
 cut_by_first false keys held = refl
@@ -262,7 +268,8 @@ with_cut-same : (t : Tag) (v : Vr) (x : Value) (f g : List ElementList → List 
 with_cut-same t v (Octets o) f g same = refl
 with_cut-same t v (Items items) f g same = ap (λ (its : List ElementList). record { tag = t; vr = v; value = Items its }) (same items)
 
-plain_shown : (t : Tag) (v : Vr) (o : List ℕ) (held : Option Element) → or_empty t v (Octets o) held ≡ shown_element (record { tag = t; vr = v; value = Octets o }) held
+plain_shown : (t : Tag) (v : Vr) (o : List ℕ) (held : Option Element)
+    → or_empty t v (Octets o) held ≡ shown_element (record { tag = t; vr = v; value = Octets o }) held
 plain_shown t v o None = refl
 plain_shown t v o (Some e) = sym (with_cut-whole e.tag e.vr e.value)
 
@@ -277,21 +284,28 @@ put_by false e rest = refl
 
 shown_by : (t : Tag) (v : Vr) (x : Value) (place : Place) (rest held : ElementList)
     → elements_of (shown_keys (with_value (record { tag = t; vr = v; value = x }) x rest) place held)
-    ≡ cond (is_key place t) (shown_element (record { tag = t; vr = v; value = x }) (element_at t held) ∷ elements_of (shown_keys rest place held)) (elements_of (shown_keys rest place held))
+    ≡ cond (is_key place t) (shown_element (record { tag = t; vr = v; value = x }) (element_at t held) ∷ elements_of (shown_keys rest place held))
+    (elements_of (shown_keys rest place held))
 shown_by t v (Octets o) place rest held =
     put_by (is_key place t) (or_empty t v (Octets o) (element_at t held)) (shown_keys rest place held)
-    ∙ ap (λ (e : Element). cond (is_key place t) (e ∷ elements_of (shown_keys rest place held)) (elements_of (shown_keys rest place held))) (plain_shown t v o (element_at t held))
+    ∙ ap (λ (e : Element). cond (is_key place t) (e ∷ elements_of (shown_keys rest place held)) (elements_of (shown_keys rest place held)))
+    (plain_shown t v o (element_at t held))
 shown_by t v (Items items) place rest held =
     put_by (is_key place t) (or_empty t v (Items []) (option_map (with_cut (shown_items (items_of items))) (element_at t held))) (shown_keys rest place held)
-    ∙ ap (λ (e : Element). cond (is_key place t) (e ∷ elements_of (shown_keys rest place held)) (elements_of (shown_keys rest place held))) (sequence_shown t v items (element_at t held))
+    ∙ ap (λ (e : Element). cond (is_key place t) (e ∷ elements_of (shown_keys rest place held)) (elements_of (shown_keys rest place held)))
+    (sequence_shown t v items (element_at t held))
 
-module _ (keys : List Element) (place : Place) (held : ElementList) (done : List Element) (i : ℕ) (key : Element) (lt : i < length keys) (is : key ≡ get_or keys i key)
+module _ (keys : List Element) (place : Place) (held : ElementList) (done : List Element) (i : ℕ) (key : Element) (lt : i < length keys)
+    (is : key ≡ get_or keys i key)
     (so_far : done ++ elements_of (shown_keys (as_elements (drop i keys)) place held) ≡ elements_of (shown_keys (as_elements keys) place held)) where
   here : (b : Bool) → is_key place key.tag ≡ b
-      → elements_of (shown_keys (as_elements (drop i keys)) place held) ≡ cond b (shown_element key (element_at key.tag held) ∷ elements_of (shown_keys (as_elements (drop (i + 1) keys)) place held)) (elements_of (shown_keys (as_elements (drop (i + 1) keys)) place held))
+      → elements_of (shown_keys (as_elements (drop i keys)) place held)
+      ≡ cond b (shown_element key (element_at key.tag held) ∷ elements_of (shown_keys (as_elements (drop (i + 1) keys)) place held))
+      (elements_of (shown_keys (as_elements (drop (i + 1) keys)) place held))
   here b test = ap (λ (es : List Element). elements_of (shown_keys (as_elements es) place held)) (from_place keys i key lt is)
       ∙ shown_by key.tag key.vr key.value place (as_elements (drop (i + 1) keys)) held
-      ∙ ap (λ (x : Bool). cond x (shown_element key (element_at key.tag held) ∷ elements_of (shown_keys (as_elements (drop (i + 1) keys)) place held)) (elements_of (shown_keys (as_elements (drop (i + 1) keys)) place held))) test
+      ∙ ap (λ (x : Bool). cond x (shown_element key (element_at key.tag held) ∷ elements_of (shown_keys (as_elements (drop (i + 1) keys)) place held))
+      (elements_of (shown_keys (as_elements (drop (i + 1) keys)) place held))) test
 
   pub key_shown : (e : Element) (after : List Element) → is_key place key.tag ≡ true → e ≡ shown_element key (element_at key.tag held) → after ≡ done ++ e ∷ []
       → after ++ elements_of (shown_keys (as_elements (drop (i + 1) keys)) place held) ≡ elements_of (shown_keys (as_elements keys) place held)
@@ -308,9 +322,11 @@ module _ (keys : ElementList) (items done : List ElementList) (i : ℕ) (d : Ele
     (so_far : done ++ map (λ d. shown_keys keys Inner d) (filter (λ d. all_met Inner keys d) (drop i items))
     ≡ map (λ d. shown_keys keys Inner d) (filter (λ d. all_met Inner keys d) items)) where
   item_here : (b : Bool) → all_met Inner keys d ≡ b → map (λ d. shown_keys keys Inner d) (filter (λ d. all_met Inner keys d) (drop i items))
-      ≡ map (λ d. shown_keys keys Inner d) (cond b (d ∷ filter (λ d. all_met Inner keys d) (drop (i + 1) items)) (filter (λ d. all_met Inner keys d) (drop (i + 1) items)))
+      ≡ map (λ d. shown_keys keys Inner d) (cond b (d ∷ filter (λ d. all_met Inner keys d) (drop (i + 1) items))
+      (filter (λ d. all_met Inner keys d) (drop (i + 1) items)))
   item_here b test = ap (λ (ds : List ElementList). map (λ d. shown_keys keys Inner d) (filter (λ d. all_met Inner keys d) ds)) (from_place items i d lt is)
-      ∙ ap (λ (x : Bool). map (λ d. shown_keys keys Inner d) (cond x (d ∷ filter (λ d. all_met Inner keys d) (drop (i + 1) items)) (filter (λ d. all_met Inner keys d) (drop (i + 1) items)))) test
+      ∙ ap (λ (x : Bool). map (λ d. shown_keys keys Inner d) (cond x (d ∷ filter (λ d. all_met Inner keys d) (drop (i + 1) items))
+      (filter (λ d. all_met Inner keys d) (drop (i + 1) items)))) test
 
   pub item_shown : (cut : ElementList) (after : List ElementList) → all_met Inner keys d ≡ true → cut ≡ shown_keys keys Inner d → after ≡ done ++ cut ∷ []
       → after ++ map (λ d. shown_keys keys Inner d) (filter (λ d. all_met Inner keys d) (drop (i + 1) items))

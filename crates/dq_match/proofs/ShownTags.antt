@@ -53,8 +53,10 @@ keys_shown (element t v o rest) place held =
     tags_by (is_key place t) t (or_empty t v (Octets o) (element_at t held)) (shown_keys rest place held) (filter (is_key place) (tags_of rest))
     (empty_tag t v (Octets o) (element_at t held) (found_tag t (elements_of held))) (keys_shown rest place held)
 keys_shown (sequence t v items rest) place held =
-    tags_by (is_key place t) t (or_empty t v (Items []) (option_map (with_cut (shown_items items)) (element_at t held))) (shown_keys rest place held) (filter (is_key place) (tags_of rest))
-    (empty_tag t v (Items []) (option_map (with_cut (shown_items items)) (element_at t held)) (cut_tag t (shown_items items) (element_at t held) (found_tag t (elements_of held))))
+    tags_by (is_key place t) t (or_empty t v (Items []) (option_map (with_cut (shown_items items)) (element_at t held))) (shown_keys rest place held)
+    (filter (is_key place) (tags_of rest))
+    (empty_tag t v (Items []) (option_map (with_cut (shown_items items)) (element_at t held))
+    (cut_tag t (shown_items items) (element_at t held) (found_tag t (elements_of held))))
     (keys_shown rest place held)
 
 set_by : (b : Bool) (e : Element) → HasTag specific_character_set (Some e) → HasTag specific_character_set (cond b None (Some e))
@@ -65,12 +67,14 @@ set_tag : (found : Option Element) → HasTag specific_character_set found → H
 set_tag None h = tt
 set_tag (Some e) h = set_by (is_empty (parts e.vr (octets_in (Some e)))) e h
 
-first_tags : (first : Option Element) (rest : ElementList) → HasTag specific_character_set first → tags_of (put_first first rest) ≡ set_tags first (tags_of rest)
+first_tags : (first : Option Element) (rest : ElementList) → HasTag specific_character_set first
+    → tags_of (put_first first rest) ≡ set_tags first (tags_of rest)
 first_tags None rest h = refl
 first_tags (Some e) rest h = put_tag e.tag e.vr e.value rest ∙ ap (λ (t : Tag). t ∷ tags_of rest) h
 
 pub tags_shown : (identifier held : ElementList) → tags_of (shown identifier held) ≡ set_tags (character_set held) (filter (is_key Outer) (tags_of identifier))
 unfolding shown
 tags_shown identifier held =
-    first_tags (character_set held) (shown_keys identifier Outer held) (set_tag (element_at specific_character_set held) (found_tag specific_character_set (elements_of held)))
+    first_tags (character_set held) (shown_keys identifier Outer held)
+    (set_tag (element_at specific_character_set held) (found_tag specific_character_set (elements_of held)))
     ∙ ap (set_tags (character_set held)) (keys_shown identifier Outer held)

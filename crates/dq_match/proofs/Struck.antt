@@ -41,7 +41,8 @@ mutual
   untouched level (sequence t v items rest) h =
       let parts = neither (not (is_supported level t) || have_unsupported (below level t) items) (has_unsupported level rest) h in
       let here = neither (not (is_supported level t)) (have_unsupported (below level t) items) parts.0 in
-      ap (λ (b : Bool). cond b (sequence t v (supported_items (below level t) items) (supported_part level rest)) (supported_part level rest)) (is_kept (is_supported level t) here.0)
+      ap (λ (b : Bool). cond b (sequence t v (supported_items (below level t) items) (supported_part level rest)) (supported_part level rest))
+      (is_kept (is_supported level t) here.0)
       ∙ (λ i. sequence t v (untouched_inside (below level t) items here.1 i) (untouched level rest parts.1 i))
 
   untouched_inside : (level : Level) (items : ItemList) → have_unsupported level items ≡ false → supported_items level items ≡ items

@@ -89,7 +89,8 @@ nothing_universal : (vr : Vr) → is_universal vr [] ≡ true
 unfolding is_universal
 nothing_universal vr = ap (λ (values : List (List ℕ)). is_empty values || (is_padded vr && is_asterisk values)) (no_parts vr)
 
-found_by : (b : Bool) (e : Element) (others : Option Element) → is_universal e.vr (value_octets e.value) ≡ true → IsUniversal others → IsUniversal (cond b (Some e) others)
+found_by : (b : Bool) (e : Element) (others : Option Element) → is_universal e.vr (value_octets e.value) ≡ true → IsUniversal others
+    → IsUniversal (cond b (Some e) others)
 found_by true e others h k = h
 found_by false e others h k = k
 
@@ -140,3 +141,5 @@ mutual
 pub universal_met : (place : Place) (keys held : ElementList) → all_universal keys ≡ true → all_met place keys held ≡ true
 universal_met place keys held h =
     ap (λ (p : Option Bool). with_period p (each_met keys place held)) (no_period keys held h) ∙ each_universal keys place held h
+
+pub ruleset universal_keys = (universal_octets, universal_met)

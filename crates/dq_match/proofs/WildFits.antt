@@ -73,7 +73,8 @@ fits_wild _ _ _ (run casing pattern before after fits) = run_from (wild casing p
 fits_wild _ _ _ (one casing octet pattern text fits) = fits_wild casing pattern text fits
 fits_wild _ _ _ (itself casing wanted octet pattern text differ same_octet fits) =
     at_octet casing wanted pattern (octet ∷ text) differ
-    ∙ (λ i. or_true (nat_eq wanted any_one) (same casing wanted octet) (same_test (compared casing wanted) (compared casing octet) same_octet) i && fits_wild casing pattern text fits i)
+    ∙ (λ i. or_true (nat_eq wanted any_one) (same casing wanted octet) (same_test (compared casing wanted) (compared casing octet) same_octet) i
+    && fits_wild casing pattern text fits i)
 
 pub wild_is_fits : (casing : Casing) (pattern text : List ℕ) → (wild casing pattern text ≡ true) ↔ Fits casing pattern text
 wild_is_fits casing pattern text = (wild_fits casing pattern text, fits_wild casing pattern text)

@@ -25,7 +25,8 @@ abbrev mutual
   pub HasKnownTags : ElementList → Type 0
   HasKnownTags no_elements = Unit {0}
   HasKnownTags (element tag vr octets rest) = (is_some (known_vr tag) ≡ true) × HasKnownTags rest
-  HasKnownTags (sequence tag vr items rest) = (is_some (known_vr tag) ≡ true) × HaveKnownTags items × HasKnownTags rest
+  HasKnownTags (sequence tag vr items rest) =
+      (is_some (known_vr tag) ≡ true) × HaveKnownTags items × HasKnownTags rest
 
   pub HaveKnownTags : ItemList → Type 0
   HaveKnownTags no_items = Unit {0}

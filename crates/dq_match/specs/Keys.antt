@@ -40,9 +40,11 @@ items_in (Some e) = value_items e.value
 abbrev pub is_tag : Tag → Tag → Bool
 is_tag wanted tag = (wanted.group == tag.group) && (wanted.element == tag.element)
 
--- the elements of an identifier that tell how it is answered, and are no keys (PS3.4 sections C.4.1.1.3 and K.4.1.1.3)
+-- the elements of an identifier that tell how it is answered, and are no keys (PS3.4 sections
+-- C.4.1.1.3 and K.4.1.1.3)
 abbrev pub other_than_keys : List Tag
-other_than_keys = specific_character_set ∷ query_retrieve_level ∷ retrieve_ae_title ∷ instance_availability ∷ []
+other_than_keys =
+    specific_character_set ∷ query_retrieve_level ∷ retrieve_ae_title ∷ instance_availability ∷ []
 
 -- inside items every element is a key
 abbrev pub is_key : Place → Tag → Bool

@@ -43,9 +43,10 @@ start_time held = do
   octets ← sole_at scheduled_procedure_step_start_time held
   span octets
 
--- Where a range of dates and a range of times ask for the start of a procedure step, they are one period, from the first day at the
--- first time to the last day at the last time (table K.6-1). That is so where the record has one date and one time there: the
--- answer is then whether they are in the period.
+-- Where a range of dates and a range of times ask for the start of a procedure step, they are one
+-- period, from the first day at the first time to the last day at the last time (table K.6-1). That
+-- is so where the record has one date and one time there: the answer is then whether they are in
+-- the period.
 unfoldable pub period : ElementList → ElementList → Option Bool
 period keys held = do
   days ← asked_days keys
@@ -55,7 +56,8 @@ period keys held = do
   Some (is_within days times date time)
 
 abbrev pub is_start : Tag → Bool
-is_start tag = is_tag scheduled_procedure_step_start_date tag || is_tag scheduled_procedure_step_start_time tag
+is_start tag =
+    is_tag scheduled_procedure_step_start_date tag || is_tag scheduled_procedure_step_start_time tag
 
 -- the elements that are not met each for itself: what is no key, and the date and time of a period
 abbrev pub is_passed : Place → Bool → Tag → Bool
@@ -66,15 +68,18 @@ abbrev pub with_period : Option Bool → (Bool → Bool) → Bool
 with_period None met = met false
 with_period (Some in_period) met = in_period && met true
 
--- Every key is met by the element with its tag. A sequence key is met where one item of the record meets all keys of its item; a
--- sequence of the record without items is unknown, and meets every key (C.2.2.2.6).
+-- Every key is met by the element with its tag. A sequence key is met where one item of the record
+-- meets all keys of its item; a sequence of the record without items is unknown, and meets every
+-- key (C.2.2.2.6).
 abbrev mutual
   pub each_met : ElementList → Place → ElementList → Bool → Bool
   each_met no_elements place held joined = true
   each_met (element tag vr octets rest) place held joined =
-      (is_passed place joined tag || octets_meet vr octets (octets_in (element_at tag held))) && each_met rest place held joined
+      (is_passed place joined tag || octets_meet vr octets (octets_in (element_at tag held)))
+      && each_met rest place held joined
   each_met (sequence tag vr items rest) place held joined =
-      (is_passed place joined tag || items_meet items (items_in (element_at tag held))) && each_met rest place held joined
+      (is_passed place joined tag || items_meet items (items_in (element_at tag held)))
+      && each_met rest place held joined
 
   pub items_meet : ItemList → List ElementList → Bool
   items_meet no_items held = true

@@ -32,7 +32,8 @@ abbrev pub single : {A : Type 0} → A → Bounds A
 single value = (Some value, Some value)
 
 -- a range, or else one date or time
-abbrev pub bounds_by_ends : {A : Type 0} → (List ℕ → Option A) → List ℕ → Option Ends → Option (Bounds A)
+abbrev pub bounds_by_ends : {A : Type 0} → (List ℕ → Option A) → List ℕ → Option Ends
+    → Option (Bounds A)
 bounds_by_ends read octets None = option_map single (read octets)
 bounds_by_ends read octets (Some found) = bounds_of_ends read found
 
@@ -46,11 +47,15 @@ unless_open test (Some end) = test end
 
 -- both ends are included
 abbrev pub has_day : Bounds ℤ → ℤ → Bool
-has_day range date = unless_open (λ first. int_le first date) range.0 && unless_open (λ last. int_le date last) range.1
+has_day range date =
+    unless_open (λ first. int_le first date) range.0
+    && unless_open (λ last. int_le date last) range.1
 
 -- a time is where its first microsecond is, and a range ends with the last microsecond of its end
 abbrev pub has_time : Bounds Span → Span → Bool
-has_time range time = unless_open (λ first. nat_le first.0 time.0) range.0 && unless_open (λ last. nat_le time.0 last.1) range.1
+has_time range time =
+    unless_open (λ first. nat_le first.0 time.0) range.0
+    && unless_open (λ last. nat_le time.0 last.1) range.1
 
 -- a key is met by a value that is well formed and not outside
 abbrev pub both : {A B : Type 0} → (A → B → Bool) → Option A → Option B → Bool
@@ -66,16 +71,19 @@ time_meets key value = both has_time (bounds span key) (span value)
 
 -- ---- a date and a time together (PS3.4 table K.6-1)
 
--- A moment is not before the first day and, on that day, not before the first time. A day that is left open sets no bound, and a
--- time that is left open none within its day.
+-- A moment is not before the first day and, on that day, not before the first time. A day that is
+-- left open sets no bound, and a time that is left open none within its day.
 abbrev pub is_from : Option ℤ → Option Span → ℤ → ℕ → Bool
 is_from days times date microsecond =
-    unless_open (λ first. int_lt first date || (int_eq first date && unless_open (λ time. nat_le time.0 microsecond) times)) days
+    let in_time = unless_open (λ time. nat_le time.0 microsecond) times in
+    unless_open (λ first. int_lt first date || (int_eq first date && in_time)) days
 
 -- nor after the last day and, on that day, after the last time
 abbrev pub is_until : Option ℤ → Option Span → ℤ → ℕ → Bool
 is_until days times date microsecond =
-    unless_open (λ last. int_lt date last || (int_eq date last && unless_open (λ time. nat_le microsecond time.1) times)) days
+    let in_time = unless_open (λ time. nat_le microsecond time.1) times in
+    unless_open (λ last. int_lt date last || (int_eq date last && in_time)) days
 
 abbrev pub is_within : Bounds ℤ → Bounds Span → ℤ → Span → Bool
-is_within days times date time = is_from days.0 times.0 date time.0 && is_until days.1 times.1 date time.0
+is_within days times date time =
+    is_from days.0 times.0 date time.0 && is_until days.1 times.1 date time.0

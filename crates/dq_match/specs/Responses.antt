@@ -41,23 +41,25 @@ cut_value cut (Items items) = Items (cut items)
 abbrev pub with_cut : (List ElementList → List ElementList) → Element → Element
 with_cut cut e = record { tag = e.tag; vr = e.vr; value = cut_value cut e.value }
 
--- For each key the record's element. A sequence key with keys in its item shows the record's items that meet them all, each cut to
--- these keys; else it shows the record's items whole.
+-- For each key the record's element. A sequence key with keys in its item shows the record's items
+-- that meet them all, each cut to these keys; else it shows the record's items whole.
 abbrev mutual
   pub shown_keys : ElementList → Place → ElementList → ElementList
   shown_keys no_elements place held = no_elements
   shown_keys (element tag vr octets rest) place held =
-      if is_key place tag then put (or_empty tag vr (Octets octets) (element_at tag held)) (shown_keys rest place held)
+      if is_key place tag
+      then put (or_empty tag vr (Octets octets) (element_at tag held)) (shown_keys rest place held)
       else shown_keys rest place held
   shown_keys (sequence tag vr items rest) place held =
-      if is_key place tag
-      then put (or_empty tag vr (Items []) (option_map (with_cut (shown_items items)) (element_at tag held))) (shown_keys rest place held)
+      let found = option_map (with_cut (shown_items items)) (element_at tag held) in
+      if is_key place tag then put (or_empty tag vr (Items []) found) (shown_keys rest place held)
       else shown_keys rest place held
 
   pub shown_items : ItemList → List ElementList → List ElementList
   shown_items no_items held = held
   shown_items (item keys others) held =
-      if has_no_elements keys then held else map (λ d. shown_keys keys Inner d) (filter (λ d. all_met Inner keys d) held)
+      if has_no_elements keys then held
+      else map (λ d. shown_keys keys Inner d) (filter (λ d. all_met Inner keys d) held)
 
 -- the record's character set, where it has a value
 abbrev pub unless_empty : Option Element → Option Element
@@ -85,7 +87,8 @@ cut_keys (Items (keys ∷ others)) = if has_no_elements keys then None else Some
 
 abbrev pub cut_by : Option ElementList → List ElementList → List ElementList
 cut_by None held = held
-cut_by (Some keys) held = map (λ d. shown_keys keys Inner d) (filter (λ d. all_met Inner keys d) held)
+cut_by (Some keys) held =
+    map (λ d. shown_keys keys Inner d) (filter (λ d. all_met Inner keys d) held)
 
 abbrev pub shown_found : Element → Element → Element
 shown_found key found = with_cut (cut_by (cut_keys key.value)) found

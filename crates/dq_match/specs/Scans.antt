@@ -5,14 +5,16 @@ use Rattle.dq_match.specs.declared.wildcards.Casing.{Casing}
 use Rattle.dq_match.specs.declared.wildcards.Scan.{Scan}
 use Rattle.dq_match.specs.declared.wildcards.Scan.TheVariants.{End, Mismatch, Star}
 
--- A pattern went along `count` octets of a text to an asterisk, and fits the text just where what is left of it fits what is left of
--- the text after some run. Wherever the pattern fits, what is left of it fits after so many octets and some run.
+-- A pattern went along `count` octets of a text to an asterisk, and fits the text just where what
+-- is left of it fits what is left of the text after some run. Wherever the pattern fits, what is
+-- left of it fits after so many octets and some run.
 pub record IsPassed (casing : Casing) (pattern text others rest : List ℕ) : Type 0 where
   pub count : ℕ
   pub within : count ≤ length text
   pub behind : rest ≡ drop count text
   pub shorter : length others < length pattern
-  pub leads : (start : List ℕ) → wild casing pattern start ≡ true → after_run (wild casing others) (drop count start) ≡ true
+  pub leads : (start : List ℕ) → wild casing pattern start ≡ true
+      → after_run (wild casing others) (drop count start) ≡ true
   pub as_well : wild casing pattern text ≡ after_run (wild casing others) rest
 
 abbrev pub IsScan : Casing → List ℕ → List ℕ → Scan → Type 0

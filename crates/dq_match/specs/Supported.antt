@@ -18,31 +18,36 @@ is_among tag listed = list_any (λ one. is_tag one tag) listed
 
 abbrev pub study_keys : List Tag
 study_keys =
-    tags.study_date ∷ tags.study_time ∷ tags.accession_number ∷ tags.modalities_in_study ∷ tags.referring_physician_name
-    ∷ tags.study_description ∷ tags.patient_name ∷ tags.patient_id ∷ tags.issuer_of_patient_id ∷ tags.patient_birth_date
-    ∷ tags.patient_sex ∷ tags.study_instance_uid ∷ tags.study_id ∷ tags.number_of_study_related_series
+    tags.study_date ∷ tags.study_time ∷ tags.accession_number ∷ tags.modalities_in_study
+    ∷ tags.referring_physician_name ∷ tags.study_description ∷ tags.patient_name ∷ tags.patient_id
+    ∷ tags.issuer_of_patient_id ∷ tags.patient_birth_date ∷ tags.patient_sex
+    ∷ tags.study_instance_uid ∷ tags.study_id ∷ tags.number_of_study_related_series
     ∷ tags.number_of_study_related_instances ∷ []
 
 abbrev pub series_keys : List Tag
 series_keys =
-    tags.series_date ∷ tags.series_time ∷ tags.modality ∷ tags.series_description ∷ tags.body_part_examined
-    ∷ tags.study_instance_uid ∷ tags.series_instance_uid ∷ tags.series_number ∷ tags.number_of_series_related_instances ∷ []
+    tags.series_date ∷ tags.series_time ∷ tags.modality ∷ tags.series_description
+    ∷ tags.body_part_examined ∷ tags.study_instance_uid ∷ tags.series_instance_uid
+    ∷ tags.series_number ∷ tags.number_of_series_related_instances ∷ []
 
 abbrev pub image_keys : List Tag
 image_keys =
-    tags.image_type ∷ tags.sop_class_uid ∷ tags.sop_instance_uid ∷ tags.content_date ∷ tags.content_time
-    ∷ tags.study_instance_uid ∷ tags.series_instance_uid ∷ tags.instance_number ∷ tags.rows ∷ tags.columns ∷ []
+    tags.image_type ∷ tags.sop_class_uid ∷ tags.sop_instance_uid ∷ tags.content_date
+    ∷ tags.content_time ∷ tags.study_instance_uid ∷ tags.series_instance_uid ∷ tags.instance_number
+    ∷ tags.rows ∷ tags.columns ∷ []
 
 abbrev pub entry_keys : List Tag
 entry_keys =
     tags.accession_number ∷ tags.referring_physician_name ∷ tags.admitting_diagnoses_description
-    ∷ tags.referenced_study_sequence ∷ tags.referenced_patient_sequence
-    ∷ tags.patient_name ∷ tags.patient_id ∷ tags.issuer_of_patient_id ∷ tags.patient_birth_date ∷ tags.patient_sex
-    ∷ tags.patient_weight ∷ tags.medical_alerts ∷ tags.allergies ∷ tags.pregnancy_status ∷ tags.patient_comments
-    ∷ tags.study_instance_uid ∷ tags.requesting_physician ∷ tags.requesting_service ∷ tags.requested_procedure_description
-    ∷ tags.requested_procedure_code_sequence ∷ tags.admission_id ∷ tags.special_needs ∷ tags.current_patient_location
-    ∷ tags.patient_state ∷ tags.scheduled_procedure_step_sequence ∷ tags.requested_procedure_id
-    ∷ tags.reason_for_the_requested_procedure ∷ tags.requested_procedure_priority ∷ tags.patient_transport_arrangements
+    ∷ tags.referenced_study_sequence ∷ tags.referenced_patient_sequence ∷ tags.patient_name
+    ∷ tags.patient_id ∷ tags.issuer_of_patient_id ∷ tags.patient_birth_date ∷ tags.patient_sex
+    ∷ tags.patient_weight ∷ tags.medical_alerts ∷ tags.allergies ∷ tags.pregnancy_status
+    ∷ tags.patient_comments ∷ tags.study_instance_uid ∷ tags.requesting_physician
+    ∷ tags.requesting_service ∷ tags.requested_procedure_description
+    ∷ tags.requested_procedure_code_sequence ∷ tags.admission_id ∷ tags.special_needs
+    ∷ tags.current_patient_location ∷ tags.patient_state ∷ tags.scheduled_procedure_step_sequence
+    ∷ tags.requested_procedure_id ∷ tags.reason_for_the_requested_procedure
+    ∷ tags.requested_procedure_priority ∷ tags.patient_transport_arrangements
     ∷ tags.requested_procedure_comments ∷ tags.placer_order_number_imaging_service_request
     ∷ tags.filler_order_number_imaging_service_request ∷ []
 
@@ -50,12 +55,15 @@ abbrev pub step_keys : List Tag
 step_keys =
     tags.modality ∷ tags.scheduled_station_ae_title ∷ tags.scheduled_procedure_step_start_date
     ∷ tags.scheduled_procedure_step_start_time ∷ tags.scheduled_performing_physician_name
-    ∷ tags.scheduled_procedure_step_description ∷ tags.scheduled_protocol_code_sequence ∷ tags.scheduled_procedure_step_id
-    ∷ tags.scheduled_station_name ∷ tags.scheduled_procedure_step_location ∷ tags.pre_medication
+    ∷ tags.scheduled_procedure_step_description ∷ tags.scheduled_protocol_code_sequence
+    ∷ tags.scheduled_procedure_step_id ∷ tags.scheduled_station_name
+    ∷ tags.scheduled_procedure_step_location ∷ tags.pre_medication
     ∷ tags.scheduled_procedure_step_status ∷ []
 
 abbrev pub code_keys : List Tag
-code_keys = tags.code_value ∷ tags.coding_scheme_designator ∷ tags.coding_scheme_version ∷ tags.code_meaning ∷ []
+code_keys =
+    tags.code_value ∷ tags.coding_scheme_designator ∷ tags.coding_scheme_version ∷ tags.code_meaning
+    ∷ []
 
 abbrev pub reference_keys : List Tag
 reference_keys = tags.referenced_sop_class_uid ∷ tags.referenced_sop_instance_uid ∷ []
@@ -66,7 +74,8 @@ keys_of Series = series_keys
 keys_of Image = image_keys
 keys_of Entry = entry_keys
 
--- What is no key stays in an identifier too. A worklist query has no level and no retrieval, so of that it has the character set alone.
+-- What is no key stays in an identifier too. A worklist query has no level and no retrieval, so of
+-- that it has the character set alone.
 unfoldable pub leaves : KeyList → Tag → Bool
 leaves Study tag = is_among tag other_than_keys
 leaves Series tag = is_among tag other_than_keys
@@ -80,12 +89,16 @@ is_supported Code tag = is_among tag code_keys
 is_supported Reference tag = is_among tag reference_keys
 is_supported Other tag = false
 
+abbrev pub is_reference : Tag → Bool
+is_reference tag =
+    is_tag tags.referenced_study_sequence tag || is_tag tags.referenced_patient_sequence tag
+
 -- the level of a sequence's items
 abbrev pub below_entry : Tag → Level
 below_entry tag =
     if is_tag tags.scheduled_procedure_step_sequence tag then Step
     else (if is_tag tags.requested_procedure_code_sequence tag then Code
-    else (if is_tag tags.referenced_study_sequence tag || is_tag tags.referenced_patient_sequence tag then Reference else Other))
+    else (if is_reference tag then Reference else Other))
 
 abbrev pub below_step : Tag → Level
 below_step tag = if is_tag tags.scheduled_protocol_code_sequence tag then Code else Other
@@ -105,9 +118,11 @@ abbrev mutual
   pub supported_part : Level → ElementList → ElementList
   supported_part level no_elements = no_elements
   supported_part level (element tag vr octets rest) =
-      if is_supported level tag then element tag vr octets (supported_part level rest) else supported_part level rest
+      if is_supported level tag then element tag vr octets (supported_part level rest)
+      else supported_part level rest
   supported_part level (sequence tag vr items rest) =
-      if is_supported level tag then sequence tag vr (supported_items (below level tag) items) (supported_part level rest)
+      if is_supported level tag
+      then sequence tag vr (supported_items (below level tag) items) (supported_part level rest)
       else supported_part level rest
 
   pub supported_items : Level → ItemList → ItemList
@@ -118,9 +133,11 @@ abbrev mutual
 abbrev mutual
   pub has_unsupported : Level → ElementList → Bool
   has_unsupported level no_elements = false
-  has_unsupported level (element tag vr octets rest) = not (is_supported level tag) || has_unsupported level rest
+  has_unsupported level (element tag vr octets rest) =
+      not (is_supported level tag) || has_unsupported level rest
   has_unsupported level (sequence tag vr items rest) =
-      (not (is_supported level tag) || have_unsupported (below level tag) items) || has_unsupported level rest
+      (not (is_supported level tag) || have_unsupported (below level tag) items)
+      || has_unsupported level rest
 
   pub have_unsupported : Level → ItemList → Bool
   have_unsupported level no_items = false

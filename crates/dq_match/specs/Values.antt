@@ -18,8 +18,8 @@ use Rattle.dq_match.specs.Ranges.{bounds, date_meets, time_meets}
 abbrev pub is_same : List ℕ → List ℕ → Bool
 is_same a b = pointwise nat_eq a b
 
--- how a VR is matched: names by wild card whatever their case, other text by wild card, dates and times by range, and the rest by
--- equality
+-- how a VR is matched: names by wild card whatever their case, other text by wild card, dates and
+-- times by range, and the rest by equality
 unfoldable pub matching_of : Vr → Matching
 matching_of PN = Name
 matching_of AE = WildCard
@@ -34,7 +34,8 @@ matching_of DA = Date
 matching_of TM = Time
 matching_of _ = Equality
 
--- spaces and the delimiters `^` and `=` after the last component of a name say nothing (PS3.5 section 6.2.1)
+-- spaces and the delimiters `^` and `=` after the last component of a name say nothing (PS3.5
+-- section 6.2.1)
 abbrev pub is_name_pad : ℕ → Bool
 is_name_pad octet = (nat_eq octet 0x20 || nat_eq octet 0x5e) || nat_eq octet 0x3d
 
@@ -56,7 +57,8 @@ is_asterisk (value ∷ []) = is_same value (any_run ∷ [])
 is_asterisk (value ∷ (next ∷ others)) = false
 
 unfoldable pub is_universal : Vr → List ℕ → Bool
-is_universal vr octets = is_empty (parts vr octets) || (is_padded vr && is_asterisk (parts vr octets))
+is_universal vr octets =
+    is_empty (parts vr octets) || (is_padded vr && is_asterisk (parts vr octets))
 
 -- some value of the key is met by some value of the record (C.2.2.2.2)
 abbrev pub some_meet : Matching → List (List ℕ) → List (List ℕ) → Bool
@@ -65,7 +67,8 @@ some_meet matching keys values = list_any (λ key. list_any (value_meets matchin
 -- A record without values is unknown, and meets every key.
 unfoldable pub octets_meet : Vr → List ℕ → List ℕ → Bool
 octets_meet vr key held =
-    (is_universal vr key || is_empty (parts vr held)) || some_meet (matching_of vr) (parts vr key) (parts vr held)
+    (is_universal vr key || is_empty (parts vr held))
+    || some_meet (matching_of vr) (parts vr key) (parts vr held)
 
 -- a value of a date or time key is one date or time, or a range
 abbrev pub is_well_formed : Matching → List ℕ → Bool
@@ -74,4 +77,5 @@ is_well_formed Time key = is_some (bounds span key)
 is_well_formed _ key = true
 
 unfoldable pub are_well_formed : Vr → List ℕ → Bool
-are_well_formed vr key = is_universal vr key || list_all (is_well_formed (matching_of vr)) (parts vr key)
+are_well_formed vr key =
+    is_universal vr key || list_all (is_well_formed (matching_of vr)) (parts vr key)

@@ -7,8 +7,8 @@ ghost use Rattle.dq_match.specs.Identifiers.{at_most_one, is_query, are_queries}
 use crate::values::are_well_formed;
 use dq_dataset::{DataSet, Element, Value};
 
-/// Whether each value of a date or time key is one date or time, or a range, and each sequence key has
-/// at most one item, inside items too. Universal keys may have any value.
+/// Whether each value of a date or time key is one date or time, or a range, and each sequence key
+/// has at most one item, inside items too. Universal keys may have any value.
 #[cycle(identifiers)]
 pub fn is_query(identifier: &DataSet) -> bool
     ensures { result ≡ is_query identifier.now }

@@ -15,8 +15,8 @@ pub enum Place {
     Inner,
 }
 
-/// The elements of an identifier that tell how it is answered, and are no keys (PS3.4 sections C.4.1.1.3
-/// and K.4.1.1.3).
+/// The elements of an identifier that tell how it is answered, and are no keys (PS3.4 sections
+/// C.4.1.1.3 and K.4.1.1.3).
 pub(crate) static OTHER_THAN_KEYS: [Tag; 4] = [
     tags::SPECIFIC_CHARACTER_SET,
     tags::QUERY_RETRIEVE_LEVEL,

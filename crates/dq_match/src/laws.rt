@@ -24,12 +24,13 @@ ghost use Rattle.dq_match.specs.ShownTags.{tags_of, set_tags};
 /// A pattern fits a text by the cases of PS3.4 section C.2.2.2.4 just where it is computed to.
 #[tactic(auto, using(crate::proofs::WildFits::wild_is_fits))]
 pub fn wild_cards_fit()
-    ensures { (casing : Casing) (pattern text : List ℕ) → (wild casing pattern text ≡ true) ↔ Fits casing pattern text }
+    ensures { (casing : Casing) (pattern text : List ℕ)
+        → (wild casing pattern text ≡ true) ↔ Fits casing pattern text }
 {}
 
 /// A value is met by itself, whatever its kind (PS3.4 section C.2.2.2.1). Of dates
 /// `ranges_take_what_is_between` says so.
-#[tactic(auto, using(crate::proofs::Itself::wild_itself, crate::proofs::Itself::same_itself, crate::proofs::Itself::time_itself))]
+#[tactic(auto, using(crate::proofs::Itself::met_by_itself))]
 pub fn a_value_meets_itself()
     ensures text { (value : List ℕ) → value_meets WildCard value value ≡ true }
     ensures name { (value : List ℕ) → value_meets Name value value ≡ true }
@@ -40,22 +41,26 @@ pub fn a_value_meets_itself()
 
 /// A universal key is met by every record, and keys that are all universal are met together
 /// (PS3.4 section C.2.2.2.3).
-#[tactic(auto, using(crate::proofs::Universal::universal_octets, crate::proofs::Universal::universal_met))]
+#[tactic(auto, using(crate::proofs::Universal::universal_keys))]
 pub fn universal_keys_are_met()
-    ensures one { (vr : Vr) (key held : List ℕ) → is_universal vr key ≡ true → octets_meet vr key held ≡ true }
-    ensures all { (place : Place) (keys held : ElementList) → all_universal keys ≡ true → all_met place keys held ≡ true }
+    ensures one { (vr : Vr) (key held : List ℕ)
+        → is_universal vr key ≡ true → octets_meet vr key held ≡ true }
+    ensures all { (place : Place) (keys held : ElementList)
+        → all_universal keys ≡ true → all_met place keys held ≡ true }
 {}
 
-/// A range of dates takes the days from its first to its last, a date that is its own key is met, and a range
-/// is the meeting of its two halves (PS3.4 sections C.2.2.2.1 and C.2.2.2.5).
-#[tactic(auto, using(crate::proofs::Moments::has_day_between, crate::proofs::Moments::range_met, crate::proofs::Moments::single_met, crate::proofs::Moments::day_halves, crate::proofs::Moments::time_halves))]
+/// A range of dates takes the days from its first to its last, a date that is its own key is met,
+/// and a range is the meeting of its two halves (PS3.4 sections C.2.2.2.1 and C.2.2.2.5).
+#[tactic(auto, using(crate::proofs::Moments::ranges))]
 pub fn ranges_take_what_is_between()
     ensures between { (first last date : ℤ)
         → (has_day (Some first, Some last) date ≡ true) ↔ ((first ≤ℤ date) × (date ≤ℤ last)) }
-    ensures spelled { (key from to value : List ℕ) (first last date : ℤ) → ends key ≡ Some (end_of from, end_of to)
+    ensures spelled { (key from to value : List ℕ) (first last date : ℤ)
+        → ends key ≡ Some (end_of from, end_of to)
         → day from ≡ Some first → day to ≡ Some last → day value ≡ Some date
         → date_meets key value ≡ has_day (Some first, Some last) date }
-    ensures single { (value : List ℕ) (date : ℤ) → ends value ≡ None → day value ≡ Some date → date_meets value value ≡ true }
+    ensures single { (value : List ℕ) (date : ℤ)
+        → ends value ≡ None → day value ≡ Some date → date_meets value value ≡ true }
     ensures days { (range : Bounds ℤ) (date : ℤ)
         → has_day range date ≡ (has_day (range.0, None) date && has_day (None, range.1) date) }
     ensures times { (range : Bounds Span) (time : Span)
@@ -63,7 +68,7 @@ pub fn ranges_take_what_is_between()
 {}
 
 /// A period is an order of moments, by day and then by microsecond (PS3.4 table K.6-1).
-#[tactic(auto, using(crate::proofs::Moments::is_from_is_order, crate::proofs::Moments::is_until_is_order))]
+#[tactic(auto, using(crate::proofs::Moments::periods))]
 pub fn periods_are_an_order()
     ensures from { (first : ℤ) (time : Span) (date : ℤ) (microsecond : ℕ)
         → (is_from (Some first) (Some time) date microsecond ≡ true)
@@ -83,19 +88,22 @@ pub fn names_are_met_in_any_case()
         → value_meets Name key (value ++ pad ∷ []) ≡ value_meets Name key value }
 {}
 
-/// What is left of an identifier has nothing that is not supported, and nothing is struck just where it is
-/// left as it was.
+/// What is left of an identifier has nothing that is not supported, and nothing is struck just
+/// where it is left as it was.
 #[tactic(auto, using(crate::proofs::Struck::nothing_left, crate::proofs::Struck::nothing_struck))]
 pub fn striking_again_strikes_nothing()
-    ensures again { (level : Level) (identifier : ElementList) → has_unsupported level (supported_part level identifier) ≡ false }
+    ensures again { (level : Level) (identifier : ElementList)
+        → has_unsupported level (supported_part level identifier) ≡ false }
     ensures nothing { (level : Level) (identifier : ElementList)
-        → (has_unsupported level identifier ≡ false) ↔ (supported_part level identifier ≡ identifier) }
+        → (has_unsupported level identifier ≡ false)
+        ↔ (supported_part level identifier ≡ identifier) }
 {}
 
-/// What is shown of a record has the tags of the keys, after that of the character set where the record has
-/// one (PS3.4 section C.4.1.1.3.2).
+/// What is shown of a record has the tags of the keys, after that of the character set where the
+/// record has one (PS3.4 section C.4.1.1.3.2).
 #[tactic(auto, using(crate::proofs::ShownTags::tags_shown))]
 pub fn what_is_asked_is_shown()
     ensures { (identifier held : ElementList)
-        → tags_of (shown identifier held) ≡ set_tags (character_set held) (filter (is_key Outer) (tags_of identifier)) }
+        → tags_of (shown identifier held)
+        ≡ set_tags (character_set held) (filter (is_key Outer) (tags_of identifier)) }
 {}

@@ -1,5 +1,5 @@
-//! Whether a data set can be written: whether the length of each value and of each item is below FFFFFFFFH
-//! (PS3.5 section 7.1).
+//! Whether a data set can be written: whether the length of each value and of each item is below
+//! FFFFFFFFH (PS3.5 section 7.1).
 ghost use Rattle.std.specs.Prelude.{◌≡◌, ◌↔◌, IsTrue, min, length};
 ghost use Rattle.dq_vr.specs.declared.Tag.{Tag};
 ghost use Rattle.dq_dataset.specs.View.{as_elements, items_of};
@@ -74,8 +74,8 @@ fn have_lengths(elements: &[Element], syntax: Syntax) -> bool
     true
 }
 
-/// Whether the length of each value and of each item in the canonical spelling of the data set is below
-/// FFFFFFFFH, so that it can be written (PS3.5 section 7.1).
+/// Whether the length of each value and of each item in the canonical spelling of the data set is
+/// below FFFFFFFFH, so that it can be written (PS3.5 section 7.1).
 pub fn can_be_written(data_set: &DataSet, syntax: Syntax) -> bool
     ensures { IsTrue result ↔ HasLengths syntax data_set.now }
 {

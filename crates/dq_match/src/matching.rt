@@ -53,8 +53,8 @@ fn start_time(held: &DataSet) -> Option<Span>
     time_of(sole_at(SCHEDULED_PROCEDURE_STEP_START_TIME, held)?)
 }
 
-/// Whether the start of the record's procedure step is in the period that the keys ask for, where they
-/// ask for one and the record has one date and one time (PS3.4 table K.6-1).
+/// Whether the start of the record's procedure step is in the period that the keys ask for, where
+/// they ask for one and the record has one date and one time (PS3.4 table K.6-1).
 #[tactic(auto, unfolding(crate::specs::Matching::period))]
 fn period(keys: &DataSet, held: &DataSet) -> Option<bool>
     ensures { result ≡ period keys.now held.now }
@@ -89,8 +89,8 @@ pub(crate) fn all_met(place: Place, keys: &DataSet, held: &DataSet) -> bool
     }
 }
 
-/// Whether each key is met by the element with its tag. The start of a procedure step is passed over
-/// where its date and time are joined.
+/// Whether each key is met by the element with its tag. The start of a procedure step is passed
+/// over where its date and time are joined.
 #[cycle(matching)]
 fn each_met(place: Place, joined: bool, keys: &[Element], held: &DataSet) -> bool
     ensures { result ≡ each_met (as_elements keys.now) place held.now joined }

@@ -84,7 +84,8 @@ fn has_day(range: Bounds<Date>, date: Date) -> bool
 }
 
 fn is_day_from(first: Option<Date>, date: Date) -> bool
-    ensures { result ≡ unless_open (λ first. int_le first (epoch_day date)) (option_map epoch_day first) }
+    ensures { result ≡ unless_open (λ first. int_le first (epoch_day date))
+        (option_map epoch_day first) }
 {
     match first {
         Some(first) => first <= date,
@@ -93,7 +94,8 @@ fn is_day_from(first: Option<Date>, date: Date) -> bool
 }
 
 fn is_day_until(last: Option<Date>, date: Date) -> bool
-    ensures { result ≡ unless_open (λ last. int_le (epoch_day date) last) (option_map epoch_day last) }
+    ensures { result ≡ unless_open (λ last. int_le (epoch_day date) last)
+        (option_map epoch_day last) }
 {
     match last {
         Some(last) => date <= last,
@@ -165,8 +167,8 @@ fn is_until(days: Option<Date>, times: Option<Span>, date: Date, microsecond: u6
     }
 }
 
-/// Whether a moment is in the period from the first day at the first time to the last day at the last
-/// time (PS3.4 table K.6-1).
+/// Whether a moment is in the period from the first day at the first time to the last day at the
+/// last time (PS3.4 table K.6-1).
 pub(crate) fn is_within(days: Bounds<Date>, times: Bounds<Span>, date: Date, time: Span) -> bool
     ensures { result ≡ is_within (days_of days) times (epoch_day date) time }
 {

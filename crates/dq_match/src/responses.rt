@@ -16,7 +16,8 @@ use dq_vr::tags::SPECIFIC_CHARACTER_SET;
 use std::alloc::{AllocError, Global};
 
 /// The answer to a query: the final status, whether the identifier had keys that are not supported
-/// and were left out, and the data sets of the pending responses in order (PS3.4 section C.4.1.1.4).
+/// and were left out, and the data sets of the pending responses in order (PS3.4 section
+/// C.4.1.1.4).
 #[derive(Debug, Drop)]
 pub struct Found {
     pub status: u16,
@@ -141,8 +142,8 @@ fn shown_found(alloc: Global, key: &Element, found: &Element) -> Result<Element,
 /// The items that meet all keys, each cut to them.
 #[cycle(shown)]
 fn shown_items(alloc: Global, keys: &DataSet, items: &[DataSet]) -> Result<Vec<DataSet>, AllocError>
-    ensures { IfOk result (λ shown. shown.items
-        ≡ map (λ d. shown_keys keys.now Inner d) (filter (λ d. all_met Inner keys.now d) items.now)) }
+    ensures { IfOk result (λ shown. shown.items ≡ map (λ d. shown_keys keys.now Inner d)
+        (filter (λ d. all_met Inner keys.now d) items.now)) }
 {
     let mut shown = Vec::new(alloc);
     for item in items {

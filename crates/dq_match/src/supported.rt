@@ -14,8 +14,8 @@ use dq_list::Listed;
 use dq_vr::{Tag, tags};
 use std::alloc::{AllocError, Global};
 
-/// Which identifier a list of keys is for: of a Study Root query at one of its levels, or of a worklist
-/// query (PS3.4 tables C.6-2 to C.6-4 and K.6-1).
+/// Which identifier a list of keys is for: of a Study Root query at one of its levels, or of a
+/// worklist query (PS3.4 tables C.6-2 to C.6-4 and K.6-1).
 #[derive(Clone, Copy, Debug, PartialEq, Eq)]
 pub enum KeyList {
     Study,
@@ -240,7 +240,8 @@ fn supported_elements(
     level: Level,
     keys: &[Element],
 ) -> Result<Vec<Element>, AllocError>
-    ensures { IfOk result (λ kept. kept.items ≡ elements_of (supported_part level (as_elements keys.now))) }
+    ensures { IfOk result (λ kept. kept.items
+        ≡ elements_of (supported_part level (as_elements keys.now))) }
 {
     let mut kept = Vec::new(alloc);
     for key in keys {
@@ -278,7 +279,8 @@ fn supported_items(
     level: Level,
     items: &[DataSet],
 ) -> Result<Vec<DataSet>, AllocError>
-    ensures { IfOk result (λ kept. kept.items ≡ list_of (supported_items level (items_of items.now))) }
+    ensures { IfOk result (λ kept. kept.items
+        ≡ list_of (supported_items level (items_of items.now))) }
 {
     let mut kept = Vec::new(alloc);
     for item in items {
@@ -328,15 +330,17 @@ fn have_unsupported(level: Level, items: &[DataSet]) -> bool
     false
 }
 
-/// The identifier without the elements that the list does not support, inside items too, and whether
-/// there were any. What is left has tags of the data dictionary alone.
+/// The identifier without the elements that the list does not support, inside items too, and
+/// whether there were any. What is left has tags of the data dictionary alone.
 pub fn strike(
     alloc: Global,
     identifier: &DataSet,
     list: KeyList,
 ) -> Result<(DataSet, bool), AllocError>
-    ensures part { IfOk result (λ struck. struck.0 ≡ supported_part (Identifier list) identifier.now) }
-    ensures optional { IfOk result (λ struck. struck.1 ≡ has_unsupported (Identifier list) identifier.now) }
+    ensures part { IfOk result
+        (λ struck. struck.0 ≡ supported_part (Identifier list) identifier.now) }
+    ensures optional { IfOk result
+        (λ struck. struck.1 ≡ has_unsupported (Identifier list) identifier.now) }
     ensures known { IfOk result (λ struck. HasKnownTags struck.0) }
 {
     let level = Level::Identifier(list);

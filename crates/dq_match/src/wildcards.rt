@@ -19,7 +19,8 @@ pub fn wild(pattern: &[u8], text: &[u8]) -> bool
     wild_by(Casing::Exact, pattern, text)
 }
 
-/// How far a pattern goes along a text: to the end of both, to octets that differ, or to an asterisk.
+/// How far a pattern goes along a text: to the end of both, to octets that differ, or to an
+/// asterisk.
 #[derive(Clone, Copy)]
 pub(crate) enum Scan<'a> {
     End,

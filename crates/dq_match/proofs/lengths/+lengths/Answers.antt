@@ -17,7 +17,8 @@ elements_length-value_length-octets-requires t c =
 pub elements_length-loop-element-preserved : goal.elements_length-loop-element-preserved
 elements_length-loop-element-preserved t c =
     let e = c.element-item.result in
-    let counted = element_counted c.args.syntax c.args.elements.now c.loop-element.element-index c.loop-element.total e c.header_length-header.result c.value_length-octets.result
+    let counted = element_counted c.args.syntax c.args.elements.now c.loop-element.element-index c.loop-element.total e c.header_length-header.result
+    c.value_length-octets.result
     c.loop-element-test.true c.element-item.is c.value_length-octets.ensures (c.header_length-header.ensures e.tag) c.loop-element.invariant.1 in
     (rw c.saturating_add-total.ensures (omega arith), rw (c.saturating_add-total.ensures, c.saturating_add.ensures) counted)
 

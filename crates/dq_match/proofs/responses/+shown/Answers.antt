@@ -20,24 +20,31 @@ shown_keys-shown_element-requires t c =
 pub shown_items-from_elements-requires : goal.shown_items-from_elements-requires
 shown_items-from_elements-requires t c =
     let keys : as_elements c.elements.result.now ≡ c.args.keys.now = ap as_elements c.elements.ensures.elements ∙ as_elements-elements_of c.args.keys.now in
-    let held : as_elements c.elements-in-loop-item.result.now ≡ c.item-item.result = ap as_elements c.elements-in-loop-item.ensures.elements ∙ as_elements-elements_of c.item-item.result in
-    let built = ap as_elements c.in_ok-elements.ensures ∙ as_elements-elements_of (shown_keys (as_elements c.elements.result.now) Inner (as_elements c.elements-in-loop-item.result.now))
+    let held : as_elements c.elements-in-loop-item.result.now ≡ c.item-item.result = ap as_elements c.elements-in-loop-item.ensures.elements
+    ∙ as_elements-elements_of c.item-item.result in
+    let built = ap as_elements c.in_ok-elements.ensures
+    ∙ as_elements-elements_of (shown_keys (as_elements c.elements.result.now) Inner (as_elements c.elements-in-loop-item.result.now))
     ∙ (λ i. shown_keys (keys i) Inner (held i)) in
-    subst (λ (d : ElementList). IsDataSet d) (sym built) (shown_is_data_set c.args.keys.now Inner c.item-item.result c.elements.ensures.facts c.elements-in-loop-item.ensures.facts)
+    subst (λ (d : ElementList). IsDataSet d) (sym built)
+    (shown_is_data_set c.args.keys.now Inner c.item-item.result c.elements.ensures.facts c.elements-in-loop-item.ensures.facts)
 
 pub shown_items-loop-item-preserved : goal.shown_items-loop-item-preserved
 shown_items-loop-item-preserved t c =
     let keys : as_elements c.elements.result.now ≡ c.args.keys.now = ap as_elements c.elements.ensures.elements ∙ as_elements-elements_of c.args.keys.now in
-    let held : as_elements c.elements-in-loop-item.result.now ≡ c.item-item.result = ap as_elements c.elements-in-loop-item.ensures.elements ∙ as_elements-elements_of c.item-item.result in
-    let built = c.from_elements.ensures ∙ ap as_elements c.in_ok-elements.ensures ∙ as_elements-elements_of (shown_keys (as_elements c.elements.result.now) Inner (as_elements c.elements-in-loop-item.result.now))
+    let held : as_elements c.elements-in-loop-item.result.now ≡ c.item-item.result = ap as_elements c.elements-in-loop-item.ensures.elements
+    ∙ as_elements-elements_of c.item-item.result in
+    let built = c.from_elements.ensures ∙ ap as_elements c.in_ok-elements.ensures
+    ∙ as_elements-elements_of (shown_keys (as_elements c.elements.result.now) Inner (as_elements c.elements-in-loop-item.result.now))
     ∙ (λ i. shown_keys (keys i) Inner (held i)) in
-    item_shown c.args.keys.now c.args.items.now c.loop-item.shown.items c.loop-item.item-index c.item-item.result (omega arith) c.item-item.is c.loop-item.invariant
+    item_shown c.args.keys.now c.args.items.now c.loop-item.shown.items c.loop-item.item-index c.item-item.result (omega arith) c.item-item.is
+    c.loop-item.invariant
     c.from_elements.result c.push.new.self.items (sym c.all_met.ensures ∙ c.if-not-all_met.false) built c.in_ok-push.ensures.items
 
 pub shown_keys-loop-key-preserved : goal.shown_keys-loop-key-preserved
 shown_keys-loop-key-preserved t c =
     let key = c.key-item.result in
     let found = c.element_at.ensures ∙ ap (find (has_tag key.tag)) (sym (elements_of-as_elements c.args.held.now)) in
-    key_shown c.args.keys.now c.args.place (as_elements c.args.held.now) c.loop-key.shown.items c.loop-key.key-index key (omega arith) c.key-item.is c.loop-key.invariant
+    key_shown c.args.keys.now c.args.place (as_elements c.args.held.now) c.loop-key.shown.items c.loop-key.key-index key (omega arith) c.key-item.is
+    c.loop-key.invariant
     c.in_ok-shown_element.field-0 c.push.new.self.items (sym c.is_key.ensures ∙ c.if-not-is_key.false)
     (c.in_ok-shown_element.ensures ∙ ap (shown_element key) found) c.in_ok-push.ensures.items

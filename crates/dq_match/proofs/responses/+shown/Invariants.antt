@@ -21,7 +21,8 @@ decreases-shown_items l = 4 * item_count l.keys.now + 3
 
 abbrev pub invariant-shown_keys-loop-key : goal.invariant-shown_keys-loop-key
 invariant-shown_keys-loop-key l =
-    l.shown.items ++ elements_of (shown_keys (as_elements (drop l.key-index l.keys)) l.place (as_elements l.held)) ≡ elements_of (shown_keys (as_elements l.keys) l.place (as_elements l.held))
+    l.shown.items ++ elements_of (shown_keys (as_elements (drop l.key-index l.keys)) l.place (as_elements l.held))
+    ≡ elements_of (shown_keys (as_elements l.keys) l.place (as_elements l.held))
 
 abbrev pub invariant-shown_items-loop-item : goal.invariant-shown_items-loop-item
 invariant-shown_items-loop-item l =
