@@ -1,6 +1,6 @@
 -- Lengths of canonical spellings, counted up to FFFFFFFFH.
-use Rattle.std.proofs.Common.{◌≡◌, ℕ, zero, suc, ◌+◌, ◌<◌, ◌≤◌, min, Bool, true, false, cond, ltb, List, [], ◌∷◌, ◌++◌, length, get_or, drop, refl, sym, ap, ◌∙◌, subst, arith, ◌↔◌}
-use Rattle.std.specs.Int.{w16, w32, to_le_bytes}
+use Rattle.std.proofs.Common.{◌≡◌, ℕ, ◌+◌, ◌<◌, ◌≤◌, min, Bool, true, false, cond, ltb, List, ◌++◌, length, get_or, drop, refl, sym, ap, ◌∙◌, subst, arith, ◌↔◌}
+use Rattle.std.specs.Int.{w16, to_le_bytes}
 use Rattle.std.proofs.lemmas.List.{length-append}
 use Rattle.std.proofs.lemmas.Bool.Decides.{nat_tests}
 use Rattle.dq_vr.specs.declared.Tag.{Tag}
@@ -160,8 +160,3 @@ module _ (s : Syntax) (all : List Element) (i : ℕ) (e : Element) (lt : i < len
         λ h. so_far.0 (subst (λ (x : List Element). HasLengths s (as_elements x)) (sym parts) (all_have_lengths s e.tag e.vr e.value rest short h)),
         λ h. (first_has_length s e.tag e.vr e.value rest (subst (λ (x : List Element). HasLengths s (as_elements x)) parts (so_far.1 h))).1,
       )
-
-  pub no_lengths : HasLengths s (as_elements all) → value_octets s e.value < 0xFFFFFFFF
-  no_lengths h =
-      let parts = from_place all i e lt is in
-      (first_has_length s e.tag e.vr e.value (as_elements (drop (i + 1) all)) (subst (λ (x : List Element). HasLengths s (as_elements x)) parts (so_far.1 h))).0

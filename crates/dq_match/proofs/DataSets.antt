@@ -1,16 +1,11 @@
 -- What is put together of data sets is a data set.
-use Rattle.std.proofs.Common.{◌≡◌, ℕ, zero, suc, ◌-◌, ◌+◌, ◌<◌, ◌%◌, Bool, true, false, cond, ◌||◌, ◌&&◌, List, [], ◌∷◌, ◌++◌, Option, Some, None, length, refl, sym, ap, ◌∙◌, subst, arith, nat_eq, is_some}
+use Rattle.std.proofs.Common.{◌≡◌, ℕ, ◌-◌, Bool, true, false, cond, Option, Some, None, refl, arith}
 use Rattle.std.proofs.lemmas.Bool.Decides.{nat_tests}
 use Rattle.dq_vr.specs.declared.Tag.{Tag}
-use Rattle.dq_vr.specs.declared.Vr.{Vr}
 use Rattle.dq_vr.specs.Tag.{is_below}
-use Rattle.dq_dataset.specs.declared.data_set.Element.{Element}
-use Rattle.dq_dataset.specs.declared.data_set.Value.{Value}
-use Rattle.dq_dataset.specs.declared.data_set.Value.TheVariants.{Octets, Items}
 use Rattle.dq_dataset.specs.Tree.{ElementList, no_elements, element, sequence, ItemList, no_items, item}
-use Rattle.dq_dataset.specs.View.{items_of, with_value}
 use Rattle.dq_dataset.specs.Reading.{follows}
-use Rattle.dq_dataset.specs.Facts.{IsElementTag, IsPlain, IsSequence, AreElements, AreItems}
+use Rattle.dq_dataset.specs.Facts.{IsElementTag, AreElements, AreItems}
 use Rattle.dq_match.specs.declared.supported.Level.{Level}
 use Rattle.dq_match.specs.Supported.{is_supported, below, supported_part, supported_items}
 
@@ -37,22 +32,6 @@ pub after_earlier : (levels : ℕ) (last : Option Tag) (tag : Tag) (d : ElementL
 after_earlier levels last tag no_elements e h = tt
 after_earlier levels last tag (element t v o rest) e h = (earlier last tag t e h.0, h.1, h.2)
 after_earlier levels last tag (sequence t v items rest) e h = (earlier last tag t e h.0, h.1, h.2, h.3, h.4)
-
--- ---- fewer levels
-
-level_left : (fewer levels : ℕ) → fewer < levels + 1 → 0 < fewer → 0 < levels
-level_left fewer levels le h = omega arith
-
-mutual
-  pub deeper : (fewer levels : ℕ) (last : Option Tag) (d : ElementList) → fewer < levels + 1 → AreElements fewer last d → AreElements levels last d
-  deeper fewer levels last no_elements le h = tt
-  deeper fewer levels last (element t v o rest) le h = (h.0, h.1, deeper fewer levels (Some t) rest le h.2)
-  deeper fewer levels last (sequence t v items rest) le h =
-      (h.0, h.1, level_left fewer levels le h.2, items_deeper (fewer - 1) (levels - 1) items (omega arith) h.3, deeper fewer levels (Some t) rest le h.4)
-
-  pub items_deeper : (fewer levels : ℕ) (items : ItemList) → fewer < levels + 1 → AreItems fewer items → AreItems levels items
-  items_deeper fewer levels no_items le h = tt
-  items_deeper fewer levels (item d rest) le h = (deeper fewer levels None d le h.0, items_deeper fewer levels rest le h.1)
 
 -- ---- the supported part
 

@@ -1,15 +1,12 @@
 -- A value is met by itself.
-use Rattle.std.proofs.Common.{◌≡◌, ℕ, ◌≤◌, Bool, true, false, nat_eq, nat_le, ◌||◌, ◌&&◌, List, [], ◌∷◌, Option, Some, None, refl, arith}
-use Rattle.std.specs.Cmp.Lexicographic.{pointwise}
+use Rattle.std.proofs.Common.{◌≡◌, ℕ, ◌≤◌, Bool, true, false, nat_eq, nat_le, ◌||◌, List, [], ◌∷◌, Some, None, refl, arith}
 use Rattle.std.proofs.lemmas.Bool.Decides.{nat_tests}
 use Rattle.dq_value.specs.Time.{span}
 use Rattle.dq_value.specs.Range.{ends}
 use Rattle.dq_match.specs.declared.wildcards.Casing.{Casing}
-use Rattle.dq_match.specs.declared.wildcards.Casing.TheVariants.{Folded}
-use Rattle.dq_match.specs.declared.values.Matching.TheVariants.{Name, Equality}
-use Rattle.dq_match.specs.Wildcards.{wild, any_run, any_one, compared, same, stands_for, after_run, after_one}
-use Rattle.dq_match.specs.Values.{is_same, name_of, value_meets}
-use Rattle.dq_match.specs.Ranges.{bounds, has_time, time_meets}
+use Rattle.dq_match.specs.Wildcards.{wild, any_run, any_one, compared, same, stands_for, after_run}
+use Rattle.dq_match.specs.Values.{is_same}
+use Rattle.dq_match.specs.Ranges.{bounds, time_meets}
 
 nat_itself : (n : ℕ) → nat_eq n n ≡ true
 nat_itself n = grind (arith, nat_tests)

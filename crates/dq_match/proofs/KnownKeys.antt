@@ -1,7 +1,7 @@
 -- The data dictionary has every tag that is supported.
-use Rattle.std.proofs.Common.{◌≡◌, ℕ, Bool, true, false, cond, ◌||◌, ◌&&◌, List, [], ◌∷◌, Option, Some, None, refl, sym, ap, ◌∙◌, subst, arith, nat_eq, is_some, inl, inr, ◌⊎◌}
+use Rattle.std.proofs.Common.{◌≡◌, Bool, true, false, cond, ◌||◌, ◌&&◌, List, [], ◌∷◌, refl, ap, subst, arith, is_some, inl, inr, ◌⊎◌}
 use Rattle.std.proofs.lemmas.Bool.Decides.{nat_tests}
-use Rattle.std.specs.List.{list_any, list_all}
+use Rattle.std.specs.List.{list_all}
 use Rattle.dq_vr.specs.declared.Tag.{Tag}
 use Rattle.dq_vr.specs.Dictionary.{dictionary, vr_in, known_vr}
 use Rattle.dq_vr.specs.Tags as tags

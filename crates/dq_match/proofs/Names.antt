@@ -1,5 +1,5 @@
 -- Names are met whatever their case, and whatever pads are at their end.
-use Rattle.std.proofs.Common.{◌≡◌, ℕ, Bool, true, false, cond, nat_eq, ◌||◌, ◌&&◌, List, [], ◌∷◌, ◌++◌, map, refl, sym, ap, ◌∙◌}
+use Rattle.std.proofs.Common.{◌≡◌, ℕ, Bool, true, cond, nat_eq, ◌||◌, ◌&&◌, List, [], ◌∷◌, ◌++◌, map, refl, ap, ◌∙◌}
 use Rattle.std.specs.Char.{to_ascii_lowercase}
 use Rattle.dq_match.specs.declared.wildcards.Casing.TheVariants.{Folded}
 use Rattle.dq_match.specs.declared.values.Matching.TheVariants.{Name}

@@ -1,12 +1,11 @@
 -- A pattern that goes along a text.
-use Rattle.std.proofs.Common.{◌≡◌, ℕ, zero, suc, ◌+◌, ◌<◌, ◌≤◌, Bool, true, false, cond, nat_eq, ◌||◌, ◌&&◌, List, [], ◌∷◌, length, drop, refl, sym, ap, ◌∙◌, subst, arith, length-drop}
+use Rattle.std.proofs.Common.{◌≡◌, ℕ, zero, suc, ◌+◌, ◌≤◌, Bool, true, false, cond, nat_eq, ◌||◌, ◌&&◌, List, [], ◌∷◌, length, drop, refl, sym, ap, ◌∙◌, subst, arith, length-drop}
 use Rattle.std.proofs.lemmas.Bool.Decides.{nat_tests}
-use Rattle.dq_list.specs.Lengths.{is_empty}
 use Rattle.dq_match.specs.declared.wildcards.Casing.{Casing}
 use Rattle.dq_match.specs.declared.wildcards.Scan.{Scan}
 use Rattle.dq_match.specs.declared.wildcards.Scan.TheVariants.{End, Mismatch, Star}
 use Rattle.dq_match.specs.Wildcards.{wild, after_run, after_one, stands_for, any_run}
-use Rattle.dq_match.specs.Scans.{IsPassed, IsFit, IsFirstFit, IsScan}
+use Rattle.dq_match.specs.Scans.{IsPassed, IsFit}
 
 -- how far the pattern went
 pub record IsAlong (casing : Casing) (pattern text wanted left : List ℕ) : Type 0 where
@@ -17,23 +16,9 @@ pub record IsAlong (casing : Casing) (pattern text wanted left : List ℕ) : Typ
   pub leads : (start : List ℕ) → wild casing pattern start ≡ true → wild casing wanted (drop count start) ≡ true
   pub as_well : wild casing pattern text ≡ wild casing wanted left
 
-pub IsAlong-none : (casing : Casing) (pattern text : List ℕ) → IsAlong casing pattern text pattern text
-IsAlong-none casing pattern text = record {
-  count = 0;
-  within = omega arith;
-  behind = refl;
-  no_longer = omega arith;
-  leads = λ start h. h;
-  as_well = refl;
-}
-
 and_right : (a b : Bool) → (a && b) ≡ true → b ≡ true
 and_right true b h = h
 and_right false b h = cc
-
-pub at_asterisk : (casing : Casing) (first : ℕ) (others text : List ℕ) → first ≡ any_run
-    → wild casing (first ∷ others) text ≡ after_run (wild casing others) text
-at_asterisk casing first others text is = subst (λ x. wild casing (x ∷ others) text ≡ after_run (wild casing others) text) (sym is) refl
 
 not_same : (a b : ℕ) → (a ≡ b → ⊥) → nat_eq a b ≡ false
 not_same a b differ = grind (arith, nat_tests)
@@ -77,21 +62,6 @@ IsAlong-more casing pattern text wanted left first octet others rest along is_wa
       as_well = along.as_well ∙ (λ i. wild casing (is_wanted i) (is_left i)) ∙ at_octet casing first others (octet ∷ rest) differ
           ∙ ap (λ (b : Bool). b && wild casing others rest) stands;
     }
-
--- ---- at an asterisk
-
-pub IsPassed-at : (casing : Casing) (pattern text wanted left : List ℕ) (first : ℕ) (others : List ℕ)
-    → IsAlong casing pattern text wanted left → wanted ≡ first ∷ others → first ≡ any_run → IsPassed casing pattern text others left
-IsPassed-at casing pattern text wanted left first others along is_wanted is = record {
-  count = along.count;
-  within = along.within;
-  behind = along.behind;
-  shorter = omega (arith, ap length is_wanted, along.no_longer);
-  leads = λ start h.
-      sym (at_asterisk casing first others (drop along.count start) is)
-      ∙ subst (λ w. wild casing w (drop along.count start) ≡ true) is_wanted (along.leads start h);
-  as_well = along.as_well ∙ ap (λ (w : List ℕ). wild casing w left) is_wanted ∙ at_asterisk casing first others left is;
-}
 
 -- ---- where the pattern first fits
 
@@ -149,8 +119,3 @@ abbrev pub length_of : Scan → ℕ
 length_of End = 0
 length_of Mismatch = 0
 length_of (Star others rest) = suc (length others.now)
-
-pub DecidesFit-from : (casing : Casing) (pattern text : List ℕ) (scan : Scan) → IsScan casing pattern text scan → DecidesFit casing pattern text scan
-DecidesFit-from casing pattern text End h = h
-DecidesFit-from casing pattern text Mismatch h = h
-DecidesFit-from casing pattern text (Star others rest) h = h.as_well

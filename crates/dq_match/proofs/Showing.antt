@@ -1,7 +1,6 @@
 -- What is shown of a record is a data set, and is put together key by key.
-use Rattle.std.proofs.Common.{◌≡◌, ℕ, zero, suc, ◌-◌, ◌+◌, ◌<◌, ◌≤◌, ◌%◌, Bool, true, false, cond, not, ◌||◌, ◌&&◌, List, [], ◌∷◌, ◌++◌, Option, Some, None, option_map, find, map, filter, length, get_or, drop, refl, sym, ap, ◌∙◌, subst, arith, nat_eq, is_some, append_assoc}
+use Rattle.std.proofs.Common.{◌≡◌, ℕ, ◌-◌, ◌+◌, ◌<◌, Bool, true, false, cond, not, ◌||◌, List, [], ◌∷◌, ◌++◌, Option, Some, None, option_map, map, filter, length, get_or, drop, refl, sym, ap, ◌∙◌, subst, arith, is_some, append_assoc}
 use Rattle.std.specs.List.{list_any, list_all}
-use Rattle.std.proofs.lemmas.Bool.Decides.{nat_tests}
 use Rattle.dq_vr.specs.declared.Tag.{Tag}
 use Rattle.dq_vr.specs.declared.Vr.{Vr}
 use Rattle.dq_vr.specs.declared.Vr.TheVariants.{CS}
@@ -11,11 +10,10 @@ use Rattle.dq_vr.specs.Dictionary.{Entry, dictionary, vr_in, known_vr}
 use Rattle.dq_dataset.specs.declared.data_set.Element.{Element}
 use Rattle.dq_dataset.specs.declared.data_set.Value.{Value}
 use Rattle.dq_dataset.specs.declared.data_set.Value.TheVariants.{Octets, Items}
-use Rattle.dq_dataset.specs.Tree.{ElementList, no_elements, element, sequence, ItemList, no_items, item, item_count}
-use Rattle.dq_dataset.specs.View.{as_elements, elements_of, items_of, list_of, with_value, has_tag}
+use Rattle.dq_dataset.specs.Tree.{ElementList, no_elements, element, sequence, ItemList, no_items, item}
+use Rattle.dq_dataset.specs.View.{as_elements, elements_of, items_of, list_of, with_value}
 use Rattle.dq_dataset.specs.Facts.{IsElementTag, IsPlain, IsSequence, AreElements, AreItems, IsDataSet}
 use Rattle.dq_dataset.proofs.Views.{elements_of-with_value, items_of-list_of}
-use Rattle.dq_dataset.proofs.Copies.{value_count}
 use Rattle.dq_match.specs.declared.keys.Place.{Place}
 use Rattle.dq_match.specs.declared.keys.Place.TheVariants.{Outer, Inner}
 use Rattle.dq_list.specs.Lengths.{is_empty}
@@ -23,8 +21,8 @@ use Rattle.dq_value.specs.Parts.{parts}
 use Rattle.dq_match.specs.Keys.{element_at, octets_in, is_tag, is_key}
 use Rattle.dq_match.specs.Identifiers.{HasKnownTags}
 use Rattle.dq_match.specs.Matching.{all_met}
-use Rattle.dq_match.specs.Responses.{put, no_value, or_empty, has_no_elements, cut_value, with_cut, shown_keys, shown_items, cut_keys, cut_by, shown_found, shown_element, unless_empty, character_set, put_first, shown}
-use Rattle.dq_match.proofs.KnownKeys.{same_tag, both, either}
+use Rattle.dq_match.specs.Responses.{put, or_empty, has_no_elements, cut_value, with_cut, shown_keys, shown_items, cut_keys, cut_by, shown_element, unless_empty, character_set, put_first}
+use Rattle.dq_match.proofs.KnownKeys.{same_tag, both}
 use Rattle.dq_match.proofs.DataSets.{after_earlier, elements_by}
 use Rattle.dq_match.proofs.Places.{from_place}
 
@@ -314,10 +312,6 @@ module _ (keys : List Element) (place : Place) (held : ElementList) (done : List
       ap (λ (es : List Element). es ++ rest) pushed ∙ append_assoc done (e ∷ []) rest
       ∙ ap (λ (x : Element). done ++ x ∷ rest) same ∙ ap (λ (es : List Element). done ++ es) (sym (here true test)) ∙ so_far
 
-  pub key_passed : is_key place key.tag ≡ false
-      → done ++ elements_of (shown_keys (as_elements (drop (i + 1) keys)) place held) ≡ elements_of (shown_keys (as_elements keys) place held)
-  key_passed test = ap (λ (es : List Element). done ++ es) (sym (here false test)) ∙ so_far
-
 module _ (keys : ElementList) (items done : List ElementList) (i : ℕ) (d : ElementList) (lt : i < length items) (is : d ≡ get_or items i d)
     (so_far : done ++ map (λ d. shown_keys keys Inner d) (filter (λ d. all_met Inner keys d) (drop i items))
     ≡ map (λ d. shown_keys keys Inner d) (filter (λ d. all_met Inner keys d) items)) where
@@ -335,19 +329,3 @@ module _ (keys : ElementList) (items done : List ElementList) (i : ℕ) (d : Ele
       let rest : List ElementList = map (λ d. shown_keys keys Inner d) (filter (λ d. all_met Inner keys d) (drop (i + 1) items)) in
       ap (λ (ds : List ElementList). ds ++ rest) pushed ∙ append_assoc done (cut ∷ []) rest
       ∙ ap (λ (x : ElementList). done ++ x ∷ rest) same ∙ ap (λ (ds : List ElementList). done ++ ds) (sym (item_here true test)) ∙ so_far
-
-  pub item_passed : all_met Inner keys d ≡ false
-      → done ++ map (λ d. shown_keys keys Inner d) (filter (λ d. all_met Inner keys d) (drop (i + 1) items))
-      ≡ map (λ d. shown_keys keys Inner d) (filter (λ d. all_met Inner keys d) items)
-  item_passed test = ap (λ (ds : List ElementList). done ++ ds) (sym (item_here false test)) ∙ so_far
-
--- ---- the keys of an item
-
-none_by : (b : Bool) (d keys : ElementList) → cond b None (Some d) ≡ Some keys → d ≡ keys
-none_by true d keys h = absurd cc
-none_by false d keys h = cc
-
-pub cut_keys-fewer : (x : Value) (keys : ElementList) → cut_keys x ≡ Some keys → item_count keys < value_count x
-cut_keys-fewer (Octets o) keys h = absurd cc
-cut_keys-fewer (Items []) keys h = absurd cc
-cut_keys-fewer (Items (d ∷ ds)) keys h = omega (arith, ap item_count (none_by (has_no_elements d) d keys h))

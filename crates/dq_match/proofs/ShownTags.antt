@@ -1,12 +1,12 @@
 -- The tags of what is shown.
-use Rattle.std.proofs.Common.{◌≡◌, Bool, true, false, cond, List, [], ◌∷◌, Option, Some, None, option_map, find, filter, refl, sym, ap, ◌∙◌}
+use Rattle.std.proofs.Common.{◌≡◌, Bool, true, false, cond, List, [], ◌∷◌, Option, Some, None, option_map, find, filter, refl, ap, ◌∙◌}
 use Rattle.dq_vr.specs.declared.Tag.{Tag}
 use Rattle.dq_vr.specs.declared.Vr.{Vr}
 use Rattle.dq_dataset.specs.declared.data_set.Element.{Element}
 use Rattle.dq_dataset.specs.declared.data_set.Value.{Value}
 use Rattle.dq_dataset.specs.declared.data_set.Value.TheVariants.{Octets, Items}
-use Rattle.dq_dataset.specs.Tree.{ElementList, no_elements, element, sequence, ItemList}
-use Rattle.dq_dataset.specs.View.{elements_of, has_tag, with_value, list_of}
+use Rattle.dq_dataset.specs.Tree.{ElementList, no_elements, element, sequence}
+use Rattle.dq_dataset.specs.View.{elements_of, has_tag, with_value}
 use Rattle.dq_vr.specs.Tags.{specific_character_set}
 use Rattle.dq_match.specs.declared.keys.Place.{Place}
 use Rattle.dq_match.specs.declared.keys.Place.TheVariants.{Outer}

@@ -1,5 +1,5 @@
 -- What is left of an identifier is supported.
-use Rattle.std.proofs.Common.{◌≡◌, Bool, true, false, cond, not, ◌||◌, ◌&&◌, ◌↔◌, refl, sym, ap, ◌∙◌, subst}
+use Rattle.std.proofs.Common.{◌≡◌, Bool, true, false, cond, not, ◌||◌, ◌↔◌, refl, ap, ◌∙◌, subst}
 use Rattle.dq_dataset.specs.Tree.{ElementList, no_elements, element, sequence, ItemList, no_items, item}
 use Rattle.dq_match.specs.declared.supported.Level.{Level}
 use Rattle.dq_match.specs.Supported.{is_supported, below, supported_part, supported_items, has_unsupported, have_unsupported}

@@ -1,7 +1,6 @@
 -- A universal key is met by every record.
-use Rattle.std.proofs.Common.{◌≡◌, ℕ, ℤ, Bool, true, false, cond, not, nat_eq, ◌==◌, ◌||◌, ◌&&◌, List, [], ◌∷◌, Option, Some, None, length, map, find, is_some, refl, sym, ap, ◌∙◌, subst, arith}
+use Rattle.std.proofs.Common.{◌≡◌, ℕ, Bool, true, false, cond, nat_eq, ◌==◌, ◌||◌, ◌&&◌, List, [], ◌∷◌, Option, Some, None, length, map, refl, ap, ◌∙◌, arith}
 use Rattle.std.specs.List.{list_any}
-use Rattle.std.specs.Cmp.Lexicographic.{pointwise}
 use Rattle.std.proofs.lemmas.Bool.Decides.{nat_tests}
 use Rattle.dq_list.specs.Lengths.{is_empty}
 use Rattle.dq_vr.specs.declared.Tag.{Tag}
@@ -14,14 +13,14 @@ use Rattle.dq_value.specs.Range.{ends, ends_of_halves, halves, behind}
 use Rattle.dq_dataset.specs.declared.data_set.Element.{Element}
 use Rattle.dq_dataset.specs.declared.data_set.Value.TheVariants.{Octets, Items}
 use Rattle.dq_dataset.specs.Tree.{ElementList, no_elements, element, sequence, ItemList, no_items, item}
-use Rattle.dq_dataset.specs.View.{elements_of, has_tag, list_of}
+use Rattle.dq_dataset.specs.View.{list_of}
 use Rattle.dq_match.specs.declared.keys.Place.{Place}
 use Rattle.dq_match.specs.declared.keys.Place.TheVariants.{Inner}
 use Rattle.dq_match.specs.Wildcards.{any_run}
-use Rattle.dq_match.specs.Ranges.{Bounds, range_bounds, bounds_of_ends}
+use Rattle.dq_match.specs.Ranges.{Bounds, range_bounds}
 use Rattle.dq_match.specs.Values.{is_asterisk, is_universal, is_same, octets_meet, some_meet, matching_of}
 use Rattle.dq_match.specs.Keys.{element_at, octets_in, items_in, value_octets, values_in, is_tag}
-use Rattle.dq_match.specs.Matching.{sole_at, asked_days, asked_times, start_day, start_time, period, is_passed, with_period, each_met, items_meet, all_met}
+use Rattle.dq_match.specs.Matching.{asked_days, period, is_passed, with_period, each_met, items_meet, all_met}
 use Rattle.dq_match.specs.Universal.{all_universal, are_universal}
 use Rattle.dq_match.proofs.KnownKeys.{both}
 

@@ -3,7 +3,7 @@ use Rattle.std.proofs.Common.{◌≡◌, ◌≢◌, ℕ, Bool, true, false, cond
 use Rattle.std.proofs.lemmas.Bool.Decides.{nat_tests}
 use Rattle.dq_match.specs.declared.wildcards.Casing.{Casing}
 use Rattle.dq_match.specs.Wildcards.{Fits, ended, run, one, itself, wild, after_run, after_one, stands_for, same, compared, any_run, any_one}
-use Rattle.dq_match.proofs.Scanning.{after_run-here, at_asterisk, at_octet}
+use Rattle.dq_match.proofs.Scanning.{after_run-here, at_octet}
 use Rattle.dq_match.proofs.KnownKeys.{both}
 
 same_number : (a b : ℕ) → nat_eq a b ≡ true → a ≡ b

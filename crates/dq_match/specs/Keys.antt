@@ -1,5 +1,5 @@
 -- The elements of an identifier and of a record, by tag.
-use Rattle.std.specs.Prelude.{ℕ, Bool, true, false, not, List, [], ◌∷◌, Option, Some, None, find, ◌==◌, ◌||◌, ◌&&◌}
+use Rattle.std.specs.Prelude.{ℕ, Bool, true, not, List, [], ◌∷◌, Option, Some, None, find, ◌==◌, ◌&&◌}
 use Rattle.std.specs.List.{list_any}
 use Rattle.dq_vr.specs.declared.Tag.{Tag}
 use Rattle.dq_vr.specs.Tags.{specific_character_set, query_retrieve_level, retrieve_ae_title, instance_availability}

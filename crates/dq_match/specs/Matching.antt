@@ -1,5 +1,5 @@
 -- Whether a record meets the keys of an identifier (PS3.4 section C.2.2.2).
-use Rattle.std.specs.Prelude.{ℕ, ℤ, Bool, true, false, not, List, Option, Some, None, is_some, unwrap_or, ◌||◌, ◌&&◌}
+use Rattle.std.specs.Prelude.{ℕ, ℤ, Bool, true, false, not, List, Option, Some, None, ◌||◌, ◌&&◌}
 use Rattle.std.specs.List.{list_any}
 use Rattle.dq_list.specs.Lengths.{is_empty}
 use Rattle.dq_vr.specs.declared.Tag.{Tag}

@@ -1,5 +1,5 @@
 -- How far a pattern goes along a text up to its next asterisk.
-use Rattle.std.specs.Prelude.{◌≡◌, ℕ, ◌≤◌, ◌<◌, ◌+◌, Bool, true, false, List, [], ◌∷◌, length, drop}
+use Rattle.std.specs.Prelude.{◌≡◌, ℕ, ◌≤◌, ◌<◌, true, false, List, length, drop}
 use Rattle.dq_match.specs.Wildcards.{wild, after_run}
 use Rattle.dq_match.specs.declared.wildcards.Casing.{Casing}
 use Rattle.dq_match.specs.declared.wildcards.Scan.{Scan}

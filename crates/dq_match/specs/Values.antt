@@ -1,10 +1,10 @@
 -- Matching of one element without items, by its VR (PS3.4 sections C.2.2.2.1 to C.2.2.2.3).
-use Rattle.std.specs.Prelude.{◌≡◌, ℕ, Bool, true, false, List, [], ◌∷◌, is_some, nat_eq, ◌||◌, ◌&&◌, if◌then◌else◌}
+use Rattle.std.specs.Prelude.{ℕ, Bool, true, false, List, [], ◌∷◌, is_some, nat_eq, ◌||◌, ◌&&◌}
 use Rattle.std.specs.List.{list_any, list_all}
 use Rattle.std.specs.Cmp.Lexicographic.{pointwise}
 use Rattle.dq_list.specs.Lengths.{is_empty}
 use Rattle.dq_vr.specs.declared.Vr.{Vr}
-use Rattle.dq_vr.specs.declared.Vr.TheVariants.{AE, CS, DA, LO, LT, PN, SH, ST, TM, UC, UI, UT}
+use Rattle.dq_vr.specs.declared.Vr.TheVariants.{AE, CS, DA, LO, LT, PN, SH, ST, TM, UC, UT}
 use Rattle.dq_value.specs.Day.{day}
 use Rattle.dq_value.specs.Time.{span}
 use Rattle.dq_value.specs.Trimming.{is_padded, without_trailing}

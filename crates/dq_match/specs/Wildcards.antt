@@ -1,5 +1,5 @@
 -- Wild card matching (PS3.4 section C.2.2.2.4).
-use Rattle.std.specs.Prelude.{◌≡◌, ◌≢◌, ℕ, Bool, true, false, List, [], ◌∷◌, ◌++◌, nat_eq, ◌||◌, ◌&&◌, if◌then◌else◌}
+use Rattle.std.specs.Prelude.{◌≡◌, ◌≢◌, ℕ, Bool, false, List, [], ◌∷◌, ◌++◌, nat_eq, ◌||◌, ◌&&◌, if◌then◌else◌}
 use Rattle.std.specs.Char.{to_ascii_lowercase}
 use Rattle.dq_list.specs.Lengths.{is_empty}
 use Rattle.dq_match.specs.declared.wildcards.Casing.{Casing}

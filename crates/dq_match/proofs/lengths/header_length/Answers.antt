@@ -1,4 +1,4 @@
-use Rattle.std.proofs.Common.{◌≡◌, sym, arith}
+use Rattle.std.proofs.Common.{sym, arith}
 use Rattle.dq_match.proofs.Counted.{implicit_header, short_header, un_header, long_header}
 use Rattle.dq_match.proofs.lengths.header_length.Goals as goal
 

@@ -1,4 +1,4 @@
-use Rattle.std.proofs.Common.{◌≡◌, ◌∙◌, Bool, true, refl, sym, ap, Option, Some, None, arith}
+use Rattle.std.proofs.Common.{◌∙◌, Bool, sym, ap, Option, Some, arith}
 use Rattle.dq_dataset.proofs.Views.{as_elements-elements_of}
 use Rattle.dq_dataset.proofs.Copies.{value_count-element}
 use Rattle.dq_match.specs.Matching.{each_met, with_period}

@@ -1,4 +1,4 @@
-use Rattle.std.proofs.Common.{◌≡◌, ◌∙◌, refl, arith}
+use Rattle.std.proofs.Common.{◌∙◌, refl, arith}
 use Rattle.dq_dataset.proofs.Views.{as_elements-elements_of}
 use Rattle.dq_dataset.proofs.Copies.{value_count-element, item_count-item}
 use Rattle.dq_match.proofs.supported.+unsupported.Goals as goal

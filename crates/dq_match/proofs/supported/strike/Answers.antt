@@ -1,5 +1,3 @@
-use Rattle.std.proofs.Common.{subst}
-use Rattle.dq_match.specs.Identifiers.{HasKnownTags}
 use Rattle.dq_match.proofs.KnownKeys.{part_known}
 use Rattle.dq_match.proofs.supported.strike.Goals as goal
 

@@ -1,7 +1,6 @@
-use Rattle.std.proofs.Common.{◌≡◌, ◌∙◌}
-use Rattle.dq_match.specs.Scans.{IsFit}
+use Rattle.std.proofs.Common.{◌∙◌}
 use Rattle.dq_match.proofs.Scanning.{after_run-here, IsFit-from}
-use Rattle.dq_match.specs.Wildcards.{wild, after_run}
+use Rattle.dq_match.specs.Wildcards.{wild}
 use Rattle.dq_match.proofs.wildcards.first_fit.Goals as goal
 
 pub returns-in-End : goal.returns-in-End

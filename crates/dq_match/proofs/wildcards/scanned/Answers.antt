@@ -1,5 +1,5 @@
 use Rattle.std.proofs.Common.{◌≡◌, ◌∷◌, ◌∙◌, sym, rules}
-use Rattle.dq_match.proofs.Scanning.{IsAlong, IsAlong-more}
+use Rattle.dq_match.proofs.Scanning.{IsAlong-more}
 use Rattle.dq_match.proofs.wildcards.scanned.Goals as goal
 
 pub loop-first-preserved : goal.loop-first-preserved

@@ -1,4 +1,3 @@
-use Rattle.std.proofs.Common.{length}
 use Rattle.dq_match.proofs.Scanning.{DecidesFit, length_of}
 use Rattle.dq_match.proofs.wildcards.wild_by.Given as goal
 
