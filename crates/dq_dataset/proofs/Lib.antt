@@ -21,3 +21,5 @@ pub mod FaultyIsRead
 pub mod SpelledOrFaulty
 pub mod LentFaults
 pub mod Lengths
+pub mod Same
+pub mod Holding

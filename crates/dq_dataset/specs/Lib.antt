@@ -13,3 +13,4 @@ pub mod Lending
 pub mod LentView
 pub mod Agreement
 pub mod Editing
+pub mod Same

@@ -1,5 +1,6 @@
 //! Whether data sets, elements and values are the same.
 ghost use Rattle.std.specs.Prelude.{◌≡◌, ◌↔◌, IsTrue};
+ghost use Rattle.dq_dataset.specs.Same.{same_element, has_element};
 
 use crate::data_set::{DataSet, Element, Value};
 
@@ -10,15 +11,37 @@ impl DataSet {
     {
         are_same_elements(self.elements(), other.elements())
     }
+
+    /// Whether the element, with its VR and its value, is one of the data set's, of which the tags
+    /// rise (PS3.5 section 7.1).
+    pub fn has(&self, element: &Element) -> bool
+        ensures { result ≡ has_element self.now element.now }
+    {
+        let elements = self.elements();
+        let at = elements.partition_point(|held| held.tag.is_below(element.tag));
+        match elements.get(at) {
+            Some(held) => held.is_same(element),
+            None => false,
+        }
+    }
 }
 
 impl Element {
     /// Whether both have the same tag, VR and value.
     pub fn is_same(&self, other: &Element) -> bool
-        ensures { IsTrue result ↔ (self.now ≡ other.now) }
+        ensures equal { IsTrue result ↔ (self.now ≡ other.now) }
+        ensures same { result ≡ same_element self.now other.now }
     {
-        self.tag == other.tag && self.vr == other.vr && is_same_value(&self.value, &other.value)
+        is_same_element(self, other)
     }
+}
+
+fn is_same_element(element: &Element, other: &Element) -> bool
+    ensures { IsTrue result ↔ (element.now ≡ other.now) }
+{
+    element.tag == other.tag
+        && element.vr == other.vr
+        && is_same_value(&element.value, &other.value)
 }
 
 #[cycle(comparing)]

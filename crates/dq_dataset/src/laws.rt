@@ -1,5 +1,5 @@
 //! Laws of the definitions, which the contracts of functions with no body name.
-ghost use Rattle.std.specs.Prelude.{◌≡◌, ◌≢◌, ◌⊎◌, ◌<◌, ◌^◌, ◌++◌, List, ℕ, length, None};
+ghost use Rattle.std.specs.Prelude.{◌≡◌, ◌≢◌, ◌⊎◌, ◌↔◌, ◌<◌, ◌^◌, ◌++◌, List, ℕ, length, None, true};
 ghost use Rattle.dq_dataset.specs.declared.fault.ReadFault.{ReadFault};
 ghost use Rattle.dq_dataset.specs.declared.fault.ReadFault.TheVariants.{Truncated};
 ghost use Rattle.dq_dataset.specs.declared.header.Syntax.{Syntax};
@@ -11,6 +11,8 @@ ghost use Rattle.dq_dataset.specs.Faults.{IsFaulty};
 ghost use Rattle.dq_dataset.specs.Canonical.{canonical, HasLengths};
 ghost use Rattle.dq_dataset.specs.Written.{IsReadBack};
 ghost use Rattle.dq_dataset.specs.Editing.{cut_out, merged};
+ghost use Rattle.dq_dataset.specs.Same.{same_element};
+ghost use Rattle.dq_dataset.specs.declared.data_set.Element.{Element};
 ghost use Rattle.dq_dataset.specs.Lending.{lent};
 ghost use Rattle.dq_dataset.specs.Agreement.{FaultAfter, AgreesWith};
 ghost use Rattle.dq_vr.specs.declared.Tag.{Tag};
@@ -96,4 +98,10 @@ pub fn editing_law()
         → IsDataSet (merged kept sent) }
     ensures merged_lengths { (syntax : Syntax) (kept sent : ElementList) → HasLengths syntax kept
         → HasLengths syntax sent → HasLengths syntax (merged kept sent) }
+{}
+
+/// The same elements are those with the same tag, VR and value.
+#[tactic(auto, using(crate::proofs::Same::same_is_equal))]
+pub fn same_elements_are_equal()
+    ensures { (e f : Element) → (same_element e f ≡ true) ↔ (e ≡ f) }
 {}

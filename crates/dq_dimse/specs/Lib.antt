@@ -7,5 +7,6 @@ pub mod CommandSets
 pub mod Commands
 pub mod Messages
 pub mod Reading
+pub mod Receiving
 pub mod Sending
 pub mod Statuses

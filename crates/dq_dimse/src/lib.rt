@@ -9,6 +9,7 @@ mod fault;
 pub mod laws;
 mod numbers;
 mod reading;
+mod receiving;
 mod sending;
 pub mod status;
 

@@ -1,3 +1,4 @@
+pub mod Among
 pub mod Lengths
 pub mod Readers
 pub mod formers

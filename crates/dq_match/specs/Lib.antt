@@ -11,3 +11,4 @@ pub mod Responses
 pub mod Universal
 pub mod ShownTags
 pub mod Lengths
+pub mod Answers

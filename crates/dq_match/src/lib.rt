@@ -2,6 +2,7 @@
 //! shows of them (PS3.4 sections C.2.2.2, C.4.1 and K.4.1).
 #![tactic(auto)]
 
+mod answers;
 mod identifiers;
 mod keys;
 pub mod laws;
@@ -13,6 +14,7 @@ mod supported;
 mod values;
 mod wildcards;
 
+pub use answers::answer;
 pub use identifiers::is_query;
 pub use lengths::can_be_written;
 pub use matching::{fits, meets};

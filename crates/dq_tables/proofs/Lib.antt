@@ -5,4 +5,5 @@ pub mod Groups
 pub mod Edits
 pub mod Soundness
 pub mod Seen
+pub mod Listing
 pub mod Calling

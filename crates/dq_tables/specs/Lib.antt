@@ -1,5 +1,6 @@
 pub mod Rows
 pub mod Finding
+pub mod Records
 pub mod Keys
 pub mod Sound
 pub mod Keeping

@@ -1,5 +1,5 @@
 -- What a service does over tables: its answer, and the edits of the institution's records, follow from these records alone.
-use Rattle.std.specs.Prelude.{◌≡◌, ℕ, Bool, List, Result, IfOk, OnOk, OnErr, ◌⊎◌}
+use Rattle.std.specs.Prelude.{◌≡◌, ℕ, Bool, List, [], ◌∷◌, Option, Some, None, Result, IfOk, OnOk, OnErr, ◌⊎◌, if◌then◌else◌}
 use Rattle.dq_tables.specs.declared.fault.TableFault.{TableFault}
 use Rattle.dq_tables.specs.declared.row.Row.{Row}
 use Rattle.dq_tables.specs.Rows.{Record, Edit, of, by, after}
@@ -17,3 +17,13 @@ pub record Serves {Tables : Type 0} {Answer : Type 0} (rows : Tables → List Ro
   pub settles : honest new → OnOk result (IsSettled rows may_leave old → IsSettled rows may_leave new)
   pub crash : honest new → OnErr result ((r : List Row) → may_leave new r
       → (may_leave old r) ⊎ (r ≡ after (by institution (does (of institution (rows old))).1) (rows old)))
+
+-- of refusals in their order, each with whether it holds, the first that does
+abbrev pub first_refusal : {Refusal : Type 0} → List (Bool × Refusal) → Option Refusal
+first_refusal [] = None
+first_refusal (refusal ∷ others) = if refusal.0 then Some refusal.1 else first_refusal others
+
+-- A refusal is the answer, and edits nothing. Where there is none, this is answered and edited.
+abbrev pub outcome : {Answer : Type 0} → Option Answer → Answer × List Edit → Answer × List Edit
+outcome (Some refusal) done = (refusal, [])
+outcome None done = done

@@ -6,6 +6,7 @@ ghost use Rattle.dq_tables.specs.declared.row.Row.{Row};
 ghost use Rattle.dq_tables.specs.declared.change.Change.{Change};
 ghost use Rattle.dq_tables.specs.Rows.{Record, Edit, edited, edited_all, of, IsRising, Operation, by, after, after_all, own_edits, operation_of, row_of};
 ghost use Rattle.dq_tables.specs.Finding.{row_at, rows_of, rows_above, record_at, records_of, records_above};
+ghost use Rattle.dq_tables.specs.Records.{AreInOrder};
 ghost use Rattle.dq_tables.specs.Sound.{IsSound, Fits};
 
 use crate::plain::PlainTables;
@@ -53,6 +54,15 @@ pub fn rows_are_found_among_records()
     ensures above { (kind : Kind) (h above : List ℕ) (rows : List Row)
         → rows_above kind h above rows ≡ map (row_of h) (records_above kind above (of h rows)) }
     ensures counted { (kind : Kind) (h : List ℕ) (rows : List Row) → length (rows_of kind h rows) ≡ length (records_of kind (of h rows)) }
+{}
+
+/// The records of a kind, and those of them under another record, are in the order of their keys.
+#[tactic(auto, using(crate::proofs::Listing::listed_in_order, crate::proofs::Listing::above_in_order))]
+pub fn records_are_in_order()
+    ensures listed { (kind : Kind) (institution : List ℕ) (rows : List Row) → IsRising rows
+        → AreInOrder (records_of kind (of institution rows)) }
+    ensures above { (kind : Kind) (institution above : List ℕ) (rows : List Row) → IsRising rows
+        → AreInOrder (records_above kind above (of institution rows)) }
 {}
 
 /// What keeps rows honestly keeps sound rows, which are in order.

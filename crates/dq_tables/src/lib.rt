@@ -19,5 +19,5 @@ pub use fault::TableFault;
 pub use fused::Fused;
 pub use keys::{entry_id, sole_at, sole_item_at, uid_at};
 pub use plain::PlainTables;
-pub use row::{Kind, Row};
+pub use row::{Kind, RecordKeys, Row};
 pub use tables::Tables;

@@ -1,6 +1,12 @@
 //! Rows.
-ghost use Rattle.std.specs.Prelude.{◌≡◌, IfOk};
+ghost use Rattle.std.specs.Prelude.{◌≡◌, ◌<◌, ◌^◌, IfOk, length};
+ghost use Rattle.dq_dataset.specs.declared.header.Syntax.TheVariants.{Explicit};
+ghost use Rattle.dq_dataset.specs.Canonical.{HasLengths};
+ghost use Rattle.dq_tables.specs.Records.{data_set_of};
+ghost use Rattle.dq_tables.specs.Rows.{row_of};
 
+use dq_dataset::laws::spelling_law;
+use dq_dataset::{DataSet, ReadFault, Syntax, read};
 use dq_list::Listed;
 use std::alloc::{AllocError, Global};
 
@@ -45,7 +51,39 @@ pub struct Row {
     pub octets: Listed<u8>,
 }
 
+/// What a record is kept under: its kind, its key, and the key of the record above it, empty where
+/// there is none.
+#[derive(Debug, Clone, Copy)]
+pub struct RecordKeys<'a> {
+    pub kind: Kind,
+    pub key: &'a [u8],
+    pub above: &'a [u8],
+}
+
 impl Row {
+    /// The row of an institution's record whose data set these octets spell in Explicit.
+    pub fn new(
+        alloc: Global,
+        institution: &[u8],
+        keys: &RecordKeys<'_>,
+        octets: Vec<u8>,
+    ) -> Result<Row, AllocError>
+        ensures { IfOk result (λ row. row ≡ row_of institution.now (record {
+          kind = keys.now.kind;
+          key = keys.now.key.now;
+          above = keys.now.above.now;
+          octets = octets.items;
+        })) }
+    {
+        Ok(Row {
+            kind: keys.kind,
+            inst: Listed::copy_of(alloc, institution)?,
+            key: Listed::copy_of(alloc, keys.key)?,
+            above: Listed::copy_of(alloc, keys.above)?,
+            octets: Listed::from_inner(octets),
+        })
+    }
+
     /// A copy of the row.
     pub fn copied(&self, alloc: Global) -> Result<Row, AllocError>
         ensures { IfOk result (λ copy. copy ≡ self.now) }
@@ -57,6 +95,22 @@ impl Row {
             above: Listed::copy_of(alloc, self.above.as_slice())?,
             octets: Listed::copy_of(alloc, self.octets.as_slice())?,
         })
+    }
+
+    /// The data set that the octets spell, and one without elements where they spell none. One of
+    /// fewer than 2^31 octets can be written.
+    #[tactic(auto, unfolding(crate::specs::Records::data_set_of))]
+    pub fn data_set(&self, alloc: Global) -> Result<DataSet, AllocError>
+        ensures data_set { IfOk result (λ d. d ≡ data_set_of self.now.octets) }
+        ensures lengths { length self.now.octets < 2 ^ 31
+            → IfOk result (λ d. HasLengths Explicit d) }
+    {
+        spelling_law();
+        match read(alloc, self.octets.as_slice(), Syntax::Explicit) {
+            Ok(data_set) => Ok(data_set),
+            Err(ReadFault::NoMemory) => Err(AllocError),
+            Err(_) => Ok(DataSet::new(alloc)),
+        }
     }
 
     /// A copy of the row, if there is one.

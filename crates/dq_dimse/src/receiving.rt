@@ -1,0 +1,38 @@
+//! What a service takes of a message.
+ghost use Rattle.std.specs.Prelude.{◌≡◌, ◌<◌, ◌^◌, IfOk, IfSome, length};
+ghost use Rattle.std.specs.Result.{result_ok};
+ghost use Rattle.dq_dataset.specs.declared.header.Syntax.TheVariants.{Explicit};
+ghost use Rattle.dq_dataset.specs.Reading.{reading};
+ghost use Rattle.dq_dataset.specs.Canonical.{HasLengths};
+ghost use Rattle.dq_dimse.specs.Receiving.{is_over};
+
+use crate::command::Message;
+use dq_dataset::laws::spelling_law;
+use dq_dataset::{DataSet, ReadFault, Syntax, read};
+use std::alloc::{AllocError, Global};
+
+impl Message {
+    /// Whether the data set has more octets than the limit, or was discarded because it had too
+    /// many.
+    pub fn is_over(&self, limit: usize) -> bool
+        ensures { result ≡ is_over limit self.now }
+    {
+        self.over || self.octets.len() > limit
+    }
+
+    /// The data set, where its octets spell one in that transfer syntax (PS3.5 section 7). One of
+    /// fewer than 2^31 octets can be written in Explicit.
+    pub fn data_set(&self, alloc: Global, syntax: Syntax) -> Result<Option<DataSet>, AllocError>
+        ensures read { IfOk result (λ data_set.
+            data_set ≡ result_ok (reading syntax self.now.octets)) }
+        ensures lengths { length self.now.octets < 2 ^ 31
+            → IfOk result (λ data_set. IfSome data_set (λ d. HasLengths Explicit d)) }
+    {
+        spelling_law();
+        match read(alloc, self.octets.as_slice(), syntax) {
+            Ok(data_set) => Ok(Some(data_set)),
+            Err(ReadFault::NoMemory) => Err(AllocError),
+            Err(_) => Ok(None),
+        }
+    }
+}
