@@ -12,3 +12,4 @@ mod ShownTags
 mod Struck
 mod Universal
 mod WildFits
+pub mod Answering

@@ -49,7 +49,7 @@ pub(crate) fn element_at(elements: &[Element], tag: Tag) -> Option<&Element>
 }
 
 /// The octets of a record's element, none where it is absent or a sequence.
-pub(crate) fn octets_in(held: Option<&Element>) -> &[u8]
+pub fn octets_in(held: Option<&Element>) -> &[u8]
     ensures { result.now ≡ octets_in (option_copied held.entry) }
 {
     match held {

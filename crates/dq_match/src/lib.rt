@@ -16,6 +16,7 @@ mod wildcards;
 
 pub use answers::answer;
 pub use identifiers::is_query;
+pub use keys::octets_in;
 pub use lengths::can_be_written;
 pub use matching::{fits, meets};
 pub use responses::{Found, shown};

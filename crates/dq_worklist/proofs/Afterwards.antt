@@ -7,7 +7,9 @@ use Rattle.std.specs.Ordering.{is_eq, is_lt, is_gt}
 use Rattle.std.proofs.lemmas.Map.Text.{is_eq-slice_cmp}
 use Rattle.std.proofs.lemmas.Slice.Eq.{bytes_eq-Decides}
 use Rattle.std.proofs.lemmas.Bool.Decides.{nat_tests}
+use Rattle.dq_list.specs.Among.{IsAmong}
 use Rattle.dq_list.specs.Readers.{◌>>=◌, provided}
+use Rattle.dq_list.proofs.Among.{among_between}
 use Rattle.dq_dataset.specs.declared.fault.ReadFault.{ReadFault}
 use Rattle.dq_dataset.specs.declared.header.Syntax.{Syntax}
 use Rattle.dq_dataset.specs.declared.header.Syntax.TheVariants.{Explicit}
@@ -23,19 +25,20 @@ use Rattle.dq_tables.specs.declared.row.Row.{Row}
 use Rattle.dq_tables.specs.Rows.{Record, Place, place_of, Edit, Put, Remove, IsRising, of, by, after, number_of as kind_number, kind_order, octet_order, place_order, edited, edited_by, records_before, records_past}
 use Rattle.dq_tables.specs.Finding.{record_at, same_kind}
 use Rattle.dq_tables.specs.Keys.{entry_id}
+use Rattle.dq_tables.specs.Records.{data_set_of}
+use Rattle.dq_tables.specs.Serving.{first_refusal}
 use Rattle.dq_tables.proofs.InOrder.{is_eq_then, is_eq_nat}
 use Rattle.dq_tables.proofs.Lens.{others}
 use Rattle.dq_worklist.specs.declared.refusal.Refusal.{Refusal}
-use Rattle.dq_worklist.specs.Orders.{Order, number_of, is_complete, read_order, order_limit, has_entry, entry_of, outcome, refusals, first_refusal, scheduled, withdrawn}
-use Rattle.dq_worklist.specs.Queries.{data_set_of, answers, listed}
+use Rattle.dq_worklist.specs.Orders.{Order, number_of, is_complete, read_order, order_limit, has_entry, entry_of, answered, refusals, scheduled, withdrawn}
+use Rattle.dq_worklist.specs.Queries.{answers, listed}
 use Rattle.dq_worklist.specs.Views.{order_of}
-use Rattle.dq_worklist.specs.Answers.{IsAmong}
-use Rattle.dq_worklist.proofs.Exactly.{among_between, answer_to}
+use Rattle.dq_worklist.proofs.Exactly.{answer_to}
 use Rattle.dq_worklist.proofs.Orders.{malformed}
 
 -- ---- refusals
 
-outcome_refused : (r : Option Refusal) (o : Option Order) (number : ℕ) (edits : List Edit) → outcome r o ≡ (Some number, edits) → edits ≡ []
+outcome_refused : (r : Option Refusal) (o : Option Order) (number : ℕ) (edits : List Edit) → answered r o ≡ (Some number, edits) → edits ≡ []
 outcome_refused (Some refusal) o number edits e = sym (ap (λ (x : Option ℕ × List Edit). x.1) e)
 outcome_refused None None number edits e = sym (ap (λ (x : Option ℕ × List Edit). x.1) e)
 outcome_refused None (Some order) number edits e = (let no : None ≡ Some number = ap (λ (x : Option ℕ × List Edit). x.0) e in cc)
@@ -59,7 +62,7 @@ unfolding withdrawn
 refused_withdraws_nothing records id number edits e = withdrawn_by (has_entry records id) (Remove Entry id ∷ []) 5 number edits e
 
 outcome_accepted : (r : Option Refusal) (o : Option Order) (order : Order) (edits : List Edit) → o ≡ Some order
-    → outcome r o ≡ (None, edits) → edits ≡ Put (entry_of order) ∷ []
+    → answered r o ≡ (None, edits) → edits ≡ Put (entry_of order) ∷ []
 outcome_accepted (Some refusal) o order edits same e = (let no : Some (number_of refusal) ≡ None = ap (λ (x : Option ℕ × List Edit). x.0) e in cc)
 outcome_accepted None None order edits same e = cc
 outcome_accepted None (Some other) order edits same e =

@@ -10,9 +10,10 @@ use Rattle.dq_dataset.proofs.SpelledIsShort.{spelled_is_short}
 use Rattle.dq_config.specs.Limits.{Limits}
 use Rattle.dq_tables.specs.declared.row.Kind.TheVariants.{Entry}
 use Rattle.dq_tables.specs.Rows.{Record, Put, Remove}
+use Rattle.dq_tables.specs.Serving.{first_refusal}
 use Rattle.dq_worklist.specs.declared.refusal.Refusal.{Refusal}
 use Rattle.dq_worklist.specs.declared.refusal.Refusal.TheVariants.{Taken, Full}
-use Rattle.dq_worklist.specs.Orders.{number_of, Order, order_in, order_limit, has_entry, is_full, entry_of, outcome, first_refusal, order_outcome, scheduled, withdrawn}
+use Rattle.dq_worklist.specs.Orders.{number_of, Order, order_in, order_limit, has_entry, is_full, entry_of, answered, order_outcome, scheduled, withdrawn}
 use Rattle.dq_worklist.specs.Views.{CanBeKept, data_set_within, record_refusal}
 
 -- an order is at most twice as long in the spelling that is kept
@@ -42,11 +43,11 @@ module _ (limits : Limits) (records : List Record) where
   pub order_refused : (order : Order) (refusal : Refusal) → record_refusal limits records order.id ≡ Some refusal
       → order_outcome limits records order ≡ (Some (number_of refusal), [])
   unfolding order_outcome
-  order_refused order refusal e = ap (λ (o : Option Refusal). outcome o (Some order)) e
+  order_refused order refusal e = ap (λ (o : Option Refusal). answered o (Some order)) e
 
   pub order_kept : (order : Order) → record_refusal limits records order.id ≡ None → order_outcome limits records order ≡ (None, Put (entry_of order) ∷ [])
   unfolding order_outcome
-  order_kept order e = ap (λ (o : Option Refusal). outcome o (Some order)) e
+  order_kept order e = ap (λ (o : Option Refusal). answered o (Some order)) e
 
   malformed_by : (octets : List ℕ) (long : Bool) (r : Result ElementList ReadFault) → nat_lt order_limit (length octets) ≡ long → reading Explicit octets ≡ r
       → (if long then None else result_ok r) ≡ None → scheduled limits records octets ≡ (Some 1, [])

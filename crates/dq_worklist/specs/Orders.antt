@@ -1,6 +1,6 @@
 -- Orders for the worklist: which are complete, and what scheduling and withdrawing make of the
 -- records of one institution (PS3.4 section K.6.1).
-use Rattle.std.specs.Prelude.{ℕ, Bool, false, not, ◌&&◌, ◌||◌, nat_lt, nat_le, List, [], ◌∷◌, length, if◌then◌else◌, Option, Some, None, is_some, is_none, Result, Ok, Err, is_err}
+use Rattle.std.specs.Prelude.{ℕ, Bool, false, not, ◌&&◌, ◌||◌, nat_lt, nat_le, List, [], ◌∷◌, length, if◌then◌else◌, Option, Some, None, is_some, is_none, option_map, Result, Ok, Err, is_err}
 use Rattle.dq_list.specs.Lengths.{is_empty}
 use Rattle.dq_list.specs.Readers.{◌>>=◌, provided}
 use Rattle.dq_vr.specs.declared.Tag.{Tag}
@@ -17,6 +17,7 @@ use Rattle.dq_match.specs.Keys.{element_at, values_in}
 use Rattle.dq_tables.specs.declared.row.Kind.TheVariants.{Entry}
 use Rattle.dq_tables.specs.Rows.{Record, Edit, Put, Remove}
 use Rattle.dq_tables.specs.Finding.{record_at, records_of}
+use Rattle.dq_tables.specs.Serving.{first_refusal, outcome}
 use Rattle.dq_tables.specs.Keys.{sole_at, uid_at, sole_item_at, entry_id}
 use Rattle.dq_worklist.specs.declared.refusal.Refusal.{Refusal}
 use Rattle.dq_worklist.specs.declared.refusal.Refusal.TheVariants.{Malformed, Incomplete, Taken, Full, NoSuchEntry}
@@ -90,10 +91,6 @@ refusals limits records octets data_set =
     ∷ (is_none (read_order data_set), Incomplete)
     ∷ record_refusals limits records (read_order data_set)
 
-abbrev pub first_refusal : List (Bool × Refusal) → Option Refusal
-first_refusal [] = None
-first_refusal (r ∷ rs) = if r.0 then Some r.1 else first_refusal rs
-
 -- The order is kept whole.
 abbrev pub entry_of : Order → Record
 entry_of order = record {
@@ -103,21 +100,25 @@ entry_of order = record {
   octets = canonical Explicit order.elements;
 }
 
--- the refusal, or none and the new entry
-abbrev pub outcome : Option Refusal → Option Order → Option ℕ × List Edit
-outcome (Some refusal) order = (Some (number_of refusal), [])
-outcome None None = (Some (number_of Incomplete), [])
-outcome None (Some order) = (None, Put (entry_of order) ∷ [])
+-- nothing is answered, and the order is an entry
+abbrev pub added : Option Order → Option ℕ × List Edit
+added None = (Some (number_of Incomplete), [])
+added (Some order) = (None, Put (entry_of order) ∷ [])
+
+-- the number of the refusal, or none and the new entry
+abbrev pub answered : Option Refusal → Option Order → Option ℕ × List Edit
+answered refusal order =
+    outcome (option_map (λ (r : Refusal). Some (number_of r)) refusal) (added order)
 
 -- what is left of it where there is an order
 unfoldable pub order_outcome : Limits → List Record → Order → Option ℕ × List Edit
 order_outcome limits records order =
-    outcome (first_refusal (record_refusals limits records (Some order))) (Some order)
+    answered (first_refusal (record_refusals limits records (Some order))) (Some order)
 
 unfoldable pub scheduled : Limits → List Record → List ℕ → Option ℕ × List Edit
 scheduled limits records octets =
     let data_set = reading Explicit octets in
-    outcome (first_refusal (refusals limits records octets data_set)) (read_order data_set)
+    answered (first_refusal (refusals limits records octets data_set)) (read_order data_set)
 
 -- ---- withdrawing
 

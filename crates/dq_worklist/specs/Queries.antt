@@ -1,22 +1,21 @@
 -- Worklist queries (PS3.4 sections K.4.1 and K.6.1.2).
-use Rattle.std.specs.Prelude.{ℕ, Option, Some, None, false, List, [], Result, Ok, Err, map, filter, if◌then◌else◌}
-use Rattle.std.specs.Result.{result_unwrap_or}
-use Rattle.dq_dataset.specs.declared.fault.ReadFault.{ReadFault}
+use Rattle.std.specs.Prelude.{ℕ, Option, Some, None, List, Result, Ok, Err, map, if◌then◌else◌}
+use Rattle.std.specs.List.{filter_map}
+use Rattle.std.specs.Result.{result_ok}
 use Rattle.dq_dataset.specs.declared.header.Syntax.{Syntax}
-use Rattle.dq_dataset.specs.declared.header.Syntax.TheVariants.{Explicit}
 use Rattle.dq_dataset.specs.Reading.{reading}
-use Rattle.dq_dataset.specs.Tree.{ElementList, no_elements}
+use Rattle.dq_dataset.specs.Tree.{ElementList}
 use Rattle.dq_dimse.specs.declared.command.Message.{Message}
 use Rattle.dq_dimse.specs.Statuses.{success, out_of_resources, does_not_match_sop_class, cannot_understand}
 use Rattle.dq_match.specs.declared.responses.Found.{Found}
 use Rattle.dq_match.specs.declared.supported.KeyList.TheVariants.{Entry as EntryKeys}
 use Rattle.dq_match.specs.declared.supported.Level.TheVariants.{Identifier}
 use Rattle.dq_match.specs.Identifiers.{is_query}
-use Rattle.dq_match.specs.Matching.{fits}
 use Rattle.dq_match.specs.Supported.{supported_part, has_unsupported}
-use Rattle.dq_match.specs.Responses.{shown}
+use Rattle.dq_match.specs.Answers.{refused, answer}
 use Rattle.dq_tables.specs.declared.row.Kind.TheVariants.{Entry}
 use Rattle.dq_tables.specs.Rows.{Record}
+use Rattle.dq_tables.specs.Records.{data_set_of}
 use Rattle.dq_tables.specs.Finding.{records_of}
 use Rattle.dq_worklist.specs.declared.asking.Query.{Query}
 
@@ -28,30 +27,23 @@ query_at identifier =
     if is_query keys then Ok (record { keys = keys; optional = optional })
     else Err does_not_match_sop_class
 
-abbrev pub query_in : Result ElementList ReadFault → Result Query ℕ
-query_in (Err fault) = Err cannot_understand
-query_in (Ok identifier) = query_at identifier
+abbrev pub query_in : Option ElementList → Result Query ℕ
+query_in None = Err cannot_understand
+query_in (Some identifier) = query_at identifier
 
 -- the query of a message, or the status that refuses it (PS3.4 section K.4.1.1.4)
 unfoldable pub query_of : Message → Syntax → Result Query ℕ
 query_of message syntax =
-    if message.over then Err out_of_resources else query_in (reading syntax message.octets)
+    if message.over then Err out_of_resources
+    else query_in (result_ok (reading syntax message.octets))
 
--- the data set of a record, which its octets spell
-unfoldable pub data_set_of : List ℕ → ElementList
-data_set_of octets = result_unwrap_or (reading Explicit octets) no_elements
-
-abbrev pub answer_if : ElementList → ElementList → Option ElementList
-answer_if keys held = if fits keys held then Some (shown keys held) else None
-
--- the answers to the keys of a query: of the entries those that fit, in order, each as it is shown
+-- the answers to the keys of a query that the entries give, in their order
 unfoldable pub answers : List Record → ElementList → List ElementList
 answers records keys =
-    map (shown keys) (filter (fits keys)
-    (map (λ (r : Record). data_set_of r.octets) (records_of Entry records)))
+    filter_map (answer keys) (map (λ (r : Record). data_set_of r.octets) (records_of Entry records))
 
 abbrev pub listed_by : List Record → Result Query ℕ → Found
-listed_by records (Err status) = record { status = status; optional = false; answers = [] }
+listed_by records (Err status) = refused status
 listed_by records (Ok query) =
     record { status = success; optional = query.optional; answers = answers records query.keys }
 

@@ -8,12 +8,17 @@ use Rattle.dq_dataset.specs.Reading.{reading}
 use Rattle.dq_config.specs.Limits.{Limits}
 use Rattle.dq_tables.specs.Rows.{Record}
 use Rattle.dq_tables.specs.Sound.{entry_limit}
+use Rattle.dq_tables.specs.Serving.{first_refusal}
+use Rattle.dq_worklist.specs.declared.completeness.Order.{Order as TheOrder}
 use Rattle.dq_worklist.specs.declared.refusal.Refusal.{Refusal}
 use Rattle.dq_worklist.specs.declared.refusal.Refusal.TheVariants.{Taken, Full}
-use Rattle.dq_worklist.specs.Orders.{Order, order_limit, has_entry, is_full, first_refusal}
+use Rattle.dq_worklist.specs.Orders.{Order, order_limit, has_entry, is_full}
 
 abbrev pub order_of : ElementList → List ℕ → Order
 order_of d id = record { elements = d; id = id }
+
+abbrev pub held : TheOrder → Order
+held order = order_of order.elements.now order.id.now
 
 -- An order that was read can be written, and is not too long for an entry.
 pub record CanBeKept (d : ElementList) : Type 0 where

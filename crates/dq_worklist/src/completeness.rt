@@ -7,21 +7,13 @@ ghost use Rattle.dq_value.specs.Time.{span};
 ghost use Rattle.dq_vr.specs.Tags.{scheduled_procedure_step_sequence};
 ghost use Rattle.dq_tables.specs.Keys.{sole_item_at, entry_id};
 ghost use Rattle.dq_worklist.specs.Orders.{has_value, holds, is_complete_step, is_complete, order_in};
-ghost use Rattle.dq_worklist.specs.Views.{order_of};
+ghost use Rattle.dq_worklist.specs.Views.{held};
 
-use dq_dataset::{DataSet, Value};
+use dq_dataset::DataSet;
+use dq_match::octets_in;
 use dq_tables::{entry_id, sole_at, sole_item_at, uid_at};
 use dq_value::{date_of, time_of, values};
 use dq_vr::{Tag, tags};
-
-fn value_octets(value: &Value) -> &[u8]
-    ensures { result.now ≡ value_octets value.now }
-{
-    match value {
-        Value::Octets(octets) => octets.as_slice(),
-        Value::Items(_) => &[],
-    }
-}
 
 /// Whether the element with the tag has a value.
 #[tactic(auto, unfolding(crate::specs::Orders::has_value))]
@@ -31,7 +23,7 @@ fn has_value(data_set: &DataSet, tag: Tag) -> bool
     let Some(element) = data_set.get(tag) else {
         return false;
     };
-    let mut values = values(element.vr, value_octets(&element.value));
+    let mut values = values(element.vr, octets_in(Some(element)));
     values.next().is_some()
 }
 
@@ -87,15 +79,27 @@ fn is_complete(data_set: &DataSet) -> bool
         && has_complete_step(data_set)
 }
 
-/// The id of the scheduled procedure step of an order that is complete.
-pub(crate) fn order_id(data_set: &DataSet) -> Option<&[u8]>
-    ensures order { option_map (λ id. order_of data_set.now id.now) result ≡ order_in data_set.now }
-    ensures own { IfSome result (λ id. entry_id data_set.now ≡ Some id.now) }
-{
-    let id = entry_id(data_set)?;
-    if is_complete(data_set) {
-        Some(id)
-    } else {
-        None
+/// A complete order: its data set, and the id of its scheduled procedure step.
+#[derive(Clone, Copy)]
+pub(crate) struct Order<'a> {
+    pub(crate) elements: &'a DataSet,
+    pub(crate) id: &'a [u8],
+}
+
+impl<'a> Order<'a> {
+    /// The order that a data set is, if it is complete.
+    pub(crate) fn of(data_set: &'a DataSet) -> Option<Order<'a>>
+        ensures order { option_map held result ≡ order_in data_set.now }
+        ensures own { IfSome result (λ order. entry_id data_set.now ≡ Some order.id.now) }
+        ensures whole { IfSome result (λ order. order.elements.now ≡ data_set.now) }
+    {
+        let id = entry_id(data_set)?;
+        if !is_complete(data_set) {
+            return None;
+        }
+        Some(Order {
+            elements: data_set,
+            id,
+        })
     }
 }

@@ -8,15 +8,15 @@ ghost use Rattle.dq_tables.specs.Keys.{entry_id};
 ghost use Rattle.dq_tables.specs.Keeping.{Reads, Writes};
 ghost use Rattle.dq_tables.specs.Serving.{Serves};
 ghost use Rattle.dq_worklist.specs.Orders.{entry_of, order_outcome, scheduled, withdrawn};
-ghost use Rattle.dq_worklist.specs.Views.{order_of, CanBeKept, data_set_within, record_refusal};
+ghost use Rattle.dq_worklist.specs.Views.{held, CanBeKept, data_set_within, record_refusal};
 
-use crate::completeness::order_id;
+use crate::completeness::Order;
 use crate::refusal::Refusal;
 use dq_config::Institution;
 use dq_dataset::laws::written_law;
 use dq_dataset::{DataSet, ReadFault, Syntax, read, write};
 use dq_list::Listed;
-use dq_tables::{Change, Kind, Row, TableFault, Tables};
+use dq_tables::{Change, Kind, RecordKeys, Row, TableFault, Tables};
 use std::alloc::{AllocError, Global};
 
 /// An order is at most so many octets.
@@ -39,10 +39,10 @@ pub fn schedule<T: Tables>(
     let Some(data_set) = data_set_within(alloc, octets)? else {
         return Ok(Some(Refusal::Malformed.number()));
     };
-    let Some(id) = order_id(&data_set) else {
+    let Some(order) = Order::of(&data_set) else {
         return Ok(Some(Refusal::Incomplete.number()));
     };
-    schedule_order(alloc, tables, institution, &data_set, id)
+    schedule_order(alloc, tables, institution, &order)
 }
 
 /// The data set of an order, if the octets spell one and are not too many.
@@ -65,19 +65,18 @@ fn schedule_order<T: Tables>(
     alloc: Global,
     tables: &mut T,
     institution: &Institution,
-    data_set: &DataSet,
-    id: &[u8],
+    order: &Order<'_>,
 ) -> Result<Option<u16>, TableFault>
-    requires kept { CanBeKept data_set.now }
-    requires own { entry_id data_set.now ≡ Some id.now }
+    requires kept { CanBeKept order.now.elements.now }
+    requires own { entry_id order.now.elements.now ≡ Some order.now.id.now }
     ensures { Serves T.rows T.honest T.failed T.may_leave tables.old tables.new institution.now.name
         (λ (records : List Record).
-        order_outcome (limits_of institution.now) records (order_of data_set.now id.now)) result }
+        order_outcome (limits_of institution.now) records (held order.now)) result }
 {
-    if let Some(refusal) = record_refusal(alloc, tables, institution, id)? {
+    if let Some(refusal) = record_refusal(alloc, tables, institution, order.id)? {
         return Ok(Some(refusal.number()));
     }
-    add_entry(alloc, tables, institution.name.as_slice(), data_set, id)?;
+    add_entry(alloc, tables, institution.name.as_slice(), order)?;
     Ok(None)
 }
 
@@ -109,34 +108,33 @@ fn add_entry<T: Tables>(
     alloc: Global,
     tables: &mut T,
     name: &[u8],
-    data_set: &DataSet,
-    id: &[u8],
+    order: &Order<'_>,
 ) -> Result<(), TableFault>
-    requires kept { CanBeKept data_set.now }
-    requires own { entry_id data_set.now ≡ Some id.now }
-    requires free { T.honest tables.old → row_at Entry name.now id.now (T.rows tables.old) ≡ None }
+    requires kept { CanBeKept order.now.elements.now }
+    requires own { entry_id order.now.elements.now ≡ Some order.now.id.now }
+    requires free { T.honest tables.old
+        → row_at Entry name.now order.now.id.now (T.rows tables.old) ≡ None }
     ensures { Writes T.rows T.honest T.failed T.may_leave tables.old tables.new
-        (after (by name.now (Put (entry_of (order_of data_set.now id.now)) ∷ []))
-        (T.rows tables.old)) result }
+        (after (by name.now (Put (entry_of (held order.now)) ∷ [])) (T.rows tables.old)) result }
 {
     written_law();
-    let _elements = data_set.elements();
-    let row = entry_row(alloc, name, data_set, id)?;
+    let _elements = order.elements.elements();
+    let row = entry_row(alloc, name, order)?;
     tables.apply(alloc, &Change::EntryAdded(row))
 }
 
 /// The row of an entry.
-fn entry_row(alloc: Global, name: &[u8], data_set: &DataSet, id: &[u8]) -> Result<Row, AllocError>
-    requires { CanBeKept data_set.now }
-    ensures { IfOk result (λ row. row ≡ row_of name.now (entry_of (order_of data_set.now id.now))) }
+fn entry_row(alloc: Global, name: &[u8], order: &Order<'_>) -> Result<Row, AllocError>
+    requires { CanBeKept order.now.elements.now }
+    ensures { IfOk result (λ row. row ≡ row_of name.now (entry_of (held order.now))) }
 {
-    Ok(Row {
+    let keys = RecordKeys {
         kind: Kind::Entry,
-        inst: Listed::copy_of(alloc, name)?,
-        key: Listed::copy_of(alloc, id)?,
-        above: Listed::empty(alloc),
-        octets: Listed::from_inner(write(alloc, data_set, Syntax::Explicit)?),
-    })
+        key: order.id,
+        above: &[],
+    };
+    let octets = write(alloc, order.elements, Syntax::Explicit)?;
+    Row::new(alloc, name, &keys, octets)
 }
 
 /// Removes the entry with the id, as it is given, and answers nothing, or 5 where there is none.

@@ -5,7 +5,7 @@ use Rattle.dq_tables.specs.Rows.{Record, Edit, of}
 use Rattle.dq_tables.specs.Serving.{Serves}
 use Rattle.dq_tables.proofs.Calling.{reads_nothing, serves_read}
 use Rattle.dq_worklist.specs.Orders.{scheduled}
-use Rattle.dq_worklist.specs.Views.{order_of}
+use Rattle.dq_worklist.specs.Views.{held}
 use Rattle.dq_worklist.proofs.Orders.{malformed, incomplete, complete}
 use Rattle.dq_worklist.proofs.scheduling.schedule.Goals as goal
 
@@ -25,8 +25,8 @@ returns-in_default g c =
     (λ h. malformed limits (of name (rows it)) octets (sym c.in_ok-data_set.ensures.read ∙ c.in_default.is)
     ∙ sym (ap (λ (n : ℕ). (Some n, [])) c.number.ensures))
 
-pub returns-in_default-order_id : goal.returns-in_default-order_id
-returns-in_default-order_id g c =
+pub returns-in_default-of : goal.returns-in_default-of
+returns-in_default-of g c =
     let rows = g.T.Tables.rows in
     let honest = g.T.Tables.honest in
     let failed = g.T.Tables.failed in
@@ -36,20 +36,21 @@ returns-in_default-order_id g c =
     let limits = limits_of c.args.institution.now in
     let octets = c.args.octets.now in
     let d = c.in-Some.data_set in
-    let none = sym c.order_id.ensures.order ∙ ap (option_map (λ id. order_of d id.now)) c.in_default-order_id.is in
-    let answer : Option ℕ = Some c.number-in_default-order_id.result in
+    let none = sym c.of.ensures.order ∙ ap (option_map held) c.in_default-of.is in
+    let answer : Option ℕ = Some c.number-in_default-of.result in
     serves_read rows honest failed may_leave name (λ (records : List Record). scheduled limits records octets) it it answer
     (reads_nothing rows honest failed may_leave it answer)
     (λ h. incomplete limits (of name (rows it)) octets d (sym c.in_ok-data_set.ensures.read ∙ c.in-Some.is) none
-    ∙ sym (ap (λ (n : ℕ). (Some n, [])) c.number-in_default-order_id.ensures))
+    ∙ sym (ap (λ (n : ℕ). (Some n, [])) c.number-in_default-of.ensures))
 
 pub returns : goal.returns
 returns g c =
     let limits = limits_of c.args.institution.now in
     let octets = c.args.octets.now in
     let d = c.in-Some.data_set in
-    let id = c.in-Some-order_id.id in
-    let some = sym c.order_id.ensures.order ∙ ap (option_map (λ id. order_of d id.now)) c.in-Some-order_id.is in
-    let same = λ (records : List Record). sym (complete limits records octets d (order_of d id.now) (sym c.in_ok-data_set.ensures.read ∙ c.in-Some.is) some) in
+    let found = c.in-Some-of.order in
+    let order = held found in
+    let some = sym c.of.ensures.order ∙ ap (option_map held) c.in-Some-of.is in
+    let same = λ (records : List Record). sym (complete limits records octets d order (sym c.in_ok-data_set.ensures.read ∙ c.in-Some.is) some) in
     subst (λ (does : List Record → Option ℕ × List Edit). Serves g.T.Tables.rows g.T.Tables.honest g.T.Tables.failed g.T.Tables.may_leave c.args.tables.now
     c.schedule_order.new.tables c.args.institution.now.name does c.schedule_order.result) (λ i. λ records. same records i) c.schedule_order.ensures

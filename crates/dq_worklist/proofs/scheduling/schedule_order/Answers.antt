@@ -7,7 +7,7 @@ use Rattle.dq_tables.specs.Finding.{row_at}
 use Rattle.dq_tables.specs.Keeping.{Writes}
 use Rattle.dq_tables.proofs.Calling.{refused, reads_right, serves_read, serves_refused, serves_written}
 use Rattle.dq_worklist.specs.Orders.{entry_of, order_outcome}
-use Rattle.dq_worklist.specs.Views.{order_of}
+use Rattle.dq_worklist.specs.Views.{held}
 use Rattle.dq_worklist.proofs.Orders.{free_if_accepted, order_refused, order_kept}
 use Rattle.dq_worklist.proofs.Records.{row_free}
 use Rattle.dq_worklist.proofs.scheduling.schedule_order.Goals as goal
@@ -22,7 +22,7 @@ returns-in-Some g c =
     let mid = c.record_refusal.new.tables in
     let name = c.args.institution.now.name in
     let limits = limits_of c.args.institution.now in
-    let order = order_of c.args.data_set.now c.args.id.now in
+    let order = held c.args.order.now in
     let answer : Option ℕ = Some c.number.result in
     serves_read rows honest failed may_leave name (λ (records : List Record). order_outcome limits records order) old mid answer
     (reads_right rows honest failed may_leave old mid c.in_ok-refusal.field-0 answer c.in_ok-refusal.ensures.reads)
@@ -34,7 +34,7 @@ add_entry-requires-clause-free g c = λ h.
     let rows = g.T.Tables.rows in
     let old = c.args.tables.now in
     let name = c.args.institution.now.name in
-    let id = c.args.id.now in
+    let id = c.args.order.now.id.now in
     let none = sym (c.in_ok-refusal.ensures.found h) ∙ c.in_default.is in
     let free = row_free name id (rows old) (free_if_accepted (limits_of c.args.institution.now) (of name (rows old)) id none) in
     ap (λ (n : List ℕ). row_at Entry n id (rows c.record_refusal.new.tables)) c.as_slice.ensures
@@ -51,7 +51,7 @@ returns-in_err-add_entry g c =
     let new = c.add_entry.new.tables in
     let name = c.args.institution.now.name in
     let limits = limits_of c.args.institution.now in
-    let order = order_of c.args.data_set.now c.args.id.now in
+    let order = held c.args.order.now in
     let answer : Option ℕ = None in
     let edits = Put (entry_of order) ∷ [] in
     let e = c.in_err-add_entry.field-0.0 in
@@ -73,7 +73,7 @@ returns g c =
     let new = c.add_entry.new.tables in
     let name = c.args.institution.now.name in
     let limits = limits_of c.args.institution.now in
-    let order = order_of c.args.data_set.now c.args.id.now in
+    let order = held c.args.order.now in
     let answer : Option ℕ = None in
     let edits = Put (entry_of order) ∷ [] in
     let writes = subst (λ (n : List ℕ). Writes rows honest failed may_leave mid new (after (by n edits) (rows mid)) (Ok (tt {0})))
