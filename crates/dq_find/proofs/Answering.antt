@@ -1,6 +1,6 @@
 -- The answers of one row after the other, and what is not computed where no key asks for it.
-use Rattle.std.proofs.Common.{◌≡◌, ℕ, Bool, true, false, cond, ◌||◌, List, [], ◌∷◌, map, filter, Option, Some, None, is_some, Ok, Err, refl, sym, ap, ◌∙◌, arith}
-use Rattle.std.specs.List.{list_any, filter_map, cons_option}
+use Rattle.std.proofs.Common.{◌≡◌, ℕ, Bool, true, false, cond, ◌||◌, List, [], ◌∷◌, map, Option, Some, None, option_map, is_some, Ok, Err, refl, sym, ap, ◌∙◌, arith}
+use Rattle.std.specs.List.{list_any, filter_map}
 use Rattle.std.proofs.lemmas.Bool.Decides.{nat_tests}
 use Rattle.dq_vr.specs.declared.Tag.{Tag}
 use Rattle.dq_vr.specs.Tags as tags
@@ -11,7 +11,8 @@ use Rattle.dq_dataset.specs.Tree.{ElementList, no_elements, element, sequence}
 use Rattle.dq_dataset.specs.View.{elements_of, has_tag, list_of}
 use Rattle.dq_dataset.specs.Editing.{merged}
 use Rattle.dq_match.specs.Keys.{element_at, is_tag}
-use Rattle.dq_match.specs.Matching.{fits}
+use Rattle.dq_match.specs.Answers.{refused}
+use Rattle.dq_match.proofs.Answering.{given_of_each}
 use Rattle.dq_tables.specs.declared.row.Row.{Row}
 use Rattle.dq_dimse.specs.declared.command.Message.{Message}
 use Rattle.dq_dimse.specs.Statuses.{success}
@@ -19,8 +20,8 @@ use Rattle.dq_tables.specs.Rows.{Record, of, record_of, row_of}
 use Rattle.dq_find.specs.declared.level.Level.{Level}
 use Rattle.dq_find.specs.declared.level.Level.TheVariants.{Study, Series, Image}
 use Rattle.dq_find.specs.declared.query.Query.{Query}
-use Rattle.dq_find.specs.Computed.{study_values, series_values, computed, completed}
-use Rattle.dq_find.specs.Queries.{answer, answer_if, answers, asked_records, asks_computed, about_answers, query_of, found_by, found}
+use Rattle.dq_find.specs.Computed.{study_values, series_values, computed}
+use Rattle.dq_find.specs.Queries.{told, answer_if, answer_of, answers, asked_records, asks_computed, query_of, found_by, found}
 use Rattle.dq_find.proofs.Completing.{element_stays}
 use Rattle.dq_find.proofs.Agreeing.{Agree, fits_alike, shown_alike}
 
@@ -109,48 +110,33 @@ answered_alike records called key query held h =
     let fit = fits_alike query.keys (merged held sent) held agree (stays records query.level key held tags.scheduled_procedure_step_start_date refl)
     (stays records query.level key held tags.scheduled_procedure_step_start_time refl) in
     let show = shown_alike query.keys (merged held sent) held agree (stays records query.level key held tags.specific_character_set refl) in
-    sym (λ i. cond (fit i) (Some (merged (show i) (about_answers called query.level))) None)
+    sym (λ i. option_map (told called query) (cond (fit i) (Some (show i)) None))
 
 -- ---- all rows
 
-answer_by : (b : Bool) (f : ElementList → ElementList) (held : ElementList) (kept others : List ElementList) → others ≡ map f kept
-    → cons_option (cond b (Some (f held)) None) others ≡ map f (cond b (held ∷ kept) kept)
-answer_by true f held kept others h = ap (λ (ds : List ElementList). f held ∷ ds) h
-answer_by false f held kept others h = h
-
-one_by_one : (records : List Record) (called institution : List ℕ) (query : Query) (rs : List Record)
-    → filter_map (λ (row : Row). answer_if called query (completed records query.level (record_of row))) (map (row_of institution) rs)
-    ≡ map (answer called query) (filter (fits query.keys) (map (completed records query.level) rs))
-one_by_one records called institution query [] = refl
-one_by_one records called institution query (r ∷ rs) =
-    let held : ElementList = completed records query.level r in
-    answer_by (fits query.keys held) (answer called query) held (filter (fits query.keys) (map (completed records query.level) rs))
-    (filter_map (λ (row : Row). answer_if called query (completed records query.level (record_of row))) (map (row_of institution) rs))
-    (one_by_one records called institution query rs)
-
 pub answered_one_by_one : (records : List Record) (called institution : List ℕ) (query : Query)
-    → filter_map (λ (row : Row). answer_if called query (completed records query.level (record_of row)))
-    (map (row_of institution) (asked_records records query))
+    → filter_map (λ (row : Row). answer_of records called query (record_of row)) (map (row_of institution) (asked_records records query))
     ≡ answers records called query
 unfolding answers
-answered_one_by_one records called institution query = one_by_one records called institution query (asked_records records query)
+answered_one_by_one records called institution query =
+    given_of_each (λ (row : Row). answer_of records called query (record_of row)) (row_of institution) (asked_records records query)
 
 -- what is answered of the rows that are asked for
 pub answered_of_rows : (old mid : List Row) (name given called : List ℕ) (query : Query) (found seen : List Row) (answered : List ElementList)
     → given ≡ name → mid ≡ old
     → found ≡ map (row_of given) (asked_records (of given old) query) → seen ≡ found
-    → answered ≡ filter_map (λ (row : Row). answer_if called query (completed (of given mid) query.level (record_of row))) seen
+    → answered ≡ filter_map (λ (row : Row). answer_of (of given mid) called query (record_of row)) seen
     → answered ≡ answers (of name old) called query
 answered_of_rows old mid name given called query found seen answered same_name same_rows found_is seen_is answered_is =
     let asked : seen ≡ map (row_of name) (asked_records (of name old) query) =
     seen_is ∙ found_is ∙ ap (λ (n : List ℕ). map (row_of n) (asked_records (of n old) query)) same_name in
-    answered_is ∙ (λ i. filter_map (λ (row : Row). answer_if called query (completed (of (same_name i) (same_rows i)) query.level (record_of row))) (asked i))
+    answered_is ∙ (λ i. filter_map (λ (row : Row). answer_of (of (same_name i) (same_rows i)) called query (record_of row)) (asked i))
     ∙ answered_one_by_one (of name old) called name query
 
 -- ---- what is found
 
 pub found_none : (records : List Record) (called : List ℕ) (message : Message) (syntax : Syntax) (status : ℕ) → query_of message syntax ≡ Err status
-    → found records called message syntax ≡ record { status = status; optional = false; answers = [] }
+    → found records called message syntax ≡ refused status
 unfolding found
 found_none records called message syntax status refused = ap (found_by records called) refused
 

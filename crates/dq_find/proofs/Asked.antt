@@ -2,7 +2,9 @@
 use Rattle.std.proofs.Common.{◌≡◌, ◌↔◌, ℕ, Bool, true, false, ◌&&◌, List, [], ◌∷◌, map, filter, Option, Some, None, is_some, unwrap_or, Result, Ok, Err, refl, sym, ap, ◌∙◌, if◌then◌else◌, inl, inr}
 use Rattle.std.specs.Str.{bytes_eq}
 use Rattle.std.specs.List.{AllByRecursion}
+use Rattle.std.proofs.lemmas.Bool.{and_parts}
 use Rattle.std.proofs.lemmas.Slice.Eq.{bytes_eq-Decides}
+use Rattle.dq_list.specs.Among.{IsAmong}
 use Rattle.dq_vr.specs.Tags as tags
 use Rattle.dq_dataset.specs.declared.fault.ReadFault.{ReadFault}
 use Rattle.dq_dataset.specs.declared.header.Syntax.TheVariants.{Explicit}
@@ -11,24 +13,19 @@ use Rattle.dq_dataset.specs.Reading.{reading}
 use Rattle.dq_dataset.specs.Canonical.{canonical}
 use Rattle.dq_tables.specs.declared.row.Row.{Row}
 use Rattle.dq_tables.specs.declared.row.Kind.{Kind}
-use Rattle.dq_tables.specs.declared.row.Kind.TheVariants as kind
 use Rattle.dq_tables.specs.Rows.{Record, record_of, of}
 use Rattle.dq_tables.specs.Keys.{uid_at}
+use Rattle.dq_tables.specs.Records.{data_set_of}
 use Rattle.dq_tables.specs.Sound.{IsSound, is_own, is_record_of, is_value, has_key, has_above, is_within}
 use Rattle.dq_find.specs.declared.level.Level.{Level}
 use Rattle.dq_find.specs.declared.level.Level.TheVariants.{Study, Series, Image}
 use Rattle.dq_find.specs.declared.query.Query.{Query}
 use Rattle.dq_find.specs.Levels.{kind_of, has_keys_above}
-use Rattle.dq_find.specs.Computed.{data_set_of}
-use Rattle.dq_find.specs.Queries.{key_above, asked_records}
-use Rattle.dq_find.specs.Answers.{IsAmong, IsUnder, HasKeyAbove, IsAsked}
+use Rattle.dq_find.specs.Queries.{asked_records}
+use Rattle.dq_find.specs.Answers.{IsUnder, HasKeyAbove, IsAsked}
 use Rattle.dq_find.proofs.Answered.{asked_from, asked_to}
 
 -- ---- the key above of a record is its data set's own
-
-both : (a b : Bool) → (a && b) ≡ true → (a ≡ true) × (b ≡ true)
-both true b h = (refl, h)
-both false b h = absurd (cc)
 
 abbrev HasOwnAbove : Record → Type 0
 HasOwnAbove r = has_above r.kind r.above (data_set_of r.octets) ≡ true
@@ -37,10 +34,10 @@ own_by : (read : Result ElementList ReadFault) (row : Row) → reading Explicit 
 unfolding data_set_of
 own_by (Err fault) row is own = absurd (cc)
 own_by (Ok d) row is own =
-    let keys = (both (bytes_eq (canonical Explicit d) row.octets)
+    let keys = (and_parts (bytes_eq (canonical Explicit d) row.octets)
     (has_key row.kind row.key d && (has_above row.kind row.above d && is_within row.kind row.octets)) own).1 in
-    let above = (both (has_key row.kind row.key d) (has_above row.kind row.above d && is_within row.kind row.octets) keys).1 in
-    rw is (both (has_above row.kind row.above d) (is_within row.kind row.octets) above).0
+    let above = (and_parts (has_key row.kind row.key d) (has_above row.kind row.above d && is_within row.kind row.octets) keys).1 in
+    rw is (and_parts (has_above row.kind row.above d) (is_within row.kind row.octets) above).0
 
 row_own : (row : Row) → is_own row ≡ true → HasOwnAbove (record_of row)
 unfolding is_own
@@ -81,29 +78,31 @@ module _ (held asked : Option (List ℕ)) (above : List ℕ) (own : held ≡ Som
 own_value : (level : Level) (r : Record) → r.kind ≡ kind_of level → HasOwnAbove r → has_above (kind_of level) r.above (data_set_of r.octets) ≡ true
 own_value level r is own = ap (λ (k : Kind). has_above k r.above (data_set_of r.octets)) (sym is) ∙ own
 
-under_from : (level : Level) (keys : ElementList) (r : Record) → has_above (kind_of level) r.above (data_set_of r.octets) ≡ true → has_keys_above level keys ≡ true
+under_from : (level : Level) (keys : ElementList) (r : Record) → has_above (kind_of level) r.above (data_set_of r.octets) ≡ true
+    → has_keys_above level keys ≡ true
     → IsUnder level keys r → HasKeyAbove level keys (data_set_of r.octets)
 unfolding has_above has_keys_above
 under_from Study keys r own there under = tt
 under_from Series keys r own there under =
     key_from (uid_at tags.study_instance_uid (data_set_of r.octets)) (uid_at tags.study_instance_uid keys) r.above (value_from _ r.above own)
-    (both (is_some (uid_at tags.study_instance_uid keys)) true there).0 under
+    (and_parts (is_some (uid_at tags.study_instance_uid keys)) true there).0 under
 under_from Image keys r own there under =
-    let series = (both (is_some (uid_at tags.study_instance_uid keys)) (is_some (uid_at tags.series_instance_uid keys) && true) there).1 in
+    let series = (and_parts (is_some (uid_at tags.study_instance_uid keys)) (is_some (uid_at tags.series_instance_uid keys) && true) there).1 in
     key_from (uid_at tags.series_instance_uid (data_set_of r.octets)) (uid_at tags.series_instance_uid keys) r.above (value_from _ r.above own)
-    (both (is_some (uid_at tags.series_instance_uid keys)) true series).0 under
+    (and_parts (is_some (uid_at tags.series_instance_uid keys)) true series).0 under
 
-under_to : (level : Level) (keys : ElementList) (r : Record) → has_above (kind_of level) r.above (data_set_of r.octets) ≡ true → has_keys_above level keys ≡ true
+under_to : (level : Level) (keys : ElementList) (r : Record) → has_above (kind_of level) r.above (data_set_of r.octets) ≡ true
+    → has_keys_above level keys ≡ true
     → HasKeyAbove level keys (data_set_of r.octets) → IsUnder level keys r
 unfolding has_above has_keys_above
 under_to Study keys r own there key = tt
 under_to Series keys r own there key =
     key_to (uid_at tags.study_instance_uid (data_set_of r.octets)) (uid_at tags.study_instance_uid keys) r.above (value_from _ r.above own)
-    (both (is_some (uid_at tags.study_instance_uid keys)) true there).0 key
+    (and_parts (is_some (uid_at tags.study_instance_uid keys)) true there).0 key
 under_to Image keys r own there key =
-    let series = (both (is_some (uid_at tags.study_instance_uid keys)) (is_some (uid_at tags.series_instance_uid keys) && true) there).1 in
+    let series = (and_parts (is_some (uid_at tags.study_instance_uid keys)) (is_some (uid_at tags.series_instance_uid keys) && true) there).1 in
     key_to (uid_at tags.series_instance_uid (data_set_of r.octets)) (uid_at tags.series_instance_uid keys) r.above (value_from _ r.above own)
-    (both (is_some (uid_at tags.series_instance_uid keys)) true series).0 key
+    (and_parts (is_some (uid_at tags.series_instance_uid keys)) true series).0 key
 
 pub asked_by_key : (institution : List ℕ) (rows : List Row) (query : Query) (r : Record) → IsSound rows → has_keys_above query.level query.keys ≡ true
     → IsAmong r (asked_records (of institution rows) query) ↔ IsAsked (of institution rows) query r

@@ -3,26 +3,16 @@ use Rattle.std.proofs.Common.{◌≡◌, ℕ, suc, ◌+◌, ◌<◌, List, [], �
 use Rattle.dq_tables.specs.declared.row.Kind.{Kind}
 use Rattle.dq_tables.specs.declared.row.Kind.TheVariants.{Series as SeriesKind, Image as ImageKind}
 use Rattle.dq_tables.specs.declared.row.Row.{Row}
-use Rattle.dq_tables.specs.Rows.{Record, of, record_of, row_of}
+use Rattle.dq_tables.specs.Rows.{Record, of, record_of}
 use Rattle.dq_tables.specs.Finding.{rows_above, records_above}
-use Rattle.dq_tables.proofs.Seen.{above_own}
+use Rattle.dq_tables.proofs.Listing.{found_above}
 use Rattle.dq_find.specs.declared.level.Level.TheVariants.{Study, Series}
 use Rattle.dq_find.specs.Computed.{images_below, modalities_in, joined, study_values, series_values, computed}
 use Rattle.dq_find.proofs.Looking.{from_place}
 
-pub own_records : (institution : List ℕ) (records : List Record) → map record_of (map (row_of institution) records) ≡ records
-own_records institution [] = refl
-own_records institution (r ∷ records) = ap (λ (rs : List Record). r ∷ rs) (own_records institution records)
-
 length_mapped : (rows : List Row) → length (map record_of rows) ≡ length rows
 length_mapped [] = refl
 length_mapped (row ∷ rows) = ap suc (length_mapped rows)
-
--- the rows that are found under another hold the records that are under it
-pub found_above : (kind : Kind) (institution above : List ℕ) (rows found : List Row) → found ≡ rows_above kind institution above rows
-    → map record_of found ≡ records_above kind above (of institution rows)
-found_above kind institution above rows found is =
-    ap (map record_of) (is ∙ above_own kind institution above rows) ∙ own_records institution (records_above kind above (of institution rows))
 
 pub number_above : (kind : Kind) (institution above : List ℕ) (rows found : List Row) → found ≡ rows_above kind institution above rows
     → length found ≡ length (records_above kind above (of institution rows))

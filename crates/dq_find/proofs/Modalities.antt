@@ -8,10 +8,11 @@ use Rattle.std.specs.List.Sorted.{IsStrictlySortedBy}
 use Rattle.std.proofs.lemmas.Cmp.{nat_list_cmp_total}
 use Rattle.std.proofs.lemmas.Map.Text.{is_eq-slice_cmp}
 use Rattle.std.proofs.lemmas.Slice.Eq.{bytes_eq-Decides}
+use Rattle.dq_list.specs.Among.{IsAmong}
 use Rattle.dq_tables.specs.Rows.{Record, octet_order}
+use Rattle.dq_tables.specs.Records.{data_set_of}
 use Rattle.dq_tables.proofs.Order.{each_weaker}
-use Rattle.dq_find.specs.Computed.{placed, put_in_order, all_in_order, data_set_of, modality_limit, modalities_of, modalities_in}
-use Rattle.dq_find.specs.Answers.{IsAmong}
+use Rattle.dq_find.specs.Computed.{placed, put_in_order, all_in_order, modality_limit, modalities_of, modalities_in}
 use Rattle.dq_find.specs.Modalities.{IsModalityOf, IsPast}
 
 abbrev Values : Type 0
@@ -71,7 +72,8 @@ each_put P value (y ∷ ys) p all = each_placed P (octet_order value y) value y 
 placed_in_order : (o : Ordering) (value y : List ℕ) (ys : Values) → octet_order value y ≡ o → IsInOrder (y ∷ ys) → IsInOrder (put_in_order value ys)
     → IsInOrder (placed o value y ys (put_in_order value ys))
 unfolding IsStrictlySortedBy
-placed_in_order Less value y ys is ordered rest = ((is, each_weaker (IsBefore y) (IsBefore value) (λ x less. nat_list_cmp_total.trans value y x is less) ys ordered.0), ordered)
+placed_in_order Less value y ys is ordered rest =
+    ((is, each_weaker (IsBefore y) (IsBefore value) (λ x less. nat_list_cmp_total.trans value y x is less) ys ordered.0), ordered)
 placed_in_order Equal value y ys is ordered rest = ordered
 placed_in_order Greater value y ys is ordered rest = (each_put (IsBefore y) value ys (comes_before value y is) ordered.0, rest)
 

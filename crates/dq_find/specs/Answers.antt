@@ -1,8 +1,7 @@
--- What is said of the answers to a query: of which records they are, in what order, and what each
--- of them tells (PS3.4 section C.4.1).
-use Rattle.std.specs.Prelude.{◌≡◌, ℕ, true, List, [], ◌∷◌, ◌⊎◌, codes}
-use Rattle.std.specs.declared.cmp.Ordering.TheVariants.{Less}
-use Rattle.std.specs.List.{AllByRecursion}
+-- What is said of the answers to a query: of which records they are, and what each of them tells
+-- (PS3.4 section C.4.1).
+use Rattle.std.specs.Prelude.{◌≡◌, ℕ, true, List, codes}
+use Rattle.dq_list.specs.Among.{IsAmong}
 use Rattle.dq_vr.specs.declared.Tag.{Tag}
 use Rattle.dq_vr.specs.declared.Vr.TheVariants.{AE, CS}
 use Rattle.dq_vr.specs.Tags as tags
@@ -11,19 +10,16 @@ use Rattle.dq_dataset.specs.Rules.{padded}
 use Rattle.dq_dataset.specs.Tree.{ElementList}
 use Rattle.dq_match.specs.Keys.{element_at, octets_in}
 use Rattle.dq_match.specs.Matching.{fits}
-use Rattle.dq_tables.specs.Rows.{Record, octet_order}
+use Rattle.dq_match.specs.Responses.{shown}
+use Rattle.dq_tables.specs.Rows.{Record}
+use Rattle.dq_tables.specs.Records.{data_set_of}
 use Rattle.dq_tables.specs.Keys.{uid_at}
 use Rattle.dq_find.specs.declared.level.Level.{Level}
 use Rattle.dq_find.specs.declared.level.Level.TheVariants.{Study, Series, Image}
 use Rattle.dq_find.specs.declared.query.Query.{Query}
 use Rattle.dq_find.specs.Levels.{kind_of, name_of}
-use Rattle.dq_find.specs.Computed.{data_set_of, completed}
-use Rattle.dq_find.specs.Queries.{answer, key_above}
-
--- one of some values
-abbrev pub IsAmong : {X : Type 0} → X → List X → Type 0
-IsAmong x [] = ⊥
-IsAmong x (y ∷ ys) = (y ≡ x) ⊎ IsAmong x ys
+use Rattle.dq_find.specs.Computed.{completed}
+use Rattle.dq_find.specs.Queries.{told, key_above}
 
 -- the record is under the one that a unique key names
 abbrev pub IsUnder : Level → ElementList → Record → Type 0
@@ -39,8 +35,8 @@ pub record IsAnswered (records : List Record) (query : Query) (r : Record) : Typ
   pub under : IsUnder query.level query.keys r
   pub fit : fits query.keys (completed records query.level r) ≡ true
 
--- the same by what the record holds: it is one of the query's level, and the unique key above has in
--- its data set the value that the query gives (PS3.4 section C.4.1.2.1)
+-- the same by what the record holds: it is one of the query's level, and in its data set the unique
+-- key above has the value that the query gives (PS3.4 section C.4.1.2.1)
 abbrev pub HasKeyAbove : Level → ElementList → ElementList → Type 0
 HasKeyAbove Study keys d = Unit {0}
 HasKeyAbove Series keys d = uid_at tags.study_instance_uid d ≡ uid_at tags.study_instance_uid keys
@@ -54,13 +50,7 @@ pub record IsAsked (records : List Record) (query : Query) (r : Record) : Type 0
 abbrev pub IsAnswer : List Record → List ℕ → Query → ElementList → Type 0
 IsAnswer records called query d =
     (r : Record) × IsAnswered records query r
-    × (d ≡ answer called query (completed records query.level r))
-
--- in the order of the keys, octet by octet, no two alike
-abbrev pub AreInOrder : List Record → Type 0
-AreInOrder [] = Unit {0}
-AreInOrder (r ∷ later) =
-    AllByRecursion (λ (s : Record). octet_order r.key s.key ≡ Less) later × AreInOrder later
+    × (d ≡ told called query (shown query.keys (completed records query.level r)))
 
 abbrev pub value_at : Tag → ElementList → List ℕ
 value_at tag d = octets_in (element_at tag d)

@@ -5,27 +5,21 @@ use Rattle.std.specs.declared.cmp.Ordering.{Ordering}
 use Rattle.std.specs.declared.cmp.Ordering.TheVariants.{Less, Equal, Greater}
 use Rattle.std.specs.Fmt.{decimal}
 use Rattle.std.specs.List.{flat_map}
-use Rattle.std.specs.Result.{result_unwrap_or}
 use Rattle.dq_vr.specs.declared.Tag.{Tag}
 use Rattle.dq_vr.specs.declared.Vr.{Vr}
 use Rattle.dq_vr.specs.declared.Vr.TheVariants.{CS, IS}
 use Rattle.dq_vr.specs.Tags as tags
 use Rattle.dq_value.specs.Parts.{parts}
-use Rattle.dq_dataset.specs.declared.header.Syntax.TheVariants.{Explicit}
-use Rattle.dq_dataset.specs.Reading.{reading}
 use Rattle.dq_dataset.specs.Rules.{padded}
 use Rattle.dq_dataset.specs.Tree.{ElementList, no_elements, element}
 use Rattle.dq_dataset.specs.Editing.{merged}
 use Rattle.dq_match.specs.Keys.{element_at, octets_in}
 use Rattle.dq_tables.specs.declared.row.Kind.TheVariants.{Series as SeriesKind, Image as ImageKind}
 use Rattle.dq_tables.specs.Rows.{Record, octet_order}
+use Rattle.dq_tables.specs.Records.{data_set_of}
 use Rattle.dq_tables.specs.Finding.{records_above}
 use Rattle.dq_find.specs.declared.level.Level.{Level}
 use Rattle.dq_find.specs.declared.level.Level.TheVariants.{Study, Series, Image}
-
--- the data set of a record
-unfoldable pub data_set_of : List ℕ → ElementList
-data_set_of octets = result_unwrap_or (reading Explicit octets) no_elements
 
 -- a value takes its place among others in the order of octets, where it is not there yet
 abbrev pub placed : Ordering → List ℕ → List ℕ → List (List ℕ) → List (List ℕ) → List (List ℕ)

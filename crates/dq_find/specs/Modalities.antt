@@ -2,9 +2,10 @@
 use Rattle.std.specs.Prelude.{◌≡◌, ℕ, List, length}
 use Rattle.std.specs.declared.cmp.Ordering.TheVariants.{Less}
 use Rattle.std.specs.List.{AllByRecursion}
+use Rattle.dq_list.specs.Among.{IsAmong}
 use Rattle.dq_tables.specs.Rows.{Record, octet_order}
-use Rattle.dq_find.specs.Computed.{data_set_of, modality_limit, modalities_of}
-use Rattle.dq_find.specs.Answers.{IsAmong}
+use Rattle.dq_tables.specs.Records.{data_set_of}
+use Rattle.dq_find.specs.Computed.{modality_limit, modalities_of}
 
 -- the value is a modality of one of the series
 abbrev pub IsModalityOf : List Record → List ℕ → Type 0

@@ -1,9 +1,11 @@
 -- Study Root queries (PS3.4 sections C.4.1 and C.6.2).
-use Rattle.std.specs.Prelude.{ℕ, Bool, false, List, [], ◌∷◌, Option, Some, None, Result, Ok, Err, map, filter, codes, is_some, unwrap_or, ◌&&◌, if◌then◌else◌}
+use Rattle.std.specs.Prelude.{ℕ, Bool, List, [], ◌∷◌, Option, Some, None, Result, Ok, Err, option_map, codes, is_some, unwrap_or, ◌&&◌, if◌then◌else◌}
+use Rattle.std.specs.List.{filter_map, list_any}
+use Rattle.std.specs.Result.{result_ok}
+use Rattle.dq_vr.specs.declared.Tag.{Tag}
 use Rattle.dq_vr.specs.declared.Vr.TheVariants.{AE, CS}
 use Rattle.dq_vr.specs.Tags as tags
 use Rattle.dq_value.specs.Title.{stripped}
-use Rattle.dq_dataset.specs.declared.fault.ReadFault.{ReadFault}
 use Rattle.dq_dataset.specs.declared.header.Syntax.{Syntax}
 use Rattle.dq_dataset.specs.Reading.{reading}
 use Rattle.dq_dataset.specs.Tree.{ElementList, no_elements}
@@ -13,16 +15,13 @@ use Rattle.dq_dimse.specs.Statuses.{success, out_of_resources, does_not_match_so
 use Rattle.dq_match.specs.declared.responses.Found.{Found}
 use Rattle.dq_match.specs.declared.supported.Level.TheVariants.{Identifier}
 use Rattle.dq_match.specs.Identifiers.{is_query}
-use Rattle.dq_match.specs.Matching.{fits}
+use Rattle.dq_match.specs.Keys.{element_at}
 use Rattle.dq_match.specs.Supported.{supported_part, has_unsupported}
-use Rattle.dq_match.specs.Responses.{shown}
+use Rattle.dq_match.specs.Answers.{refused, answer}
 use Rattle.dq_tables.specs.Rows.{Record}
 use Rattle.dq_tables.specs.Finding.{records_of, records_above}
 use Rattle.dq_tables.specs.Keys.{uid_at}
 use Rattle.dq_tables.specs.declared.row.Kind.TheVariants.{Study as StudyKind, Series as SeriesKind, Image as ImageKind}
-use Rattle.dq_match.specs.Keys.{element_at}
-use Rattle.std.specs.List.{list_any}
-use Rattle.dq_vr.specs.declared.Tag.{Tag}
 use Rattle.dq_find.specs.declared.level.Level.TheVariants.{Study, Series, Image}
 use Rattle.dq_find.specs.declared.level.Level.{Level}
 use Rattle.dq_find.specs.declared.query.Query.{Query}
@@ -39,14 +38,15 @@ query_at identifier (Some level) =
     then Ok (record { level = level; keys = keys; optional = optional })
     else Err does_not_match_sop_class
 
-abbrev pub query_in : Result ElementList ReadFault → Result Query ℕ
-query_in (Err fault) = Err cannot_understand
-query_in (Ok identifier) = query_at identifier (level_of identifier)
+abbrev pub query_in : Option ElementList → Result Query ℕ
+query_in None = Err cannot_understand
+query_in (Some identifier) = query_at identifier (level_of identifier)
 
 -- the query of a message, or the status that refuses it (PS3.4 section C.4.1.1.4)
 unfoldable pub query_of : Message → Syntax → Result Query ℕ
 query_of message syntax =
-    if message.over then Err out_of_resources else query_in (reading syntax message.octets)
+    if message.over then Err out_of_resources
+    else query_in (result_ok (reading syntax message.octets))
 
 -- what every answer holds beside the keys: the level, who answers, and that nothing can be
 -- retrieved (PS3.4 section C.4.1.1.3.2)
@@ -56,11 +56,12 @@ about_answers called level =
     (text tags.retrieve_ae_title AE (stripped called)
     (text tags.instance_availability CS (codes "UNAVAILABLE") no_elements))
 
-abbrev pub answer : List ℕ → Query → ElementList → ElementList
-answer called query held = merged (shown query.keys held) (about_answers called query.level)
+abbrev pub told : List ℕ → Query → ElementList → ElementList
+told called query part = merged part (about_answers called query.level)
 
+-- the answer that a completed record gives, where it fits
 abbrev pub answer_if : List ℕ → Query → ElementList → Option ElementList
-answer_if called query held = if fits query.keys held then Some (answer called query held) else None
+answer_if called query held = option_map (told called query) (answer query.keys held)
 
 -- the value of a unique key above
 abbrev pub key_above : Tag → ElementList → List ℕ
@@ -77,15 +78,17 @@ records_asked records Image keys =
 abbrev pub asked_records : List Record → Query → List Record
 asked_records records query = records_asked records query.level query.keys
 
--- the answers to a query: of the records of its level that are under its unique keys, each
--- completed, those that fit, in their order
+-- the answer that a record gives
+abbrev pub answer_of : List Record → List ℕ → Query → Record → Option ElementList
+answer_of records called query r = answer_if called query (completed records query.level r)
+
+-- the answers to a query: those of the records of its level under its unique keys, in their order
 unfoldable pub answers : List Record → List ℕ → Query → List ElementList
 answers records called query =
-    map (answer called query)
-    (filter (fits query.keys) (map (completed records query.level) (asked_records records query)))
+    filter_map (answer_of records called query) (asked_records records query)
 
 abbrev pub found_by : List Record → List ℕ → Result Query ℕ → Found
-found_by records called (Err status) = record { status = status; optional = false; answers = [] }
+found_by records called (Err status) = refused status
 found_by records called (Ok query) = record {
   status = success;
   optional = query.optional;

@@ -4,14 +4,15 @@ ghost use Rattle.std.specs.Prelude.{◌≡◌, ◌≤◌, ◌∷◌, ◌++◌, l
 ghost use Rattle.dq_dataset.specs.Rules.{padded};
 ghost use Rattle.dq_dataset.specs.declared.data_set.Value.TheVariants.{Octets as OctetsValue};
 ghost use Rattle.dq_tables.specs.Rows.{record_of};
-ghost use Rattle.dq_find.specs.Computed.{data_set_of, put_in_order, all_in_order, is_modality, modality_limit, modalities_of, modalities_in, joined, images_below, study_values, series_values, computed};
+ghost use Rattle.dq_find.specs.Computed.{put_in_order, all_in_order, is_modality, modality_limit, modalities_of, modalities_in, joined, images_below, study_values, series_values, computed};
 ghost use Rattle.dq_find.specs.Looking.{Looks};
 ghost use Rattle.dq_find.specs.declared.level.Level.TheVariants.{Study, Series};
 ghost use Rattle.dq_match.specs.Keys.{element_at, octets_in};
 
 use crate::level::Level;
-use dq_dataset::{DataSet, Element, ReadFault, Syntax, Value, read};
+use dq_dataset::{DataSet, Element, Value};
 use dq_list::Listed;
+use dq_match::octets_in;
 use dq_tables::{Row, TableFault, Tables};
 use dq_vr::{Tag, Vr, tags};
 use std::alloc::{AllocError, Global};
@@ -19,18 +20,6 @@ use std::cmp::Ordering;
 
 /// How many modalities of a study are told.
 const MODALITY_LIMIT: usize = 1000;
-
-/// The data set of a record, which its octets spell.
-#[tactic(auto, unfolding(crate::specs::Computed::data_set_of))]
-pub(crate) fn data_set_of(alloc: Global, octets: &[u8]) -> Result<DataSet, AllocError>
-    ensures { IfOk result (λ d. d ≡ data_set_of octets.now) }
-{
-    match read(alloc, octets, Syntax::Explicit) {
-        Ok(data_set) => Ok(data_set),
-        Err(ReadFault::NoMemory) => Err(AllocError),
-        Err(_) => Ok(DataSet::new(alloc)),
-    }
-}
 
 /// An element with a text, which gets its pad.
 pub(crate) fn text(alloc: Global, tag: Tag, vr: Vr, value: &[u8]) -> Result<Element, AllocError>
@@ -90,13 +79,7 @@ fn is_modality(value: &[u8]) -> bool
 pub(crate) fn octets_at(data_set: &DataSet, tag: Tag) -> &[u8]
     ensures { result.now ≡ octets_in (element_at tag data_set.now) }
 {
-    let Some(element) = data_set.get(tag) else {
-        return &[];
-    };
-    match &element.value {
-        Value::Octets(octets) => octets.as_slice(),
-        Value::Items(_) => &[],
-    }
+    octets_in(data_set.get(tag))
 }
 
 /// Puts the modalities of a series in their places.
@@ -127,7 +110,7 @@ fn modalities_in(alloc: Global, series: &[Row]) -> Result<Vec<Listed<u8>>, Alloc
 {
     let mut values = Vec::new(alloc);
     for row in series {
-        let data_set = data_set_of(alloc, row.octets.as_slice())?;
+        let data_set = row.data_set(alloc)?;
         put_modalities(alloc, &mut values, &data_set)?;
     }
     Ok(values)
@@ -207,7 +190,8 @@ fn images_below<T: Tables>(
     Ok(number)
 }
 
-fn study_computed<T: Tables>(
+/// What is computed of the study with the key.
+pub(crate) fn study_computed<T: Tables>(
     alloc: Global,
     tables: &mut T,
     institution: &[u8],
@@ -223,7 +207,8 @@ fn study_computed<T: Tables>(
     Ok(study_values(alloc, &modalities, series.len(), images)?)
 }
 
-fn series_computed<T: Tables>(
+/// What is computed of the series with the key.
+pub(crate) fn series_computed<T: Tables>(
     alloc: Global,
     tables: &mut T,
     institution: &[u8],
@@ -234,22 +219,4 @@ fn series_computed<T: Tables>(
 {
     let images = tables.images_of(alloc, institution, key)?;
     Ok(series_values(alloc, images.len())?)
-}
-
-/// What is computed of a study or a series with the key.
-pub(crate) fn computed<T: Tables>(
-    alloc: Global,
-    tables: &mut T,
-    institution: &[u8],
-    level: Level,
-    key: &[u8],
-) -> Result<DataSet, TableFault>
-    ensures { Looks T.rows T.honest T.failed T.may_leave tables.old tables.new institution.now
-        (λ records. computed records level key.now) result }
-{
-    match level {
-        Level::Study => study_computed(alloc, tables, institution, key),
-        Level::Series => series_computed(alloc, tables, institution, key),
-        Level::Image => Ok(DataSet::new(alloc)),
-    }
 }

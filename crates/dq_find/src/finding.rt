@@ -1,15 +1,15 @@
 //! The answers to a query (PS3.4 sections C.4.1.3 and C.6.2).
-ghost use Rattle.std.specs.Prelude.{◌≡◌, [], false, IfOk, map};
+ghost use Rattle.std.specs.Prelude.{◌≡◌, [], IfOk, map};
 ghost use Rattle.std.specs.List.{filter_map};
 ghost use Rattle.dq_match.specs.Identifiers.{HasKnownTags};
 ghost use Rattle.dq_tables.specs.Rows.{record_of, row_of};
 ghost use Rattle.dq_tables.specs.Serving.{Serves};
-ghost use Rattle.dq_find.specs.Computed.{completed};
-ghost use Rattle.dq_find.specs.Queries.{about_answers, key_above, asks_computed, asked_records, answer_if, found};
+ghost use Rattle.dq_find.specs.Computed.{computed};
+ghost use Rattle.dq_find.specs.Queries.{about_answers, key_above, asks_computed, asked_records, answer_if, answer_of, found};
 ghost use Rattle.dq_tables.specs.declared.row.Row.{Row as TheRow};
 ghost use Rattle.dq_find.specs.Looking.{Looks};
 
-use crate::computed::{computed, data_set_of, text};
+use crate::computed::{series_computed, study_computed, text};
 use crate::level::Level;
 use crate::query::{Query, query_of};
 use dq_config::Institution;
@@ -17,7 +17,7 @@ use dq_dataset::{DataSet, Syntax};
 use dq_dimse::Message;
 use dq_dimse::status::SUCCESS;
 use dq_list::Listed;
-use dq_match::{Found, fits, shown};
+use dq_match::{Found, answer};
 use dq_tables::{Row, TableFault, Tables, uid_at};
 use dq_value::stripped;
 use dq_vr::{Tag, Vr, tags};
@@ -52,97 +52,116 @@ fn key_above(keys: &DataSet, tag: Tag) -> &[u8]
     }
 }
 
-/// The records of the level under the unique keys above it.
-fn asked_rows<T: Tables>(
-    alloc: Global,
-    tables: &mut T,
-    institution: &[u8],
-    query: &Query,
-) -> Result<Listed<Row>, TableFault>
-    ensures { Looks T.rows T.honest T.failed T.may_leave tables.old tables.new institution.now
-        (λ records. map (row_of institution.now) (asked_records records query.now)) result }
-{
-    match query.level {
-        Level::Study => tables.studies(alloc, institution),
-        Level::Series => {
-            let study = key_above(&query.keys, tags::STUDY_INSTANCE_UID);
-            tables.series_of(alloc, institution, study)
-        }
-        Level::Image => {
-            let series = key_above(&query.keys, tags::SERIES_INSTANCE_UID);
-            tables.images_of(alloc, institution, series)
-        }
-    }
+/// A query, with the institution that is asked and the title that was called.
+#[derive(Clone, Copy)]
+struct Search<'a> {
+    institution: &'a [u8],
+    called: &'a [u8],
+    query: &'a Query,
 }
 
-/// The answer to a query that a record gives, where it fits.
-fn answer_if(
-    alloc: Global,
-    called: &[u8],
-    query: &Query,
-    held: &DataSet,
-) -> Result<Option<DataSet>, AllocError>
-    requires { HasKnownTags query.now.keys }
-    ensures { IfOk result (λ answer. answer ≡ answer_if called.now query.now held.now) }
-{
-    if !fits(&query.keys, held) {
-        return Ok(None);
+impl Search<'_> {
+    /// The records of the level under the unique keys above it.
+    fn rows<T: Tables>(&self, alloc: Global, tables: &mut T) -> Result<Listed<Row>, TableFault>
+        ensures { Looks T.rows T.honest T.failed T.may_leave tables.old tables.new
+            self.now.institution.now (λ records. map (row_of self.now.institution.now)
+            (asked_records records self.now.query.now)) result }
+    {
+        let keys = &self.query.keys;
+        match self.query.level {
+            Level::Study => tables.studies(alloc, self.institution),
+            Level::Series => {
+                let study = key_above(keys, tags::STUDY_INSTANCE_UID);
+                tables.series_of(alloc, self.institution, study)
+            }
+            Level::Image => {
+                let series = key_above(keys, tags::SERIES_INSTANCE_UID);
+                tables.images_of(alloc, self.institution, series)
+            }
+        }
     }
-    let part = shown(alloc, &query.keys, held)?;
-    let about = about_answers(alloc, called, query.level)?;
-    Ok(Some(part.merged(alloc, &about)?))
+
+    /// What is computed of the record of the level with the key.
+    fn computed<T: Tables>(
+        &self,
+        alloc: Global,
+        tables: &mut T,
+        key: &[u8],
+    ) -> Result<DataSet, TableFault>
+        ensures { Looks T.rows T.honest T.failed T.may_leave tables.old tables.new
+            self.now.institution.now
+            (λ records. computed records self.now.query.now.level key.now) result }
+    {
+        match self.query.level {
+            Level::Study => study_computed(alloc, tables, self.institution, key),
+            Level::Series => series_computed(alloc, tables, self.institution, key),
+            Level::Image => Ok(DataSet::new(alloc)),
+        }
+    }
+
+    /// The answer that a completed record gives, where it fits.
+    fn answer(&self, alloc: Global, held: &DataSet) -> Result<Option<DataSet>, AllocError>
+        requires { HasKnownTags self.now.query.now.keys }
+        ensures { IfOk result (λ given. given
+            ≡ answer_if self.now.called.now self.now.query.now held.now) }
+    {
+        let Some(part) = answer(alloc, &self.query.keys, held)? else {
+            return Ok(None);
+        };
+        let about = about_answers(alloc, self.called, self.query.level)?;
+        Ok(Some(part.merged(alloc, &about)?))
+    }
+
+    /// The answer that a row gives. What no key asks for is not computed.
+    fn answer_of<T: Tables>(
+        &self,
+        alloc: Global,
+        tables: &mut T,
+        row: &Row,
+    ) -> Result<Option<DataSet>, TableFault>
+        requires { HasKnownTags self.now.query.now.keys }
+        ensures { Looks T.rows T.honest T.failed T.may_leave tables.old tables.new
+            self.now.institution.now
+            (λ records. answer_of records self.now.called.now self.now.query.now
+            (record_of row.now)) result }
+    {
+        let held = row.data_set(alloc)?;
+        if !asks_computed(self.query) {
+            return Ok(self.answer(alloc, &held)?);
+        }
+        let values = self.computed(alloc, tables, row.key.as_slice())?;
+        let held = held.merged(alloc, &values)?;
+        Ok(self.answer(alloc, &held)?)
+    }
+
+    /// The answers that some rows give, in their order.
+    fn answers_of<T: Tables>(
+        &self,
+        alloc: Global,
+        tables: &mut T,
+        rows: &[Row],
+    ) -> Result<Listed<DataSet>, TableFault>
+        requires { HasKnownTags self.now.query.now.keys }
+        ensures { Looks T.rows T.honest T.failed T.may_leave tables.old tables.new
+            self.now.institution.now (λ records. filter_map (λ (row : TheRow).
+            answer_of records self.now.called.now self.now.query.now (record_of row)) rows.now)
+            result }
+    {
+        let mut answers = Listed::empty(alloc);
+        for row in rows {
+            let answer = self.answer_of(alloc, tables, row)?;
+            if let Some(answer) = answer {
+                answers.push(answer)?;
+            }
+        }
+        Ok(answers)
+    }
 }
 
 fn asks_computed(query: &Query) -> bool
     ensures { result ≡ asks_computed query.now }
 {
     COMPUTED.iter().any(|tag| query.keys.get(*tag).is_some())
-}
-
-/// The answer to a query that a row gives. What no key asks for is not computed.
-fn answer_of<T: Tables>(
-    alloc: Global,
-    tables: &mut T,
-    institution: &[u8],
-    called: &[u8],
-    query: &Query,
-    row: &Row,
-) -> Result<Option<DataSet>, TableFault>
-    requires { HasKnownTags query.now.keys }
-    ensures { Looks T.rows T.honest T.failed T.may_leave tables.old tables.new institution.now
-        (λ records. answer_if called.now query.now
-        (completed records query.now.level (record_of row.now))) result }
-{
-    let held = data_set_of(alloc, row.octets.as_slice())?;
-    if !asks_computed(query) {
-        return Ok(answer_if(alloc, called, query, &held)?);
-    }
-    let values = computed(alloc, tables, institution, query.level, row.key.as_slice())?;
-    let held = held.merged(alloc, &values)?;
-    Ok(answer_if(alloc, called, query, &held)?)
-}
-
-fn answers_of<T: Tables>(
-    alloc: Global,
-    tables: &mut T,
-    institution: &[u8],
-    called: &[u8],
-    query: &Query,
-    rows: &[Row],
-) -> Result<Listed<DataSet>, TableFault>
-    requires { HasKnownTags query.now.keys }
-    ensures { Looks T.rows T.honest T.failed T.may_leave tables.old tables.new institution.now
-        (λ records. filter_map (λ (row : TheRow). answer_if called.now query.now
-        (completed records query.now.level (record_of row))) rows.now) result }
-{
-    let mut answers = Listed::empty(alloc);
-    for row in rows {
-        let answer = answer_of(alloc, tables, institution, called, query, row)?;
-        if let Some(answer) = answer {
-            answers.push(answer)?;
-        }
-    }
-    Ok(answers)
 }
 
 /// Answers a Study Root C-FIND from the records of an institution: of the query's level those that
@@ -163,24 +182,18 @@ pub fn find<T: Tables>(
 {
     let query = match query_of(alloc, message, syntax)? {
         Ok(query) => query,
-        Err(status) => return Ok(refused(alloc, status)),
+        Err(status) => return Ok(Found::refused(alloc, status)),
     };
-    let name = institution.name.as_slice();
-    let rows = asked_rows(alloc, tables, name, &query)?;
-    let answers = answers_of(alloc, tables, name, called, &query, rows.as_slice())?;
+    let search = Search {
+        institution: institution.name.as_slice(),
+        called,
+        query: &query,
+    };
+    let rows = search.rows(alloc, tables)?;
+    let answers = search.answers_of(alloc, tables, rows.as_slice())?;
     Ok(Found {
         status: SUCCESS,
         optional: query.optional,
         answers,
     })
-}
-
-fn refused(alloc: Global, status: u16) -> Found
-    ensures { result ≡ record { status = status; optional = false; answers = [] } }
-{
-    Found {
-        status,
-        optional: false,
-        answers: Listed::empty(alloc),
-    }
 }

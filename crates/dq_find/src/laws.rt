@@ -2,23 +2,25 @@
 ghost use Rattle.std.specs.Prelude.{◌≡◌, ◌≢◌, ◌↔◌, ◌⊎◌, ℕ, true, List, [], Ok};
 ghost use Rattle.std.specs.List.{AllByRecursion};
 ghost use Rattle.std.specs.List.Sorted.{IsStrictlySortedBy};
+ghost use Rattle.dq_list.specs.Among.{IsAmong};
 ghost use Rattle.dq_dataset.specs.declared.header.Syntax.{Syntax};
 ghost use Rattle.dq_dataset.specs.Tree.{ElementList};
 ghost use Rattle.dq_dimse.specs.Statuses.{success};
 ghost use Rattle.dq_dimse.specs.declared.command.Message.{Message};
 ghost use Rattle.dq_tables.specs.declared.row.Row.{Row};
 ghost use Rattle.dq_tables.specs.Rows.{Record, Edit, IsRising, octet_order, of, by, after};
+ghost use Rattle.dq_tables.specs.Records.{AreInOrder};
 ghost use Rattle.dq_tables.specs.Sound.{IsSound};
 ghost use Rattle.dq_find.specs.declared.query.Query.{Query};
 ghost use Rattle.dq_find.specs.Queries.{query_of, asked_records, answers, found};
 ghost use Rattle.dq_find.specs.Levels.{has_keys_above};
 ghost use Rattle.dq_find.specs.Computed.{modalities_in};
-ghost use Rattle.dq_find.specs.Answers.{IsAmong, IsAsked, IsAnswer, AreInOrder, Tells};
+ghost use Rattle.dq_find.specs.Answers.{IsAsked, IsAnswer, Tells};
 ghost use Rattle.dq_find.specs.Modalities.{IsModalityOf, IsPast};
 
 /// A query is answered with exactly the records of its level that are under its unique keys and
 /// fit, in the order of their keys (PS3.4 section C.4.1.2.1).
-#[tactic(auto, using(crate::proofs::Answered::answered_query, crate::proofs::Answered::asked_in_order))]
+#[tactic(auto, using(crate::proofs::Answered::asked_and_answered))]
 pub fn answers_are_of_the_records_that_fit()
     ensures answered { (records : List Record) (called : List ℕ) (message : Message)
         (syntax : Syntax) (query : Query) → query_of message syntax ≡ Ok query

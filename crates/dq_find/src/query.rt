@@ -5,7 +5,7 @@ ghost use Rattle.dq_find.specs.Levels.{level_of};
 ghost use Rattle.dq_find.specs.Queries.{query_at, query_of};
 
 use crate::level::Level;
-use dq_dataset::{DataSet, ReadFault, Syntax, read};
+use dq_dataset::{DataSet, Syntax};
 use dq_dimse::Message;
 use dq_dimse::status::{CANNOT_UNDERSTAND, DOES_NOT_MATCH_SOP_CLASS, OUT_OF_RESOURCES};
 use dq_match::{is_query, strike};
@@ -33,10 +33,9 @@ pub(crate) fn query_of(
     if message.over {
         return Ok(Err(OUT_OF_RESOURCES));
     }
-    match read(alloc, message.octets.as_slice(), syntax) {
-        Ok(identifier) => query_at(alloc, &identifier),
-        Err(ReadFault::NoMemory) => Err(AllocError),
-        Err(_) => Ok(Err(CANNOT_UNDERSTAND)),
+    match message.data_set(alloc, syntax)? {
+        Some(identifier) => query_at(alloc, &identifier),
+        None => Ok(Err(CANNOT_UNDERSTAND)),
     }
 }
 

@@ -3,7 +3,8 @@ use Rattle.std.specs.List.{flat_map}
 use Rattle.dq_dataset.specs.Tree.{ElementList}
 use Rattle.dq_tables.specs.declared.row.Row.{Row}
 use Rattle.dq_tables.specs.Rows.{Record, record_of}
-use Rattle.dq_find.specs.Computed.{data_set_of, all_in_order, modality_limit, modalities_of, modalities_in}
+use Rattle.dq_tables.specs.Records.{data_set_of}
+use Rattle.dq_find.specs.Computed.{all_in_order, modality_limit, modalities_of, modalities_in}
 use Rattle.dq_find.proofs.Looking.{from_place, past_all}
 use Rattle.dq_find.proofs.InOrder.{all_more, few_stay}
 use Rattle.dq_find.proofs.computed.modalities_in.Goals as goal
@@ -17,7 +18,7 @@ loop-row-preserved c =
     let row = c.row-item.result in
     let before = c.loop-row.values.items in
     let whole = take modality_limit (all_in_order (all_of c.args.series.now) []) in
-    let data_set = c.in_ok-data_set.ensures ∙ ap data_set_of c.as_slice.ensures in (
+    let data_set = c.in_ok-data_set.ensures.data_set in (
       c.in_ok-put_modalities.ensures.few,
       all_more modality_limit (modalities_of (data_set_of row.octets)) (all_of (drop (c.loop-row.row-index + 1) c.args.series.now)) before
           c.put_modalities.new.values.items whole

@@ -29,7 +29,7 @@ returns g c =
     let failed = g.T.Tables.failed in
     let may_leave = g.T.Tables.may_leave in
     let old = c.args.tables.now in
-    let mid = c.asked_rows.new.tables in
+    let mid = c.rows.new.tables in
     let new = c.answers_of.new.tables in
     let name = c.args.institution.now.name in
     let query = c.in-Ok.query in
@@ -43,7 +43,7 @@ returns g c =
     (reads_then rows honest failed may_leave old mid new c.in_ok-rows.rows (Ok answers) first second))
     (λ h.
     let was = second.goes.was_honest h in
-    let is = answered_of_rows (rows old) (rows mid) name c.as_slice-name.result.now c.args.called.now query c.in_ok-rows.rows c.as_slice.result.now answers
-    c.as_slice-name.ensures (first.same was) (c.in_ok-rows.ensures.answered was) c.as_slice.ensures (c.in_ok-answers.ensures.answered h) in
+    let is = answered_of_rows (rows old) (rows mid) name c.as_slice.result.now c.args.called.now query c.in_ok-rows.rows c.as_slice-2.result.now answers
+    c.as_slice.ensures (first.same was) (c.in_ok-rows.ensures.answered was) c.as_slice-2.ensures (c.in_ok-answers.ensures.answered h) in
     ap alone (found_some (of name (rows old)) c.args.called.now c.args.message.now c.args.syntax query answers
     (sym c.in_ok-query.ensures.query ∙ c.in-Ok.is) is))

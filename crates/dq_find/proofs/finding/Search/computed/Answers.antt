@@ -3,7 +3,7 @@ use Rattle.dq_tables.specs.Rows.{Record, of}
 use Rattle.dq_find.specs.declared.level.Level.{Level}
 use Rattle.dq_find.specs.Computed.{computed}
 use Rattle.dq_find.proofs.Looking.{looks_nothing}
-use Rattle.dq_find.proofs.computed.computed.Goals as goal
+use Rattle.dq_find.proofs.finding.Search.computed.Goals as goal
 
 pub returns-in-Image : goal.returns-in-Image
 unfolding computed
@@ -11,6 +11,6 @@ returns-in-Image g c =
     let rows = g.T.Tables.rows in
     let it = c.args.tables.now in
     let key = c.args.key.now in
-    looks_nothing rows g.T.Tables.honest g.T.Tables.failed g.T.Tables.may_leave c.args.institution.now it c.new.result
-    (λ (records : List Record). computed records c.args.level key)
-    (c.new.ensures ∙ ap (λ (level : Level). computed (of c.args.institution.now (rows it)) level key) (sym c.in-Image.is))
+    looks_nothing rows g.T.Tables.honest g.T.Tables.failed g.T.Tables.may_leave c.args.self.now.institution.now it c.new.result
+    (λ (records : List Record). computed records c.args.self.now.query.now.level key)
+    (c.new.ensures ∙ ap (λ (level : Level). computed (of c.args.self.now.institution.now (rows it)) level key) (sym c.in-Image.is))
