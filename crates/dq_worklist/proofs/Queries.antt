@@ -24,10 +24,8 @@ pub answered : (h name : List ℕ) (keys : ElementList) (rows : List Row) (liste
     → listed_rows ≡ rows_of Entry name rows → found ≡ row_answers keys listed_rows → found ≡ answers (of h rows) keys
 unfolding answers
 answered h name keys rows listed_rows found named is_listed is_found =
-    let entries = records_of Entry (of h rows) in
     is_found ∙ ap (row_answers keys) (is_listed ∙ ap (λ (n : List ℕ). rows_of Entry n rows) named ∙ listed_own Entry h rows)
-    ∙ given_of_each (λ (row : Row). answer keys (data_set_of row.octets)) (row_of h) entries
-    ∙ sym (given_of_each (answer keys) (λ (r : Record). data_set_of r.octets) entries)
+    ∙ given_of_each (λ (row : Row). answer keys (data_set_of row.octets)) (row_of h) (records_of Entry (of h rows))
 
 pub not_asked : (records : List Record) (message : Message) (syntax : Syntax) (status : ℕ) → query_of message syntax ≡ Err status
     → listed records message syntax ≡ refused status

@@ -1,5 +1,5 @@
 -- Worklist queries (PS3.4 sections K.4.1 and K.6.1.2).
-use Rattle.std.specs.Prelude.{ℕ, Option, Some, None, List, Result, Ok, Err, map, if◌then◌else◌}
+use Rattle.std.specs.Prelude.{ℕ, Option, Some, None, List, Result, Ok, Err, if◌then◌else◌}
 use Rattle.std.specs.List.{filter_map}
 use Rattle.std.specs.Result.{result_ok}
 use Rattle.dq_dataset.specs.declared.header.Syntax.{Syntax}
@@ -40,7 +40,7 @@ query_of message syntax =
 -- the answers to the keys of a query that the entries give, in their order
 unfoldable pub answers : List Record → ElementList → List ElementList
 answers records keys =
-    filter_map (answer keys) (map (λ (r : Record). data_set_of r.octets) (records_of Entry records))
+    filter_map (λ (r : Record). answer keys (data_set_of r.octets)) (records_of Entry records)
 
 abbrev pub listed_by : List Record → Result Query ℕ → Found
 listed_by records (Err status) = refused status
