@@ -1,10 +1,10 @@
 -- Calls of tables that a store makes in turn.
-use Rattle.std.proofs.Common.{◌≡◌, ℕ, Bool, List, Result, Ok, Err, refl, sym, ◌∙◌, ap, inl, inr, ◌⊎◌}
+use Rattle.std.proofs.Common.{◌≡◌, ℕ, Bool, List, Result, Ok, Err, refl, sym, ◌∙◌, ap, inl, inr}
 use Rattle.dq_tables.specs.declared.fault.TableFault.{TableFault}
-use Rattle.dq_tables.specs.declared.fault.TableFault.TheVariants.{NoMemory, Store}
+use Rattle.dq_tables.specs.declared.fault.TableFault.TheVariants.{NoMemory}
 use Rattle.dq_tables.specs.declared.row.Row.{Row}
 use Rattle.dq_tables.specs.Rows.{Record, Edit, of, by, after}
-use Rattle.dq_tables.specs.Keeping.{IsSettled, Goes, Reads, Writes}
+use Rattle.dq_tables.specs.Keeping.{Goes, Reads, Writes}
 use Rattle.dq_tables.specs.Serving.{Serves}
 use Rattle.dq_tables.proofs.Calling.{refused}
 

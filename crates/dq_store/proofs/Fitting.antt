@@ -133,11 +133,21 @@ own_cut h kind key above tags d back has_its_key has_its_above short =
 
 -- ---- the change
 
-module _ (h : List ℕ) (d : ElementList) (s r i : List ℕ)
-    (back : (tags : List Tag) → reading Explicit (canonical Explicit (cut_out tags d)) ≡ Ok (cut_out tags d))
-    (study_is : uid_at study_instance_uid d ≡ Some s) (series_is : uid_at series_instance_uid d ≡ Some r) (image_is : uid_at sop_instance_uid d ≡ Some i) where
-  abbrev sent : Instance
-  sent = record { elements = d; study = s; series = r; image = i }
+module _ (h : List ℕ) (sent : Instance)
+    (back : (tags : List Tag) → reading Explicit (canonical Explicit (cut_out tags sent.elements)) ≡ Ok (cut_out tags sent.elements))
+    (study_is : uid_at study_instance_uid sent.elements ≡ Some sent.study) (series_is : uid_at series_instance_uid sent.elements ≡ Some sent.series)
+    (image_is : uid_at sop_instance_uid sent.elements ≡ Some sent.image) where
+  abbrev d : ElementList
+  d = sent.elements
+
+  abbrev s : List ℕ
+  s = sent.study
+
+  abbrev r : List ℕ
+  r = sent.series
+
+  abbrev i : List ℕ
+  i = sent.image
 
   study_own : is_own (row_of h (study_record sent)) ≡ true
   unfolding has_key has_above is_within
@@ -216,10 +226,7 @@ module _ (h : List ℕ) (d : ElementList) (s r i : List ℕ)
             (is_there kept.series (series_record sent) first series_first);
       }
 
-module _ (h : List ℕ) (d : ElementList) (s r i : List ℕ) where
-  abbrev made : Instance
-  made = record { elements = d; study = s; series = r; image = i }
-
+module _ (h : List ℕ) (made : Instance) where
   put_is : (k : Option Record) (new : Record) → put_if (new_if h k new) ≡ put_new k new
   put_is None new = refl
   put_is (Some k) new = refl

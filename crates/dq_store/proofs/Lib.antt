@@ -1,6 +1,5 @@
 pub mod Records
-pub mod Comparing
-pub mod Outcomes
 pub mod Fitting
-pub mod Staying
+pub mod Outcomes
 pub mod Calls
+pub mod Staying

@@ -1,15 +1,14 @@
 -- Rows that are kept, as records.
-use Rattle.std.proofs.Common.{◌≡◌, ℕ, Bool, true, false, ◌&&◌, ◌||◌, leb, List, [], ◌∷◌, Option, Some, None, is_some, is_none, not, refl, sym, ◌∙◌, ap, subst, if◌then◌else◌}
+use Rattle.std.proofs.Common.{◌≡◌, ℕ, true, false, leb, List, [], Option, Some, None, is_some, is_none, not, refl, ◌∙◌, ap}
 use Rattle.std.specs.Option.{option_map}
-use Rattle.dq_dimse.specs.Statuses.{instance_kept_elsewhere, series_kept_elsewhere}
 use Rattle.dq_tables.specs.declared.row.Kind.{Kind}
 use Rattle.dq_tables.specs.declared.row.Row.{Row}
-use Rattle.dq_tables.specs.Rows.{Record, of, row_of, record_of}
+use Rattle.dq_tables.specs.Rows.{of, row_of, record_of, Record}
 use Rattle.dq_tables.specs.Finding.{record_at, row_at}
 use Rattle.dq_tables.proofs.Seen.{found_own}
 use Rattle.dq_store.specs.declared.keeping.KeptRows.{KeptRows}
 use Rattle.dq_store.specs.Views.{kept_of}
-use Rattle.dq_store.specs.Storing.{Kept, Instance, is_under_another, is_kept_elsewhere, has_series_elsewhere, first_refusal, finds_no_room, stored_edits}
+use Rattle.dq_store.specs.Storing.{Instance, finds_no_room, stored_edits}
 
 records_back : (h : List ℕ) (r : Option Record) → option_map record_of (option_map (row_of h) r) ≡ r
 records_back h None = refl
@@ -25,23 +24,15 @@ pub no_room : (row : Option Row) (limit from count n : ℕ) → is_some row ≡ 
 no_room None limit from count n none same counted = ap (λ (l : ℕ). leb l count) same ∙ ap (leb limit) counted
 no_room (Some row) limit from count n none same counted = cc
 
-is_some_record : (r : Option Row) → is_some r ≡ is_some (option_map record_of r)
+pub is_some_record : (r : Option Row) → is_some (option_map record_of r) ≡ is_some r
 is_some_record None = refl
 is_some_record (Some r) = refl
 
-not_some_record : (r : Option Row) → not (is_some r) ≡ is_none (option_map record_of r)
-not_some_record None = refl
-not_some_record (Some r) = refl
-
-pub conflict_is : (k : KeptRows) (s : Instance) (is_kept elsewhere series : Bool) → is_kept ≡ is_some k.image
-    → elsewhere ≡ is_under_another (kept_of k).image s.series → series ≡ is_under_another (kept_of k).series s.study
-    → first_refusal ((is_kept && (elsewhere || series), instance_kept_elsewhere) ∷ (not is_kept && series, series_kept_elsewhere) ∷ [])
-    ≡ first_refusal ((is_kept_elsewhere (kept_of k) s, instance_kept_elsewhere) ∷ (has_series_elsewhere (kept_of k) s, series_kept_elsewhere) ∷ [])
-unfolding is_kept_elsewhere has_series_elsewhere
-conflict_is k s is_kept elsewhere series kept one two =
-    rw (kept, one, two, not_some_record k.image, is_some_record k.image) refl
+pub is_none_record : (r : Option Row) → is_none (option_map record_of r) ≡ not (is_some r)
+is_none_record None = refl
+is_none_record (Some r) = refl
 
 -- a repeated instance changes nothing
 pub nothing_again : (k : KeptRows) (s : Instance) → is_some k.image ≡ true → stored_edits (kept_of k) s ≡ []
 unfolding stored_edits
-nothing_again k s there = rw (sym (is_some_record k.image) ∙ there) refl
+nothing_again k s there = rw (is_some_record k.image ∙ there) refl

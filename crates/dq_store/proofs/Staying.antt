@@ -8,7 +8,9 @@ use Rattle.std.specs.Str.{bytes_eq}
 use Rattle.std.proofs.lemmas.Cmp.{nat_cmp_total, nat_list_cmp_total, on_total, then_total, alike_right, tied_itself}
 use Rattle.std.proofs.lemmas.Map.Text.{is_eq-slice_cmp}
 use Rattle.dq_dataset.specs.declared.header.Syntax.{Syntax}
-use Rattle.dq_dataset.specs.Tree.{ElementList}
+use Rattle.std.specs.Result.{result_unwrap_or}
+use Rattle.dq_dataset.specs.Reading.{reading}
+use Rattle.dq_dataset.specs.Tree.{ElementList, no_elements}
 use Rattle.dq_dimse.specs.declared.command.Message.{Message}
 use Rattle.dq_config.specs.Limits.{Limits}
 use Rattle.dq_tables.specs.declared.row.Kind.{Kind}
@@ -18,7 +20,8 @@ use Rattle.dq_tables.specs.Finding.{record_at, same_kind}
 use Rattle.dq_tables.specs.declared.row.Row.{Row}
 use Rattle.dq_tables.proofs.Lens.{others}
 use Rattle.dq_tables.proofs.InOrder.{is_eq_then, is_eq_nat}
-use Rattle.dq_store.specs.Storing.{Instance, Kept, kept_among, study_record, series_record, image_record, put_new, stored_edits, outcome, stored}
+use Rattle.dq_tables.specs.Serving.{first_refusal, outcome}
+use Rattle.dq_store.specs.Storing.{Instance, Kept, kept_among, instance_in, storage_refusals, study_record, series_record, image_record, put_new, stored_status, stored_edits, stored}
 use Rattle.dq_store.proofs.Fitting.{none_in_front, found_filtered}
 
 places_total : IsTotalOrder place_order
@@ -183,17 +186,19 @@ module _ (records : List Record) (d : ElementList) (s r i : List ℕ) where
       rw new (all_new kept.study kept.series (sym (ap (λ (y : Kept). y.study) found)) (sym (ap (λ (y : Kept). y.series) found))
       (sym (ap (λ (y : Kept). y.image) found) ∙ none_of kept.image new) kind key x k)
 
-outcome_stays : (records : List Record) (refusal : Option ℕ) (sent : Option Instance) → KeptStays records (edited (outcome records refusal sent).1 records)
+outcome_stays : (records : List Record) (refusal : Option ℕ) (sent : Instance)
+    → KeptStays records (edited (outcome refusal (stored_status (kept_among records sent) sent, stored_edits (kept_among records sent) sent)).1 records)
 unfolding KeptStays
 outcome_stays records (Some status) sent = λ kind key x k. k
-outcome_stays records None None = λ kind key x k. k
-outcome_stays records None (Some sent) = stays_by_kept records sent.elements sent.study sent.series sent.image (kept_among records sent) refl _ refl
+outcome_stays records None sent = stays_by_kept records sent.elements sent.study sent.series sent.image (kept_among records sent) refl _ refl
 
 -- A record that is kept is kept afterwards, as it was.
 pub kept_stays : (limits : Limits) (records : List Record) (message : Message) (syntax : Syntax) (kind : Kind) (key : List ℕ) (r : Record)
     → record_at kind key records ≡ Some r → record_at kind key (edited (stored limits records message syntax).1 records) ≡ Some r
 unfolding KeptStays stored
-kept_stays limits records message syntax = outcome_stays records _ _
+kept_stays limits records message syntax =
+    let data_set = reading syntax message.octets in
+    outcome_stays records (first_refusal (storage_refusals limits records message data_set)) (instance_in (result_unwrap_or data_set no_elements))
 
 -- ---- institutions
 

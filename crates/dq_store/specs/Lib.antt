@@ -1,4 +1,3 @@
 pub mod Attributes
-pub mod Same
 pub mod Storing
 pub mod Views

@@ -1,8 +1,8 @@
 -- C-STORE over the records and the limits of one institution (PS3.4 section B.2.3 and table B.2-1).
-use Rattle.std.specs.Prelude.{ℕ, Bool, true, false, not, ◌&&◌, ◌||◌, nat_lt, nat_le, List, [], ◌∷◌, ◌++◌, length, if◌then◌else◌, Option, Some, None, is_some, is_none, Result, Ok, Err, is_err}
-use Rattle.std.specs.List.{list_all, list_any}
+use Rattle.std.specs.Prelude.{ℕ, Bool, false, not, ◌&&◌, ◌||◌, nat_le, List, [], ◌∷◌, ◌++◌, length, if◌then◌else◌, Option, Some, None, is_some, is_none, unwrap_or, Result, is_err}
+use Rattle.std.specs.List.{list_all}
+use Rattle.std.specs.Result.{result_unwrap_or}
 use Rattle.std.specs.Str.{bytes_eq}
-use Rattle.dq_list.specs.Readers.{◌>>=◌, provided}
 use Rattle.dq_vr.specs.declared.Tag.{Tag}
 use Rattle.dq_vr.specs.Tags.{sop_class_uid, sop_instance_uid, study_instance_uid, series_instance_uid}
 use Rattle.dq_dataset.specs.declared.fault.ReadFault.{ReadFault}
@@ -14,8 +14,10 @@ use Rattle.dq_dataset.specs.View.{elements_of}
 use Rattle.dq_dataset.specs.Reading.{reading}
 use Rattle.dq_dataset.specs.Canonical.{canonical}
 use Rattle.dq_dataset.specs.Editing.{cut_out}
+use Rattle.dq_dataset.specs.Same.{has_element}
 use Rattle.dq_dimse.specs.declared.command.Command.{Command}
 use Rattle.dq_dimse.specs.declared.command.Message.{Message}
+use Rattle.dq_dimse.specs.Receiving.{is_over}
 use Rattle.dq_dimse.specs.Statuses.{success, out_of_resources, does_not_match_sop_class, cannot_understand, instance_kept_elsewhere, series_kept_elsewhere, elements_discarded}
 use Rattle.dq_config.specs.Limits.{Limits}
 use Rattle.dq_tables.specs.declared.row.Kind.{Kind}
@@ -23,42 +25,45 @@ use Rattle.dq_tables.specs.declared.row.Kind.TheVariants.{Study, Series, Image}
 use Rattle.dq_tables.specs.Rows.{Record, Edit, Put}
 use Rattle.dq_tables.specs.Finding.{record_at, records_of}
 use Rattle.dq_tables.specs.Keys.{uid_at}
+use Rattle.dq_tables.specs.Records.{data_set_of}
+use Rattle.dq_tables.specs.Serving.{first_refusal, outcome}
+use Rattle.dq_tables.specs.Sound.{is_value}
 use Rattle.dq_store.specs.Attributes.{study_attributes, series_attributes, image_attributes}
-use Rattle.dq_store.specs.Same.{same_element}
 
--- what a C-STORE sends: a data set with the UIDs of its study, series and instance
+-- ---- what is sent
+
+-- a data set, with the UIDs of its study, its series and its image
 pub record Instance : Type 0 where
   pub elements : ElementList
   pub study : List ℕ
   pub series : List ℕ
   pub image : List ℕ
 
+abbrev pub uid_in : Tag → ElementList → List ℕ
+uid_in tag d = unwrap_or (uid_at tag d) []
+
+abbrev pub instance_in : ElementList → Instance
+instance_in d = record {
+  elements = d;
+  study = uid_in study_instance_uid d;
+  series = uid_in series_instance_uid d;
+  image = uid_in sop_instance_uid d;
+}
+
 -- Each UID is there exactly once, and class and instance are those of the command.
-abbrev pub instance_in : Command → ElementList → Option Instance
-instance_in command d = do
-  class ← uid_at sop_class_uid d
-  image ← uid_at sop_instance_uid d
-  study ← uid_at study_instance_uid d
-  series ← uid_at series_instance_uid d
-  provided (bytes_eq class command.sop_class && bytes_eq image command.sop_instance)
-      (record { elements = d; study = study; series = series; image = image })
+unfoldable pub is_named : Command → ElementList → Bool
+is_named command d =
+    (is_value (uid_at sop_class_uid d) command.sop_class
+    && is_value (uid_at sop_instance_uid d) command.sop_instance)
+    && (is_some (uid_at study_instance_uid d) && is_some (uid_at series_instance_uid d))
 
-abbrev pub read_instance : Command → Result ElementList ReadFault → Option Instance
-read_instance command (Ok d) = instance_in command d
-read_instance command (Err fault) = None
-
-abbrev pub holds : Option Instance → (Instance → Bool) → Bool
-holds None test = false
-holds (Some sent) test = test sent
-
--- the greatest number of octets of a data set
+-- the greatest number of octets of the data set of a message
 abbrev pub data_set_limit : ℕ
 data_set_limit = 0x4000000
 
-abbrev pub is_over : Message → Bool
-is_over message = message.over || nat_lt data_set_limit (length message.octets)
+-- ---- what is kept already
 
--- the records that are kept already of the study, the series and the image that are sent
+-- the records of the study, the series and the image that are sent
 pub record Kept : Type 0 where
   pub study : Option Record
   pub series : Option Record
@@ -78,7 +83,9 @@ is_under_another (Some r) above = not (bytes_eq r.above above)
 
 -- The instance is kept under another series, or its series under another study.
 unfoldable pub is_kept_elsewhere : Kept → Instance → Bool
-is_kept_elsewhere kept sent = is_some kept.image && (is_under_another kept.image sent.series || is_under_another kept.series sent.study)
+is_kept_elsewhere kept sent =
+    is_some kept.image
+    && (is_under_another kept.image sent.series || is_under_another kept.series sent.study)
 
 -- The instance is new, and its series is kept under another study.
 unfoldable pub has_series_elsewhere : Kept → Instance → Bool
@@ -91,29 +98,42 @@ finds_no_room kept limit count = is_none kept && nat_le limit count
 abbrev pub count_of : Kind → List Record → ℕ
 count_of kind records = length (records_of kind records)
 
--- The refusals in their order, each with its status: first those of the data set, then those of what is kept.
-abbrev pub record_refusals : Limits → List Record → Option Instance → List (Bool × ℕ)
-record_refusals limits records sent =
-    (holds sent (λ s. is_kept_elsewhere (kept_among records s) s), instance_kept_elsewhere)
-    ∷ (holds sent (λ s. has_series_elsewhere (kept_among records s) s), series_kept_elsewhere)
-    ∷ (holds sent (λ s. finds_no_room (kept_among records s).study limits.studies (count_of Study records)), out_of_resources)
-    ∷ (holds sent (λ s. finds_no_room (kept_among records s).image limits.images (count_of Image records)), out_of_resources)
+-- ---- what is refused
+
+abbrev pub kept_refusals : Kept → Instance → List (Bool × ℕ)
+kept_refusals kept sent =
+    (is_kept_elsewhere kept sent, instance_kept_elsewhere)
+    ∷ (has_series_elsewhere kept sent, series_kept_elsewhere)
     ∷ []
 
-abbrev pub refusals : Limits → List Record → Message → Result ElementList ReadFault → Option Instance → List (Bool × ℕ)
-refusals limits records message data_set sent =
-    (is_over message, out_of_resources)
+abbrev pub limit_refusals : Limits → List Record → Kept → List (Bool × ℕ)
+limit_refusals limits records kept =
+    (finds_no_room kept.study limits.studies (count_of Study records), out_of_resources)
+    ∷ (finds_no_room kept.image limits.images (count_of Image records), out_of_resources)
+    ∷ []
+
+-- those of an instance that was read
+abbrev pub instance_refusals : Limits → List Record → Instance → List (Bool × ℕ)
+instance_refusals limits records sent =
+    kept_refusals (kept_among records sent) sent
+    ++ limit_refusals limits records (kept_among records sent)
+
+-- The refusals in their order, each with its status.
+abbrev pub storage_refusals
+    : Limits → List Record → Message → Result ElementList ReadFault → List (Bool × ℕ)
+storage_refusals limits records message data_set =
+    let sent = result_unwrap_or data_set no_elements in
+    (is_over data_set_limit message, out_of_resources)
     ∷ (is_err data_set, cannot_understand)
-    ∷ (is_none sent, does_not_match_sop_class)
-    ∷ record_refusals limits records sent
+    ∷ (not (is_named message.command sent), does_not_match_sop_class)
+    ∷ instance_refusals limits records (instance_in sent)
 
-abbrev pub first_refusal : List (Bool × ℕ) → Option ℕ
-first_refusal [] = None
-first_refusal (r ∷ rs) = if r.0 then Some r.1 else first_refusal rs
+-- ---- what is kept
 
--- what is kept of a data set
+-- the record of a data set at a level
 abbrev pub cut_record : Kind → List ℕ → List ℕ → List Tag → ElementList → Record
-cut_record kind key above tags d = record { kind = kind; key = key; above = above; octets = canonical Explicit (cut_out tags d) }
+cut_record kind key above tags d =
+    record { kind = kind; key = key; above = above; octets = canonical Explicit (cut_out tags d) }
 
 abbrev pub study_record : Instance → Record
 study_record sent = cut_record Study sent.study [] study_attributes sent.elements
@@ -128,48 +148,39 @@ abbrev pub put_new : Option Record → Record → List Edit
 put_new None new = Put new ∷ []
 put_new (Some kept) new = []
 
--- A repeated instance changes nothing. The first instance that is stored makes the records of its study and its series.
+-- A repeated instance changes nothing. The first instance that is stored makes the records of its
+-- study and its series.
 unfoldable pub stored_edits : Kept → Instance → List Edit
 stored_edits kept sent =
     if is_some kept.image then []
-    else put_new kept.study (study_record sent) ++ (put_new kept.series (series_record sent) ++ Put (image_record sent) ∷ [])
+    else put_new kept.study (study_record sent)
+    ++ (put_new kept.series (series_record sent) ++ Put (image_record sent) ∷ [])
 
--- the data set of a record
-abbrev pub or_empty : Result ElementList ReadFault → ElementList
-or_empty (Ok d) = d
-or_empty (Err fault) = no_elements
-
--- the data set of the record that is there afterwards: the kept one, or what is cut out of what was sent
+-- the data set of the record that is there afterwards: the kept one, or what is cut out of what was
+-- sent
 abbrev pub standing : Option Record → List Tag → ElementList → ElementList
-standing (Some kept) tags sent = or_empty (reading Explicit kept.octets)
+standing (Some kept) tags sent = data_set_of kept.octets
 standing None tags sent = cut_out tags sent
 
-abbrev pub stands_in : ElementList → Element → Bool
-stands_in d e = list_any (λ (kept : Element). same_element kept e) (elements_of d)
-
--- Each element that was sent stands, with equal octets, in the record of the study, the series or the image.
+-- Each element that was sent stands, with equal octets, in the record of the study, the series or
+-- the image.
 unfoldable pub is_kept_whole : ElementList → ElementList → ElementList → ElementList → Bool
-is_kept_whole study series image sent = list_all (λ (e : Element). stands_in study e || (stands_in series e || stands_in image e)) (elements_of sent)
+is_kept_whole study series image sent =
+    list_all (λ (e : Element). has_element study e || (has_element series e || has_element image e))
+    (elements_of sent)
 
 unfoldable pub stored_status : Kept → Instance → ℕ
 stored_status kept sent =
-    if is_kept_whole (standing kept.study study_attributes sent.elements) (standing kept.series series_attributes sent.elements)
-    (standing kept.image image_attributes sent.elements) sent.elements
-    then success else elements_discarded
+    let study = standing kept.study study_attributes sent.elements in
+    let series = standing kept.series series_attributes sent.elements in
+    let image = standing kept.image image_attributes sent.elements in
+    if is_kept_whole study series image sent.elements then success else elements_discarded
 
--- the status and the edits, unless there is a refusal
-abbrev pub outcome : List Record → Option ℕ → Option Instance → ℕ × List Edit
-outcome records (Some status) sent = (status, [])
-outcome records None None = (does_not_match_sop_class, [])
-outcome records None (Some sent) = (stored_status (kept_among records sent) sent, stored_edits (kept_among records sent) sent)
-
--- what is left of it where there is an instance
-unfoldable pub instance_outcome : Limits → List Record → Instance → ℕ × List Edit
-instance_outcome limits records sent =
-    outcome records (first_refusal (record_refusals limits records (Some sent))) (Some sent)
-
+-- An instance that is not refused is kept, and the status tells whether it is kept whole.
 unfoldable pub stored : Limits → List Record → Message → Syntax → ℕ × List Edit
 stored limits records message syntax =
     let data_set = reading syntax message.octets in
-    let sent = read_instance message.command data_set in
-    outcome records (first_refusal (refusals limits records message data_set sent)) sent
+    let sent = instance_in (result_unwrap_or data_set no_elements) in
+    let kept = kept_among records sent in
+    outcome (first_refusal (storage_refusals limits records message data_set))
+    (stored_status kept sent, stored_edits kept sent)

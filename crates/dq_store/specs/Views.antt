@@ -1,18 +1,24 @@
 -- Between what the code holds and the definitions.
-use Rattle.std.specs.Prelude.{◌≡◌, ℕ, List, [], ◌∷◌, Option, Some, None, option_map}
+use Rattle.std.specs.Prelude.{◌≡◌, ℕ, List, Option, Some, None, option_map}
 use Rattle.dq_vr.specs.Tags.{sop_instance_uid, study_instance_uid, series_instance_uid}
-use Rattle.dq_dataset.specs.Tree.{ElementList}
+use Rattle.dq_config.specs.Limits.{Limits}
 use Rattle.dq_tables.specs.declared.change.Change.{Change}
 use Rattle.dq_tables.specs.declared.change.Change.TheVariants.{Stored}
 use Rattle.dq_tables.specs.declared.row.Row.{Row}
-use Rattle.dq_tables.specs.Rows.{Record, record_of, row_of}
+use Rattle.dq_tables.specs.Rows.{Record, Edit, record_of, row_of}
 use Rattle.dq_tables.specs.Keys.{uid_at}
-use Rattle.dq_store.specs.declared.instance.Uids.{Uids}
+use Rattle.dq_tables.specs.Serving.{first_refusal, outcome}
+use Rattle.dq_store.specs.declared.instance.Instance.{Instance as SentInstance}
 use Rattle.dq_store.specs.declared.keeping.KeptRows.{KeptRows}
-use Rattle.dq_store.specs.Storing.{Instance, Kept, study_record, series_record, image_record}
+use Rattle.dq_store.specs.Storing.{Instance, Kept, kept_among, instance_refusals, study_record, series_record, image_record, stored_status, stored_edits}
 
-abbrev pub instance_of : ElementList → Uids → Instance
-instance_of d uids = record { elements = d; study = uids.study.now; series = uids.series.now; image = uids.image.now }
+abbrev pub instance_of : SentInstance → Instance
+instance_of sent = record {
+  elements = sent.data_set.now;
+  study = sent.study.now;
+  series = sent.series.now;
+  image = sent.image.now;
+}
 
 abbrev pub kept_of : KeptRows → Kept
 kept_of rows = record {
@@ -22,10 +28,16 @@ kept_of rows = record {
 }
 
 -- the UIDs are those of the data set
-pub record HasUids (d : ElementList) (uids : Uids) : Type 0 where
-  pub study : uid_at study_instance_uid d ≡ Some uids.study.now
-  pub series : uid_at series_instance_uid d ≡ Some uids.series.now
-  pub image : uid_at sop_instance_uid d ≡ Some uids.image.now
+pub record HasUids (sent : SentInstance) : Type 0 where
+  pub study : uid_at study_instance_uid sent.data_set.now ≡ Some sent.study.now
+  pub series : uid_at series_instance_uid sent.data_set.now ≡ Some sent.series.now
+  pub image : uid_at sop_instance_uid sent.data_set.now ≡ Some sent.image.now
+
+-- what is left to answer of an instance that was read
+unfoldable pub instance_stored : Limits → List Record → Instance → ℕ × List Edit
+instance_stored limits records sent =
+    outcome (first_refusal (instance_refusals limits records sent))
+    (stored_status (kept_among records sent) sent, stored_edits (kept_among records sent) sent)
 
 -- a row of its own where none is kept
 abbrev pub new_if : List ℕ → Option Record → Record → Option Row
@@ -35,4 +47,5 @@ new_if name (Some kept) new = None
 -- the change that keeps an instance which is new
 abbrev pub new_rows : List ℕ → Kept → Instance → Change
 new_rows name kept sent =
-    Stored (new_if name kept.study (study_record sent)) (new_if name kept.series (series_record sent)) (row_of name (image_record sent))
+    Stored (new_if name kept.study (study_record sent))
+    (new_if name kept.series (series_record sent)) (row_of name (image_record sent))

@@ -6,4 +6,5 @@ pub mod Edits
 pub mod Soundness
 pub mod Seen
 pub mod Listing
+pub mod Refusing
 pub mod Calling

@@ -14,10 +14,10 @@ returns-else-is_none g c =
     let failed = g.T.Tables.failed in
     let may_leave = g.T.Tables.may_leave in
     let kept = kept_of c.args.kept.now in
-    let sent = instance_of c.args.data_set.now c.args.uids.now in
+    let sent = instance_of c.args.sent.now in
     let made : ℕ × List Edit = (stored_status kept sent, stored_edits kept sent) in
     let does = λ (records : List Record). made in
-    let status_is = sym (c.in_ok-status.ensures c.args.uids.now) in
+    let status_is = sym c.in_ok-status.ensures in
     let there : is_some c.args.kept.now.image ≡ true = grind (arith, common_steps) in
     let edits_are = nothing_again c.args.kept.now sent there in
     serves_read rows honest failed may_leave c.args.name.now does c.args.tables.now c.args.tables.now c.in_ok-status.status

@@ -8,25 +8,24 @@ use Rattle.dq_tables.specs.declared.row.Row.{Row}
 use Rattle.dq_tables.specs.Rows.{record_of}
 use Rattle.dq_tables.specs.Sound.{Fits}
 use Rattle.dq_tables.specs.Keeping.{Writes}
-use Rattle.dq_store.specs.Views.{kept_of}
+use Rattle.dq_store.specs.Views.{instance_of, kept_of}
 use Rattle.dq_store.proofs.Fitting.{new_fits, made_of_rows}
 use Rattle.dq_store.proofs.storing.keep_new.Goals as goal
 
 pub apply-requires : goal.apply-requires
 apply-requires g c = λ h.
-    let d = c.args.data_set.now in
-    let uids = c.args.uids.now in
+    let sent = c.args.sent.now in
+    let d = sent.data_set.now in
     let facts = c.elements-elements.ensures.facts in
     let back = λ (tags : List Tag). c.written_law.ensures.read_back Explicit (cut_out tags d) (c.editing_law.ensures.cut tags d facts)
     (c.editing_law.ensures.cut_lengths Explicit tags d c.requires.lengths) tt in
     let rising = (g.met.T.Tables.sound c.args.tables.now h).rising in
     subst (λ (change : Change). Fits (g.T.Tables.rows c.args.tables.now) change) (sym c.in_ok-change.ensures)
-    (new_fits c.args.name.now d uids.study.now uids.series.now uids.image.now back c.requires.own.study c.requires.own.series c.requires.own.image
+    (new_fits c.args.name.now (instance_of sent) back c.requires.own.study c.requires.own.series c.requires.own.image
     (g.T.Tables.rows c.args.tables.now) rising (kept_of c.args.kept.now) (c.requires.found h) (ap (option_map record_of) c.requires.new))
 
 pub returns : goal.returns
 returns g c =
-    let uids = c.args.uids.now in
     subst (λ (rs : List Row). Writes g.T.Tables.rows g.T.Tables.honest g.T.Tables.failed g.T.Tables.may_leave c.args.tables.now c.apply.new.self rs c.apply.result)
-    (made_of_rows c.args.name.now c.args.data_set.now uids.study.now uids.series.now uids.image.now (g.T.Tables.rows c.args.tables.now) c.in_ok-change.change
+    (made_of_rows c.args.name.now (instance_of c.args.sent.now) (g.T.Tables.rows c.args.tables.now) c.in_ok-change.change
     (kept_of c.args.kept.now) c.in_ok-change.ensures (ap (option_map record_of) c.requires.new)) c.apply.ensures

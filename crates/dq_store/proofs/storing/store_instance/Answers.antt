@@ -1,14 +1,14 @@
-use Rattle.std.proofs.Common.{◌≡◌, ◌∙◌, ℕ, Bool, true, false, List, Ok, sym, subst}
+use Rattle.std.proofs.Common.{◌≡◌, ◌∙◌, ℕ, List, Option, Some, None, Ok, sym, subst}
 use Rattle.std.proofs.lemmas.Result.{err_from_is_err_and}
 use Rattle.dq_config.specs.Limits.{limits_of}
 use Rattle.dq_tables.specs.declared.row.Row.{Row}
 use Rattle.dq_tables.specs.Rows.{Record, Edit, of}
-use Rattle.dq_tables.specs.Serving.{Serves}
+use Rattle.dq_tables.specs.Serving.{Serves, first_refusal}
 use Rattle.dq_tables.proofs.Calling.{refused, reads_then, reads_refused, reads_right, serves_fault, serves_read}
-use Rattle.dq_store.specs.Storing.{kept_among, instance_outcome, stored_status, stored_edits}
-use Rattle.dq_store.specs.Views.{instance_of, kept_of}
+use Rattle.dq_store.specs.Storing.{kept_among, limit_refusals, stored_status, stored_edits}
+use Rattle.dq_store.specs.Views.{instance_of, instance_stored, kept_of}
 use Rattle.dq_store.proofs.Calls.{reads_serve}
-use Rattle.dq_store.proofs.Outcomes.{conflicting, full, accepted, is_full_of}
+use Rattle.dq_store.proofs.Outcomes.{kept_refused, by_limits}
 use Rattle.dq_store.proofs.storing.store_instance.Goals as goal
 
 pub returns-in-Some : goal.returns-in-Some
@@ -21,59 +21,61 @@ returns-in-Some g c =
     let mid = c.kept_rows.new.tables in
     let name = c.args.institution.now.name in
     let limits = limits_of c.args.institution.now in
-    let sent = instance_of c.args.data_set.now c.args.uids.now in
+    let sent = instance_of c.args.sent.now in
     let kept = kept_of c.in_ok-kept.kept in
-    let found = λ (h : honest mid). subst (λ (n : List ℕ). kept ≡ kept_among (of n (rows old)) sent) c.as_slice-name.ensures (c.in_ok-kept.ensures.found h c.args.data_set.now) in
-    serves_read rows honest failed may_leave name (λ (records : List Record). instance_outcome limits records sent) old mid c.in-Some.status
+    let found = λ (h : honest mid). subst (λ (n : List ℕ). kept ≡ kept_among (of n (rows old)) sent) c.as_slice-name.ensures (c.in_ok-kept.ensures.found h) in
+    serves_read rows honest failed may_leave name (λ (records : List Record). instance_stored limits records sent) old mid c.in-Some.status
     (reads_right rows honest failed may_leave old mid c.in_ok-kept.kept c.in-Some.status c.in_ok-kept.ensures.reads)
-    (λ h. conflicting limits (of name (rows old)) sent kept (found h) c.in-Some.status (sym (c.conflict.ensures c.args.data_set.now) ∙ c.in-Some.is))
+    (λ h. kept_refused limits (of name (rows old)) sent kept (found h) c.in-Some.status (sym c.kept_refusal.ensures ∙ c.in-Some.is))
 
-pub returns-in_err-is_full : goal.returns-in_err-is_full
-returns-in_err-is_full g c =
+pub returns-in_err-status : goal.returns-in_err-status
+returns-in_err-status g c =
     let rows = g.T.Tables.rows in
     let honest = g.T.Tables.honest in
     let failed = g.T.Tables.failed in
     let may_leave = g.T.Tables.may_leave in
     let old = c.args.tables.now in
     let mid = c.kept_rows.new.tables in
-    let new = c.is_full.new.tables in
+    let new = c.limit_refusal.new.tables in
     let name = c.args.institution.now.name in
-    let does = λ (records : List Record). instance_outcome (limits_of c.args.institution.now) records (instance_of c.args.data_set.now c.args.uids.now) in
-    let e = c.in_err-is_full.field-0.0 in
-    let left = err_from_is_err_and c.from_residual-in_err-is_full.result c.from_residual-in_err-is_full.ensures.1 in
-    let both = reads_then rows honest failed may_leave old mid new c.in_ok-kept.kept (refused Bool e) c.in_ok-kept.ensures.reads c.in_err-is_full.ensures.reads in
+    let does = λ (records : List Record). instance_stored (limits_of c.args.institution.now) records (instance_of c.args.sent.now) in
+    let e = c.in_err-status.field-0.0 in
+    let left = err_from_is_err_and c.from_residual-in_err-status.result c.from_residual-in_err-status.ensures.1 in
+    let both = reads_then rows honest failed may_leave old mid new c.in_ok-kept.kept (refused (Option ℕ) e) c.in_ok-kept.ensures.reads c.in_err-status.ensures.reads in
     rw (left.1, left.2) (serves_fault rows honest failed may_leave name does old new e (reads_refused rows honest failed may_leave old new e both))
 
-pub returns-then-branch : goal.returns-then-branch
-returns-then-branch g c =
+pub returns-in-Some-2 : goal.returns-in-Some-2
+returns-in-Some-2 g c =
     let rows = g.T.Tables.rows in
     let honest = g.T.Tables.honest in
     let failed = g.T.Tables.failed in
     let may_leave = g.T.Tables.may_leave in
     let old = c.args.tables.now in
     let mid = c.kept_rows.new.tables in
-    let new = c.is_full.new.tables in
+    let new = c.limit_refusal.new.tables in
     let name = c.args.institution.now.name in
     let limits = limits_of c.args.institution.now in
-    let sent = instance_of c.args.data_set.now c.args.uids.now in
+    let sent = instance_of c.args.sent.now in
     let kept = kept_of c.in_ok-kept.kept in
+    let status = c.in-Some-2.status in
     let first = c.in_ok-kept.ensures.reads in
-    let second = c.in_ok-is_full.ensures.reads in
-    let both = reads_then rows honest failed may_leave old mid new c.in_ok-kept.kept (Ok c.in_ok-is_full.field-0) first second in
-    let found = λ (h : honest mid). subst (λ (n : List ℕ). kept ≡ kept_among (of n (rows old)) sent) c.as_slice-name.ensures (c.in_ok-kept.ensures.found h c.args.data_set.now) in
-    let is_full = λ (h : honest new). subst (λ (rs : List Row). is_full_of limits (of name rs) kept ≡ true) (first.same (second.goes.was_honest h))
-    (sym (c.in_ok-is_full.ensures.found h) ∙ c.if-branch.true) in
-    serves_read rows honest failed may_leave name (λ (records : List Record). instance_outcome limits records sent) old new 0xA700
-    (reads_right rows honest failed may_leave old new c.in_ok-is_full.field-0 0xA700 both)
-    (λ h. full limits (of name (rows old)) sent kept (found (second.goes.was_honest h)) (sym (c.conflict.ensures c.args.data_set.now) ∙ c.in_default.is) (is_full h))
+    let second = c.in_ok-status.ensures.reads in
+    let both = reads_then rows honest failed may_leave old mid new c.in_ok-kept.kept (Ok c.in_ok-status.field-0) first second in
+    let found = λ (h : honest mid). subst (λ (n : List ℕ). kept ≡ kept_among (of n (rows old)) sent) c.as_slice-name.ensures (c.in_ok-kept.ensures.found h) in
+    let refused = λ (h : honest new). subst (λ (rs : List Row). first_refusal (limit_refusals limits (of name rs) kept) ≡ Some status)
+    (first.same (second.goes.was_honest h)) (sym (c.in_ok-status.ensures.found h) ∙ c.in-Some-2.is) in
+    serves_read rows honest failed may_leave name (λ (records : List Record). instance_stored limits records sent) old new status
+    (reads_right rows honest failed may_leave old new c.in_ok-status.field-0 status both)
+    (λ h. by_limits limits (of name (rows old)) sent kept (found (second.goes.was_honest h)) (Some status)
+    (sym c.kept_refusal.ensures ∙ c.in_default.is) (refused h))
 
 pub keep-requires-clause-found : goal.keep-requires-clause-found
 keep-requires-clause-found g c = λ h.
     let rows = g.T.Tables.rows in
-    let sent = instance_of c.args.data_set.now c.args.uids.now in
-    let was = c.in_ok-is_full.ensures.reads.goes.was_honest h in
-    let same = c.in_ok-is_full.ensures.reads.same h ∙ c.in_ok-kept.ensures.reads.same was in
-    subst (λ (rs : List Row). kept_of c.in_ok-kept.kept ≡ kept_among (of c.as_slice-name.result.now rs) sent) (sym same) (c.in_ok-kept.ensures.found was c.args.data_set.now)
+    let sent = instance_of c.args.sent.now in
+    let was = c.in_ok-status.ensures.reads.goes.was_honest h in
+    let same = c.in_ok-status.ensures.reads.same h ∙ c.in_ok-kept.ensures.reads.same was in
+    subst (λ (rs : List Row). kept_of c.in_ok-kept.kept ≡ kept_among (of c.as_slice-name.result.now rs) sent) (sym same) (c.in_ok-kept.ensures.found was)
 
 pub returns : goal.returns
 returns g c =
@@ -83,20 +85,21 @@ returns g c =
     let may_leave = g.T.Tables.may_leave in
     let old = c.args.tables.now in
     let mid = c.kept_rows.new.tables in
-    let new = c.is_full.new.tables in
+    let new = c.limit_refusal.new.tables in
     let name = c.args.institution.now.name in
     let limits = limits_of c.args.institution.now in
-    let sent = instance_of c.args.data_set.now c.args.uids.now in
+    let sent = instance_of c.args.sent.now in
     let kept = kept_of c.in_ok-kept.kept in
     let made : ℕ × List Edit = (stored_status kept sent, stored_edits kept sent) in
     let first = c.in_ok-kept.ensures.reads in
-    let second = c.in_ok-is_full.ensures.reads in
-    let both = reads_then rows honest failed may_leave old mid new c.in_ok-kept.kept (Ok c.in_ok-is_full.field-0) first second in
-    let found = λ (h : honest mid). subst (λ (n : List ℕ). kept ≡ kept_among (of n (rows old)) sent) c.as_slice-name.ensures (c.in_ok-kept.ensures.found h c.args.data_set.now) in
-    let has_room = λ (h : honest new). subst (λ (rs : List Row). is_full_of limits (of name rs) kept ≡ false) (first.same (second.goes.was_honest h))
-    (sym (c.in_ok-is_full.ensures.found h) ∙ c.if-branch.false) in
+    let second = c.in_ok-status.ensures.reads in
+    let both = reads_then rows honest failed may_leave old mid new c.in_ok-kept.kept (Ok c.in_ok-status.field-0) first second in
+    let found = λ (h : honest mid). subst (λ (n : List ℕ). kept ≡ kept_among (of n (rows old)) sent) c.as_slice-name.ensures (c.in_ok-kept.ensures.found h) in
+    let has_room = λ (h : honest new). subst (λ (rs : List Row). first_refusal (limit_refusals limits (of name rs) kept) ≡ None)
+    (first.same (second.goes.was_honest h)) (sym (c.in_ok-status.ensures.found h) ∙ c.in_default-2.is) in
     let serves = subst (λ (n : List ℕ). Serves rows honest failed may_leave new c.keep.new.tables n (λ (records : List Record). made) c.keep.result)
     c.as_slice-name.ensures c.keep.ensures in
-    reads_serve rows honest failed may_leave name (λ (records : List Record). instance_outcome limits records sent) made
-    old new c.keep.new.tables c.in_ok-is_full.field-0 c.keep.result both serves
-    (λ h. accepted limits (of name (rows old)) sent kept (found (second.goes.was_honest h)) (sym (c.conflict.ensures c.args.data_set.now) ∙ c.in_default.is) (has_room h))
+    reads_serve rows honest failed may_leave name (λ (records : List Record). instance_stored limits records sent) made
+    old new c.keep.new.tables c.in_ok-status.field-0 c.keep.result both serves
+    (λ h. by_limits limits (of name (rows old)) sent kept (found (second.goes.was_honest h)) None
+    (sym c.kept_refusal.ensures ∙ c.in_default.is) (has_room h))
