@@ -1,2 +1,3 @@
 pub mod Among
+pub mod Finding
 pub mod Readers

@@ -12,13 +12,13 @@ use Rattle.dq_dataset.specs.Reading.{reading}
 use Rattle.dq_dataset.specs.Canonical.{canonical}
 use Rattle.dq_dataset.specs.declared.fault.ReadFault.{ReadFault}
 use Rattle.dq_tables.specs.declared.row.Kind.{Kind}
-use Rattle.dq_tables.specs.declared.row.Kind.TheVariants.{Study, Series, Image, Entry, Step}
+use Rattle.dq_tables.specs.declared.row.Kind.TheVariants.{Step}
 use Rattle.dq_tables.specs.declared.row.Row.{Row}
 use Rattle.dq_tables.specs.Rows.{of, row_of, record_of}
 use Rattle.dq_tables.specs.Finding.{same_kind, is_of, row_at, record_at, rows_of, records_of}
 use Rattle.dq_tables.specs.Sound.{is_record_of, is_own, OwnEach, is_held, has_key, has_above, is_within, IsNew, IsChanged}
-use Rattle.dq_tables.proofs.Seen.{found_own, counted_own}
-use Rattle.dq_tables.specs.Rows.{Record}
+use Rattle.dq_tables.proofs.Seen.{found_own, found_record, counted_own}
+use Rattle.dq_tables.proofs.Listing.{one_kind}
 use Rattle.dq_mpps.specs.Steps.{spelled_step, step_record}
 
 same_bytes : (o : List ℕ) → bytes_eq o o ≡ true
@@ -40,10 +40,6 @@ new_fits h uid d rows back uid_is free = record {
   held = refl;
 }
 
-records_back : (h : List ℕ) (r : Option Record) → option_map record_of (option_map (row_of h) r) ≡ r
-records_back h None = refl
-records_back h (Some r) = refl
-
 some_mapped : {A B : Type 0} (f : A → B) (o : Option A) → is_some (option_map f o) ≡ is_some o
 some_mapped f None = refl
 some_mapped f (Some x) = refl
@@ -63,13 +59,6 @@ found_among : {X : Type 0} (P : X → Type 0) (p : X → Bool) (y : X) (xs : Lis
 found_among P p y [] all found = cc
 found_among P p y (x ∷ xs) all found = found_step P p x y xs (p x) refl all.0 (found_among P p y xs all.1) found
 
-step_is : (k : Kind) → same_kind k Step ≡ true → k ≡ Step
-step_is Study h = cc
-step_is Series h = cc
-step_is Image h = cc
-step_is Entry h = cc
-step_is Step h = refl
-
 uid_of_record : (r : Result ElementList ReadFault) (row : Row) → row.kind ≡ Step → is_record_of r row ≡ true → is_uid row.key ≡ true
 unfolding has_key
 uid_of_record (Err fault) row kind own = cc
@@ -88,7 +77,7 @@ unfolding row_at
 kept_uid h uid rows row own found =
     let both = found_among (λ (r : Row). is_own r ≡ true) (λ (r : Row). is_of Step h r && bytes_eq r.key uid) row rows own found in
     let tests = and_parts (is_of Step h row) (bytes_eq row.key uid) both.1 in
-    let kind = step_is row.kind (and_parts (same_kind row.kind Step) (bytes_eq row.inst h) tests.0).0 in
+    let kind = one_kind row.kind Step (and_parts (same_kind row.kind Step) (bytes_eq row.inst h) tests.0).0 in
     subst (λ (key : List ℕ). is_uid key ≡ true) ((bytes_eq-Decides row.key uid).0 tests.1) (uid_of_row row kind both.0)
 
 -- a changed step takes the place of the one that is kept
@@ -106,7 +95,7 @@ changed_fits h uid d octets rows row own found spelled back =
 -- the record of a row that is found
 pub kept_record : (h uid : List ℕ) (rows : List Row) (row : Option Row) → row ≡ row_at Step h uid rows
     → record_at Step uid (of h rows) ≡ option_map record_of row
-kept_record h uid rows row found = sym (ap (option_map record_of) (found ∙ found_own Step h uid rows) ∙ records_back h (record_at Step uid (of h rows)))
+kept_record h uid rows row found = sym (found_record Step h uid rows row found)
 
 -- the rows of a kind are as many as the records
 pub full_is : (h name : List ℕ) (rows : List Row) (from limit count : ℕ) → h ≡ name → from ≡ limit → count ≡ length (rows_of Step h rows)

@@ -1,5 +1,5 @@
 -- What is answered of a message, by the refusals before and after.
-use Rattle.std.proofs.Common.{◌≡◌, ℕ, Bool, true, false, List, [], ◌∷◌, ◌++◌, Option, Some, None, Result, Ok, Err, refl, sym, ◌∙◌, ap, subst, if◌then◌else◌}
+use Rattle.std.proofs.Common.{◌≡◌, ℕ, Bool, true, false, List, [], ◌∷◌, Option, Some, None, Result, Ok, Err, refl, sym, ◌∙◌, ap, subst}
 use Rattle.std.specs.Result.{result_ok}
 use Rattle.dq_value.specs.Uid.{is_uid}
 use Rattle.dq_dataset.specs.declared.fault.ReadFault.{ReadFault}
@@ -15,31 +15,34 @@ use Rattle.dq_dataset.specs.Editing.{merged}
 use Rattle.dq_tables.specs.declared.row.Kind.TheVariants.{Step}
 use Rattle.dq_tables.specs.Finding.{record_at}
 use Rattle.dq_tables.specs.Rows.{Record, Edit, Put}
-use Rattle.dq_mpps.specs.Steps.{is_over, spelled_step, step_record, first_refusal, outcome}
+use Rattle.dq_dimse.specs.Receiving.{is_over}
+use Rattle.dq_tables.specs.Serving.{first_refusal, outcome}
+use Rattle.dq_tables.proofs.Refusing.{first_in, first_past}
+use Rattle.dq_mpps.specs.Steps.{data_set_limit, spelled_step, step_record}
 use Rattle.dq_mpps.specs.Creating.{created}
-use Rattle.dq_mpps.specs.Changing.{data_set_of, is_too_long, attribute_refusals, changed}
+use Rattle.dq_mpps.specs.Changing.{kept_data_set, is_too_long, attribute_refusals, changed}
 use Rattle.dq_mpps.specs.Views.{step_created, step_changed}
 
 pub read_is : (r : Result ElementList ReadFault) (d : ElementList) → result_ok r ≡ Some d → r ≡ Ok d
 read_is (Ok d') d some = cc
 read_is (Err fault) d some = cc
 
-not_read : (limits : Limits) (records : List Record) (message : Message) (syntax : Syntax) (r : Result ElementList ReadFault) → is_over message ≡ false
+not_read : (limits : Limits) (records : List Record) (message : Message) (syntax : Syntax) (r : Result ElementList ReadFault) → is_over data_set_limit message ≡ false
     → reading syntax message.octets ≡ r → result_ok r ≡ None → created limits records message syntax ≡ (processing_failure, [])
 unfolding created
 not_read limits records message syntax (Ok d) h same none = cc
 not_read limits records message syntax (Err fault) h same none = rw (h, same) refl
 
 module _ (limits : Limits) (records : List Record) (message : Message) (syntax : Syntax) where
-  pub create_over : is_over message ≡ true → created limits records message syntax ≡ (resource_limitation, [])
+  pub create_over : is_over data_set_limit message ≡ true → created limits records message syntax ≡ (resource_limitation, [])
   unfolding created
   create_over h = rw h refl
 
-  pub create_unread : is_over message ≡ false → result_ok (reading syntax message.octets) ≡ None
+  pub create_unread : is_over data_set_limit message ≡ false → result_ok (reading syntax message.octets) ≡ None
       → created limits records message syntax ≡ (processing_failure, [])
   create_unread h none = not_read limits records message syntax (reading syntax message.octets) h refl none
 
-  module _ (d : ElementList) (h : is_over message ≡ false) (read : reading syntax message.octets ≡ Ok d) where
+  module _ (d : ElementList) (h : is_over data_set_limit message ≡ false) (read : reading syntax message.octets ≡ Ok d) where
     pub create_unnamed : is_uid message.command.sop_instance ≡ false → created limits records message syntax ≡ (invalid_sop_instance, [])
     unfolding created
     create_unnamed no_uid = rw (h, read, no_uid) refl
@@ -51,52 +54,35 @@ module _ (limits : Limits) (records : List Record) (message : Message) (syntax :
 
 -- ---- changes
 
-first_step : (b : Bool) (status s : ℕ) (o p : Option ℕ) → (o ≡ Some s → p ≡ Some s) → (if b then Some status else o) ≡ Some s
-    → (if b then Some status else p) ≡ Some s
-first_step true status s o p rest h = h
-first_step false status s o p rest h = rest h
-
-first_in : (xs ys : List (Bool × ℕ)) (s : ℕ) → first_refusal xs ≡ Some s → first_refusal (xs ++ ys) ≡ Some s
-first_in [] ys s h = cc
-first_in (x ∷ xs) ys s h = first_step x.0 x.1 s (first_refusal xs) (first_refusal (xs ++ ys)) (first_in xs ys s) h
-
-past_step : (b : Bool) (status : ℕ) (o p q : Option ℕ) → (o ≡ None → p ≡ q) → (if b then Some status else o) ≡ None → (if b then Some status else p) ≡ q
-past_step true status o p q rest h = cc
-past_step false status o p q rest h = rest h
-
-first_past : (xs ys : List (Bool × ℕ)) → first_refusal xs ≡ None → first_refusal (xs ++ ys) ≡ first_refusal ys
-first_past [] ys h = refl
-first_past (x ∷ xs) ys h = past_step x.0 x.1 (first_refusal xs) (first_refusal (xs ++ ys)) (first_refusal ys) (first_past xs ys) h
-
-module _ (uid : List ℕ) (sent : ElementList) (r : Record) (kept : ElementList) (kept_is : kept ≡ data_set_of (Some r)) where
-  abbrev edits : List Edit
-  edits = Put (step_record uid (merged (data_set_of (Some r)) sent)) ∷ []
+module _ (uid : List ℕ) (sent : ElementList) (r : Record) (kept : ElementList) (kept_is : kept ≡ kept_data_set (Some r)) where
+  abbrev done : ℕ × List Edit
+  done = (success, Put (step_record uid (merged (kept_data_set (Some r)) sent)) ∷ [])
 
   abbrev limit : List (Bool × ℕ)
-  limit = (is_too_long (merged (data_set_of (Some r)) sent), resource_limitation) ∷ []
+  limit = (is_too_long (merged (kept_data_set (Some r)) sent), resource_limitation) ∷ []
 
   pub refused_by : (status : ℕ) → first_refusal (attribute_refusals kept sent) ≡ Some status → step_changed uid sent (Some r) ≡ (status, [])
   refused_by status h =
-      ap (λ (o : Option ℕ). outcome o edits)
-      (first_in (attribute_refusals (data_set_of (Some r)) sent) limit status
+      ap (λ (o : Option ℕ). outcome o done)
+      (first_in (attribute_refusals (kept_data_set (Some r)) sent) limit status
       (subst (λ (d : ElementList). first_refusal (attribute_refusals d sent) ≡ Some status) kept_is h))
 
-  passed : first_refusal (attribute_refusals kept sent) ≡ None → step_changed uid sent (Some r) ≡ outcome (first_refusal limit) edits
+  passed : first_refusal (attribute_refusals kept sent) ≡ None → step_changed uid sent (Some r) ≡ outcome (first_refusal limit) done
   passed h =
-      ap (λ (o : Option ℕ). outcome o edits)
-      (first_past (attribute_refusals (data_set_of (Some r)) sent) limit
+      ap (λ (o : Option ℕ). outcome o done)
+      (first_past (attribute_refusals (kept_data_set (Some r)) sent) limit
       (subst (λ (d : ElementList). first_refusal (attribute_refusals d sent) ≡ None) kept_is h))
 
   pub too_long : first_refusal (attribute_refusals kept sent) ≡ None → is_too_long (merged kept sent) ≡ true
       → step_changed uid sent (Some r) ≡ (resource_limitation, [])
   too_long h long =
-      let there : is_too_long (merged (data_set_of (Some r)) sent) ≡ true = subst (λ (d : ElementList). is_too_long (merged d sent) ≡ true) kept_is long in
-      passed h ∙ ap (λ (b : Bool). outcome (first_refusal ((b, resource_limitation) ∷ [])) edits) there
+      let there : is_too_long (merged (kept_data_set (Some r)) sent) ≡ true = subst (λ (d : ElementList). is_too_long (merged d sent) ≡ true) kept_is long in
+      passed h ∙ ap (λ (b : Bool). outcome (first_refusal ((b, resource_limitation) ∷ [])) done) there
 
-  accepted : first_refusal (attribute_refusals kept sent) ≡ None → is_too_long (merged kept sent) ≡ false → step_changed uid sent (Some r) ≡ (success, edits)
+  accepted : first_refusal (attribute_refusals kept sent) ≡ None → is_too_long (merged kept sent) ≡ false → step_changed uid sent (Some r) ≡ done
   accepted h short =
-      let there : is_too_long (merged (data_set_of (Some r)) sent) ≡ false = subst (λ (d : ElementList). is_too_long (merged d sent) ≡ false) kept_is short in
-      passed h ∙ ap (λ (b : Bool). outcome (first_refusal ((b, resource_limitation) ∷ [])) edits) there
+      let there : is_too_long (merged (kept_data_set (Some r)) sent) ≡ false = subst (λ (d : ElementList). is_too_long (merged d sent) ≡ false) kept_is short in
+      passed h ∙ ap (λ (b : Bool). outcome (first_refusal ((b, resource_limitation) ∷ [])) done) there
 
   pub changed_to : first_refusal (attribute_refusals kept sent) ≡ None → is_too_long (merged kept sent) ≡ false → (octets : List ℕ)
       → octets ≡ canonical Explicit (merged kept sent) → step_changed uid sent (Some r) ≡ (success, Put (spelled_step uid octets) ∷ [])
@@ -104,21 +90,21 @@ module _ (uid : List ℕ) (sent : ElementList) (r : Record) (kept : ElementList)
       let there = spelled ∙ ap (λ (d : ElementList). canonical Explicit (merged d sent)) kept_is in
       accepted h short ∙ ap (λ (o : List ℕ). (success, Put (spelled_step uid o) ∷ [])) (sym there)
 
-set_not_read : (records : List Record) (message : Message) (syntax : Syntax) (r : Result ElementList ReadFault) → is_over message ≡ false
+set_not_read : (records : List Record) (message : Message) (syntax : Syntax) (r : Result ElementList ReadFault) → is_over data_set_limit message ≡ false
     → reading syntax message.octets ≡ r → result_ok r ≡ None → changed records message syntax ≡ (processing_failure, [])
 unfolding changed
 set_not_read records message syntax (Ok d) h same none = cc
 set_not_read records message syntax (Err fault) h same none = rw (h, same) refl
 
 module _ (records : List Record) (message : Message) (syntax : Syntax) where
-  pub set_over : is_over message ≡ true → changed records message syntax ≡ (resource_limitation, [])
+  pub set_over : is_over data_set_limit message ≡ true → changed records message syntax ≡ (resource_limitation, [])
   unfolding changed
   set_over h = rw h refl
 
-  pub set_unread : is_over message ≡ false → result_ok (reading syntax message.octets) ≡ None → changed records message syntax ≡ (processing_failure, [])
+  pub set_unread : is_over data_set_limit message ≡ false → result_ok (reading syntax message.octets) ≡ None → changed records message syntax ≡ (processing_failure, [])
   set_unread h none = set_not_read records message syntax (reading syntax message.octets) h refl none
 
-  pub set_handed_on : (d : ElementList) → is_over message ≡ false → reading syntax message.octets ≡ Ok d
+  pub set_handed_on : (d : ElementList) → is_over data_set_limit message ≡ false → reading syntax message.octets ≡ Ok d
       → changed records message syntax ≡ step_changed message.command.sop_instance d (record_at Step message.command.sop_instance records)
   unfolding changed
   set_handed_on d h read = rw (h, read) refl

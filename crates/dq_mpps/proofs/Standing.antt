@@ -1,5 +1,5 @@
 -- What stands in a step after a change.
-use Rattle.std.proofs.Common.{◌≡◌, ℕ, Bool, true, false, ◌&&◌, ◌||◌, not, List, [], ◌∷◌, ◌++◌, Option, Some, None, find, filter, refl, sym, ◌∙◌, ap, subst, if◌then◌else◌, arith}
+use Rattle.std.proofs.Common.{◌≡◌, ℕ, Bool, true, false, ◌&&◌, ◌||◌, not, List, [], ◌∷◌, Option, Some, None, find, refl, sym, ◌∙◌, ap, subst, if◌then◌else◌, arith}
 use Rattle.std.specs.List.{list_any}
 use Rattle.std.proofs.lemmas.Bool.Decides.{nat_tests}
 use Rattle.dq_vr.specs.declared.Tag.{Tag}
@@ -15,11 +15,13 @@ use Rattle.dq_dataset.proofs.Edits.{facts-parts}
 use Rattle.dq_dataset.proofs.Views.{as_elements-elements_of, elements_of-as_elements}
 use Rattle.dq_tables.specs.Keys.{element_at}
 use Rattle.dq_mpps.specs.Attributes.{is_fixed}
-use Rattle.dq_mpps.specs.Same.{same_element}
-use Rattle.dq_mpps.specs.Changing.{stands_in, changes_fixed}
-use Rattle.dq_mpps.specs.Views.{or_kept}
-use Rattle.dq_mpps.proofs.Comparing.{element_is}
-use Rattle.dq_mpps.proofs.Searching.{below_then, below_itself}
+use Rattle.dq_dataset.specs.Same.{same_element, has_element}
+use Rattle.dq_mpps.specs.Changing.{changes_fixed}
+use Rattle.std.specs.Option.{option_or}
+use Rattle.std.proofs.lemmas.List.Folds.{find-append}
+use Rattle.dq_list.proofs.Finding.{found_filtered, none_filtered}
+use Rattle.dq_dataset.proofs.Same.{element_is}
+use Rattle.dq_dataset.proofs.Holding.{below_then, below_itself}
 
 -- ---- tags
 
@@ -44,40 +46,6 @@ tag_is t e h =
 has_its_tag : (e : Element) → has_tag e.tag e ≡ true
 has_its_tag e = grind (arith, nat_tests)
 
--- ---- what is found in parts of a list
-
-found_step : {X : Type 0} (b : Bool) (x : X) (o p q : Option X) → o ≡ or_kept p q → (if b then Some x else o) ≡ or_kept (if b then Some x else p) q
-found_step true x o p q h = refl
-found_step false x o p q h = h
-
-found_in : {X : Type 0} (p : X → Bool) (xs ys : List X) → find p (xs ++ ys) ≡ or_kept (find p xs) (find p ys)
-found_in p [] ys = refl
-found_in p (x ∷ xs) ys = found_step (p x) x (find p (xs ++ ys)) (find p xs) (find p ys) (found_in p xs ys)
-
-kept_step : {X : Type 0} (p : X → Bool) (x : X) (os xs : List X) (a b : Bool) → p x ≡ a → (a ≡ true → b ≡ true) → find p os ≡ find p xs
-    → find p (if b then x ∷ os else os) ≡ (if a then Some x else find p xs)
-kept_step p x os xs true true here both rest = rw here refl
-kept_step p x os xs true false here both rest = (let no : false ≡ true = both refl in cc)
-kept_step p x os xs false true here both rest = rw here rest
-kept_step p x os xs false false here both rest = rest
-
--- those that are looked for are all kept
-found_all : {X : Type 0} (p q : X → Bool) → ((x : X) → p x ≡ true → q x ≡ true) → (xs : List X) → find p (filter q xs) ≡ find p xs
-found_all p q both [] = refl
-found_all p q both (x ∷ xs) = kept_step p x (filter q xs) xs (p x) (q x) refl (both x) (found_all p q both xs)
-
-lost_step : {X : Type 0} (p : X → Bool) (x : X) (os : List X) (a b : Bool) → p x ≡ a → (a ≡ true → b ≡ false) → find p os ≡ None
-    → find p (if b then x ∷ os else os) ≡ None
-lost_step p x os true true here none rest = (let no : true ≡ false = none refl in cc)
-lost_step p x os true false here none rest = rest
-lost_step p x os false true here none rest = rw here rest
-lost_step p x os false false here none rest = rest
-
--- or none of them is
-found_none : {X : Type 0} (p q : X → Bool) → ((x : X) → p x ≡ true → q x ≡ false) → (xs : List X) → find p (filter q xs) ≡ None
-found_none p q none [] = refl
-found_none p q none (x ∷ xs) = lost_step p x (filter q xs) (p x) (q x) refl (none x) (found_none p q none xs)
-
 -- ---- the element with a tag, after a change
 
 none_below : (levels : ℕ) (t last : Tag) (es : List Element) → is_below t last ≡ true → AreElements levels (Some last) (as_elements es)
@@ -95,39 +63,39 @@ module _ (t : Tag) (e : Element) where
   above_is : (x : Element) → has_tag t x ≡ true → is_below e.tag x.tag ≡ is_below e.tag t
   above_is x here = ap (λ (u : Tag). is_below e.tag u) (tag_is t x here)
 
-or_none : {X : Type 0} (o : Option X) → or_kept o None ≡ o
+or_none : {X : Type 0} (o : Option X) → option_or o None ≡ o
 or_none None = refl
 or_none (Some x) = refl
 
-or_last : {X : Type 0} (o p q : Option X) → p ≡ None → q ≡ None → or_kept o (or_kept p q) ≡ o
-or_last o p q no_p no_q = ap (or_kept o) (rw (no_p, no_q) refl) ∙ or_none o
+or_last : {X : Type 0} (o p q : Option X) → p ≡ None → q ≡ None → option_or o (option_or p q) ≡ o
+or_last o p q no_p no_q = ap (option_or o) (rw (no_p, no_q) refl) ∙ or_none o
 
 module _ (t : Tag) where
   merged_step : (levels : ℕ) (last : Option Tag) (kept : List Element) (e : Element) (sent : List Element) → AreElements levels last (as_elements (e ∷ sent))
-      → ((some : List Element) → find (has_tag t) (merged_elements some sent) ≡ or_kept (find (has_tag t) sent) (find (has_tag t) some))
+      → ((some : List Element) → find (has_tag t) (merged_elements some sent) ≡ option_or (find (has_tag t) sent) (find (has_tag t) some))
       → (b c : Bool) → has_tag t e ≡ b → is_below t e.tag ≡ c
-      → find (has_tag t) (merged_elements kept (e ∷ sent)) ≡ or_kept (if b then Some e else find (has_tag t) sent) (find (has_tag t) kept)
+      → find (has_tag t) (merged_elements kept (e ∷ sent)) ≡ option_or (if b then Some e else find (has_tag t) sent) (find (has_tag t) kept)
   merged_step levels last kept e sent are rest true c here low =
       let same = tag_is t e here in
-      let none = found_none (has_tag t) (λ (x : Element). is_below x.tag e.tag)
+      let none = none_filtered (has_tag t) (λ (x : Element). is_below x.tag e.tag)
       (λ x has. below_is t e x has ∙ ap (is_below t) same ∙ below_itself t) kept in
-      found_in (has_tag t) (elements_below e.tag kept) (e ∷ merged_elements (elements_above e.tag kept) sent)
+      find-append (has_tag t) (elements_below e.tag kept) (e ∷ merged_elements (elements_above e.tag kept) sent)
       ∙ rw (none, here) refl
   merged_step levels last kept e sent are rest false true here low =
-      let all = found_all (has_tag t) (λ (x : Element). is_below x.tag e.tag) (λ x has. below_is t e x has ∙ low) kept in
-      let above = found_none (has_tag t) (λ (x : Element). is_below e.tag x.tag) (λ x has. above_is t e x has ∙ below_asym t e.tag low) kept in
+      let all = found_filtered (has_tag t) (λ (x : Element). is_below x.tag e.tag) (λ x has. below_is t e x has ∙ low) kept in
+      let above = none_filtered (has_tag t) (λ (x : Element). is_below e.tag x.tag) (λ x has. above_is t e x has ∙ below_asym t e.tag low) kept in
       let later = none_below levels t e.tag sent low (facts-parts levels last e sent are).2 in
-      found_in (has_tag t) (elements_below e.tag kept) (e ∷ merged_elements (elements_above e.tag kept) sent)
+      find-append (has_tag t) (elements_below e.tag kept) (e ∷ merged_elements (elements_above e.tag kept) sent)
       ∙ rw (all, here, rest (elements_above e.tag kept), above, later) (or_none (find (has_tag t) kept))
   merged_step levels last kept e sent are rest false false here low =
       let high = above_other t e here low in
-      let none = found_none (has_tag t) (λ (x : Element). is_below x.tag e.tag) (λ x has. below_is t e x has ∙ low) kept in
-      let above = found_all (has_tag t) (λ (x : Element). is_below e.tag x.tag) (λ x has. above_is t e x has ∙ high) kept in
-      found_in (has_tag t) (elements_below e.tag kept) (e ∷ merged_elements (elements_above e.tag kept) sent)
+      let none = none_filtered (has_tag t) (λ (x : Element). is_below x.tag e.tag) (λ x has. below_is t e x has ∙ low) kept in
+      let above = found_filtered (has_tag t) (λ (x : Element). is_below e.tag x.tag) (λ x has. above_is t e x has ∙ high) kept in
+      find-append (has_tag t) (elements_below e.tag kept) (e ∷ merged_elements (elements_above e.tag kept) sent)
       ∙ rw (none, here, rest (elements_above e.tag kept), above) refl
 
   found_merged : (levels : ℕ) (last : Option Tag) (sent : List Element) → AreElements levels last (as_elements sent) → (kept : List Element)
-      → find (has_tag t) (merged_elements kept sent) ≡ or_kept (find (has_tag t) sent) (find (has_tag t) kept)
+      → find (has_tag t) (merged_elements kept sent) ≡ option_or (find (has_tag t) sent) (find (has_tag t) kept)
   found_merged levels last [] are kept = refl
   found_merged levels last (e ∷ sent) are kept =
       merged_step levels last kept e sent are (found_merged levels (Some e.tag) sent (facts-parts levels last e sent are).2)
@@ -136,7 +104,7 @@ module _ (t : Tag) where
 listed : (d : ElementList) → IsDataSet d → AreElements 16 None (as_elements (elements_of d))
 listed d is = subst IsDataSet (sym (as_elements-elements_of d)) is
 
-pub standing_after : (kept sent : ElementList) → IsDataSet sent → (t : Tag) → element_at t (merged kept sent) ≡ or_kept (element_at t sent) (element_at t kept)
+pub standing_after : (kept sent : ElementList) → IsDataSet sent → (t : Tag) → element_at t (merged kept sent) ≡ option_or (element_at t sent) (element_at t kept)
 standing_after kept sent is t =
     ap (find (has_tag t)) (elements_of-as_elements (merged_elements (elements_of kept) (elements_of sent)))
     ∙ found_merged t 16 None (elements_of sent) (listed sent is) (elements_of kept)
@@ -204,14 +172,14 @@ unless_false true false e h = cc
 unless_false false b e h = cc
 
 module _ (kept sent : ElementList) (are_kept : IsDataSet kept) (none : changes_fixed kept sent ≡ false) (e : Element) (fixed : is_fixed e ≡ true) where
-  as_kept : (o : Option Element) → element_at e.tag sent ≡ o → or_kept o (element_at e.tag kept) ≡ element_at e.tag kept
+  as_kept : (o : Option Element) → element_at e.tag sent ≡ o → option_or o (element_at e.tag kept) ≡ element_at e.tag kept
   unfolding changes_fixed
   as_kept None found = refl
   as_kept (Some s) found =
-      let both = passes (has_tag e.tag) (λ (x : Element). is_fixed x && not (stands_in kept x)) s (elements_of sent) found none in
+      let both = passes (has_tag e.tag) (λ (x : Element). is_fixed x && not (has_element kept x)) s (elements_of sent) found none in
       let same_tag = tag_is e.tag s both.0 in
       let fixed_too = is_fixed_by s ∙ ap fixed_by_tag same_tag ∙ sym (is_fixed_by e) ∙ fixed in
-      let stands = unless_false (is_fixed s) (stands_in kept s) fixed_too both.1 in
+      let stands = unless_false (is_fixed s) (has_element kept s) fixed_too both.1 in
       let there = stands_found s 16 None (elements_of kept) (listed kept are_kept) stands in
       sym (subst (λ (t : Tag). find (has_tag t) (elements_of kept) ≡ Some s) same_tag there)
 

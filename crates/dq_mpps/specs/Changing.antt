@@ -2,6 +2,7 @@
 -- PS3.7 section 10.1.3).
 use Rattle.std.specs.Prelude.{ℕ, Bool, not, ◌&&◌, ◌||◌, nat_lt, List, [], ◌∷◌, ◌++◌, length, Option, Some, None, is_some, is_none, Result, is_err}
 use Rattle.std.specs.List.{list_any}
+use Rattle.std.specs.Result.{result_unwrap_or}
 use Rattle.dq_vr.specs.Tags.{performed_procedure_step_status}
 use Rattle.dq_dataset.specs.declared.fault.ReadFault.{ReadFault}
 use Rattle.dq_dataset.specs.declared.header.Syntax.{Syntax}
@@ -12,32 +13,32 @@ use Rattle.dq_dataset.specs.View.{elements_of}
 use Rattle.dq_dataset.specs.Reading.{reading}
 use Rattle.dq_dataset.specs.Canonical.{canonical}
 use Rattle.dq_dataset.specs.Editing.{merged}
+use Rattle.dq_dataset.specs.Same.{has_element}
 use Rattle.dq_dimse.specs.declared.command.Message.{Message}
-use Rattle.dq_dimse.specs.Statuses.{processing_failure, no_such_sop_instance, invalid_attribute_value, resource_limitation}
+use Rattle.dq_dimse.specs.Receiving.{is_over}
+use Rattle.dq_dimse.specs.Statuses.{success, processing_failure, no_such_sop_instance, invalid_attribute_value, resource_limitation}
 use Rattle.dq_tables.specs.declared.row.Kind.TheVariants.{Step}
 use Rattle.dq_tables.specs.Rows.{Record, Edit, Put}
 use Rattle.dq_tables.specs.Finding.{record_at}
 use Rattle.dq_tables.specs.Keys.{element_at}
+use Rattle.dq_tables.specs.Records.{data_set_of}
+use Rattle.dq_tables.specs.Serving.{first_refusal, outcome}
 use Rattle.dq_mpps.specs.Attributes.{is_fixed}
-use Rattle.dq_mpps.specs.Same.{same_element}
-use Rattle.dq_mpps.specs.Steps.{in_progress, completed, discontinued, has_status, is_over, or_empty, step_record, first_refusal, outcome}
+use Rattle.dq_mpps.specs.Steps.{in_progress, completed, discontinued, has_status, data_set_limit, step_record}
 
 -- the data set of the step that is kept
-abbrev pub data_set_of : Option Record → ElementList
-data_set_of None = no_elements
-data_set_of (Some kept) = or_empty (reading Explicit kept.octets)
+abbrev pub kept_data_set : Option Record → ElementList
+kept_data_set None = no_elements
+kept_data_set (Some kept) = data_set_of kept.octets
 
 -- A step that is completed or discontinued is no longer changed.
 unfoldable pub is_ended : ElementList → Bool
 is_ended kept = has_status completed kept || has_status discontinued kept
 
-abbrev pub stands_in : ElementList → Element → Bool
-stands_in kept e = list_any (λ (k : Element). same_element k e) (elements_of kept)
-
 -- A fixed attribute is sent that does not stand in the step as it is kept.
 unfoldable pub changes_fixed : ElementList → ElementList → Bool
 changes_fixed kept sent =
-    list_any (λ (e : Element). is_fixed e && not (stands_in kept e)) (elements_of sent)
+    list_any (λ (e : Element). is_fixed e && not (has_element kept e)) (elements_of sent)
 
 -- A status is sent that is none of the three.
 unfoldable pub sends_unknown_status : ElementList → Bool
@@ -63,23 +64,25 @@ attribute_refusals kept sent =
 abbrev pub step_refusals : Option Record → ElementList → List (Bool × ℕ)
 step_refusals kept sent =
     (is_none kept, no_such_sop_instance)
-    ∷ (attribute_refusals (data_set_of kept) sent
-    ++ (is_too_long (merged (data_set_of kept) sent), resource_limitation) ∷ [])
+    ∷ (attribute_refusals (kept_data_set kept) sent
+    ++ (is_too_long (merged (kept_data_set kept) sent), resource_limitation) ∷ [])
 
 -- The refusals in their order, each with its status.
 abbrev pub change_refusals
-    : Message → Result ElementList ReadFault → Option Record → List (Bool × ℕ)
-change_refusals message data_set kept =
-    (is_over message, resource_limitation)
+    : List Record → Message → Result ElementList ReadFault → List (Bool × ℕ)
+change_refusals records message data_set =
+    let sent = result_unwrap_or data_set no_elements in
+    (is_over data_set_limit message, resource_limitation)
     ∷ (is_err data_set, processing_failure)
-    ∷ step_refusals kept (or_empty data_set)
+    ∷ step_refusals (record_at Step message.command.sop_instance records) sent
 
--- Each element of a change that is not refused replaces the kept one with its tag, or joins the
--- others.
+-- Where a change is not refused, each element of it replaces the kept one with its tag, or joins
+-- the others.
 unfoldable pub changed : List Record → Message → Syntax → ℕ × List Edit
 changed records message syntax =
     let data_set = reading syntax message.octets in
-    let kept = record_at Step message.command.sop_instance records in
-    outcome (first_refusal (change_refusals message data_set kept))
-    (Put (step_record message.command.sop_instance
-    (merged (data_set_of kept) (or_empty data_set))) ∷ [])
+    let sent = result_unwrap_or data_set no_elements in
+    let uid = message.command.sop_instance in
+    let kept = kept_data_set (record_at Step uid records) in
+    outcome (first_refusal (change_refusals records message data_set))
+    (success, Put (step_record uid (merged kept sent)) ∷ [])

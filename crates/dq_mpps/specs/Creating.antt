@@ -2,6 +2,7 @@
 -- section F.7.2.1, PS3.7 section 10.1.5).
 use Rattle.std.specs.Prelude.{ℕ, Bool, false, not, nat_le, List, [], ◌∷◌, ◌++◌, length, Option, Some, None, is_some, Result, is_err}
 use Rattle.std.specs.List.{list_all}
+use Rattle.std.specs.Result.{result_unwrap_or}
 use Rattle.dq_list.specs.Lengths.{is_empty}
 use Rattle.dq_value.specs.Parts.{parts}
 use Rattle.dq_value.specs.Uid.{is_uid}
@@ -9,17 +10,19 @@ use Rattle.dq_dataset.specs.declared.fault.ReadFault.{ReadFault}
 use Rattle.dq_dataset.specs.declared.header.Syntax.{Syntax}
 use Rattle.dq_dataset.specs.declared.data_set.Element.{Element}
 use Rattle.dq_dataset.specs.declared.data_set.Value.TheVariants.{Octets, Items}
-use Rattle.dq_dataset.specs.Tree.{ElementList}
+use Rattle.dq_dataset.specs.Tree.{ElementList, no_elements}
 use Rattle.dq_dataset.specs.Reading.{reading}
 use Rattle.dq_dimse.specs.declared.command.Message.{Message}
-use Rattle.dq_dimse.specs.Statuses.{processing_failure, duplicate_sop_instance, invalid_sop_instance, missing_attribute, missing_attribute_value, invalid_attribute_value, resource_limitation}
+use Rattle.dq_dimse.specs.Receiving.{is_over}
+use Rattle.dq_dimse.specs.Statuses.{success, processing_failure, duplicate_sop_instance, invalid_sop_instance, missing_attribute, missing_attribute_value, invalid_attribute_value, resource_limitation}
 use Rattle.dq_config.specs.Limits.{Limits}
 use Rattle.dq_tables.specs.declared.row.Kind.TheVariants.{Step}
 use Rattle.dq_tables.specs.Rows.{Record, Edit, Put}
 use Rattle.dq_tables.specs.Finding.{record_at, records_of}
 use Rattle.dq_tables.specs.Keys.{element_at}
+use Rattle.dq_tables.specs.Serving.{first_refusal, outcome}
 use Rattle.dq_mpps.specs.Attributes.{required_attributes}
-use Rattle.dq_mpps.specs.Steps.{in_progress, has_status, is_over, or_empty, step_record, first_refusal, outcome}
+use Rattle.dq_mpps.specs.Steps.{in_progress, has_status, data_set_limit, step_record}
 
 -- The element has a value, or as a sequence an item.
 unfoldable pub has_value : Option Element → Bool
@@ -53,14 +56,16 @@ step_refusals limits records uid d =
 abbrev pub creation_refusals
     : Limits → List Record → Message → Result ElementList ReadFault → List (Bool × ℕ)
 creation_refusals limits records message data_set =
-    (is_over message, resource_limitation)
+    let sent = result_unwrap_or data_set no_elements in
+    (is_over data_set_limit message, resource_limitation)
     ∷ (is_err data_set, processing_failure)
     ∷ (not (is_uid message.command.sop_instance), invalid_sop_instance)
-    ∷ step_refusals limits records message.command.sop_instance (or_empty data_set)
+    ∷ step_refusals limits records message.command.sop_instance sent
 
 -- A step that is not refused is kept with its data set whole.
 unfoldable pub created : Limits → List Record → Message → Syntax → ℕ × List Edit
 created limits records message syntax =
     let data_set = reading syntax message.octets in
+    let sent = result_unwrap_or data_set no_elements in
     outcome (first_refusal (creation_refusals limits records message data_set))
-    (Put (step_record message.command.sop_instance (or_empty data_set)) ∷ [])
+    (success, Put (step_record message.command.sop_instance sent) ∷ [])

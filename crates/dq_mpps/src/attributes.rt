@@ -4,8 +4,7 @@ ghost use Rattle.std.specs.Option.{option_copied};
 ghost use Rattle.dq_dataset.specs.Editing.{is_listed};
 ghost use Rattle.dq_mpps.specs.Attributes.{is_fixed};
 ghost use Rattle.dq_mpps.specs.Creating.{has_value, has_attributes, has_attribute_values};
-ghost use Rattle.dq_mpps.specs.Changing.{stands_in, changes_fixed};
-ghost use Rattle.dq_mpps.specs.Same.{same_element};
+ghost use Rattle.dq_mpps.specs.Changing.{changes_fixed};
 
 use dq_dataset::{DataSet, Element, Value};
 use dq_value::values;
@@ -77,24 +76,6 @@ fn is_listed(tags: &[Tag], element: &Element) -> bool
     tags.iter().any(|tag| element.tag == *tag)
 }
 
-fn is_same(kept: &Element, element: &Element) -> bool
-    ensures { result ≡ same_element kept.now element.now }
-{
-    kept.is_same(element)
-}
-
-/// Whether a data set has this very element, which is looked for by its tag.
-fn stands_in(kept: &DataSet, element: &Element) -> bool
-    ensures { result ≡ stands_in kept.now element.now }
-{
-    let elements = kept.elements();
-    let at = elements.partition_point(|other| other.tag.is_below(element.tag));
-    match elements.get(at) {
-        Some(other) => is_same(other, element),
-        None => false,
-    }
-}
-
 /// Whether a fixed attribute is sent that is not as it is kept.
 #[tactic(auto, unfolding(crate::specs::Changing::changes_fixed))]
 pub(crate) fn changes_fixed(kept: &DataSet, sent: &DataSet) -> bool
@@ -102,5 +83,5 @@ pub(crate) fn changes_fixed(kept: &DataSet, sent: &DataSet) -> bool
 {
     sent.elements()
         .iter()
-        .any(|element| is_fixed(element) && !stands_in(kept, element))
+        .any(|element| is_fixed(element) && !kept.has(element))
 }

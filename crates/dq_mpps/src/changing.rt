@@ -10,16 +10,16 @@ ghost use Rattle.dq_tables.specs.Rows.{record_of, row_of};
 ghost use Rattle.dq_tables.specs.Finding.{record_at};
 ghost use Rattle.dq_tables.specs.Sound.{IsChanged};
 ghost use Rattle.dq_tables.specs.Keeping.{Writes};
-ghost use Rattle.dq_tables.specs.Serving.{Serves};
-ghost use Rattle.dq_mpps.specs.Steps.{spelled_step, first_refusal};
-ghost use Rattle.dq_mpps.specs.Changing.{data_set_of, is_too_long, attribute_refusals, changed};
+ghost use Rattle.dq_tables.specs.Serving.{Serves, first_refusal};
+ghost use Rattle.dq_mpps.specs.Steps.{spelled_step};
+ghost use Rattle.dq_mpps.specs.Changing.{kept_data_set, is_too_long, attribute_refusals, changed};
 ghost use Rattle.dq_mpps.specs.Views.{step_changed, with_put};
 
 use crate::attributes::changes_fixed;
-use crate::steps::{data_set_of, is_ended, is_over, sends_unknown_status, step_row};
+use crate::steps::{DATA_SET_LIMIT, Sent, is_ended, sends_unknown_status, step_row};
 use dq_config::Institution;
-use dq_dataset::laws::{editing_law, spelling_law, written_law};
-use dq_dataset::{DataSet, ReadFault, Syntax, read, write};
+use dq_dataset::laws::{editing_law, written_law};
+use dq_dataset::{DataSet, Syntax, write};
 use dq_dimse::{Message, status};
 use dq_tables::{Change, Row, TableFault, Tables};
 use std::alloc::{AllocError, Global};
@@ -42,14 +42,17 @@ pub fn set<T: Tables>(
     ensures { Serves T.rows T.honest T.failed T.may_leave tables.old tables.new institution.now.name
         (λ records. changed records message.now syntax) result }
 {
-    if is_over(message) {
+    if message.is_over(DATA_SET_LIMIT) {
         return Ok(status::RESOURCE_LIMITATION);
     }
-    let Some(sent) = data_set_of(alloc, message, syntax)? else {
+    let Some(data_set) = message.data_set(alloc, syntax)? else {
         return Ok(status::PROCESSING_FAILURE);
     };
-    let uid = message.command.sop_instance.as_slice();
-    set_step(alloc, tables, institution.name.as_slice(), uid, &sent)
+    let sent = Sent {
+        uid: message.command.sop_instance.as_slice(),
+        data_set: &data_set,
+    };
+    set_step(alloc, tables, institution.name.as_slice(), &sent)
 }
 
 /// Changes the step with the UID.
@@ -57,43 +60,37 @@ fn set_step<T: Tables>(
     alloc: Global,
     tables: &mut T,
     name: &[u8],
-    uid: &[u8],
-    sent: &DataSet,
+    sent: &Sent<'_>,
 ) -> Result<u16, TableFault>
-    requires { HasLengths Explicit sent.now }
+    requires { HasLengths Explicit sent.now.data_set.now }
     ensures { Serves T.rows T.honest T.failed T.may_leave tables.old tables.new name.now
-        (λ records. step_changed uid.now sent.now (record_at Step uid.now records)) result }
+        (λ records. step_changed sent.now.uid.now sent.now.data_set.now
+        (record_at Step sent.now.uid.now records)) result }
 {
-    let Some(row) = tables.step(alloc, name, uid)? else {
+    let Some(row) = tables.step(alloc, name, sent.uid)? else {
         return Ok(status::NO_SUCH_SOP_INSTANCE);
     };
     let kept = kept_data_set(alloc, &row)?;
-    if let Some(status) = attribute_refusal(&kept, sent) {
+    if let Some(status) = attribute_refusal(&kept, sent.data_set) {
         return Ok(status);
     }
-    let octets = merged_octets(alloc, &kept, sent)?;
+    let octets = merged_octets(alloc, &kept, sent.data_set)?;
     if is_too_long(&octets) {
         return Ok(status::RESOURCE_LIMITATION);
     }
-    change_step(alloc, tables, name, uid, octets)?;
+    change_step(alloc, tables, name, sent.uid, octets)?;
     Ok(status::SUCCESS)
 }
 
 /// The data set of a step that is kept. One of 2^31 octets or more is too long to be read.
 fn kept_data_set(alloc: Global, row: &Row) -> Result<DataSet, AllocError>
-    ensures data_set { IfOk result (λ d. d ≡ data_set_of (Some (record_of row.now))) }
+    ensures data_set { IfOk result (λ d. d ≡ kept_data_set (Some (record_of row.now))) }
     ensures lengths { IfOk result (λ d. HasLengths Explicit d) }
 {
-    spelling_law();
-    let octets = row.octets.as_slice();
-    if octets.len() >= READ_LIMIT {
+    if row.octets.len() >= READ_LIMIT {
         return Err(AllocError);
     }
-    match read(alloc, octets, Syntax::Explicit) {
-        Ok(kept) => Ok(kept),
-        Err(ReadFault::NoMemory) => Err(AllocError),
-        Err(_) => Ok(DataSet::new(alloc)),
-    }
+    row.data_set(alloc)
 }
 
 /// The status that refuses what is sent, by the step as it is kept.

@@ -8,13 +8,13 @@ ghost use Rattle.dq_tables.specs.declared.row.Kind.TheVariants.{Step};
 ghost use Rattle.dq_tables.specs.Rows.{of};
 ghost use Rattle.dq_tables.specs.Finding.{record_at, records_of};
 ghost use Rattle.dq_tables.specs.Keeping.{Reads, Writes};
-ghost use Rattle.dq_tables.specs.Serving.{Serves};
-ghost use Rattle.dq_mpps.specs.Steps.{step_record, first_refusal};
+ghost use Rattle.dq_tables.specs.Serving.{Serves, first_refusal};
+ghost use Rattle.dq_mpps.specs.Steps.{step_record};
 ghost use Rattle.dq_mpps.specs.Creating.{attribute_refusals, step_refusals, created};
 ghost use Rattle.dq_mpps.specs.Views.{step_created, IsFree, with_put};
 
 use crate::attributes::{has_attribute_values, has_attributes};
-use crate::steps::{data_set_of, is_in_progress, is_over, step_row};
+use crate::steps::{DATA_SET_LIMIT, Sent, is_in_progress, step_row};
 use dq_config::Institution;
 use dq_dataset::laws::written_law;
 use dq_dataset::{DataSet, Syntax, write};
@@ -35,17 +35,21 @@ pub fn create<T: Tables>(
     ensures { Serves T.rows T.honest T.failed T.may_leave tables.old tables.new institution.now.name
         (λ records. created (limits_of institution.now) records message.now syntax) result }
 {
-    if is_over(message) {
+    if message.is_over(DATA_SET_LIMIT) {
         return Ok(status::RESOURCE_LIMITATION);
     }
-    let Some(step) = data_set_of(alloc, message, syntax)? else {
+    let Some(data_set) = message.data_set(alloc, syntax)? else {
         return Ok(status::PROCESSING_FAILURE);
     };
     let uid = message.command.sop_instance.as_slice();
     if !is_uid(uid) {
         return Ok(status::INVALID_SOP_INSTANCE);
     }
-    create_step(alloc, tables, institution, uid, &step)
+    let sent = Sent {
+        uid,
+        data_set: &data_set,
+    };
+    create_step(alloc, tables, institution, &sent)
 }
 
 /// Creates a step under its UID.
@@ -53,18 +57,17 @@ fn create_step<T: Tables>(
     alloc: Global,
     tables: &mut T,
     institution: &Institution,
-    uid: &[u8],
-    step: &DataSet,
+    sent: &Sent<'_>,
 ) -> Result<u16, TableFault>
-    requires uid { is_uid uid.now ≡ true }
-    requires lengths { HasLengths Explicit step.now }
+    requires uid { is_uid sent.now.uid.now ≡ true }
+    requires lengths { HasLengths Explicit sent.now.data_set.now }
     ensures { Serves T.rows T.honest T.failed T.may_leave tables.old tables.new institution.now.name
-        (step_created (limits_of institution.now) uid.now step.now) result }
+        (step_created (limits_of institution.now) sent.now.uid.now sent.now.data_set.now) result }
 {
-    if let Some(status) = refusal(alloc, tables, institution, uid, step)? {
+    if let Some(status) = refusal(alloc, tables, institution, sent)? {
         return Ok(status);
     }
-    add_step(alloc, tables, institution.name.as_slice(), uid, step)?;
+    add_step(alloc, tables, institution.name.as_slice(), sent)?;
     Ok(status::SUCCESS)
 }
 
@@ -73,18 +76,17 @@ fn refusal<T: Tables>(
     alloc: Global,
     tables: &mut T,
     institution: &Institution,
-    uid: &[u8],
-    step: &DataSet,
+    sent: &Sent<'_>,
 ) -> Result<Option<u16>, TableFault>
     ensures found { T.honest tables.new → IfOk result (λ status. status ≡ first_refusal
         (step_refusals (limits_of institution.now) (of institution.now.name (T.rows tables.old))
-        uid.now step.now)) }
+        sent.now.uid.now sent.now.data_set.now)) }
     ensures reads { Reads T.rows T.honest T.failed T.may_leave tables.old tables.new result }
 {
-    if is_kept(alloc, tables, institution, uid)? {
+    if is_kept(alloc, tables, institution, sent.uid)? {
         return Ok(Some(status::DUPLICATE_SOP_INSTANCE));
     }
-    if let Some(status) = attribute_refusal(step) {
+    if let Some(status) = attribute_refusal(sent.data_set) {
         return Ok(Some(status));
     }
     if is_full(alloc, tables, institution)? {
@@ -143,18 +145,18 @@ fn add_step<T: Tables>(
     alloc: Global,
     tables: &mut T,
     name: &[u8],
-    uid: &[u8],
-    step: &DataSet,
+    sent: &Sent<'_>,
 ) -> Result<(), TableFault>
-    requires uid { is_uid uid.now ≡ true }
-    requires lengths { HasLengths Explicit step.now }
-    requires new { T.honest tables.old → IsFree name.now uid.now (T.rows tables.old) }
+    requires uid { is_uid sent.now.uid.now ≡ true }
+    requires lengths { HasLengths Explicit sent.now.data_set.now }
+    requires new { T.honest tables.old → IsFree name.now sent.now.uid.now (T.rows tables.old) }
     ensures { Writes T.rows T.honest T.failed T.may_leave tables.old tables.new
-        (with_put name.now (step_record uid.now step.now) (T.rows tables.old)) result }
+        (with_put name.now (step_record sent.now.uid.now sent.now.data_set.now)
+        (T.rows tables.old)) result }
 {
     written_law();
-    let _elements = step.elements();
-    let octets = write(alloc, step, Syntax::Explicit)?;
-    let row = step_row(alloc, name, uid, octets)?;
+    let _elements = sent.data_set.elements();
+    let octets = write(alloc, sent.data_set, Syntax::Explicit)?;
+    let row = step_row(alloc, name, sent.uid, octets)?;
     tables.apply(alloc, &Change::StepAdded(row))
 }

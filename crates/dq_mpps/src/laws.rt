@@ -1,5 +1,6 @@
 //! What follows from the definitions. Each function's contract is a law; its body does nothing.
-ghost use Rattle.std.specs.Prelude.{◌≡◌, ◌≢◌, ◌↔◌, ℕ, [], List, Some, true, false};
+ghost use Rattle.std.specs.Prelude.{◌≡◌, ◌≢◌, ℕ, [], List, Some, true, false};
+ghost use Rattle.std.specs.Option.{option_or};
 ghost use Rattle.dq_vr.specs.declared.Tag.{Tag};
 ghost use Rattle.dq_dataset.specs.declared.header.Syntax.{Syntax};
 ghost use Rattle.dq_dataset.specs.declared.data_set.Element.{Element};
@@ -16,9 +17,7 @@ ghost use Rattle.dq_tables.specs.Finding.{record_at};
 ghost use Rattle.dq_tables.specs.Keys.{element_at};
 ghost use Rattle.dq_mpps.specs.Attributes.{is_fixed};
 ghost use Rattle.dq_mpps.specs.Creating.{created};
-ghost use Rattle.dq_mpps.specs.Changing.{data_set_of, is_ended, changes_fixed, changed};
-ghost use Rattle.dq_mpps.specs.Same.{same_element};
-ghost use Rattle.dq_mpps.specs.Views.{or_kept};
+ghost use Rattle.dq_mpps.specs.Changing.{kept_data_set, is_ended, changes_fixed, changed};
 
 /// A request that is not answered by success changes no record.
 #[tactic(auto, using(crate::proofs::Refusals::created_unless, crate::proofs::Refusals::changed_unless))]
@@ -41,7 +40,7 @@ pub fn kept_steps_stay()
         → (created limits records message syntax).1 ≡ [] }
     ensures ended { (records : List Record) (message : Message) (syntax : Syntax) (kept : Record)
         → record_at Step message.command.sop_instance records ≡ Some kept
-        → is_ended (data_set_of (Some kept)) ≡ true
+        → is_ended (kept_data_set (Some kept)) ≡ true
         → (changed records message syntax).1 ≡ [] }
 {}
 
@@ -50,7 +49,7 @@ pub fn kept_steps_stay()
 #[tactic(auto, using(crate::proofs::Standing::standing_after))]
 pub fn what_is_sent_stands()
     ensures { (kept sent : ElementList) → IsDataSet sent → (tag : Tag)
-        → element_at tag (merged kept sent) ≡ or_kept (element_at tag sent) (element_at tag kept) }
+        → element_at tag (merged kept sent) ≡ option_or (element_at tag sent) (element_at tag kept) }
 {}
 
 /// A change that is not refused leaves the attributes of the patient and the other fixed ones as
@@ -73,10 +72,4 @@ pub fn other_institutions_change_no_status()
         → IsRising rows → (message : Message) (syntax : Syntax)
         → changed (of own (after (by other edits) rows)) message syntax
         ≡ changed (of own rows) message syntax }
-{}
-
-/// The same elements are those with the same tag, value representation and value.
-#[tactic(auto, using(crate::proofs::Comparing::same_is_equal))]
-pub fn same_elements_are_equal()
-    ensures { (e f : Element) → (same_element e f ≡ true) ↔ (e ≡ f) }
 {}

@@ -1,7 +1,9 @@
 -- A change that keeps an instance which is new fits the rows.
 use Rattle.std.proofs.Common.{◌≡◌, ℕ, zero, suc, Bool, true, false, ◌||◌, List, [], ◌∷◌, ◌++◌, drop, Option, Some, None, is_some, find, filter, Ok, refl, sym, ◌∙◌, ap, if◌then◌else◌}
 use Rattle.std.specs.List.{list_any}
-use Rattle.std.specs.Option.{option_map}
+use Rattle.std.specs.Option.{option_map, option_or}
+use Rattle.std.proofs.lemmas.List.Folds.{find-append}
+use Rattle.dq_list.proofs.Finding.{found_filtered}
 use Rattle.std.specs.Str.{bytes_eq}
 use Rattle.std.specs.declared.cmp.Ordering.{Ordering}
 use Rattle.std.specs.declared.cmp.Ordering.TheVariants.{Less, Equal, Greater}
@@ -36,14 +38,8 @@ use Rattle.dq_store.specs.Views.{new_if, new_rows}
 
 -- ---- what is found where a row of another kind is put
 
-passed_over : {X : Type 0} (t : X → Bool) (x : X) (m ys : List X) (b : Bool) → t x ≡ b → (find t m ≡ None → find t (m ++ ys) ≡ find t ys)
-    → (if b then Some x else find t m) ≡ None → (if b then Some x else find t (m ++ ys)) ≡ find t ys
-passed_over t x m ys true e rest none = cc
-passed_over t x m ys false e rest none = rest none
-
 pub none_in_front : {X : Type 0} (t : X → Bool) (m ys : List X) → find t m ≡ None → find t (m ++ ys) ≡ find t ys
-none_in_front t [] ys none = refl
-none_in_front t (x ∷ m) ys none = passed_over t x m ys (t x) refl (none_in_front t m ys) none
+none_in_front t m ys none = find-append t m ys ∙ ap (λ o. option_or o (find t ys)) none
 
 none_between : {X : Type 0} (t : X → Bool) (xs m ys : List X) → find t m ≡ None → find t (xs ++ m ++ ys) ≡ find t (xs ++ ys)
 none_between t [] m ys none = none_in_front t m ys none
@@ -96,17 +92,6 @@ any_later f zero [] h = h
 any_later f (suc n) [] h = h
 any_later f zero (x ∷ xs) h = h
 any_later f (suc n) (x ∷ xs) h = any_step (f x) (list_any f xs) (any_later f n xs h)
-
-kept_step : {X : Type 0} (p q : X → Bool) (x : X) (xs : List X) (a b : Bool) → p x ≡ a → q x ≡ b → (a ≡ true → b ≡ true) → find p (filter q xs) ≡ find p xs
-    → find p (if b then x ∷ filter q xs else filter q xs) ≡ (if a then Some x else find p xs)
-kept_step p q x xs true true here kept both rest = rw here refl
-kept_step p q x xs true false here kept both rest = (let no : false ≡ true = both refl in cc)
-kept_step p q x xs false true here kept both rest = rw here rest
-kept_step p q x xs false false here kept both rest = rest
-
-pub found_filtered : {X : Type 0} (p q : X → Bool) → ((x : X) → p x ≡ true → q x ≡ true) → (xs : List X) → find p (filter q xs) ≡ find p xs
-found_filtered p q both [] = refl
-found_filtered p q both (x ∷ xs) = kept_step p q x xs (p x) (q x) refl refl (both x) (found_filtered p q both xs)
 
 uid_of_cut : (tag : Tag) (tags : List Tag) (d : ElementList) → ((e : Element) → has_tag tag e ≡ true → is_listed tags e ≡ true) → uid_at tag (cut_out tags d) ≡ uid_at tag d
 unfolding uid_at sole_at

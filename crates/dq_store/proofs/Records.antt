@@ -3,21 +3,16 @@ use Rattle.std.proofs.Common.{◌≡◌, ℕ, true, false, leb, List, [], Option
 use Rattle.std.specs.Option.{option_map}
 use Rattle.dq_tables.specs.declared.row.Kind.{Kind}
 use Rattle.dq_tables.specs.declared.row.Row.{Row}
-use Rattle.dq_tables.specs.Rows.{of, row_of, record_of, Record}
+use Rattle.dq_tables.specs.Rows.{of, record_of}
 use Rattle.dq_tables.specs.Finding.{record_at, row_at}
-use Rattle.dq_tables.proofs.Seen.{found_own}
+use Rattle.dq_tables.proofs.Seen.{found_record}
 use Rattle.dq_store.specs.declared.keeping.KeptRows.{KeptRows}
 use Rattle.dq_store.specs.Views.{kept_of}
 use Rattle.dq_store.specs.Storing.{Instance, finds_no_room, stored_edits}
 
-records_back : (h : List ℕ) (r : Option Record) → option_map record_of (option_map (row_of h) r) ≡ r
-records_back h None = refl
-records_back h (Some r) = refl
-
-pub found_record : (kind : Kind) (h key : List ℕ) (rows start : List Row) (row : Option Row) → row ≡ row_at kind h key rows → rows ≡ start
+pub found_before : (kind : Kind) (h key : List ℕ) (rows start : List Row) (row : Option Row) → row ≡ row_at kind h key rows → rows ≡ start
     → option_map record_of row ≡ record_at kind key (of h start)
-found_record kind h key rows start row found same =
-    ap (option_map record_of) (found ∙ ap (row_at kind h key) same ∙ found_own kind h key start) ∙ records_back h (record_at kind key (of h start))
+found_before kind h key rows start row found same = found_record kind h key start row (found ∙ ap (row_at kind h key) same)
 
 pub no_room : (row : Option Row) (limit from count n : ℕ) → is_some row ≡ false → from ≡ limit → count ≡ n
     → leb from count ≡ finds_no_room (option_map record_of row) limit n

@@ -1,5 +1,5 @@
 -- What is kept stays as it is, and institutions stay apart.
-use Rattle.std.proofs.Common.{◌≡◌, ◌≢◌, ℕ, Bool, true, false, ◌&&◌, List, [], ◌∷◌, ◌++◌, Option, Some, None, is_some, find, filter, refl, sym, ◌∙◌, ap, if◌then◌else◌, append_assoc}
+use Rattle.std.proofs.Common.{◌≡◌, ◌≢◌, ℕ, Bool, true, false, ◌&&◌, List, [], ◌∷◌, ◌++◌, Option, Some, None, is_some, find, refl, sym, ◌∙◌, ap, if◌then◌else◌, append_assoc}
 use Rattle.std.specs.declared.cmp.Ordering.{Ordering}
 use Rattle.std.specs.declared.cmp.Ordering.TheVariants.{Less, Equal, Greater}
 use Rattle.std.specs.Ordering.{is_lt, is_eq, is_gt, ordering_reverse}
@@ -22,7 +22,10 @@ use Rattle.dq_tables.proofs.Lens.{others}
 use Rattle.dq_tables.proofs.InOrder.{is_eq_then, is_eq_nat}
 use Rattle.dq_tables.specs.Serving.{first_refusal, outcome}
 use Rattle.dq_store.specs.Storing.{Instance, Kept, kept_among, instance_in, storage_refusals, study_record, series_record, image_record, put_new, stored_status, stored_edits, stored}
-use Rattle.dq_store.proofs.Fitting.{none_in_front, found_filtered}
+use Rattle.std.specs.Option.{option_or}
+use Rattle.std.proofs.lemmas.List.Folds.{find-append}
+use Rattle.dq_list.proofs.Finding.{found_filtered, none_filtered}
+use Rattle.dq_store.proofs.Fitting.{none_in_front}
 
 places_total : IsTotalOrder place_order
 places_total = then_total (on_total (λ (p : Place). number_of p.kind) nat_cmp_total) (on_total (λ (p : Place). p.key) nat_list_cmp_total)
@@ -43,20 +46,12 @@ record_at_is q (r ∷ records) = rw (found_there q r) (ap (λ (o : Option Record
 
 -- ---- finding in parts of a list
 
-none_step : {X : Type 0} (t p : X → Bool) (x : X) (xs : List X) (a b : Bool) → t x ≡ a → p x ≡ b → (a ≡ true → b ≡ false) → find t (filter p xs) ≡ None
-    → find t (if b then x ∷ filter p xs else filter p xs) ≡ None
-none_step t p x xs true true here kept never rest = (let no : true ≡ false = never refl in cc)
-none_step t p x xs true false here kept never rest = rest
-none_step t p x xs false true here kept never rest = rw here rest
-none_step t p x xs false false here kept never rest = rest
-
-none_kept : {X : Type 0} (t p : X → Bool) → ((x : X) → t x ≡ true → p x ≡ false) → (xs : List X) → find t (filter p xs) ≡ None
-none_kept t p never [] = refl
-none_kept t p never (x ∷ xs) = none_step t p x xs (t x) (p x) refl refl (never x) (none_kept t p never xs)
+or_none : {X : Type 0} (o : Option X) → option_or o None ≡ o
+or_none None = refl
+or_none (Some x) = refl
 
 none_behind : {X : Type 0} (t : X → Bool) (xs ys : List X) → find t ys ≡ None → find t (xs ++ ys) ≡ find t xs
-none_behind t [] ys none = none
-none_behind t (x ∷ xs) ys none = ap (λ o. if t x then Some x else o) (none_behind t xs ys none)
+none_behind t xs ys none = find-append t xs ys ∙ ap (option_or (find t xs)) none ∙ or_none (find t xs)
 
 is_equal : (o : Ordering) → is_eq o ≡ true → o ≡ Equal
 is_equal Less e = cc
@@ -91,14 +86,14 @@ module _ (new : Record) where
   stays_by : (q : Place) (records : List Record) (o : Ordering) → place_order q at_new ≡ o → is_eq o ≡ false → stands_at q new ≡ false
       → find (stands_at q) (records_before at_new records ++ (new ∷ []) ++ records_past at_new records) ≡ find (stands_at q) records
   stays_by q records Less e other apart =
-      let past = none_kept (stands_at q) (λ (r : Record). is_gt (place_order (place_of r) at_new)) (λ (r : Record) here. ap is_gt (order_of q r here ∙ e)) records in
+      let past = none_filtered (stands_at q) (λ (r : Record). is_gt (place_order (place_of r) at_new)) (λ (r : Record) here. ap is_gt (order_of q r here ∙ e)) records in
       let before = found_filtered (stands_at q) (λ (r : Record). is_lt (place_order (place_of r) at_new)) (λ (r : Record) here. ap is_lt (order_of q r here ∙ e)) records in
       none_behind (stands_at q) (records_before at_new records ++ (new ∷ [])) (records_past at_new records) past
       ∙ none_behind (stands_at q) (records_before at_new records) (new ∷ []) (one_alone q new apart) ∙ before
   stays_by q records Equal e other apart = cc
   stays_by q records Greater e other apart =
       let past = found_filtered (stands_at q) (λ (r : Record). is_gt (place_order (place_of r) at_new)) (λ (r : Record) here. ap is_gt (order_of q r here ∙ e)) records in
-      let before = none_kept (stands_at q) (λ (r : Record). is_lt (place_order (place_of r) at_new)) (λ (r : Record) here. ap is_lt (order_of q r here ∙ e)) records in
+      let before = none_filtered (stands_at q) (λ (r : Record). is_lt (place_order (place_of r) at_new)) (λ (r : Record) here. ap is_lt (order_of q r here ∙ e)) records in
       let front = none_behind (stands_at q) (records_before at_new records) (new ∷ []) (one_alone q new apart) ∙ before in
       none_in_front (stands_at q) (records_before at_new records ++ (new ∷ [])) (records_past at_new records) front ∙ past
 
@@ -112,7 +107,7 @@ module _ (new : Record) where
   unfolding edited_by
   put_is_found records =
       let here : stands_at at_new new ≡ true = ap is_eq (tied_itself places_total at_new) in
-      let before = none_kept (stands_at at_new) (λ (r : Record). is_lt (place_order (place_of r) at_new))
+      let before = none_filtered (stands_at at_new) (λ (r : Record). is_lt (place_order (place_of r) at_new))
       (λ (r : Record) at. ap is_lt (is_equal (place_order (place_of r) at_new) at)) records in
       let found : find (stands_at at_new) ((new ∷ []) ++ records_past at_new records) ≡ Some new = rw here refl in
       record_at_is at_new (edited_by (Put new) records)

@@ -1,5 +1,5 @@
 -- What is found among rows is what is found among the institution's records.
-use Rattle.std.proofs.Common.{◌≡◌, ℕ, Bool, true, false, List, [], ◌∷◌, map, length, Some, refl, ◌∙◌, ap, if◌then◌else◌}
+use Rattle.std.proofs.Common.{◌≡◌, ℕ, Bool, true, false, List, [], ◌∷◌, map, length, Option, Some, None, refl, ◌∙◌, ap, if◌then◌else◌}
 use Rattle.std.specs.List.{filter}
 use Rattle.std.specs.Option.{option_map}
 use Rattle.std.specs.Str.{bytes_eq}
@@ -12,6 +12,10 @@ use Rattle.dq_tables.specs.Finding.{record_at, records_of, records_above, row_at
 
 own_row : (h : List ℕ) (row : Row) → bytes_eq row.inst h ≡ true → row ≡ row_of h (record_of row)
 own_row h row same = ap (λ (i : List ℕ). row_of i (record_of row)) ((bytes_eq-Decides row.inst h).0 same)
+
+record_back : (h : List ℕ) (r : Option Record) → option_map record_of (option_map (row_of h) r) ≡ r
+record_back h None = refl
+record_back h (Some r) = refl
 
 found_step : (kind : Kind) (h key : List ℕ) (row : Row) (rows : List Row) → row_at kind h key rows ≡ option_map (row_of h) (record_at kind key (of h rows))
     → (m k b : Bool) → bytes_eq row.inst h ≡ m → same_kind row.kind kind ≡ k → bytes_eq row.key key ≡ b
@@ -28,6 +32,12 @@ unfolding row_at record_at of
 found_own kind h key [] = refl
 found_own kind h key (row ∷ rows) =
     found_step kind h key row rows (found_own kind h key rows) (bytes_eq row.inst h) (same_kind row.kind kind) (bytes_eq row.key key) refl refl refl
+
+-- the same as records
+pub found_record : (kind : Kind) (h key : List ℕ) (rows : List Row) (row : Option Row) → row ≡ row_at kind h key rows
+    → option_map record_of row ≡ record_at kind key (of h rows)
+found_record kind h key rows row found =
+    ap (option_map record_of) (found ∙ found_own kind h key rows) ∙ record_back h (record_at kind key (of h rows))
 
 listed_step : (kind : Kind) (h : List ℕ) (row : Row) (rows : List Row) → rows_of kind h rows ≡ map (row_of h) (records_of kind (of h rows))
     → (m k : Bool) → bytes_eq row.inst h ≡ m → same_kind row.kind kind ≡ k

@@ -33,17 +33,17 @@ returns-in_default g c =
     let does = λ (records : List Record). changed records c.args.message.now c.args.syntax in
     serves_read rows honest failed may_leave name does it it 0x0110 (reads_nothing rows honest failed may_leave it 0x0110)
     (λ h. set_unread (of name (rows it)) c.args.message.now c.args.syntax (sym c.is_over.ensures ∙ c.if-is_over.false)
-    (sym c.in_ok-sent.ensures.read ∙ c.in_default.is))
+    (sym c.in_ok-data_set.ensures.read ∙ c.in_default.is))
 
 pub returns : goal.returns
 returns g c =
-    let sent = c.in-Some.sent in
-    let read = read_is (reading c.args.syntax c.args.message.now.octets) sent (sym c.in_ok-sent.ensures.read ∙ c.in-Some.is) in
+    let sent = c.in-Some.data_set in
+    let read = read_is (reading c.args.syntax c.args.message.now.octets) sent (sym c.in_ok-data_set.ensures.read ∙ c.in-Some.is) in
     let same = λ (records : List Record).
-    ap (λ (key : List ℕ). step_changed key sent (record_at Step key records)) c.as_slice-uid.ensures
+    ap (λ (key : List ℕ). step_changed key sent (record_at Step key records)) c.as_slice.ensures
     ∙ sym (set_handed_on records c.args.message.now c.args.syntax sent (sym c.is_over.ensures ∙ c.if-is_over.false) read) in
     let serves = subst (λ (does : List Record → ℕ × List Edit).
-    Serves g.T.Tables.rows g.T.Tables.honest g.T.Tables.failed g.T.Tables.may_leave c.args.tables.now c.set_step.new.tables c.as_slice.result.now does
+    Serves g.T.Tables.rows g.T.Tables.honest g.T.Tables.failed g.T.Tables.may_leave c.args.tables.now c.set_step.new.tables c.as_slice-2.result.now does
     c.set_step.result) (λ i. λ records. same records i) c.set_step.ensures in
     subst (λ (name : List ℕ). Serves g.T.Tables.rows g.T.Tables.honest g.T.Tables.failed g.T.Tables.may_leave c.args.tables.now
-    c.set_step.new.tables name (λ (records : List Record). changed records c.args.message.now c.args.syntax) c.set_step.result) c.as_slice.ensures serves
+    c.set_step.new.tables name (λ (records : List Record). changed records c.args.message.now c.args.syntax) c.set_step.result) c.as_slice-2.ensures serves

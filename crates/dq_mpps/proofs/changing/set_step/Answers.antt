@@ -23,8 +23,8 @@ returns-in_default g c =
     let old = c.args.tables.now in
     let mid = c.step.new.self in
     let name = c.args.name.now in
-    let uid = c.args.uid.now in
-    let sent = c.args.sent.now in
+    let uid = c.args.sent.now.uid.now in
+    let sent = c.args.sent.now.data_set.now in
     let does = λ (records : List Record). step_changed uid sent (record_at Step uid records) in
     let found = λ (h : honest mid). kept_record name uid (rows old) c.in_ok-row.field-0 (c.in_ok-row.ensures.found h)
     ∙ ap (option_map record_of) c.in_default.is in
@@ -41,8 +41,8 @@ returns-in-Some-attribute_refusal g c =
     let old = c.args.tables.now in
     let mid = c.step.new.self in
     let name = c.args.name.now in
-    let uid = c.args.uid.now in
-    let sent = c.args.sent.now in
+    let uid = c.args.sent.now.uid.now in
+    let sent = c.args.sent.now.data_set.now in
     let status = c.in-Some-attribute_refusal.status in
     let does = λ (records : List Record). step_changed uid sent (record_at Step uid records) in
     let found = λ (h : honest mid). kept_record name uid (rows old) c.in_ok-row.field-0 (c.in_ok-row.ensures.found h)
@@ -61,8 +61,8 @@ returns-then-is_too_long g c =
     let old = c.args.tables.now in
     let mid = c.step.new.self in
     let name = c.args.name.now in
-    let uid = c.args.uid.now in
-    let sent = c.args.sent.now in
+    let uid = c.args.sent.now.uid.now in
+    let sent = c.args.sent.now.data_set.now in
     let does = λ (records : List Record). step_changed uid sent (record_at Step uid records) in
     let found = λ (h : honest mid). kept_record name uid (rows old) c.in_ok-row.field-0 (c.in_ok-row.ensures.found h)
     ∙ ap (option_map record_of) c.in-Some.is in
@@ -78,9 +78,10 @@ change_step-requires g c = λ h.
     let old = c.args.tables.now in
     let first = c.in_ok-row.ensures.reads in
     let was = first.goes.was_honest h in
-    let row = row_of c.args.name.now (spelled_step c.args.uid.now c.in_ok-octets.octets.items) in
+    let uid = c.args.sent.now.uid.now in
+    let row = row_of c.args.name.now (spelled_step uid c.in_ok-octets.octets.items) in
     subst (λ (rs : List Row). IsChanged rs Step row) (sym (first.same h))
-    (changed_fits c.args.name.now c.args.uid.now (merged c.in_ok-kept.kept c.args.sent.now) c.in_ok-octets.octets.items (rows old) c.in-Some.row
+    (changed_fits c.args.name.now uid (merged c.in_ok-kept.kept c.args.sent.now.data_set.now) c.in_ok-octets.octets.items (rows old) c.in-Some.row
     (g.met.T.Tables.sound old was).own (sym c.in-Some.is ∙ c.in_ok-row.ensures.found h) c.in_ok-octets.ensures.spelled c.in_ok-octets.ensures.read_back)
 
 pub returns-in_err-change_step : goal.returns-in_err-change_step
@@ -93,8 +94,8 @@ returns-in_err-change_step g c =
     let mid = c.step.new.self in
     let new = c.change_step.new.tables in
     let name = c.args.name.now in
-    let uid = c.args.uid.now in
-    let sent = c.args.sent.now in
+    let uid = c.args.sent.now.uid.now in
+    let sent = c.args.sent.now.data_set.now in
     let e = c.in_err-change_step.field-0.0 in
     let does = λ (records : List Record). step_changed uid sent (record_at Step uid records) in
     let put : List Edit = Put (spelled_step uid c.in_ok-octets.octets.items) ∷ [] in
@@ -118,8 +119,8 @@ returns g c =
     let mid = c.step.new.self in
     let new = c.change_step.new.tables in
     let name = c.args.name.now in
-    let uid = c.args.uid.now in
-    let sent = c.args.sent.now in
+    let uid = c.args.sent.now.uid.now in
+    let sent = c.args.sent.now.data_set.now in
     let does = λ (records : List Record). step_changed uid sent (record_at Step uid records) in
     let put : List Edit = Put (spelled_step uid c.in_ok-octets.octets.items) ∷ [] in
     let found = λ (h : honest mid). kept_record name uid (rows old) c.in_ok-row.field-0 (c.in_ok-row.ensures.found h)

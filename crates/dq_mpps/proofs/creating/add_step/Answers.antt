@@ -12,8 +12,8 @@ pub apply-requires : goal.apply-requires
 apply-requires g c = λ h.
     let rows = g.T.Tables.rows c.args.tables.now in
     let name = c.args.name.now in
-    let uid = c.args.uid.now in
-    let d = c.args.step.now in
+    let uid = c.args.sent.now.uid.now in
+    let d = c.args.sent.now.data_set.now in
     let back = c.written_law.ensures.read_back Explicit d c.elements-elements.ensures.facts c.requires.lengths tt in
     let row_is = c.in_ok-row.ensures ∙ ap (λ (o : List ℕ). row_of name (spelled_step uid o)) c.in_ok-octets.ensures in
     subst (λ (row : Row). IsNew rows Step row) (sym row_is) (new_fits name uid d rows back c.requires.uid (c.requires.new h))

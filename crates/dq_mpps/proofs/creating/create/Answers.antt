@@ -35,7 +35,7 @@ returns-in_default g c =
     let does = λ (records : List Record). created limits records c.args.message.now c.args.syntax in
     serves_read rows honest failed may_leave name does it it 0x0110 (reads_nothing rows honest failed may_leave it 0x0110)
     (λ h. create_unread limits (of name (rows it)) c.args.message.now c.args.syntax (sym c.is_over.ensures ∙ c.if-is_over.false)
-    (sym c.in_ok-step.ensures.read ∙ c.in_default.is))
+    (sym c.in_ok-data_set.ensures.read ∙ c.in_default.is))
 
 pub returns-then-not-is_uid : goal.returns-then-not-is_uid
 returns-then-not-is_uid g c =
@@ -47,17 +47,17 @@ returns-then-not-is_uid g c =
     let name = c.args.institution.now.name in
     let limits = limits_of c.args.institution.now in
     let does = λ (records : List Record). created limits records c.args.message.now c.args.syntax in
-    let read = read_is (reading c.args.syntax c.args.message.now.octets) c.in-Some.step (sym c.in_ok-step.ensures.read ∙ c.in-Some.is) in
+    let read = read_is (reading c.args.syntax c.args.message.now.octets) c.in-Some.data_set (sym c.in_ok-data_set.ensures.read ∙ c.in-Some.is) in
     serves_read rows honest failed may_leave name does it it 0x0117 (reads_nothing rows honest failed may_leave it 0x0117)
-    (λ h. create_unnamed limits (of name (rows it)) c.args.message.now c.args.syntax c.in-Some.step (sym c.is_over.ensures ∙ c.if-is_over.false) read
+    (λ h. create_unnamed limits (of name (rows it)) c.args.message.now c.args.syntax c.in-Some.data_set (sym c.is_over.ensures ∙ c.if-is_over.false) read
     (ap is_uid (sym c.as_slice-uid.ensures) ∙ sym c.is_uid.ensures ∙ c.if-not-is_uid.true))
 
 pub returns : goal.returns
 returns g c =
     let limits = limits_of c.args.institution.now in
-    let step = c.in-Some.step in
+    let step = c.in-Some.data_set in
     let uid = c.as_slice-uid.result.now in
-    let read = read_is (reading c.args.syntax c.args.message.now.octets) step (sym c.in_ok-step.ensures.read ∙ c.in-Some.is) in
+    let read = read_is (reading c.args.syntax c.args.message.now.octets) step (sym c.in_ok-data_set.ensures.read ∙ c.in-Some.is) in
     let uid_is = ap is_uid (sym c.as_slice-uid.ensures) ∙ sym c.is_uid.ensures ∙ c.if-not-is_uid.false in
     let same = λ (records : List Record).
     ap (λ (key : List ℕ). step_created limits key step records) c.as_slice-uid.ensures
