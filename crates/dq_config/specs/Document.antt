@@ -2,7 +2,7 @@
 -- key 'institution'.
 use Rattle.std.specs.Prelude.{ℕ, suc, ℤ, pos, negsuc, ◌==◌, nat_lt, if◌then◌else◌, List, [], ◌∷◌, codes, Option, Some, None, option_map}
 use Rattle.toml.specs.Data.{Data, Items, no_items, item, Members, no_members, member, get_member, as_str, as_integer, as_array, as_table}
-use Rattle.dq_list.specs.Readers.{◌>>=◌}
+use Rattle.dq_list.specs.Readers.{◌>>=◌, provided}
 use Rattle.dq_value.specs.Title.{stripped}
 use Rattle.dq_config.specs.declared.config.Institution.{Institution}
 use Rattle.dq_config.specs.declared.config.Route.{Route}
@@ -34,7 +34,7 @@ limit_at key keys = option_map limit_of (integer_at key keys)
 unfoldable pub table_of : ℕ → Data → Option Members
 table_of keys value = do
   members ← as_table value
-  if size members == keys then Some members else None
+  provided (size members == keys) members
 
 -- what each item is read as, where each is read
 abbrev pub each : {X : Type 0} → (Data → Option X) → Items → Option (List X)

@@ -67,7 +67,7 @@ impl Model for Config {
 }
 
 impl Institution {
-    // Whether one of its routes is the pair of titles.
+    /// Whether one of its routes is the pair of titles.
     #[tactic(auto, unfolding(crate::specs::Routing::has_route))]
     pub(crate) fn has_route(&self, called: &[u8], calling: &[u8]) -> bool
         ensures { result ≡ has_route called.now calling.now self.now }
@@ -78,7 +78,7 @@ impl Institution {
             .any(|route| route.joins(called, calling))
     }
 
-    // Whether the name is its own.
+    /// Whether the name is its own.
     pub(crate) fn is_named(&self, name: &[u8]) -> bool
         ensures { result ≡ same_octets self.now.name name.now }
     {
@@ -87,7 +87,7 @@ impl Institution {
 }
 
 impl Route {
-    // Whether it is the pair of titles.
+    /// Whether it is the pair of titles.
     #[tactic(auto, unfolding(crate::specs::Routing::joins))]
     pub(crate) fn joins(&self, called: &[u8], calling: &[u8]) -> bool
         ensures { result ≡ joins called.now calling.now self.now }

@@ -93,7 +93,7 @@ fn route_in(alloc: Global, value: &Value) -> Result<Route, ConfigFault>
     })
 }
 
-// The table that a value is, where it has so many keys.
+/// The table that a value is, where it has so many keys.
 #[tactic(auto, unfolding(crate::specs::Document::table_of))]
 fn table_of(value: &Value, keys: usize) -> Option<&Table>
     ensures { option_map (λ table. table_view table.now) result ≡ table_of keys (view value.now) }
@@ -148,7 +148,7 @@ fn integer_at(table: &Table, key: &str) -> Option<i64>
     }
 }
 
-// A limit as it is kept: what is no number of 32 bits is kept as 0, which is no limit either.
+/// A limit as it is kept: what is no number of 32 bits is kept as 0, which is no limit either.
 fn limit_of(number: i64) -> u32
     ensures { result ≡ limit_of number }
 {
