@@ -1,31 +1,29 @@
 -- The first fault of conditions one after another.
 use Rattle.std.proofs.Common.{◌≡◌, ℕ, ◌+◌, ◌<◌, Bool, true, false, cond, List, [], ◌∷◌, ◌++◌, length, get_or, take, drop, Option, Some, None, refl, sym, ap, ◌∙◌}
+use Rattle.std.specs.Option.{option_or}
 use Rattle.std.proofs.lemmas.List.{drop_more, take_more}
 use Rattle.dq_config.specs.declared.config.Institution.{Institution}
 use Rattle.dq_config.specs.declared.fault.ConfigFault.{ConfigFault}
 use Rattle.dq_config.specs.Conditions.{Condition, first_fault, conditions, institution_conditions, routes_conditions, limit_conditions, is_name, is_name_taken}
 
--- met conditions leave the fault to those that follow
-cond_passed : (b : Bool) (fault : ConfigFault) (xs ys : List Condition) → cond b (first_fault xs) (Some fault) ≡ None
-    → (first_fault xs ≡ None → first_fault (xs ++ ys) ≡ first_fault ys)
-    → cond b (first_fault (xs ++ ys)) (Some fault) ≡ first_fault ys
-cond_passed true fault xs ys met rest = rest met
-cond_passed false fault xs ys met rest = cc
+-- the first fault of conditions and others behind them
+either : (met : Bool) (fault : ConfigFault) (first second : Option ConfigFault)
+    → cond met (option_or first second) (Some fault) ≡ option_or (cond met first (Some fault)) second
+either true fault first second = refl
+either false fault first second = refl
 
+pub first_fault-append : (xs ys : List Condition) → first_fault (xs ++ ys) ≡ option_or (first_fault xs) (first_fault ys)
+first_fault-append [] ys = refl
+first_fault-append (x ∷ xs) ys =
+    ap (λ later. cond x.0 later (Some x.1)) (first_fault-append xs ys) ∙ either x.0 x.1 (first_fault xs) (first_fault ys)
+
+-- met conditions leave the fault to those that follow
 pub passed : (xs ys : List Condition) → first_fault xs ≡ None → first_fault (xs ++ ys) ≡ first_fault ys
-passed [] ys met = refl
-passed (x ∷ xs) ys met = cond_passed x.0 x.1 xs ys met (passed xs ys)
+passed xs ys met = first_fault-append xs ys ∙ ap (λ first. option_or first (first_fault ys)) met
 
 -- and the first that is not met decides
-cond_failed : (b : Bool) (other fault : ConfigFault) (xs ys : List Condition) → cond b (first_fault xs) (Some other) ≡ Some fault
-    → (first_fault xs ≡ Some fault → first_fault (xs ++ ys) ≡ Some fault)
-    → cond b (first_fault (xs ++ ys)) (Some other) ≡ Some fault
-cond_failed true other fault xs ys unmet rest = rest unmet
-cond_failed false other fault xs ys unmet rest = unmet
-
 pub failed : (xs ys : List Condition) (fault : ConfigFault) → first_fault xs ≡ Some fault → first_fault (xs ++ ys) ≡ Some fault
-failed [] ys fault unmet = cc
-failed (x ∷ xs) ys fault unmet = cond_failed x.0 x.1 fault xs ys unmet (failed xs ys fault)
+failed xs ys fault unmet = first_fault-append xs ys ∙ ap (λ first. option_or first (first_fault ys)) unmet
 
 -- the conditions on institutions from a place on are those on the institution there, and those on the others
 pub conditions_there : (xs : List Institution) (i : ℕ) (x : Institution) → i < length xs → x ≡ get_or xs i x

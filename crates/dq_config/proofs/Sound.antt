@@ -2,6 +2,7 @@
 use Rattle.std.proofs.Common.{◌≡◌, ◌≢◌, ℕ, zero, suc, ◌<◌, Bool, true, false, not, ◌||◌, cond, List, [], ◌∷◌, ◌++◌, length, get_or, Option, Some, None, refl, sym, ap, ◌∙◌, arith}
 use Rattle.std.specs.Prelude.{IsTrue, Contains, AllPairs, find, is_none}
 use Rattle.std.specs.List.{list_any}
+use Rattle.std.specs.Option.{option_or}
 use Rattle.std.proofs.lemmas.Bool.{false≢true, and_parts, or_parts, not-true}
 use Rattle.std.proofs.lemmas.List.Folds.{list_any-append}
 use Rattle.std.proofs.lemmas.List.Kept.{AllPairs-cons}
@@ -13,22 +14,20 @@ use Rattle.dq_config.specs.declared.fault.ConfigFault.{ConfigFault}
 use Rattle.dq_config.specs.declared.fault.ConfigFault.TheVariants.{BadName, BadTitle, NameTaken, RouteTaken, BadLimit}
 use Rattle.dq_config.specs.Routing.{same_octets, joins, has_route, IsRouted, routed, named}
 use Rattle.dq_config.specs.Conditions.{Condition, first_fault, conditions, institution_conditions, routes_conditions, route_conditions, limit_conditions, is_name, is_name_taken, is_title, is_route_taken, is_sound, is_limit, is_association_limit, AreLimits}
+use Rattle.dq_config.proofs.Faults.{first_fault-append}
 
 -- conditions that are all met are met in their parts
 record AreBoth (xs ys : List Condition) : Type 0 where
   first : first_fault xs ≡ None
   second : first_fault ys ≡ None
 
-both-case : (b : Bool) (fault : ConfigFault) (xs ys : List Condition) → cond b (first_fault (xs ++ ys)) (Some fault) ≡ None
-    → (first_fault (xs ++ ys) ≡ None → AreBoth xs ys)
-    → (cond b (first_fault xs) (Some fault) ≡ None) × (first_fault ys ≡ None)
-both-case true fault xs ys h rest = let parts = rest h in (parts.first, parts.second)
-both-case false fault xs ys h rest = cc
+neither : (first second : Option ConfigFault) → option_or first second ≡ None → (first ≡ None) × (second ≡ None)
+neither None second h = (refl, h)
+neither (Some fault) second h = cc
 
 both : (xs ys : List Condition) → first_fault (xs ++ ys) ≡ None → AreBoth xs ys
-both [] ys h = record { first = refl; second = h }
-both (x ∷ xs) ys h =
-    let parts = both-case x.0 x.1 xs ys h (both xs ys) in
+both xs ys h =
+    let parts = neither (first_fault xs) (first_fault ys) (sym (first_fault-append xs ys) ∙ h) in
     record { first = parts.0; second = parts.1 }
 
 met-case : (b : Bool) (fault : ConfigFault) (xs : List Condition) → cond b (first_fault xs) (Some fault) ≡ None → (b ≡ true) × (first_fault xs ≡ None)

@@ -1,4 +1,4 @@
--- How an image was acquired (group 0018).
+-- How an image was acquired (PS3.6, group 0018H).
 use Rattle.dq_vr.specs.declared.Tag.{Tag}
 
 abbrev pub body_part_examined : Tag

@@ -1,4 +1,4 @@
--- How instances, series and studies relate, and where an image lies (group 0020).
+-- How instances, series and studies relate, and where an image lies (PS3.6, group 0020H).
 use Rattle.dq_vr.specs.declared.Tag.{Tag}
 
 abbrev pub study_instance_uid : Tag

@@ -1,4 +1,4 @@
--- The patient's visit (group 0038).
+-- The patient's visit (PS3.6, group 0038H).
 use Rattle.dq_vr.specs.declared.Tag.{Tag}
 
 abbrev pub admission_id : Tag

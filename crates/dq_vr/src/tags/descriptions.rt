@@ -1,4 +1,4 @@
-//! Where, by whom and as what a study was made, and coded entries (group 0008 from 0070H).
+//! Where, by whom and as what a study was made, and coded entries (PS3.6, group 0008H from 0070H).
 
 use crate::Tag;
 

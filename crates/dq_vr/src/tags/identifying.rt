@@ -1,4 +1,4 @@
-//! What identifies an instance: its class, dates, times and modality (group 0008 to 0064H).
+//! What identifies an instance: its class, dates, times and modality (PS3.6, group 0008H to 0064H).
 
 use crate::Tag;
 

@@ -1,4 +1,4 @@
-//! How an image is presented, and its pixel data (groups 0028 and 7FE0).
+//! How an image is presented, and its pixel data (PS3.6, groups 0028H and 7FE0H).
 
 use crate::Tag;
 

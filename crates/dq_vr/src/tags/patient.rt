@@ -1,4 +1,4 @@
-//! The patient (group 0010).
+//! The patient (PS3.6, group 0010H).
 
 use crate::Tag;
 

@@ -1,4 +1,4 @@
-//! Performed procedure steps (group 0040 from 0220H to 0340H).
+//! Performed procedure steps (PS3.6, group 0040H from 0220H to 0340H).
 
 use crate::Tag;
 

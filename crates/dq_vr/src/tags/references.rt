@@ -1,4 +1,4 @@
-//! References to other instances, and derivation (group 0008 from 1110H).
+//! References to other instances, and derivation (PS3.6, group 0008H from 1110H).
 
 use crate::Tag;
 

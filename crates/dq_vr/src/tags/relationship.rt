@@ -1,4 +1,4 @@
-//! How instances, series and studies relate, and where an image lies (group 0020).
+//! How instances, series and studies relate, and where an image lies (PS3.6, group 0020H).
 
 use crate::Tag;
 

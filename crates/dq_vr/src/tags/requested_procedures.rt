@@ -1,4 +1,4 @@
-//! What was requested (group 0032, and group 0040 from 1001H).
+//! What was requested (PS3.6, group 0032H, and group 0040H from 1001H).
 
 use crate::Tag;
 

@@ -1,4 +1,4 @@
-//! Scheduled procedure steps (group 0040 to 0100H).
+//! Scheduled procedure steps (PS3.6, group 0040H to 0100H).
 
 use crate::Tag;
 
