@@ -14,6 +14,7 @@ use Rattle.dq_config.specs.declared.fault.ConfigFault.{ConfigFault}
 use Rattle.dq_config.specs.declared.fault.ConfigFault.TheVariants.{BadName, BadTitle, NameTaken, RouteTaken, BadLimit}
 use Rattle.dq_config.specs.Routing.{same_octets, joins, has_route, IsRouted, routed, named}
 use Rattle.dq_config.specs.Conditions.{Condition, first_fault, conditions, institution_conditions, routes_conditions, route_conditions, limit_conditions, is_name, is_name_taken, is_title, is_route_taken, is_sound, is_limit, is_association_limit, AreLimits}
+use Rattle.dq_list.proofs.Searches.{found, none_found}
 use Rattle.dq_config.proofs.Faults.{first_fault-append}
 
 -- conditions that are all met are met in their parts
@@ -127,40 +128,6 @@ found_at p fresh before (x ∷ xs) y d (suc k) within is h here =
     let other : p x ≡ false = none_last p before x (fresh_at p fresh (before ++ x ∷ []) xs y d k later is parts.second here) in
     rw other (found_at p fresh (before ++ x ∷ []) xs y d k later is parts.second here)
 
--- what a search finds
-record IsFound (p : Institution → Bool) (xs : List Institution) (y : Institution) : Type 0 where
-  listed : Contains xs y
-  passes : p y ≡ true
-
-listed_later : (x : Institution) (xs : List Institution) (y : Institution) → Contains xs y → Contains (x ∷ xs) y
-listed_later x xs y (k, within, is) = (suc k, omega arith, is)
-
-find_some-case : (b : Bool) (p : Institution → Bool) (x : Institution) (xs : List Institution) (y : Institution) → p x ≡ b
-    → cond b (Some x) (find p xs) ≡ Some y
-    → (find p xs ≡ Some y → IsFound p xs y) → IsFound p (x ∷ xs) y
-find_some-case true p x xs y passes h rest =
-    let is : x ≡ y = cc in
-    record { listed = (0, omega arith, is); passes = sym (ap p is) ∙ passes }
-find_some-case false p x xs y fails h rest =
-    let found = rest h in
-    record { listed = listed_later x xs y found.listed; passes = found.passes }
-
-find_some : (p : Institution → Bool) (xs : List Institution) (y : Institution) → find p xs ≡ Some y → IsFound p xs y
-find_some p [] y h = cc
-find_some p (x ∷ xs) y h = find_some-case (p x) p x xs y refl h (find_some p xs y)
-
-find_none-case : (b : Bool) (p : Institution → Bool) (x : Institution) (xs : List Institution) → p x ≡ b → cond b (Some x) (find p xs) ≡ None
-    → (p x ≡ false) × (find p xs ≡ None)
-find_none-case true p x xs passes h = cc
-find_none-case false p x xs fails h = (fails, h)
-
-find_none : (p : Institution → Bool) (xs : List Institution) (y d : Institution) (k : ℕ) → k < length xs → get_or xs k d ≡ y → find p xs ≡ None → p y ≡ false
-find_none p [] y d k within is h = absurd (omega arith)
-find_none p (x ∷ xs) y d zero within is h = sym (ap p is) ∙ (find_none-case (p x) p x xs refl h).0
-find_none p (x ∷ xs) y d (suc k) within is h =
-    let later : k < length xs = omega arith in
-    find_none p xs y d k later is (find_none-case (p x) p x xs refl h).1
-
 -- the conditions on a whole configuration
 nothing : (o : Option ConfigFault) → is_none o ≡ true → o ≡ None
 nothing None h = refl
@@ -170,8 +137,9 @@ sound : (xs : List Institution) → IsTrue (is_sound xs) → first_fault (condit
 unfolding is_sound
 sound xs h = nothing (first_fault (conditions [] xs)) h
 
-found : (p : Institution → Bool) → Fresh p → (xs : List Institution) (y : Institution) → IsTrue (is_sound xs) → Contains xs y → p y ≡ true → find p xs ≡ Some y
-found p fresh xs y h (k, within, is) here = found_at p fresh [] xs y y k within is (sound xs h) here
+found_fresh : (p : Institution → Bool) → Fresh p → (xs : List Institution) (y : Institution) → IsTrue (is_sound xs) → Contains xs y → p y ≡ true
+    → find p xs ≡ Some y
+found_fresh p fresh xs y h (k, within, is) here = found_at p fresh [] xs y y k within is (sound xs h) here
 
 distinct : (before xs : List Institution) → first_fault (conditions before xs) ≡ None
     → AllPairs (λ (one other : Institution). one.name ≢ other.name) xs
@@ -197,24 +165,24 @@ pub named_found : (institutions : List Institution) (institution : Institution) 
     → named institutions institution.name ≡ Some institution
 unfolding named
 named_found institutions institution h listed =
-    found (is_of_name institution.name) (fresh_name institution.name) institutions institution h listed
+    found_fresh (is_of_name institution.name) (fresh_name institution.name) institutions institution h listed
     ((bytes_eq-Decides institution.name institution.name).1 refl)
 
 pub named_listed : (institutions : List Institution) (name : List ℕ) (institution : Institution) → named institutions name ≡ Some institution
     → Contains institutions institution
 unfolding named
-named_listed institutions name institution h = (find_some (is_of_name name) institutions institution h).listed
+named_listed institutions name institution h = (found (is_of_name name) institutions institution h).0
 
 pub named_so : (institutions : List Institution) (name : List ℕ) (institution : Institution) → named institutions name ≡ Some institution
     → institution.name ≡ name
 unfolding named
-named_so institutions name institution h = (bytes_eq-Decides institution.name name).0 (find_some (is_of_name name) institutions institution h).passes
+named_so institutions name institution h = (bytes_eq-Decides institution.name name).0 (found (is_of_name name) institutions institution h).1
 
 pub named_none : (institutions : List Institution) (name : List ℕ) (institution : Institution) → named institutions name ≡ None
     → Contains institutions institution → institution.name ≢ name
 unfolding named
-named_none institutions name institution h (k, within, is) same =
-    false≢true (sym (find_none (is_of_name name) institutions institution institution k within is h) ∙ (bytes_eq-Decides institution.name name).1 same)
+named_none institutions name institution h listed same =
+    false≢true (sym (none_found (is_of_name name) institutions institution h listed) ∙ (bytes_eq-Decides institution.name name).1 same)
 
 pub routed_is : (institutions : List Institution) (called calling : List ℕ) (institution : Institution) → IsTrue (is_sound institutions)
     → routed institutions called calling ≡ Some institution
@@ -222,11 +190,11 @@ pub routed_is : (institutions : List Institution) (called calling : List ℕ) (i
 unfolding routed
 routed_is institutions called calling institution h r =
     let p = has_route (stripped called) (stripped calling) in
-    let one = find_some p institutions institution r in
+    let one = found p institutions institution r in
     record {
-      listed = one.listed;
-      has = one.passes;
-      alone = λ other listed has. only other (found p (fresh_route (stripped called) (stripped calling)) institutions other h listed has);
+      listed = one.0;
+      has = one.1;
+      alone = λ other listed has. only other (found_fresh p (fresh_route (stripped called) (stripped calling)) institutions other h listed has);
     }
   where
     only : (other : Institution) → find (has_route (stripped called) (stripped calling)) institutions ≡ Some other → other ≡ institution
@@ -237,14 +205,14 @@ pub routed_found : (institutions : List Institution) (called calling : List ℕ)
     → routed institutions called calling ≡ Some institution
 unfolding routed
 routed_found institutions called calling institution h is =
-    found (has_route (stripped called) (stripped calling)) (fresh_route (stripped called) (stripped calling)) institutions institution h is.listed is.has
+    found_fresh (has_route (stripped called) (stripped calling)) (fresh_route (stripped called) (stripped calling)) institutions institution h is.listed is.has
 
 pub routed_none : (institutions : List Institution) (called calling : List ℕ) (institution : Institution) → routed institutions called calling ≡ None
     → Contains institutions institution
     → has_route (stripped called) (stripped calling) institution ≡ false
 unfolding routed
-routed_none institutions called calling institution h (k, within, is) =
-    find_none (has_route (stripped called) (stripped calling)) institutions institution institution k within is h
+routed_none institutions called calling institution h listed =
+    none_found (has_route (stripped called) (stripped calling)) institutions institution h listed
 
 limits_at : (before xs : List Institution) (y d : Institution) (k : ℕ) → k < length xs → get_or xs k d ≡ y → first_fault (conditions before xs) ≡ None
     → first_fault (limit_conditions y) ≡ None

@@ -1,3 +1,4 @@
 pub mod Among
 pub mod Finding
 pub mod Readers
+pub mod Searches
