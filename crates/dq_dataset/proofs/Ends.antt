@@ -1,8 +1,9 @@
 -- Checking elements or items one after the other, as a loop does.
-use Rattle.std.proofs.Common.{◌≡◌, ℕ, zero, suc, ◌≤◌, ◌<◌, List, ◌∷◌, length, Option, Some, None, Result, Ok, Err, refl, ap, ◌∙◌, arith}
+use Rattle.std.proofs.Common.{◌≡◌, ℕ, ◌≤◌, ◌<◌, List, ◌∷◌, length, Option, Some, None, Result, Ok, Err, refl, ap, ◌∙◌, arith}
 use Rattle.dq_dataset.proofs.Types.{Tag, ReadFault, Syntax, Bound, Header, Element, Value, ElementList}
 use Rattle.dq_dataset.specs.Reading.{◌>>=◌, Readers, readers, kept, element_by, elements_by, elements_after, item_by, items_by, items_after}
 use Rattle.dq_dataset.specs.Lending.{rest_of, header_of, item_of}
+use Rattle.dq_dataset.proofs.Loops.{a_step_left}
 use Rattle.dq_dataset.proofs.Fields.{ok_is}
 
 pub record ElementsBehind (bound : Bound) (syntax : Syntax) (levels : ℕ) (all : List ℕ) (last : Option Tag) (rest : List ℕ) : Type 0 where
@@ -48,35 +49,33 @@ after_none r bound syntax levels (Ok (Some first, rest)) after e =
     absurd cc
 after_none r bound syntax levels (Err f) after e = absurd cc
 
-after_fault : (r : Readers) (bound : Bound) (syntax : Syntax) (levels : ℕ) (read : Result (Option (Header × Value) × List ℕ) ReadFault) (f : ReadFault)
-    → header_of read ≡ Err f → rest_of (read >>= λ first. elements_after r bound syntax levels first.0 first.1) ≡ Err f
-after_fault r bound syntax levels (Ok x) f e = absurd cc
-after_fault r bound syntax levels (Err g) f e = cc
+-- a fault of what is read first is the fault of it all
+first_fault : {A B X : Type 0} (read : Result A ReadFault) (seen : A → B) (more : A → Result (X × List ℕ) ReadFault) (f : ReadFault)
+    → (read >>= λ x. Ok (seen x)) ≡ Err f → rest_of (read >>= more) ≡ Err f
+first_fault (Ok x) seen more f e = absurd cc
+first_fault (Err g) seen more f e = cc
 
 module _ (bound : Bound) (syntax : Syntax) (levels : ℕ) (all : List ℕ) where
   module _ (last : Option Tag) (rest : List ℕ) where
-    elements_at : (m : ℕ) → length rest < m → (e : Result (List ℕ) ReadFault) → e ≡ rest_of ((readers m).elements bound syntax levels last rest)
-        → (k : ℕ) × (length rest ≤ k) × (e ≡ rest_of (elements_by (readers k) bound syntax levels last rest))
+    elements_at : ElementsBehind bound syntax levels all last rest → (n : ℕ) → length all < n → (k : ℕ) × (length rest ≤ k)
+        × (rest_of ((readers n).elements bound syntax levels None all) ≡ rest_of (elements_by (readers k) bound syntax levels last rest))
     unfolding readers
-    elements_at zero h e is = absurd (omega arith)
-    elements_at (suc m) h e is = (m, omega arith, is)
+    elements_at left n lt = a_step_left rest _ (λ m. rest_of ((readers m).elements bound syntax levels last rest)) _ (λ k. refl) (left.told n lt)
 
     pub elements_fail : ElementsBehind bound syntax levels all last rest → (e : ReadFault)
         → ((n : ℕ) → length rest ≤ n → header_of (element_by (readers n) bound syntax levels last rest) ≡ Err e)
         → (n : ℕ) → length all < n → rest_of ((readers n).elements bound syntax levels None all) ≡ Err e
     unfolding elements_by
     elements_fail left e failed n h =
-        let t = left.told n h in
-        let k = elements_at t.0 t.1 (rest_of ((readers n).elements bound syntax levels None all)) t.2 in
-        k.2 ∙ after_fault (readers k.0) bound syntax levels (element_by (readers k.0) bound syntax levels last rest) e (failed k.0 k.1)
+        let k = elements_at left n h in
+        k.2 ∙ first_fault (element_by (readers k.0) bound syntax levels last rest) _ _ e (failed k.0 k.1)
 
     pub elements_end : ElementsBehind bound syntax levels all last rest → (after : List ℕ)
         → ((n : ℕ) → length rest ≤ n → header_of (element_by (readers n) bound syntax levels last rest) ≡ Ok (None, after))
         → (n : ℕ) → length all < n → rest_of ((readers n).elements bound syntax levels None all) ≡ Ok after
     unfolding elements_by
     elements_end left after ended n h =
-        let t = left.told n h in
-        let k = elements_at t.0 t.1 (rest_of ((readers n).elements bound syntax levels None all)) t.2 in
+        let k = elements_at left n h in
         k.2 ∙ after_none (readers k.0) bound syntax levels (element_by (readers k.0) bound syntax levels last rest) after (ended k.0 k.1)
 
     pub elements_more : ElementsBehind bound syntax levels all last rest → (h : Header) (after : List ℕ)
@@ -86,8 +85,7 @@ module _ (bound : Bound) (syntax : Syntax) (levels : ℕ) (all : List ℕ) where
     elements_more left h after found shorter = record {
       shorter = omega (arith, left.shorter);
       told = λ n lt.
-          let t = left.told n lt in
-          let k = elements_at t.0 t.1 (rest_of ((readers n).elements bound syntax levels None all)) t.2 in (
+          let k = elements_at left n lt in (
             k.0,
             omega (arith, k.1),
             k.2 ∙ after_header (readers k.0) bound syntax levels (element_by (readers k.0) bound syntax levels last rest) h after
@@ -122,35 +120,27 @@ no_item_after r bound syntax levels (Ok (Some first, rest)) after e =
     absurd cc
 no_item_after r bound syntax levels (Err f) after e = absurd cc
 
-item_fault_after : (r : Readers) (bound : Bound) (syntax : Syntax) (levels : ℕ) (read : Result (Option ElementList × List ℕ) ReadFault) (f : ReadFault)
-    → item_of read ≡ Err f → rest_of (read >>= λ first. items_after r bound syntax levels first.0 first.1) ≡ Err f
-item_fault_after r bound syntax levels (Ok x) f e = absurd cc
-item_fault_after r bound syntax levels (Err g) f e = cc
-
 module _ (bound : Bound) (syntax : Syntax) (levels : ℕ) (all : List ℕ) where
   module _ (rest : List ℕ) where
-    items_at : (m : ℕ) → length rest < m → (e : Result (List ℕ) ReadFault) → e ≡ rest_of ((readers m).items bound syntax levels rest)
-        → (k : ℕ) × (length rest ≤ k) × (e ≡ rest_of (items_by (readers k) bound syntax levels rest))
+    items_at : ItemsBehind bound syntax levels all rest → (n : ℕ) → length all < n → (k : ℕ) × (length rest ≤ k)
+        × (rest_of ((readers n).items bound syntax levels all) ≡ rest_of (items_by (readers k) bound syntax levels rest))
     unfolding readers
-    items_at zero h e is = absurd (omega arith)
-    items_at (suc m) h e is = (m, omega arith, is)
+    items_at left n lt = a_step_left rest _ (λ m. rest_of ((readers m).items bound syntax levels rest)) _ (λ k. refl) (left.told n lt)
 
     pub items_fail : ItemsBehind bound syntax levels all rest → (e : ReadFault)
         → ((n : ℕ) → length rest ≤ n → item_of (item_by (readers n) bound syntax levels rest) ≡ Err e)
         → (n : ℕ) → length all < n → rest_of ((readers n).items bound syntax levels all) ≡ Err e
     unfolding items_by
     items_fail left e failed n h =
-        let t = left.told n h in
-        let k = items_at t.0 t.1 (rest_of ((readers n).items bound syntax levels all)) t.2 in
-        k.2 ∙ item_fault_after (readers k.0) bound syntax levels (item_by (readers k.0) bound syntax levels rest) e (failed k.0 k.1)
+        let k = items_at left n h in
+        k.2 ∙ first_fault (item_by (readers k.0) bound syntax levels rest) _ _ e (failed k.0 k.1)
 
     pub items_end : ItemsBehind bound syntax levels all rest → (after : List ℕ)
         → ((n : ℕ) → length rest ≤ n → item_of (item_by (readers n) bound syntax levels rest) ≡ Ok (None, after))
         → (n : ℕ) → length all < n → rest_of ((readers n).items bound syntax levels all) ≡ Ok after
     unfolding items_by
     items_end left after ended n h =
-        let t = left.told n h in
-        let k = items_at t.0 t.1 (rest_of ((readers n).items bound syntax levels all)) t.2 in
+        let k = items_at left n h in
         k.2 ∙ no_item_after (readers k.0) bound syntax levels (item_by (readers k.0) bound syntax levels rest) after (ended k.0 k.1)
 
     pub items_more : ItemsBehind bound syntax levels all rest → (after : List ℕ)
@@ -160,7 +150,6 @@ module _ (bound : Bound) (syntax : Syntax) (levels : ℕ) (all : List ℕ) where
     items_more left after found shorter = record {
       shorter = omega (arith, left.shorter);
       told = λ n lt.
-          let t = left.told n lt in
-          let k = items_at t.0 t.1 (rest_of ((readers n).items bound syntax levels all)) t.2 in
+          let k = items_at left n lt in
           (k.0, omega (arith, k.1), k.2 ∙ after_item (readers k.0) bound syntax levels (item_by (readers k.0) bound syntax levels rest) after (found k.0 k.1));
     }

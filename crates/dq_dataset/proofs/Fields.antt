@@ -38,7 +38,7 @@ pub unless_ok : {A : Type 0} (b : Bool) (d : ReadFault) (r : Result A ReadFault)
 unless_ok true d r y e = absurd cc
 unless_ok false d r y e = (refl, e)
 
-abbrev done : {A : Type 0} → A → Result A ReadFault
+abbrev pub done : {A : Type 0} → A → Result A ReadFault
 done x = Ok x
 
 pub ok_is : {A : Type 0} (x y : A) → done x ≡ done y → x ≡ y

@@ -3,12 +3,13 @@ use Rattle.std.proofs.Common.{◌≡◌, ℕ, zero, suc, ◌≤◌, Bool, true, 
 use Rattle.std.specs.Prelude.{is_none}
 use Rattle.std.specs.Int.{Width, w16, w32, byte_len, from_le_bytes}
 use Rattle.std.proofs.lemmas.Bool.{ltb-true, ltb-false, lt-ltb, le-ltb, ne_eqb}
-use Rattle.dq_dataset.proofs.Types.{Tag, Vr, LengthForm, Two, Four, ReadFault, Truncated, BadVr, TagOrder, BadItem, BadUndefined, TooDeep, Syntax, Implicit, Explicit, Bound, Filled, Delimited, Content, Plain, Sequence}
+use Rattle.dq_dataset.proofs.Types.{Tag, Vr, LengthForm, Two, Four, ReadFault, Truncated, BadVr, TagOrder, BadItem, BadUndefined, TooDeep, Syntax, Implicit, Explicit, Bound, Filled, Delimited, Plain, Sequence}
 use Rattle.dq_vr.specs.Dictionary.{known_vr}
 use Rattle.dq_vr.specs.Vr.{length_form_of, vr_with_letters}
 use Rattle.dq_dataset.specs.Rules.{is_sequence, is_unknown, agrees, content_of}
 use Rattle.dq_dataset.specs.Reading.{◌>>=◌, check, number_at, tag_at, long_length_at, length_at, vr_or_fault, vr_at, spelling_at, follows, fits, header_at, item_header_at, end_at}
 use Rattle.dq_dataset.specs.Faults.{number_in, tag_in, vr_in, defined, size_by, header_size, extent_by, extent_in, first_of, is_allowed, faults_of_content, header_faults, item_faults, ends_here}
+use Rattle.dq_dataset.proofs.Fields.{done}
 use Rattle.dq_dataset.proofs.Headers.{content_step, spelling_step, rises_step, placed_step}
 
 abbrev pub fault_of : {X : Type 0} → Result X ReadFault → Option ReadFault
@@ -61,18 +62,15 @@ nest_faults (suc n) tag syntax extent rest =
     let other : eqb (suc n) 0 ≡ false = ne_eqb (suc n) 0 (λ e. omega (arith, e)) in
     rw (some, other) (fits_fault _ (fits extent rest))
 
-abbrev content : Content → Result Content ReadFault
-content x = Ok x
-
 some_faults : (levels : ℕ) (tag : Tag) (n : ℕ) (rest : List ℕ) (a b : Bool)
-    → fault_of (cond a (content (Sequence Explicit (Some n))) (cond b (Ok (Sequence Implicit (Some n))) (Ok (Plain n))) >>= content_step levels tag rest)
+    → fault_of (cond a (done (Sequence Explicit (Some n))) (cond b (Ok (Sequence Implicit (Some n))) (Ok (Plain n))) >>= content_step levels tag rest)
     ≡ first_of (((a || (b || false)) && eqb levels 0, TooDeep) ∷ (not (fits (Some n) rest), Truncated) ∷ [])
 some_faults levels tag n rest true b = nest_faults levels tag Explicit (Some n) rest
 some_faults levels tag n rest false true = nest_faults levels tag Implicit (Some n) rest
 some_faults levels tag n rest false false = fits_fault _ (fits (Some n) rest)
 
 none_faults : (levels : ℕ) (tag : Tag) (rest : List ℕ) (a b c : Bool)
-    → fault_of (cond a (content (Sequence Explicit None)) (cond b (Ok (Sequence Implicit None)) (cond c (Ok (Sequence Implicit None)) (Err BadUndefined)))
+    → fault_of (cond a (done (Sequence Explicit None)) (cond b (Ok (Sequence Implicit None)) (cond c (Ok (Sequence Implicit None)) (Err BadUndefined)))
     >>= content_step levels tag rest)
     ≡ first_of ((not (a || (b || c)), BadUndefined) ∷ ((a || (b || c)) && eqb levels 0, TooDeep) ∷ (false, Truncated) ∷ [])
 none_faults levels tag rest true b c = nest_faults levels tag Explicit None rest
@@ -201,11 +199,8 @@ NoEnd bound element octets =
     ⊎ ((end_at bound element octets ≡ Err BadItem) × (ltb (length octets) 8 ≡ false) × (eqb (tag_in octets).group 0xFFFE ≡ true)
     × (eqb (tag_in octets).element element ≡ true)))
 
-abbrev AnEnd : Bound → ℕ → List ℕ → Type 0
-AnEnd bound element octets = (rest : List ℕ) × (end_at bound element octets ≡ Ok (Some rest))
-
 abbrev Ending : Bool → Bound → ℕ → List ℕ → Type 0
-Ending true bound element octets = AnEnd bound element octets
+Ending true bound element octets = (rest : List ℕ) × (end_at bound element octets ≡ Ok (Some rest))
 Ending false bound element octets = NoEnd bound element octets
 
 abbrev end_says : List ℕ → Bool → Bool → Bool → Result (Option (List ℕ)) ReadFault

@@ -2,7 +2,7 @@
 use Rattle.std.proofs.Common.{◌≡◌, ℕ, suc, ◌^◌, ◌<◌, ◌≤◌, Bool, true, false, not, cond, ltb, eqb, eq-eqb, ◌&&◌, List, [], ◌∷◌, ◌++◌, length, take, Option, Some, None, Result, Ok, refl, sym, ap, subst, ◌∙◌, append_assoc, lit<, arith}
 use Rattle.std.specs.Int.{w16, w32, from_le_bytes, to_le_bytes}
 use Rattle.std.proofs.lemmas.Bool.{le-ltb, eqb-true, eqb-false, ne_eqb, not-true}
-use Rattle.std.proofs.lemmas.List.{drop_at, length-append}
+use Rattle.std.proofs.lemmas.List.{drop_at, length-append, nil_from_length}
 use Rattle.dq_dataset.proofs.Types.{Tag, Vr, LengthForm, Two, Four, ReadFault, Truncated, BadVr, TagOrder, BadItem, TooDeep, Syntax, Implicit, Explicit, Bound, Filled, Delimited, Content, Header}
 use Rattle.dq_vr.specs.Dictionary.{known_vr}
 use Rattle.dq_vr.specs.Vr.{length_form_of, vr_with_letters}
@@ -268,18 +268,8 @@ abbrev pub Trails : Bound → List ℕ → Type 0
 Trails Filled rest = rest ≡ []
 Trails Delimited rest = Unit {0}
 
-nothing_left : (bytes : List ℕ) → eqb (length bytes) 0 ≡ true → bytes ≡ []
-nothing_left [] e = refl
-nothing_left (b ∷ bytes) e = absurd (omega (arith, eqb-true (length (b ∷ bytes)) 0 e))
-
-some_is : (x y : List ℕ) → Some x ≡ Some y → x ≡ y
-some_is x y e = cc
-
-abbrev ended : Bool → List ℕ → Option (List ℕ)
-ended b bytes = cond b (Some bytes) None
-
-filled_end : (b : Bool) (bytes rest : List ℕ) → ended b bytes ≡ Some rest → (b ≡ true) × (bytes ≡ rest)
-filled_end true bytes rest e = (refl, some_is bytes rest e)
+filled_end : (b : Bool) (bytes rest : List ℕ) → cond b (Some bytes) None ≡ Some rest → (b ≡ true) × (bytes ≡ rest)
+filled_end true bytes rest e = (refl, cc)
 filled_end false bytes rest e = absurd cc
 
 abbrev pub zero_step : ℕ × List ℕ → Result (Option (List ℕ)) ReadFault
@@ -302,7 +292,7 @@ pub end_takes : (bound : Bound) (end : ℕ) (bytes rest : List ℕ) → IsBytes 
 unfolding end_at
 end_takes Filled end bytes rest ok e =
     let f = filled_end (eqb (length bytes) 0) bytes rest (ok_is _ _ e) in
-    let none = nothing_left bytes f.0 in
+    let none = nil_from_length bytes (eqb-true (length bytes) 0 f.0) in
     record { octets = []; takes = record { parts = f.1; rest_fits = subst IsBytes f.1 ok }; is_end = refl; trails = sym f.1 ∙ none }
 end_takes Delimited end bytes rest ok e =
     let a = bind_ok (tag_at bytes) (end_step end) (Some rest) e in
@@ -314,7 +304,8 @@ end_takes Delimited end bytes rest ok e =
     let is = delimiter_is a.0.0 end d.0 in
     let zero_is = eqb-true n.0.0 0 z.0 in
     let both = Takes-then bytes (tag_octets a.0.0) a.0.1 (to_le_bytes w32 n.0.0) n.0.1 t.0 v.0 in
-    let same = some_is n.0.1 rest (ok_is (Some n.0.1) (Some rest) z.1) in
+    let left = ok_is (Some n.0.1) (Some rest) z.1 in
+    let same : n.0.1 ≡ rest = cc in
     record {
       octets = tag_octets a.0.0 ++ to_le_bytes w32 n.0.0;
       takes = subst (λ (x : List ℕ). Takes bytes (tag_octets a.0.0 ++ to_le_bytes w32 n.0.0) x) same both;

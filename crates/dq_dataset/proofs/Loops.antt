@@ -19,6 +19,12 @@ pub record ItemsLeft (bound : Bound) (syntax : Syntax) (levels : ℕ) (all : Lis
   pub told : (n : ℕ) → length all < n → (m : ℕ) × (length rest < m)
       × ((readers n).items bound syntax levels all ≡ with_front done ((readers m).items bound syntax levels rest))
 
+-- with steps enough for the rest, one is left
+pub a_step_left : {A : Type 0} (rest : List ℕ) (whole : A) (read next : ℕ → A) → ((k : ℕ) → read (suc k) ≡ next k)
+    → (m : ℕ) × (length rest < m) × (whole ≡ read m) → (k : ℕ) × (length rest ≤ k) × (whole ≡ next k)
+a_step_left rest whole read next step (zero, lt, is) = absurd (omega arith)
+a_step_left rest whole read next step (suc m, lt, is) = (m, omega arith, is ∙ step m)
+
 with_front-nil : {X : Type 0} (read : Result (List X × List ℕ) ReadFault) → read ≡ with_front [] read
 with_front-nil (Ok x) = refl
 with_front-nil (Err e) = refl
@@ -41,20 +47,17 @@ module _ (bound : Bound) (syntax : Syntax) (levels : ℕ) (all : List ℕ) where
   elements_start = record { shorter = omega arith; told = λ n h. (n, h, with_front-nil ((readers n).elements bound syntax levels None all)) }
 
   module _ (done : List Element) (last : Option Tag) (rest : List ℕ) where
-    elements_at : (m n : ℕ) → length rest < m → (e : Result (List Element × List ℕ) ReadFault)
-        → e ≡ with_front done ((readers m).elements bound syntax levels last rest)
-        → (k : ℕ) × (length rest ≤ k) × (e ≡ with_front done (elements_by (readers k) bound syntax levels last rest))
+    elements_at : ElementsLeft bound syntax levels all done last rest → (n : ℕ) → length all < n → (k : ℕ) × (length rest ≤ k)
+        × ((readers n).elements bound syntax levels None all ≡ with_front done (elements_by (readers k) bound syntax levels last rest))
     unfolding readers
-    elements_at zero n h e is = absurd (omega arith)
-    elements_at (suc m) n h e is = (m, omega arith, is)
+    elements_at left n lt = a_step_left rest _ (λ m. with_front done ((readers m).elements bound syntax levels last rest)) _ (λ k. refl) (left.told n lt)
 
     pub elements_fail : ElementsLeft bound syntax levels all done last rest → (e : ReadFault)
         → ((n : ℕ) → length rest ≤ n → (e ≡ NoMemory) ⊎ (element_by (readers n) bound syntax levels last rest ≡ Err e))
         → (n : ℕ) → length all < n → (e ≡ NoMemory) ⊎ ((readers n).elements bound syntax levels None all ≡ Err e)
     unfolding elements_by
     elements_fail left e failed n h =
-        let t = left.told n h in
-        let k = elements_at t.0 n t.1 ((readers n).elements bound syntax levels None all) t.2 in
+        let k = elements_at left n h in
         elim (failed k.0 k.1) [ inl memory ↦ inl memory | inr fault ↦ inr (k.2 ∙ rw fault refl) ]
 
     pub elements_end : ElementsLeft bound syntax levels all done last rest → (after : List ℕ)
@@ -62,8 +65,7 @@ module _ (bound : Bound) (syntax : Syntax) (levels : ℕ) (all : List ℕ) where
         → (n : ℕ) → length all < n → (readers n).elements bound syntax levels None all ≡ Ok (done, after)
     unfolding elements_by elements_after
     elements_end left after ended n h =
-        let t = left.told n h in
-        let k = elements_at t.0 n t.1 ((readers n).elements bound syntax levels None all) t.2 in
+        let k = elements_at left n h in
         k.2 ∙ rw (ended k.0 k.1) (ap (λ (es : List Element). Ok (es, after)) (append-nil done))
 
     pub elements_more : ElementsLeft bound syntax levels all done last rest → (h : Header) (v : Value) (after : List ℕ)
@@ -73,8 +75,7 @@ module _ (bound : Bound) (syntax : Syntax) (levels : ℕ) (all : List ℕ) where
     elements_more left h v after found shorter = record {
       shorter = omega (arith, left.shorter);
       told = λ n lt.
-          let t = left.told n lt in
-          let k = elements_at t.0 n t.1 ((readers n).elements bound syntax levels None all) t.2 in
+          let k = elements_at left n lt in
           (k.0, omega (arith, k.1), k.2 ∙ rw (found k.0 k.1) (after_kept done h v ((readers k.0).elements bound syntax levels (Some h.tag) after)));
     }
 
@@ -90,20 +91,17 @@ module _ (bound : Bound) (syntax : Syntax) (levels : ℕ) (all : List ℕ) where
   items_start = record { shorter = omega arith; told = λ n h. (n, h, with_front-nil ((readers n).items bound syntax levels all)) }
 
   module _ (done : List ElementList) (rest : List ℕ) where
-    items_at : (m n : ℕ) → length rest < m → (e : Result (List ElementList × List ℕ) ReadFault)
-        → e ≡ with_front done ((readers m).items bound syntax levels rest)
-        → (k : ℕ) × (length rest ≤ k) × (e ≡ with_front done (items_by (readers k) bound syntax levels rest))
+    items_at : ItemsLeft bound syntax levels all done rest → (n : ℕ) → length all < n → (k : ℕ) × (length rest ≤ k)
+        × ((readers n).items bound syntax levels all ≡ with_front done (items_by (readers k) bound syntax levels rest))
     unfolding readers
-    items_at zero n h e is = absurd (omega arith)
-    items_at (suc m) n h e is = (m, omega arith, is)
+    items_at left n lt = a_step_left rest _ (λ m. with_front done ((readers m).items bound syntax levels rest)) _ (λ k. refl) (left.told n lt)
 
     pub items_fail : ItemsLeft bound syntax levels all done rest → (e : ReadFault)
         → ((n : ℕ) → length rest ≤ n → (e ≡ NoMemory) ⊎ (item_by (readers n) bound syntax levels rest ≡ Err e))
         → (n : ℕ) → length all < n → (e ≡ NoMemory) ⊎ ((readers n).items bound syntax levels all ≡ Err e)
     unfolding items_by
     items_fail left e failed n h =
-        let t = left.told n h in
-        let k = items_at t.0 n t.1 ((readers n).items bound syntax levels all) t.2 in
+        let k = items_at left n h in
         elim (failed k.0 k.1) [ inl memory ↦ inl memory | inr fault ↦ inr (k.2 ∙ rw fault refl) ]
 
     pub items_end : ItemsLeft bound syntax levels all done rest → (after : List ℕ)
@@ -111,8 +109,7 @@ module _ (bound : Bound) (syntax : Syntax) (levels : ℕ) (all : List ℕ) where
         → (n : ℕ) → length all < n → (readers n).items bound syntax levels all ≡ Ok (done, after)
     unfolding items_by items_after
     items_end left after ended n h =
-        let t = left.told n h in
-        let k = items_at t.0 n t.1 ((readers n).items bound syntax levels all) t.2 in
+        let k = items_at left n h in
         k.2 ∙ rw (ended k.0 k.1) (ap (λ (ds : List ElementList). Ok (ds, after)) (append-nil done))
 
     pub items_more : ItemsLeft bound syntax levels all done rest → (d : ElementList) (after : List ℕ)
@@ -122,8 +119,7 @@ module _ (bound : Bound) (syntax : Syntax) (levels : ℕ) (all : List ℕ) where
     items_more left d after found shorter = record {
       shorter = omega (arith, left.shorter);
       told = λ n lt.
-          let t = left.told n lt in
-          let k = items_at t.0 n t.1 ((readers n).items bound syntax levels all) t.2 in
+          let k = items_at left n lt in
           (k.0, omega (arith, k.1), k.2 ∙ rw (found k.0 k.1) (after_item done d ((readers k.0).items bound syntax levels after)));
     }
 

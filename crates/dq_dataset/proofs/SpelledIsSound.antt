@@ -1,20 +1,18 @@
 -- What is spelled has the facts of every data set.
-use Rattle.std.proofs.Common.{◌≡◌, ℕ, suc, ◌-◌, ◌%◌, ◌<◌, Bool, true, false, not, cond, ◌&&◌, ◌||◌, List, [], ◌∷◌, ◌++◌, length, Option, Some, None, Result, Ok, Err, refl, sym, subst, arith, inl, inr, ◌⊎◌}
+use Rattle.std.proofs.Common.{◌≡◌, ℕ, suc, ◌-◌, ◌%◌, ◌<◌, Bool, true, false, not, cond, ◌&&◌, ◌||◌, List, [], ◌∷◌, ◌++◌, length, Option, Some, None, Ok, Err, refl, sym, subst, arith, inl, inr, ◌⊎◌}
 use Rattle.std.specs.Prelude.{is_none, nat_eq}
 use Rattle.std.proofs.lemmas.Bool.{eqb-true, eqb-false, or_right}
 use Rattle.std.proofs.lemmas.Bool.Decides.{nat_tests}
 use Rattle.std.proofs.lemmas.List.{length-append}
-use Rattle.dq_dataset.proofs.Types.{Tag, Vr, ReadFault, BadUndefined, Syntax, Implicit, Explicit, Bound, Content, Plain, Sequence, Value, Octets, Items, ElementList, no_elements, element, sequence}
+use Rattle.dq_dataset.proofs.Types.{Tag, Vr, BadUndefined, Syntax, Implicit, Explicit, Bound, Content, Plain, Sequence, Value, Octets, Items, ElementList, no_elements, element, sequence}
 use Rattle.dq_vr.specs.Dictionary.{known_vr}
 use Rattle.dq_vr.specs.Tag.{is_below}
 use Rattle.dq_dataset.specs.View.{items_of, with_value}
 use Rattle.dq_dataset.specs.Rules.{is_sequence, is_unknown, agrees, content_of, vr_of, padded, pad_of}
 use Rattle.dq_dataset.specs.Reading.{follows}
 use Rattle.dq_dataset.specs.Grammar.{IsHeader, IsPlaced, IsSpelling, Spells, no_more, more, SpellsValue, plain, nested, SpellsItems, no_item, one_item, bound_of, IsSpelled}
+use Rattle.dq_dataset.proofs.Fields.{done}
 use Rattle.dq_dataset.specs.Facts.{IsElementTag, IsPlain, IsSequence, AreElements, AreItems, IsDataSet}
-
-abbrev done : Content → Result Content ReadFault
-done x = Ok x
 
 -- ---- the order of tags
 
@@ -44,16 +42,14 @@ after_earlier levels last tag (sequence t vr items rest) e h = (earlier last tag
 
 plain_some : (a b : Bool) (n m : ℕ) → cond a (done (Sequence Explicit (Some n))) (cond b (Ok (Sequence Implicit (Some n))) (Ok (Plain n))) ≡ Ok (Plain m)
     → b ≡ false
-plain_some true b n m e = absurd cc
-plain_some false true n m e = absurd cc
 plain_some false false n m e = refl
+plain_some a b n m e = absurd cc
 
 plain_none : (a b c : Bool) (m : ℕ)
     → cond a (done (Sequence Explicit None)) (cond b (Ok (Sequence Implicit None)) (cond c (Ok (Sequence Implicit None)) (Err BadUndefined))) ≡ Ok (Plain m)
     → b ≡ false
-plain_none true b c m e = absurd cc
-plain_none false true c m e = absurd cc
 plain_none false false c m e = refl
+plain_none a b c m e = absurd cc
 
 -- octets stand after no known sequence
 plain_is_no_sequence : (known spelled : Option Vr) (extent : Option ℕ) (n : ℕ) → content_of known spelled extent ≡ Ok (Plain n) → is_sequence known ≡ false
@@ -64,8 +60,7 @@ plain_is_no_sequence known spelled None n e = plain_none (is_sequence spelled) (
 
 sequence_some : (a b c : Bool) (n : ℕ) (s : Syntax) (x : Option ℕ) → (b ≡ true) ⊎ ((c || not a) ≡ true)
     → cond a (done (Sequence Explicit (Some n))) (cond b (Ok (Sequence Implicit (Some n))) (Ok (Plain n))) ≡ Ok (Sequence s x) → (c || b) ≡ true
-sequence_some a true true n s x h e = refl
-sequence_some a true false n s x h e = refl
+sequence_some a true c n s x h e = or_right c true refl
 sequence_some a false true n s x h e = refl
 sequence_some true false false n s x (inl h) e = absurd cc
 sequence_some true false false n s x (inr h) e = absurd cc
@@ -74,8 +69,7 @@ sequence_some false false false n s x h e = absurd cc
 sequence_none : (a b c u : Bool) (s : Syntax) (x : Option ℕ) → (b ≡ true) ⊎ ((c || not a) ≡ true)
     → cond a (done (Sequence Explicit None)) (cond b (Ok (Sequence Implicit None)) (cond (c && u) (Ok (Sequence Implicit None)) (Err BadUndefined)))
     ≡ Ok (Sequence s x) → (c || b) ≡ true
-sequence_none a true true u s x h e = refl
-sequence_none a true false u s x h e = refl
+sequence_none a true c u s x h e = or_right c true refl
 sequence_none a false true u s x h e = refl
 sequence_none true false false u s x (inl h) e = absurd cc
 sequence_none true false false u s x (inr h) e = absurd cc

@@ -133,12 +133,10 @@ module _ (named : LettersName) where
   placed : (last : Option Tag) (tag : Tag) → IsElementTag last tag → IsPlaced last tag
   placed last tag h = record { rises = h.rises; no_delimiter = h.no_delimiter; group = h.group; number = h.number }
 
-  padded_even : (vr : Vr) (octets : List ℕ) → length octets % 2 ≡ 0 → padded vr octets ≡ octets
-  padded_even vr octets e = rw (eq-eqb (length octets % 2) 0 e) refl
-
   even_value : (levels : ℕ) (vr : Vr) (octets : List ℕ) → length octets % 2 ≡ 0 → SpellsValue levels vr (Plain (length octets)) octets (Octets octets)
-  even_value levels vr octets e = subst (λ (x : List ℕ). SpellsValue levels vr (Plain (length octets)) octets (Octets x)) (padded_even vr octets e)
-      (plain levels vr (length octets) octets refl)
+  even_value levels vr octets e =
+      let same : padded vr octets ≡ octets = rw (eq-eqb (length octets % 2) 0 e) refl in
+      subst (λ (x : List ℕ). SpellsValue levels vr (Plain (length octets)) octets (Octets x)) same (plain levels vr (length octets) octets refl)
 
   not_dropped : (tag : Tag) (vr : Vr) (held : Value) (rest : ElementList) → tag.element ≢ 0
       → with_value (record { tag = tag; vr = vr; value = held }) held rest ≡ kept_value tag vr held rest
