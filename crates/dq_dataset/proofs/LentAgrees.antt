@@ -95,10 +95,10 @@ module _ (n : ℕ) (syntax : Syntax) (last : Option Tag) (octets : List ℕ) (ok
       let vr = vr_of (known_vr h.tag) h.content in
       let spelled : SpellsValue 16 vr h.content value.octets held = subst (λ (x : Vr). SpellsValue 16 x h.content value.octets held) header.vr value.spells in
       let read = subst (λ (o : List ℕ). IsLentValue (spelled_as syntax h o) held) (sym is) (read_value syntax h behind held found.1 value) in
-      let lent_is : IsLent (spelled_as syntax h found.0.1) (record { tag = h.tag; vr = vr; value = held }) = record { tag = refl; vr = header.vr; value = read } in
+      let same : IsLent (spelled_as syntax h found.0.1) (record { tag = h.tag; vr = vr; value = held }) = record { tag = refl; vr = header.vr; value = read } in
       let all = λ (d : ElementList). kept_value h.tag vr held d in
       let lends = λ (d : ElementList) (end : Lent). kept_lends (eqb h.tag.element 0) (spelled_as syntax h found.0.1) h.tag vr held d
-      (lent_in n syntax (Some h.tag) found.1) end lent_is in
+      (lent_in n syntax (Some h.tag) found.1) end same in
       elim others [
         | inl whole ↦
             let spells = more Filled syntax 16 last octets (all whole.0) h.tag h.content header.octets value.octets found.1 held whole.0

@@ -1,4 +1,5 @@
-//! What a data set costs: the processor's time of reading it, of writing it, and of a plain copy of its octets.
+//! What a data set costs: the processor's time of reading it, of writing it, and of a plain copy of
+//! its octets.
 ghost use Rattle.std.specs.Prelude.{◌<◌, ◌^◌, length};
 
 use crate::stop::Stop;
@@ -42,7 +43,8 @@ const TEXT: &[u8] = b"LO\x38\x00COMPUTED TOMOGRAPHY OF THE KNEE WITH CONTRAST ME
 
 /// An item of 64 octets, with (0040,0244) and (0040,0254).
 const ITEM: &[u8] =
-    b"\xfe\xff\x00\xe0\x38\x00\x00\x00\x40\x00\x44\x02DA\x08\x0020240705\x40\x00\x54\x02LO\x20\x00COMPUTED TOMOGRAPHY OF THE KNEE ";
+    b"\xfe\xff\x00\xe0\x38\x00\x00\x00\x40\x00\x44\x02DA\x08\x0020240705\x40\x00\x54\x02LO\x20\x00\
+    COMPUTED TOMOGRAPHY OF THE KNEE ";
 
 /// An item of 17 octets, with (0010,0040).
 const SMALL_ITEM: &[u8] = b"\xfe\xff\x00\xe0\x09\x00\x00\x00\x10\x00\x40\x00CS\x01\x00M";
@@ -163,8 +165,8 @@ fn print_cost(rt: &impl Print, name: &str, spent: Duration, calls: u32) -> Resul
     Ok(())
 }
 
-/// Prints what a read of a data set of 1 MiB, or of half of it, a write, a pass of `Elements` and a plain copy cost, in
-/// microseconds a call.
+/// Prints what a read of a data set of 1 MiB, or of half of it, a write, a pass of `Elements` and a
+/// plain copy cost, in microseconds a call.
 pub fn print_costs<R: Print + AllocGlobal + CpuClock>(
     rt: &R,
     shape: Shape,

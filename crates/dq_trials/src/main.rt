@@ -1,5 +1,5 @@
-//! A bench of trials for data sets, for the suites: it reads octets that lines give, and answers the first fault or the
-//! canonical spellings.
+//! A bench of trials for data sets, for the suites: it reads octets that lines give, and answers
+//! the first fault or the canonical spellings.
 #![tactic(auto)]
 
 mod cost;

@@ -70,7 +70,8 @@ fn answer_to(alloc: Global, octets: &[u8], syntax: Syntax) -> Result<Answer, All
 /// The text of what the octets are read as: `fault N`, or both canonical spellings in hexadecimal.
 pub fn answered(alloc: Global, octets: &[u8], syntax: Syntax) -> Result<String, AllocError>
     requires { length octets.now < 2 ^ 31 }
-    ensures { IfOk result (λ text. string_bytes text ≡ answer_text (answer_of (reading syntax octets.now))) }
+    ensures { IfOk result
+        (λ text. string_bytes text ≡ answer_text (answer_of (reading syntax octets.now))) }
 {
     let found = answer_to(alloc, octets, syntax)?;
     answer_text(alloc, &found)
@@ -87,7 +88,8 @@ fn octets_of(alloc: Global, text: &str) -> Result<Option<Vec<u8>>, AllocError> {
     }
 }
 
-/// A line is `implicit HEX` or `explicit HEX`, with a hyphen for no octets. None is answered for any other line.
+/// A line is `implicit HEX` or `explicit HEX`, with a hyphen for no octets. None is answered for
+/// any other line.
 fn answered_line(alloc: Global, line: &str) -> Result<Option<String>, AllocError> {
     let (syntax, text) = if let Some(text) = line.strip_prefix("implicit ") {
         (Syntax::Implicit, text)
@@ -115,8 +117,8 @@ fn read_input<R: Read + Drop>(alloc: Global, input: R) -> Result<Vec<u8>, Stop> 
     }
 }
 
-/// Answers each line of the input with a line of the output, up to the first line that is bad. Empty lines and lines that
-/// begin with `#` are skipped.
+/// Answers each line of the input with a line of the output, up to the first line that is bad.
+/// Empty lines and lines that begin with `#` are skipped.
 pub fn run_trials<R: Read + Drop, W: Write>(
     alloc: Global,
     input: R,
