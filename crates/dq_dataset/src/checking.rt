@@ -6,7 +6,7 @@ ghost use Rattle.dq_dataset.specs.Lending.{rest_of, header_of, item_of};
 
 use crate::fault::ReadFault;
 use crate::header::{
-    Bound, Content, Header, ITEM_END, SEQUENCE_END, Syntax, end_at, header_at, item_header_at,
+    Bound, Content, Header, ITEM_END, Level, SEQUENCE_END, end_at, header_at, item_header_at,
 };
 use dq_vr::Tag;
 
@@ -25,10 +25,22 @@ pub fn value_end<'a>(levels: u8, content: Content, octets: &'a [u8]) -> Result<&
         Content::Plain(length) => Ok(octets.split_at(length as usize).1),
         Content::Sequence(syntax, Some(length)) => {
             let (front, rest) = octets.split_at(length as usize);
-            items_end(Bound::Filled, syntax, levels - 1, front)?;
+            let level = Level {
+                bound: Bound::Filled,
+                syntax,
+                levels: levels - 1,
+            };
+            items_end(level, front)?;
             Ok(rest)
         }
-        Content::Sequence(syntax, None) => items_end(Bound::Delimited, syntax, levels - 1, octets),
+        Content::Sequence(syntax, None) => {
+            let level = Level {
+                bound: Bound::Delimited,
+                syntax,
+                levels: levels - 1,
+            };
+            items_end(level, octets)
+        }
     }
 }
 
@@ -36,42 +48,35 @@ pub fn value_end<'a>(levels: u8, content: Content, octets: &'a [u8]) -> Result<&
 #[cycle(checking)]
 #[tactic(auto, unfolding(crate::specs::Reading::element_by))]
 fn element_end<'a>(
-    bound: Bound,
-    syntax: Syntax,
-    levels: u8,
+    level: Level,
     last: Option<Tag>,
     octets: &'a [u8],
 ) -> Result<(Option<Header>, &'a [u8]), ReadFault>
     ensures value { (n : ℕ) → length octets.now ≤ n
         → Answers (λ x. (x.0, x.1.now)) result
-        (header_of (element_by (readers n) bound syntax levels last octets.now)) }
+        (header_of (element_by (readers n) level.bound level.syntax level.levels last octets.now)) }
     ensures shorter { IfOk result (λ x. length x.1.now ≤ length octets.now) }
     ensures goes_on { IfOk result (λ x. OnSome x.0 (length x.1.now < length octets.now)) }
 {
-    if let Some(rest) = end_at(bound, ITEM_END, octets)? {
+    if let Some(rest) = end_at(level.bound, ITEM_END, octets)? {
         return Ok((None, rest));
     }
-    let (header, rest) = header_at(syntax, levels, last, octets)?;
-    let rest = value_end(levels, header.content, rest)?;
+    let (header, rest) = header_at(level.syntax, level.levels, last, octets)?;
+    let rest = value_end(level.levels, header.content, rest)?;
     Ok((Some(header), rest))
 }
 
 #[cycle(checking)]
-fn elements_end<'a>(
-    bound: Bound,
-    syntax: Syntax,
-    levels: u8,
-    octets: &'a [u8],
-) -> Result<&'a [u8], ReadFault>
+fn elements_end<'a>(level: Level, octets: &'a [u8]) -> Result<&'a [u8], ReadFault>
     ensures value { (n : ℕ) → length octets.now < n
         → Answers (λ x. x.now) result
-        (rest_of ((readers n).elements bound syntax levels None octets.now)) }
+        (rest_of ((readers n).elements level.bound level.syntax level.levels None octets.now)) }
     ensures shorter { IfOk result (λ x. length x.now ≤ length octets.now) }
 {
     let mut last = None;
     let mut rest = octets;
     loop {
-        let (found, after) = element_end(bound, syntax, levels, last, rest)?;
+        let (found, after) = element_end(level, last, rest)?;
         let Some(header) = found else {
             return Ok(after);
         };
@@ -83,64 +88,58 @@ fn elements_end<'a>(
 #[cycle(checking)]
 #[tactic(auto, unfolding(crate::specs::Reading::content_by))]
 fn content_end<'a>(
-    syntax: Syntax,
-    levels: u8,
+    level: Level,
     extent: Option<u32>,
     octets: &'a [u8],
 ) -> Result<&'a [u8], ReadFault>
     requires whole { fits extent octets.now ≡ true }
     ensures value { (n : ℕ) → length octets.now < n
         → Answers (λ x. x.now) result
-        (rest_of (content_by (readers n) syntax levels extent octets.now)) }
+        (rest_of (content_by (readers n) level.syntax level.levels extent octets.now)) }
     ensures shorter { IfOk result (λ x. length x.now ≤ length octets.now) }
 {
     match extent {
         Some(length) => {
             let (front, rest) = octets.split_at(length as usize);
-            elements_end(Bound::Filled, syntax, levels, front)?;
+            let bound = Bound::Filled;
+            elements_end(Level { bound, ..level }, front)?;
             Ok(rest)
         }
-        None => elements_end(Bound::Delimited, syntax, levels, octets),
+        None => {
+            let bound = Bound::Delimited;
+            elements_end(Level { bound, ..level }, octets)
+        }
     }
 }
 
 /// Whether an item stands here, and what is left after it, or after the end.
 #[cycle(checking)]
 #[tactic(auto, unfolding(crate::specs::Reading::item_by))]
-fn item_end<'a>(
-    bound: Bound,
-    syntax: Syntax,
-    levels: u8,
-    octets: &'a [u8],
-) -> Result<(Option<()>, &'a [u8]), ReadFault>
+fn item_end<'a>(level: Level, octets: &'a [u8]) -> Result<(Option<()>, &'a [u8]), ReadFault>
     ensures value { (n : ℕ) → length octets.now ≤ n
         → Answers (λ x. (x.0, x.1.now)) result
-        (item_of (item_by (readers n) bound syntax levels octets.now)) }
+        (item_of (item_by (readers n) level.bound level.syntax level.levels octets.now)) }
     ensures shorter { IfOk result (λ x. length x.1.now ≤ length octets.now) }
     ensures goes_on { IfOk result (λ x. OnSome x.0 (length x.1.now < length octets.now)) }
 {
-    if let Some(rest) = end_at(bound, SEQUENCE_END, octets)? {
+    if let Some(rest) = end_at(level.bound, SEQUENCE_END, octets)? {
         return Ok((None, rest));
     }
     let (length, rest) = item_header_at(octets)?;
-    let rest = content_end(syntax, levels, length, rest)?;
+    let rest = content_end(level, length, rest)?;
     Ok((Some(()), rest))
 }
 
 #[cycle(checking)]
-fn items_end<'a>(
-    bound: Bound,
-    syntax: Syntax,
-    levels: u8,
-    octets: &'a [u8],
-) -> Result<&'a [u8], ReadFault>
+fn items_end<'a>(level: Level, octets: &'a [u8]) -> Result<&'a [u8], ReadFault>
     ensures value { (n : ℕ) → length octets.now < n
-        → Answers (λ x. x.now) result (rest_of ((readers n).items bound syntax levels octets.now)) }
+        → Answers (λ x. x.now) result
+        (rest_of ((readers n).items level.bound level.syntax level.levels octets.now)) }
     ensures shorter { IfOk result (λ x. length x.now ≤ length octets.now) }
 {
     let mut rest = octets;
     loop {
-        let (found, after) = item_end(bound, syntax, levels, rest)?;
+        let (found, after) = item_end(level, rest)?;
         let Some(()) = found else {
             return Ok(after);
         };

@@ -22,6 +22,15 @@ pub enum Bound {
     Delimited,
 }
 
+/// Where elements or items stand: how they end, how they are spelled, and how many more levels of
+/// sequences are allowed.
+#[derive(Clone, Copy)]
+pub struct Level {
+    pub bound: Bound,
+    pub syntax: Syntax,
+    pub levels: u8,
+}
+
 /// What follows a header: so many octets, or items in a syntax, up to an end of their own where
 /// there is no length.
 #[derive(Clone, Copy, Debug, PartialEq, Eq)]

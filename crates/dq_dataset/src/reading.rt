@@ -10,7 +10,8 @@ ghost use Rattle.dq_dataset.specs.declared.fault.ReadFault.TheVariants.{NoMemory
 use crate::data_set::{DataSet, Element, Value};
 use crate::fault::ReadFault;
 use crate::header::{
-    Bound, Content, Header, ITEM_END, SEQUENCE_END, Syntax, end_at, header_at, item_header_at,
+    Bound, Content, Header, ITEM_END, Level, SEQUENCE_END, Syntax, end_at, header_at,
+    item_header_at,
 };
 use dq_list::Listed;
 use dq_vr::{Tag, Vr};
@@ -32,30 +33,40 @@ fn padded(alloc: Global, vr: Vr, octets: &[u8]) -> Result<Vec<u8>, AllocError>
 fn value_of<'a>(
     alloc: Global,
     levels: u8,
-    vr: Vr,
-    content: Content,
+    header: Header,
     octets: &'a [u8],
 ) -> Result<(Value, &'a [u8]), ReadFault>
     requires shallow { levels ≤ 16 }
-    requires nests { may_nest levels content ≡ true }
-    requires whole { fits (length_of content) octets.now ≡ true }
+    requires nests { may_nest levels header.content ≡ true }
+    requires whole { fits (length_of header.content) octets.now ≡ true }
     ensures value { (n : ℕ) → length octets.now < n
-        → Gives (λ x. (x.0, x.1.now)) result (value_by (readers n) levels vr content octets.now) }
+        → Gives (λ x. (x.0, x.1.now)) result
+        (value_by (readers n) levels header.vr header.content octets.now) }
     ensures shorter { IfOk result (λ x. length x.1.now ≤ length octets.now) }
 {
-    match content {
+    match header.content {
         Content::Plain(length) => {
             let (front, rest) = octets.split_at(length as usize);
-            let value = padded(alloc, vr, front)?;
+            let value = padded(alloc, header.vr, front)?;
             Ok((Value::Octets(Listed::from_inner(value)), rest))
         }
         Content::Sequence(syntax, Some(length)) => {
             let (front, rest) = octets.split_at(length as usize);
-            let (items, _) = items_of(alloc, Bound::Filled, syntax, levels - 1, front)?;
+            let level = Level {
+                bound: Bound::Filled,
+                syntax,
+                levels: levels - 1,
+            };
+            let (items, _) = items_of(alloc, level, front)?;
             Ok((Value::Items(Listed::from_inner(items)), rest))
         }
         Content::Sequence(syntax, None) => {
-            let (items, rest) = items_of(alloc, Bound::Delimited, syntax, levels - 1, octets)?;
+            let level = Level {
+                bound: Bound::Delimited,
+                syntax,
+                levels: levels - 1,
+            };
+            let (items, rest) = items_of(alloc, level, octets)?;
             Ok((Value::Items(Listed::from_inner(items)), rest))
         }
     }
@@ -65,46 +76,42 @@ fn value_of<'a>(
 #[tactic(auto, unfolding(crate::specs::Reading::element_by))]
 fn element_of<'a>(
     alloc: Global,
-    bound: Bound,
-    syntax: Syntax,
-    levels: u8,
+    level: Level,
     last: Option<Tag>,
     octets: &'a [u8],
 ) -> Result<(Option<(Header, Value)>, &'a [u8]), ReadFault>
-    requires { levels ≤ 16 }
+    requires { level.levels ≤ 16 }
     ensures value { (n : ℕ) → length octets.now ≤ n
         → Gives (λ x. (x.0, x.1.now)) result
-        (element_by (readers n) bound syntax levels last octets.now) }
+        (element_by (readers n) level.bound level.syntax level.levels last octets.now) }
     ensures shorter { IfOk result (λ x. length x.1.now ≤ length octets.now) }
     ensures goes_on { IfOk result (λ x. OnSome x.0 (length x.1.now < length octets.now)) }
 {
-    if let Some(rest) = end_at(bound, ITEM_END, octets)? {
+    if let Some(rest) = end_at(level.bound, ITEM_END, octets)? {
         return Ok((None, rest));
     }
-    let (header, rest) = header_at(syntax, levels, last, octets)?;
-    let (value, rest) = value_of(alloc, levels, header.vr, header.content, rest)?;
+    let (header, rest) = header_at(level.syntax, level.levels, last, octets)?;
+    let (value, rest) = value_of(alloc, level.levels, header, rest)?;
     Ok((Some((header, value)), rest))
 }
 
 #[cycle(reading)]
 fn elements_of<'a>(
     alloc: Global,
-    bound: Bound,
-    syntax: Syntax,
-    levels: u8,
+    level: Level,
     octets: &'a [u8],
 ) -> Result<(Vec<Element>, &'a [u8]), ReadFault>
-    requires { levels ≤ 16 }
+    requires { level.levels ≤ 16 }
     ensures value { (n : ℕ) → length octets.now < n
         → Gives (λ x. (x.0.items, x.1.now)) result
-        ((readers n).elements bound syntax levels None octets.now) }
+        ((readers n).elements level.bound level.syntax level.levels None octets.now) }
     ensures shorter { IfOk result (λ x. length x.1.now ≤ length octets.now) }
 {
     let mut elements = Vec::new(alloc);
     let mut last = None;
     let mut rest = octets;
     loop {
-        let (found, after) = element_of(alloc, bound, syntax, levels, last, rest)?;
+        let (found, after) = element_of(alloc, level, last, rest)?;
         let Some((header, value)) = found else {
             return Ok((elements, after));
         };
@@ -121,25 +128,28 @@ fn elements_of<'a>(
 #[tactic(auto, unfolding(crate::specs::Reading::content_by))]
 fn content_of<'a>(
     alloc: Global,
-    syntax: Syntax,
-    levels: u8,
+    level: Level,
     extent: Option<u32>,
     octets: &'a [u8],
 ) -> Result<(Vec<Element>, &'a [u8]), ReadFault>
-    requires shallow { levels ≤ 16 }
+    requires shallow { level.levels ≤ 16 }
     requires whole { fits extent octets.now ≡ true }
     ensures value { (n : ℕ) → length octets.now < n
         → Gives (λ x. (x.0.items, x.1.now)) result
-        (content_by (readers n) syntax levels extent octets.now) }
+        (content_by (readers n) level.syntax level.levels extent octets.now) }
     ensures shorter { IfOk result (λ x. length x.1.now ≤ length octets.now) }
 {
     match extent {
         Some(length) => {
             let (front, rest) = octets.split_at(length as usize);
-            let (elements, _) = elements_of(alloc, Bound::Filled, syntax, levels, front)?;
+            let bound = Bound::Filled;
+            let (elements, _) = elements_of(alloc, Level { bound, ..level }, front)?;
             Ok((elements, rest))
         }
-        None => elements_of(alloc, Bound::Delimited, syntax, levels, octets),
+        None => {
+            let bound = Bound::Delimited;
+            elements_of(alloc, Level { bound, ..level }, octets)
+        }
     }
 }
 
@@ -147,43 +157,40 @@ fn content_of<'a>(
 #[tactic(auto, unfolding(crate::specs::Reading::item_by))]
 fn item_of<'a>(
     alloc: Global,
-    bound: Bound,
-    syntax: Syntax,
-    levels: u8,
+    level: Level,
     octets: &'a [u8],
 ) -> Result<(Option<DataSet>, &'a [u8]), ReadFault>
-    requires { levels ≤ 16 }
+    requires { level.levels ≤ 16 }
     ensures value { (n : ℕ) → length octets.now ≤ n
-        → Gives (λ x. (x.0, x.1.now)) result (item_by (readers n) bound syntax levels octets.now) }
+        → Gives (λ x. (x.0, x.1.now)) result
+        (item_by (readers n) level.bound level.syntax level.levels octets.now) }
     ensures shorter { IfOk result (λ x. length x.1.now ≤ length octets.now) }
     ensures goes_on { IfOk result (λ x. OnSome x.0 (length x.1.now < length octets.now)) }
 {
-    if let Some(rest) = end_at(bound, SEQUENCE_END, octets)? {
+    if let Some(rest) = end_at(level.bound, SEQUENCE_END, octets)? {
         return Ok((None, rest));
     }
     let (length, rest) = item_header_at(octets)?;
-    let (elements, rest) = content_of(alloc, syntax, levels, length, rest)?;
+    let (elements, rest) = content_of(alloc, level, length, rest)?;
     Ok((Some(DataSet::from_elements(elements)), rest))
 }
 
 #[cycle(reading)]
 fn items_of<'a>(
     alloc: Global,
-    bound: Bound,
-    syntax: Syntax,
-    levels: u8,
+    level: Level,
     octets: &'a [u8],
 ) -> Result<(Vec<DataSet>, &'a [u8]), ReadFault>
-    requires { levels ≤ 16 }
+    requires { level.levels ≤ 16 }
     ensures value { (n : ℕ) → length octets.now < n
         → Gives (λ x. (x.0.items, x.1.now)) result
-        ((readers n).items bound syntax levels octets.now) }
+        ((readers n).items level.bound level.syntax level.levels octets.now) }
     ensures shorter { IfOk result (λ x. length x.1.now ≤ length octets.now) }
 {
     let mut items = Vec::new(alloc);
     let mut rest = octets;
     loop {
-        let (found, after) = item_of(alloc, bound, syntax, levels, rest)?;
+        let (found, after) = item_of(alloc, level, rest)?;
         let Some(item) = found else {
             return Ok((items, after));
         };
@@ -199,7 +206,12 @@ pub const DEPTH: u8 = 16;
 fn all_of(alloc: Global, octets: &[u8], syntax: Syntax) -> Result<DataSet, ReadFault>
     ensures { Gives (λ d. d) result (reading syntax octets.now) }
 {
-    let (elements, _) = elements_of(alloc, Bound::Filled, syntax, DEPTH, octets)?;
+    let level = Level {
+        bound: Bound::Filled,
+        syntax,
+        levels: DEPTH,
+    };
+    let (elements, _) = elements_of(alloc, level, octets)?;
     Ok(DataSet::from_elements(elements))
 }
 

@@ -40,7 +40,7 @@ elements_of-loop-elements-preserved t c =
     let more = elements_more _ _ _ _ _ _ _ c.loop-elements.invariant c.in-Some.header c.in-Some.value c.in_ok-found.after.now found.value found.goes_on in
     let e = ap (λ (es : List Element). c.loop-elements.elements.items ++ es) (kept_none c.in-Some.header c.in-Some.value c.if-tag-ne0.false)
     ∙ append-nil c.loop-elements.elements.items in
-    subst (λ (es : List Element). ElementsLeft c.args.bound c.args.syntax c.args.levels c.args.octets.now es (Some c.in-Some.header.tag)
+    subst (λ (es : List Element). ElementsLeft c.args.level.bound c.args.level.syntax c.args.level.levels c.args.octets.now es (Some c.in-Some.header.tag)
     c.in_ok-found.after.now) e more
 
 pub items_of-returns-in_default-clause-value : goal.items_of-returns-in_default-clause-value
@@ -54,19 +54,19 @@ items_of-loop-items-preserved t c =
 
 pub value_of-items_of-requires : goal.value_of-items_of-requires
 value_of-items_of-requires t c =
-    let left = level_left c.args.levels c.args.content c.in-Sequence-default-Some.syntax c.in-Sequence-default-Some.field-1 c.requires.nests
+    let left = level_left c.args.levels c.args.header.content c.in-Sequence-default-Some.syntax c.in-Sequence-default-Some.field-1 c.requires.nests
     c.in-Sequence-default-Some.is in
     (omega (arith, left), omega (arith, c.requires.shallow))
 
 pub value_of-items_of-requires-in-Sequence-default-None : goal.value_of-items_of-requires-in-Sequence-default-None
 value_of-items_of-requires-in-Sequence-default-None t c =
-    let left = level_left c.args.levels c.args.content c.in-Sequence-default-None.syntax c.in-Sequence-default-None.field-1 c.requires.nests
+    let left = level_left c.args.levels c.args.header.content c.in-Sequence-default-None.syntax c.in-Sequence-default-None.field-1 c.requires.nests
     c.in-Sequence-default-None.is in
     (omega (arith, left), omega (arith, c.requires.shallow))
 
 pub item_of-from_elements-requires : goal.item_of-from_elements-requires
 item_of-from_elements-requires t c =
-    content_is_data_set c.args.syntax c.args.levels c.in_ok-length.length c.in_ok-length.rest.now c.in_ok-elements.elements.items c.in_ok-elements.rest.now
+    content_is_data_set c.args.level.syntax c.args.level.levels c.in_ok-length.length c.in_ok-length.rest.now c.in_ok-elements.elements.items c.in_ok-elements.rest.now
     c.requires c.in_ok-length.ensures.whole
     (item_takes c.args.octets.now c.in_ok-length.length c.in_ok-length.rest.now (λ i. omega (arith, c.type_inv.octets i))
     c.in_ok-length.ensures.value).takes.rest_fits c.in_ok-elements.ensures.value
