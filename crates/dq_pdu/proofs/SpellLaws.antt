@@ -15,7 +15,7 @@ use Rattle.dq_list.specs.Readers.{provided}
 use Rattle.dq_list.proofs.Readers.{bind_some, provided_some}
 use Rattle.dq_pdu.specs.Octets.{parts_of}
 use Rattle.dq_pdu.specs.Spelling.{IsBody, Spells}
-use Rattle.dq_pdu.specs.Reading.{pdv_at, request_of, accept_of, values_of, four, pdu_of, front, body_length, is_unrecognized}
+use Rattle.dq_pdu.specs.Reading.{pdv_at, request_of, accept_of, values_of, if_short, pdu_of, front, body_length, is_unrecognized}
 use Rattle.dq_pdu.proofs.PartLaws.{some_is}
 use Rattle.dq_pdu.proofs.ItemLaws.{values_fill, values_read}
 use Rattle.dq_pdu.proofs.ContextLaws.{not_nil, filled}
@@ -71,7 +71,7 @@ abort_body body h =
     rw f.4 (refl, f.0, f.1, refl)
 
 -- a PDU whose body has four octets
-four_body : (kind : ℕ) (body : List ℕ) (made pdu : Pdu) → (length body ≡ 4 → IsBody made kind body) → four body made ≡ Some pdu → IsBody pdu kind body
+four_body : (kind : ℕ) (body : List ℕ) (made pdu : Pdu) → (length body ≡ 4 → IsBody made kind body) → if_short body made ≡ Some pdu → IsBody pdu kind body
 four_body kind body made pdu is e =
     let p = provided_some (eqb (length body) 4) made pdu e in
     subst (λ (q : Pdu). IsBody q kind body) p.1 (is (eqb-true _ _ p.0))
@@ -84,25 +84,25 @@ unfolding pdu_of
 pdu_spelled kind body pdu e =
     let reject = Reject (get_or body 1 0) (get_or body 2 0) (get_or body 3 0) in
     let abort = Abort (get_or body 2 0) (get_or body 3 0) in
-    let o7 = cond (eqb kind 7) (four body abort) None in
-    let o6 = cond (eqb kind 6) (four body ReleaseRp) o7 in
-    let o5 = cond (eqb kind 5) (four body ReleaseRq) o6 in
+    let o7 = cond (eqb kind 7) (if_short body abort) None in
+    let o6 = cond (eqb kind 6) (if_short body ReleaseRp) o7 in
+    let o5 = cond (eqb kind 5) (if_short body ReleaseRq) o6 in
     let o4 = cond (eqb kind 4) (values_of body) o5 in
-    let o3 = cond (eqb kind 3) (four body reject) o4 in
+    let o3 = cond (eqb kind 3) (if_short body reject) o4 in
     let o2 = cond (eqb kind 2) (option_map accept_pdu (accept_of body)) o3 in
     elim (chose (eqb kind 1) (option_map request_pdu (request_of body)) o2 (Some pdu) e) [
       | inl h ↦ body_of_kind kind 1 body pdu h.0 (request_body body pdu h.1)
       | inr n1 ↦ elim (chose (eqb kind 2) (option_map accept_pdu (accept_of body)) o3 (Some pdu) n1.1) [
         | inl h ↦ body_of_kind kind 2 body pdu h.0 (accept_body body pdu h.1)
-        | inr n2 ↦ elim (chose (eqb kind 3) (four body reject) o4 (Some pdu) n2.1) [
+        | inr n2 ↦ elim (chose (eqb kind 3) (if_short body reject) o4 (Some pdu) n2.1) [
           | inl h ↦ body_of_kind kind 3 body pdu h.0 (four_body 3 body reject pdu (reject_body body) h.1)
           | inr n3 ↦ elim (chose (eqb kind 4) (values_of body) o5 (Some pdu) n3.1) [
             | inl h ↦ body_of_kind kind 4 body pdu h.0 (values_body body pdu h.1)
-            | inr n4 ↦ elim (chose (eqb kind 5) (four body ReleaseRq) o6 (Some pdu) n4.1) [
+            | inr n4 ↦ elim (chose (eqb kind 5) (if_short body ReleaseRq) o6 (Some pdu) n4.1) [
               | inl h ↦ body_of_kind kind 5 body pdu h.0 (four_body 5 body ReleaseRq pdu (λ n. (refl, n)) h.1)
-              | inr n5 ↦ elim (chose (eqb kind 6) (four body ReleaseRp) o7 (Some pdu) n5.1) [
+              | inr n5 ↦ elim (chose (eqb kind 6) (if_short body ReleaseRp) o7 (Some pdu) n5.1) [
                 | inl h ↦ body_of_kind kind 6 body pdu h.0 (four_body 6 body ReleaseRp pdu (λ n. (refl, n)) h.1)
-                | inr n6 ↦ elim (chose (eqb kind 7) (four body abort) None (Some pdu) n6.1) [
+                | inr n6 ↦ elim (chose (eqb kind 7) (if_short body abort) None (Some pdu) n6.1) [
                   | inl h ↦ body_of_kind kind 7 body pdu h.0 (four_body 7 body abort pdu (abort_body body) h.1)
                   | inr n7 ↦ absurd (let z = n7.1 in cc)
                 ]

@@ -6,6 +6,7 @@ use Rattle.dq_pdu.specs.declared.pdu.Request.{Request}
 use Rattle.dq_pdu.specs.declared.pdu.Accept.{Accept}
 use Rattle.dq_pdu.specs.declared.pdu.ProposedContext.{ProposedContext}
 use Rattle.dq_pdu.specs.declared.pdu.AnsweredContext.{AnsweredContext}
+use Rattle.dq_pdu.specs.Numbers.{title_length, reserved_length}
 use Rattle.dq_pdu.specs.Octets.{are_distinct}
 use Rattle.dq_pdu.specs.Reading.{is_odd}
 use Rattle.dq_pdu.specs.Writing.{is_bare}
@@ -24,9 +25,9 @@ pub record AreContextIds (ids : List ℕ) : Type 0 where
 -- a request as its octets spell it
 pub record IsReceived (request : Request) : Type 0 where
   pub ids : AreContextIds (map (λ (c : ProposedContext). c.id) request.contexts)
-  pub called_sixteen : length request.called ≡ 16
-  pub calling_sixteen : length request.calling ≡ 16
-  pub reserved_thirty_two : length request.reserved ≡ 32
+  pub called_sixteen : length request.called ≡ title_length
+  pub calling_sixteen : length request.calling ≡ title_length
+  pub reserved_thirty_two : length request.reserved ≡ reserved_length
 
 -- An identifier has at most 64 octets, and no padding (PS3.5 section 9.1).
 abbrev pub is_identifier : List ℕ → Bool

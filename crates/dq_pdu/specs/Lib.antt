@@ -1,4 +1,5 @@
 pub mod Numbers
+pub mod Faults
 pub mod Octets
 pub mod Spelling
 pub mod Reading

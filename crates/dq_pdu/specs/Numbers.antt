@@ -65,6 +65,18 @@ longest_body = 0x10000
 abbrev pub associate_fields : ℕ
 associate_fields = 68
 
+-- Each of the titles of a request or an acceptance, and its reserved octets (PS3.8 section 9.3.2).
+abbrev pub title_length : ℕ
+title_length = 16
+
+abbrev pub reserved_length : ℕ
+reserved_length = 32
+
+-- The body of a rejection, of a release and its reply, and of an abort (PS3.8 sections 9.3.4 and
+-- 9.3.6 to 9.3.8).
+abbrev pub short_body : ℕ
+short_body = 0x04
+
 -- An item's header: its type, a reserved octet and the length of its body (PS3.8 section 9.3.2).
 abbrev pub item_header : ℕ
 item_header = 4
@@ -74,6 +86,9 @@ abbrev pub context_fields : ℕ
 context_fields = 4
 
 -- The octets of a PDV before its fragment: its length, the context's id and the control header
--- (PS3.8 annex E.2).
+-- (PS3.8 annex E.2). The length counts the last two of them.
 abbrev pub pdv_header : ℕ
 pdv_header = 6
+
+abbrev pub pdv_fields : ℕ
+pdv_fields = 2

@@ -18,7 +18,7 @@ use Rattle.dq_pdu.specs.declared.pdu.Accept.{Accept}
 use Rattle.dq_pdu.specs.declared.pdu.ProposedContext.{ProposedContext}
 use Rattle.dq_pdu.specs.declared.pdu.AnsweredContext.{AnsweredContext}
 use Rattle.dq_pdu.specs.declared.pdu.Pdv.{Pdv}
-use Rattle.dq_pdu.specs.Numbers.{a_associate_rq, a_associate_ac, a_associate_rj, p_data_tf, a_release_rq, a_release_rp, a_abort, application_context_item, proposed_context_item, answered_context_item, abstract_syntax_item, transfer_syntax_item, user_information_item, maximum_length_item, pdu_header, longest_body, associate_fields, item_header, context_fields, pdv_header}
+use Rattle.dq_pdu.specs.Numbers.{a_associate_rq, a_associate_ac, a_associate_rj, p_data_tf, a_release_rq, a_release_rp, a_abort, application_context_item, proposed_context_item, answered_context_item, abstract_syntax_item, transfer_syntax_item, user_information_item, maximum_length_item, pdu_header, longest_body, associate_fields, item_header, context_fields, pdv_header, pdv_fields, title_length, reserved_length, short_body}
 use Rattle.dq_pdu.specs.Octets.{parts_of, each, bodies, at_most_one, exactly_one, unpadded, are_distinct}
 
 -- what an error of a reader tells of what was to be read: nothing where memory ran out
@@ -46,12 +46,13 @@ unfoldable pub pdv_at : List ℕ → Option (Pdv × List ℕ)
 pdv_at octets =
     let size = from_be_bytes w32 (take 4 octets) in
     let behind = drop pdv_header octets in
-    let fragment = take (size - 2) behind in
-    if nat_lt (length octets) pdv_header || nat_lt size 2 || nat_lt (length (drop 4 octets)) size
+    let fragment = take (size - pdv_fields) behind in
+    if nat_lt (length octets) pdv_header || nat_lt size pdv_fields
+    || nat_lt (length (drop 4 octets)) size
     then None
     else Some (
       pdv_of (slice_index octets 4) (slice_index octets 5) fragment,
-      drop (size - 2) behind,
+      drop (size - pdv_fields) behind,
     )
 
 -- whether a context's id is odd
@@ -103,9 +104,9 @@ associate_of body items = do
   maximum ← user_information_of user
   Some (record {
     version = from_be_bytes w16 (take 2 body);
-    called = take 16 (drop 4 body);
-    calling = take 16 (drop 20 body);
-    reserved = take 32 (drop 36 body);
+    called = take title_length (drop 4 body);
+    calling = take title_length (drop 20 body);
+    reserved = take reserved_length (drop 36 body);
     application_context = option_map unpadded application;
     maximum_length = maximum;
   })
@@ -155,9 +156,9 @@ values_of body = do
   values ← parts_of pdv_at body
   provided (not (is_empty values)) (PData values)
 
--- a body of four octets
-abbrev pub four : List ℕ → Pdu → Option Pdu
-four body pdu = provided (length body == 4) pdu
+-- a PDU of which the body has four octets
+abbrev pub if_short : List ℕ → Pdu → Option Pdu
+if_short body pdu = provided (length body == short_body) pdu
 
 -- the PDU of a type that has the body
 unfoldable pub pdu_of : ℕ → List ℕ → Option Pdu
@@ -165,11 +166,11 @@ pdu_of kind body =
     if kind == a_associate_rq then option_map request_pdu (request_of body)
     else (if kind == a_associate_ac then option_map accept_pdu (accept_of body)
     else (if kind == a_associate_rj
-    then four body (Reject (slice_index body 1) (slice_index body 2) (slice_index body 3))
+    then if_short body (Reject (slice_index body 1) (slice_index body 2) (slice_index body 3))
     else (if kind == p_data_tf then values_of body
-    else (if kind == a_release_rq then four body ReleaseRq
-    else (if kind == a_release_rp then four body ReleaseRp
-    else (if kind == a_abort then four body (Abort (slice_index body 2) (slice_index body 3))
+    else (if kind == a_release_rq then if_short body ReleaseRq
+    else (if kind == a_release_rp then if_short body ReleaseRp
+    else (if kind == a_abort then if_short body (Abort (slice_index body 2) (slice_index body 3))
     else None))))))
 
 -- a PDU of so many octets, or none where the body breaks a rule

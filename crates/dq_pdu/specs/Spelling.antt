@@ -10,7 +10,7 @@ use Rattle.dq_pdu.specs.declared.pdu.Accept.{Accept}
 use Rattle.dq_pdu.specs.declared.pdu.ProposedContext.{ProposedContext}
 use Rattle.dq_pdu.specs.declared.pdu.AnsweredContext.{AnsweredContext}
 use Rattle.dq_pdu.specs.declared.pdu.Pdv.{Pdv}
-use Rattle.dq_pdu.specs.Numbers.{a_associate_rq, a_associate_ac, a_associate_rj, p_data_tf, a_release_rq, a_release_rp, a_abort, application_context_item, proposed_context_item, answered_context_item, abstract_syntax_item, transfer_syntax_item, user_information_item, maximum_length_item, longest_body}
+use Rattle.dq_pdu.specs.Numbers.{a_associate_rq, a_associate_ac, a_associate_rj, p_data_tf, a_release_rq, a_release_rp, a_abort, application_context_item, proposed_context_item, answered_context_item, abstract_syntax_item, transfer_syntax_item, user_information_item, maximum_length_item, longest_body, title_length, reserved_length, short_body, pdv_fields}
 use Rattle.dq_pdu.specs.Octets.{Says, Fills, Pairwise, bodies, at_most_one, exactly_one, unpadded, are_distinct}
 
 -- An item or sub-item: its type, a reserved octet, the length of its body in two octets, its body
@@ -28,7 +28,7 @@ pub record IsPdv (pdv : Pdv) (octets : List ℕ) : Type 0 where
   pub control : ℕ
   pub size : List ℕ
   pub spelled : octets ≡ size ++ pdv.context ∷ control ∷ pdv.octets
-  pub sized : Says w32 size (length pdv.octets + 2)
+  pub sized : Says w32 size (length pdv.octets + pdv_fields)
   pub command : pdv.command ≡ (control % 2 == 1)
   pub last : pdv.last ≡ ((control / 2) % 2 == 1)
 
@@ -72,9 +72,9 @@ pub record IsAssociate
   pub spelled : body ≡ number ++ gap ++ called ++ calling ++ reserved ++ rest
   pub version_is : Says w16 number version
   pub gap_two : length gap ≡ 2
-  pub called_sixteen : length called ≡ 16
-  pub calling_sixteen : length calling ≡ 16
-  pub reserved_thirty_two : length reserved ≡ 32
+  pub called_sixteen : length called ≡ title_length
+  pub calling_sixteen : length calling ≡ title_length
+  pub reserved_thirty_two : length reserved ≡ reserved_length
   pub fills : Fills IsItem items rest
 
 -- the maximum length item, if there is one, has the number in four octets (PS3.8 annex D.1)
@@ -123,8 +123,8 @@ IsBody (accept_pdu accept) kind body = (kind ≡ a_associate_ac) × IsAccept acc
 IsBody (Reject result source reason) kind body =
     (kind ≡ a_associate_rj) × (free : ℕ) × (body ≡ free ∷ result ∷ source ∷ reason ∷ [])
 IsBody (PData values) kind body = (kind ≡ p_data_tf) × (values ≢ []) × Fills IsPdv values body
-IsBody ReleaseRq kind body = (kind ≡ a_release_rq) × (length body ≡ 4)
-IsBody ReleaseRp kind body = (kind ≡ a_release_rp) × (length body ≡ 4)
+IsBody ReleaseRq kind body = (kind ≡ a_release_rq) × (length body ≡ short_body)
+IsBody ReleaseRp kind body = (kind ≡ a_release_rp) × (length body ≡ short_body)
 IsBody (Abort source reason) kind body =
     (kind ≡ a_abort) × (first : ℕ) × (second : ℕ)
     × (body ≡ first ∷ second ∷ source ∷ reason ∷ [])

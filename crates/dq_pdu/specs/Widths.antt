@@ -3,6 +3,7 @@
 use Rattle.std.specs.Prelude.{◌≡◌, ℕ, ◌-◌, ◌^◌, ◌<◌, min, List, length, Option, IfSome}
 use Rattle.dq_pdu.specs.declared.pdu.Pdu.{Pdu}
 use Rattle.dq_pdu.specs.declared.pdu.Pdu.TheVariants.{Request as request_pdu, Accept as accept_pdu, Reject, PData, ReleaseRq, ReleaseRp, Abort}
+use Rattle.dq_pdu.specs.Numbers.{title_length, reserved_length}
 
 -- a number of octets, or the greatest that is counted
 abbrev pub counted : ℕ → ℕ
@@ -12,9 +13,9 @@ counted n = min n (2 ^ 64 - 1)
 pub record AreWide (version : ℕ) (called calling reserved : List ℕ) (maximum : Option ℕ)
     : Type 0 where
   pub version_two : version < 2 ^ 16
-  pub called_sixteen : length called ≡ 16
-  pub calling_sixteen : length calling ≡ 16
-  pub reserved_thirty_two : length reserved ≡ 32
+  pub called_sixteen : length called ≡ title_length
+  pub calling_sixteen : length calling ≡ title_length
+  pub reserved_thirty_two : length reserved ≡ reserved_length
   pub maximum_four : IfSome maximum (λ n. n < 2 ^ 32)
 
 abbrev pub HasWidths : Pdu → Type 0

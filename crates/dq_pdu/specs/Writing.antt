@@ -11,7 +11,7 @@ use Rattle.dq_pdu.specs.declared.pdu.ProposedContext.{ProposedContext}
 use Rattle.dq_pdu.specs.declared.pdu.AnsweredContext.{AnsweredContext}
 use Rattle.dq_pdu.specs.declared.pdu.Pdv.{Pdv}
 use Rattle.dq_list.specs.Lengths.{is_empty}
-use Rattle.dq_pdu.specs.Numbers.{a_associate_rq, a_associate_ac, a_associate_rj, p_data_tf, a_release_rq, a_release_rp, a_abort, application_context_item, proposed_context_item, answered_context_item, abstract_syntax_item, transfer_syntax_item, user_information_item, maximum_length_item, implementation_class_uid_item, implementation_version_name_item, longest_body}
+use Rattle.dq_pdu.specs.Numbers.{a_associate_rq, a_associate_ac, a_associate_rj, p_data_tf, a_release_rq, a_release_rp, a_abort, application_context_item, proposed_context_item, answered_context_item, abstract_syntax_item, transfer_syntax_item, user_information_item, maximum_length_item, implementation_class_uid_item, implementation_version_name_item, longest_body, pdv_fields}
 use Rattle.dq_pdu.specs.Octets.{is_padding, are_distinct}
 use Rattle.dq_pdu.specs.Spelling.{Spells}
 use Rattle.dq_pdu.specs.Reading.{is_odd}
@@ -25,7 +25,7 @@ control_header command last = (if command then 1 else 0) + (if last then 2 else 
 
 abbrev pub pdv : Pdv → List ℕ
 pdv v =
-    to_be_bytes w32 (length v.octets + 2)
+    to_be_bytes w32 (length v.octets + pdv_fields)
     ++ v.context ∷ control_header v.command v.last ∷ v.octets
 
 abbrev pub proposed_body : ProposedContext → List ℕ

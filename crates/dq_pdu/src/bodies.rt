@@ -6,7 +6,10 @@ ghost use Rattle.dq_pdu.specs.Octets.{parts_of, bodies, each, unpadded};
 ghost use Rattle.dq_pdu.specs.Reading.{Fails, item_at, maximum_in, user_information_of, proposed_of, answered_of, associate_of, request_of, accept_of, pdv_at, values_of, pdu_of};
 
 use crate::items::{at_most_one, exactly_one, items_of, name_of, names_of};
-use crate::numbers::{ASSOCIATE_FIELDS, CONTEXT_FIELDS, PDV_HEADER, item_type, pdu_type};
+use crate::numbers::{
+    ASSOCIATE_FIELDS, CONTEXT_FIELDS, PDV_FIELDS, PDV_HEADER, RESERVED_LENGTH, TITLE_LENGTH,
+    item_type, pdu_type,
+};
 use crate::pdu::{Accept, AnsweredContext, Pdu, Pdv, ProposedContext, Request};
 use crate::reading::{Item, ReadError};
 use crate::rules::are_distinct;
@@ -137,9 +140,9 @@ fn application_context_of(
 #[derive(Debug, Drop)]
 pub(crate) struct Associate {
     pub version: u16,
-    pub called: [u8; 16],
-    pub calling: [u8; 16],
-    pub reserved: [u8; 32],
+    pub called: [u8; TITLE_LENGTH],
+    pub calling: [u8; TITLE_LENGTH],
+    pub reserved: [u8; RESERVED_LENGTH],
     pub application_context: Option<Listed<u8>>,
     pub maximum_length: Option<u32>,
 }
@@ -247,10 +250,10 @@ fn value_at(alloc: Global, octets: &[u8]) -> Result<(Pdv, &[u8]), ReadError>
     }
     let (header, behind) = octets.split_at(PDV_HEADER);
     let size = u32::from_be_bytes([header[0], header[1], header[2], header[3]]) as usize;
-    if size < 2 || behind.len() < size - 2 {
+    if size < PDV_FIELDS || behind.len() < size - PDV_FIELDS {
         return Err(ReadError::Malformed);
     }
-    let (fragment, rest) = behind.split_at(size - 2);
+    let (fragment, rest) = behind.split_at(size - PDV_FIELDS);
     let value = Pdv {
         context: header[4],
         command: header[5] % 2 == 1,

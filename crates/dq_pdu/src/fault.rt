@@ -15,6 +15,17 @@ pub enum PduFault {
     Malformed = 3,
 }
 
+impl PduFault {
+    ghost use Rattle.dq_pdu.specs.Faults.{number_of_fault};
+
+    /// 1 to 3, in the order in which the faults are declared.
+    pub fn number(self) -> u8
+        ensures { result ≡ number_of_fault self }
+    {
+        self as u8
+    }
+}
+
 /// Why a piece was not taken.
 #[derive(Clone, Copy, Debug, PartialEq, Eq, Error)]
 pub enum InboxError {
@@ -22,6 +33,17 @@ pub enum InboxError {
     NoMemory = 4,
     #[error("memory ran out before")]
     Spent = 5,
+}
+
+impl InboxError {
+    ghost use Rattle.dq_pdu.specs.Faults.{number_of_error};
+
+    /// 4 and 5, after the faults of a stream.
+    pub fn number(self) -> u8
+        ensures { result ≡ number_of_error self }
+    {
+        self as u8
+    }
 }
 
 impl From<AllocError> for InboxError {

@@ -18,6 +18,7 @@ mod writing;
 
 pub use fault::{InboxError, PduFault};
 pub use inbox::{Fed, Inbox};
+pub use numbers::{LONGEST_BODY, PDV_HEADER};
 pub use pdu::{Accept, AnsweredContext, Pdu, Pdv, ProposedContext, Request};
 pub use role::{Ending, Role};
 pub use writing::{append_p_data, writable, write_pdu};

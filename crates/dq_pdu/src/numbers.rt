@@ -42,10 +42,20 @@ pub(crate) mod item_type {
 pub(crate) const PDU_HEADER: usize = 6;
 
 /// The longest body of a PDU that is received or written.
-pub(crate) const LONGEST_BODY: usize = 0x1_0000;
+pub const LONGEST_BODY: usize = 0x1_0000;
 
 /// The fixed fields of a request or an acceptance (PS3.8 section 9.3.2).
 pub(crate) const ASSOCIATE_FIELDS: usize = 68;
+
+/// Each of the titles of a request or an acceptance (PS3.8 section 9.3.2).
+pub(crate) const TITLE_LENGTH: usize = 16;
+
+/// The reserved octets after the titles (PS3.8 section 9.3.2).
+pub(crate) const RESERVED_LENGTH: usize = 32;
+
+/// The body of a rejection, of a release and its reply, and of an abort (PS3.8 sections 9.3.4 and
+/// 9.3.6 to 9.3.8).
+pub(crate) const SHORT_BODY: usize = 0x04;
 
 /// An item's type, a reserved octet and the length of its body (PS3.8 section 9.3.2).
 pub(crate) const ITEM_HEADER: usize = 4;
@@ -53,5 +63,11 @@ pub(crate) const ITEM_HEADER: usize = 4;
 /// A presentation context's octets before its sub-items (PS3.8 sections 9.3.2.2 and 9.3.3.2).
 pub(crate) const CONTEXT_FIELDS: usize = 4;
 
+/// A maximum length as an item: its header and four octets (PS3.8 annex D.1).
+pub(crate) const MAXIMUM_LENGTH_ITEM: usize = ITEM_HEADER + 4;
+
 /// A PDV's length, its context's id and its control header (PS3.8 annex E.2).
-pub(crate) const PDV_HEADER: usize = 6;
+pub const PDV_HEADER: usize = 6;
+
+/// The last two of them, which a PDV's length counts.
+pub(crate) const PDV_FIELDS: usize = 2;

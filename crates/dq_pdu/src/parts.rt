@@ -6,7 +6,7 @@ ghost use Rattle.dq_pdu.specs.Numbers.{transfer_syntax_item, longest_body};
 ghost use Rattle.dq_pdu.specs.Writing.{item, proposed, proposed_body, answered, answered_body, control_header, pdv};
 ghost use Rattle.dq_pdu.specs.Widths.{counted};
 
-use crate::numbers::{CONTEXT_FIELDS, ITEM_HEADER, PDV_HEADER, item_type};
+use crate::numbers::{CONTEXT_FIELDS, ITEM_HEADER, PDV_FIELDS, PDV_HEADER, item_type};
 use crate::pdu::{AnsweredContext, Pdv, ProposedContext};
 use dq_list::Listed;
 use std::alloc::AllocError;
@@ -47,7 +47,9 @@ pub(crate) fn put_parts<P: Part>(out: &mut Vec<u8>, parts: &[P]) -> Result<(), A
     Ok(())
 }
 
-fn put_item_header(out: &mut Vec<u8>, kind: u8, size: usize) -> Result<(), AllocError>
+/// Writes an item's header: its type, a reserved octet and the length of its body (PS3.8 section
+/// 9.3.2).
+pub(crate) fn put_item_header(out: &mut Vec<u8>, kind: u8, size: usize) -> Result<(), AllocError>
     requires { size < 65536 }
     ensures { OnOk result (out.new.items ≡ out.old.items ++ kind ∷ 0 ∷ to_be_bytes w16 size) }
 {
@@ -146,8 +148,8 @@ pub(crate) fn put_pdv(
       octets = fragment.now;
     })) }
 {
-    let size = fragment.len() as u32 + 2;
-    out.extend_from_slice(&size.to_be_bytes())?;
+    let size = fragment.len() + PDV_FIELDS;
+    out.extend_from_slice(&(size as u32).to_be_bytes())?;
     out.extend_from_slice(&[context, control_header(command, last)])?;
     out.extend_from_slice(fragment)
 }

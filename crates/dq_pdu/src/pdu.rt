@@ -1,3 +1,4 @@
+use crate::numbers::{RESERVED_LENGTH, TITLE_LENGTH};
 use dq_list::Listed;
 
 /// A protocol data PDU (PS3.8 section 9.3).
@@ -24,9 +25,9 @@ pub enum Pdu {
 pub struct Request {
     /// The protocol version, a field of bits.
     pub version: u16,
-    pub called: [u8; 16],
-    pub calling: [u8; 16],
-    pub reserved: [u8; 32],
+    pub called: [u8; TITLE_LENGTH],
+    pub calling: [u8; TITLE_LENGTH],
+    pub reserved: [u8; RESERVED_LENGTH],
     pub application_context: Option<Listed<u8>>,
     pub contexts: Listed<ProposedContext>,
     pub maximum_length: Option<u32>,
@@ -44,9 +45,9 @@ pub struct ProposedContext {
 #[derive(Debug, Drop)]
 pub struct Accept {
     pub version: u16,
-    pub called: [u8; 16],
-    pub calling: [u8; 16],
-    pub reserved: [u8; 32],
+    pub called: [u8; TITLE_LENGTH],
+    pub calling: [u8; TITLE_LENGTH],
+    pub reserved: [u8; RESERVED_LENGTH],
     pub application_context: Option<Listed<u8>>,
     pub contexts: Listed<AnsweredContext>,
     pub maximum_length: Option<u32>,

@@ -4,8 +4,11 @@ ghost use Rattle.dq_pdu.specs.Numbers.{longest_body, pdv_header};
 ghost use Rattle.dq_pdu.specs.Writing.{item, application_context, maximum_length, request_information, implementation, accept_information, associate, request as request_body, accept as accept_body, kind, body, spelling, p_data, is_writable, IsWritable};
 ghost use Rattle.dq_pdu.specs.Widths.{counted, AreWide, HasWidths};
 
-use crate::numbers::{ITEM_HEADER, LONGEST_BODY, PDU_HEADER, PDV_HEADER, item_type, pdu_type};
-use crate::parts::{put_item, put_parts, put_pdv, size_of_parts};
+use crate::numbers::{
+    ITEM_HEADER, LONGEST_BODY, MAXIMUM_LENGTH_ITEM, PDU_HEADER, PDV_HEADER, SHORT_BODY, item_type,
+    pdu_type,
+};
+use crate::parts::{put_item, put_item_header, put_parts, put_pdv, size_of_parts};
 use crate::pdu::{Accept, Pdu, Request};
 use crate::rules::has_parts;
 use dq_list::Listed;
@@ -34,7 +37,7 @@ fn size_of_request(request: &Request) -> usize
     let contexts = size_of_parts(request.contexts.as_slice());
     let information = match request.maximum_length {
         None => 0,
-        Some(_maximum) => 12,
+        Some(_maximum) => ITEM_HEADER + MAXIMUM_LENGTH_ITEM,
     };
     contexts
         .saturating_add(name)
@@ -53,8 +56,8 @@ fn size_of_accept(accept: &Accept) -> usize
     let name = size_of_name(&accept.application_context);
     let contexts = size_of_parts(accept.contexts.as_slice());
     let information = match accept.maximum_length {
-        None => 37,
-        Some(_maximum) => 45,
+        None => ITEM_HEADER + IMPLEMENTATION_ITEMS,
+        Some(_maximum) => ITEM_HEADER + MAXIMUM_LENGTH_ITEM + IMPLEMENTATION_ITEMS,
     };
     contexts
         .saturating_add(name)
@@ -70,7 +73,7 @@ fn size_of_body(pdu: &Pdu) -> usize
         Pdu::Request(request) => size_of_request(request),
         Pdu::Accept(accept) => size_of_accept(accept),
         Pdu::PData(values) => size_of_parts(values.as_slice()),
-        Pdu::Reject(..) | Pdu::ReleaseRq | Pdu::ReleaseRp | Pdu::Abort(..) => 4,
+        Pdu::Reject(..) | Pdu::ReleaseRq | Pdu::ReleaseRp | Pdu::Abort(..) => SHORT_BODY,
     }
 }
 
@@ -107,20 +110,29 @@ fn put_request_information(out: &mut Vec<u8>, maximum: Option<u32>) -> Result<()
     match maximum {
         None => Ok(()),
         Some(maximum) => {
-            out.extend_from_slice(&[item_type::USER_INFORMATION, 0, 0, 8])?;
+            put_item_header(out, item_type::USER_INFORMATION, MAXIMUM_LENGTH_ITEM)?;
             put_maximum_length(out, maximum)
         }
     }
 }
+
+/// This implementation's class (PS3.7 annex D.3.3.2.1).
+const IMPLEMENTATION_CLASS_UID: &[u8] = b"2.25.2718281828";
+
+/// The name of this implementation's version (PS3.7 annex D.3.3.2.3).
+const IMPLEMENTATION_VERSION_NAME: &[u8] = b"DQARCHIVE1";
+
+/// The octets of both as items.
+const IMPLEMENTATION_ITEMS: usize = 33;
 
 /// Names this implementation (PS3.7 annex D.3.3.2).
 fn put_implementation(out: &mut Vec<u8>) -> Result<(), AllocError>
     ensures { OnOk result (out.new.items ≡ out.old.items ++ implementation) }
 {
     let class = item_type::IMPLEMENTATION_CLASS_UID;
-    put_item(out, class, b"2.25.2718281828")?;
+    put_item(out, class, IMPLEMENTATION_CLASS_UID)?;
     let name = item_type::IMPLEMENTATION_VERSION_NAME;
-    put_item(out, name, b"DQARCHIVE1")
+    put_item(out, name, IMPLEMENTATION_VERSION_NAME)
 }
 
 fn put_accept_information(out: &mut Vec<u8>, maximum: Option<u32>) -> Result<(), AllocError>
@@ -128,11 +140,12 @@ fn put_accept_information(out: &mut Vec<u8>, maximum: Option<u32>) -> Result<(),
 {
     match maximum {
         None => {
-            out.extend_from_slice(&[item_type::USER_INFORMATION, 0, 0, 33])?;
+            put_item_header(out, item_type::USER_INFORMATION, IMPLEMENTATION_ITEMS)?;
             put_implementation(out)
         }
         Some(maximum) => {
-            out.extend_from_slice(&[item_type::USER_INFORMATION, 0, 0, 41])?;
+            let size = MAXIMUM_LENGTH_ITEM + IMPLEMENTATION_ITEMS;
+            put_item_header(out, item_type::USER_INFORMATION, size)?;
             put_maximum_length(out, maximum)?;
             put_implementation(out)
         }
@@ -178,7 +191,7 @@ fn put_body(out: &mut Vec<u8>, pdu: &Pdu) -> Result<(), AllocError>
             out.extend_from_slice(&[0, *result, *source, *reason])
         }
         Pdu::PData(values) => put_parts(out, values.as_slice()),
-        Pdu::ReleaseRq | Pdu::ReleaseRp => out.extend_from_slice(&[0; 4]),
+        Pdu::ReleaseRq | Pdu::ReleaseRp => out.extend_from_slice(&[0; SHORT_BODY]),
         Pdu::Abort(source, reason) => out.extend_from_slice(&[0, 0, *source, *reason]),
     }
 }
