@@ -1,10 +1,10 @@
 -- What is sent is read again.
-use Rattle.std.proofs.Common.{◌≡◌, ℕ, ◌+◌, ◌<◌, ◌≤◌, ◌⊎◌, Bool, true, false, List, [], ◌∷◌, ◌++◌, length, map, Option, Some, None, inl, refl, sym, ap, subst}
+use Rattle.std.proofs.Common.{◌≡◌, ℕ, ◌+◌, ◌<◌, ◌≤◌, Bool, true, false, List, [], ◌∷◌, ◌++◌, length, map, Option, Some, None, inl, refl, sym, ap, subst}
 use Rattle.std.proofs.Common.{◌∙◌, arith}
 use Rattle.std.specs.Prelude.{IsTrue, All}
 use Rattle.std.specs.List.{flat_map}
 use Rattle.std.proofs.lemmas.Bool.Decides.{nat_tests}
-use Rattle.std.proofs.lemmas.List.{append-nil}
+use Rattle.std.proofs.lemmas.List.{append-nil, map-append}
 use Rattle.std.proofs.lemmas.List.Concat.{flat_map-append}
 use Rattle.std.proofs.lemmas.List.Elements.{All-append, All-from_recursion}
 use Rattle.dq_pdu.specs.declared.pdu.Pdu.{Pdu}
@@ -18,7 +18,7 @@ use Rattle.dq_dimse.specs.declared.command.Message.{Message}
 use Rattle.dq_dimse.specs.Commands.{command_of}
 use Rattle.dq_dimse.specs.Messages.{command_limit, joined, AreFragments, AreAllFragments, IsCommand, HasOctets, IsDataPart, IsMessage}
 use Rattle.dq_dimse.specs.Assembling.{messages}
-use Rattle.dq_dimse.specs.Sending.{fragment_size, fragments, AreSized, pdus_of, command_set, cut, sent}
+use Rattle.dq_dimse.specs.Sending.{IsLimit, fragment_size, fragments, AreSized, pdus_of, command_set, cut, sent}
 use Rattle.dq_dimse.specs.Carrying.{CarriesData, Carries, pdu_with, IsDataOf}
 use Rattle.dq_dimse.proofs.Runs.{IsOf, no_fragments}
 use Rattle.dq_dimse.proofs.Fragments.{fragments_join, fragments_sized}
@@ -110,7 +110,7 @@ both_writable (x ∷ xs) ys a b = (a.0, both_writable xs ys a.1 b)
 
 -- ---- what is sent
 
-some_room : (limit : ℕ) → (limit ≡ 0) ⊎ (8 ≤ limit) → 0 < fragment_size limit
+some_room : (limit : ℕ) → IsLimit limit → 0 < fragment_size limit
 some_room limit h = grind (arith, nat_tests)
 
 -- octets cut into PDUs, as the PDVs in them
@@ -121,7 +121,7 @@ record IsCut (context : ℕ) (command : Bool) (octets written : List ℕ) : Type
   pub fragments : AreAllFragments context command pdvs
   pub octets_are : joined pdvs ≡ octets
 
-is_cut : FragmentsAreWritable → (context : ℕ) (command : Bool) (limit : ℕ) (octets : List ℕ) → (limit ≡ 0) ⊎ (8 ≤ limit)
+is_cut : FragmentsAreWritable → (context : ℕ) (command : Bool) (limit : ℕ) (octets : List ℕ) → IsLimit limit
     → IsCut context command octets (cut context command limit octets)
 is_cut w context command limit octets h =
     let size = fragment_size limit in
@@ -137,10 +137,6 @@ is_cut w context command limit octets h =
       octets_are = pdvs_of-joined context command run ∙ fragments_join (length octets) size octets;
     }
 
-map-append : (xs ys : List Pdv) → map pdu_with (xs ++ ys) ≡ map pdu_with xs ++ map pdu_with ys
-map-append [] ys = refl
-map-append (x ∷ xs) ys = ap (λ (pdus : List Pdu). pdu_with x ∷ pdus) (map-append xs ys)
-
 -- the PDUs of a command set, and after them those of a data set
 record IsSent (context : ℕ) (set : List ℕ) (octets : Option (List ℕ)) (written : List ℕ) : Type 0 where
   pub pdvs : List Pdv
@@ -148,7 +144,7 @@ record IsSent (context : ℕ) (set : List ℕ) (octets : Option (List ℕ)) (wri
   pub writable : AreWritable (map pdu_with pdvs)
   pub carries : Carries context set octets pdvs
 
-is_sent : FragmentsAreWritable → (context limit : ℕ) (command : Command) (octets : Option (List ℕ)) → (limit ≡ 0) ⊎ (8 ≤ limit)
+is_sent : FragmentsAreWritable → (context limit : ℕ) (command : Command) (octets : Option (List ℕ)) → IsLimit limit
     → IsSent context (command_set command) octets (sent context command octets limit)
 is_sent w context limit command None h =
     let set = is_cut w context true limit (command_set command) h in
@@ -174,8 +170,8 @@ is_sent w context limit command (Some octets) h =
       written_is =
           ap (λ (xs : List ℕ). xs ++ cut context false limit octets) set.written_is
           ∙ ap (λ (xs : List ℕ). flat_map spelling (map pdu_with set.pdvs) ++ xs) part.written_is
-          ∙ sym (flat_map-append spelling (map pdu_with set.pdvs) (map pdu_with part.pdvs)) ∙ ap (flat_map spelling) (sym (map-append set.pdvs part.pdvs));
-      writable = subst AreWritable (sym (map-append set.pdvs part.pdvs))
+          ∙ sym (flat_map-append spelling (map pdu_with set.pdvs) (map pdu_with part.pdvs)) ∙ ap (flat_map spelling) (sym (map-append pdu_with set.pdvs part.pdvs));
+      writable = subst AreWritable (sym (map-append pdu_with set.pdvs part.pdvs))
           (both_writable (map pdu_with set.pdvs) (map pdu_with part.pdvs) set.writable part.writable);
       carries = record {
         commands = set.pdvs;
@@ -187,7 +183,7 @@ is_sent w context limit command (Some octets) h =
       };
     }
 
-pub sent_read : FragmentsAreWritable → WrittenIsRead → (context limit : ℕ) (command : Command) (octets : Option (List ℕ)) → (limit ≡ 0) ⊎ (8 ≤ limit)
+pub sent_read : FragmentsAreWritable → WrittenIsRead → (context limit : ℕ) (command : Command) (octets : Option (List ℕ)) → IsLimit limit
     → (pdvs : List Pdv) × (pdus_in (sent context command octets limit) ≡ record { list = map pdu_with pdvs; rest = []; fault = None }) × Carries context
     (command_set command) octets pdvs
 sent_read w read context limit command octets h =

@@ -1,5 +1,5 @@
 -- Octets cut into PDUs, as a loop writes them.
-use Rattle.std.proofs.Common.{◌≡◌, ℕ, zero, suc, ◌+◌, ◌<◌, ◌≤◌, ◌⊎◌, Bool, true, false, cond, leb, List, [], ◌∷◌, ◌++◌, length, take, drop, refl, sym, ap}
+use Rattle.std.proofs.Common.{◌≡◌, ℕ, zero, suc, ◌+◌, ◌<◌, ◌≤◌, Bool, true, false, cond, leb, List, [], ◌∷◌, ◌++◌, length, take, drop, refl, sym, ap}
 use Rattle.std.proofs.Common.{◌∙◌, append_assoc, arith, length-drop}
 use Rattle.std.specs.List.{flat_map}
 use Rattle.std.proofs.lemmas.Bool.{le-leb, lt-leb}
@@ -7,7 +7,7 @@ use Rattle.std.proofs.lemmas.Bool.Decides.{nat_tests}
 use Rattle.std.proofs.lemmas.List.{append-nil}
 use Rattle.dq_pdu.specs.declared.pdu.Pdv.{Pdv}
 use Rattle.dq_pdu.specs.Writing.{pdv, body, spelling, is_writable, p_data}
-use Rattle.dq_dimse.specs.Sending.{pdu_limit, fragment_size, fragments_within, pdus_of}
+use Rattle.dq_dimse.specs.Sending.{IsLimit, pdu_limit, fragment_size, fragments_within, pdus_of}
 
 abbrev pub pdus_within : ℕ → Bool → ℕ → ℕ → List ℕ → List ℕ
 pdus_within context command fuel size octets = flat_map spelling (pdus_of context command (fragments_within fuel size octets))
@@ -18,17 +18,17 @@ pdu_length context command last octets =
     let long : length (pdv value) ≡ length octets + 6 = omega arith in
     ap length (append-nil (pdv value)) ∙ long
 
-pub has_room : (limit : ℕ) → (limit ≡ 0) ⊎ (8 ≤ limit) → (fragment_size limit + 6 ≤ pdu_limit limit) × (pdu_limit limit ≤ 16384)
+pub has_room : (limit : ℕ) → IsLimit limit → (fragment_size limit + 6 ≤ pdu_limit limit) × (pdu_limit limit ≤ 16384)
 has_room limit h = grind (arith, nat_tests)
 
-pub pdu_short : (limit context : ℕ) (command last : Bool) (octets : List ℕ) → (limit ≡ 0) ⊎ (8 ≤ limit) → length octets ≤ fragment_size limit
+pub pdu_short : (limit context : ℕ) (command last : Bool) (octets : List ℕ) → IsLimit limit → length octets ≤ fragment_size limit
     → length (body (p_data context command last octets)) ≤ pdu_limit limit
 pdu_short limit context command last octets h short =
     let r = has_room limit h in
     let n = pdu_length context command last octets in
     omega arith
 
-pub pdu_writable : (limit context : ℕ) (command last : Bool) (octets : List ℕ) → (limit ≡ 0) ⊎ (8 ≤ limit) → length octets ≤ fragment_size limit
+pub pdu_writable : (limit context : ℕ) (command last : Bool) (octets : List ℕ) → IsLimit limit → length octets ≤ fragment_size limit
     → is_writable (p_data context command last octets) ≡ true
 pdu_writable limit context command last octets h short =
     let r = has_room limit h in

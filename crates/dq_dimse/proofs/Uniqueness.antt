@@ -220,10 +220,6 @@ bad_command : (context : ℕ) (octets : List ℕ) (last : Bool) → IsBad octets
 bad_command context octets last (inl long) = passes context octets last long
 bad_command context octets last (inr (short, finished, none)) = ends_with context octets last None short finished none
 
-state_no_fault : (context : ℕ) (run : List Pdv) → fault_in (state context run) ≡ None
-state_no_fault context [] = refl
-state_no_fault context (x ∷ xs) = refl
-
 -- a PDV of the wrong context
 wrong_context : (ids : List ℕ) (context : ℕ) (front : List Pdv) (pdv : Pdv) → AwaitsCommand ids context front → (IsExpected ids front pdv → ⊥)
     → gather ids (state context front) pdv ≡ stops_at WrongContext

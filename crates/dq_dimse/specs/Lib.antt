@@ -1,3 +1,4 @@
+pub mod Faults
 pub mod Answering
 pub mod Assembling
 pub mod Carrying

@@ -1,5 +1,5 @@
 -- A message as it is sent (PS3.7 section 6.3.1 and annex E, PS3.8 annex E): one PDV in each PDU.
-use Rattle.std.specs.Prelude.{◌≡◌, ◌<◌, ◌≤◌, ℕ, zero, suc, ◌+◌, ◌-◌, ◌*◌, ◌/◌, ◌%◌, min, Bool}
+use Rattle.std.specs.Prelude.{◌≡◌, ◌⊎◌, ◌<◌, ◌≤◌, ℕ, zero, suc, ◌+◌, ◌-◌, ◌*◌, ◌/◌, ◌%◌, min, Bool}
 use Rattle.std.specs.Prelude.{true, false, ◌==◌, nat_le, if◌then◌else◌, List, [], ◌∷◌, ◌++◌}
 use Rattle.std.specs.Prelude.{length, take, drop, Option, Some, None}
 use Rattle.std.specs.List.{flat_map}
@@ -46,8 +46,16 @@ command_set command =
     element command_group_length (to_le_bytes w32 (length (command_elements command)))
     ++ command_elements command
 
--- The longest PDU that is sent: 16,384 octets, or what the peer takes where that is less. A peer's limit
--- of 0 is none.
+-- The shortest PDU that carries data: the header of a value and a fragment of two octets.
+abbrev pub least_limit : ℕ
+least_limit = 8
+
+-- The longest PDU that a peer takes (PS3.8 annex D.1): 0 is no limit, and any other leaves room for
+-- data.
+abbrev pub IsLimit : ℕ → Type 0
+IsLimit limit = (limit ≡ 0) ⊎ (least_limit ≤ limit)
+
+-- The longest PDU that is sent: 16,384 octets, or what the peer takes where that is less.
 abbrev pub own_limit : ℕ
 own_limit = 16384
 
@@ -75,8 +83,8 @@ pub record IsFragmentSize (limit size : ℕ) : Type 0 where
   pub room : size + pdv_header ≤ pdu_limit limit
   pub largest : pdu_limit limit < size + 8
 
--- Each fragment but the last has exactly the size, and the last is not longer. Only a lone one may be
--- empty.
+-- Each fragment but the last has exactly the size, and the last is not longer. Only a lone one may
+-- be empty.
 abbrev pub AreSized : ℕ → List (List ℕ) → Type 0
 AreSized size [] = ⊥
 AreSized size (octets ∷ []) = length octets ≤ size

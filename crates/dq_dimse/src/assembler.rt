@@ -247,9 +247,9 @@ impl Assembler {
     /// proportion to its octets. After a fault it answers the same fault to every PDV.
     ///
     /// `WrongContext` where the context is not accepted, or not that of the message begun;
-    /// `WrongKind` for a data fragment where a command fragment is due, or the reverse; `BadCommand`
-    /// where the fragments are no command set, or over 16,384 octets (PS3.7 section 6.3.1, PS3.8
-    /// annex E).
+    /// `WrongKind` for a data fragment where a command fragment is due, or the reverse;
+    /// `BadCommand` where the fragments are no command set, or over 16,384 octets (PS3.7 section
+    /// 6.3.1, PS3.8 annex E).
     pub fn take(&mut self, pdv: &Pdv) -> Result<Option<Message>, DimseFault>
         // Whatever PDVs the assembler was given: the message, or the fault, that one more adds.
         ensures adds { (ids : List ℕ) (pdvs : List Pdv) → AssemblerAfter ids pdvs self.old →
@@ -259,7 +259,6 @@ impl Assembler {
         // What one PDV adds, by the assembler alone.
         ensures exact { Adds result [] (messages_from self.old (pdv.now ∷ [])) }
         ensures next { OnOk result (self.new ≡ assembly_from self.old (pdv.now ∷ [])) }
-
         ensures spent { IfErr result (λ fault. spent_by self.new ≡ Some fault) }
         ensures unspent { OnOk result (spent_by self.new ≡ None) }
         ensures stays { (fault : DimseFault) →

@@ -19,6 +19,17 @@ pub enum DimseFault {
     NoMemory = 4,
 }
 
+impl DimseFault {
+    ghost use Rattle.dq_dimse.specs.Faults.{number_of};
+
+    /// 1 to 4, in the order in which the faults are declared.
+    pub fn number(self) -> u8
+        ensures { result ≡ number_of self }
+    {
+        self as u8
+    }
+}
+
 impl From<AllocError> for DimseFault {
     ghost from_gives = { λ _ e. e ≡ NoMemory };
 

@@ -17,7 +17,7 @@ ghost use Rattle.dq_dimse.specs.Messages.{AreMessages, AreLeft, command_limit};
 ghost use Rattle.dq_dimse.specs.Assembling.{Assembly, AssemblerAfter, messages, messages_from};
 ghost use Rattle.dq_dimse.specs.Assembling.{assembly_from, followed_by, spent_by};
 ghost use Rattle.dq_dimse.specs.Sending.{IsFragmentSize, AreFragmentsOf, command_set, pdu_limit};
-ghost use Rattle.dq_dimse.specs.Sending.{fragment_size, fragments, sent};
+ghost use Rattle.dq_dimse.specs.Sending.{fragment_size, fragments, sent, IsLimit};
 
 use dq_dataset::laws::spelling_law;
 use dq_pdu::laws::{fragments_are_writable, written_pdus_are_read};
@@ -96,17 +96,17 @@ pub fn assemblers_go_on()
 
 /// The length of a fragment is the largest that a PDU for the peer has room for (PS3.8 annex D.1).
 pub fn fragments_leave_room()
-    ensures { (limit : ℕ) → (limit ≡ 0) ⊎ (8 ≤ limit) →
+    ensures { (limit : ℕ) → IsLimit limit →
         IsFragmentSize limit (fragment_size limit) }
 {}
 
 /// A fragment's PDU is no longer than the peer takes, and it can be written.
 pub fn pdus_fit()
     ensures short { (limit context : ℕ) (command last : Bool) (octets : List ℕ) →
-        (limit ≡ 0) ⊎ (8 ≤ limit) → length octets ≤ fragment_size limit →
+        IsLimit limit → length octets ≤ fragment_size limit →
         length (body (p_data context command last octets)) ≤ pdu_limit limit }
     ensures writable { (limit context : ℕ) (command last : Bool) (octets : List ℕ) →
-        (limit ≡ 0) ⊎ (8 ≤ limit) → length octets ≤ fragment_size limit →
+        IsLimit limit → length octets ≤ fragment_size limit →
         IsTrue (is_writable (p_data context command last octets)) }
 {}
 
@@ -122,7 +122,7 @@ pub fn fragments_are_the_only()
 /// carry the command set and the data set.
 pub fn what_is_sent_is_read()
     ensures { (context limit : ℕ) (command : Command) (octets : Option (List ℕ)) →
-        (limit ≡ 0) ⊎ (8 ≤ limit) → (pdvs : List Pdv)
+        IsLimit limit → (pdvs : List Pdv)
         × (pdus_in (sent context command octets limit)
         ≡ record { list = map pdu_with pdvs; rest = []; fault = None })
         × Carries context (command_set command) octets pdvs }

@@ -2,18 +2,18 @@
 ghost use Rattle.std.specs.Prelude.{◌≡◌, ℕ, ◌+◌, ◌<◌, ◌≤◌, ◌++◌, ◌⊎◌, ◌↔◌, length, IsTrue, IsSome};
 ghost use Rattle.std.specs.Prelude.{IfOk, OnOk, option_map};
 ghost use Rattle.dq_dimse.specs.Sending.{padded, element, short_element, instance_element};
+ghost use Rattle.dq_pdu.specs.Numbers.{pdv_header};
 ghost use Rattle.dq_dimse.specs.Sending.{command_elements, command_set, fragment_size};
+ghost use Rattle.dq_dimse.specs.Sending.{IsLimit, own_limit};
 ghost use Rattle.dq_dimse.specs.Sending.{cut_within, cut, data_cut, sent};
 
 use crate::command::Command;
 use crate::numbers;
-use dq_pdu::append_p_data;
+use dq_pdu::{PDV_HEADER, append_p_data};
 use std::alloc::{AllocError, Global};
 
 /// The longest body of a PDU that is sent.
-const PDU_LIMIT: u32 = 16_384;
-/// The octets of a PDV before its fragment.
-const PDV_HEADER: u32 = 6;
+const PDU_LIMIT: usize = 16_384;
 
 /// Writes an element of group 0000.
 fn put_element(out: &mut Vec<u8>, number: u16, value: &[u8]) -> Result<(), AllocError>
@@ -90,17 +90,17 @@ fn command_set(alloc: Global, command: &Command) -> Result<Vec<u8>, AllocError>
 
 /// The length of a fragment for a peer's limit, where 0 is no limit.
 fn fragment_size(limit: u32) -> usize
-    requires { (limit ≡ 0) ⊎ (8 ≤ limit) }
+    requires { IsLimit limit }
     ensures size { result ≡ fragment_size limit }
     ensures some { 0 < result }
-    ensures short { result ≤ 16378 }
+    ensures short { result + pdv_header ≤ own_limit }
 {
     let limit = if limit == 0 {
         PDU_LIMIT
     } else {
-        limit.min(PDU_LIMIT)
+        (limit as usize).min(PDU_LIMIT)
     };
-    ((limit - PDV_HEADER) / 2 * 2) as usize
+    (limit - PDV_HEADER) / 2 * 2
 }
 
 /// Writes octets, cut into PDUs of fragments of a size.
@@ -112,7 +112,7 @@ fn put_fragments(
     octets: &[u8],
 ) -> Result<(), AllocError>
     requires some { 0 < size }
-    requires short { size ≤ 16378 }
+    requires short { size + pdv_header ≤ own_limit }
     ensures { OnOk result (out.new.items
         ≡ out.old.items ++ cut_within context command size octets.now) }
 {
@@ -133,7 +133,7 @@ fn put_cut(
     limit: u32,
     octets: &[u8],
 ) -> Result<(), AllocError>
-    requires { (limit ≡ 0) ⊎ (8 ≤ limit) }
+    requires { IsLimit limit }
     ensures { OnOk result (out.new.items
         ≡ out.old.items ++ cut context command limit octets.now) }
 {
@@ -147,7 +147,7 @@ fn put_data(
     limit: u32,
     octets: Option<&[u8]>,
 ) -> Result<(), AllocError>
-    requires { (limit ≡ 0) ⊎ (8 ≤ limit) }
+    requires { IsLimit limit }
     ensures { OnOk result (out.new.items
         ≡ out.old.items ++ data_cut context limit (option_map (λ o. o.now) octets.entry)) }
 {
@@ -167,7 +167,7 @@ pub fn write_message(
     limit: u32,
 ) -> Result<Vec<u8>, AllocError>
     requires with_data { IsTrue command.now.with_data ↔ IsSome octets }
-    requires limit { (limit ≡ 0) ⊎ (8 ≤ limit) }
+    requires limit { IsLimit limit }
     ensures { IfOk result (λ written. written.items
         ≡ sent context command.now (option_map (λ o. o.now) octets.entry) limit) }
 {
