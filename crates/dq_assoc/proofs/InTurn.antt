@@ -58,17 +58,6 @@ pub record TookSome (old now : Held) (list : List Message) (fault : Option PduFa
   pub after : (before : List Pdu) → AssociationAfter before old → AssociationAfter (before ++ done) now
   pub agrees : agreement_in now ≡ agreement_in old
 
-pub took-none : (old : Held) (list : List Message) (fault : Option PduFault) (all left : List Pdu) → state_of old ≡ Open → list ≡ [] → left ≡ all
-    → TookSome old old list fault all [] left
-took-none old list fault all left o e l = record {
-  is_open = o;
-  parts = sym l;
-  leads = ap (λ (messages : List Message). after_messages messages (open_outcome (inputs_from old left fault))) e
-      ∙ ap (λ (pdus : List Pdu). open_outcome (inputs_from old pdus fault)) l;
-  after = λ before a. subst (λ (pdus : List Pdu). AssociationAfter pdus old) (sym (append-nil before)) a;
-  agrees = refl;
-}
-
 -- what an open association's step leads to
 open-step : (now new : Held) (pdu : Pdu) (step : Step) → state_of now ≡ Open → TookOne now new pdu step
     → step ≡ open_outcome (inputs_from now (pdu ∷ []) None)
@@ -78,9 +67,6 @@ step-unclosed : (step : Step) (first later : List Input) → step ≡ open_outco
     → after_messages step.messages (open_outcome later) ≡ open_outcome (first ++ later)
 step-unclosed step first later e c =
     ap (λ (s : Step). after_messages s.messages (open_outcome later)) e ∙ sym (unclosed first later (ap (λ (s : Step). s.close) (sym e) ∙ c))
-
-step-closing : (step : Step) (first later : List Input) → step ≡ open_outcome first → step.close ≡ true → step ≡ open_outcome (first ++ later)
-step-closing step first later e c = e ∙ sym (closing first later (ap (λ (s : Step). s.close) (sym e) ∙ c))
 
 after-both : (list more : List Message) (step : Step) → after_messages (list ++ more) step ≡ after_messages list (after_messages more step)
 after-both list more step =
@@ -106,34 +92,6 @@ took-more old now new list longer fault all done left later pdu step so l t c e 
           subst (λ (pdus : List Pdu). AssociationAfter pdus new) (append_assoc before done (pdu ∷ [])) (t.after (before ++ done) (so.after before a));
       agrees = kept ∙ so.agrees;
     }
-
--- a PDU that closes
-pub took-last : (old now new : Held) (list : List Message) (fault : Option PduFault) (all done left later : List Pdu) (pdu : Pdu) (step : Step)
-    → TookSome old now list fault all done left → left ≡ pdu ∷ later → TookOne now new pdu step → step.close ≡ true
-    → after_messages list step ≡ open_outcome (inputs_from old all fault)
-took-last old now new list fault all done left later pdu step so l t c =
-    let first = inputs_from now (pdu ∷ []) None in
-    ap (after_messages list) (step-closing step first (inputs_from new later fault) (open-step now new pdu step so.is_open t) c)
-    ∙ ap (λ (inputs : List Input). after_messages list (open_outcome inputs)) (sym (t.further later fault))
-    ∙ ap (λ (pdus : List Pdu). after_messages list (open_outcome (inputs_from now pdus fault))) (sym l)
-    ∙ so.leads
-
--- all of them
-pub record TookAll (old now : Held) (list : List Message) (fault : Option PduFault) (all : List Pdu) : Type 0 where
-  pub is_open : state_of now ≡ Open
-  pub leads : after_messages list (open_outcome (inputs_from now [] fault)) ≡ open_outcome (inputs_from old all fault)
-  pub after : (before : List Pdu) → AssociationAfter before old → AssociationAfter (before ++ all) now
-  pub agrees : agreement_in now ≡ agreement_in old
-
-pub took-all : (old now : Held) (list : List Message) (fault : Option PduFault) (all done left : List Pdu)
-    → TookSome old now list fault all done left → left ≡ [] → TookAll old now list fault all
-took-all old now list fault all done left so e = record {
-  is_open = so.is_open;
-  leads = ap (λ (pdus : List Pdu). after_messages list (open_outcome (inputs_from now pdus fault))) (sym e) ∙ so.leads;
-  after = λ before a. subst (λ (pdus : List Pdu). AssociationAfter (before ++ pdus) now)
-      (sym (so.parts ∙ ap (λ (pdus : List Pdu). done ++ pdus) e ∙ append-nil done)) (so.after before a);
-  agrees = so.agrees;
-}
 
 -- no fault comes after them
 pub nothing-after : (h : Held) (list messages : List Message) (octets : List ℕ) (fault : Option PduFault) → IsTrue (is_sound h) → fault ≡ None

@@ -3,6 +3,7 @@ mod Contexts
 mod Ends
 mod FromHere
 mod InTurn
+mod Loops
 mod OneByOne
 mod OnePdu
 pub mod Places

@@ -14,7 +14,7 @@ use Rattle.dq_dimse.proofs.Assemblies.{assembly_from-nil}
 use Rattle.dq_assoc.specs.declared.association.Held.{Held}
 use Rattle.dq_assoc.specs.declared.association.Held.TheVariants as held
 use Rattle.dq_assoc.specs.declared.association.State.{State}
-use Rattle.dq_assoc.specs.declared.association.State.TheVariants.{Waiting, Open, Closed}
+use Rattle.dq_assoc.specs.declared.association.State.TheVariants.{Waiting, Open}
 use Rattle.dq_assoc.specs.declared.association.Step.{Step}
 use Rattle.dq_assoc.specs.declared.association.Verdict.{Verdict}
 use Rattle.dq_assoc.specs.Negotiation.{agreement_of, acceptance_of}
@@ -71,11 +71,6 @@ take-further (Err error) old new pdu x = tt
 
 -- ---- the request
 
-at-state : (state : State) (request : Request) → state ≡ state_of (association_at state request)
-at-state Waiting request = refl
-at-state Open request = refl
-at-state Closed request = refl
-
 writable-open : (b : Bool) (answer : Pdu) → let l = cond b (goes (Some answer) Open) stray_line in is_closed l.next ≡ false → l.next ≡ Open
 writable-open true answer e = refl
 writable-open false answer e = absurd cc
@@ -89,12 +84,6 @@ opened : (request : Request) (verdict : Verdict) (step : Step) (new : Held) → 
     step ≡ step_of l → new ≡ association_at l.next request → step.close ≡ false → new ≡ held.Open (agreement_of request) (assembly_for request)
 opened request verdict step new e x unclosed =
     x ∙ ap (λ (state : State). association_at state request) (requested-open request _ (sym (ap (λ (s : Step). s.close) e) ∙ unclosed))
-
-pub accept-close : (result : Result Step AllocError) (request : Request) (verdict : Verdict) (new : Held) → let l = line Waiting verdict (Requested request) in
-    IfOk result (λ step. step ≡ step_of l) → OnOk result (new ≡ association_at l.next request) → IfOk result (λ step. step.close ≡ is_closed (state_of new))
-accept-close (Ok step) request verdict new e x =
-    ap (λ (s : Step). s.close) e ∙ ap is_closed (at-state _ request) ∙ ap (λ (h : Held). is_closed (state_of h)) (sym x)
-accept-close (Err error) request verdict new e x = tt
 
 pub accept-after : (result : Result Step AllocError) (request : Request) (verdict : Verdict) (new : Held) → let l = line Waiting verdict (Requested request) in
     IfOk result (λ step. step ≡ step_of l) → OnOk result (new ≡ association_at l.next request)

@@ -11,6 +11,7 @@ use Rattle.dq_pdu.specs.declared.pdu.Pdu.TheVariants.{Accept as accept_pdu, Reje
 use Rattle.dq_pdu.specs.declared.pdu.Request.{Request}
 use Rattle.dq_pdu.specs.declared.pdu.ProposedContext.{ProposedContext}
 use Rattle.dq_pdu.specs.declared.pdu.AnsweredContext.{AnsweredContext}
+use Rattle.dq_pdu.specs.Numbers.{longest_body}
 use Rattle.dq_assoc.specs.declared.classes.SopClass.{SopClass}
 use Rattle.dq_assoc.specs.declared.agreement.AgreedContext.{AgreedContext}
 use Rattle.dq_assoc.specs.declared.agreement.Agreement.{Agreement}
@@ -107,20 +108,21 @@ ids_of agreement = map (λ (c : AgreedContext). c.id) agreement.contexts
 abbrev pub context_of : Agreement → ℕ → Option AgreedContext
 context_of agreement id = find (λ (c : AgreedContext). c.id == id) agreement.contexts
 
--- the longest PDU that is received
-abbrev pub own_maximum : ℕ
-own_maximum = 0x10000
+-- The protocol's version, a field of bits: version 1 is bit 0 (PS3.8 section 9.3.2).
+abbrev pub protocol_version : ℕ
+protocol_version = 0x0001
 
--- version 1, both titles and the reserved octets as received, and each context answered in order
+-- version 1, both titles and the reserved octets as received, and each context answered in order;
+-- the longest PDU that is received
 abbrev pub acceptance_of : Request → Pdu
 acceptance_of request = accept_pdu (record {
-  version = 1;
+  version = protocol_version;
   called = request.called;
   calling = request.calling;
   reserved = request.reserved;
   application_context = Some dicom_context;
   contexts = map answered_context request.contexts;
-  maximum_length = Some own_maximum;
+  maximum_length = Some longest_body;
 })
 
 -- whether the application context is that of DICOM
@@ -165,7 +167,7 @@ verdict_rejection Accept = None
 verdict_rejection Nowhere = Some unknown_rejection
 verdict_rejection Busy = Some (Reject transient presentation_provider local_limit_exceeded)
 
--- What a request is rejected with, in this order. Version 1 is bit 0.
+-- What a request is rejected with, in this order.
 abbrev pub rejection : Request → Verdict → Option Pdu
 rejection request verdict =
     if not (request.version % 2 == 1)

@@ -1,9 +1,6 @@
 -- How long the PDUs are that a peer takes (PS3.8 annex D.1).
 use Rattle.std.specs.Prelude.{ℕ, Bool, true, ◌||◌, ◌==◌, nat_le, if◌then◌else◌, Option, Some, None, unwrap_or}
-
--- the shortest PDU that carries data: the header of a value and a fragment of two octets
-abbrev pub least_limit : ℕ
-least_limit = 8
+use Rattle.dq_dimse.specs.Sending.{least_limit}
 
 -- no maximum length, no limit, or room for such a PDU
 abbrev pub has_room : Option ℕ → Bool

@@ -1,6 +1,7 @@
 -- The association table (PS3.8 section 9.2): for each state and input the PDU that is answered and
 -- the next state. The states are Waiting (Sta2), Open (Sta6) and Closed (Sta13, or Sta1 where the
--- connection is closed at once).
+-- connection is closed at once). Sta3 and Sta8, in which the service user is asked, are passed
+-- through within a line: a request and a release are answered at once.
 use Rattle.std.specs.Prelude.{ℕ, Bool, true, false, if◌then◌else◌, List, [], Option, Some, None}
 use Rattle.dq_pdu.specs.declared.pdu.Pdu.{Pdu}
 use Rattle.dq_pdu.specs.declared.pdu.Pdu.TheVariants.{ReleaseRp, Abort}
@@ -56,11 +57,11 @@ invalid_parameter = 0x06
 abbrev pub stray_line : Line
 stray_line = goes (Some (Abort by_user not_specified)) Closed
 
--- AE-6 and AE-7: a request is accepted
+-- AE-7: a request is accepted
 abbrev pub accepted_line : Pdu → Line
 accepted_line answer = if is_writable answer then goes (Some answer) Open else stray_line
 
--- AE-6, AE-8: or rejected
+-- AE-6 and AE-8: or it is rejected
 abbrev pub requested_line : Request → Option Pdu → Line
 requested_line request None = accepted_line (acceptance_of request)
 requested_line request (Some answer) = goes (Some answer) Closed
@@ -69,21 +70,27 @@ requested_line request (Some answer) = goes (Some answer) Closed
 abbrev pub abort_line : ℕ → Line
 abort_line reason = goes (Some (Abort by_provider reason)) Closed
 
--- the lines of Waiting; AA-2 at the peer's abort
+-- the lines of Waiting
 abbrev pub waiting_line : Verdict → Input → Line
+-- AE-6, then AE-7 or AE-8
 waiting_line verdict (Requested request) = requested_line request (rejection request verdict)
+-- AA-2
 waiting_line verdict PeerAborted = goes None Closed
+-- AA-1
 waiting_line verdict Stray = stray_line
 waiting_line verdict (Sent message) = stray_line
 waiting_line verdict Released = stray_line
 waiting_line verdict (Bad reason) = stray_line
 
--- The lines of Open: DT-2 at a message, which its service answers; AR-2 and AR-4 at the peer's
--- release; AA-3 at its abort.
+-- the lines of Open
 abbrev pub open_line : Input → Line
+-- DT-2: its service answers the message
 open_line (Sent message) = goes None Open
+-- AR-2, then AR-4
 open_line Released = goes (Some ReleaseRp) Closed
+-- AA-3
 open_line PeerAborted = goes None Closed
+-- AA-8
 open_line (Bad reason) = abort_line reason
 open_line (Requested request) = abort_line unexpected_pdu
 open_line Stray = abort_line unexpected_pdu
@@ -92,6 +99,7 @@ open_line Stray = abort_line unexpected_pdu
 abbrev pub line : State → Verdict → Input → Line
 line Waiting verdict input = waiting_line verdict input
 line Open verdict input = open_line input
+-- AA-6: what still comes is ignored
 line Closed verdict input = goes None Closed
 
 -- the octets of an answer

@@ -1,5 +1,6 @@
 //! What an association agrees on when its request is accepted (PS3.8 section 7.1.1).
-ghost use Rattle.std.specs.Prelude.{◌≡◌, ◌≤◌, ◌⊎◌, IfOk};
+ghost use Rattle.std.specs.Prelude.{◌≡◌, IfOk};
+ghost use Rattle.dq_dimse.specs.Sending.{IsLimit};
 ghost use Rattle.dq_assoc.specs.PeerLimits.{limit_of};
 ghost use Rattle.dq_assoc.specs.Negotiation.{context_of, ids_of};
 
@@ -45,7 +46,7 @@ impl PeerLimit {
     /// In octets, where 0 is no limit.
     pub fn octets(&self) -> u32
         ensures same { result ≡ self.now }
-        ensures room { (result ≡ 0) ⊎ (8 ≤ result) }
+        ensures room { IsLimit result }
     {
         self.octets
     }

@@ -3,13 +3,13 @@ ghost use Rattle.std.specs.Option.{ForSome, option_copied};
 ghost use Rattle.dq_pdu.specs.declared.fault.PduFault.{PduFault};
 ghost use Rattle.dq_pdu.specs.Writing.{IsWritable};
 ghost use Rattle.dq_dimse.specs.Assembling.{spent_by, messages_from, assembly_from};
-ghost use Rattle.dq_assoc.specs.Negotiation.{agreement_of};
-ghost use Rattle.dq_assoc.specs.Table.{Requested, line, answer_octets};
+ghost use Rattle.dq_assoc.specs.Negotiation.{agreement_of, acceptance_of, peer_limit};
+ghost use Rattle.dq_assoc.specs.Table.{Requested, accepted_line, line, answer_octets};
 ghost use Rattle.dq_assoc.specs.Inputs.{misplaced_input, closing_input, reason_of};
 ghost use Rattle.dq_assoc.specs.After.{state_of, is_closed, agreement_in, AssociationAfter, association_at, association_by, open_if, inputs_by, inputs_from, TakesRole, Takes};
 ghost use Rattle.dq_assoc.specs.Steps.{step_of, values_step, fault_answer, after_messages, outcome};
 
-use crate::agreement::Agreement;
+use crate::agreement::{Agreement, PeerLimit};
 use crate::negotiation;
 use dq_dimse::{Assembler, DimseFault, Message};
 use dq_list::Listed;
@@ -246,6 +246,16 @@ fn read_values(alloc: Global, assembler: &mut Assembler, values: &[Pdv]) -> Resu
     })
 }
 
+/// What an association holds once its request is accepted.
+fn opened(alloc: Global, request: &Request, limit: PeerLimit) -> Result<Held, AllocError>
+    requires { limit ≡ peer_limit request.now }
+    ensures { IfOk result (λ held. held ≡ association_at State.Open request.now) }
+{
+    let agreement = negotiation::agreement_of(alloc, request, limit)?;
+    let assembler = Assembler::new(alloc, agreement.ids(alloc)?);
+    Ok(Held::Open(agreement, assembler))
+}
+
 impl Association {
     /// An association that awaits its request. It takes no memory.
     pub fn new(alloc: Global) -> Self
@@ -300,7 +310,6 @@ impl Association {
     }
 
     /// Answers the request, by the line of the table.
-    #[tactic(auto, using(crate::proofs::ShortPdus::abort_is_writable))]
     fn open(&mut self, request: Request, verdict: Verdict) -> Result<Step, AllocError>
         ensures step { IfOk result (λ step.
             step ≡ step_of (line State.Waiting verdict (Requested request))) }
@@ -310,24 +319,36 @@ impl Association {
             self.new ≡ association_at next request) }
     {
         self.held = Held::Closed;
-        let messages = Listed::empty(self.alloc);
-        let limit = match negotiation::peer_limit(&request, verdict) {
-            Ok(limit) => limit,
-            // AE-8
-            Err(rejected) => return closing_step(self.alloc, messages, Some(rejected)),
-        };
-        let answer = negotiation::acceptance(self.alloc, &request)?;
+        match negotiation::peer_limit(&request, verdict) {
+            Ok(limit) => self.open_unless_stray(&request, limit),
+            // AE-6, AE-8
+            Err(rejected) => { closing_step(self.alloc, Listed::empty(self.alloc), Some(rejected)) }
+        }
+    }
+
+    /// Answers a request that is not rejected.
+    #[tactic(auto, using(crate::proofs::ShortPdus::abort_is_writable))]
+    fn open_unless_stray(&mut self, request: &Request, limit: PeerLimit) -> Result<Step, AllocError>
+        requires closed { self.old ≡ Held.Closed }
+        requires limit { limit ≡ peer_limit request.now }
+        ensures step { IfOk result (λ step.
+            step ≡ step_of (accepted_line (acceptance_of request.now))) }
+        ensures close { IfOk result (λ step. step.close ≡ is_closed (state_of self.new)) }
+        ensures exact { OnOk result (
+            let next = (accepted_line (acceptance_of request.now)).next in
+            self.new ≡ association_at next request.now) }
+    {
+        let answer = negotiation::acceptance(self.alloc, request)?;
         if !writable(&answer) {
+            // AA-1
             let stray = Pdu::Abort(BY_USER, NOT_SPECIFIED);
-            return closing_step(self.alloc, messages, Some(stray));
+            return closing_step(self.alloc, Listed::empty(self.alloc), Some(stray));
         }
         // AE-7
         let octets = write_pdu(self.alloc, &answer)?;
-        let agreement = negotiation::agreement_of(self.alloc, &request, limit)?;
-        let assembler = Assembler::new(self.alloc, agreement.ids(self.alloc)?);
-        self.held = Held::Open(agreement, assembler);
+        self.held = opened(self.alloc, request, limit)?;
         Ok(Step {
-            messages,
+            messages: Listed::empty(self.alloc),
             octets: Listed::from_inner(octets),
             close: false,
         })

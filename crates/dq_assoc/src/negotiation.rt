@@ -8,7 +8,7 @@ use crate::association::Verdict;
 use crate::classes::SopClass;
 use dq_dataset::Syntax;
 use dq_list::Listed;
-use dq_pdu::{Accept, AnsweredContext, Pdu, ProposedContext, Request};
+use dq_pdu::{Accept, AnsweredContext, LONGEST_BODY, Pdu, ProposedContext, Request};
 use std::alloc::{AllocError, Global};
 
 /// The DICOM application context (PS3.7 annex A.2.1).
@@ -20,8 +20,8 @@ const IMPLICIT_SYNTAX: &[u8] = b"1.2.840.10008.1.2";
 /// Explicit VR Little Endian (PS3.5 annex A.2).
 const EXPLICIT_SYNTAX: &[u8] = b"1.2.840.10008.1.2.1";
 
-/// The longest PDU that is received (PS3.8 annex D.1).
-const OWN_MAXIMUM: u32 = 0x10000;
+/// The protocol's version, a field of bits: version 1 is bit 0 (PS3.8 section 9.3.2).
+const PROTOCOL_VERSION: u16 = 0x0001;
 
 /// The result of a presentation context that is accepted (PS3.8 table 9-18).
 const ACCEPTANCE: u8 = 0x00;
@@ -138,19 +138,19 @@ fn answered_contexts(
     Ok(answers)
 }
 
-/// The acceptance of a request: version 1, both titles and the reserved octets as received, and
-/// each context answered in order (PS3.8 section 9.3.3).
+/// The acceptance of a request: version 1, both titles and the reserved octets as received, each
+/// context answered in order, and the longest PDU that is received (PS3.8 section 9.3.3).
 pub(crate) fn acceptance(alloc: Global, request: &Request) -> Result<Pdu, AllocError>
     ensures { IfOk result (λ answer. answer ≡ acceptance_of request.now) }
 {
     Ok(Pdu::Accept(Accept {
-        version: 1,
+        version: PROTOCOL_VERSION,
         called: request.called,
         calling: request.calling,
         reserved: request.reserved,
         application_context: Some(Listed::copy_of(alloc, DICOM_CONTEXT)?),
         contexts: answered_contexts(alloc, request.contexts.as_slice())?,
-        maximum_length: Some(OWN_MAXIMUM),
+        maximum_length: Some(LONGEST_BODY as u32),
     }))
 }
 
