@@ -15,39 +15,39 @@ use crate::reading::{configured, read_events};
 use crate::reporting::report;
 use crate::stop::Stop;
 use crate::surroundings::{Folder, Sink, Source};
-use crate::words::{Task, line_of, parse};
+use crate::words::{Asked, Task, line_of, parse};
 use clap::error::ErrorKind;
 use std::alloc::AllocError;
 use std::convert::AsStr;
 use std::io;
 use std::io::ErrorKind as IoKind;
 
-/// Does a task: reads the configuration, then the capture, and prints the replies or the report.
+/// Does what is asked: reads the configuration, then the capture, and prints the replies or the
+/// report.
 fn play<Rt: AllocGlobal + Folder, R: Source, W: Sink>(
     rt: &Rt,
-    task: Task,
-    file: Option<&str>,
+    asked: Asked<'_>,
     input: R,
     output: &mut W,
 ) -> Result<(), Stop>
-    ensures done { OnOk result (IsBy (Rt.held rt.now) (option_copied file.entry)
+    ensures done { OnOk result (IsBy (Rt.held rt.now) (option_copied asked.entry.file)
         (R.octets input) (λ institutions events.
         Appends (W.written output.old) (W.written output.new)
-        (text_of task institutions events))) }
+        (text_of asked.entry.task institutions events))) }
     ensures flushed { OnOk result (W.is_flushed output.new) }
     ensures stops { IfErr result (λ stop.
         (Keeps (W.written output.old) (W.written output.new)
-        × RefusesFile (Rt.may_fail rt.now) (Rt.held rt.now) (option_copied file.entry) stop)
+        × RefusesFile (Rt.may_fail rt.now) (Rt.held rt.now) (option_copied asked.entry.file) stop)
         ⊎ (Keeps (W.written output.old) (W.written output.new)
-        × HasConfig (Rt.held rt.now) (option_copied file.entry)
+        × HasConfig (Rt.held rt.now) (option_copied asked.entry.file)
         × RefusesCapture (R.may_fail input) (R.octets input) stop)
-        ⊎ IsBy (Rt.held rt.now) (option_copied file.entry) (R.octets input)
-        (λ institutions events. CutsTask task (W.may_fail output.old) (W.written output.old)
-        (W.written output.new) institutions events stop)) }
+        ⊎ IsBy (Rt.held rt.now) (option_copied asked.entry.file) (R.octets input)
+        (λ institutions events. CutsTask asked.entry.task (W.may_fail output.old)
+        (W.written output.old) (W.written output.new) institutions events stop)) }
 {
-    let config = configured(rt, file)?;
+    let config = configured(rt, asked.file)?;
     let events = read_events(rt.alloc(), input)?;
-    match task {
+    match asked.task {
         Task::Replay => answer(rt.alloc(), config, events, output),
         Task::Report => report(rt.alloc(), config, events, output),
     }
@@ -130,11 +130,11 @@ pub fn perform<Rt: AllocGlobal + Folder, S: AsStr, R: Source, W: Sink, E: Sink>(
         Ok(line) => line,
         Err(error) => return stopped(Stop::from(error), errors),
     };
-    let (task, file) = match parse(rt.alloc(), line.as_slice()) {
+    let asked = match parse(rt.alloc(), line.as_slice()) {
         Ok(asked) => asked,
         Err(error) => return refused(&error, errors),
     };
-    match play(rt, task, file, input, output) {
+    match play(rt, asked, input, output) {
         Ok(()) => 0,
         Err(stop) => stopped(stop, errors),
     }

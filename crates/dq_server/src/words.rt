@@ -23,6 +23,13 @@ pub enum Task {
     Report,
 }
 
+/// What a command line asks for: a task, and the configuration's file if one is named.
+#[derive(Clone, Copy, Debug, PartialEq, Eq)]
+pub struct Asked<'a> {
+    pub task: Task,
+    pub file: Option<&'a str>,
+}
+
 /// The whole command line: the program's own name, and the words.
 pub fn line_of<S: AsStr>(alloc: Global, words: &[S]) -> Result<Vec<&str>, AllocError>
     ensures line { IfOk result (λ line. map (λ word. word.now) line.items
@@ -87,18 +94,21 @@ fn command<'a>(alloc: Global) -> Result<Command<'a>, AllocError>
     Ok(command)
 }
 
-/// Reads a command line: the task, and the configuration's file, if one is named.
-pub fn parse<'a>(alloc: Global, line: &'a [&'a str]) -> Result<(Task, Option<&'a str>), clap::Error>
+/// Reads a command line.
+pub fn parse<'a>(alloc: Global, line: &'a [&'a str]) -> Result<Asked<'a>, clap::Error>
     requires { All IsUtf8 (map (λ word. word.now) line.now) }
     ensures ok { IfOk result (λ found. (words : List (List ℕ)) →
         map (λ word. word.now) line.entry.now ≡ line_of words →
-        asked words ≡ Some (found.0, option_copied found.1)) }
+        asked words ≡ Some (found.task, option_copied found.file)) }
     ensures err { IfErr result (λ error. (words : List (List ℕ)) →
         map (λ word. word.now) line.entry.now ≡ line_of words →
         kind_of error ≢ ErrorKind.OutOfMemory → asked words ≡ None) }
 {
     match command(alloc)?.try_get_matches_from(line) {
-        Ok(matches) => Ok((task_in(&matches), file_in(&matches))),
+        Ok(matches) => Ok(Asked {
+            task: task_in(&matches),
+            file: file_in(&matches),
+        }),
         Err(error) => Err(error),
     }
 }
