@@ -6,6 +6,6 @@ mod Completing
 mod Counting
 mod InOrder
 mod Looking
-mod Texts
+mod TextFacts
 mod Asked
 mod Modalities

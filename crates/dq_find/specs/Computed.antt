@@ -5,19 +5,17 @@ use Rattle.std.specs.declared.cmp.Ordering.{Ordering}
 use Rattle.std.specs.declared.cmp.Ordering.TheVariants.{Less, Equal, Greater}
 use Rattle.std.specs.Fmt.{decimal}
 use Rattle.std.specs.List.{flat_map}
-use Rattle.dq_vr.specs.declared.Tag.{Tag}
-use Rattle.dq_vr.specs.declared.Vr.{Vr}
 use Rattle.dq_vr.specs.declared.Vr.TheVariants.{CS, IS}
 use Rattle.dq_vr.specs.Tags as tags
 use Rattle.dq_value.specs.Parts.{parts}
-use Rattle.dq_dataset.specs.Rules.{padded}
-use Rattle.dq_dataset.specs.Tree.{ElementList, no_elements, element}
+use Rattle.dq_dataset.specs.Tree.{ElementList, no_elements}
 use Rattle.dq_dataset.specs.Editing.{merged}
 use Rattle.dq_match.specs.Keys.{element_at, octets_in}
 use Rattle.dq_tables.specs.declared.row.Kind.TheVariants.{Series as SeriesKind, Image as ImageKind}
 use Rattle.dq_tables.specs.Rows.{Record, octet_order}
 use Rattle.dq_tables.specs.Records.{data_set_of}
 use Rattle.dq_tables.specs.Finding.{records_above}
+use Rattle.dq_find.specs.Texts.{text}
 use Rattle.dq_find.specs.declared.level.Level.{Level}
 use Rattle.dq_find.specs.declared.level.Level.TheVariants.{Study, Series, Image}
 
@@ -62,10 +60,6 @@ abbrev pub images_below : List Record → List Record → ℕ
 images_below records [] = 0
 images_below records (one ∷ others) =
     length (records_above ImageKind one.key records) + images_below records others
-
--- an element with a text, which gets its pad
-abbrev pub text : Tag → Vr → List ℕ → ElementList → ElementList
-text tag vr value rest = element tag vr (padded vr value) rest
 
 unfoldable pub study_values : List ℕ → ℕ → ℕ → ElementList
 study_values modalities series images =

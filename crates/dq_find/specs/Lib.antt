@@ -1,4 +1,5 @@
 pub mod Levels
+pub mod Texts
 pub mod Computed
 pub mod Queries
 pub mod Looking

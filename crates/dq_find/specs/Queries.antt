@@ -26,7 +26,8 @@ use Rattle.dq_find.specs.declared.level.Level.TheVariants.{Study, Series, Image}
 use Rattle.dq_find.specs.declared.level.Level.{Level}
 use Rattle.dq_find.specs.declared.query.Query.{Query}
 use Rattle.dq_find.specs.Levels.{keys_of, name_of, level_of, has_keys_above}
-use Rattle.dq_find.specs.Computed.{text, completed}
+use Rattle.dq_find.specs.Computed.{completed}
+use Rattle.dq_find.specs.Texts.{text}
 
 -- what a level asks for: its supported keys, each unique key above it once, and well-formed values
 abbrev pub query_at : ElementList → Option Level → Result Query ℕ

@@ -9,8 +9,8 @@ ghost use Rattle.dq_find.specs.Looking.{Looks};
 ghost use Rattle.dq_find.specs.declared.level.Level.TheVariants.{Study, Series};
 ghost use Rattle.dq_match.specs.Keys.{element_at, octets_in};
 
-use crate::level::Level;
-use dq_dataset::{DataSet, Element, Value};
+use crate::texts::{Text, elements};
+use dq_dataset::DataSet;
 use dq_list::Listed;
 use dq_match::octets_in;
 use dq_tables::{Row, TableFault, Tables};
@@ -20,22 +20,6 @@ use std::cmp::Ordering;
 
 /// How many modalities of a study are told.
 const MODALITY_LIMIT: usize = 1000;
-
-/// An element with a text, which gets its pad.
-pub(crate) fn text(alloc: Global, tag: Tag, vr: Vr, value: &[u8]) -> Result<Element, AllocError>
-    ensures { IfOk result (λ e. e
-        ≡ record { tag = tag; vr = vr; value = OctetsValue (padded vr value.now) }) }
-{
-    let mut octets = Vec::from_slice(alloc, value)?;
-    if octets.len() % 2 == 1 {
-        octets.push(if vr.is_text() { b' ' } else { 0 })?;
-    }
-    Ok(Element {
-        tag,
-        vr,
-        value: Value::Octets(Listed::from_inner(octets)),
-    })
-}
 
 /// Where a value belongs among others in order, unless it is there.
 fn place_of(values: &[Listed<u8>], value: &[u8]) -> Option<usize>
@@ -141,35 +125,36 @@ fn study_values(
 {
     let series = format!(in alloc; "{series}")?;
     let images = format!(in alloc; "{images}")?;
-    let mut elements = Vec::new(alloc);
-    elements.push(text(alloc, tags::MODALITIES_IN_STUDY, Vr::CS, modalities)?)?;
-    elements.push(text(
-        alloc,
-        tags::NUMBER_OF_STUDY_RELATED_SERIES,
-        Vr::IS,
-        series.as_bytes(),
-    )?)?;
-    elements.push(text(
-        alloc,
-        tags::NUMBER_OF_STUDY_RELATED_INSTANCES,
-        Vr::IS,
-        images.as_bytes(),
-    )?)?;
-    Ok(DataSet::from_elements(elements))
+    let texts = [
+        Text {
+            tag: tags::MODALITIES_IN_STUDY,
+            vr: Vr::CS,
+            value: modalities,
+        },
+        Text {
+            tag: tags::NUMBER_OF_STUDY_RELATED_SERIES,
+            vr: Vr::IS,
+            value: series.as_bytes(),
+        },
+        Text {
+            tag: tags::NUMBER_OF_STUDY_RELATED_INSTANCES,
+            vr: Vr::IS,
+            value: images.as_bytes(),
+        },
+    ];
+    Ok(DataSet::from_elements(elements(alloc, &texts)?))
 }
 
 fn series_values(alloc: Global, images: usize) -> Result<DataSet, AllocError>
     ensures { IfOk result (λ d. d ≡ series_values images) }
 {
     let images = format!(in alloc; "{images}")?;
-    let mut elements = Vec::new(alloc);
-    elements.push(text(
-        alloc,
-        tags::NUMBER_OF_SERIES_RELATED_INSTANCES,
-        Vr::IS,
-        images.as_bytes(),
-    )?)?;
-    Ok(DataSet::from_elements(elements))
+    let texts = [Text {
+        tag: tags::NUMBER_OF_SERIES_RELATED_INSTANCES,
+        vr: Vr::IS,
+        value: images.as_bytes(),
+    }];
+    Ok(DataSet::from_elements(elements(alloc, &texts)?))
 }
 
 /// How many images some series have.

@@ -9,9 +9,10 @@ ghost use Rattle.dq_find.specs.Queries.{about_answers, key_above, asks_computed,
 ghost use Rattle.dq_tables.specs.declared.row.Row.{Row as TheRow};
 ghost use Rattle.dq_find.specs.Looking.{Looks};
 
-use crate::computed::{series_computed, study_computed, text};
+use crate::computed::{series_computed, study_computed};
 use crate::level::Level;
 use crate::query::{Query, query_of};
+use crate::texts::{Text, elements};
 use dq_config::Institution;
 use dq_dataset::{DataSet, Syntax};
 use dq_dimse::Message;
@@ -35,11 +36,24 @@ static COMPUTED: [Tag; 4] = [
 fn about_answers(alloc: Global, called: &[u8], level: Level) -> Result<DataSet, AllocError>
     ensures { IfOk result (λ d. d ≡ about_answers called.now level) }
 {
-    let mut elements = Vec::new(alloc);
-    elements.push(text(alloc, tags::QUERY_RETRIEVE_LEVEL, Vr::CS, level.name())?)?;
-    elements.push(text(alloc, tags::RETRIEVE_AE_TITLE, Vr::AE, stripped(called))?)?;
-    elements.push(text(alloc, tags::INSTANCE_AVAILABILITY, Vr::CS, b"UNAVAILABLE")?)?;
-    Ok(DataSet::from_elements(elements))
+    let texts = [
+        Text {
+            tag: tags::QUERY_RETRIEVE_LEVEL,
+            vr: Vr::CS,
+            value: level.name(),
+        },
+        Text {
+            tag: tags::RETRIEVE_AE_TITLE,
+            vr: Vr::AE,
+            value: stripped(called),
+        },
+        Text {
+            tag: tags::INSTANCE_AVAILABILITY,
+            vr: Vr::CS,
+            value: b"UNAVAILABLE",
+        },
+    ];
+    Ok(DataSet::from_elements(elements(alloc, &texts)?))
 }
 
 /// The value of a unique key of a level above, which is there.

@@ -7,6 +7,7 @@ mod finding;
 pub mod laws;
 mod level;
 mod query;
+mod texts;
 
 pub use finding::find;
 pub use level::Level;

@@ -16,7 +16,8 @@ use Rattle.dq_dataset.specs.Facts.{IsElementTag, IsPlain, IsDataSet}
 use Rattle.dq_dataset.specs.Tree.{no_elements}
 use Rattle.dq_dataset.specs.View.{as_elements}
 use Rattle.dq_find.specs.declared.level.Level.{Level}
-use Rattle.dq_find.specs.Computed.{text, study_values, series_values}
+use Rattle.dq_find.specs.Texts.{text}
+use Rattle.dq_find.specs.Computed.{study_values, series_values}
 use Rattle.dq_value.specs.Title.{stripped}
 use Rattle.dq_find.specs.Levels.{name_of}
 use Rattle.dq_find.specs.Queries.{about_answers}
@@ -91,44 +92,35 @@ about_answers_facts called level = (
   ),
 )
 
--- ---- elements that are pushed one after the other
+-- ---- elements that are made of texts
 
 abbrev text_element : Tag → Vr → List ℕ → Element
 text_element tag vr value = record { tag = tag; vr = vr; value = Octets (padded vr value) }
 
-pub pushed_three : (none one two all : List Element) (x y z : Element) → none ≡ [] → one ≡ none ++ x ∷ []
-    → two ≡ one ++ y ∷ [] → all ≡ two ++ z ∷ [] → all ≡ x ∷ (y ∷ (z ∷ []))
-pushed_three none one two all x y z at_first then_one then_two then_all =
-    then_all
-    ∙ ap (λ (es : List Element). es ++ z ∷ [])
-    (then_two ∙ ap (λ (es : List Element). es ++ y ∷ []) (then_one ∙ ap (λ (es : List Element). es ++ x ∷ []) at_first))
-
-pub study_values_of : (all : List Element) (x y z : Element) (modalities series_text images_text : List ℕ) (series images : ℕ)
-    → all ≡ x ∷ (y ∷ (z ∷ [])) → x ≡ text_element tags.modalities_in_study CS modalities
-    → y ≡ text_element tags.number_of_study_related_series IS series_text
-    → z ≡ text_element tags.number_of_study_related_instances IS images_text → series_text ≡ decimal series → images_text ≡ decimal images
-    → as_elements all ≡ study_values modalities series images
+pub study_values_of : (elements : List Element) (modalities series_text images_text : List ℕ) (series images : ℕ)
+    → elements ≡ text_element tags.modalities_in_study CS modalities
+    ∷ (text_element tags.number_of_study_related_series IS series_text ∷ (text_element tags.number_of_study_related_instances IS images_text ∷ []))
+    → series_text ≡ decimal series → images_text ≡ decimal images → as_elements elements ≡ study_values modalities series images
 unfolding study_values
-study_values_of all x y z modalities series_text images_text series images pushed is_x is_y is_z told_series told_images =
-    ap as_elements pushed ∙ (λ i. as_elements (is_x i ∷ (is_y i ∷ (is_z i ∷ []))))
+study_values_of elements modalities series_text images_text series images made told_series told_images =
+    ap as_elements made
     ∙ (λ i. text tags.modalities_in_study CS modalities
     (text tags.number_of_study_related_series IS (told_series i)
     (text tags.number_of_study_related_instances IS (told_images i) no_elements)))
 
-pub series_values_of : (none all : List Element) (x : Element) (images_text : List ℕ) (images : ℕ) → none ≡ [] → all ≡ none ++ x ∷ []
-    → x ≡ text_element tags.number_of_series_related_instances IS images_text → images_text ≡ decimal images
-    → as_elements all ≡ series_values images
+pub series_values_of : (elements : List Element) (images_text : List ℕ) (images : ℕ)
+    → elements ≡ text_element tags.number_of_series_related_instances IS images_text ∷ [] → images_text ≡ decimal images
+    → as_elements elements ≡ series_values images
 unfolding series_values
-series_values_of none all x images_text images at_first then_all is_x told_images =
-    ap as_elements (then_all ∙ ap (λ (es : List Element). es ++ x ∷ []) at_first) ∙ (λ i. as_elements (is_x i ∷ []))
-    ∙ (λ i. text tags.number_of_series_related_instances IS (told_images i) no_elements)
+series_values_of elements images_text images made told_images =
+    ap as_elements made ∙ (λ i. text tags.number_of_series_related_instances IS (told_images i) no_elements)
 
-pub about_answers_of : (all : List Element) (x y z : Element) (name title called : List ℕ) (level : Level)
-    → all ≡ x ∷ (y ∷ (z ∷ [])) → x ≡ text_element tags.query_retrieve_level CS name → y ≡ text_element tags.retrieve_ae_title AE title
-    → z ≡ text_element tags.instance_availability CS (codes "UNAVAILABLE") → name ≡ name_of level → title ≡ stripped called
-    → as_elements all ≡ about_answers called level
+pub about_answers_of : (elements : List Element) (name title called : List ℕ) (level : Level)
+    → elements ≡ text_element tags.query_retrieve_level CS name
+    ∷ (text_element tags.retrieve_ae_title AE title ∷ (text_element tags.instance_availability CS (codes "UNAVAILABLE") ∷ []))
+    → name ≡ name_of level → title ≡ stripped called → as_elements elements ≡ about_answers called level
 unfolding about_answers
-about_answers_of all x y z name title called level pushed is_x is_y is_z is_name is_title =
-    ap as_elements pushed ∙ (λ i. as_elements (is_x i ∷ (is_y i ∷ (is_z i ∷ []))))
+about_answers_of elements name title called level made is_name is_title =
+    ap as_elements made
     ∙ (λ i. text tags.query_retrieve_level CS (is_name i)
     (text tags.retrieve_ae_title AE (is_title i) (text tags.instance_availability CS (codes "UNAVAILABLE") no_elements)))
