@@ -27,7 +27,8 @@ pub read_is : (r : Result ElementList ReadFault) (d : ElementList) → result_ok
 read_is (Ok d') d some = cc
 read_is (Err fault) d some = cc
 
-not_read : (limits : Limits) (records : List Record) (message : Message) (syntax : Syntax) (r : Result ElementList ReadFault) → is_over data_set_limit message ≡ false
+not_read : (limits : Limits) (records : List Record) (message : Message) (syntax : Syntax) (r : Result ElementList ReadFault)
+    → is_over data_set_limit message ≡ false
     → reading syntax message.octets ≡ r → result_ok r ≡ None → created limits records message syntax ≡ (processing_failure, [])
 unfolding created
 not_read limits records message syntax (Ok d) h same none = cc
@@ -101,7 +102,8 @@ module _ (records : List Record) (message : Message) (syntax : Syntax) where
   unfolding changed
   set_over h = rw h refl
 
-  pub set_unread : is_over data_set_limit message ≡ false → result_ok (reading syntax message.octets) ≡ None → changed records message syntax ≡ (processing_failure, [])
+  pub set_unread : is_over data_set_limit message ≡ false → result_ok (reading syntax message.octets) ≡ None
+      → changed records message syntax ≡ (processing_failure, [])
   set_unread h none = set_not_read records message syntax (reading syntax message.octets) h refl none
 
   pub set_handed_on : (d : ElementList) → is_over data_set_limit message ≡ false → reading syntax message.octets ≡ Ok d

@@ -104,7 +104,8 @@ module _ (t : Tag) where
 listed : (d : ElementList) → IsDataSet d → AreElements 16 None (as_elements (elements_of d))
 listed d is = subst IsDataSet (sym (as_elements-elements_of d)) is
 
-pub standing_after : (kept sent : ElementList) → IsDataSet sent → (t : Tag) → element_at t (merged kept sent) ≡ option_or (element_at t sent) (element_at t kept)
+pub standing_after : (kept sent : ElementList) → IsDataSet sent → (t : Tag) → element_at t (merged kept sent)
+    ≡ option_or (element_at t sent) (element_at t kept)
 standing_after kept sent is t =
     ap (find (has_tag t)) (elements_of-as_elements (merged_elements (elements_of kept) (elements_of sent)))
     ∙ found_merged t 16 None (elements_of sent) (listed sent is) (elements_of kept)

@@ -49,7 +49,8 @@ pub fn kept_steps_stay()
 #[tactic(auto, using(crate::proofs::Standing::standing_after))]
 pub fn what_is_sent_stands()
     ensures { (kept sent : ElementList) → IsDataSet sent → (tag : Tag)
-        → element_at tag (merged kept sent) ≡ option_or (element_at tag sent) (element_at tag kept) }
+        → element_at tag (merged kept sent)
+        ≡ option_or (element_at tag sent) (element_at tag kept) }
 {}
 
 /// A change that is not refused leaves the attributes of the patient and the other fixed ones as

@@ -67,7 +67,8 @@ put_elsewhere h r q rows rising less =
     ∙ sym (none_between (is_at q) (rows_before p rows) (filter (is_at p) rows) (rows_past p rows) (none_there p q less rows))
     ∙ sym (ap (find (is_at q)) (IsRising-split p rows rising)) ∙ sym (row_at_is q rows)
 
-found_step : {X : Type 0} (t : X → Bool) (x : X) (xs ys : List X) (b : Bool) → is_some (find t (xs ++ ys)) ≡ true → is_some (if b then Some x else find t (xs ++ ys)) ≡ true
+found_step : {X : Type 0} (t : X → Bool) (x : X) (xs ys : List X) (b : Bool) → is_some (find t (xs ++ ys)) ≡ true
+    → is_some (if b then Some x else find t (xs ++ ys)) ≡ true
 found_step t x xs ys true rest = refl
 found_step t x xs ys false rest = rest
 
@@ -79,7 +80,8 @@ put_there : (h : List ℕ) (r : Record) (rows : List Row) → is_some (row_at r.
 unfolding after_edit
 put_there h r rows =
     let p = within h (place_of r) in
-    rw (row_at_is p (after_edit h (Put r) rows)) (found_between (is_at p) (rows_before p rows) (row_of h r) (rows_past p rows) (ap is_eq (tied_itself rows_total p)))
+    rw (row_at_is p (after_edit h (Put r) rows)) (found_between (is_at p) (rows_before p rows) (row_of h r) (rows_past p rows)
+    (ap is_eq (tied_itself rows_total p)))
 
 -- ---- what is kept of a data set is a record of its own
 
@@ -93,7 +95,8 @@ any_later f (suc n) [] h = h
 any_later f zero (x ∷ xs) h = h
 any_later f (suc n) (x ∷ xs) h = any_step (f x) (list_any f xs) (any_later f n xs h)
 
-uid_of_cut : (tag : Tag) (tags : List Tag) (d : ElementList) → ((e : Element) → has_tag tag e ≡ true → is_listed tags e ≡ true) → uid_at tag (cut_out tags d) ≡ uid_at tag d
+uid_of_cut : (tag : Tag) (tags : List Tag) (d : ElementList) → ((e : Element) → has_tag tag e ≡ true → is_listed tags e ≡ true)
+    → uid_at tag (cut_out tags d) ≡ uid_at tag d
 unfolding uid_at sole_at
 uid_of_cut tag tags d listed =
     rw (elements_of-as_elements (filter (is_listed tags) (elements_of d)), found_filtered (has_tag tag) (is_listed tags) listed (elements_of d)) refl
@@ -138,23 +141,28 @@ module _ (h : List ℕ) (sent : Instance)
   unfolding has_key has_above is_within
   study_own =
       own_cut h Study s [] study_attributes d (back study_attributes)
-      (value_is (uid_at study_instance_uid (cut_out study_attributes d)) s (uid_of_cut study_instance_uid study_attributes d (listed_at 11 study_attributes study_instance_uid refl) ∙ study_is))
+      (value_is (uid_at study_instance_uid (cut_out study_attributes d)) s
+      (uid_of_cut study_instance_uid study_attributes d (listed_at 11 study_attributes study_instance_uid refl) ∙ study_is))
       refl refl
 
   series_own : is_own (row_of h (series_record sent)) ≡ true
   unfolding has_key has_above is_within
   series_own =
       own_cut h Series r s series_attributes d (back series_attributes)
-      (value_is (uid_at series_instance_uid (cut_out series_attributes d)) r (uid_of_cut series_instance_uid series_attributes d (listed_at 7 series_attributes series_instance_uid refl) ∙ series_is))
-      (value_is (uid_at study_instance_uid (cut_out series_attributes d)) s (uid_of_cut study_instance_uid series_attributes d (listed_at 6 series_attributes study_instance_uid refl) ∙ study_is))
+      (value_is (uid_at series_instance_uid (cut_out series_attributes d)) r
+      (uid_of_cut series_instance_uid series_attributes d (listed_at 7 series_attributes series_instance_uid refl) ∙ series_is))
+      (value_is (uid_at study_instance_uid (cut_out series_attributes d)) s
+      (uid_of_cut study_instance_uid series_attributes d (listed_at 6 series_attributes study_instance_uid refl) ∙ study_is))
       refl
 
   image_own : is_own (row_of h (image_record sent)) ≡ true
   unfolding has_key has_above is_within
   image_own =
       own_cut h Image i r image_attributes d (back image_attributes)
-      (value_is (uid_at sop_instance_uid (cut_out image_attributes d)) i (uid_of_cut sop_instance_uid image_attributes d (listed_at 3 image_attributes sop_instance_uid refl) ∙ image_is))
-      (value_is (uid_at series_instance_uid (cut_out image_attributes d)) r (uid_of_cut series_instance_uid image_attributes d (listed_at 7 image_attributes series_instance_uid refl) ∙ series_is))
+      (value_is (uid_at sop_instance_uid (cut_out image_attributes d)) i
+      (uid_of_cut sop_instance_uid image_attributes d (listed_at 3 image_attributes sop_instance_uid refl) ∙ image_is))
+      (value_is (uid_at series_instance_uid (cut_out image_attributes d)) r
+      (uid_of_cut series_instance_uid image_attributes d (listed_at 7 image_attributes series_instance_uid refl) ∙ series_is))
       refl
 
   is_of_its_own : (k : Option Record) (new : Record) → IsOf h (new_if h k new)
@@ -193,8 +201,10 @@ module _ (h : List ℕ) (sent : Instance)
   pub new_fits : (rows : List Row) → IsRising rows → (kept : Kept) → kept ≡ kept_among (of h rows) sent → kept.image ≡ None
       → FitsStored rows (new_if h kept.study (study_record sent)) (new_if h kept.series (series_record sent)) (row_of h (image_record sent))
   new_fits rows rising kept found new =
-      let study_found : row_at Study h s rows ≡ option_map (row_of h) kept.study = found_own Study h s rows ∙ sym (ap (λ (k : Kept). option_map (row_of h) k.study) found) in
-      let series_found : row_at Series h r rows ≡ option_map (row_of h) kept.series = found_own Series h r rows ∙ sym (ap (λ (k : Kept). option_map (row_of h) k.series) found) in
+      let study_found : row_at Study h s rows ≡ option_map (row_of h) kept.study = found_own Study h s rows
+      ∙ sym (ap (λ (k : Kept). option_map (row_of h) k.study) found) in
+      let series_found : row_at Series h r rows ≡ option_map (row_of h) kept.series = found_own Series h r rows
+      ∙ sym (ap (λ (k : Kept). option_map (row_of h) k.series) found) in
       let image_free : row_at Image h i rows ≡ None =
       found_own Image h i rows ∙ sym (ap (λ (k : Kept). option_map (row_of h) k.image) found) ∙ ap (option_map (row_of h)) new in
       let first = after_edits h (put_if (new_if h kept.study (study_record sent))) rows in
@@ -207,7 +217,8 @@ module _ (h : List ℕ) (sent : Instance)
         study_new = study_new rows kept.study study_found;
         series_new = series_new first kept.series series_first (is_there kept.study (study_record sent) rows study_found);
         image_new = image_new second
-            (stays kept.series (series_record sent) (place Image h i) first first_rising refl ∙ stays kept.study (study_record sent) (place Image h i) rows rising refl ∙ image_free)
+            (stays kept.series (series_record sent) (place Image h i) first first_rising refl
+            ∙ stays kept.study (study_record sent) (place Image h i) rows rising refl ∙ image_free)
             (is_there kept.series (series_record sent) first series_first);
       }
 

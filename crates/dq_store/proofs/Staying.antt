@@ -86,14 +86,18 @@ module _ (new : Record) where
   stays_by : (q : Place) (records : List Record) (o : Ordering) → place_order q at_new ≡ o → is_eq o ≡ false → stands_at q new ≡ false
       → find (stands_at q) (records_before at_new records ++ (new ∷ []) ++ records_past at_new records) ≡ find (stands_at q) records
   stays_by q records Less e other apart =
-      let past = none_filtered (stands_at q) (λ (r : Record). is_gt (place_order (place_of r) at_new)) (λ (r : Record) here. ap is_gt (order_of q r here ∙ e)) records in
-      let before = found_filtered (stands_at q) (λ (r : Record). is_lt (place_order (place_of r) at_new)) (λ (r : Record) here. ap is_lt (order_of q r here ∙ e)) records in
+      let past = none_filtered (stands_at q) (λ (r : Record). is_gt (place_order (place_of r) at_new))
+      (λ (r : Record) here. ap is_gt (order_of q r here ∙ e)) records in
+      let before = found_filtered (stands_at q) (λ (r : Record). is_lt (place_order (place_of r) at_new))
+      (λ (r : Record) here. ap is_lt (order_of q r here ∙ e)) records in
       none_behind (stands_at q) (records_before at_new records ++ (new ∷ [])) (records_past at_new records) past
       ∙ none_behind (stands_at q) (records_before at_new records) (new ∷ []) (one_alone q new apart) ∙ before
   stays_by q records Equal e other apart = cc
   stays_by q records Greater e other apart =
-      let past = found_filtered (stands_at q) (λ (r : Record). is_gt (place_order (place_of r) at_new)) (λ (r : Record) here. ap is_gt (order_of q r here ∙ e)) records in
-      let before = none_filtered (stands_at q) (λ (r : Record). is_lt (place_order (place_of r) at_new)) (λ (r : Record) here. ap is_lt (order_of q r here ∙ e)) records in
+      let past = found_filtered (stands_at q) (λ (r : Record). is_gt (place_order (place_of r) at_new))
+      (λ (r : Record) here. ap is_gt (order_of q r here ∙ e)) records in
+      let before = none_filtered (stands_at q) (λ (r : Record). is_lt (place_order (place_of r) at_new))
+      (λ (r : Record) here. ap is_lt (order_of q r here ∙ e)) records in
       let front = none_behind (stands_at q) (records_before at_new records) (new ∷ []) (one_alone q new apart) ∙ before in
       none_in_front (stands_at q) (records_before at_new records ++ (new ∷ [])) (records_past at_new records) front ∙ past
 
@@ -123,7 +127,8 @@ module _ (new : Record) where
   kept_by q r records true e free kept =
       let same : place_order at_new q ≡ Equal = is_equal (place_order at_new q) e in
       let tests : (x : Record) → stands_at at_new x ≡ stands_at q x = λ x. ap is_eq (alike_right places_total at_new q (place_of x) same) in
-      let found : record_at q.kind q.key records ≡ None = record_at_is q records ∙ sym (find_agree (stands_at at_new) (stands_at q) tests records) ∙ sym (record_at_is at_new records) ∙ free in
+      let found : record_at q.kind q.key records ≡ None = record_at_is q records ∙ sym (find_agree (stands_at at_new) (stands_at q) tests records)
+      ∙ sym (record_at_is at_new records) ∙ free in
       let clash : None ≡ Some r = sym found ∙ kept in
       cc
   kept_by q r records false e free kept = elsewhere_stays q records e (other_way q e) ∙ kept
@@ -137,7 +142,8 @@ edited_append (e ∷ es) fs records = edited_append es fs (edited_by e records)
 KeptStays : List Record → List Record → Type 0
 KeptStays records more = (kind : Kind) (key : List ℕ) (r : Record) → record_at kind key records ≡ Some r → record_at kind key more ≡ Some r
 
-new_stays : (k : Option Record) (new : Record) (records : List Record) → record_at new.kind new.key records ≡ k → KeptStays records (edited (put_new k new) records)
+new_stays : (k : Option Record) (new : Record) (records : List Record) → record_at new.kind new.key records ≡ k
+    → KeptStays records (edited (put_new k new) records)
 unfolding KeptStays
 new_stays None new records free = λ kind key r kept.
     (let q : Place = record { kind = kind; key = key } in kept_by new q r records (stands_at q new) refl free kept)
@@ -174,7 +180,8 @@ module _ (records : List Record) (d : ElementList) (s r i : List ℕ) where
       rw parts (new_stays None (image_record sending) second image_free kind key x (new_stays kr (series_record sending) first series_first kind key x
       (new_stays ks (study_record sending) records study kind key x kept)))
 
-  stays_by_kept : (kept : Kept) → kept ≡ kept_among records sending → (b : Bool) → is_some kept.image ≡ b → KeptStays records (edited (stored_edits kept sending) records)
+  stays_by_kept : (kept : Kept) → kept ≡ kept_among records sending → (b : Bool) → is_some kept.image ≡ b
+      → KeptStays records (edited (stored_edits kept sending) records)
   unfolding KeptStays stored_edits
   stays_by_kept kept found true there = λ kind key x k. rw there k
   stays_by_kept kept found false new = λ kind key x k.

@@ -6,15 +6,19 @@ use Rattle.dq_vr.specs.Tags.{specific_character_set, image_type, sop_class_uid, 
 
 abbrev pub study_attributes : List Tag
 study_attributes =
-    specific_character_set ∷ study_date ∷ study_time ∷ accession_number ∷ referring_physician_name ∷ study_description
-    ∷ patient_name ∷ patient_id ∷ issuer_of_patient_id ∷ patient_birth_date ∷ patient_sex ∷ study_instance_uid ∷ study_id ∷ []
+    specific_character_set ∷ study_date ∷ study_time ∷ accession_number
+    ∷ referring_physician_name ∷ study_description
+    ∷ patient_name ∷ patient_id ∷ issuer_of_patient_id ∷ patient_birth_date ∷ patient_sex
+    ∷ study_instance_uid ∷ study_id ∷ []
 
 abbrev pub series_attributes : List Tag
 series_attributes =
-    specific_character_set ∷ series_date ∷ series_time ∷ modality ∷ series_description ∷ body_part_examined
+    specific_character_set ∷ series_date ∷ series_time ∷ modality
+    ∷ series_description ∷ body_part_examined
     ∷ study_instance_uid ∷ series_instance_uid ∷ series_number ∷ []
 
 abbrev pub image_attributes : List Tag
 image_attributes =
-    specific_character_set ∷ image_type ∷ sop_class_uid ∷ sop_instance_uid ∷ content_date ∷ content_time
+    specific_character_set ∷ image_type ∷ sop_class_uid ∷ sop_instance_uid
+    ∷ content_date ∷ content_time
     ∷ study_instance_uid ∷ series_instance_uid ∷ instance_number ∷ rows ∷ columns ∷ []

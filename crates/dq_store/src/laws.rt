@@ -10,8 +10,8 @@ ghost use Rattle.dq_tables.specs.Rows.{Record, Edit, IsRising, of, by, after, ed
 ghost use Rattle.dq_tables.specs.Finding.{record_at};
 ghost use Rattle.dq_store.specs.Storing.{stored};
 
-/// What is kept stays as it is, whatever is stored: the first instance that is stored makes the records of its
-/// study and its series, and a repeated one changes nothing.
+/// What is kept stays as it is, whatever is stored: the first instance that is stored makes the
+/// records of its study and its series, and a repeated one changes nothing.
 #[tactic(auto, using(crate::proofs::Staying::kept_stays))]
 pub fn kept_records_stay()
     ensures { (limits : Limits) (records : List Record) (message : Message) (syntax : Syntax)
@@ -28,14 +28,16 @@ pub fn refusals_change_nothing()
         ⊎ ((stored limits records message syntax).0 ≡ elements_discarded)) }
 {}
 
-/// What one institution stores leaves the records of every other, and another's records do not enter what it is
-/// answered nor what it keeps.
+/// What one institution stores leaves the records of every other, and another's records do not
+/// enter what it is answered nor what it keeps.
 #[tactic(auto, using(crate::proofs::Staying::others_stay, crate::proofs::Staying::own_records_decide))]
 pub fn institutions_are_apart()
     ensures others { (g h : List ℕ) → h ≢ g
         → (limits : Limits) (rows : List Row) (message : Message) (syntax : Syntax) → IsRising rows
         → of g (after (by h (stored limits (of h rows) message syntax).1) rows) ≡ of g rows }
     ensures own { (g h : List ℕ) → g ≢ h
-        → (es : List Edit) (limits : Limits) (rows : List Row) (message : Message) (syntax : Syntax) → IsRising rows
-        → stored limits (of h (after (by g es) rows)) message syntax ≡ stored limits (of h rows) message syntax }
+        → (es : List Edit) (limits : Limits) (rows : List Row) (message : Message) (syntax : Syntax)
+        → IsRising rows
+        → stored limits (of h (after (by g es) rows)) message syntax
+        ≡ stored limits (of h rows) message syntax }
 {}

@@ -21,7 +21,8 @@ unfolding fault_of
 same_error A B e f h = ap (λ (x : TableFault). refused B x) (ap (fault_of {A = A} e) h)
 
 module _ {Tables : Type 0} (rows : Tables → List Row) (honest : Tables → Type 0) (failed : Tables → Bool) (may_leave : Tables → List Row → Type 0) where
-  goes_then : {A B : Type 0} (old mid new : Tables) (x : A) (r : Result B TableFault) → Goes honest failed old mid (Ok x) → Goes honest failed mid new r → Goes honest failed old new r
+  goes_then : {A B : Type 0} (old mid new : Tables) (x : A) (r : Result B TableFault) → Goes honest failed old mid (Ok x) → Goes honest failed mid new r
+      → Goes honest failed old new r
   goes_then old mid new x r first second = record {
     was_honest = λ h. first.was_honest (second.was_honest h);
     told = second.told;
@@ -114,7 +115,8 @@ module _ {Tables : Type 0} (rows : Tables → List Row) (honest : Tables → Typ
     }
 
     -- a service that makes one change after calls that read, and is refused there, or answers
-    pub serves_refused : {A : Type 0} (old mid new : Tables) (x : A) (a : Answer) (es : List Edit) (e : TableFault) → Reads rows honest failed may_leave old mid (Ok x)
+    pub serves_refused : {A : Type 0} (old mid new : Tables) (x : A) (a : Answer) (es : List Edit) (e : TableFault)
+        → Reads rows honest failed may_leave old mid (Ok x)
         → Writes rows honest failed may_leave mid new (after (by institution es) (rows mid)) (refused (Unit {0}) e)
         → (honest mid → does (of institution (rows old)) ≡ (a, es)) → Serves rows honest failed may_leave old new institution does (Err e)
     serves_refused old mid new x a es e reads writes defined = record {

@@ -62,7 +62,8 @@ not_equal Less l = refl
 not_equal Equal l = cc
 not_equal Greater l = cc
 
-filter_skip : {X : Type 0} (p : X → Bool) (xs : List X) (i : ℕ) → ((k : ℕ) (d : X) → k < i → k < length xs → p (get_or xs k d) ≡ false) → filter p (drop i xs) ≡ filter p xs
+filter_skip : {X : Type 0} (p : X → Bool) (xs : List X) (i : ℕ) → ((k : ℕ) (d : X) → k < i → k < length xs → p (get_or xs k d) ≡ false)
+    → filter p (drop i xs) ≡ filter p xs
 filter_skip p [] zero front = refl
 filter_skip p [] (suc i) front = refl
 filter_skip p (x ∷ xs) zero front = refl
@@ -85,7 +86,8 @@ module _ (kind : Kind) (institution : List ℕ) (rows : List Row) (rising : IsRi
   before_parted i j d le within here =
       elim (cases_le i j le) [
         | inl same ↦ rw same here
-        | inr less ↦ ap is_lt (less_through (row_place_of (get_or rows i d)) (row_place_of (get_or rows j d)) wanted _ refl (upto i j d less within) (is_lt_less _ here))
+        | inr less ↦ ap is_lt (less_through (row_place_of (get_or rows i d)) (row_place_of (get_or rows j d)) wanted _ refl (upto i j d less within)
+            (is_lt_less _ here))
       ]
 
   pub rest_parted : (start : ℕ) → start ≤ length rows → IsPartitionPoint (λ row. comes_before row ≡ true) (λ row. comes_before row ≡ false) rows start

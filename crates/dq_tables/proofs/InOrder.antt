@@ -19,15 +19,19 @@ pub filter_front : {X : Type 0} (p : X → Bool) (xs : List X) (i : ℕ) → ((k
     → ((k : ℕ) (d : X) → i ≤ k → k < length xs → p (get_or xs k d) ≡ false) → take i xs ≡ filter p xs
 filter_front p [] zero front back = refl
 filter_front p [] (suc i) front back = refl
-filter_front p (x ∷ xs) zero front back = rw (back 0 x (omega arith) (omega arith)) (filter_front p xs 0 (λ k d l w. absurd (omega arith)) (λ k d l w. back (suc k) d (omega arith) (omega arith)))
-filter_front p (x ∷ xs) (suc i) front back = rw (front 0 x (omega arith) (omega arith)) (ap (λ ys. x ∷ ys) (filter_front p xs i (λ k d l w. front (suc k) d (omega arith) (omega arith)) (λ k d l w. back (suc k) d (omega arith) (omega arith))))
+filter_front p (x ∷ xs) zero front back = rw (back 0 x (omega arith) (omega arith))
+    (filter_front p xs 0 (λ k d l w. absurd (omega arith)) (λ k d l w. back (suc k) d (omega arith) (omega arith)))
+filter_front p (x ∷ xs) (suc i) front back = rw (front 0 x (omega arith) (omega arith))
+    (ap (λ ys. x ∷ ys) (filter_front p xs i (λ k d l w. front (suc k) d (omega arith) (omega arith)) (λ k d l w. back (suc k) d (omega arith) (omega arith))))
 
 filter_back : {X : Type 0} (p : X → Bool) (xs : List X) (i : ℕ) → ((k : ℕ) (d : X) → k < i → k < length xs → p (get_or xs k d) ≡ false)
     → ((k : ℕ) (d : X) → i ≤ k → k < length xs → p (get_or xs k d) ≡ true) → drop i xs ≡ filter p xs
 filter_back p [] zero front back = refl
 filter_back p [] (suc i) front back = refl
-filter_back p (x ∷ xs) zero front back = rw (back 0 x (omega arith) (omega arith)) (ap (λ ys. x ∷ ys) (filter_back p xs 0 (λ k d l w. absurd (omega arith)) (λ k d l w. back (suc k) d (omega arith) (omega arith))))
-filter_back p (x ∷ xs) (suc i) front back = rw (front 0 x (omega arith) (omega arith)) (filter_back p xs i (λ k d l w. front (suc k) d (omega arith) (omega arith)) (λ k d l w. back (suc k) d (omega arith) (omega arith)))
+filter_back p (x ∷ xs) zero front back = rw (back 0 x (omega arith) (omega arith))
+    (ap (λ ys. x ∷ ys) (filter_back p xs 0 (λ k d l w. absurd (omega arith)) (λ k d l w. back (suc k) d (omega arith) (omega arith))))
+filter_back p (x ∷ xs) (suc i) front back = rw (front 0 x (omega arith) (omega arith))
+    (filter_back p xs i (λ k d l w. front (suc k) d (omega arith) (omega arith)) (λ k d l w. back (suc k) d (omega arith) (omega arith)))
 
 find_at : {X : Type 0} (p : X → Bool) (xs : List X) (i : ℕ) → i < length xs → ((k : ℕ) (d : X) → k < i → p (get_or xs k d) ≡ false)
     → ((d : X) → p (get_or xs i d) ≡ true) → find p xs ≡ slice_get xs i
@@ -49,7 +53,8 @@ pub rising_at : (rows : List Row) → IsRising rows → (i j : ℕ) (d : Row) �
 unfolding IsRising
 rising_at [] h i j d l w = absurd (omega arith)
 rising_at (row ∷ rows) h zero zero d l w = absurd (omega arith)
-rising_at (row ∷ rows) h zero (suc j) d l w = each_at (λ (later : Row). row_place_order (row_place_of row) (row_place_of later) ≡ Less) rows h.0 j d (omega arith)
+rising_at (row ∷ rows) h zero (suc j) d l w = each_at (λ (later : Row). row_place_order (row_place_of row) (row_place_of later) ≡ Less) rows h.0 j d
+    (omega arith)
 rising_at (row ∷ rows) h (suc i) zero d l w = absurd (omega arith)
 rising_at (row ∷ rows) h (suc i) (suc j) d l w = rising_at rows h.1 i j d (omega arith) (omega arith)
 
@@ -76,7 +81,8 @@ row_at_is p [] = refl
 row_at_is p (row ∷ rows) = rw (at_is_found p row) (ap (λ (o : Option Row). if is_at p row then Some row else o) (row_at_is p rows))
 
 -- how the answers rise with the rows
-rises_with : (a b p : RowPlace) → row_place_order a b ≡ Less → (o : Ordering) → row_place_order a p ≡ o → ordering_index o ≤ ordering_index (row_place_order b p)
+rises_with : (a b p : RowPlace) → row_place_order a b ≡ Less → (o : Ordering) → row_place_order a p ≡ o
+    → ordering_index o ≤ ordering_index (row_place_order b p)
 rises_with a b p less Less e = omega arith
 rises_with a b p less Equal e = rw (greater_from p b (sym (rows_total.congr a p b e) ∙ less)) (omega arith)
 rises_with a b p less Greater e = rw (greater_from p b (rows_total.trans p a b (less_from a p e) less)) (omega arith)
@@ -137,7 +143,8 @@ module _ (p : RowPlace) (rows : List Row) (rising : IsRising rows) where
   located_there i within here = record {
     within = within;
     before = filter_front (is_before p) rows i (λ k d l w. ap is_lt (less_before i k d within (here d) l)) (λ k d l w. not_less_from i k d w (here d) l);
-    past = filter_back (is_past p) rows (i + 1) (λ k d l w. not_greater_upto i k d within (here d) l) (λ k d l w. ap is_gt (greater_after i k d w (here d) (omega arith)));
+    past = filter_back (is_past p) rows (i + 1) (λ k d l w. not_greater_upto i k d within (here d) l)
+        (λ k d l w. ap is_gt (greater_after i k d w (here d) (omega arith)));
     found = row_at_is p rows ∙ find_at (is_at p) rows i within (λ k d l. ap is_eq (less_before i k d within (here d) l)) (λ d. ap is_eq (here d));
   }
 

@@ -27,7 +27,8 @@ same_place h row p e =
 
 -- a test of rows that agrees with one of records at an institution's rows
 of-filter_step : (h : List ℕ) (p : Row → Bool) (q : Record → Bool) (row : Row) (rows : List Row) → (row.inst ≡ h → p row ≡ q (record_of row))
-    → of h (filter p rows) ≡ filter q (of h rows) → (b m : Bool) → p row ≡ b → bytes_eq row.inst h ≡ m → of h (filter p (row ∷ rows)) ≡ filter q (of h (row ∷ rows))
+    → of h (filter p rows) ≡ filter q (of h rows) → (b m : Bool) → p row ≡ b → bytes_eq row.inst h ≡ m
+    → of h (filter p (row ∷ rows)) ≡ filter q (of h (row ∷ rows))
 unfolding of
 of-filter_step h p q row rows same rest true true e m =
     let kept : q (record_of row) ≡ true = sym (same ((bytes_eq-Decides row.inst h).0 m)) ∙ e in
@@ -98,7 +99,8 @@ others_edit g h other e rows rising =
     let split = IsRising-split p rows rising in
     of-append g (rows_before p rows ++ map (row_of h) (left_there e)) (rows_past p rows)
     ∙ ap (λ (rs : List Record). rs ++ of g (rows_past p rows)) (of-append g (rows_before p rows) (map (row_of h) (left_there e)))
-    ∙ ap (λ (rs : List Record). of g (rows_before p rows) ++ rs ++ of g (rows_past p rows)) (of_other g h other (left_there e) ∙ sym (of_at g h other (edit_place e) rows))
+    ∙ ap (λ (rs : List Record). of g (rows_before p rows) ++ rs ++ of g (rows_past p rows)) (of_other g h other (left_there e)
+    ∙ sym (of_at g h other (edit_place e) rows))
     ∙ sym (ap (λ (rs : List Record). rs ++ of g (rows_past p rows)) (of-append g (rows_before p rows) (filter (is_at p) rows)))
     ∙ sym (of-append g (rows_before p rows ++ filter (is_at p) rows) (rows_past p rows))
     ∙ ap (of g) (sym split)
@@ -117,7 +119,8 @@ before_is : (p : RowPlace) (rows : List Row) → AllByRecursion (λ (x : Row). r
 before_is p rows = each_passed (λ (x : Row). row_place_order (row_place_of x) p ≡ Less) (is_before p) (λ (x : Row) e. is_lt_less _ e) rows
 
 past_is : (p : RowPlace) (rows : List Row) → AllByRecursion (λ (x : Row). row_place_order p (row_place_of x) ≡ Less) (rows_past p rows)
-past_is p rows = each_passed (λ (x : Row). row_place_order p (row_place_of x) ≡ Less) (is_past p) (λ (x : Row) e. less_from (row_place_of x) p (is_gt_greater _ e)) rows
+past_is p rows = each_passed (λ (x : Row). row_place_order p (row_place_of x) ≡ Less) (is_past p)
+    (λ (x : Row) e. less_from (row_place_of x) p (is_gt_greater _ e)) rows
 
 past_later : (p : RowPlace) (x : Row) → row_place_order (row_place_of x) p ≡ Less → (rows : List Row)
     → AllByRecursion (λ (y : Row). row_place_order (row_place_of x) (row_place_of y) ≡ Less) (rows_past p rows)
@@ -136,7 +139,8 @@ left_past h (Put r) x less = (less, tt)
 left_past h (Remove kind key) x less = tt
 
 left_before : (h : List ℕ) (e : Edit) (rows : List Row)
-    → AllByRecursion (λ (x : Row). AllByRecursion (λ (y : Row). row_place_order (row_place_of x) (row_place_of y) ≡ Less) (rows_past (within h (edit_place e)) rows)) (map (row_of h) (left_there e))
+    → AllByRecursion (λ (x : Row). AllByRecursion (λ (y : Row). row_place_order (row_place_of x) (row_place_of y) ≡ Less)
+    (rows_past (within h (edit_place e)) rows)) (map (row_of h) (left_there e))
 left_before h (Put r) rows = (past_is (within h (place_of r)) rows, tt)
 left_before h (Remove kind key) rows = tt
 
@@ -149,7 +153,8 @@ rising_edit h e rows rising =
     (each_weaker (λ (x : Row). row_place_order (row_place_of x) p ≡ Less) _ (λ (x : Row) less. left_past h e x less) (rows_before p rows) (before_is p rows)))
     (IsRising-filter (is_past p) rows rising)
     (each_appended _ (rows_before p rows) (map (row_of h) (left_there e))
-    (each_weaker (λ (x : Row). row_place_order (row_place_of x) p ≡ Less) _ (λ (x : Row) less. past_later p x less rows) (rows_before p rows) (before_is p rows))
+    (each_weaker (λ (x : Row). row_place_order (row_place_of x) p ≡ Less) _ (λ (x : Row) less. past_later p x less rows) (rows_before p rows)
+    (before_is p rows))
     (left_before h e rows))
 
 rising_edits : (h : List ℕ) (es : List Edit) (rows : List Row) → IsRising rows → IsRising (after_edits h es rows)
@@ -171,7 +176,8 @@ pub lens_all : (h : List ℕ) (changes : List (List Edit)) (rows : List Row) →
 lens_all h [] rows = refl
 lens_all h (es ∷ more) rows = lens_all h more (after (by h es) rows) ∙ ap (edited_all more) (lens h es rows)
 
-pub others_all : (g h : List ℕ) → h ≢ g → (changes : List (List Edit)) (rows : List Row) → IsRising rows → of g (after_all (map (by h) changes) rows) ≡ of g rows
+pub others_all : (g h : List ℕ) → h ≢ g → (changes : List (List Edit)) (rows : List Row) → IsRising rows
+    → of g (after_all (map (by h) changes) rows) ≡ of g rows
 others_all g h other [] rows r = refl
 others_all g h other (es ∷ more) rows r = others_all g h other more (after (by h es) rows) (rising (by h es) rows r) ∙ others g h other es rows r
 
@@ -188,9 +194,11 @@ own_step : (h : List ℕ) (o : Operation) (os : List Operation) (rows : List Row
     → of h (after_all (o ∷ os) rows) ≡ edited_all (own_edits h (o ∷ os)) (of h rows)
 own_step h o os rows r true e rest =
     let same = (bytes_eq-Decides o.institution h).0 e in
-    rw e (rest ∙ ap (edited_all (own_edits h os)) (subst (λ (g : List ℕ). of g (after_edits o.institution o.edits rows) ≡ edited o.edits (of g rows)) same (lens o.institution o.edits rows)))
+    rw e (rest ∙ ap (edited_all (own_edits h os)) (subst (λ (g : List ℕ). of g (after_edits o.institution o.edits rows) ≡ edited o.edits (of g rows)) same
+    (lens o.institution o.edits rows)))
 own_step h o os rows r false e rest =
-    rw e (rest ∙ ap (edited_all (own_edits h os)) (others_edits h o.institution (λ same. both_ways _ e ((bytes_eq-Decides o.institution h).1 same)) o.edits rows r))
+    rw e (rest ∙ ap (edited_all (own_edits h os)) (others_edits h o.institution (λ same. both_ways _ e ((bytes_eq-Decides o.institution h).1 same))
+    o.edits rows r))
 
 -- an institution's records after operations of several
 pub own_all : (h : List ℕ) (os : List Operation) (rows : List Row) → IsRising rows → of h (after_all os rows) ≡ edited_all (own_edits h os) (of h rows)

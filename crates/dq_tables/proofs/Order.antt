@@ -35,7 +35,8 @@ each_weaker P Q f (x ∷ xs) h = (f x h.0, each_weaker P Q f xs h.1)
 pub each_filtered : {X : Type 0} (P : X → Type 0) (p : X → Bool) (xs : List X) → AllByRecursion P xs → AllByRecursion P (filter p xs)
 each_filtered P p [] h = tt
 each_filtered P p (x ∷ xs) h =
-    elim (p x) as (λ b. AllByRecursion P (if b then x ∷ filter p xs else filter p xs)) [ true ↦ (h.0, each_filtered P p xs h.1) | false ↦ each_filtered P p xs h.1 ]
+    elim (p x) as (λ b. AllByRecursion P (if b then x ∷ filter p xs else filter p xs))
+    [ true ↦ (h.0, each_filtered P p xs h.1) | false ↦ each_filtered P p xs h.1 ]
 
 pub each_appended : {X : Type 0} (P : X → Type 0) (xs ys : List X) → AllByRecursion P xs → AllByRecursion P ys → AllByRecursion P (xs ++ ys)
 each_appended P [] ys h k = k

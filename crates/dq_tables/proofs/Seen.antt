@@ -43,7 +43,8 @@ listed_step : (kind : Kind) (h : List ℕ) (row : Row) (rows : List Row) → row
     → (m k : Bool) → bytes_eq row.inst h ≡ m → same_kind row.kind kind ≡ k
     → rows_of kind h (row ∷ rows) ≡ map (row_of h) (records_of kind (of h (row ∷ rows)))
 unfolding rows_of records_of of
-listed_step kind h row rows rest true true m k = rw (m, k) (ap (λ (r : Row). r ∷ rows_of kind h rows) (own_row h row m) ∙ ap (λ (rs : List Row). row_of h (record_of row) ∷ rs) rest)
+listed_step kind h row rows rest true true m k = rw (m, k) (ap (λ (r : Row). r ∷ rows_of kind h rows) (own_row h row m)
+    ∙ ap (λ (rs : List Row). row_of h (record_of row) ∷ rs) rest)
 listed_step kind h row rows rest true false m k = rw (m, k) rest
 listed_step kind h row rows rest false true m k = rw (m, k) rest
 listed_step kind h row rows rest false false m k = rw (m, k) rest
@@ -53,8 +54,8 @@ unfolding rows_of records_of of
 listed_own kind h [] = refl
 listed_own kind h (row ∷ rows) = listed_step kind h row rows (listed_own kind h rows) (bytes_eq row.inst h) (same_kind row.kind kind) refl refl
 
-filter_map_row : (h above : List ℕ) (rs : List Record) → filter (λ (row : Row). bytes_eq row.above above) (map (row_of h) rs)
-    ≡ map (row_of h) (filter (λ (r : Record). bytes_eq r.above above) rs)
+filter_map_row : (h above : List ℕ) (rs : List Record)
+    → filter (λ (row : Row). bytes_eq row.above above) (map (row_of h) rs) ≡ map (row_of h) (filter (λ (r : Record). bytes_eq r.above above) rs)
 filter_map_row h above [] = refl
 filter_map_row h above (r ∷ rs) =
     elim (bytes_eq r.above above) as (λ b. (if b then row_of h r ∷ filter (λ (row : Row). bytes_eq row.above above) (map (row_of h) rs)
@@ -66,7 +67,8 @@ filter_map_row h above (r ∷ rs) =
 
 pub above_own : (kind : Kind) (h above : List ℕ) (rows : List Row) → rows_above kind h above rows ≡ map (row_of h) (records_above kind above (of h rows))
 unfolding rows_above records_above
-above_own kind h above rows = ap (filter (λ (row : Row). bytes_eq row.above above)) (listed_own kind h rows) ∙ filter_map_row h above (records_of kind (of h rows))
+above_own kind h above rows = ap (filter (λ (row : Row). bytes_eq row.above above)) (listed_own kind h rows)
+    ∙ filter_map_row h above (records_of kind (of h rows))
 
 pub counted_own : (kind : Kind) (h : List ℕ) (rows : List Row) → length (rows_of kind h rows) ≡ length (records_of kind (of h rows))
 counted_own kind h rows = ap length (listed_own kind h rows) ∙ length-map (records_of kind (of h rows)) (row_of h)

@@ -35,7 +35,8 @@ Parts t p rows =
     (is_some (find t (rows_before p rows)) ≡ true) ⊎ ((is_some (find t (rows_past p rows)) ≡ true)
     ⊎ ((x : Row) × (t x ≡ true) × (row_place_order (row_place_of x) p ≡ Equal)))
 
-parts_here : (t : Row → Bool) (p : RowPlace) (row : Row) (rows : List Row) (o : Ordering) → row_place_order (row_place_of row) p ≡ o → t row ≡ true → Parts t p (row ∷ rows)
+parts_here : (t : Row → Bool) (p : RowPlace) (row : Row) (rows : List Row) (o : Ordering) → row_place_order (row_place_of row) p ≡ o → t row ≡ true
+    → Parts t p (row ∷ rows)
 parts_here t p row rows Less e h = inl (rw (e, h) refl)
 parts_here t p row rows Equal e h = inr (inr (row, h, e))
 parts_here t p row rows Greater e h = inr (inl (rw (e, h) refl))
@@ -161,7 +162,8 @@ put_sound rows row sound own held =
     record {
       rising = rising_edit row.inst (Put (record_of row)) rows sound.rising;
       own = each_edited (λ (r : Row). is_own r ≡ true) row.inst (Put (record_of row)) rows sound.own (own, tt);
-      held = each_edited (λ (r : Row). is_held more r.kind r.inst r.above ≡ true) row.inst (Put (record_of row)) rows (held_each rows more grows rows sound.held)
+      held = each_edited (λ (r : Row). is_held more r.kind r.inst r.above ≡ true) row.inst (Put (record_of row)) rows
+          (held_each rows more grows rows sound.held)
           (held_more rows more grows row.kind row.inst row.above held, tt);
     }
 
@@ -171,21 +173,24 @@ remove_sound rows h key sound =
     record {
       rising = rising_edit h (Remove Entry key) rows sound.rising;
       own = each_edited (λ (r : Row). is_own r ≡ true) h (Remove Entry key) rows sound.own tt;
-      held = each_edited (λ (r : Row). is_held more r.kind r.inst r.above ≡ true) h (Remove Entry key) rows (held_each rows more (remove_grows h key rows) rows sound.held) tt;
+      held = each_edited (λ (r : Row). is_held more r.kind r.inst r.above ≡ true) h (Remove Entry key) rows
+          (held_each rows more (remove_grows h key rows) rows sound.held) tt;
     }
 
 pub after_edits-append : (h : List ℕ) (es fs : List Edit) (rows : List Row) → after_edits h (es ++ fs) rows ≡ after_edits h fs (after_edits h es rows)
 after_edits-append h [] fs rows = refl
 after_edits-append h (e ∷ es) fs rows = after_edits-append h es fs (after_edit h e rows)
 
-put_at : (h : List ℕ) (row : Row) (rows : List Row) → row.inst ≡ h → IsSound (after_edit row.inst (Put (record_of row)) rows) → IsSound (after_edit h (Put (record_of row)) rows)
+put_at : (h : List ℕ) (row : Row) (rows : List Row) → row.inst ≡ h → IsSound (after_edit row.inst (Put (record_of row)) rows)
+    → IsSound (after_edit h (Put (record_of row)) rows)
 put_at h row rows same sound = subst (λ (g : List ℕ). IsSound (after_edit g (Put (record_of row)) rows)) same sound
 
 new_sound : (rows : List Row) (kind : Kind) (row : Row) → IsSound rows → IsNew rows kind row → IsSound (after_edit row.inst (Put (record_of row)) rows)
 new_sound rows kind row sound new =
     put_sound rows row sound new.own (subst (λ (k : Kind). is_held rows k row.inst row.above ≡ true) (sym new.kind_is) new.held)
 
-put_if_sound : (h : List ℕ) (rows : List Row) (kind : Kind) (row : Option Row) → IsSound rows → IsOf h row → IsNewIf rows kind row → IsSound (after_edits h (put_if row) rows)
+put_if_sound : (h : List ℕ) (rows : List Row) (kind : Kind) (row : Option Row) → IsSound rows → IsOf h row → IsNewIf rows kind row
+    → IsSound (after_edits h (put_if row) rows)
 put_if_sound h rows kind None sound same new = sound
 put_if_sound h rows kind (Some row) sound same new = put_at h row rows same (new_sound rows kind row sound new)
 

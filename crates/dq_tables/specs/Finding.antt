@@ -10,27 +10,31 @@ same_kind a b = number_of a == number_of b
 
 -- the record of a kind with a key
 unfoldable pub record_at : Kind → List ℕ → List Record → Option Record
-record_at kind key records = find (λ (r : Record). same_kind r.kind kind && bytes_eq r.key key) records
+record_at kind key records =
+    find (λ (r : Record). same_kind r.kind kind && bytes_eq r.key key) records
 
 -- the records of a kind, and those among them under another record
 unfoldable pub records_of : Kind → List Record → List Record
 records_of kind records = filter (λ (r : Record). same_kind r.kind kind) records
 
 unfoldable pub records_above : Kind → List ℕ → List Record → List Record
-records_above kind above records = filter (λ (r : Record). bytes_eq r.above above) (records_of kind records)
+records_above kind above records =
+    filter (λ (r : Record). bytes_eq r.above above) (records_of kind records)
 
 abbrev pub is_of : Kind → List ℕ → Row → Bool
 is_of kind institution row = same_kind row.kind kind && bytes_eq row.inst institution
 
 -- the same of an institution's rows
 unfoldable pub row_at : Kind → List ℕ → List ℕ → List Row → Option Row
-row_at kind institution key rows = find (λ (row : Row). is_of kind institution row && bytes_eq row.key key) rows
+row_at kind institution key rows =
+    find (λ (row : Row). is_of kind institution row && bytes_eq row.key key) rows
 
 unfoldable pub rows_of : Kind → List ℕ → List Row → List Row
 rows_of kind institution rows = filter (is_of kind institution) rows
 
 unfoldable pub rows_above : Kind → List ℕ → List ℕ → List Row → List Row
-rows_above kind institution above rows = filter (λ (row : Row). bytes_eq row.above above) (rows_of kind institution rows)
+rows_above kind institution above rows =
+    filter (λ (row : Row). bytes_eq row.above above) (rows_of kind institution rows)
 
 -- Among rows in order, the one at an index stands at a place.
 pub record IsThere (p : RowPlace) (rows : List Row) (at : ℕ) : Type 0 where

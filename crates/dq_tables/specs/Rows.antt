@@ -19,7 +19,8 @@ number_of Image = 3
 number_of Entry = 4
 number_of Step = 5
 
--- A record: the data set in Explicit, its key, and the key of the record above it, of which there is none but for series and images.
+-- A record: the data set in Explicit, its key, and the key of the record above it, of which there
+-- is none but for series and images.
 pub record Record : Type 0 where
   pub kind : Kind
   pub key : List ℕ
@@ -51,7 +52,8 @@ records_before p records = filter (λ (r : Record). is_lt (place_order (place_of
 abbrev pub records_past : Place → List Record → List Record
 records_past p records = filter (λ (r : Record). is_gt (place_order (place_of r) p)) records
 
--- A record put in its place, where it replaces the one that was there, or the record at a place removed.
+-- A record put in its place, where it replaces the one that was there, or the record at a place
+-- removed.
 pub data Edit : Type 0 where
   Put : Record → Edit
   Remove : Kind → List ℕ → Edit
@@ -66,7 +68,8 @@ left_there (Put r) = r ∷ []
 left_there (Remove kind key) = []
 
 unfoldable pub edited_by : Edit → List Record → List Record
-edited_by e records = records_before (edit_place e) records ++ left_there e ++ records_past (edit_place e) records
+edited_by e records =
+    records_before (edit_place e) records ++ left_there e ++ records_past (edit_place e) records
 
 -- the records after some edits in turn
 abbrev pub edited : List Edit → List Record → List Record
@@ -80,7 +83,13 @@ edited_all (es ∷ more) records = edited_all more (edited es records)
 
 -- A row is a record under an institution's name.
 abbrev pub row_of : List ℕ → Record → Row
-row_of institution r = record { kind = r.kind; inst = institution; key = r.key; above = r.above; octets = r.octets }
+row_of institution r = record {
+  kind = r.kind;
+  inst = institution;
+  key = r.key;
+  above = r.above;
+  octets = r.octets;
+}
 
 abbrev pub record_of : Row → Record
 record_of row = record { kind = row.kind; key = row.key; above = row.above; octets = row.octets }
@@ -107,7 +116,8 @@ within institution p = record { kind = p.kind; institution = institution; key = 
 
 -- by kind, then by institution
 abbrev pub group_order : RowPlace → Kind → List ℕ → Ordering
-group_order p kind institution = ordering_then (kind_order p.kind kind) (octet_order p.institution institution)
+group_order p kind institution =
+    ordering_then (kind_order p.kind kind) (octet_order p.institution institution)
 
 -- by kind, then by institution, then by key
 abbrev pub row_place_order : RowPlace → RowPlace → Ordering
@@ -116,7 +126,10 @@ row_place_order p q = ordering_then (group_order p q.kind q.institution) (octet_
 -- The rows stand in that order, no two at one place.
 unfoldable pub IsRising : List Row → Type 0
 IsRising [] = Unit {0}
-IsRising (row ∷ rows) = AllByRecursion (λ (later : Row). row_place_order (row_place_of row) (row_place_of later) ≡ Less) rows × IsRising rows
+IsRising (row ∷ rows) =
+    AllByRecursion (λ (later : Row).
+    row_place_order (row_place_of row) (row_place_of later) ≡ Less) rows
+    × IsRising rows
 
 abbrev pub rows_before : RowPlace → List Row → List Row
 rows_before p rows = filter (λ (row : Row). is_lt (row_place_order (row_place_of row) p)) rows
@@ -153,7 +166,9 @@ after_all (o ∷ os) rows = after_all os (after o rows)
 -- the edits among them of one institution's records
 abbrev pub own_edits : List ℕ → List Operation → List (List Edit)
 own_edits institution [] = []
-own_edits institution (o ∷ os) = if bytes_eq o.institution institution then o.edits ∷ own_edits institution os else own_edits institution os
+own_edits institution (o ∷ os) =
+    if bytes_eq o.institution institution then o.edits ∷ own_edits institution os
+    else own_edits institution os
 
 abbrev pub put_if : Option Row → List Edit
 put_if None = []

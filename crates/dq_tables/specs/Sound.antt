@@ -24,7 +24,8 @@ abbrev pub is_value : Option (List ℕ) → List ℕ → Bool
 is_value None octets = false
 is_value (Some value) octets = bytes_eq value octets
 
--- The key is the data set's own. A step's is the SOP Instance UID of its N-CREATE, which its data set does not hold.
+-- The key is the data set's own. A step's is the SOP Instance UID of its N-CREATE, which its data
+-- set does not hold.
 unfoldable pub has_key : Kind → List ℕ → ElementList → Bool
 has_key Study key d = is_value (uid_at study_instance_uid d) key
 has_key Series key d = is_value (uid_at series_instance_uid d) key
@@ -49,7 +50,9 @@ is_within kind octets = true
 abbrev pub is_record_of : Result ElementList ReadFault → Row → Bool
 is_record_of (Err fault) row = false
 is_record_of (Ok d) row =
-    bytes_eq (canonical Explicit d) row.octets && (has_key row.kind row.key d && (has_above row.kind row.above d && is_within row.kind row.octets))
+    bytes_eq (canonical Explicit d) row.octets
+    && (has_key row.kind row.key d
+    && (has_above row.kind row.above d && is_within row.kind row.octets))
 
 -- The octets are the one Explicit spelling of a data set, and the keys are its own.
 unfoldable pub is_own : Row → Bool
@@ -65,12 +68,14 @@ abbrev pub OwnEach : List Row → Type 0
 OwnEach rows = AllByRecursion (λ (row : Row). is_own row ≡ true) rows
 
 abbrev pub HeldEach : List Row → List Row → Type 0
-HeldEach all rows = AllByRecursion (λ (row : Row). is_held all row.kind row.inst row.above ≡ true) rows
+HeldEach all rows =
+    AllByRecursion (λ (row : Row). is_held all row.kind row.inst row.above ≡ true) rows
 
 pub IsRising-prop : (rows : List Row) → IsProp (IsRising rows)
 unfolding IsRising
 IsRising-prop [] = Unit-prop
-IsRising-prop (row ∷ rows) = ×_prop (AllByRecursion-prop _ (λ later. Ordering-set _ _) rows) (IsRising-prop rows)
+IsRising-prop (row ∷ rows) =
+    ×_prop (AllByRecursion-prop _ (λ later. Ordering-set _ _) rows) (IsRising-prop rows)
 
 pub OwnEach-prop : (rows : List Row) → IsProp (OwnEach rows)
 OwnEach-prop rows = AllByRecursion-prop _ (λ row. Coded-set coded_bool _ _) rows
@@ -107,10 +112,12 @@ pub record FitsStored (rows : List Row) (study series : Option Row) (image : Row
   pub series_of : IsOf image.inst series
   pub study_new : IsNewIf rows Study study
   pub series_new : IsNewIf (after_edits image.inst (put_if study) rows) Series series
-  pub image_new : IsNew (after_edits image.inst (put_if series) (after_edits image.inst (put_if study) rows)) Image image
+  pub image_new
+      : IsNew (after_edits image.inst (put_if series) (after_edits image.inst (put_if study) rows))
+      Image image
 
--- What a change asks: added places are free, changed and removed rows are there, rows above are there or added with it, and rows are
--- their records' own.
+-- What a change asks: added places are free, changed and removed rows are there, rows above are
+-- there or added with it, and rows are their records' own.
 abbrev pub Fits : List Row → Change → Type 0
 Fits rows (Stored study series image) = FitsStored rows study series image
 Fits rows (EntryAdded row) = IsNew rows Entry row

@@ -10,7 +10,8 @@ use crate::tables::Tables;
 use dq_list::Listed;
 use std::alloc::Global;
 
-/// Tables that make a number of changes, and then answer `Store` to the next and to each call after it.
+/// Tables that make a number of changes, and then answer `Store` to the next and to each call after
+/// it.
 #[derive(Debug, Drop)]
 pub struct Fused<T> {
     tables: T,
@@ -25,7 +26,8 @@ impl<T: Tables> Fused<T> {
         ensures honest { T.honest tables → ⟦<Fused<T> as Tables>⟧.honest result }
         ensures was_honest { ⟦<Fused<T> as Tables>⟧.honest result → T.honest tables }
         ensures failed { ⟦<Fused<T> as Tables>⟧.failed result ≡ T.failed tables }
-        ensures crash { (r : List Row) → ⟦<Fused<T> as Tables>⟧.may_leave result r → T.may_leave tables r }
+        ensures crash { (r : List Row) → ⟦<Fused<T> as Tables>⟧.may_leave result r
+            → T.may_leave tables r }
     {
         Fused {
             tables,

@@ -44,7 +44,8 @@ pub fn sole_item_at(data_set: &DataSet, tag: Tag) -> Option<&DataSet>
     }
 }
 
-/// The id of the only scheduled procedure step of a worklist entry, of 1 to 16 octets (PS3.4 section K.6.1.2.2).
+/// The id of the only scheduled procedure step of a worklist entry, of 1 to 16 octets (PS3.4
+/// section K.6.1.2.2).
 #[tactic(auto, unfolding(crate::specs::Keys::entry_id))]
 pub fn entry_id(data_set: &DataSet) -> Option<&[u8]>
     ensures { option_copied result ≡ entry_id data_set.now }

@@ -12,48 +12,59 @@ ghost use Rattle.dq_tables.specs.Sound.{IsSound, Fits};
 use crate::plain::PlainTables;
 use crate::tables::Tables;
 
-/// The records of an institution after its operations are its records edited, whatever else is kept.
+/// The records of an institution after its operations are its records edited, whatever else is
+/// kept.
 #[tactic(auto, using(crate::proofs::Lens::lens, crate::proofs::Lens::lens_all))]
 pub fn own_records_are_edited()
-    ensures one { (h : List ℕ) (es : List Edit) (rows : List Row) → of h (after (by h es) rows) ≡ edited es (of h rows) }
-    ensures all { (h : List ℕ) (changes : List (List Edit)) (rows : List Row) → of h (after_all (map (by h) changes) rows) ≡ edited_all changes (of h rows) }
+    ensures one { (h : List ℕ) (es : List Edit) (rows : List Row)
+        → of h (after (by h es) rows) ≡ edited es (of h rows) }
+    ensures all { (h : List ℕ) (changes : List (List Edit)) (rows : List Row)
+        → of h (after_all (map (by h) changes) rows) ≡ edited_all changes (of h rows) }
 {}
 
 /// The records of every other institution stay as they were.
 #[tactic(auto, using(crate::proofs::Lens::others, crate::proofs::Lens::others_all))]
 pub fn other_records_stay()
-    ensures one { (g h : List ℕ) → h ≢ g → (es : List Edit) (rows : List Row) → IsRising rows → of g (after (by h es) rows) ≡ of g rows }
-    ensures all { (g h : List ℕ) → h ≢ g → (changes : List (List Edit)) (rows : List Row) → IsRising rows
+    ensures one { (g h : List ℕ) → h ≢ g → (es : List Edit) (rows : List Row) → IsRising rows
+        → of g (after (by h es) rows) ≡ of g rows }
+    ensures all { (g h : List ℕ) → h ≢ g → (changes : List (List Edit)) (rows : List Row)
+        → IsRising rows
         → of g (after_all (map (by h) changes) rows) ≡ of g rows }
 {}
 
 /// The records of an institution after operations of several are its records after its own.
 #[tactic(auto, using(crate::proofs::Lens::own_all))]
 pub fn own_operations_alone_count()
-    ensures { (h : List ℕ) (os : List Operation) (rows : List Row) → IsRising rows → of h (after_all os rows) ≡ edited_all (own_edits h os) (of h rows) }
+    ensures { (h : List ℕ) (os : List Operation) (rows : List Row) → IsRising rows
+        → of h (after_all os rows) ≡ edited_all (own_edits h os) (of h rows) }
 {}
 
 /// Rows stay in order, each at a place of its own.
 #[tactic(auto, using(crate::proofs::Lens::rising, crate::proofs::Lens::rising_all))]
 pub fn rows_stay_in_order()
     ensures one { (o : Operation) (rows : List Row) → IsRising rows → IsRising (after o rows) }
-    ensures all { (os : List Operation) (rows : List Row) → IsRising rows → IsRising (after_all os rows) }
+    ensures all { (os : List Operation) (rows : List Row) → IsRising rows
+        → IsRising (after_all os rows) }
 {}
 
 /// Sound rows stay sound by a change that fits them.
 #[tactic(auto, using(crate::proofs::Soundness::change_sound))]
 pub fn sound_rows_stay_sound()
-    ensures { (rows : List Row) (change : Change) → IsSound rows → Fits rows change → IsSound (after (operation_of change) rows) }
+    ensures { (rows : List Row) (change : Change) → IsSound rows → Fits rows change
+        → IsSound (after (operation_of change) rows) }
 {}
 
 /// What is found among the rows by an institution's name is what is found among its records.
 #[tactic(auto, using(crate::proofs::Seen::found_own, crate::proofs::Seen::listed_own, crate::proofs::Seen::above_own, crate::proofs::Seen::counted_own))]
 pub fn rows_are_found_among_records()
-    ensures found { (kind : Kind) (h key : List ℕ) (rows : List Row) → row_at kind h key rows ≡ option_map (row_of h) (record_at kind key (of h rows)) }
-    ensures listed { (kind : Kind) (h : List ℕ) (rows : List Row) → rows_of kind h rows ≡ map (row_of h) (records_of kind (of h rows)) }
+    ensures found { (kind : Kind) (h key : List ℕ) (rows : List Row)
+        → row_at kind h key rows ≡ option_map (row_of h) (record_at kind key (of h rows)) }
+    ensures listed { (kind : Kind) (h : List ℕ) (rows : List Row)
+        → rows_of kind h rows ≡ map (row_of h) (records_of kind (of h rows)) }
     ensures above { (kind : Kind) (h above : List ℕ) (rows : List Row)
         → rows_above kind h above rows ≡ map (row_of h) (records_above kind above (of h rows)) }
-    ensures counted { (kind : Kind) (h : List ℕ) (rows : List Row) → length (rows_of kind h rows) ≡ length (records_of kind (of h rows)) }
+    ensures counted { (kind : Kind) (h : List ℕ) (rows : List Row)
+        → length (rows_of kind h rows) ≡ length (records_of kind (of h rows)) }
 {}
 
 /// The records of a kind, and those of them under another record, are in the order of their keys.
@@ -75,5 +86,6 @@ pub fn honest_rows_are_sound<T: Tables>()
 pub fn plain_tables_never_fail()
     ensures honest { (it : PlainTables) → ⟦<PlainTables as Tables>⟧.honest it }
     ensures failed { (it : PlainTables) → ⟦<PlainTables as Tables>⟧.failed it ≡ false }
-    ensures crash { (it : PlainTables) (r : List Row) → ⟦<PlainTables as Tables>⟧.may_leave it r → ⊥ }
+    ensures crash { (it : PlainTables) (r : List Row)
+        → ⟦<PlainTables as Tables>⟧.may_leave it r → ⊥ }
 {}

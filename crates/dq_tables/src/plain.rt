@@ -42,7 +42,8 @@ impl PlainTables {
     pub(crate) fn keep(&mut self, alloc: Global, row: &Row) -> Result<(), AllocError>
         requires own { is_own row.now ≡ true }
         requires held { is_held self.old.kept.items row.now.kind row.now.inst row.now.above ≡ true }
-        ensures ok { OnOk result (self.new.kept.items ≡ after_edit row.now.inst (Put (record_of row.now)) self.old.kept.items) }
+        ensures ok { OnOk result (self.new.kept.items
+            ≡ after_edit row.now.inst (Put (record_of row.now)) self.old.kept.items) }
         ensures err { OnErr result (self.new.kept.items ≡ self.old.kept.items) }
     {
         let row = row.copied(alloc)?;
@@ -51,8 +52,8 @@ impl PlainTables {
         Ok(())
     }
 
-    /// Puts copies of an image, and of its study and its series where they are new, in their places. Want
-    /// of memory changes nothing.
+    /// Puts copies of an image, and of its study and its series where they are new, in their
+    /// places. Want of memory changes nothing.
     pub(crate) fn keep_stored(
         &mut self,
         alloc: Global,
@@ -77,7 +78,8 @@ impl PlainTables {
 
     /// Removes an entry.
     pub(crate) fn remove_entry(&mut self, institution: &[u8], key: &[u8])
-        ensures { self.new.kept.items ≡ after_edit institution.now (Remove Entry key.now) self.old.kept.items }
+        ensures { self.new.kept.items ≡ after_edit institution.now (Remove Entry key.now)
+            self.old.kept.items }
     {
         remove(&mut self.kept, Kind::Entry, institution, key);
     }

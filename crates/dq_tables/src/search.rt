@@ -17,7 +17,8 @@ pub(crate) fn search(
     key: &[u8],
 ) -> Result<usize, usize>
     requires { IsRising rows.now }
-    ensures { MatchResult result (IsThere (place kind institution.now key.now) rows.now) (IsFree (place kind institution.now key.now) rows.now) }
+    ensures { MatchResult result (IsThere (place kind institution.now key.now) rows.now)
+        (IsFree (place kind institution.now key.now) rows.now) }
 {
     rows.binary_search_by(|row| place_order(row, kind, institution, key))
 }
@@ -73,7 +74,8 @@ pub(crate) fn copies_under(
     rows: &[Row],
     above: &[u8],
 ) -> Result<Listed<Row>, AllocError>
-    ensures { IfOk result (λ copies. copies ≡ filter (λ row. bytes_eq row.above above.now) rows.now) }
+    ensures { IfOk result (λ copies.
+        copies ≡ filter (λ row. bytes_eq row.above above.now) rows.now) }
 {
     let mut copies = Listed::empty(alloc);
     for row in rows {

@@ -15,8 +15,8 @@ use std::alloc::Global;
 
 /// What keeps the rows of several institutions.
 ///
-/// Each call answers from the rows, or answers a fault and leaves them as they were. Lists are in the order of the
-/// keys, octet by octet.
+/// Each call answers from the rows, or answers a fault and leaves them as they were. Lists are in
+/// the order of the keys, octet by octet.
 pub trait Tables {
     /// The rows, in order of kind, institution and key.
     ghost rows: { Self → List Row };
@@ -37,7 +37,8 @@ pub trait Tables {
         institution: &[u8],
         key: &[u8],
     ) -> Result<Option<Row>, TableFault>
-        ensures found { honest self.new → IfOk result (λ row. row ≡ row_at Study institution.now key.now (rows self.old)) }
+        ensures found { honest self.new → IfOk result
+            (λ row. row ≡ row_at Study institution.now key.now (rows self.old)) }
         ensures reads { Reads rows honest failed may_leave self.old self.new result };
 
     /// The institution's series with the key.
@@ -47,7 +48,8 @@ pub trait Tables {
         institution: &[u8],
         key: &[u8],
     ) -> Result<Option<Row>, TableFault>
-        ensures found { honest self.new → IfOk result (λ row. row ≡ row_at Series institution.now key.now (rows self.old)) }
+        ensures found { honest self.new → IfOk result
+            (λ row. row ≡ row_at Series institution.now key.now (rows self.old)) }
         ensures reads { Reads rows honest failed may_leave self.old self.new result };
 
     /// The institution's image with the key.
@@ -57,7 +59,8 @@ pub trait Tables {
         institution: &[u8],
         key: &[u8],
     ) -> Result<Option<Row>, TableFault>
-        ensures found { honest self.new → IfOk result (λ row. row ≡ row_at Image institution.now key.now (rows self.old)) }
+        ensures found { honest self.new → IfOk result
+            (λ row. row ≡ row_at Image institution.now key.now (rows self.old)) }
         ensures reads { Reads rows honest failed may_leave self.old self.new result };
 
     /// The institution's worklist entry with the key.
@@ -67,7 +70,8 @@ pub trait Tables {
         institution: &[u8],
         key: &[u8],
     ) -> Result<Option<Row>, TableFault>
-        ensures found { honest self.new → IfOk result (λ row. row ≡ row_at Entry institution.now key.now (rows self.old)) }
+        ensures found { honest self.new → IfOk result
+            (λ row. row ≡ row_at Entry institution.now key.now (rows self.old)) }
         ensures reads { Reads rows honest failed may_leave self.old self.new result };
 
     /// The institution's performed procedure step with the key.
@@ -77,22 +81,26 @@ pub trait Tables {
         institution: &[u8],
         key: &[u8],
     ) -> Result<Option<Row>, TableFault>
-        ensures found { honest self.new → IfOk result (λ row. row ≡ row_at Step institution.now key.now (rows self.old)) }
+        ensures found { honest self.new → IfOk result
+            (λ row. row ≡ row_at Step institution.now key.now (rows self.old)) }
         ensures reads { Reads rows honest failed may_leave self.old self.new result };
 
     /// The institution's studies.
     fn studies(&mut self, alloc: Global, institution: &[u8]) -> Result<Listed<Row>, TableFault>
-        ensures found { honest self.new → IfOk result (λ list. list ≡ rows_of Study institution.now (rows self.old)) }
+        ensures found { honest self.new → IfOk result
+            (λ list. list ≡ rows_of Study institution.now (rows self.old)) }
         ensures reads { Reads rows honest failed may_leave self.old self.new result };
 
     /// The institution's worklist entries.
     fn entries(&mut self, alloc: Global, institution: &[u8]) -> Result<Listed<Row>, TableFault>
-        ensures found { honest self.new → IfOk result (λ list. list ≡ rows_of Entry institution.now (rows self.old)) }
+        ensures found { honest self.new → IfOk result
+            (λ list. list ≡ rows_of Entry institution.now (rows self.old)) }
         ensures reads { Reads rows honest failed may_leave self.old self.new result };
 
     /// The institution's performed procedure steps.
     fn steps(&mut self, alloc: Global, institution: &[u8]) -> Result<Listed<Row>, TableFault>
-        ensures found { honest self.new → IfOk result (λ list. list ≡ rows_of Step institution.now (rows self.old)) }
+        ensures found { honest self.new → IfOk result
+            (λ list. list ≡ rows_of Step institution.now (rows self.old)) }
         ensures reads { Reads rows honest failed may_leave self.old self.new result };
 
     /// The series of the institution's study with the key `above`.
@@ -103,7 +111,8 @@ pub trait Tables {
         above: &[u8],
     ) -> Result<Listed<Row>, TableFault>
         ensures found { honest self.new
-            → IfOk result (λ list. list ≡ rows_above Series institution.now above.now (rows self.old)) }
+            → IfOk result (λ list. list ≡ rows_above Series institution.now above.now
+            (rows self.old)) }
         ensures reads { Reads rows honest failed may_leave self.old self.new result };
 
     /// The images of the institution's series with the key `above`.
@@ -114,13 +123,15 @@ pub trait Tables {
         above: &[u8],
     ) -> Result<Listed<Row>, TableFault>
         ensures found { honest self.new
-            → IfOk result (λ list. list ≡ rows_above Image institution.now above.now (rows self.old)) }
+            → IfOk result (λ list. list ≡ rows_above Image institution.now above.now
+            (rows self.old)) }
         ensures reads { Reads rows honest failed may_leave self.old self.new result };
 
     /// How many rows of a kind the institution has.
     fn count(&mut self, alloc: Global, kind: Kind, institution: &[u8]) -> Result<u64, TableFault>
         ensures found { honest self.new
-            → IfOk result (λ number. number ≡ length (rows_of kind institution.now (rows self.old))) }
+            → IfOk result (λ number.
+            number ≡ length (rows_of kind institution.now (rows self.old))) }
         ensures reads { Reads rows honest failed may_leave self.old self.new result };
 
     /// Whether a call has answered `Store`. It takes no memory.
@@ -130,7 +141,8 @@ pub trait Tables {
     /// Makes one change, whole or not at all.
     fn apply(&mut self, alloc: Global, change: &Change) -> Result<(), TableFault>
         requires { honest self.old → Fits (rows self.old) change.now }
-        ensures { Writes rows honest failed may_leave self.old self.new (after (operation_of change.now) (rows self.old)) result };
+        ensures { Writes rows honest failed may_leave self.old self.new
+            (after (operation_of change.now) (rows self.old)) result };
 
     /// The rows are sound.
     ghost sound: { (it : Self) → honest it → IsSound (rows it) };

@@ -26,6 +26,7 @@ apply-requires g c = λ h.
 
 pub returns : goal.returns
 returns g c =
-    subst (λ (rs : List Row). Writes g.T.Tables.rows g.T.Tables.honest g.T.Tables.failed g.T.Tables.may_leave c.args.tables.now c.apply.new.self rs c.apply.result)
+    subst (λ (rs : List Row). Writes g.T.Tables.rows g.T.Tables.honest g.T.Tables.failed g.T.Tables.may_leave c.args.tables.now c.apply.new.self rs
+    c.apply.result)
     (made_of_rows c.args.name.now (instance_of c.args.sent.now) (g.T.Tables.rows c.args.tables.now) c.in_ok-change.change
     (kept_of c.args.kept.now) c.in_ok-change.ensures (ap (option_map record_of) c.requires.new)) c.apply.ensures

@@ -41,7 +41,8 @@ returns-in_err-status g c =
     let does = λ (records : List Record). instance_stored (limits_of c.args.institution.now) records (instance_of c.args.sent.now) in
     let e = c.in_err-status.field-0.0 in
     let left = err_from_is_err_and c.from_residual-in_err-status.result c.from_residual-in_err-status.ensures.1 in
-    let both = reads_then rows honest failed may_leave old mid new c.in_ok-kept.kept (refused (Option ℕ) e) c.in_ok-kept.ensures.reads c.in_err-status.ensures.reads in
+    let both = reads_then rows honest failed may_leave old mid new c.in_ok-kept.kept (refused (Option ℕ) e) c.in_ok-kept.ensures.reads
+    c.in_err-status.ensures.reads in
     rw (left.1, left.2) (serves_fault rows honest failed may_leave name does old new e (reads_refused rows honest failed may_leave old new e both))
 
 pub returns-in-Some-2 : goal.returns-in-Some-2

@@ -9,6 +9,9 @@ returns c =
     let institution = c.args.institution.now in
     let rows = c.args.rows.now in
     let rest = c.split_at.result.1.now in
-    c.split_at-2.ensures.front ∙ group_is kind institution rows c.requires c.partition_point-start.result c.partition_point-end.result rest c.split_at.ensures.back c.partition_point-start.ensures.bound c.partition_point-end.ensures.bound
-    (IsPartitionPoint-from_clause (comes_before kind institution rows c.requires) rows c.partition_point-start.result c.partition_point-start.ensures.partitioned (before_parted kind institution rows c.requires) (λ a r f called. search rules))
-    (λ parted. IsPartitionPoint-from_clause (belongs kind institution rows c.requires) rest c.partition_point-end.result c.partition_point-end.ensures.partitioned parted (λ a r f called. search rules))
+    c.split_at-2.ensures.front ∙ group_is kind institution rows c.requires c.partition_point-start.result c.partition_point-end.result rest
+    c.split_at.ensures.back c.partition_point-start.ensures.bound c.partition_point-end.ensures.bound
+    (IsPartitionPoint-from_clause (comes_before kind institution rows c.requires) rows c.partition_point-start.result
+    c.partition_point-start.ensures.partitioned (before_parted kind institution rows c.requires) (λ a r f called. search rules))
+    (λ parted. IsPartitionPoint-from_clause (belongs kind institution rows c.requires) rest c.partition_point-end.result
+    c.partition_point-end.ensures.partitioned parted (λ a r f called. search rules))
