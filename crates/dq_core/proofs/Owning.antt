@@ -1,10 +1,9 @@
 -- Who has a connection that is held, by its slot and by its stream, and what PDUs more add.
-use Rattle.std.proofs.Common.{◌≡◌, ℕ, Bool, true, false, nat_lt, nat_le, if◌then◌else◌, List, [], ◌∷◌, ◌++◌, length, drop, option_map, Option, Some, None, ◌⊎◌, inl, inr, refl, sym, ap, ◌∙◌, arith}
-use Rattle.std.proofs.lemmas.Bool.{false≢true}
+use Rattle.std.proofs.Common.{◌≡◌, ℕ, Bool, true, false, List, [], ◌∷◌, ◌++◌, length, drop, option_map, Option, Some, None, ◌⊎◌, inl, inr, refl, sym, ap, ◌∙◌, arith}
 use Rattle.std.proofs.lemmas.Bool.Decides.{nat_tests}
 use Rattle.std.proofs.Math.Seq.{drop-append_seam}
 use Rattle.dq_pdu.specs.declared.pdu.Pdu.{Pdu}
-use Rattle.dq_pdu.specs.declared.pdu.Pdu.TheVariants.{Request as request_pdu, Accept as accept_pdu, Reject, PData, ReleaseRq, ReleaseRp, Abort}
+use Rattle.dq_pdu.specs.declared.pdu.Pdu.TheVariants.{Request as request_pdu}
 use Rattle.dq_pdu.specs.declared.pdu.Request.{Request}
 use Rattle.dq_pdu.specs.declared.fault.PduFault.{PduFault}
 use Rattle.dq_pdu.specs.Stream.{pdus_in}
@@ -12,7 +11,6 @@ use Rattle.dq_assoc.specs.declared.agreement.Agreement.{Agreement}
 use Rattle.dq_assoc.specs.declared.association.Held.{Held}
 use Rattle.dq_assoc.specs.declared.association.Held.TheVariants as held
 use Rattle.dq_assoc.specs.declared.association.State.TheVariants.{Waiting, Open}
-use Rattle.dq_assoc.specs.declared.association.Verdict.TheVariants.{Accept, Busy}
 use Rattle.dq_assoc.specs.Negotiation.{agreement_of}
 use Rattle.dq_assoc.specs.Table.{Input, Requested}
 use Rattle.dq_assoc.specs.Inputs.{inputs_of, inputs}
@@ -24,7 +22,7 @@ use Rattle.dq_core.specs.declared.slot.Slot.{Slot}
 use Rattle.dq_core.specs.Answers.{request_in, inputs_added, verdict_at}
 use Rattle.dq_core.specs.Connections.{Connection}
 use Rattle.dq_core.specs.Owners.{is_sound, owner_by, owner, is_of, live_of}
-use Rattle.dq_core.specs.Slots.{home_of, IsHeld, AreHeld, is_home, count_at, verdict_of, routed_first}
+use Rattle.dq_core.specs.Slots.{home_of, AreHeld, is_home, count_at, verdict_of, routed_first}
 
 -- the laws of the crates below
 abbrev pub Waits : Type 0
@@ -54,18 +52,14 @@ pub no-inputs_yet : Waits → (stream : List ℕ) (association : Held) → (pdus
 no-inputs_yet waits stream association f a s = inputs-are stream [] (waits (pdus_in stream).list association a s) f
 
 -- the request of an open association is the stream's
-pub open-request : Opens → (stream : List ℕ) (association : Held) → (pdus_in stream).fault ≡ None → AssociationAfter (pdus_in stream).list association
-    → state_of association ≡ Open → option_map agreement_of (request_in (inputs stream)) ≡ agreement_in association
-open-request opens stream association f a s =
-    let o = opens (pdus_in stream).list association a s in
-    ap (λ (xs : List Input). option_map agreement_of (request_in xs)) (inputs-are stream (request_pdu o.0 ∷ o.1) o.2 f) ∙ sym o.3
-
 pub agreed : Waits → Opens → (stream : List ℕ) (association : Held) → (pdus_in stream).fault ≡ None → AssociationAfter (pdus_in stream).list association
     → is_closed (state_of association) ≡ false → option_map agreement_of (request_in (inputs stream)) ≡ agreement_in association
 agreed waits opens stream held.Waiting f a u =
     ap (λ (xs : List Input). option_map agreement_of (request_in xs)) (no-inputs_yet waits stream held.Waiting f a refl)
-agreed waits opens stream (held.Open agreement assembly) f a u = open-request opens stream (held.Open agreement assembly) f a refl
-agreed waits opens stream held.Closed f a u = absurd (false≢true (sym u))
+agreed waits opens stream (held.Open agreement assembly) f a u =
+    let o = opens (pdus_in stream).list (held.Open agreement assembly) a refl in
+    ap (λ (xs : List Input). option_map agreement_of (request_in xs)) (inputs-are stream (request_pdu o.0 ∷ o.1) o.2 f) ∙ sym o.3
+agreed waits opens stream held.Closed f a u = cc
 
 -- what a piece adds follows from the association
 pub added : Further → (stream piece : List ℕ) (pdus : List Pdu) (fault : Option PduFault) (association : Held) → (pdus_in stream).fault ≡ None
@@ -79,54 +73,36 @@ added-is stream piece xs e = ap (drop (length (inputs stream))) e ∙ drop-appen
 
 -- ---- counts
 
-owner-none : (institutions : List Institution) (stream : List ℕ) → inputs stream ≡ [] → owner institutions stream ≡ None
-owner-none institutions stream e = ap (λ (xs : List Input). owner_by institutions (request_in xs)) e
+home-named : (name : List ℕ) (o : Option Institution) (agreement : Agreement) → is_home name (home_of o (Some agreement)) ≡ is_of name o
+home-named name None agreement = refl
+home-named name (Some i) agreement = refl
 
-no-owner : Waits → (institutions : List Institution) (stream : List ℕ) (association : Held) → (pdus_in stream).fault ≡ None
-    → AssociationAfter (pdus_in stream).list association → is_closed (state_of association) ≡ false → agreement_in association ≡ None
-    → owner institutions stream ≡ None
-no-owner waits institutions stream held.Waiting f a u e = owner-none institutions stream (no-inputs_yet waits stream held.Waiting f a refl)
-no-owner waits institutions stream (held.Open agreement assembly) f a u e = cc
-no-owner waits institutions stream held.Closed f a u e = absurd (false≢true (sym u))
+pub no-home : (o : Option Institution) → home_of o None ≡ None
+no-home None = refl
+no-home (Some i) = refl
 
-home-of_owner : (name : List ℕ) (o : Option Institution) (a : Option Agreement) (home : Option Home) → home ≡ home_of o a → (a ≡ None → o ≡ None)
-    → is_home name home ≡ is_of name o
-home-of_owner name None a home e f = ap (is_home name) e
-home-of_owner name (Some i) (Some agreement) home e f = ap (is_home name) e
-home-of_owner name (Some i) None home e f = let none : Some i ≡ None = f refl in cc
+counted-at : Waits → (institutions : List Institution) (name stream : List ℕ) (association : Held) (home : Option Home) → (pdus_in stream).fault ≡ None
+    → AssociationAfter (pdus_in stream).list association → is_closed (state_of association) ≡ false
+    → home ≡ home_of (owner institutions stream) (agreement_in association) → is_home name home ≡ is_of name (owner institutions stream)
+counted-at waits institutions name stream held.Waiting home f a u e =
+    rw (e, no-home (owner institutions stream), no-inputs_yet waits stream held.Waiting f a refl) refl
+counted-at waits institutions name stream (held.Open agreement assembly) home f a u e = rw e (home-named name (owner institutions stream) agreement)
+counted-at waits institutions name stream held.Closed home f a u e = cc
 
-pub counted : Waits → (institutions : List Institution) (name : List ℕ) (slot : Slot) (c : Connection) → IsHeld institutions slot c
-    → is_home name slot.home ≡ is_of name (owner institutions c.stream)
-counted waits institutions name slot c h =
-    home-of_owner name (owner institutions c.stream) (agreement_in slot.association) slot.home h.stands.home
-    (no-owner waits institutions c.stream slot.association h.faultless h.stands.association h.stands.not_closed)
-
-count-at : (institutions : List Institution) (name : List ℕ) (slot : Slot) (slots : List Slot) (c : Connection) (cs : List Connection) (b : Bool)
-    → is_home name slot.home ≡ b → is_of name (owner institutions c.stream) ≡ b → count_at name slots ≡ live_of institutions name cs
-    → count_at name (slot ∷ slots) ≡ live_of institutions name (c ∷ cs)
-count-at institutions name slot slots c cs true h k e = rw (h, k) (omega arith)
-count-at institutions name slot slots c cs false h k e = rw (h, k) e
-
-pub counts : Waits → (institutions : List Institution) (name : List ℕ) (slots : List Slot) (cs : List Connection) → AreHeld institutions slots cs
+counts : Waits → (institutions : List Institution) (name : List ℕ) (slots : List Slot) (cs : List Connection) → AreHeld institutions slots cs
     → count_at name slots ≡ live_of institutions name cs
 counts waits institutions name [] [] h = refl
 counts waits institutions name [] (c ∷ cs) h = absurd h
 counts waits institutions name (slot ∷ slots) [] h = absurd h
 counts waits institutions name (slot ∷ slots) (c ∷ cs) h =
-    count-at institutions name slot slots c cs (is_home name slot.home) refl (sym (counted waits institutions name slot c h.0))
-    (counts waits institutions name slots cs h.1)
+    let s = h.0.stands in
+    let counted = counted-at waits institutions name c.stream slot.association slot.home h.0.faultless s.association s.not_closed s.home in
+    grind (arith, counted, counts waits institutions name slots cs h.1)
 
 -- the verdict is that of the count of the institution's own
-verdict-by : (limit count live : ℕ) (b : Bool) → count ≡ live → nat_lt count limit ≡ b → verdict_at limit live ≡ (if nat_lt count limit then Accept else Busy)
-verdict-by limit count live true e h =
-    let room : nat_le limit live ≡ false = grind (arith, nat_tests) in rw (room, h) refl
-verdict-by limit count live false e h =
-    let full : nat_le limit live ≡ true = grind (arith, nat_tests) in rw (full, h) refl
-
 pub same-verdict : Waits → (institutions : List Institution) (i : Institution) (slots : List Slot) (cs : List Connection) → AreHeld institutions slots cs
     → verdict_at i.associations (live_of institutions i.name cs) ≡ verdict_of i slots
-same-verdict waits institutions i slots cs h =
-    verdict-by i.associations (count_at i.name slots) (live_of institutions i.name cs) _ (counts waits institutions i.name slots cs h) refl
+same-verdict waits institutions i slots cs h = let e = counts waits institutions i.name slots cs h in grind (arith, nat_tests, e)
 
 -- ---- owners
 
@@ -134,31 +110,23 @@ same-verdict waits institutions i slots cs h =
 pub owner-named : (institutions : List Institution) → AreNamed institutions → (o : Option Request) (i : Institution) → owner_by institutions o ≡ Some i
     → named institutions i.name ≡ Some i
 owner-named institutions names None i e = cc
-owner-named institutions names (Some request) i e = by_sound (is_sound request) refl e
-  where
-    by_sound : (b : Bool) → is_sound request ≡ b → owner_by institutions (Some request) ≡ Some i → named institutions i.name ≡ Some i
-    by_sound true h k = names request.called request.calling i (rw h at k)
-    by_sound false h k = let none : None ≡ Some i = rw h at k in cc
+owner-named institutions names (Some request) i e = grind (arith, names request.called request.calling i)
 
 -- The owner of a connection after its first PDUs, and the institution that has the titles of its request: the same, or
 -- the request is not sound.
-abbrev pub IsUnsound : List Institution → List Input → Type 0
-IsUnsound institutions xs =
-    (owner_by institutions (request_in xs) ≡ None) × (request : Request) × (later : List Input) × (xs ≡ Requested request ∷ later) × (is_sound request ≡ false)
+abbrev pub IsUnsound : Option Institution → List Input → Type 0
+IsUnsound o xs = (o ≡ None) × (request : Request) × (later : List Input) × (xs ≡ Requested request ∷ later) × (is_sound request ≡ false)
 
 request-owner : (institutions : List Institution) (request : Request) (later : List Input) (b : Bool) → is_sound request ≡ b
-    → (owner_by institutions (Some request) ≡ routed institutions request.called request.calling) ⊎ IsUnsound institutions (Requested request ∷ later)
+    → let o = owner_by institutions (Some request) in
+    (o ≡ routed institutions request.called request.calling) ⊎ IsUnsound o (Requested request ∷ later)
 request-owner institutions request later true h = inl (rw h refl)
 request-owner institutions request later false h = inr (rw h refl, request, later, refl, h)
 
 pub first-owner : (institutions : List Institution) (pdus : List Pdu) (fault : Option PduFault)
-    → (owner_by institutions (request_in (inputs_of pdus fault)) ≡ routed_first institutions pdus) ⊎ IsUnsound institutions (inputs_of pdus fault)
+    → let o = owner_by institutions (request_in (inputs_of pdus fault)) in
+    (o ≡ routed_first institutions pdus) ⊎ IsUnsound o (inputs_of pdus fault)
 first-owner institutions [] None = inl refl
 first-owner institutions [] (Some fault) = inl refl
 first-owner institutions (request_pdu request ∷ pdus) fault = request-owner institutions request _ (is_sound request) refl
-first-owner institutions (accept_pdu accept ∷ pdus) fault = inl refl
-first-owner institutions (Reject result source reason ∷ pdus) fault = inl refl
-first-owner institutions (PData values ∷ pdus) fault = inl refl
-first-owner institutions (ReleaseRq ∷ pdus) fault = inl refl
-first-owner institutions (ReleaseRp ∷ pdus) fault = inl refl
-first-owner institutions (Abort source reason ∷ pdus) fault = inl refl
+first-owner institutions (pdu ∷ pdus) fault = inl refl

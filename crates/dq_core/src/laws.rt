@@ -212,7 +212,7 @@ pub fn agreeing_histories_are_answered_alike()
 /// A Study Root query that is not refused is answered with the records of its level that are under its
 /// unique keys and fit, in the order of their keys, each as it is shown (`dq_find::laws` says which and in
 /// what order). It changes nothing.
-#[tactic(auto, using(crate::proofs::Searching::study_search))]
+#[tactic(auto, using(crate::proofs::isolation::Searching::study_search))]
 pub fn searches_answer_what_matches()
     ensures { (agreement : Agreement) (context : AgreedContext) (limits : Limits)
         (message : Message) (records : List Record) (query : Query) →
@@ -231,7 +231,7 @@ pub fn searches_answer_what_matches()
 {}
 
 /// So is a worklist query, with the entries that fit, in the order of their keys.
-#[tactic(auto, using(crate::proofs::Searching::worklist_search))]
+#[tactic(auto, using(crate::proofs::isolation::Searching::worklist_search))]
 pub fn worklists_answer_what_matches()
     ensures { (agreement : Agreement) (context : AgreedContext) (limits : Limits)
         (message : Message) (records : List Record) (keys : ElementList) (optional : Bool) →

@@ -1,11 +1,10 @@
 use Rattle.std.proofs.Common.{false, Vec, Global, sym, ap, ◌∙◌, arith}
 use Rattle.std.specs.Option.{option_copied}
-use Rattle.std.specs.List.{position}
 use Rattle.std.proofs.lemmas.Bool.{false≢true}
 use Rattle.dq_core.specs.declared.event.Reply.TheVariants as reply
 use Rattle.dq_core.specs.declared.slot.Slot.{Slot}
 use Rattle.dq_core.proofs.Going.{on-err}
-use Rattle.dq_core.proofs.Slotted.{numbered, found-within}
+use Rattle.dq_core.proofs.Slotted.{slot-at, found-within}
 use Rattle.dq_core.proofs.Turning.{piece-none, piece-empty, piece-taken, piece-part, is-empty, not-quiet}
 use Rattle.dq_core.proofs.connections.answer_piece.Goals as goal
 use Rattle.dq_core.proofs.connections.answer_piece.Goals.{then-close, else-close}
@@ -13,64 +12,57 @@ use Rattle.dq_core.proofs.connections.answer_piece.Goals.{then-close, else-close
 pub returns-in_default-clause-turned : goal.returns-in_default-clause-turned
 returns-in_default-clause-turned g c = λ world h r honest.
     piece-none c.args.config.now world c.args.number c.args.piece.now c.args.slots.now.items (g.T.Tables.rows c.args.tables.now) h
-    (ap (position (numbered c.args.number)) (sym c.deref.ensures.value) ∙ sym c.index_of.ensures ∙ c.in_default.is) r
+    (slot-at c.args.number c.deref.ensures.value c.index_of.ensures c.in_default.is) r
 
 pub returns-then-is_empty-clause-turned : goal.returns-then-is_empty-clause-turned
 returns-then-is_empty-clause-turned g c = λ world h r honest.
     piece-empty c.args.config.now world c.args.number c.args.piece.now c.args.slots.now.items c.in-Some.index (g.T.Tables.rows c.args.tables.now)
-    c.octets_reply.result h (ap (position (numbered c.args.number)) (sym c.deref.ensures.value) ∙ sym c.index_of.ensures ∙ c.in-Some.is)
+    c.octets_reply.result h (slot-at c.args.number c.deref.ensures.value c.index_of.ensures c.in-Some.is)
     (is-empty c.args.piece.now c.if-is_empty.ensures) r
     (c.octets_reply.ensures ∙ ap (λ octets. reply.Octets c.args.number octets false) c.new.ensures.items)
 
 pub returns-in_err-institution-clause-quiet : goal.returns-in_err-institution-clause-quiet
 returns-in_err-institution-clause-quiet g c = λ connections h k.
     absurd (not-quiet c.args.config.now c.args.number c.args.piece.now c.args.slots.now.items connections c.in-Some.index h
-    (ap (position (numbered c.args.number)) (sym c.deref.ensures.value) ∙ sym c.index_of.ensures ∙ c.in-Some.is) c.if-is_empty.ensures k)
-
-pub index-requires : goal.index-requires
-index-requires g c =
-    let within = found-within c.args.number c.args.slots.now.items c.in-Some.index
-    (ap (position (numbered c.args.number)) (sym c.deref.ensures.value) ∙ sym c.index_of.ensures ∙ c.in-Some.is) in
-    omega (arith, within, c.take_piece.ensures.len)
-
-pub returns-in_err-octets-clause-part : goal.returns-in_err-octets-clause-part
-returns-in_err-octets-clause-part g c = λ world h r honest.
-    on-err c.from_residual-in_err-octets.result
-    (piece-part c.args.config.now world c.args.number c.args.piece.now c.args.slots.now.items c.take_piece.new.slots.items c.in-Some.index c.index.result.now
-    (option_copied c.in_ok-institution.institution) (option_copied c.as_ref-home.result) c.in_ok-institution.taken
-    (g.T.Tables.rows c.args.tables.now) (g.T.Tables.rows c.answer_taken.new.tables) h
-    (ap (position (numbered c.args.number)) (sym c.deref.ensures.value) ∙ sym c.index_of.ensures ∙ c.in-Some.is)
-    (λ x e. c.in_ok-institution.ensures.took c.args.number world x h
-    (ap (position (numbered c.args.number)) (sym c.deref.ensures.value) ∙ sym c.index_of.ensures ∙ c.in-Some.is) e)
-    (c.as_ref-home.ensures.value ∙ ap (λ (s : Slot). s.home) c.index.ensures) r (c.in_err-octets.ensures.stops honest))
+    (slot-at c.args.number c.deref.ensures.value c.index_of.ensures c.in-Some.is) c.if-is_empty.ensures k)
 
 pub returns-in_err-octets-clause-quiet : goal.returns-in_err-octets-clause-quiet
 returns-in_err-octets-clause-quiet g c = λ connections h k.
     absurd (not-quiet c.args.config.now c.args.number c.args.piece.now c.args.slots.now.items connections c.in-Some.index h
-    (ap (position (numbered c.args.number)) (sym c.deref.ensures.value) ∙ sym c.index_of.ensures ∙ c.in-Some.is) c.if-is_empty.ensures k)
+    (slot-at c.args.number c.deref.ensures.value c.index_of.ensures c.in-Some.is) c.if-is_empty.ensures k)
+
+pub index-requires : goal.index-requires
+index-requires g c =
+    let at = slot-at c.args.number c.deref.ensures.value c.index_of.ensures c.in-Some.is in
+    omega (arith, found-within c.args.number c.args.slots.now.items c.in-Some.index at, c.take_piece.ensures.len)
 
 pub remove_at-requires : goal.remove_at-requires
 remove_at-requires g c =
-    let within = found-within c.args.number c.args.slots.now.items c.in-Some.index
-    (ap (position (numbered c.args.number)) (sym c.deref.ensures.value) ∙ sym c.index_of.ensures ∙ c.in-Some.is) in
-    omega (arith, within, c.take_piece.ensures.len)
+    let at = slot-at c.args.number c.deref.ensures.value c.index_of.ensures c.in-Some.is in
+    omega (arith, found-within c.args.number c.args.slots.now.items c.in-Some.index at, c.take_piece.ensures.len)
+
+pub returns-in_err-octets-clause-part : goal.returns-in_err-octets-clause-part
+returns-in_err-octets-clause-part g c = λ world h r honest.
+    let at = slot-at c.args.number c.deref.ensures.value c.index_of.ensures c.in-Some.is in
+    on-err c.from_residual-in_err-octets.result
+    (piece-part c.args.config.now world c.args.number c.args.piece.now c.args.slots.now.items c.take_piece.new.slots.items c.in-Some.index c.index.result.now
+    (option_copied c.in_ok-institution.institution) (option_copied c.as_ref-home.result) c.in_ok-institution.taken
+    (g.T.Tables.rows c.args.tables.now) (g.T.Tables.rows c.answer_taken.new.tables) h at
+    (λ x e. c.in_ok-institution.ensures.took c.args.number world x h at e)
+    (c.as_ref-home.ensures.value ∙ ap (λ (s : Slot). s.home) c.index.ensures) r (c.in_err-octets.ensures.stops honest))
 
 pub returns-clause-turned : goal.returns-clause-turned
 returns-clause-turned g c = λ world h r honest.
-    let at = ap (position (numbered c.args.number)) (sym c.deref.ensures.value) ∙ sym c.index_of.ensures ∙ c.in-Some.is in
-    let held = c.take_piece.new.slots.items in
-    let slots = c.if-close.slots.items in
-    let t = c.in_ok-institution.taken in
-    let told = piece-taken c.args.config.now world c.args.number c.args.piece.now c.args.slots.now.items held slots c.in-Some.index
-    c.index.result.now (option_copied c.in_ok-institution.institution) (option_copied c.as_ref-home.result) t
-    (g.T.Tables.rows c.args.tables.now) (g.T.Tables.rows c.answer_taken.new.tables) c.in_ok-octets.octets.items c.octets_reply-2.result h at
+    let at = slot-at c.args.number c.deref.ensures.value c.index_of.ensures c.in-Some.is in
+    let told = piece-taken c.args.config.now world c.args.number c.args.piece.now c.args.slots.now.items c.take_piece.new.slots.items c.in-Some.index
+    c.index.result.now (option_copied c.in_ok-institution.institution) (option_copied c.as_ref-home.result) c.in_ok-institution.taken
+    (g.T.Tables.rows c.args.tables.now) (g.T.Tables.rows c.answer_taken.new.tables) h at
     (λ x e. c.in_ok-institution.ensures.took c.args.number world x h at e)
-    (c.as_ref-home.ensures.value ∙ ap (λ (s : Slot). s.home) c.index.ensures) r (c.in_ok-octets.ensures.does honest) in
+    (c.as_ref-home.ensures.value ∙ ap (λ (s : Slot). s.home) c.index.ensures) r
+    c.if-close.slots.items c.in_ok-octets.octets.items c.octets_reply-2.result (c.in_ok-octets.ensures.does honest) in
     elim c.if-close.branch [
-      | then-close w ↦ told
-          (λ e. ap (λ (ss : Vec Slot Global). ss.items) w.slots-is ∙ w.remove_at.ensures)
+      | then-close w ↦ told (λ e. ap (λ (ss : Vec Slot Global). ss.items) w.slots-is ∙ w.remove_at.ensures)
           (λ e. absurd (false≢true (sym e ∙ w.if-close.true))) c.octets_reply-2.ensures
-      | else-close w ↦ told
-          (λ e. absurd (false≢true (sym w.if-close.false ∙ e)))
+      | else-close w ↦ told (λ e. absurd (false≢true (sym w.if-close.false ∙ e)))
           (λ e. ap (λ (ss : Vec Slot Global). ss.items) w.slots-is) c.octets_reply-2.ensures
     ]

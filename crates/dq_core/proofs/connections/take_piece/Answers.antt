@@ -1,8 +1,7 @@
-use Rattle.std.proofs.Common.{◌≡◌, List, ◌++◌, set, sym, ap, ◌∙◌, subst}
+use Rattle.std.proofs.Common.{◌≡◌, List, set, ap, ◌∙◌, subst}
 use Rattle.std.specs.Option.{option_copied}
 use Rattle.std.proofs.lemmas.List.{get_or-set_same}
 use Rattle.dq_pdu.specs.declared.pdu.Pdu.{Pdu}
-use Rattle.dq_pdu.specs.Stream.{pdus_in}
 use Rattle.dq_core.specs.declared.slot.Slot.{Slot}
 use Rattle.dq_core.specs.Slots.{owner_at, verdict_for}
 use Rattle.dq_core.proofs.Slotted.{found-within}
@@ -45,11 +44,10 @@ returns-clause-took c = λ number world x h e f.
       number = c.take.ensures.keeps.0;
       inbox = c.take.ensures.keeps.1;
     } in
-    took institutions laws number world x c.args.piece.now slots index old c.take.new.self pdus fault inbox q verdict c.in_ok-taken.taken h e f
+    took institutions laws world x c.args.piece.now slots index old pdus fault inbox number c.take.new.self q verdict c.in_ok-taken.taken h e f
     c.index_mut.ensures.value
     (λ held. record {
-      list = subst (λ (list : List Pdu). (pdus_in (x.stream ++ c.args.piece.now)).list ≡ (pdus_in x.stream).list ++ list) (sym c.into_inner-pdus.ensures)
-          (c.in-Ok.ensures.pdus x.stream held.inbox).0;
+      list = rw c.into_inner-pdus.ensures (c.in-Ok.ensures.pdus x.stream held.inbox).0;
       fault_is = (c.in-Ok.ensures.pdus x.stream held.inbox).1;
       stands = c.in-Ok.ensures.stands x.stream held.inbox;
     })

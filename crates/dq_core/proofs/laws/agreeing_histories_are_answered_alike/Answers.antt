@@ -1,5 +1,5 @@
-use Rattle.dq_core.proofs.Isolating.{lenses-from}
-use Rattle.dq_core.proofs.Promise.{agreeing-replies, agreeing-records, agreeing-fronts}
+use Rattle.dq_core.proofs.isolation.Isolating.{lenses-from}
+use Rattle.dq_core.proofs.isolation.Promise.{agreeing-replies, agreeing-records, agreeing-fronts}
 use Rattle.dq_core.proofs.laws.agreeing_histories_are_answered_alike.Goals as goal
 
 pub returns-clause-replies : goal.returns-clause-replies

@@ -1,4 +1,4 @@
-use Rattle.dq_core.proofs.Accepting.{held-open, request-accepted}
+use Rattle.dq_core.proofs.isolation.Accepting.{held-open, request-accepted}
 use Rattle.dq_core.proofs.laws.held_connections_were_accepted.Goals as goal
 
 pub returns-clause-inputs : goal.returns-clause-inputs

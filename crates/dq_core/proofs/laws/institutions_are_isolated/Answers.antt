@@ -1,5 +1,5 @@
-use Rattle.dq_core.proofs.Isolating.{lenses-from}
-use Rattle.dq_core.proofs.Promise.{isolated-replies, isolated-records, isolated-among, own-front, isolated-within}
+use Rattle.dq_core.proofs.isolation.Isolating.{lenses-from}
+use Rattle.dq_core.proofs.isolation.Promise.{isolated-replies, isolated-records, isolated-among, own-front, isolated-within}
 use Rattle.dq_core.proofs.laws.institutions_are_isolated.Goals as goal
 
 pub returns-clause-replies : goal.returns-clause-replies

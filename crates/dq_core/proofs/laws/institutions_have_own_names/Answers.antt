@@ -1,4 +1,4 @@
-use Rattle.dq_core.proofs.Named.{own-names}
+use Rattle.dq_core.proofs.isolation.Named.{own-names}
 use Rattle.dq_core.proofs.laws.institutions_have_own_names.Goals as goal
 
 pub returns : goal.returns

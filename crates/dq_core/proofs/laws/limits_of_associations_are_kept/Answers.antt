@@ -1,4 +1,4 @@
-use Rattle.dq_core.proofs.Living.{live-within}
+use Rattle.dq_core.proofs.isolation.Living.{live-within}
 use Rattle.dq_core.proofs.laws.limits_of_associations_are_kept.Goals as goal
 
 pub returns : goal.returns

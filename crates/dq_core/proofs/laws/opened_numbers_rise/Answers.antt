@@ -1,4 +1,4 @@
-use Rattle.dq_core.proofs.Rising.{well_formed_increasing}
+use Rattle.dq_core.proofs.isolation.Rising.{well_formed_increasing}
 use Rattle.dq_core.proofs.laws.opened_numbers_rise.Goals as goal
 
 pub returns : goal.returns

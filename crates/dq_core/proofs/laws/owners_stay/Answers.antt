@@ -1,4 +1,4 @@
-use Rattle.dq_core.proofs.Streams.{owner-stays}
+use Rattle.dq_core.proofs.isolation.Streams.{owner-stays}
 use Rattle.dq_core.proofs.laws.owners_stay.Goals as goal
 
 pub returns : goal.returns

@@ -1,4 +1,4 @@
-use Rattle.dq_core.proofs.Streams.{piece-in_two}
+use Rattle.dq_core.proofs.isolation.Streams.{piece-in_two}
 use Rattle.dq_core.proofs.laws.pieces_join.Goals as goal
 
 pub returns : goal.returns

@@ -1,5 +1,5 @@
-use Rattle.dq_core.proofs.Isolating.{lenses-from}
-use Rattle.dq_core.proofs.Faulted.{own-run, strange-run, agreeing-runs}
+use Rattle.dq_core.proofs.isolation.Isolating.{lenses-from}
+use Rattle.dq_core.proofs.isolation.Faulted.{own-run, strange-run, agreeing-runs}
 use Rattle.dq_core.proofs.laws.runs_are_isolated.Goals as goal
 
 pub returns-clause-own : goal.returns-clause-own

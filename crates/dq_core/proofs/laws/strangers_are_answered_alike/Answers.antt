@@ -1,4 +1,4 @@
-use Rattle.dq_core.proofs.Strangers.{strange-replies, strange-among}
+use Rattle.dq_core.proofs.isolation.Strangers.{strange-replies, strange-among}
 use Rattle.dq_core.proofs.laws.strangers_are_answered_alike.Goals as goal
 
 pub returns-clause-replies : goal.returns-clause-replies

@@ -1,4 +1,4 @@
-use Rattle.dq_core.proofs.Streams.{piece-verdict}
+use Rattle.dq_core.proofs.isolation.Streams.{piece-verdict}
 use Rattle.dq_core.proofs.laws.verdict_is_of_the_request.Goals as goal
 
 pub returns : goal.returns

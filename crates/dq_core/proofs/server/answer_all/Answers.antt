@@ -2,16 +2,11 @@ use Rattle.dq_core.proofs.Running.{Stepped, ran-opens, ran-next, ran-part, ran-u
 use Rattle.dq_core.proofs.server.answer_all.Goals as goal
 
 pub step-requires : goal.step-requires
-step-requires g c =
-    ran-opens g.T.Tables.rows g.T.Tables.honest g.T.Tables.failed c.args.server.now c.loop-event.server c.loop-event.given.items c.args.events.items
-    c.loop-event.yielded c.loop-event.event-iterator.rest.items c.in-Some.event c.next.new.self.rest.items c.loop-event.invariant
-    c.in-Some.ensures.steps.0 c.requires.formed
+step-requires g c = ran-opens c.loop-event.invariant c.in-Some.ensures.steps.0 c.requires.formed
 
 pub returns-in_err-reply-clause-ran : goal.returns-in_err-reply-clause-ran
 returns-in_err-reply-clause-ran g c =
-    ran-part g.T.Tables.rows g.T.Tables.honest g.T.Tables.failed c.args.server.now c.loop-event.server c.step.new.self c.loop-event.given.items
-    c.args.events.items c.loop-event.yielded c.loop-event.event-iterator.rest.items c.in-Some.event c.next.new.self.rest.items c.loop-event.invariant
-    c.in-Some.ensures.steps.0 c.step.ensures.goes.was_honest c.in_err-reply.ensures.part
+    ran-part c.loop-event.invariant c.in-Some.ensures.steps.0 c.step.new.self.tables c.step.ensures.goes.was_honest c.in_err-reply.ensures.part
 
 pub loop-event-preserved : goal.loop-event-preserved
 loop-event-preserved g c =
@@ -24,9 +19,7 @@ loop-event-preserved g c =
       unspent = c.in_ok-reply.ensures.unspent;
       goes = c.in_ok-reply.ensures.goes;
     } in
-    ran-next g.T.Tables.rows g.T.Tables.honest g.T.Tables.failed c.args.server.now c.loop-event.server c.step.new.self c.loop-event.given.items
-    c.push.new.self.items c.args.events.items c.loop-event.yielded c.loop-event.event-iterator.rest.items c.in-Some.event c.next.new.self.rest.items
-    c.in_ok-reply.reply c.loop-event.invariant c.in-Some.ensures.steps.0 stepped c.in_ok-push.ensures.items
+    ran-next c.loop-event.invariant c.in-Some.ensures.steps.0 stepped c.in_ok-push.ensures.items
 
 pub returns-in_err-push-clause-ran : goal.returns-in_err-push-clause-ran
 returns-in_err-push-clause-ran g c =
@@ -39,6 +32,4 @@ returns-in_err-push-clause-ran g c =
       unspent = c.in_ok-reply.ensures.unspent;
       goes = c.in_ok-reply.ensures.goes;
     } in
-    ran-unsaid g.T.Tables.rows g.T.Tables.honest g.T.Tables.failed c.args.server.now c.loop-event.server c.step.new.self c.loop-event.given.items
-    c.push.new.self.items c.args.events.items c.loop-event.yielded c.loop-event.event-iterator.rest.items c.in-Some.event c.next.new.self.rest.items
-    c.in_ok-reply.reply c.loop-event.invariant c.in-Some.ensures.steps.0 stepped c.in_err-push.ensures.items
+    ran-unsaid c.loop-event.invariant c.in-Some.ensures.steps.0 stepped c.in_err-push.ensures.items

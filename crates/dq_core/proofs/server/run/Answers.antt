@@ -6,16 +6,14 @@ use Rattle.dq_core.specs.Shared.{replies, world_after}
 use Rattle.dq_core.specs.Own.{is_own, replies_at}
 use Rattle.dq_core.specs.Isolation.{Begins}
 use Rattle.dq_core.specs.Runs.{IsRun}
-use Rattle.dq_core.proofs.Running.{run-out, rows-out, all-replies, without-fault}
+use Rattle.dq_core.proofs.Running.{all-replies, without-fault}
 use Rattle.dq_core.proofs.server.run.Given.{Over}
 use Rattle.dq_core.proofs.server.run.Goals as goal
 
 ran : (g : Over) (c : goal.After-into_tables g) → g.T.Tables.honest c.into_tables.result
     → IsRun c.args.config (g.T.Tables.rows c.args.tables) c.args.events.items c.from_inner.result (g.T.Tables.rows c.into_tables.result)
-ran g c h =
-    run-out g.T.Tables.rows g.T.Tables.honest c.in_ok-server.server c.answer_all.new.server c.args.config c.args.tables c.into_tables.result
-    c.args.events.items c.answer_all.new.given.items c.from_inner.result c.in_ok-server.ensures.institutions c.into_tables.ensures c.from_inner.ensures
-    c.answer_all.ensures.ran c.in_ok-server.ensures.stands h
+ran g c h = rw (c.into_tables.ensures, c.from_inner.ensures, ← c.in_ok-server.ensures.institutions)
+    (c.answer_all.ensures.ran (g.T.Tables.rows c.args.tables) c.in_ok-server.ensures.stands (rw c.into_tables.ensures at h))
 
 all : (g : Over) (c : goal.After-into_tables g) → g.T.Tables.honest c.into_tables.result → c.err-fault.result ≡ None
     → c.from_inner.result ≡ replies c.args.config (g.T.Tables.rows c.args.tables) c.args.events.items
@@ -26,11 +24,9 @@ all g c h n =
 kept : (g : Over) (c : goal.After-into_tables g) → g.T.Tables.honest c.into_tables.result → c.err-fault.result ≡ None
     → g.T.Tables.rows c.into_tables.result ≡ (world_after c.args.config (g.T.Tables.rows c.args.tables) c.args.events.items).rows
 kept g c h n =
-    rows-out g.T.Tables.rows c.in_ok-server.server c.answer_all.new.server c.args.config (g.T.Tables.rows c.args.tables) c.into_tables.result
-    c.args.events.items c.in_ok-server.ensures.institutions c.answer_all.ensures.institutions c.into_tables.ensures
-    (without-fault _ c.answer_all.result c.err-fault.result c.err-fault.ensures.value n
-    (c.answer_all.ensures.whole (g.T.Tables.rows c.args.tables) c.in_ok-server.ensures.stands
-    (subst g.T.Tables.honest c.into_tables.ensures h)))
+    let stands = without-fault _ c.answer_all.result c.err-fault.result c.err-fault.ensures.value n
+    (c.answer_all.ensures.whole (g.T.Tables.rows c.args.tables) c.in_ok-server.ensures.stands (rw c.into_tables.ensures at h)) in
+    rw (c.into_tables.ensures, ← c.in_ok-server.ensures.institutions, ← c.answer_all.ensures.institutions) stands.keeps
 
 begins : (g : Over) (c : goal.After-into_tables g) → g.T.Tables.honest c.into_tables.result → (i : Institution) → Contains c.args.config i
     → Begins c.args.config (g.T.Tables.rows c.args.tables) c.args.events.items i

@@ -1,4 +1,4 @@
-use Rattle.std.proofs.Common.{◌≡◌, ◌==◌, true, false, sym, ◌∙◌, arith}
+use Rattle.std.proofs.Common.{◌≡◌, true, false, ◌==◌, sym, ◌∙◌, arith}
 use Rattle.std.proofs.lemmas.Bool.Decides.{nat_tests}
 use Rattle.dq_dimse.specs.CommandFields.{c_cancel}
 use Rattle.dq_core.proofs.Going.{on-err}
@@ -13,21 +13,19 @@ returns-in_default-clause-does g c = λ h.
 pub returns-then-message-eq-C_CANCEL-clause-does : goal.returns-then-message-eq-C_CANCEL-clause-does
 returns-then-message-eq-C_CANCEL-clause-does g c = λ h.
     let cancels : (c.args.message.now.command.code == c_cancel) ≡ true = grind (arith, nat_tests) in
-    did-cancel c.args.institution.now c.args.agreement.now c.args.message.now c.in-Some.context (g.T.Tables.rows c.args.tables.now)
-    c.args.out.now.items (sym c.context.ensures ∙ c.in-Some.is) cancels
+    did-cancel c.args.institution.now c.args.agreement.now c.args.message.now c.in-Some.context (sym c.context.ensures ∙ c.in-Some.is)
+    (g.T.Tables.rows c.args.tables.now) c.args.out.now.items cancels
 
 pub returns-in_err-respond_all-clause-stops : goal.returns-in_err-respond_all-clause-stops
 returns-in_err-respond_all-clause-stops g c = λ h.
     let goes_on : (c.args.message.now.command.code == c_cancel) ≡ false = grind (arith, nat_tests) in
     on-err c.from_residual-in_err-respond_all.result (
-    part-served c.args.institution.now c.args.agreement.now c.args.message.now c.in-Some.context
-    (g.T.Tables.rows c.args.tables.now) (g.T.Tables.rows c.outcome_on.new.tables)
-    (sym c.context.ensures ∙ c.in-Some.is) goes_on (c.in_ok-found.ensures.serves.done h))
+    part-served c.args.institution.now c.args.agreement.now c.args.message.now c.in-Some.context (sym c.context.ensures ∙ c.in-Some.is)
+    (g.T.Tables.rows c.args.tables.now) (g.T.Tables.rows c.outcome_on.new.tables) goes_on (c.in_ok-found.ensures.serves.done h))
 
 pub returns-clause-does : goal.returns-clause-does
 returns-clause-does g c = λ h.
     let goes_on : (c.args.message.now.command.code == c_cancel) ≡ false = grind (arith, nat_tests) in
-    did-served c.args.institution.now c.args.agreement.now c.args.message.now c.in-Some.context
+    did-served c.args.institution.now c.args.agreement.now c.args.message.now c.in-Some.context (sym c.context.ensures ∙ c.in-Some.is)
     (g.T.Tables.rows c.args.tables.now) (g.T.Tables.rows c.outcome_on.new.tables) c.args.out.now.items c.respond_all.new.out.items c.in_ok-found.found
-    (sym c.context.ensures ∙ c.in-Some.is) goes_on (c.in_ok-found.ensures.serves.answered h) (c.in_ok-found.ensures.serves.done h)
-    c.in_ok-respond_all.ensures
+    goes_on (c.in_ok-found.ensures.serves.answered h) (c.in_ok-found.ensures.serves.done h) c.in_ok-respond_all.ensures

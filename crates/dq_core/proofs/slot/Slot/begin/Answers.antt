@@ -1,6 +1,7 @@
 use Rattle.std.proofs.Common.{ℕ, ◌<◌, List, length, inl, refl, sym, ap, ◌∙◌, arith}
+use Rattle.std.proofs.lemmas.Bool.{false≢true}
 use Rattle.std.proofs.lemmas.Bool.Decides.{nat_tests}
-use Rattle.dq_core.proofs.Taking.{misplaced, no_two}
+use Rattle.dq_core.proofs.Taking.{misplaced}
 use Rattle.dq_core.proofs.slot.Slot.begin.Goals as goal
 
 pub returns-in_ok-take-in_default : goal.returns-in_ok-take-in_default
@@ -13,6 +14,6 @@ returns-in_ok-take-in_default c =
     record {
       taken = ap (λ (octets : List ℕ). record { opening = octets; step = step }) c.empty-in_default.ensures ∙ sym m.taken_is;
       home = λ s. inl m.messages_are;
-      stands = λ s n e. absurd (no_two _ m.closes e);
+      stands = λ s n e. absurd (false≢true (sym e ∙ m.closes));
       keeps = (refl, refl);
     }

@@ -4,7 +4,7 @@ use Rattle.std.proofs.lemmas.List.{append_cancel_left}
 use Rattle.std.proofs.Math.Seq.{drop-append_seam}
 use Rattle.dq_pdu.specs.declared.pdu.Request.{Request}
 use Rattle.dq_assoc.specs.declared.association.Verdict.{Verdict}
-use Rattle.dq_assoc.specs.Table.{Input, Requested, Sent, Released, PeerAborted, Stray, Bad}
+use Rattle.dq_assoc.specs.Table.{Input, Requested, Sent, Released, Bad}
 use Rattle.dq_assoc.specs.Inputs.{inputs, AreInputs}
 use Rattle.dq_assoc.specs.declared.agreement.Agreement.{Agreement}
 use Rattle.dq_config.specs.declared.config.Institution.{Institution}
@@ -14,7 +14,7 @@ use Rattle.dq_tables.specs.Rows.{Record}
 use Rattle.dq_core.specs.Answers.{then_answer, answers, request_in, progress_of, inputs_added, piece_answer}
 use Rattle.dq_core.specs.Doing.{agreement_after}
 use Rattle.dq_core.specs.Owners.{owner, owner_by}
-use Rattle.dq_core.proofs.AnswerLaws.{answers-append, next-agreement, verdict-unread}
+use Rattle.dq_core.proofs.isolation.AnswerLaws.{answers-append, next-agreement, verdict-unread}
 
 -- a longer stream has further inputs
 abbrev pub AddsInputs : Type 0
@@ -44,21 +44,14 @@ agreement-longer : (xs ys : List Input) → AreInputs (xs ++ ys)
     → option_map agreement_of (request_in (xs ++ ys)) ≡ agreement_after (option_map agreement_of (request_in xs)) ys
 agreement-longer [] [] h = refl
 agreement-longer [] (Requested request ∷ ys) h = refl
-agreement-longer [] (Sent message ∷ ys) h = refl
-agreement-longer [] (Released ∷ ys) h = refl
-agreement-longer [] (PeerAborted ∷ ys) h = refl
-agreement-longer [] (Stray ∷ ys) h = refl
-agreement-longer [] (Bad reason ∷ ys) h = refl
+agreement-longer [] (y ∷ ys) h = refl
 agreement-longer (Requested request ∷ xs) ys h = refl
 agreement-longer (Sent message ∷ xs) ys h = absurd h
 agreement-longer (Released ∷ xs) ys h = absurd h
-agreement-longer (PeerAborted ∷ xs) [] h = refl
-agreement-longer (PeerAborted ∷ []) (y ∷ ys) h = cc
-agreement-longer (PeerAborted ∷ x ∷ xs) (y ∷ ys) h = cc
-agreement-longer (Stray ∷ xs) [] h = refl
-agreement-longer (Stray ∷ []) (y ∷ ys) h = cc
-agreement-longer (Stray ∷ x ∷ xs) (y ∷ ys) h = cc
 agreement-longer (Bad reason ∷ xs) ys h = absurd h
+agreement-longer (x ∷ xs) [] h = refl
+agreement-longer (x ∷ []) (y ∷ ys) h = cc
+agreement-longer (x ∷ z ∷ xs) (y ∷ ys) h = cc
 
 progress-longer : AddsInputs → HasInputs → (limits : Limits) (verdict : Verdict) (records : List Record) (stream first : List ℕ)
     → (piece_answer limits verdict records stream first).next.agreement ≡ (progress_of (stream ++ first) records).agreement
@@ -84,25 +77,12 @@ pub piece-verdict : (limits : Limits) (verdict other : Verdict) (records : List 
     → request_in (inputs stream) ≡ Some request
     → piece_answer limits verdict records stream piece ≡ piece_answer limits other records stream piece
 piece-verdict limits verdict other records stream piece request e =
-    verdict-unread limits verdict other (progress_of stream records) (agreement_of request) (inputs_added stream piece) (ap (option_map agreement_of) e)
+    verdict-unread limits verdict other records (option_map agreement_of (request_in (inputs stream))) (agreement_of request) (inputs_added stream piece)
+    (ap (option_map agreement_of) e)
 
--- a request that came stays the request
-request-longer : (xs ys : List Input) (request : Request) → request_in xs ≡ Some request → request_in (xs ++ ys) ≡ Some request
-request-longer [] ys request h = cc
-request-longer (Requested r ∷ xs) ys request h = h
-request-longer (Sent message ∷ xs) ys request h = cc
-request-longer (Released ∷ xs) ys request h = cc
-request-longer (PeerAborted ∷ xs) ys request h = cc
-request-longer (Stray ∷ xs) ys request h = cc
-request-longer (Bad reason ∷ xs) ys request h = cc
-
-request_in-first : (x : Input) (xs ys : List Input) → request_in (x ∷ xs) ≡ request_in (x ∷ ys)
+pub request_in-first : (x : Input) (xs ys : List Input) → request_in (x ∷ xs) ≡ request_in (x ∷ ys)
 request_in-first (Requested r) xs ys = refl
-request_in-first (Sent message) xs ys = refl
-request_in-first Released xs ys = refl
-request_in-first PeerAborted xs ys = refl
-request_in-first Stray xs ys = refl
-request_in-first (Bad reason) xs ys = refl
+request_in-first x xs ys = refl
 
 -- once an input came, the owner stays
 owner-first : (institutions : List Institution) (xs ys : List Input) (i : Institution) → owner_by institutions (request_in xs) ≡ Some i

@@ -11,8 +11,8 @@ use Rattle.dq_config.specs.Limits.{limits_of}
 use Rattle.dq_config.specs.Routing.{routed, named}
 use Rattle.dq_core.specs.Answers.{request_in}
 use Rattle.dq_core.specs.Owners.{HaveOwnNames, is_sound, owner_by}
-use Rattle.dq_core.proofs.Isolating.{Configured}
-use Rattle.dq_core.proofs.Others.{named-name}
+use Rattle.dq_core.proofs.isolation.Isolating.{Configured}
+use Rattle.dq_core.proofs.isolation.Others.{named-name}
 
 abbrev IsIn : Institution → List Institution → Type 0
 IsIn i [] = ⊥

@@ -12,10 +12,10 @@ use Rattle.dq_core.specs.Own.{is_own, is_on_connection, stream_of, replies_at}
 use Rattle.dq_core.specs.Histories.{is_well_formed}
 use Rattle.dq_core.specs.Isolation.{stranger_replies, Begins, Agree, IsPrefix}
 use Rattle.dq_core.specs.Runs.{IsRun, IsOwnRun}
-use Rattle.dq_core.proofs.Streams.{AddsInputs}
-use Rattle.dq_core.proofs.Isolating.{Lenses}
-use Rattle.dq_core.proofs.Promise.{isolated-among, isolated-within, agreeing-fronts}
-use Rattle.dq_core.proofs.Strangers.{strange-among}
+use Rattle.dq_core.proofs.isolation.Streams.{AddsInputs}
+use Rattle.dq_core.proofs.isolation.Isolating.{Lenses}
+use Rattle.dq_core.proofs.isolation.Promise.{isolated-among, isolated-within, agreeing-fronts}
+use Rattle.dq_core.proofs.isolation.Strangers.{strange-among}
 
 pub own-run : AddsInputs → Lenses → (institutions : List Institution) (rows : List Row) (events : List Event) (given : List Reply) (kept : List Row)
     → IsRun institutions rows events given kept → (i : Institution) → Begins institutions rows events i → IsOwnRun institutions rows events i given kept

@@ -14,24 +14,12 @@ rises newest (n ∷ ns) = is_above newest n && rises (Some n) ns
 rises-opened : (newest : Option ℕ) (events : List Event) → rises_from newest events ≡ rises newest (opened_numbers events)
 rises-opened newest [] = refl
 rises-opened newest (event.Open n ∷ events) = ap (λ b. is_above newest n && b) (rises-opened (Some n) events)
-rises-opened newest (event.Piece n piece ∷ events) = rises-opened newest events
-rises-opened newest (event.End n ∷ events) = rises-opened newest events
-rises-opened newest (event.Schedule inst octets ∷ events) = rises-opened newest events
-rises-opened newest (event.Withdraw inst id ∷ events) = rises-opened newest events
+rises-opened newest (event ∷ events) = rises-opened newest events
 
 pub both-true : (a b : Bool) → (a && b) ≡ true → (a ≡ true) × (b ≡ true)
 both-true true true h = (refl, refl)
 both-true true false h = cc
 both-true false b h = cc
-
-and-true : (a b : Bool) → a ≡ true → b ≡ true → (a && b) ≡ true
-and-true a b h k = rw (h, k) refl
-
-below : (n m : ℕ) → nat_lt n m ≡ true → n < m
-below n m h = grind (arith, nat_tests)
-
-test-below : (n m : ℕ) → n < m → nat_lt n m ≡ true
-test-below n m h = grind (arith, nat_tests)
 
 -- each number is below the next
 abbrev GoesUp : List ℕ → Type 0
@@ -45,7 +33,7 @@ from-next ns up = λ k l. let h : get_or ns k 0 < get_or ns (k + 1) 0 = up k (om
 
 increasing : (n : ℕ) (ns : List ℕ) → rises (Some n) ns ≡ true → GoesUp (n ∷ ns)
 increasing n [] h k l = absurd (omega arith)
-increasing n (m ∷ ms) h zero l = below n m (both-true (nat_lt n m) (rises (Some m) ms) h).0
+increasing n (m ∷ ms) h zero l = grind (arith, nat_tests, both-true (nat_lt n m) (rises (Some m) ms) h)
 increasing n (m ∷ ms) h (suc k) l = increasing m ms (both-true (nat_lt n m) (rises (Some m) ms) h).1 k (omega arith)
 
 increasing-none : (ns : List ℕ) → rises None ns ≡ true → GoesUp ns
@@ -54,7 +42,7 @@ increasing-none (n ∷ ns) h k l = increasing n ns h k l
 
 rising : (n : ℕ) (ns : List ℕ) → GoesUp (n ∷ ns) → rises (Some n) ns ≡ true
 rising n [] h = refl
-rising n (m ∷ ms) h = and-true (nat_lt n m) (rises (Some m) ms) (test-below n m (h 0 (omega arith))) (rising m ms (λ k l. h (suc k) (omega arith)))
+rising n (m ∷ ms) h = let first : n < m = h 0 (omega arith) in grind (arith, nat_tests, rising m ms (λ k l. h (suc k) (omega arith)))
 
 rising-none : (ns : List ℕ) → GoesUp ns → rises None ns ≡ true
 rising-none [] h = refl

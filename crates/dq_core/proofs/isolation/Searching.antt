@@ -1,5 +1,5 @@
 -- What queries are answered with.
-use Rattle.std.proofs.Common.{◌≡◌, ℕ, Bool, List, [], Option, None, Ok, refl}
+use Rattle.std.proofs.Common.{◌≡◌, Bool, List, [], None, Ok, refl}
 use Rattle.dq_dataset.specs.Tree.{ElementList}
 use Rattle.dq_dimse.specs.declared.command.Message.{Message}
 use Rattle.dq_dimse.specs.Statuses.{success}

@@ -1,0 +1,73 @@
+-- What inputs are answered with, part by part.
+use Rattle.std.proofs.Common.{◌≡◌, Bool, true, false, List, [], ◌∷◌, ◌++◌, Option, Some, None, refl, sym, ap, ◌∙◌, append_assoc}
+use Rattle.dq_assoc.specs.declared.association.Verdict.{Verdict}
+use Rattle.dq_assoc.specs.Table.{Input, Requested, Sent}
+use Rattle.dq_assoc.specs.declared.agreement.Agreement.{Agreement}
+use Rattle.dq_config.specs.Limits.{Limits}
+use Rattle.dq_tables.specs.Rows.{Record, edited}
+use Rattle.dq_core.specs.Services.{served}
+use Rattle.dq_core.specs.Doing.{agreement_after}
+use Rattle.dq_core.specs.Answers.{Progress, Answer, answer, agreement_by, message_answer, then_answer, answers}
+
+-- answers follow one another, up to the first that closes
+follow_on : (a b c : Answer) (p q : Bool) → a.close ≡ p → b.close ≡ q → then_answer (then_answer a b) c ≡ then_answer a (then_answer b c)
+follow_on a b c true q h k = rw h refl
+follow_on a b c false true h k = rw (h, k) refl
+follow_on a b c false false h k = rw (h, k, append_assoc, append_assoc) refl
+
+next_later : (a b : Answer) (p : Bool) → a.close ≡ p → (c : Progress → Answer)
+    → then_answer (then_answer a b) (c b.next) ≡ then_answer (then_answer a b) (c (then_answer a b).next)
+next_later a b true h c = rw h refl
+next_later a b false h c = rw h refl
+
+module _ (limits : Limits) (verdict : Verdict) where
+  -- inputs that come in two parts
+  pub answers-append : (progress : Progress) (xs ys : List Input) → answers limits verdict progress (xs ++ ys)
+      ≡ then_answer (answers limits verdict progress xs) (answers limits verdict (answers limits verdict progress xs).next ys)
+  answers-append progress [] ys = refl
+  answers-append progress (x ∷ xs) ys =
+      let first = answer limits verdict progress x in
+      let more = answers limits verdict first.next xs in
+      ap (then_answer first) (answers-append first.next xs ys)
+      ∙ sym (follow_on first more (answers limits verdict more.next ys) first.close more.close refl refl)
+      ∙ next_later first more first.close refl (λ next. answers limits verdict next ys)
+
+  -- what was agreed stays
+  open-agreement : (records : List Record) (agreement : Agreement) (xs : List Input)
+      → (answers limits verdict (record { agreement = Some agreement; records = records }) xs).next.agreement ≡ Some agreement
+  open-agreement records agreement [] = refl
+  open-agreement records agreement (Sent message ∷ xs) = open-agreement (edited (served limits records agreement message).edits records) agreement xs
+  open-agreement records agreement (x ∷ xs) = refl
+
+  then-agreement : (a b : Answer) (o : Option Agreement) (p : Bool) → a.close ≡ p → a.next.agreement ≡ o → b.next.agreement ≡ o
+      → (then_answer a b).next.agreement ≡ o
+  then-agreement a b o true h k l = rw h k
+  then-agreement a b o false h k l = rw h l
+
+  next-at : (records : List Record) (o : Option Agreement) (xs : List Input)
+      → (answers limits verdict (record { agreement = o; records = records }) xs).next.agreement ≡ agreement_after o xs
+  next-at records (Some agreement) xs = open-agreement records agreement xs
+  next-at records None [] = refl
+  next-at records None (Requested request ∷ xs) =
+      let first = answer limits verdict (record { agreement = None; records = records }) (Requested request) in
+      then-agreement first (answers limits verdict first.next xs) (agreement_by (Requested request)) first.close refl refl (open-agreement records _ xs)
+  next-at records None (x ∷ xs) = refl
+
+  pub next-agreement : (progress : Progress) (xs : List Input) → (answers limits verdict progress xs).next.agreement ≡ agreement_after progress.agreement xs
+  next-agreement progress xs = next-at progress.records progress.agreement xs
+
+  -- the verdict is not read after a request
+  open-verdict : (other : Verdict) (records : List Record) (agreement : Agreement) (xs : List Input) →
+      let progress : Progress = record { agreement = Some agreement; records = records } in
+      answers limits verdict progress xs ≡ answers limits other progress xs
+  open-verdict other records agreement [] = refl
+  open-verdict other records agreement (Sent message ∷ xs) =
+      let service = served limits records agreement message in
+      ap (then_answer (message_answer service agreement (record { agreement = Some agreement; records = records }) message))
+      (open-verdict other (edited service.edits records) agreement xs)
+  open-verdict other records agreement (x ∷ xs) = refl
+
+  pub verdict-unread : (other : Verdict) (records : List Record) (o : Option Agreement) (agreement : Agreement) (xs : List Input) → o ≡ Some agreement →
+      let progress : Progress = record { agreement = o; records = records } in
+      answers limits verdict progress xs ≡ answers limits other progress xs
+  verdict-unread other records o agreement xs e = rw e (open-verdict other records agreement xs)
