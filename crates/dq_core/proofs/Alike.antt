@@ -88,7 +88,11 @@ module _ (i : Institution) (verdict : Verdict) (rows : List Row) where
   alike-opened l request inputs home false h k =
       let at : IsHome (open_outcome inputs).messages home i (agreement_of request) = rw h at k in
       let x = alike-open (agreement_of request) inputs home at in
-      rw h (record { octets = ap (λ (octets : List ℕ). (line_answer l (with_records None [])).octets ++ octets) x.octets; close = x.close; operations = x.operations })
+      rw h (record {
+        octets = ap (λ (octets : List ℕ). (line_answer l (with_records None [])).octets ++ octets) x.octets;
+        close = x.close;
+        operations = x.operations;
+      })
 
   -- a connection without a request yet
   pub alike-waiting : (inputs : List Input) (home : Option Home)

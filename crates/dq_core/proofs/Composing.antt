@@ -38,7 +38,8 @@ module _ (owner : Option Institution) (a b : Answer) where
   part-first r0 r1 false h part = rw (h, joined) (record {
     done = part.done;
     later = part.later ++ operations_by owner b.changes;
-    whole = sym (append_assoc part.done part.later (operations_by owner b.changes)) ∙ ap (λ (os : List Operation). os ++ operations_by owner b.changes) part.whole;
+    whole = sym (append_assoc part.done part.later (operations_by owner b.changes))
+        ∙ ap (λ (os : List Operation). os ++ operations_by owner b.changes) part.whole;
     made = part.made;
   })
 

@@ -21,7 +21,8 @@ use Rattle.dq_core.proofs.Standing.{world-append, replies-append, newest-append}
 
 rises-later : (newest : Option ℕ) (xs ys : List Event) → IsTrue (rises_from newest (xs ++ ys)) → IsTrue (rises_from (newest_after newest xs) ys)
 rises-later newest [] ys h = h
-rises-later newest (event.Open number ∷ xs) ys h = rises-later (Some number) xs ys (both-true (is_above newest number) (rises_from (Some number) (xs ++ ys)) h).1
+rises-later newest (event.Open number ∷ xs) ys h = rises-later (Some number) xs ys
+    (both-true (is_above newest number) (rises_from (Some number) (xs ++ ys)) h).1
 rises-later newest (event ∷ xs) ys h = rises-later newest xs ys h
 
 opens-at : (newest : Option ℕ) (event : Event) (later : List Event) → IsTrue (rises_from newest (event ∷ later)) → Opens newest event

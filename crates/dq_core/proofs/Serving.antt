@@ -40,4 +40,9 @@ module _ (i : Institution) (a : Agreement) (m : Message) where
         → r1 ≡ after (by i.name (outcome_on a c (limits_of i) m (of i.name r0)).1) r0
         → DidPart (Some i) (served_answer (limits_of i) a (of i.name r0) m) r0 r1
     unfolding served
-    part-served r0 r1 h done = rw (e, h) (record { done = by i.name (outcome_on a c (limits_of i) m (of i.name r0)).1 ∷ []; later = []; whole = refl; made = done })
+    part-served r0 r1 h done = rw (e, h) (record {
+      done = by i.name (outcome_on a c (limits_of i) m (of i.name r0)).1 ∷ [];
+      later = [];
+      whole = refl;
+      made = done;
+    })

@@ -101,7 +101,8 @@ answer_of None rows home t = record {
 answer_of (Some i) rows home t = taken_answer (limits_of i) (of i.name rows) home t
 
 -- Two answers, each of an institution or of none, that are the same to the peer and to the tables.
-pub record AreAlike (one : Option Institution) (x : Answer) (other : Option Institution) (y : Answer)
+pub record AreAlike (one : Option Institution) (x : Answer) (other : Option Institution)
+    (y : Answer)
     : Type 0 where
   pub octets : x.octets ≡ y.octets
   pub close : x.close ≡ y.close

@@ -18,14 +18,16 @@ pub record Standing (Tables : Type 0) : Type 0 where
   pub newest : Option ℕ
   pub spent : Bool
 
--- A server stands for a history over the rows that were there as it began: it is not spent, it holds exactly the
--- connections that the plain server holds, each after the octets that came on it, and its tables keep the plain
--- server's rows.
-pub record StandsFor {Tables : Type 0} (rows_of : Tables → List Row) (rows : List Row) (server : Standing Tables)
+-- A server stands for a history over the rows that were there as it began: it is not spent, it
+-- holds exactly the connections that the plain server holds, each after the octets that came on it,
+-- and its tables keep the plain server's rows.
+pub record StandsFor {Tables : Type 0} (rows_of : Tables → List Row) (rows : List Row)
+    (server : Standing Tables)
     (events : List Event) : Type 0 where
   pub unspent : server.spent ≡ false
   pub newest : server.newest ≡ newest_after None events
-  pub holds : AreHeld server.institutions server.slots (world_after server.institutions rows events).connections
+  pub holds : AreHeld server.institutions server.slots
+      (world_after server.institutions rows events).connections
   pub keeps : rows_of server.tables ≡ (world_after server.institutions rows events).rows
 
 -- an opened number has to be above the numbers opened before

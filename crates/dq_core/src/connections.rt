@@ -108,8 +108,8 @@ pub(crate) fn open_connection(
     Ok(Reply::Done)
 }
 
-/// Takes a piece on the connection that has the slot at an index: gives the institution that has the
-/// connection, and what is to be answered.
+/// Takes a piece on the connection that has the slot at an index: gives the institution that has
+/// the connection, and what is to be answered.
 fn take_piece<'a>(
     alloc: Global,
     config: &'a Config,

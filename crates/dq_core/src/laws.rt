@@ -40,8 +40,8 @@ use dq_assoc::laws::{a_longer_stream_adds_inputs, the_last_input_closes};
 use dq_config::laws::a_name_is_of_one;
 use dq_tables::laws::{other_records_stay, own_records_are_edited, rows_stay_in_order};
 
-/// The replies to a history are the replies to each event in turn: there is one for each event, and what comes later
-/// does not change it.
+/// The replies to a history are the replies to each event in turn: there is one for each event, and
+/// what comes later does not change it.
 pub fn replies_in_turn()
     ensures one_each { (institutions : List Institution) (rows : List Row) (events : List Event) →
         length (replies institutions rows events) ≡ length events }
@@ -51,8 +51,9 @@ pub fn replies_in_turn()
         ++ (turn institutions (world_after institutions rows events) event).reply ∷ [] }
 {}
 
-/// However a stream is cut, it is answered alike: a piece that comes in two parts is answered as the first part and then,
-/// unless that closed the connection, as the second, from the records that are there by then.
+/// However a stream is cut, it is answered alike: a piece that comes in two parts is answered as
+/// the first part and then, unless that closed the connection, as the second, from the records that
+/// are there by then.
 pub fn pieces_join()
     ensures { (limits : Limits) (verdict : Verdict) (records : List Record)
         (stream first second : List ℕ) →
@@ -96,8 +97,8 @@ pub fn opened_numbers_rise()
         IsTrue (is_well_formed events) ↔ IsStrictlyIncreasing (opened_numbers events) }
 {}
 
-/// A connection that is held has sent no request yet, or one that was accepted, which an institution has; so one that has
-/// an owner was accepted.
+/// A connection that is held has sent no request yet, or one that was accepted, which an
+/// institution has; so one that has an owner was accepted.
 pub fn held_connections_were_accepted()
     ensures inputs { (institutions : List Institution) (rows : List Row) (events : List Event)
         (number : ℕ) (c : Connection) →
@@ -124,9 +125,9 @@ pub fn limits_of_associations_are_kept()
     a_longer_stream_adds_inputs();
 }
 
-/// Isolation. Whatever others store, ask, order or are refused, and however events interleave, the replies at an
-/// institution's own events are those of a server that it has alone, and so are its records: after the history, and
-/// within it, also after the first operations of an event.
+/// Isolation. Whatever others store, ask, order or are refused, and however events interleave, the
+/// replies at an institution's own events are those of a server that it has alone, and so are its
+/// records: after the history, and within it, also after the first operations of an event.
 pub fn institutions_are_isolated()
     ensures replies { (institutions : List Institution) (rows : List Row) (events : List Event)
         (i : Institution) → Begins institutions rows events i →
@@ -177,8 +178,9 @@ pub fn strangers_are_answered_alike()
     a_longer_stream_adds_inputs();
 }
 
-/// Two histories that agree for an institution have the same replies at its own events, and leave it the same records. Of
-/// the replies at its own events among the first of each history, one list begins with the other.
+/// Two histories that agree for an institution have the same replies at its own events, and leave
+/// it the same records. Of the replies at its own events among the first of each history, one list
+/// begins with the other.
 pub fn agreeing_histories_are_answered_alike()
     ensures replies { (institutions others : List Institution) (rows other_rows : List Row)
         (events other_events : List Event) (i j : Institution) →
@@ -209,9 +211,9 @@ pub fn agreeing_histories_are_answered_alike()
     rows_stay_in_order();
 }
 
-/// A Study Root query that is not refused is answered with the records of its level that are under its
-/// unique keys and fit, in the order of their keys, each as it is shown (`dq_find::laws` says which and in
-/// what order). It changes nothing.
+/// A Study Root query that is not refused is answered with the records of its level that are under
+/// its unique keys and fit, in the order of their keys, each as it is shown (`dq_find::laws` says
+/// which and in what order). It changes nothing.
 #[tactic(auto, using(crate::proofs::isolation::Searching::study_search))]
 pub fn searches_answer_what_matches()
     ensures { (agreement : Agreement) (context : AgreedContext) (limits : Limits)
@@ -250,10 +252,11 @@ pub fn worklists_answer_what_matches()
         ) }
 {}
 
-/// So are runs that a fault ends. The replies at an institution's own events are those of its server alone to those that
-/// were answered, and its records are those that this server then has, with the first changes of an own event that was not
-/// answered; the replies on a connection that nobody owns are a stranger's; and of the own replies of two runs that agree for
-/// an institution, one list begins with the other.
+/// So are runs that a fault ends. The replies at an institution's own events are those of its
+/// server alone to those that were answered, and its records are those that this server then has,
+/// with the first changes of an own event that was not answered; the replies on a connection that
+/// nobody owns are a stranger's; and of the own replies of two runs that agree for an institution,
+/// one list begins with the other.
 pub fn runs_are_isolated()
     ensures own { (institutions : List Institution) (rows : List Row) (events : List Event)
         (given : List Reply) (kept : List Row) → IsRun institutions rows events given kept →

@@ -43,7 +43,13 @@ impl<T> Model for Server<T> {
 
     ghost Value = { Standing T };
 
-    ghost view = { λ a. record { institutions = a.config; tables = a.tables; slots = a.slots.items; newest = a.newest; spent = a.spent } };
+    ghost view = { λ a. record {
+      institutions = a.config;
+      tables = a.tables;
+      slots = a.slots.items;
+      newest = a.newest;
+      spent = a.spent;
+    } };
 }
 
 /// What a run came to: its replies, the fault that stopped it, if one did, and what keeps the rows.
@@ -116,17 +122,25 @@ impl<T: Tables> Server<T> {
     pub fn step(&mut self, event: Event) -> Result<Reply, Fault>
         requires { Opens self.old.newest event }
         // Whatever history the server stands for, the reply is that of the plain server.
-        ensures reply { (rows : List Row) (events : List Event) → StandsFor T.rows rows self.old events → T.honest self.new.tables → IfOk result (λ reply.
-            reply ≡ (turn self.old.institutions (world_after self.old.institutions rows events) event).reply) }
-        ensures stands { (rows : List Row) (events : List Event) → StandsFor T.rows rows self.old events → T.honest self.new.tables → OnOk result
-            (StandsFor T.rows rows self.new (events ++ event ∷ [])) }
+        ensures reply { (rows : List Row) (events : List Event) →
+            StandsFor T.rows rows self.old events → T.honest self.new.tables →
+            IfOk result (λ reply. reply ≡ (turn self.old.institutions
+            (world_after self.old.institutions rows events) event).reply) }
+        ensures stands { (rows : List Row) (events : List Event) →
+            StandsFor T.rows rows self.old events → T.honest self.new.tables →
+            OnOk result (StandsFor T.rows rows self.new (events ++ event ∷ [])) }
         // At a fault the first of the event's operations were made.
-        ensures part { (rows : List Row) (events : List Event) → StandsFor T.rows rows self.old events → T.honest self.new.tables → OnErr result
-            (let world = world_after self.old.institutions rows events in
-            IsPartOf (turn self.old.institutions world event).operations world.rows (T.rows self.new.tables)) }
-        // An end, a piece for a number that is not held, and an empty piece take no memory, and leave the tables alone.
-        ensures quiet { (rows : List Row) (events : List Event) → StandsFor T.rows rows self.old events →
-            TakesNoMemory (world_after self.old.institutions rows events).connections event → IsOk result }
+        ensures part { (rows : List Row) (events : List Event) →
+            StandsFor T.rows rows self.old events → T.honest self.new.tables →
+            OnErr result (let world = world_after self.old.institutions rows events in
+            IsPartOf (turn self.old.institutions world event).operations world.rows
+            (T.rows self.new.tables)) }
+        // An end, a piece for a number that is not held, and an empty piece take no memory, and
+        // leave the tables alone.
+        ensures quiet { (rows : List Row) (events : List Event) →
+            StandsFor T.rows rows self.old events →
+            TakesNoMemory (world_after self.old.institutions rows events).connections event →
+            IsOk result }
         ensures institutions { self.new.institutions ≡ self.old.institutions }
         ensures newest { OnOk result (self.new.newest ≡ newest_after self.old.newest (event ∷ [])) }
         ensures unspent { OnOk result (self.new.spent ≡ false) }
@@ -151,16 +165,23 @@ impl<T: Tables> Server<T> {
     /// Does what an event asks for.
     fn turn(&mut self, event: Event) -> Result<Reply, Fault>
         ensures goes { Goes T.honest T.failed self.old.tables self.new.tables result }
-        ensures turned { (world : World) → AreHeld self.old.institutions self.old.slots world.connections → T.rows self.old.tables ≡ world.rows →
-            T.honest self.new.tables → IfOk result (λ reply.
-            Turned self.old.institutions (turn self.old.institutions world event) reply world.rows (T.rows self.new.tables) self.new.slots) }
-        ensures part { (world : World) → AreHeld self.old.institutions self.old.slots world.connections → T.rows self.old.tables ≡ world.rows →
-            T.honest self.new.tables → OnErr result
-            (IsPartOf (turn self.old.institutions world event).operations world.rows (T.rows self.new.tables)) }
+        ensures turned { (world : World) →
+            AreHeld self.old.institutions self.old.slots world.connections →
+            T.rows self.old.tables ≡ world.rows → T.honest self.new.tables →
+            IfOk result (λ reply. Turned self.old.institutions
+            (turn self.old.institutions world event) reply world.rows (T.rows self.new.tables)
+            self.new.slots) }
+        ensures part { (world : World) →
+            AreHeld self.old.institutions self.old.slots world.connections →
+            T.rows self.old.tables ≡ world.rows → T.honest self.new.tables →
+            OnErr result (IsPartOf (turn self.old.institutions world event).operations world.rows
+            (T.rows self.new.tables)) }
         ensures newest { OnOk result (self.new.newest ≡ newest_after self.old.newest (event ∷ [])) }
-        ensures quiet { (world : World) → AreHeld self.old.institutions self.old.slots world.connections →
+        ensures quiet { (world : World) →
+            AreHeld self.old.institutions self.old.slots world.connections →
             TakesNoMemory world.connections event → IsOk result }
-        ensures keeps { (self.new.institutions ≡ self.old.institutions) × (self.new.spent ≡ self.old.spent) }
+        ensures keeps { (self.new.institutions ≡ self.old.institutions)
+            × (self.new.spent ≡ self.old.spent) }
         ensures fault { IfErr result (λ fault. fault ≢ Fault.Stopped) }
     {
         match event {
@@ -249,10 +270,10 @@ fn answer_all<T: Tables>(
     Ok(())
 }
 
-/// The replies to a whole history, and the rows after it. Where a fault stopped the run, the replies
-/// are those to the events before it, and the rows are those after these events and the first
-/// operations of the next. It is an error only where the server can't begin; the tables are then
-/// dropped.
+/// The replies to a whole history, and the rows after it. Where a fault stopped the run, the
+/// replies are those to the events before it, and the rows are those after these events and the
+/// first operations of the next. It is an error only where the server can't begin; the tables are
+/// then dropped.
 pub fn run<T: Tables + Drop>(
     alloc: Global,
     config: Config,
@@ -280,12 +301,14 @@ pub fn run<T: Tables + Drop>(
         outcome.fault ≡ None →
         (i : Institution) → Contains config i →
         replies_at (is_own config i.name events.items) events.items outcome.replies
-        ≡ alone_replies (limits_of i) (of i.name (T.rows tables)) (own config i.name events.items)) }
+        ≡ alone_replies (limits_of i) (of i.name (T.rows tables))
+        (own config i.name events.items)) }
     ensures own_records { IfOk result (λ outcome. T.honest outcome.tables →
         outcome.fault ≡ None →
         (i : Institution) → Contains config i →
         of i.name (T.rows outcome.tables)
-        ≡ (alone_after (limits_of i) (of i.name (T.rows tables)) (own config i.name events.items)).records) }
+        ≡ (alone_after (limits_of i) (of i.name (T.rows tables))
+        (own config i.name events.items)).records) }
     // On a connection that nobody owns the replies are a stranger's.
     ensures strangers { IfOk result (λ outcome. T.honest outcome.tables →
         (number : ℕ) → owner config (stream_of number events.items) ≡ None →

@@ -110,7 +110,8 @@ module _ (adds : AddsInputs) (institutions : List Institution) (name : List ℕ)
         connections = sym (piece-among mine c piece (no_answer (progress_of c.stream [])) world.connections m);
       })
 
-  alike-piece : (n : ℕ) (piece : List ℕ) (rest : List Event) → AllByRecursion (Owned institutions (IsMine name mine) (event.Piece n piece ∷ rest)) world.connections
+  alike-piece : (n : ℕ) (piece : List ℕ) (rest : List Event) → AllByRecursion (Owned institutions (IsMine name mine) (event.Piece n piece ∷ rest))
+      world.connections
       → mine n ≡ true → (o : Option Connection) → connection_in n world.connections ≡ o
       → IsAlike name mine (piece_turn institutions world piece o) (alone_piece limits alone piece o)
   alike-piece n piece rest each m None e = record { reply = refl; operations = refl; connections = b.connections }

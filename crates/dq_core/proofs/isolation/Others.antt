@@ -54,7 +54,8 @@ module _ (adds : AddsInputs) (institutions : List Institution) (name : List ℕ)
         connections = piece-other mine c piece answer world.connections m;
       }
 
-  other-piece : (n : ℕ) (piece : List ℕ) (rest : List Event) → AllByRecursion (Owned institutions (IsMine name mine) (event.Piece n piece ∷ rest)) world.connections
+  other-piece : (n : ℕ) (piece : List ℕ) (rest : List Event) → AllByRecursion (Owned institutions (IsMine name mine) (event.Piece n piece ∷ rest))
+      world.connections
       → mine n ≡ false → (o : Option Connection) → connection_in n world.connections ≡ o → IsOther name mine world (piece_turn institutions world piece o)
   other-piece n piece rest each m None e = record { operations = tt; connections = refl }
   other-piece n piece rest each m (Some c) e =

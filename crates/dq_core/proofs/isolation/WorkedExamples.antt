@@ -213,7 +213,10 @@ closed octets = Octets 1 octets true
 an_association :
     (replies built_in [] (history (request ∷ echo ∷ release ∷ [])) ≡ Done ∷ answered accepted ∷ answered echoed ∷ closed released ∷ [])
     × (replies built_in [] (history ((request ++ echo ++ release) ∷ [])) ≡ Done ∷ closed (accepted ++ echoed ++ released) ∷ [])
-unfolding pdus_within front pdu_of associate_of request_of item_at pdv_at proposed_of user_information_of values_of parts routed has_route joins built_in stripped without_leading without_trailing kept_before messages_from command_from command_of reading readers elements_by element_by elements_after value_by items_by item_by items_after header_at end_at is_below tag_at spelling_at long_length_at content_of known_vr vr_in dictionary trimmed unpadded is_padded ignores_leading_spaces served
+unfolding pdus_within front pdu_of associate_of request_of item_at pdv_at proposed_of user_information_of values_of parts routed has_route joins built_in
+    stripped without_leading without_trailing kept_before messages_from command_from command_of reading readers elements_by element_by elements_after value_by
+    items_by item_by items_after header_at end_at is_below tag_at spelling_at long_length_at content_of known_vr vr_in dictionary trimmed unpadded is_padded
+    ignores_leading_spaces served
 an_association = (refl, refl)
 
 -- a sequence in a command set, an element of another group, and fragments of two octets for a peer that takes PDUs of 8
@@ -221,7 +224,10 @@ command_sets :
     (replies built_in [] (history (request ∷ echo_with_sequence ∷ [])) ≡ Done ∷ answered accepted ∷ answered echoed ∷ [])
     × (replies built_in [] (history (request ∷ echo_of_two_groups ∷ [])) ≡ Done ∷ answered accepted ∷ closed (short 7 0 2 6) ∷ [])
     × (replies built_in [] (history (request_from 1 modality 1 8 ∷ echo ∷ [])) ≡ Done ∷ answered accepted ∷ answered (in_twos echoed_set) ∷ [])
-unfolding pdus_within front pdu_of associate_of request_of item_at pdv_at proposed_of user_information_of values_of parts routed has_route joins built_in stripped without_leading without_trailing kept_before messages_from command_from command_of reading readers elements_by element_by elements_after value_by items_by item_by items_after header_at end_at is_below tag_at spelling_at long_length_at content_of known_vr vr_in dictionary trimmed unpadded is_padded ignores_leading_spaces served
+unfolding pdus_within front pdu_of associate_of request_of item_at pdv_at proposed_of user_information_of values_of parts routed has_route joins built_in
+    stripped without_leading without_trailing kept_before messages_from command_from command_of reading readers elements_by element_by elements_after value_by
+    items_by item_by items_after header_at end_at is_below tag_at spelling_at long_length_at content_of known_vr vr_in dictionary trimmed unpadded is_padded
+    ignores_leading_spaces served
 command_sets = (refl, refl, refl)
 
 -- a C-ECHO of another class than the context has; a C-FIND on Verification, of whatever class; a C-CANCEL
@@ -231,7 +237,10 @@ statuses :
     × (replies built_in [] (history (request ∷ command 0x0020 verification_class ∷ command 0x0020
     (codes "1.2.840.10008.1.20") ∷ [])) ≡ Done ∷ answered accepted ∷ answered (response 0x8020 0x0211) ∷ answered (response 0x8020 0x0211) ∷ [])
     × (replies built_in [] (history (request ∷ cancel ∷ echo ∷ [])) ≡ Done ∷ answered accepted ∷ answered [] ∷ answered echoed ∷ [])
-unfolding pdus_within front pdu_of associate_of request_of item_at pdv_at proposed_of user_information_of values_of parts routed has_route joins built_in stripped without_leading without_trailing kept_before messages_from command_from command_of reading readers elements_by element_by elements_after value_by items_by item_by items_after header_at end_at is_below tag_at spelling_at long_length_at content_of known_vr vr_in dictionary trimmed unpadded is_padded ignores_leading_spaces served
+unfolding pdus_within front pdu_of associate_of request_of item_at pdv_at proposed_of user_information_of values_of parts routed has_route joins built_in
+    stripped without_leading without_trailing kept_before messages_from command_from command_of reading readers elements_by element_by elements_after value_by
+    items_by item_by items_after header_at end_at is_below tag_at spelling_at long_length_at content_of known_vr vr_in dictionary trimmed unpadded is_padded
+    ignores_leading_spaces served
 statuses = (refl, refl, refl)
 
 -- a pair of titles that no institution has; a version without bit 0; a maximum length that leaves no room; a context with an even id
@@ -241,12 +250,14 @@ rejections :
     × (replies built_in [] (history (request_from 2 ct9 1 7 ∷ [])) ≡ Done ∷ closed (short 3 1 2 2) ∷ [])
     × (replies built_in [] (history (request_from 1 modality 1 7 ∷ [])) ≡ Done ∷ closed (short 3 1 1 1) ∷ [])
     × (replies built_in [] (history (request_from 1 modality 2 16384 ∷ [])) ≡ Done ∷ closed (short 7 0 0 0) ∷ [])
-unfolding pdus_within front pdu_of associate_of request_of item_at pdv_at proposed_of user_information_of values_of parts routed has_route joins built_in stripped without_leading without_trailing kept_before messages_from
+unfolding pdus_within front pdu_of associate_of request_of item_at pdv_at proposed_of user_information_of values_of parts routed has_route joins built_in
+    stripped without_leading without_trailing kept_before messages_from
 rejections = (refl, refl, refl, refl, refl)
 
 -- Explicit before Implicit; result 4 where no syntax is taken, and 3 where the class is not served
 contexts : replies built_in [] (history (four_contexts ∷ [])) ≡ Done ∷ answered four_results ∷ []
-unfolding pdus_within front pdu_of associate_of request_of item_at pdv_at proposed_of user_information_of values_of parts routed has_route joins built_in stripped without_leading without_trailing kept_before messages_from
+unfolding pdus_within front pdu_of associate_of request_of item_at pdv_at proposed_of user_information_of values_of parts routed has_route joins built_in
+    stripped without_leading without_trailing kept_before messages_from
 contexts = refl
 
 -- a value, a release, and a PDU of unknown type with a piece after it, where a request is due; the peer's abort there
@@ -255,7 +266,8 @@ in_place_of_a_request :
     × (replies built_in [] (history (release ∷ [])) ≡ Done ∷ closed (short 7 0 0 0) ∷ [])
     × (replies built_in [] (history ((8 ∷ 0 ∷ 0 ∷ 0 ∷ 0 ∷ 0 ∷ []) ∷ (0 ∷ []) ∷ [])) ≡ Done ∷ closed (short 7 0 0 0) ∷ Ignored ∷ [])
     × (replies built_in [] (history (short 7 0 0 0 ∷ echo ∷ [])) ≡ Done ∷ closed [] ∷ Ignored ∷ [])
-unfolding pdus_within front pdu_of associate_of request_of item_at pdv_at proposed_of user_information_of values_of parts routed has_route joins built_in stripped without_leading without_trailing kept_before messages_from
+unfolding pdus_within front pdu_of associate_of request_of item_at pdv_at proposed_of user_information_of values_of parts routed has_route joins built_in
+    stripped without_leading without_trailing kept_before messages_from
 in_place_of_a_request = (refl, refl, refl, refl)
 
 -- a second request, a PDU of 65,537 octets, a value longer than its PDU, no values, the peer's abort
@@ -265,7 +277,8 @@ after_a_request :
     × (replies built_in [] (history (request ∷ value_pdu 6 3 3 [] ∷ [])) ≡ Done ∷ answered accepted ∷ closed (short 7 0 2 6) ∷ [])
     × (replies built_in [] (history (request ∷ (4 ∷ 0 ∷ 0 ∷ 0 ∷ 0 ∷ 0 ∷ []) ∷ [])) ≡ Done ∷ answered accepted ∷ closed (short 7 0 2 6) ∷ [])
     × (replies built_in [] (history (request ∷ short 7 0 0 0 ∷ [])) ≡ Done ∷ answered accepted ∷ closed [] ∷ [])
-unfolding pdus_within front pdu_of associate_of request_of item_at pdv_at proposed_of user_information_of values_of parts routed has_route joins built_in stripped without_leading without_trailing kept_before messages_from
+unfolding pdus_within front pdu_of associate_of request_of item_at pdv_at proposed_of user_information_of values_of parts routed has_route joins built_in
+    stripped without_leading without_trailing kept_before messages_from
 after_a_request = (refl, refl, refl, refl, refl)
 
 -- a release in mid-message, and a PDU of unknown type after a message
@@ -273,14 +286,20 @@ in_mid_message :
     (replies built_in [] (history (request ∷ (value_pdu 24 20 1 (element 0x0000 4
     (56 ∷ 0 ∷ 0 ∷ 0 ∷ []) ++ 0 ∷ 0 ∷ 2 ∷ 0 ∷ 18 ∷ 0 ∷ []) ++ release) ∷ [])) ≡ Done ∷ answered accepted ∷ closed released ∷ [])
     × (replies built_in [] (history (request ∷ (echo ++ 8 ∷ 0 ∷ 0 ∷ 0 ∷ 0 ∷ 0 ∷ []) ∷ [])) ≡ Done ∷ answered accepted ∷ closed (echoed ++ short 7 0 2 1) ∷ [])
-unfolding pdus_within front pdu_of associate_of request_of item_at pdv_at proposed_of user_information_of values_of parts routed has_route joins built_in stripped without_leading without_trailing kept_before messages_from command_from command_of reading readers elements_by element_by elements_after value_by items_by item_by items_after header_at end_at is_below tag_at spelling_at long_length_at content_of known_vr vr_in dictionary trimmed unpadded is_padded ignores_leading_spaces served
+unfolding pdus_within front pdu_of associate_of request_of item_at pdv_at proposed_of user_information_of values_of parts routed has_route joins built_in
+    stripped without_leading without_trailing kept_before messages_from command_from command_of reading readers elements_by element_by elements_after value_by
+    items_by item_by items_after header_at end_at is_below tag_at spelling_at long_length_at content_of known_vr vr_in dictionary trimmed unpadded is_padded
+    ignores_leading_spaces served
 in_mid_message = (refl, refl)
 
 -- two institutions, PDU by PDU; ends; a piece after the close, and one before the opening
 two_institutions : replies (two 4) [] (Open 1 ∷ Open 2 ∷ Piece 2 (request_of_title ct2) ∷ Piece 1 (request_of_title ct1) ∷ Piece 2 echo ∷ Piece 1 echo ∷
     Piece 1 release ∷ End 1 ∷ End 2 ∷ End 2 ∷ Piece 2 echo ∷ End 9 ∷ []) ≡ Done ∷ Done ∷ Octets 2 (accepted_title ct2) false ∷ Octets 1 (accepted_title ct1)
     false ∷ Octets 2 echoed false ∷ Octets 1 echoed false ∷ Octets 1 released true ∷ Ignored ∷ Done ∷ Ignored ∷ Ignored ∷ Ignored ∷ []
-unfolding pdus_within front pdu_of associate_of request_of item_at pdv_at proposed_of user_information_of values_of parts routed has_route joins built_in stripped without_leading without_trailing kept_before messages_from command_from command_of reading readers elements_by element_by elements_after value_by items_by item_by items_after header_at end_at is_below tag_at spelling_at long_length_at content_of known_vr vr_in dictionary trimmed unpadded is_padded ignores_leading_spaces served
+unfolding pdus_within front pdu_of associate_of request_of item_at pdv_at proposed_of user_information_of values_of parts routed has_route joins built_in
+    stripped without_leading without_trailing kept_before messages_from command_from command_of reading readers elements_by element_by elements_after value_by
+    items_by item_by items_after header_at end_at is_below tag_at spelling_at long_length_at content_of known_vr vr_in dictionary trimmed unpadded is_padded
+    ignores_leading_spaces served
 two_institutions = refl
 
 -- an institution that may have one association open: a second is busy, another institution is not, and a release or an end gives the place back
@@ -288,13 +307,15 @@ one_at_a_time : replies (two 1) [] (Open 1 ∷ Open 2 ∷ Open 3 ∷ Piece 1 (re
     ct2) ∷ Piece 1 release ∷ Open 4 ∷ Piece 4 (request_of_title ct1) ∷ End 4 ∷ Open 5 ∷ Piece 5 (request_of_title ct1) ∷ []) ≡ Done ∷ Done ∷ Done ∷ Octets 1
     (accepted_title ct1) false ∷ Octets 2 (short 3 2 3 2) true ∷ Octets 3 (accepted_title ct2) false ∷ Octets 1 released true ∷ Done ∷ Octets 4
     (accepted_title ct1) false ∷ Done ∷ Done ∷ Octets 5 (accepted_title ct1) false ∷ []
-unfolding pdus_within front pdu_of associate_of request_of item_at pdv_at proposed_of user_information_of values_of parts routed has_route joins built_in stripped without_leading without_trailing kept_before messages_from
+unfolding pdus_within front pdu_of associate_of request_of item_at pdv_at proposed_of user_information_of values_of parts routed has_route joins built_in
+    stripped without_leading without_trailing kept_before messages_from
 one_at_a_time = refl
 
 -- of a request that does not pass the checks nobody asks whether it is busy
 a_busy_request : replies (two 1) [] (Open 1 ∷ Open 2 ∷ Piece 1 (request_of_title ct1) ∷ Piece 2 (request_from 2 ct1 1 16384) ∷ []) ≡ Done ∷ Done ∷ Octets 1
     (accepted_title ct1) false ∷ Octets 2 (short 3 1 2 2) true ∷ []
-unfolding pdus_within front pdu_of associate_of request_of item_at pdv_at proposed_of user_information_of values_of parts routed has_route joins built_in stripped without_leading without_trailing kept_before messages_from
+unfolding pdus_within front pdu_of associate_of request_of item_at pdv_at proposed_of user_information_of values_of parts routed has_route joins built_in
+    stripped without_leading without_trailing kept_before messages_from
 a_busy_request = refl
 
 -- whose the events are: a connection's, also before it is known, and the console's
@@ -303,12 +324,14 @@ own_events :
     (request_of_title ct1) ∷ Schedule south [] ∷ Withdraw north [] ∷ []) ≡ Open 3 ∷ Piece 3 (request_of_title ct1) ∷ Withdraw north [] ∷ [])
     × (own (two 4) north (Piece 1 [] ∷ Open 1 ∷ Piece 1 (take 20 (request_of_title ct1)) ∷ Piece 1 (drop 20
     (request_of_title ct1)) ∷ []) ≡ Piece 1 [] ∷ Open 1 ∷ Piece 1 (take 20 (request_of_title ct1)) ∷ Piece 1 (drop 20 (request_of_title ct1)) ∷ [])
-unfolding pdus_within front pdu_of associate_of request_of item_at pdv_at proposed_of user_information_of values_of parts routed has_route joins built_in stripped without_leading without_trailing kept_before messages_from
+unfolding pdus_within front pdu_of associate_of request_of item_at pdv_at proposed_of user_information_of values_of parts routed has_route joins built_in
+    stripped without_leading without_trailing kept_before messages_from
 own_events = (refl, refl)
 
 -- an order for an institution that is not configured
 orders : replies (two 4) [] (Schedule (codes "EAST") [] ∷ Withdraw (codes "EAST") [] ∷ []) ≡ Refused 6 ∷ Refused 6 ∷ []
-unfolding pdus_within front pdu_of associate_of request_of item_at pdv_at proposed_of user_information_of values_of parts routed has_route joins built_in stripped without_leading without_trailing kept_before messages_from named
+unfolding pdus_within front pdu_of associate_of request_of item_at pdv_at proposed_of user_information_of values_of parts routed has_route joins built_in
+    stripped without_leading without_trailing kept_before messages_from named
 orders = refl
 
 -- a Study Root query in Explicit with an identifier that can't be read, and its response
@@ -326,10 +349,14 @@ not_understood = value_pdu 94 90 3 (
     ++ element 0x0800 2 (1 ∷ 1 ∷ []) ++ element 0x0900 2 (0 ∷ 0xc0 ∷ []))
 
 a_query : replies built_in [] (history (four_contexts ∷ find ∷ [])) ≡ Done ∷ answered four_results ∷ answered not_understood ∷ []
-unfolding pdus_within front pdu_of associate_of request_of item_at pdv_at proposed_of user_information_of values_of parts routed has_route joins built_in stripped without_leading without_trailing kept_before messages_from command_from command_of reading readers elements_by element_by elements_after value_by items_by item_by items_after header_at end_at is_below tag_at spelling_at long_length_at content_of known_vr vr_in dictionary trimmed unpadded is_padded ignores_leading_spaces served found query_of
+unfolding pdus_within front pdu_of associate_of request_of item_at pdv_at proposed_of user_information_of values_of parts routed has_route joins built_in
+    stripped without_leading without_trailing kept_before messages_from command_from command_of reading readers elements_by element_by elements_after value_by
+    items_by item_by items_after header_at end_at is_below tag_at spelling_at long_length_at content_of known_vr vr_in dictionary trimmed unpadded is_padded
+    ignores_leading_spaces served found query_of
 a_query = refl
 
 -- an entry that can't be read, and one that is not there
 orders_of_the_worklist : replies (two 4) [] (Schedule north (8 ∷ 0 ∷ []) ∷ Withdraw south [] ∷ []) ≡ Refused 1 ∷ Refused 5 ∷ []
-unfolding reading readers elements_by element_by elements_after value_by items_by item_by items_after header_at end_at is_below tag_at spelling_at long_length_at content_of known_vr vr_in dictionary named of record_at ordered scheduled withdrawn
+unfolding reading readers elements_by element_by elements_after value_by items_by item_by items_after header_at end_at is_below tag_at spelling_at
+    long_length_at content_of known_vr vr_in dictionary named of record_at ordered scheduled withdrawn
 orders_of_the_worklist = refl
