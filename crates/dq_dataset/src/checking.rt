@@ -85,6 +85,7 @@ fn elements_end<'a>(level: Level, octets: &'a [u8]) -> Result<&'a [u8], ReadFaul
     }
 }
 
+/// What is left after an item on the level, up to where the item's own length says.
 #[cycle(checking)]
 #[tactic(auto, unfolding(crate::specs::Reading::content_by))]
 fn content_end<'a>(

@@ -124,6 +124,7 @@ fn elements_of<'a>(
     }
 }
 
+/// The elements of an item on the level, up to where the item's own length says.
 #[cycle(reading)]
 #[tactic(auto, unfolding(crate::specs::Reading::content_by))]
 fn content_of<'a>(
