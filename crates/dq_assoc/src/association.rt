@@ -321,8 +321,11 @@ impl Association {
         self.held = Held::Closed;
         match negotiation::peer_limit(&request, verdict) {
             Ok(limit) => self.open_unless_stray(&request, limit),
-            // AE-6, AE-8
-            Err(rejected) => { closing_step(self.alloc, Listed::empty(self.alloc), Some(rejected)) }
+            Err(rejected) => {
+                // AE-6, AE-8
+                let messages = Listed::empty(self.alloc);
+                closing_step(self.alloc, messages, Some(rejected))
+            }
         }
     }
 

@@ -170,7 +170,8 @@ is_sent w context limit command (Some octets) h =
       written_is =
           ap (λ (xs : List ℕ). xs ++ cut context false limit octets) set.written_is
           ∙ ap (λ (xs : List ℕ). flat_map spelling (map pdu_with set.pdvs) ++ xs) part.written_is
-          ∙ sym (flat_map-append spelling (map pdu_with set.pdvs) (map pdu_with part.pdvs)) ∙ ap (flat_map spelling) (sym (map-append pdu_with set.pdvs part.pdvs));
+          ∙ sym (flat_map-append spelling (map pdu_with set.pdvs) (map pdu_with part.pdvs))
+          ∙ ap (flat_map spelling) (sym (map-append pdu_with set.pdvs part.pdvs));
       writable = subst AreWritable (sym (map-append pdu_with set.pdvs part.pdvs))
           (both_writable (map pdu_with set.pdvs) (map pdu_with part.pdvs) set.writable part.writable);
       carries = record {
