@@ -67,9 +67,6 @@ or_none : {X : Type 0} (o : Option X) → option_or o None ≡ o
 or_none None = refl
 or_none (Some x) = refl
 
-or_last : {X : Type 0} (o p q : Option X) → p ≡ None → q ≡ None → option_or o (option_or p q) ≡ o
-or_last o p q no_p no_q = ap (option_or o) (rw (no_p, no_q) refl) ∙ or_none o
-
 module _ (t : Tag) where
   merged_step : (levels : ℕ) (last : Option Tag) (kept : List Element) (e : Element) (sent : List Element) → AreElements levels last (as_elements (e ∷ sent))
       → ((some : List Element) → find (has_tag t) (merged_elements some sent) ≡ option_or (find (has_tag t) sent) (find (has_tag t) some))
@@ -121,10 +118,6 @@ none_at levels t (e ∷ es) are =
 or_false : (a b : Bool) → (a || b) ≡ false → (a ≡ false) × (b ≡ false)
 or_false true b h = cc
 or_false false b h = (refl, h)
-
-or_true : (a b : Bool) → a ≡ false → (a || b) ≡ true → b ≡ true
-or_true true b e h = cc
-or_true false b e h = h
 
 passes_step : {X : Type 0} (p q : X → Bool) (x y : X) (xs : List X) (b : Bool) → p x ≡ b
     → (find p xs ≡ Some y → list_any q xs ≡ false → (p y ≡ true) × (q y ≡ false))

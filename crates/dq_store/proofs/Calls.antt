@@ -1,24 +1,12 @@
 -- Calls of tables that a store makes in turn.
-use Rattle.std.proofs.Common.{◌≡◌, ℕ, Bool, List, Result, Ok, Err, refl, sym, ◌∙◌, ap, inl, inr}
+use Rattle.std.proofs.Common.{◌≡◌, ℕ, Bool, List, Result, Ok, Err, sym, ◌∙◌, ap, inl, inr}
 use Rattle.dq_tables.specs.declared.fault.TableFault.{TableFault}
-use Rattle.dq_tables.specs.declared.fault.TableFault.TheVariants.{NoMemory}
 use Rattle.dq_tables.specs.declared.row.Row.{Row}
 use Rattle.dq_tables.specs.Rows.{Record, Edit, of, by, after}
-use Rattle.dq_tables.specs.Keeping.{Goes, Reads, Writes}
+use Rattle.dq_tables.specs.Keeping.{Goes, Reads}
 use Rattle.dq_tables.specs.Serving.{Serves}
-use Rattle.dq_tables.proofs.Calling.{refused}
 
 module _ {Tables : Type 0} (rows : Tables → List Row) (honest : Tables → Type 0) (failed : Tables → Bool) (may_leave : Tables → List Row → Type 0) where
-  -- memory ran out before anything was called
-  pub writes_unanswered : {A : Type 0} (it : Tables) (changed : List Row) → Writes rows honest failed may_leave it it changed (refused A NoMemory)
-  writes_unanswered it changed = record {
-    goes = record { was_honest = λ h. h; told = λ h. cc; untold = λ f. inl f; lasts = λ f. f };
-    done = λ h. tt;
-    same = λ h. refl;
-    settles = λ h. tt;
-    crash = λ h r leave. inl leave;
-  }
-
   goes_on : {A B : Type 0} (old mid new : Tables) (x : A) (result : Result B TableFault) → Goes honest failed old mid (Ok x) → Goes honest failed mid new result
       → Goes honest failed old new result
   goes_on old mid new x result first second = record {

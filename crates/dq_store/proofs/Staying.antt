@@ -1,16 +1,16 @@
 -- What is kept stays as it is, and institutions stay apart.
-use Rattle.std.proofs.Common.{◌≡◌, ◌≢◌, ℕ, Bool, true, false, ◌&&◌, List, [], ◌∷◌, ◌++◌, Option, Some, None, is_some, find, refl, sym, ◌∙◌, ap, if◌then◌else◌, append_assoc}
+use Rattle.std.proofs.Common.{◌≡◌, ◌≢◌, ℕ, Bool, true, false, ◌&&◌, List, [], ◌∷◌, ◌++◌, Option, Some, None, is_some, find, refl, sym, ◌∙◌, ap, if◌then◌else◌}
 use Rattle.std.specs.declared.cmp.Ordering.{Ordering}
 use Rattle.std.specs.declared.cmp.Ordering.TheVariants.{Less, Equal, Greater}
 use Rattle.std.specs.Ordering.{is_lt, is_eq, is_gt, ordering_reverse}
 use Rattle.std.specs.Cmp.{IsTotalOrder}
 use Rattle.std.specs.Str.{bytes_eq}
-use Rattle.std.proofs.lemmas.Cmp.{nat_cmp_total, nat_list_cmp_total, on_total, then_total, alike_right, tied_itself}
+use Rattle.std.proofs.lemmas.Cmp.{nat_cmp_total, nat_list_cmp_total, on_total, then_total, alike_right}
 use Rattle.std.proofs.lemmas.Map.Text.{is_eq-slice_cmp}
 use Rattle.dq_dataset.specs.declared.header.Syntax.{Syntax}
 use Rattle.std.specs.Result.{result_unwrap_or}
 use Rattle.dq_dataset.specs.Reading.{reading}
-use Rattle.dq_dataset.specs.Tree.{ElementList, no_elements}
+use Rattle.dq_dataset.specs.Tree.{no_elements}
 use Rattle.dq_dimse.specs.declared.command.Message.{Message}
 use Rattle.dq_config.specs.Limits.{Limits}
 use Rattle.dq_tables.specs.declared.row.Kind.{Kind}
@@ -107,17 +107,6 @@ module _ (new : Record) where
   elsewhere_stays q records apart other =
       record_at_is q (edited_by (Put new) records) ∙ stays_by q records (place_order q at_new) refl other apart ∙ sym (record_at_is q records)
 
-  put_is_found : (records : List Record) → record_at new.kind new.key (edited_by (Put new) records) ≡ Some new
-  unfolding edited_by
-  put_is_found records =
-      let here : stands_at at_new new ≡ true = ap is_eq (tied_itself places_total at_new) in
-      let before = none_filtered (stands_at at_new) (λ (r : Record). is_lt (place_order (place_of r) at_new))
-      (λ (r : Record) at. ap is_lt (is_equal (place_order (place_of r) at_new) at)) records in
-      let found : find (stands_at at_new) ((new ∷ []) ++ records_past at_new records) ≡ Some new = rw here refl in
-      record_at_is at_new (edited_by (Put new) records)
-      ∙ ap (find (stands_at at_new)) (append_assoc (records_before at_new records) (new ∷ []) (records_past at_new records))
-      ∙ none_in_front (stands_at at_new) (records_before at_new records) ((new ∷ []) ++ records_past at_new records) before ∙ found
-
   other_way : (q : Place) → is_eq (place_order at_new q) ≡ false → is_eq (place_order q at_new) ≡ false
   other_way q e = ap is_eq (places_total.antisymm q at_new) ∙ is_eq_reverse (place_order at_new q) ∙ e
 
@@ -154,20 +143,15 @@ elsewhere : (k : Option Record) (new : Record) (q : Place) (records : List Recor
 elsewhere None new q records apart other = elsewhere_stays new q records apart other
 elsewhere (Some k) new q records apart other = refl
 
-module _ (records : List Record) (d : ElementList) (s r i : List ℕ) where
-  abbrev sending : Instance
-  sending = record { elements = d; study = s; series = r; image = i }
-
-  abbrev at_study : Place
-  at_study = record { kind = Study; key = s }
-
+module _ (records : List Record) (sending : Instance) where
   abbrev at_series : Place
-  at_series = record { kind = Series; key = r }
+  at_series = record { kind = Series; key = sending.series }
 
   abbrev at_image : Place
-  at_image = record { kind = Image; key = i }
+  at_image = record { kind = Image; key = sending.image }
 
-  all_new : (ks kr : Option Record) → record_at Study s records ≡ ks → record_at Series r records ≡ kr → record_at Image i records ≡ None
+  all_new : (ks kr : Option Record) → record_at Study sending.study records ≡ ks → record_at Series sending.series records ≡ kr
+      → record_at Image sending.image records ≡ None
       → KeptStays records (edited (put_new ks (study_record sending) ++ (put_new kr (series_record sending) ++ Put (image_record sending) ∷ [])) records)
   unfolding KeptStays
   all_new ks kr study series image = λ kind key x kept.
@@ -192,7 +176,7 @@ outcome_stays : (records : List Record) (refusal : Option ℕ) (sent : Instance)
     → KeptStays records (edited (outcome refusal (stored_status (kept_among records sent) sent, stored_edits (kept_among records sent) sent)).1 records)
 unfolding KeptStays
 outcome_stays records (Some status) sent = λ kind key x k. k
-outcome_stays records None sent = stays_by_kept records sent.elements sent.study sent.series sent.image (kept_among records sent) refl _ refl
+outcome_stays records None sent = stays_by_kept records sent (kept_among records sent) refl _ refl
 
 -- A record that is kept is kept afterwards, as it was.
 pub kept_stays : (limits : Limits) (records : List Record) (message : Message) (syntax : Syntax) (kind : Kind) (key : List ℕ) (r : Record)

@@ -185,10 +185,6 @@ pub rising_all : (os : List Operation) (rows : List Row) → IsRising rows → I
 rising_all [] rows r = r
 rising_all (o ∷ os) rows r = rising_all os (after o rows) (rising o rows r)
 
-pub after_all-append : (os more : List Operation) (rows : List Row) → after_all (os ++ more) rows ≡ after_all more (after_all os rows)
-after_all-append [] more rows = refl
-after_all-append (o ∷ os) more rows = after_all-append os more (after o rows)
-
 own_step : (h : List ℕ) (o : Operation) (os : List Operation) (rows : List Row) → IsRising rows → (b : Bool) → bytes_eq o.institution h ≡ b
     → of h (after_all os (after o rows)) ≡ edited_all (own_edits h os) (of h (after o rows))
     → of h (after_all (o ∷ os) rows) ≡ edited_all (own_edits h (o ∷ os)) (of h rows)

@@ -14,18 +14,11 @@ rows_total =
     then_total (then_total (on_total (λ (p : RowPlace). number_of p.kind) nat_cmp_total) (on_total (λ (p : RowPlace). p.institution) nat_list_cmp_total))
     (on_total (λ (p : RowPlace). p.key) nat_list_cmp_total)
 
--- a row after p, where q comes after the row
-pub past_from : (p q r : RowPlace) → row_place_order p q ≡ Less → row_place_order q r ≡ Less → row_place_order p r ≡ Less
-past_from p q r = rows_total.trans p q r
-
 pub greater_from : (p q : RowPlace) → row_place_order p q ≡ Less → row_place_order q p ≡ Greater
 greater_from p q less = rows_total.antisymm q p ∙ ap ordering_reverse less
 
 pub less_from : (p q : RowPlace) → row_place_order p q ≡ Greater → row_place_order q p ≡ Less
 less_from p q greater = rows_total.antisymm q p ∙ ap ordering_reverse greater
-
-pub equal_from : (p q : RowPlace) → row_place_order p q ≡ Equal → row_place_order q p ≡ Equal
-equal_from p q equal = rows_total.antisymm q p ∙ ap ordering_reverse equal
 
 -- what a fact of each element gives another
 pub each_weaker : {X : Type 0} (P Q : X → Type 0) → ((x : X) → P x → Q x) → (xs : List X) → AllByRecursion P xs → AllByRecursion Q xs
