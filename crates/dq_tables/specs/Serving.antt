@@ -16,8 +16,8 @@ pub record Serves {Tables : Type 0} {Answer : Type 0} (rows : Tables → List Ro
     (result : Result Answer TableFault) : Type 0 where
   pub goes : Goes honest failed old new result
   pub answered : honest new → IfOk result (λ answer. answer ≡ (does (of institution (rows old))).0)
-  pub done : honest new
-      → OnOk result (rows new ≡ after (by institution (does (of institution (rows old))).1) (rows old))
+  pub done : honest new → OnOk result
+      (rows new ≡ after (by institution (does (of institution (rows old))).1) (rows old))
   pub same : honest new → OnErr result (rows new ≡ rows old)
   pub settles : honest new
       → OnOk result (IsSettled rows may_leave old → IsSettled rows may_leave new)
