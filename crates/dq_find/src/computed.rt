@@ -1,8 +1,6 @@
 //! Keys that are computed of the records below a study and below a series (PS3.4 sections C.3.4 and
 //! C.6.2.1).
 ghost use Rattle.std.specs.Prelude.{◌≡◌, ◌≤◌, ◌∷◌, ◌++◌, length, take, drop, IfOk, OnOk, IfSome, IfNone, map};
-ghost use Rattle.dq_dataset.specs.Rules.{padded};
-ghost use Rattle.dq_dataset.specs.declared.data_set.Value.TheVariants.{Octets as OctetsValue};
 ghost use Rattle.dq_tables.specs.Rows.{record_of};
 ghost use Rattle.dq_find.specs.Computed.{put_in_order, all_in_order, is_modality, modality_limit, modalities_of, modalities_in, joined, images_below, study_values, series_values, computed};
 ghost use Rattle.dq_find.specs.Looking.{Looks};

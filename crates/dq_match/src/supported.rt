@@ -1,9 +1,7 @@
 //! The keys that are supported at each level, and what is left of an identifier without the others
 //! (PS3.4 sections C.6.2.1 and K.6.1.2).
 ghost use Rattle.std.specs.Prelude.{◌≡◌, IfOk};
-ghost use Rattle.std.specs.List.{list_any};
 ghost use Rattle.dq_dataset.specs.View.{as_elements, elements_of, items_of, list_of};
-ghost use Rattle.dq_match.specs.Keys.{is_tag, other_than_keys};
 ghost use Rattle.dq_match.specs.Identifiers.{HasKnownTags};
 ghost use Rattle.dq_match.specs.Supported.{keys_of, leaves, is_among, is_supported, below, below_entry, below_step, supported_part, supported_items, supported_value, has_unsupported, have_unsupported, value_has_unsupported};
 ghost use Rattle.dq_match.specs.declared.supported.Level.TheVariants.{Identifier};

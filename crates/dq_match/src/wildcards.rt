@@ -1,6 +1,6 @@
 //! Wild card matching (PS3.4 section C.2.2.2.4).
 ghost use Rattle.std.specs.Prelude.{◌≡◌};
-ghost use Rattle.dq_match.specs.Wildcards.{wild, compared, same, stands_for};
+ghost use Rattle.dq_match.specs.Wildcards.{wild, compared, stands_for};
 ghost use Rattle.dq_match.specs.Scans.{IsScan, IsFirstFit};
 ghost use Rattle.dq_match.specs.declared.wildcards.Casing.TheVariants.{Exact};
 

@@ -100,7 +100,7 @@ entry_of order = record {
   octets = canonical Explicit order.elements;
 }
 
--- nothing is answered, and the order is an entry
+-- What is complete becomes an entry, and nothing is answered.
 abbrev pub added : Option Order → Option ℕ × List Edit
 added None = (Some (number_of Incomplete), [])
 added (Some order) = (None, Put (entry_of order) ∷ [])

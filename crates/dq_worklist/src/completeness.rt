@@ -1,7 +1,6 @@
 //! Which orders are complete (PS3.4 table K.6-1).
 ghost use Rattle.std.specs.Prelude.{◌≡◌, Some, IfSome, is_some, option_map};
 ghost use Rattle.std.specs.Option.{option_copied};
-ghost use Rattle.dq_match.specs.Keys.{value_octets};
 ghost use Rattle.dq_value.specs.Day.{day};
 ghost use Rattle.dq_value.specs.Time.{span};
 ghost use Rattle.dq_vr.specs.Tags.{scheduled_procedure_step_sequence};

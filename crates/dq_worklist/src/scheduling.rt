@@ -1,5 +1,5 @@
 //! Entries of the worklist, scheduled and withdrawn (PS3.4 section K.6.1).
-ghost use Rattle.std.specs.Prelude.{◌≡◌, ℕ, ◌∷◌, List, [], Some, None, true, IfOk, IfSome, is_some};
+ghost use Rattle.std.specs.Prelude.{◌≡◌, ◌∷◌, List, [], Some, None, true, IfOk, IfSome, is_some};
 ghost use Rattle.dq_config.specs.Limits.{limits_of};
 ghost use Rattle.dq_tables.specs.declared.row.Kind.TheVariants.{Entry};
 ghost use Rattle.dq_tables.specs.Rows.{Record, Put, Remove, of, by, after, row_of};
