@@ -5,9 +5,10 @@ ghost use Rattle.dq_dataset.specs.Canonical.{canonical};
 ghost use Rattle.dq_core.specs.Services.{is_of_instance, named_instance, response_command, response, pending_status, pending_responses, responses};
 ghost use Rattle.dq_core.specs.Answers.{response_octets};
 
-use dq_assoc::{AgreedContext, PeerLimit, SopClass};
+use crate::service::Asked;
+use dq_assoc::SopClass;
 use dq_dataset::{DataSet, Syntax, write};
-use dq_dimse::{Command, Message, command_field, status, write_message};
+use dq_dimse::{Command, command_field, status, write_message};
 use dq_list::Listed;
 use dq_match::{Found, can_be_written};
 use std::alloc::{AllocError, Global};
@@ -56,19 +57,26 @@ fn response_command(
 /// Adds a response with a status, and with a data set where there is one.
 fn respond(
     alloc: Global,
-    class: SopClass,
-    limit: &PeerLimit,
-    message: &Message,
+    asked: Asked,
     status: u16,
     data_set: Option<&[u8]>,
     out: &mut Vec<u8>,
 ) -> Result<(), AllocError>
     ensures { OnOk result (out.new.items ≡ out.old.items
-        ++ response_octets message.now.context limit.now
-        (response class message.now.command status (option_map (λ o. o.now) data_set.entry))) }
+        ++ response_octets asked.entry.message.now.context asked.entry.agreement.now.limit
+        (response asked.entry.context.class asked.entry.message.now.command status
+        (option_map (λ o. o.now) data_set.entry))) }
 {
+    let message = asked.message;
+    let limit = &asked.agreement.limit;
     let with_data = data_set.is_some();
-    let response = response_command(alloc, class, &message.command, status, with_data)?;
+    let response = response_command(
+        alloc,
+        asked.context.class,
+        &message.command,
+        status,
+        with_data,
+    )?;
     let octets = write_message(alloc, message.context, &response, data_set, limit.octets())?;
     out.extend_from_slice(octets.as_slice())?;
     Ok(())
@@ -98,28 +106,18 @@ fn answer_octets(alloc: Global, answer: &DataSet, syntax: Syntax) -> Result<Vec<
 /// Adds a response for each answer, in order.
 fn respond_pending(
     alloc: Global,
-    context: AgreedContext,
-    limit: &PeerLimit,
-    message: &Message,
+    asked: Asked,
     found: &Found,
     out: &mut Vec<u8>,
 ) -> Result<(), AllocError>
     ensures { OnOk result (out.new.items ≡ out.old.items
-        ++ flat_map (response_octets message.now.context limit.now)
-        (pending_responses context message.now.command found.now)) }
+        ++ flat_map (response_octets asked.entry.message.now.context asked.entry.agreement.now.limit)
+        (pending_responses asked.entry.context asked.entry.message.now.command found.now)) }
 {
     let status = pending_status(found.optional);
     for answer in found.answers.as_slice() {
-        let octets = answer_octets(alloc, answer, context.syntax)?;
-        respond(
-            alloc,
-            context.class,
-            limit,
-            message,
-            status,
-            Some(octets.as_slice()),
-            out,
-        )?;
+        let octets = answer_octets(alloc, answer, asked.context.syntax)?;
+        respond(alloc, asked, status, Some(octets.as_slice()), out)?;
     }
     Ok(())
 }
@@ -127,24 +125,14 @@ fn respond_pending(
 /// Adds the responses with the answers, and then the one with the status.
 pub(crate) fn respond_all(
     alloc: Global,
-    context: AgreedContext,
-    limit: &PeerLimit,
-    message: &Message,
+    asked: Asked,
     found: &Found,
     out: &mut Vec<u8>,
 ) -> Result<(), AllocError>
     ensures { OnOk result (out.new.items ≡ out.old.items
-        ++ flat_map (response_octets message.now.context limit.now)
-        (responses context message.now.command found.now)) }
+        ++ flat_map (response_octets asked.entry.message.now.context asked.entry.agreement.now.limit)
+        (responses asked.entry.context asked.entry.message.now.command found.now)) }
 {
-    respond_pending(alloc, context, limit, message, found, out)?;
-    respond(
-        alloc,
-        context.class,
-        limit,
-        message,
-        found.status,
-        None,
-        out,
-    )
+    respond_pending(alloc, asked, found, out)?;
+    respond(alloc, asked, found.status, None, out)
 }

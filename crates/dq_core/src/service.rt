@@ -14,7 +14,6 @@ use crate::responses::respond_all;
 use crate::slot::{Home, Taken};
 use dq_assoc::{AgreedContext, Agreement, Service, SopClass};
 use dq_config::Institution;
-use dq_dataset::Syntax;
 use dq_dimse::{Command, Message, command_field, status};
 use dq_find::find;
 use dq_list::Listed;
@@ -25,6 +24,15 @@ use dq_tables::laws::own_records_are_edited;
 use dq_tables::{TableFault, Tables};
 use dq_worklist::query;
 use std::alloc::{AllocError, Global};
+
+/// A message that is served: for which institution, over what was agreed, and on which context.
+#[derive(Clone, Copy)]
+pub(crate) struct Asked<'a> {
+    pub institution: &'a Institution,
+    pub agreement: &'a Agreement,
+    pub context: AgreedContext,
+    pub message: &'a Message,
+}
 
 /// Whether a service has the operation of a Command Field (PS3.4).
 fn has_operation(service: Service, code: u16) -> bool
@@ -66,16 +74,18 @@ fn status_alone(alloc: Global, status: u16) -> Found
 }
 
 /// Creates or changes a performed procedure step, and answers the status (PS3.4 section F.7.2).
-fn perform<T: Tables>(
-    alloc: Global,
-    institution: &Institution,
-    message: &Message,
-    syntax: Syntax,
-    tables: &mut T,
-) -> Result<u16, TableFault>
-    ensures { Serves T.rows T.honest T.failed T.may_leave tables.old tables.new institution.now.name
-        (λ records. performed (limits_of institution.now) records message.now syntax) result }
+fn perform<T: Tables>(alloc: Global, asked: Asked, tables: &mut T) -> Result<u16, TableFault>
+    ensures { Serves T.rows T.honest T.failed T.may_leave tables.old tables.new
+        asked.entry.institution.now.name
+        (λ records. performed (limits_of asked.entry.institution.now) records
+        asked.entry.message.now asked.entry.context.syntax) result }
 {
+    let Asked {
+        institution,
+        message,
+        ..
+    } = asked;
+    let syntax = asked.context.syntax;
     if message.command.code == command_field::N_CREATE {
         create(alloc, tables, institution, message, syntax)
     } else {
@@ -85,54 +95,47 @@ fn perform<T: Tables>(
 
 /// Makes the edits of an operation of a context's service, and answers it. Each service has its
 /// place here.
-fn operate<T: Tables>(
-    alloc: Global,
-    institution: &Institution,
-    agreement: &Agreement,
-    context: AgreedContext,
-    message: &Message,
-    tables: &mut T,
-) -> Result<Found, Fault>
-    ensures serves { Operates T.rows T.honest T.failed tables.old tables.new institution.now.name
-        (operation (service_of context.class) agreement.now.called context.syntax
-        (limits_of institution.now) message.now) result }
+fn operate<T: Tables>(alloc: Global, asked: Asked, tables: &mut T) -> Result<Found, Fault>
+    ensures serves { Operates T.rows T.honest T.failed tables.old tables.new
+        asked.entry.institution.now.name (operation (service_of asked.entry.context.class)
+        asked.entry.agreement.now.called asked.entry.context.syntax
+        (limits_of asked.entry.institution.now) asked.entry.message.now) result }
     ensures fault { IfErr result (λ fault. fault ≢ Fault.Stopped) }
 {
-    let syntax = context.syntax;
-    match context.class.service() {
+    let Asked {
+        institution,
+        message,
+        ..
+    } = asked;
+    let syntax = asked.context.syntax;
+    match asked.context.class.service() {
         Service::Verification => Ok(status_alone(alloc, status::SUCCESS)),
         Service::Storage => {
             let status = store(alloc, tables, institution, message, syntax)?;
             Ok(status_alone(alloc, status))
         }
         Service::StudyRootFind => {
-            let called = &agreement.called;
+            let called = &asked.agreement.called;
             Ok(find(alloc, tables, institution, called, message, syntax)?)
         }
         Service::WorklistFind => Ok(query(alloc, tables, institution, message, syntax)?),
         Service::PerformedProcedureStep => {
-            let status = perform(alloc, institution, message, syntax, tables)?;
+            let status = perform(alloc, asked, tables)?;
             Ok(status_alone(alloc, status))
         }
     }
 }
 
 /// The outcome of a command that has a response: its refusal, or else that of its operation.
-fn outcome_on<T: Tables>(
-    alloc: Global,
-    institution: &Institution,
-    agreement: &Agreement,
-    context: AgreedContext,
-    message: &Message,
-    tables: &mut T,
-) -> Result<Found, Fault>
-    ensures serves { Operates T.rows T.honest T.failed tables.old tables.new institution.now.name
-        (outcome_on agreement.now context (limits_of institution.now) message.now) result }
+fn outcome_on<T: Tables>(alloc: Global, asked: Asked, tables: &mut T) -> Result<Found, Fault>
+    ensures serves { Operates T.rows T.honest T.failed tables.old tables.new
+        asked.entry.institution.now.name (outcome_on asked.entry.agreement.now asked.entry.context
+        (limits_of asked.entry.institution.now) asked.entry.message.now) result }
     ensures fault { IfErr result (λ fault. fault ≢ Fault.Stopped) }
 {
-    match refusal_for(context.class, &message.command) {
+    match refusal_for(asked.context.class, &asked.message.command) {
         Some(status) => Ok(status_alone(alloc, status)),
-        None => operate(alloc, institution, agreement, context, message, tables),
+        None => operate(alloc, asked, tables),
     }
 }
 
@@ -163,8 +166,14 @@ fn serve<T: Tables>(
     if message.command.code == command_field::C_CANCEL {
         return Ok(());
     }
-    let found = outcome_on(alloc, institution, agreement, context, message, tables)?;
-    respond_all(alloc, context, &agreement.limit, message, &found, out)?;
+    let asked = Asked {
+        institution,
+        agreement,
+        context,
+        message,
+    };
+    let found = outcome_on(alloc, asked, tables)?;
+    respond_all(alloc, asked, &found, out)?;
     Ok(())
 }
 

@@ -7,12 +7,13 @@ use Rattle.dq_core.proofs.responses.respond.Goals as goal
 
 pub returns : goal.returns
 returns c =
-    let message = c.args.message.now in
+    let message = c.args.asked.message.now in
+    let class = c.args.asked.context.class in
     let data_set = option_map (λ (o : Bor (List ℕ)). o.now) c.args.data_set in
     let with_data = c.is_some-with_data.ensures ∙ is_some-mapped (λ (o : Bor (List ℕ)). o.now) c.args.data_set in
     c.in_ok-extend_from_slice.ensures.items
     ∙ ap (λ (x : List ℕ). c.args.out.now.items ++ x)
     (c.as_slice.ensures.value ∙ c.in_ok-octets.ensures
     ∙ ap (λ (r : Command). sent message.context r data_set c.octets.result) c.in_ok-response.ensures
-    ∙ ap (λ (b : Bool). sent message.context (response_command c.args.class message.command c.args.status b) data_set c.octets.result) with_data
-    ∙ ap (λ (n : ℕ). sent message.context (response_command c.args.class message.command c.args.status (is_some data_set)) data_set n) c.octets.ensures.same)
+    ∙ ap (λ (b : Bool). sent message.context (response_command class message.command c.args.status b) data_set c.octets.result) with_data
+    ∙ ap (λ (n : ℕ). sent message.context (response_command class message.command c.args.status (is_some data_set)) data_set n) c.octets.ensures.same)

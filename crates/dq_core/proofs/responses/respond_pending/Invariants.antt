@@ -5,5 +5,5 @@ use Rattle.dq_core.specs.Answers.{response_octets}
 use Rattle.dq_core.proofs.responses.respond_pending.Given as goal
 
 abbrev pub invariant-loop-answer : goal.invariant-loop-answer
-invariant-loop-answer l = l.out.items ≡ l.fn.out.items ++ flat_map (response_octets l.message.context l.limit)
-    (map (pending_response l.context l.message.command l.found.optional) (take l.answer-index l.found.answers))
+invariant-loop-answer l = l.out.items ≡ l.fn.out.items ++ flat_map (response_octets l.asked.message.now.context l.asked.agreement.now.limit)
+    (map (pending_response l.asked.context l.asked.message.now.command l.found.optional) (take l.answer-index l.found.answers))
