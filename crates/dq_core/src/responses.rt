@@ -111,7 +111,8 @@ fn respond_pending(
     out: &mut Vec<u8>,
 ) -> Result<(), AllocError>
     ensures { OnOk result (out.new.items ≡ out.old.items
-        ++ flat_map (response_octets asked.entry.message.now.context asked.entry.agreement.now.limit)
+        ++ flat_map
+        (response_octets asked.entry.message.now.context asked.entry.agreement.now.limit)
         (pending_responses asked.entry.context asked.entry.message.now.command found.now)) }
 {
     let status = pending_status(found.optional);
@@ -130,7 +131,8 @@ pub(crate) fn respond_all(
     out: &mut Vec<u8>,
 ) -> Result<(), AllocError>
     ensures { OnOk result (out.new.items ≡ out.old.items
-        ++ flat_map (response_octets asked.entry.message.now.context asked.entry.agreement.now.limit)
+        ++ flat_map
+        (response_octets asked.entry.message.now.context asked.entry.agreement.now.limit)
         (responses asked.entry.context asked.entry.message.now.command found.now)) }
 {
     respond_pending(alloc, asked, found, out)?;
