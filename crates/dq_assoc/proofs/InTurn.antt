@@ -24,16 +24,6 @@ unclosed (PeerAborted ∷ first) later e = absurd cc
 unclosed (Stray ∷ first) later e = absurd cc
 unclosed (Bad reason ∷ first) later e = absurd cc
 
--- nothing comes after inputs that close
-closing : (first later : List Input) → (open_outcome first).close ≡ true → open_outcome (first ++ later) ≡ open_outcome first
-closing [] later e = absurd cc
-closing (Sent message ∷ first) later e = ap (with_message message) (closing first later e)
-closing (Requested request ∷ first) later e = refl
-closing (Released ∷ first) later e = refl
-closing (PeerAborted ∷ first) later e = refl
-closing (Stray ∷ first) later e = refl
-closing (Bad reason ∷ first) later e = refl
-
 -- an association that keeps its agreement stays open
 stays-open : (now new : Held) → state_of now ≡ Open → is_closed (state_of new) ≡ false → agreement_in new ≡ agreement_in now → state_of new ≡ Open
 stays-open held.Waiting new o u e = absurd cc

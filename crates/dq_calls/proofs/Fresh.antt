@@ -32,13 +32,15 @@ module _ (n s r i a b c : List ℕ) where
     image_new = record { kind_is = refl; free = refl; own = image; held = rw (same_bytes n, same_bytes r) refl };
   }
 
-  pub fits_stored : (study series image : Row) → study ≡ study_row → series ≡ series_row → image ≡ image_row → is_own study ≡ true → is_own series ≡ true → is_own image ≡ true
+  pub fits_stored : (study series image : Row) → study ≡ study_row → series ≡ series_row → image ≡ image_row
+      → is_own study ≡ true → is_own series ≡ true → is_own image ≡ true
       → Fits [] (Stored (Some study) (Some series) image)
   fits_stored study series image study_is series_is image_is study_own series_own image_own =
       let whole = fits_rows (subst (λ (x : Row). is_own x ≡ true) study_is study_own) (subst (λ (x : Row). is_own x ≡ true) series_is series_own)
       (subst (λ (x : Row). is_own x ≡ true) image_is image_own) in
       subst (λ (x : Row). FitsStored [] (Some x) (Some series) image) (sym study_is)
-      (subst (λ (x : Row). FitsStored [] (Some study_row) (Some x) image) (sym series_is) (subst (λ (x : Row). FitsStored [] (Some study_row) (Some series_row) x) (sym image_is) whole))
+      (subst (λ (x : Row). FitsStored [] (Some study_row) (Some x) image) (sym series_is)
+        (subst (λ (x : Row). FitsStored [] (Some study_row) (Some series_row) x) (sym image_is) whole))
 
 pub fits_entry : (row : Row) → row.kind ≡ Entry → is_own row ≡ true → Fits [] (EntryAdded row)
 unfolding row_at is_held

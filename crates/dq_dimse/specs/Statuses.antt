@@ -16,10 +16,6 @@ pending = 0xff00
 abbrev pub pending_without_optional_keys : ℕ
 pending_without_optional_keys = 0xff01
 
--- matching was ended by a C-CANCEL
-abbrev pub cancel : ℕ
-cancel = 0xfe00
-
 -- ---- Of a C-STORE, and the first three of a C-FIND too (PS3.4 sections B.2.3 and C.4.1.1.4)
 
 abbrev pub out_of_resources : ℕ

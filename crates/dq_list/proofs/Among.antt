@@ -1,16 +1,6 @@
--- One of some values, where a function is put to each or a filter keeps some.
+-- One of some values, where a filter keeps some.
 use Rattle.std.proofs.Common.{◌≡◌, Bool, true, false, inl, inr, List, [], ◌∷◌, ◌++◌, map, filter, refl, sym, ap, ◌∙◌, if◌then◌else◌}
 use Rattle.dq_list.specs.Among.{IsAmong}
-
-pub among_map : {X Y : Type 0} (f : X → Y) (x : X) (xs : List X) → IsAmong x xs → IsAmong (f x) (map f xs)
-among_map f x [] h = absurd h
-among_map f x (y ∷ ys) (inl e) = inl (ap f e)
-among_map f x (y ∷ ys) (inr h) = inr (among_map f x ys h)
-
-pub mapped_from : {X Y : Type 0} (f : X → Y) (y : Y) (xs : List X) → IsAmong y (map f xs) → (x : X) × IsAmong x xs × (y ≡ f x)
-mapped_from f y [] h = absurd h
-mapped_from f y (x ∷ xs) (inl e) = (x, inl refl, sym e)
-mapped_from f y (x ∷ xs) (inr h) = let m = mapped_from f y xs h in (m.0, inr m.1, m.2)
 
 kept_from : {X : Type 0} (p : X → Bool) (x y : X) (kept ys : List X) (b : Bool) → p y ≡ b → (IsAmong x kept → IsAmong x ys × (p x ≡ true))
     → IsAmong x (if b then y ∷ kept else kept) → IsAmong x (y ∷ ys) × (p x ≡ true)

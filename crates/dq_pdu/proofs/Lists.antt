@@ -32,9 +32,6 @@ piece_fits f xs i d n le h = omega (arith, piece_le f xs i d h)
 
 -- ---- padding at the end
 
-padded : (octet : ℕ) (octets : List ℕ) → unpadded octets ≡ [] → is_padding octet ≡ true → unpadded (octet ∷ octets) ≡ []
-padded octet octets e p = rw (e, p) refl
-
 unpadded-padding : (octets : List ℕ) (octet : ℕ) → is_padding octet ≡ true → unpadded (octets ++ octet ∷ []) ≡ unpadded octets
 unpadded-padding [] octet p = rw p refl
 unpadded-padding (x ∷ xs) octet p = rw (unpadded-padding xs octet p) refl

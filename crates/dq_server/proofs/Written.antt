@@ -30,11 +30,6 @@ Appends-none (Some xs) = sym (append-nil xs)
 pub AppendsPart-front : (before after : Option (List ℕ)) (line rest : List ℕ) → AppendsPart before after line → AppendsPart before after (line ++ rest)
 AppendsPart-front before after line rest part = AppendsPart-after before before after [] line rest (Appends-none before) part
 
-pub AppendsPart-kept : (before after : Option (List ℕ)) (octets : List ℕ) → Keeps before after → AppendsPart before after octets
-AppendsPart-kept None after octets kept = (0, tt)
-AppendsPart-kept (Some xs) None octets kept = absurd kept
-AppendsPart-kept (Some xs) (Some ys) octets kept = (0, kept ∙ sym (append-nil xs))
-
 pub AppendsPart-whole : (before after : Option (List ℕ)) (octets : List ℕ) → Appends before after octets → AppendsPart before after octets
 AppendsPart-whole None after octets whole = (0, tt)
 AppendsPart-whole (Some xs) None octets whole = absurd whole
@@ -66,22 +61,9 @@ AppendsPart-replies before after replies k part =
 
 -- ---- one write after another
 
-pub Appends-zero : (before after : Option (List ℕ)) (octets : List ℕ) → Appends before after (take 0 octets) → Keeps before after
-Appends-zero None after octets added = tt
-Appends-zero (Some xs) None octets added = added
-Appends-zero (Some xs) (Some ys) octets added = added ∙ append-nil xs
-
-pub Keeps-zero : (before after : Option (List ℕ)) (octets : List ℕ) → Keeps before after → Appends before after (take 0 octets)
-Keeps-zero None after octets kept = tt
-Keeps-zero (Some xs) None octets kept = kept
-Keeps-zero (Some xs) (Some ys) octets kept = kept ∙ sym (append-nil xs)
-
 -- what was written, and what is left to write
 abbrev pub Written : Option (List ℕ) → Option (List ℕ) → List ℕ → List ℕ → Type 0
 Written before now octets rest = (done : List ℕ) × (done ++ rest ≡ octets) × Appends before now done
-
-pub Written-none : (known : Option (List ℕ)) (octets : List ℕ) → Written known known octets octets
-Written-none known octets = ([], refl, Appends-none known)
 
 pub Written-more : (before mid after : Option (List ℕ)) (octets rest : List ℕ) (k : ℕ) → Written before mid octets rest → Appends mid after (take k rest)
     → Written before after octets (drop k rest)
@@ -94,10 +76,6 @@ Written-more (Some xs) (Some ys) (Some zs) octets rest k done added = (
   append_assoc done.0 (take k rest) (drop k rest) ∙ ap (λ l. done.0 ++ l) (take-append-drop k rest) ∙ done.1,
   added ∙ ap (λ l. l ++ take k rest) done.2 ∙ append_assoc xs done.0 (take k rest),
 )
-
-pub Written-whole : (before after : Option (List ℕ)) (octets rest : List ℕ) → rest ≡ [] → Written before after octets rest → Appends before after octets
-Written-whole before after octets rest none done =
-    let all : done.0 ≡ octets = sym (append-nil done.0) ∙ ap (λ l. done.0 ++ l) (sym none) ∙ done.1 in rw (← all) done.2
 
 pub Written-part : (before after : Option (List ℕ)) (octets rest : List ℕ) → Written before after octets rest → AppendsPart before after octets
 Written-part before after octets rest done =

@@ -75,20 +75,6 @@ module _ {Tables : Type 0} (rows : Tables → List Row) (honest : Tables → Typ
     crash = λ h r leave. leave;
   }
 
-  -- memory ran out between calls
-  pub reads_unanswered : {A B : Type 0} (old new : Tables) (x : A) → Reads rows honest failed may_leave old new (Ok x)
-      → Reads rows honest failed may_leave old new (refused B NoMemory)
-  reads_unanswered old new x reads = record {
-    goes = record {
-      was_honest = reads.goes.was_honest;
-      told = λ h. cc;
-      untold = λ f. (elim (reads.goes.untold f) [ inl before ↦ inl before | inr now ↦ absurd (cc) ]);
-      lasts = reads.goes.lasts;
-    };
-    same = reads.same;
-    crash = reads.crash;
-  }
-
   module _ {Answer : Type 0} (institution : List ℕ) (does : List Record → Answer × List Edit) where
     -- a service that is refused after calls that read
     pub serves_fault : (old new : Tables) (e : TableFault) → Reads rows honest failed may_leave old new (refused Answer e)

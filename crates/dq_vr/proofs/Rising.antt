@@ -21,7 +21,8 @@ below_later : (entry : Entry) (xs : List Entry) → rising_after entry xs ≡ tr
 unfolding rising_after
 below_later entry [] h k d lt = absurd (omega arith)
 below_later entry (x ∷ xs) h zero d lt = (and_parts _ _ h).0
-below_later entry (x ∷ xs) h (suc k) d lt = is_below-trans entry.0 x.0 (get_or xs k d).0 (and_parts _ _ h).0 (below_later x xs (and_parts _ _ h).1 k d (omega arith))
+below_later entry (x ∷ xs) h (suc k) d lt =
+    is_below-trans entry.0 x.0 (get_or xs k d).0 (and_parts _ _ h).0 (below_later x xs (and_parts _ _ h).1 k d (omega arith))
 
 abbrev AreBelow : Entry → Entry → Type 0
 AreBelow earlier later = is_below earlier.0 later.0 ≡ true

@@ -18,7 +18,8 @@ returns-clause-fault g c = λ status.
     (g.R.Source.may_fail c.args.input) (g.R.Source.octets c.args.input)
     (g.W.Sink.may_fail c.args.output.now) (g.W.Sink.written c.args.output.now) (g.W.Sink.written c.play.new.output)
     (IsTold (g.E.Sink.may_fail c.args.errors.now) (g.E.Sink.written c.args.errors.now) (g.E.Sink.written c.stopped-in-Err-play.new.errors))
-    c.in-Ok-parse.asked.task c.in-Err-play.stop (sym c.stopped-in-Err-play.ensures.status ∙ status) c.stopped-in-Err-play.ensures.told c.in-Err-play.ensures.stops
+    c.in-Ok-parse.asked.task c.in-Err-play.stop (sym c.stopped-in-Err-play.ensures.status ∙ status)
+      c.stopped-in-Err-play.ensures.told c.in-Err-play.ensures.stops
     in
     elim ends [
       | inl early ↦ inl early
@@ -39,7 +40,8 @@ returns-clause-config g c = λ status.
     (g.R.Source.may_fail c.args.input) (g.R.Source.octets c.args.input)
     (g.W.Sink.may_fail c.args.output.now) (g.W.Sink.written c.args.output.now) (g.W.Sink.written c.play.new.output)
     (IsTold (g.E.Sink.may_fail c.args.errors.now) (g.E.Sink.written c.args.errors.now) (g.E.Sink.written c.stopped-in-Err-play.new.errors))
-    c.in-Ok-parse.asked.task c.in-Err-play.stop (sym c.stopped-in-Err-play.ensures.status ∙ status) c.stopped-in-Err-play.ensures.told c.in-Err-play.ensures.stops
+    c.in-Ok-parse.asked.task c.in-Err-play.stop (sym c.stopped-in-Err-play.ensures.status ∙ status)
+      c.stopped-in-Err-play.ensures.told c.in-Err-play.ensures.stops
     in
     (c.in-Ok-parse.asked.task, ends.0, ends.1, understood ∙ ap (λ (f : Option (List ℕ)). Some (c.in-Ok-parse.asked.task, f)) ends.2, ends.3, ends.4, ends.5)
 
@@ -52,6 +54,7 @@ returns-clause-capture g c = λ status.
     (g.R.Source.may_fail c.args.input) (g.R.Source.octets c.args.input)
     (g.W.Sink.may_fail c.args.output.now) (g.W.Sink.written c.args.output.now) (g.W.Sink.written c.play.new.output)
     (IsTold (g.E.Sink.may_fail c.args.errors.now) (g.E.Sink.written c.args.errors.now) (g.E.Sink.written c.stopped-in-Err-play.new.errors))
-    c.in-Ok-parse.asked.task c.in-Err-play.stop (sym c.stopped-in-Err-play.ensures.status ∙ status) c.stopped-in-Err-play.ensures.told c.in-Err-play.ensures.stops
+    c.in-Ok-parse.asked.task c.in-Err-play.stop (sym c.stopped-in-Err-play.ensures.status ∙ status)
+      c.stopped-in-Err-play.ensures.told c.in-Err-play.ensures.stops
     in
     (c.in-Ok-parse.asked.task, option_copied c.in-Ok-parse.asked.file, ends.0, understood, ends.1, ends.2, ends.3, ends.4)
