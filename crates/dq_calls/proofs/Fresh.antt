@@ -40,7 +40,7 @@ module _ (n s r i a b c : List ℕ) where
       (subst (λ (x : Row). is_own x ≡ true) image_is image_own) in
       subst (λ (x : Row). FitsStored [] (Some x) (Some series) image) (sym study_is)
       (subst (λ (x : Row). FitsStored [] (Some study_row) (Some x) image) (sym series_is)
-        (subst (λ (x : Row). FitsStored [] (Some study_row) (Some series_row) x) (sym image_is) whole))
+      (subst (λ (x : Row). FitsStored [] (Some study_row) (Some series_row) x) (sym image_is) whole))
 
 pub fits_entry : (row : Row) → row.kind ≡ Entry → is_own row ≡ true → Fits [] (EntryAdded row)
 unfolding row_at is_held

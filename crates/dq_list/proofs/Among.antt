@@ -1,5 +1,5 @@
 -- One of some values, where a filter keeps some.
-use Rattle.std.proofs.Common.{◌≡◌, Bool, true, false, inl, inr, List, [], ◌∷◌, ◌++◌, map, filter, refl, sym, ap, ◌∙◌, if◌then◌else◌}
+use Rattle.std.proofs.Common.{◌≡◌, Bool, true, false, inl, inr, List, [], ◌∷◌, ◌++◌, filter, refl, sym, ap, ◌∙◌, if◌then◌else◌}
 use Rattle.dq_list.specs.Among.{IsAmong}
 
 kept_from : {X : Type 0} (p : X → Bool) (x y : X) (kept ys : List X) (b : Bool) → p y ≡ b → (IsAmong x kept → IsAmong x ys × (p x ≡ true))

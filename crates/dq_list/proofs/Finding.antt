@@ -1,5 +1,5 @@
 -- What is found among what a filter keeps.
-use Rattle.std.proofs.Common.{◌≡◌, Bool, true, false, List, [], ◌∷◌, Option, Some, None, find, filter, refl, if◌then◌else◌}
+use Rattle.std.proofs.Common.{◌≡◌, Bool, true, false, List, [], ◌∷◌, Some, None, find, filter, refl, if◌then◌else◌}
 
 kept_step : {X : Type 0} (p : X → Bool) (x : X) (kept xs : List X) (a b : Bool) → p x ≡ a → (a ≡ true → b ≡ true) → find p kept ≡ find p xs
     → find p (if b then x ∷ kept else kept) ≡ (if a then Some x else find p xs)

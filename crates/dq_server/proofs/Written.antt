@@ -1,5 +1,5 @@
 -- What parts of lines add to what was written.
-use Rattle.std.proofs.Common.{◌≡◌, ℕ, suc, ◌+◌, ◌<◌, min, List, [], ◌∷◌, ◌++◌, length, get_or, take, drop, take-append-drop, drop-cons, Option, Some, None, Result, Ok, Err, OnErr, append_assoc, append-nil, refl, sym, ap, ◌∙◌, arith}
+use Rattle.std.proofs.Common.{◌≡◌, ℕ, suc, ◌+◌, ◌<◌, min, List, [], ◌∷◌, ◌++◌, length, get_or, take, drop, take-append-drop, drop-cons, Option, Some, None, Result, Ok, Err, OnErr, append_assoc, append-nil, sym, ap, ◌∙◌, arith}
 use Rattle.std.specs.Io.KnownBytes.{Keeps, Appends}
 use Rattle.std.proofs.Math.Seq.{take-append-add}
 use Rattle.std.proofs.lemmas.List.{take-append-le, take_min, take_all}

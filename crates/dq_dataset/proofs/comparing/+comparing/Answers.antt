@@ -22,6 +22,6 @@ are_same_items-loop-item-preserved t c =
     let mine = c.elements.ensures.elements in
     let its = c.elements-in-loop-item.ensures.elements in
     let same : a ≡ b = sym (as_elements-elements_of a)
-      ∙ ap as_elements (sym mine ∙ c.are_same_elements.ensures.0 c.if-not-are_same_elements.false ∙ its) ∙ as_elements-elements_of b in
+    ∙ ap as_elements (sym mine ∙ c.are_same_elements.ensures.0 c.if-not-are_same_elements.false ∙ its) ∙ as_elements-elements_of b in
     same_so_far c.args.items.now c.args.others.now c.loop-item.left.now _ c.loop-item.item-index a b (omega arith) c.item-item.is c.loop-item.invariant
     (first_and_rest c.loop-item.left.now b (omega arith) c.other-item.is) same

@@ -67,7 +67,7 @@ value_of-items_of-requires-in-Sequence-default-None t c =
 pub item_of-from_elements-requires : goal.item_of-from_elements-requires
 item_of-from_elements-requires t c =
     content_is_data_set c.args.level.syntax c.args.level.levels c.in_ok-length.length c.in_ok-length.rest.now
-      c.in_ok-elements.elements.items c.in_ok-elements.rest.now
+    c.in_ok-elements.elements.items c.in_ok-elements.rest.now
     c.requires c.in_ok-length.ensures.whole
     (item_takes c.args.octets.now c.in_ok-length.length c.in_ok-length.rest.now (λ i. omega (arith, c.type_inv.octets i))
     c.in_ok-length.ensures.value).takes.rest_fits c.in_ok-elements.ensures.value

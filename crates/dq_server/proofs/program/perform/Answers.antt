@@ -19,7 +19,7 @@ returns-clause-fault g c = λ status.
     (g.W.Sink.may_fail c.args.output.now) (g.W.Sink.written c.args.output.now) (g.W.Sink.written c.play.new.output)
     (IsTold (g.E.Sink.may_fail c.args.errors.now) (g.E.Sink.written c.args.errors.now) (g.E.Sink.written c.stopped-in-Err-play.new.errors))
     c.in-Ok-parse.asked.task c.in-Err-play.stop (sym c.stopped-in-Err-play.ensures.status ∙ status)
-      c.stopped-in-Err-play.ensures.told c.in-Err-play.ensures.stops
+    c.stopped-in-Err-play.ensures.told c.in-Err-play.ensures.stops
     in
     elim ends [
       | inl early ↦ inl early
@@ -41,7 +41,7 @@ returns-clause-config g c = λ status.
     (g.W.Sink.may_fail c.args.output.now) (g.W.Sink.written c.args.output.now) (g.W.Sink.written c.play.new.output)
     (IsTold (g.E.Sink.may_fail c.args.errors.now) (g.E.Sink.written c.args.errors.now) (g.E.Sink.written c.stopped-in-Err-play.new.errors))
     c.in-Ok-parse.asked.task c.in-Err-play.stop (sym c.stopped-in-Err-play.ensures.status ∙ status)
-      c.stopped-in-Err-play.ensures.told c.in-Err-play.ensures.stops
+    c.stopped-in-Err-play.ensures.told c.in-Err-play.ensures.stops
     in
     (c.in-Ok-parse.asked.task, ends.0, ends.1, understood ∙ ap (λ (f : Option (List ℕ)). Some (c.in-Ok-parse.asked.task, f)) ends.2, ends.3, ends.4, ends.5)
 
@@ -55,6 +55,6 @@ returns-clause-capture g c = λ status.
     (g.W.Sink.may_fail c.args.output.now) (g.W.Sink.written c.args.output.now) (g.W.Sink.written c.play.new.output)
     (IsTold (g.E.Sink.may_fail c.args.errors.now) (g.E.Sink.written c.args.errors.now) (g.E.Sink.written c.stopped-in-Err-play.new.errors))
     c.in-Ok-parse.asked.task c.in-Err-play.stop (sym c.stopped-in-Err-play.ensures.status ∙ status)
-      c.stopped-in-Err-play.ensures.told c.in-Err-play.ensures.stops
+    c.stopped-in-Err-play.ensures.told c.in-Err-play.ensures.stops
     in
     (c.in-Ok-parse.asked.task, option_copied c.in-Ok-parse.asked.file, ends.0, understood, ends.1, ends.2, ends.3, ends.4)
