@@ -14,7 +14,7 @@ ghost use Rattle.dq_core.specs.Slots.{AreHeld, Turned, Took, answer_of, count_at
 use crate::event::Reply;
 use crate::fault::Fault;
 use crate::service::{answer, answer_stranger};
-use crate::slot::{Home, Slot, Taken};
+use crate::slot::{Called, Home, Slot, Taken};
 use dq_assoc::Verdict;
 use dq_assoc::laws::{a_longer_stream_adds_inputs, an_association_after_pdus};
 use dq_config::laws::{a_name_is_of_one, a_pair_is_of_one};
@@ -133,10 +133,13 @@ fn take_piece<'a>(
     let Ok(fed) = slots[index].inbox.feed(piece) else {
         return Err(AllocError);
     };
-    let pdus = fed.pdus.into_inner();
-    let institution = owner_of(config, &slots[index], &pdus);
+    let institution = owner_of(config, &slots[index], fed.pdus.as_slice());
     let verdict = verdict_for(institution, slots);
-    let taken = slots[index].take(alloc, institution, verdict, pdus, fed.fault)?;
+    let called = Called {
+        institution,
+        verdict,
+    };
+    let taken = slots[index].take(alloc, called, fed)?;
     Ok((institution, taken))
 }
 

@@ -14,7 +14,7 @@ use dq_assoc::laws::{an_association_after_pdus, pdus_in_parts};
 use dq_assoc::{Agreement, Association, PeerLimit, State, Step, Verdict};
 use dq_config::Institution;
 use dq_list::Listed;
-use dq_pdu::{Inbox, Pdu, PduFault, Request};
+use dq_pdu::{Fed, Inbox, Pdu, Request};
 use std::alloc::{AllocError, Global};
 
 /// What an institution has of a connection whose request was accepted: its own name, and what was
@@ -33,6 +33,14 @@ pub(crate) struct Slot {
     pub inbox: Inbox,
     pub association: Association,
     pub home: Option<Home>,
+}
+
+/// Who is called on a connection: the institution that has its titles, if one has, and whether it
+/// takes the association.
+#[derive(Clone, Copy)]
+pub(crate) struct Called<'a> {
+    pub institution: Option<&'a Institution>,
+    pub verdict: Verdict,
 }
 
 /// What PDUs lead to: the acceptance of a request, and the step of what comes after it.
@@ -102,33 +110,32 @@ impl Slot {
     pub(crate) fn take(
         &mut self,
         alloc: Global,
-        institution: Option<&Institution>,
-        verdict: Verdict,
-        pdus: Vec<Pdu>,
-        fault: Option<PduFault>,
+        called: Called,
+        fed: Fed,
     ) -> Result<Taken, AllocError>
-        ensures taken { IfOk result (λ t. t ≡ taken verdict (state_of self.old.association)
-            (inputs_from self.old.association pdus.items fault)) }
+        ensures taken { IfOk result (λ t.
+            t ≡ taken called.entry.verdict (state_of self.old.association)
+            (inputs_from self.old.association fed.pdus fed.fault)) }
         ensures home { (before : List Pdu) →
-            StandsAt (option_copied institution.entry) self.old before →
+            StandsAt (option_copied called.entry.institution) self.old before →
             IfOk result (λ t. (t.step.messages ≡ [])
-            ⊎ (self.new.home ≡ home_of (option_copied institution.entry)
+            ⊎ (self.new.home ≡ home_of (option_copied called.entry.institution)
             (agreement_after (agreement_in self.old.association)
-            (inputs_from self.old.association pdus.items fault)))) }
+            (inputs_from self.old.association fed.pdus fed.fault)))) }
         ensures stands { (before : List Pdu) →
-            StandsAt (option_copied institution.entry) self.old before →
-            (option_copied institution.entry ≡ None → verdict ≡ Nowhere) →
+            StandsAt (option_copied called.entry.institution) self.old before →
+            (option_copied called.entry.institution ≡ None → called.entry.verdict ≡ Nowhere) →
             IfOk result (λ t. t.step.close ≡ false →
-            (fault ≡ None)
-            × StandsAt (option_copied institution.entry) self.new (before ++ pdus.items)) }
+            (fed.fault ≡ None)
+            × StandsAt (option_copied called.entry.institution) self.new (before ++ fed.pdus)) }
         ensures keeps { (self.new.number ≡ self.old.number) × (self.new.inbox ≡ self.old.inbox) }
     {
         an_association_after_pdus();
         match self.association.state() {
-            State::Waiting => self.begin(alloc, institution, verdict, pdus, fault),
+            State::Waiting => self.begin(alloc, called, fed),
             State::Open => Ok(Taken {
                 opening: Listed::empty(alloc),
-                step: self.association.take_all(pdus, fault)?,
+                step: self.association.take_all(fed.pdus.into_inner(), fed.fault)?,
             }),
             State::Closed => Ok(Taken {
                 opening: Listed::empty(alloc),
@@ -138,29 +145,25 @@ impl Slot {
     }
 
     /// Takes the first PDUs.
-    fn begin(
-        &mut self,
-        alloc: Global,
-        institution: Option<&Institution>,
-        verdict: Verdict,
-        mut pdus: Vec<Pdu>,
-        fault: Option<PduFault>,
-    ) -> Result<Taken, AllocError>
+    fn begin(&mut self, alloc: Global, called: Called, fed: Fed) -> Result<Taken, AllocError>
         requires { state_of self.old.association ≡ Waiting }
         ensures taken { IfOk result (λ t.
-            t ≡ taken verdict Waiting (inputs_from self.old.association pdus.items fault)) }
-        ensures home { StandsAt (option_copied institution.entry) self.old [] →
+            t ≡ taken called.entry.verdict Waiting
+            (inputs_from self.old.association fed.pdus fed.fault)) }
+        ensures home { StandsAt (option_copied called.entry.institution) self.old [] →
             IfOk result (λ t. (t.step.messages ≡ [])
-            ⊎ (self.new.home ≡ home_of (option_copied institution.entry)
-            (agreement_after None (inputs_from self.old.association pdus.items fault)))) }
-        ensures stands { StandsAt (option_copied institution.entry) self.old [] →
-            (option_copied institution.entry ≡ None → verdict ≡ Nowhere) →
+            ⊎ (self.new.home ≡ home_of (option_copied called.entry.institution)
+            (agreement_after None (inputs_from self.old.association fed.pdus fed.fault)))) }
+        ensures stands { StandsAt (option_copied called.entry.institution) self.old [] →
+            (option_copied called.entry.institution ≡ None → called.entry.verdict ≡ Nowhere) →
             IfOk result (λ t. t.step.close ≡ false →
-            (fault ≡ None) × StandsAt (option_copied institution.entry) self.new pdus.items) }
+            (fed.fault ≡ None)
+            × StandsAt (option_copied called.entry.institution) self.new fed.pdus) }
         ensures keeps { (self.new.number ≡ self.old.number) × (self.new.inbox ≡ self.old.inbox) }
     {
+        let mut pdus = fed.pdus.into_inner();
         if pdus.is_empty() {
-            let step = match fault {
+            let step = match fed.fault {
                 None => nothing(alloc, false),
                 Some(fault) => self.association.stop(fault)?,
             };
@@ -170,7 +173,13 @@ impl Slot {
             });
         }
         match pdus.remove(0) {
-            Pdu::Request(request) => self.accept(alloc, institution, verdict, request, pdus, fault),
+            Pdu::Request(request) => {
+                let rest = Fed {
+                    pdus: Listed::from_inner(pdus),
+                    fault: fed.fault,
+                };
+                self.accept(alloc, called, request, rest)
+            }
             pdu => Ok(Taken {
                 opening: Listed::empty(alloc),
                 step: self.association.take(pdu)?,
@@ -182,36 +191,36 @@ impl Slot {
     fn accept(
         &mut self,
         alloc: Global,
-        institution: Option<&Institution>,
-        verdict: Verdict,
+        called: Called,
         request: Request,
-        pdus: Vec<Pdu>,
-        fault: Option<PduFault>,
+        rest: Fed,
     ) -> Result<Taken, AllocError>
         requires { state_of self.old.association ≡ Waiting }
-        ensures taken { IfOk result (λ t. t ≡ taken verdict Waiting
-            (inputs_from self.old.association (pdu.Request request ∷ pdus.items) fault)) }
-        ensures home { StandsAt (option_copied institution.entry) self.old [] →
+        ensures taken { IfOk result (λ t. t ≡ taken called.entry.verdict Waiting
+            (inputs_from self.old.association (pdu.Request request ∷ rest.pdus) rest.fault)) }
+        ensures home { StandsAt (option_copied called.entry.institution) self.old [] →
             IfOk result (λ t. (t.step.messages ≡ [])
-            ⊎ (self.new.home ≡ home_of (option_copied institution.entry) (agreement_after None
-            (inputs_from self.old.association (pdu.Request request ∷ pdus.items) fault)))) }
-        ensures stands { StandsAt (option_copied institution.entry) self.old [] →
-            (option_copied institution.entry ≡ None → verdict ≡ Nowhere) →
-            IfOk result (λ t. t.step.close ≡ false → (fault ≡ None)
-            × StandsAt (option_copied institution.entry) self.new
-            (pdu.Request request ∷ pdus.items)) }
+            ⊎ (self.new.home ≡ home_of (option_copied called.entry.institution)
+            (agreement_after None
+            (inputs_from self.old.association (pdu.Request request ∷ rest.pdus) rest.fault)))) }
+        ensures stands { StandsAt (option_copied called.entry.institution) self.old [] →
+            (option_copied called.entry.institution ≡ None → called.entry.verdict ≡ Nowhere) →
+            IfOk result (λ t. t.step.close ≡ false → (rest.fault ≡ None)
+            × StandsAt (option_copied called.entry.institution) self.new
+            (pdu.Request request ∷ rest.pdus)) }
         ensures keeps { (self.new.number ≡ self.old.number) × (self.new.inbox ≡ self.old.inbox) }
     {
         pdus_in_parts();
-        let answer = self.association.accept(request, verdict)?;
+        let answer = self.association.accept(request, called.verdict)?;
         if answer.close {
             return Ok(Taken {
                 opening: Listed::empty(alloc),
                 step: answer,
             });
         }
-        self.home = home_for(alloc, institution, self.association.agreement())?;
-        let step = self.association.take_all(pdus, fault)?;
+        self.home = home_for(alloc, called.institution, self.association.agreement())?;
+        let pdus = rest.pdus.into_inner();
+        let step = self.association.take_all(pdus, rest.fault)?;
         Ok(Taken {
             opening: answer.octets,
             step,

@@ -16,8 +16,7 @@ returns-clause-took c = λ number world x h e f.
     let old = c.index_mut.result.now in
     let inbox = c.feed.new.self in
     let middle = set slots index (fed_slot old inbox) in
-    let pdus = c.into_inner-pdus.result.items in
-    let fault = c.in-Ok.fed.fault in
+    let fed = c.in-Ok.fed in
     let q = option_copied c.owner_of-institution.result in
     let verdict = c.verdict_for-verdict.result in
     let at = λ (d : Slot). get_or-set_same slots index (fed_slot old inbox) d (found-within number slots index e) in
@@ -31,25 +30,25 @@ returns-clause-took c = λ number world x h e f.
     } in
     let asked : c.index.result.now ≡ fed_slot old inbox = c.index.ensures ∙ at c.index.result.now in
     let given : c.index_mut-2.result.now ≡ fed_slot old inbox = c.index_mut-2.ensures.value ∙ at c.index_mut-2.result.now in
-    let q_is : q ≡ owner_at institutions (fed_slot old inbox) pdus =
+    let q_is : q ≡ owner_at institutions (fed_slot old inbox) fed.pdus =
     c.owner_of-institution.ensures
-    ∙ ap (λ (s : Slot). owner_at institutions s c.deref.result.now) asked
-    ∙ ap (λ (list : List Pdu). owner_at institutions (fed_slot old inbox) list) c.deref.ensures.value in
+    ∙ ap (λ (s : Slot). owner_at institutions s c.as_slice.result.now) asked
+    ∙ ap (λ (list : List Pdu). owner_at institutions (fed_slot old inbox) list) c.as_slice.ensures in
     let verdict_is : verdict ≡ verdict_for q middle =
-    c.verdict_for-verdict.ensures ∙ ap (λ (ss : List Slot). verdict_for q ss) c.deref-2.ensures.value in
-    let by : TookBy q verdict pdus fault c.index_mut-2.result.now c.take.new.self c.in_ok-taken.taken = record {
+    c.verdict_for-verdict.ensures ∙ ap (λ (ss : List Slot). verdict_for q ss) c.deref.ensures.value in
+    let by : TookBy q verdict fed.pdus fed.fault c.index_mut-2.result.now c.take.new.self c.in_ok-taken.taken = record {
       taken_is = c.in_ok-taken.ensures.taken;
       at_home = c.in_ok-taken.ensures.home;
       stands = c.in_ok-taken.ensures.stands;
       number = c.take.ensures.keeps.0;
       inbox = c.take.ensures.keeps.1;
     } in
-    took institutions laws world x c.args.piece.now slots index old pdus fault inbox number c.take.new.self q verdict c.in_ok-taken.taken h e f
+    took institutions laws world x c.args.piece.now slots index old fed.pdus fed.fault inbox number c.take.new.self q verdict c.in_ok-taken.taken h e f
     c.index_mut.ensures.value
     (λ held. record {
-      list = rw c.into_inner-pdus.ensures (c.in-Ok.ensures.pdus x.stream held.inbox).0;
+      list = (c.in-Ok.ensures.pdus x.stream held.inbox).0;
       fault_is = (c.in-Ok.ensures.pdus x.stream held.inbox).1;
       stands = c.in-Ok.ensures.stands x.stream held.inbox;
     })
     q_is verdict_is
-    (subst (λ (s : Slot). TookBy q verdict pdus fault s c.take.new.self c.in_ok-taken.taken) given by)
+    (subst (λ (s : Slot). TookBy q verdict fed.pdus fed.fault s c.take.new.self c.in_ok-taken.taken) given by)
