@@ -1,5 +1,5 @@
 -- The answers that some data sets give to keys.
-use Rattle.std.proofs.Common.{◌≡◌, Bool, true, false, inl, inr, List, [], ◌∷◌, map, Option, Some, None, refl, ap, ◌∙◌, if◌then◌else◌}
+use Rattle.std.proofs.Common.{◌≡◌, Bool, true, false, inl, inr, List, [], ◌∷◌, map, filter, Option, Some, None, refl, ap, ◌∙◌, if◌then◌else◌}
 use Rattle.std.specs.List.{filter_map, cons_option}
 use Rattle.dq_list.specs.Among.{IsAmong}
 use Rattle.dq_dataset.specs.Tree.{ElementList}
@@ -36,6 +36,17 @@ module _ {X Y : Type 0} (f : X → Option Y) (y : Y) where
 pub given_of_each : {X Y Z : Type 0} (f : Y → Option Z) (g : X → Y) (xs : List X) → filter_map f (map g xs) ≡ filter_map (λ (x : X). f (g x)) xs
 given_of_each f g [] = refl
 given_of_each f g (x ∷ xs) = ap (cons_option (f (g x))) (given_of_each f g xs)
+
+-- what is given where a test holds is given of those that pass it
+given_one : {X Y : Type 0} (g : X → Y) (x : X) (kept : List X) (b : Bool)
+    → cons_option (if b then Some (g x) else None) (map g kept) ≡ map g (if b then x ∷ kept else kept)
+given_one g x kept true = refl
+given_one g x kept false = refl
+
+pub given_where : {X Y : Type 0} (f : X → Option Y) (p : X → Bool) (g : X → Y) → ((x : X) → f x ≡ (if p x then Some (g x) else None)) → (xs : List X)
+    → filter_map f xs ≡ map g (filter p xs)
+given_where f p g is [] = refl
+given_where f p g is (x ∷ xs) = (λ i. cons_option (is x i) (given_where f p g is xs i)) ∙ given_one g x (filter p xs) (p x)
 
 -- ---- the answer to keys
 

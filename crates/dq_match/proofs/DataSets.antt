@@ -6,7 +6,7 @@ use Rattle.dq_vr.specs.Tag.{is_below}
 use Rattle.dq_dataset.specs.Tree.{ElementList, no_elements, element, sequence, ItemList, no_items, item}
 use Rattle.dq_dataset.specs.Reading.{follows}
 use Rattle.dq_dataset.specs.Facts.{IsElementTag, AreElements, AreItems}
-use Rattle.dq_match.specs.declared.supported.Level.{Level}
+use Rattle.dq_match.specs.declared.supported.KeyScope.{KeyScope}
 use Rattle.dq_match.specs.Supported.{is_supported, below, supported_part, supported_items}
 
 is_below-trans : (a b c : Tag) → is_below a b ≡ true → is_below b c ≡ true → is_below a c ≡ true
@@ -41,19 +41,19 @@ elements_by true levels last whole rest h k = h
 elements_by false levels last whole rest h k = k
 
 mutual
-  pub part_facts : (level : Level) (levels : ℕ) (last : Option Tag) (d : ElementList) → AreElements levels last d
-      → AreElements levels last (supported_part level d)
-  part_facts level levels last no_elements h = tt
-  part_facts level levels last (element t v o rest) h =
-      let others = part_facts level levels (Some t) rest h.2 in
-      elements_by (is_supported level t) levels last (element t v o (supported_part level rest)) (supported_part level rest)
-      (h.0, h.1, others) (after_earlier levels last t (supported_part level rest) h.0.rises others)
-  part_facts level levels last (sequence t v items rest) h =
-      let others = part_facts level levels (Some t) rest h.4 in
-      elements_by (is_supported level t) levels last (sequence t v (supported_items (below level t) items) (supported_part level rest))
-      (supported_part level rest)
-      (h.0, h.1, h.2, items_facts (below level t) (levels - 1) items h.3, others) (after_earlier levels last t (supported_part level rest) h.0.rises others)
+  pub part_facts : (scope : KeyScope) (levels : ℕ) (last : Option Tag) (d : ElementList) → AreElements levels last d
+      → AreElements levels last (supported_part scope d)
+  part_facts scope levels last no_elements h = tt
+  part_facts scope levels last (element t v o rest) h =
+      let others = part_facts scope levels (Some t) rest h.2 in
+      elements_by (is_supported scope t) levels last (element t v o (supported_part scope rest)) (supported_part scope rest)
+      (h.0, h.1, others) (after_earlier levels last t (supported_part scope rest) h.0.rises others)
+  part_facts scope levels last (sequence t v items rest) h =
+      let others = part_facts scope levels (Some t) rest h.4 in
+      elements_by (is_supported scope t) levels last (sequence t v (supported_items (below scope t) items) (supported_part scope rest))
+      (supported_part scope rest)
+      (h.0, h.1, h.2, items_facts (below scope t) (levels - 1) items h.3, others) (after_earlier levels last t (supported_part scope rest) h.0.rises others)
 
-  pub items_facts : (level : Level) (levels : ℕ) (items : ItemList) → AreItems levels items → AreItems levels (supported_items level items)
-  items_facts level levels no_items h = tt
-  items_facts level levels (item d rest) h = (part_facts level levels None d h.0, items_facts level levels rest h.1)
+  pub items_facts : (scope : KeyScope) (levels : ℕ) (items : ItemList) → AreItems levels items → AreItems levels (supported_items scope items)
+  items_facts scope levels no_items h = tt
+  items_facts scope levels (item d rest) h = (part_facts scope levels None d h.0, items_facts scope levels rest h.1)

@@ -8,8 +8,8 @@ use Rattle.dq_vr.specs.Tags as tags
 use Rattle.dq_dataset.specs.Tree.{ElementList, no_elements, element, sequence, ItemList, no_items, item}
 use Rattle.dq_match.specs.declared.supported.KeyList.{KeyList}
 use Rattle.dq_match.specs.declared.supported.KeyList.TheVariants.{Study, Series, Image, Entry}
-use Rattle.dq_match.specs.declared.supported.Level.{Level}
-use Rattle.dq_match.specs.declared.supported.Level.TheVariants.{Identifier, Step, Code, Reference, Other}
+use Rattle.dq_match.specs.declared.supported.KeyScope.{KeyScope}
+use Rattle.dq_match.specs.declared.supported.KeyScope.TheVariants.{Identifier, Step, Code, Reference, Other}
 use Rattle.dq_match.specs.Keys.{is_tag, other_than_keys}
 use Rattle.dq_match.specs.Identifiers.{HasKnownTags, HaveKnownTags}
 use Rattle.dq_match.specs.Supported.{keys_of, leaves, is_among, is_supported, below, supported_part, supported_items, step_keys, code_keys, reference_keys}
@@ -72,7 +72,7 @@ left_known Entry tag h =
     among_known tag other_than_keys others_known
     (ap (λ (b : Bool). b || is_among tag (tags.query_retrieve_level ∷ tags.retrieve_ae_title ∷ tags.instance_availability ∷ [])) h)
 
-supported_known : (level : Level) (tag : Tag) → is_supported level tag ≡ true → is_some (known_vr tag) ≡ true
+supported_known : (scope : KeyScope) (tag : Tag) → is_supported scope tag ≡ true → is_some (known_vr tag) ≡ true
 unfolding is_supported
 supported_known (Identifier list) tag h =
     elim (either (is_among tag (keys_of list)) (leaves list tag) h) [
@@ -90,16 +90,16 @@ known_by true tag whole rest known h k = h (known refl)
 known_by false tag whole rest known h k = k
 
 mutual
-  pub part_known : (level : Level) (d : ElementList) → HasKnownTags (supported_part level d)
-  part_known level no_elements = tt
-  part_known level (element t v o rest) =
-      known_by (is_supported level t) t (element t v o (supported_part level rest)) (supported_part level rest) (supported_known level t)
-      (λ h. (h, part_known level rest)) (part_known level rest)
-  part_known level (sequence t v items rest) =
-      known_by (is_supported level t) t (sequence t v (supported_items (below level t) items) (supported_part level rest)) (supported_part level rest)
-      (supported_known level t)
-      (λ h. (h, items_known (below level t) items, part_known level rest)) (part_known level rest)
+  pub part_known : (scope : KeyScope) (d : ElementList) → HasKnownTags (supported_part scope d)
+  part_known scope no_elements = tt
+  part_known scope (element t v o rest) =
+      known_by (is_supported scope t) t (element t v o (supported_part scope rest)) (supported_part scope rest) (supported_known scope t)
+      (λ h. (h, part_known scope rest)) (part_known scope rest)
+  part_known scope (sequence t v items rest) =
+      known_by (is_supported scope t) t (sequence t v (supported_items (below scope t) items) (supported_part scope rest)) (supported_part scope rest)
+      (supported_known scope t)
+      (λ h. (h, items_known (below scope t) items, part_known scope rest)) (part_known scope rest)
 
-  items_known : (level : Level) (items : ItemList) → HaveKnownTags (supported_items level items)
-  items_known level no_items = tt
-  items_known level (item d rest) = (part_known level d, items_known level rest)
+  items_known : (scope : KeyScope) (items : ItemList) → HaveKnownTags (supported_items scope items)
+  items_known scope no_items = tt
+  items_known scope (item d rest) = (part_known scope d, items_known scope rest)

@@ -1,4 +1,5 @@
 mod DataSets
+mod Fitting
 mod Itself
 mod KnownKeys
 mod Counted

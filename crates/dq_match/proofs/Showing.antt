@@ -13,12 +13,13 @@ use Rattle.dq_dataset.specs.declared.data_set.Value.TheVariants.{Octets, Items}
 use Rattle.dq_dataset.specs.Tree.{ElementList, no_elements, element, sequence, ItemList, no_items, item}
 use Rattle.dq_dataset.specs.View.{as_elements, elements_of, items_of, list_of, with_value}
 use Rattle.dq_dataset.specs.Facts.{IsElementTag, IsPlain, IsSequence, AreElements, AreItems, IsDataSet}
+use Rattle.dq_dataset.specs.Values.{element_at, octets_in}
 use Rattle.dq_dataset.proofs.Views.{elements_of-with_value, items_of-list_of}
 use Rattle.dq_match.specs.declared.keys.Place.{Place}
 use Rattle.dq_match.specs.declared.keys.Place.TheVariants.{Outer, Inner}
 use Rattle.dq_list.specs.Lengths.{is_empty}
 use Rattle.dq_value.specs.Parts.{parts}
-use Rattle.dq_match.specs.Keys.{element_at, octets_in, is_tag, is_key}
+use Rattle.dq_match.specs.Keys.{is_tag, is_key}
 use Rattle.dq_match.specs.Identifiers.{HasKnownTags}
 use Rattle.dq_match.specs.Matching.{all_met}
 use Rattle.dq_match.specs.Responses.{put, or_empty, has_no_elements, cut_value, with_cut, shown_keys, shown_items, cut_keys, cut_by, shown_element, unless_empty, character_set, put_first}

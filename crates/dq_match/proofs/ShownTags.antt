@@ -7,16 +7,16 @@ use Rattle.dq_dataset.specs.declared.data_set.Value.{Value}
 use Rattle.dq_dataset.specs.declared.data_set.Value.TheVariants.{Octets, Items}
 use Rattle.dq_dataset.specs.Tree.{ElementList, no_elements, element, sequence}
 use Rattle.dq_dataset.specs.View.{elements_of, has_tag, with_value}
+use Rattle.dq_dataset.specs.Values.{element_at, octets_in}
 use Rattle.dq_vr.specs.Tags.{specific_character_set}
 use Rattle.dq_match.specs.declared.keys.Place.{Place}
 use Rattle.dq_match.specs.declared.keys.Place.TheVariants.{Outer}
-use Rattle.dq_match.specs.Keys.{element_at, is_tag, is_key}
+use Rattle.dq_match.specs.Keys.{is_tag, is_key}
 use Rattle.dq_match.specs.Responses.{put, or_empty, with_cut, shown_keys, shown_items, unless_empty, character_set, put_first, shown}
 use Rattle.dq_match.specs.ShownTags.{tags_of, set_tags}
 use Rattle.dq_match.proofs.KnownKeys.{same_tag}
 use Rattle.dq_value.specs.Parts.{parts}
 use Rattle.dq_list.specs.Lengths.{is_empty}
-use Rattle.dq_match.specs.Keys.{octets_in}
 
 abbrev HasTag : Tag → Option Element → Type 0
 HasTag tag None = Unit {0}

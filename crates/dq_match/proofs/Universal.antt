@@ -11,15 +11,17 @@ use Rattle.dq_value.specs.Trimming.{trimmed, unpadded, without_leading, without_
 use Rattle.dq_value.specs.Parts.{parts, pieces_of, sole}
 use Rattle.dq_value.specs.Range.{ends, ends_of_halves, halves, behind}
 use Rattle.dq_dataset.specs.declared.data_set.Element.{Element}
+use Rattle.dq_dataset.specs.declared.data_set.Value.{Value}
 use Rattle.dq_dataset.specs.declared.data_set.Value.TheVariants.{Octets, Items}
 use Rattle.dq_dataset.specs.Tree.{ElementList, no_elements, element, sequence, ItemList, no_items, item}
 use Rattle.dq_dataset.specs.View.{list_of}
+use Rattle.dq_dataset.specs.Values.{element_at, value_octets, octets_in, values_of, values_in, sole_at}
 use Rattle.dq_match.specs.declared.keys.Place.{Place}
 use Rattle.dq_match.specs.declared.keys.Place.TheVariants.{Inner}
 use Rattle.dq_match.specs.Wildcards.{any_run}
 use Rattle.dq_match.specs.Ranges.{Bounds, range_bounds}
 use Rattle.dq_match.specs.Values.{is_asterisk, is_universal, is_same, octets_meet, some_meet, matching_of}
-use Rattle.dq_match.specs.Keys.{element_at, octets_in, items_in, value_octets, values_in, is_tag}
+use Rattle.dq_match.specs.Keys.{items_in, is_tag}
 use Rattle.dq_match.specs.Matching.{asked_days, period, is_passed, with_period, each_met, items_meet, all_met}
 use Rattle.dq_match.specs.Universal.{all_universal, are_universal}
 use Rattle.dq_match.proofs.KnownKeys.{both}
@@ -102,13 +104,19 @@ found_universal tag (sequence t v items rest) h =
     found_by (is_tag t tag) (record { tag = t; vr = v; value = Items (list_of items) }) (element_at tag rest) (nothing_universal v)
     (found_universal tag rest (both (are_universal items) (all_universal rest) h).1)
 
-not_asked : {A : Type 0} (read : List ℕ → Option A) (found : Option Element) → IsUniversal found → range_of_sole read (values_in found) ≡ None
+not_asked_by : {A : Type 0} (read : List ℕ → Option A) (vr : Vr) (value : Value) → is_universal vr (value_octets value) ≡ true
+    → range_of_sole read (values_of vr value) ≡ None
 unfolding range_of_sole is_universal
+not_asked_by read vr (Octets octets) h = sole_no_range read (is_padded vr) (parts vr octets) h
+not_asked_by read vr (Items items) h = refl
+
+not_asked : {A : Type 0} (read : List ℕ → Option A) (found : Option Element) → IsUniversal found → range_of_sole read (values_in found) ≡ None
+unfolding range_of_sole
 not_asked read None h = refl
-not_asked read (Some e) h = sole_no_range read (is_padded e.vr) (parts e.vr (value_octets e.value)) h
+not_asked read (Some e) h = not_asked_by read e.vr e.value h
 
 no_days : (keys : ElementList) → all_universal keys ≡ true → asked_days keys ≡ None
-unfolding asked_days range_of_sole
+unfolding asked_days sole_at range_of_sole
 no_days keys h = not_asked day (element_at _ keys) (found_universal _ keys h)
 
 no_period : (keys held : ElementList) → all_universal keys ≡ true → period keys held ≡ None

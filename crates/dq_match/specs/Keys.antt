@@ -1,37 +1,19 @@
 -- The elements of an identifier and of a record, by tag.
-use Rattle.std.specs.Prelude.{ℕ, Bool, true, not, List, [], ◌∷◌, Option, Some, None, find, ◌==◌, ◌&&◌}
+use Rattle.std.specs.Prelude.{Bool, true, not, List, [], ◌∷◌, Option, Some, None, ◌==◌, ◌&&◌}
 use Rattle.std.specs.List.{list_any}
 use Rattle.dq_vr.specs.declared.Tag.{Tag}
 use Rattle.dq_vr.specs.Tags.{specific_character_set, query_retrieve_level, retrieve_ae_title, instance_availability}
-use Rattle.dq_value.specs.Parts.{parts}
 use Rattle.dq_dataset.specs.Tree.{ElementList}
-use Rattle.dq_dataset.specs.View.{elements_of, has_tag}
 use Rattle.dq_dataset.specs.declared.data_set.Element.{Element}
 use Rattle.dq_dataset.specs.declared.data_set.Value.{Value}
 use Rattle.dq_dataset.specs.declared.data_set.Value.TheVariants.{Octets, Items}
 use Rattle.dq_match.specs.declared.keys.Place.{Place}
 use Rattle.dq_match.specs.declared.keys.Place.TheVariants.{Outer, Inner}
 
-abbrev pub element_at : Tag → ElementList → Option Element
-element_at tag d = find (has_tag tag) (elements_of d)
-
--- an element that is absent has neither octets nor items
-abbrev pub value_octets : Value → List ℕ
-value_octets (Octets octets) = octets
-value_octets (Items items) = []
-
+-- an element that is absent, and one that is no sequence, have no items
 abbrev pub value_items : Value → List ElementList
 value_items (Octets octets) = []
 value_items (Items items) = items
-
-abbrev pub octets_in : Option Element → List ℕ
-octets_in None = []
-octets_in (Some e) = value_octets e.value
-
--- its values, each trimmed
-abbrev pub values_in : Option Element → List (List ℕ)
-values_in None = []
-values_in (Some e) = parts e.vr (value_octets e.value)
 
 abbrev pub items_in : Option Element → List ElementList
 items_in None = []

@@ -5,6 +5,7 @@ pub mod DateBounds
 pub mod Values
 pub mod Keys
 pub mod Matching
+pub mod Fitting
 pub mod Identifiers
 pub mod Supported
 pub mod Responses

@@ -1,5 +1,5 @@
 -- Whether a record meets the keys of an identifier (PS3.4 section C.2.2.2).
-use Rattle.std.specs.Prelude.{ℕ, ℤ, Bool, true, false, not, List, Option, Some, None, ◌||◌, ◌&&◌}
+use Rattle.std.specs.Prelude.{ℤ, Bool, true, false, not, List, Option, Some, None, ◌||◌, ◌&&◌}
 use Rattle.std.specs.List.{list_any}
 use Rattle.dq_list.specs.Lengths.{is_empty}
 use Rattle.dq_vr.specs.declared.Tag.{Tag}
@@ -7,19 +7,15 @@ use Rattle.dq_vr.specs.Tags.{scheduled_procedure_step_start_date, scheduled_proc
 use Rattle.dq_value.specs.Digits.{◌>>=◌}
 use Rattle.dq_value.specs.Day.{day}
 use Rattle.dq_value.specs.Time.{Span, span}
-use Rattle.dq_value.specs.Parts.{sole}
 use Rattle.dq_dataset.specs.Tree.{ElementList, no_elements, element, sequence, ItemList, no_items, item}
 use Rattle.dq_dataset.specs.View.{with_value}
+use Rattle.dq_dataset.specs.Values.{element_at, octets_in, sole_at}
 use Rattle.dq_dataset.specs.declared.data_set.Element.{Element}
 use Rattle.dq_match.specs.declared.keys.Place.{Place}
 use Rattle.dq_match.specs.declared.keys.Place.TheVariants.{Outer, Inner}
 use Rattle.dq_match.specs.Values.{octets_meet}
 use Rattle.dq_match.specs.Ranges.{Bounds, range_bounds, is_within}
-use Rattle.dq_match.specs.Keys.{element_at, octets_in, values_in, items_in, is_tag, is_key}
-
--- the only value of an element
-abbrev pub sole_at : Tag → ElementList → Option (List ℕ)
-sole_at tag d = sole (values_in (element_at tag d))
+use Rattle.dq_match.specs.Keys.{items_in, is_tag, is_key}
 
 -- the ranges that ask for the start of a procedure step
 unfoldable pub asked_days : ElementList → Option (Bounds ℤ)

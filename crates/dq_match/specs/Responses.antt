@@ -7,12 +7,13 @@ use Rattle.dq_vr.specs.Tags.{specific_character_set}
 use Rattle.dq_value.specs.Parts.{parts}
 use Rattle.dq_dataset.specs.Tree.{ElementList, no_elements, element, sequence, ItemList, no_items, item}
 use Rattle.dq_dataset.specs.View.{with_value}
+use Rattle.dq_dataset.specs.Values.{element_at, octets_in}
 use Rattle.dq_dataset.specs.declared.data_set.Element.{Element}
 use Rattle.dq_dataset.specs.declared.data_set.Value.{Value}
 use Rattle.dq_dataset.specs.declared.data_set.Value.TheVariants.{Octets, Items}
 use Rattle.dq_match.specs.declared.keys.Place.{Place}
 use Rattle.dq_match.specs.declared.keys.Place.TheVariants.{Outer, Inner}
-use Rattle.dq_match.specs.Keys.{element_at, octets_in, is_key}
+use Rattle.dq_match.specs.Keys.{is_key}
 use Rattle.dq_match.specs.Matching.{all_met}
 
 -- an element before others

@@ -9,8 +9,8 @@ use Rattle.dq_dataset.specs.declared.data_set.Value.{Value}
 use Rattle.dq_dataset.specs.declared.data_set.Value.TheVariants.{Octets, Items}
 use Rattle.dq_match.specs.declared.supported.KeyList.{KeyList}
 use Rattle.dq_match.specs.declared.supported.KeyList.TheVariants.{Study, Series, Image, Entry}
-use Rattle.dq_match.specs.declared.supported.Level.{Level}
-use Rattle.dq_match.specs.declared.supported.Level.TheVariants.{Identifier, Step, Code, Reference, Other}
+use Rattle.dq_match.specs.declared.supported.KeyScope.{KeyScope}
+use Rattle.dq_match.specs.declared.supported.KeyScope.TheVariants.{Identifier, Step, Code, Reference, Other}
 use Rattle.dq_match.specs.Keys.{is_tag, other_than_keys}
 
 abbrev pub is_among : Tag → List Tag → Bool
@@ -82,7 +82,7 @@ leaves Series tag = is_among tag other_than_keys
 leaves Image tag = is_among tag other_than_keys
 leaves Entry tag = is_tag tags.specific_character_set tag
 
-unfoldable pub is_supported : Level → Tag → Bool
+unfoldable pub is_supported : KeyScope → Tag → Bool
 is_supported (Identifier list) tag = is_among tag (keys_of list) || leaves list tag
 is_supported Step tag = is_among tag step_keys
 is_supported Code tag = is_among tag code_keys
@@ -93,17 +93,17 @@ abbrev pub is_reference : Tag → Bool
 is_reference tag =
     is_tag tags.referenced_study_sequence tag || is_tag tags.referenced_patient_sequence tag
 
--- the level of a sequence's items
-abbrev pub below_entry : Tag → Level
+-- the scope of a sequence's items
+abbrev pub below_entry : Tag → KeyScope
 below_entry tag =
     if is_tag tags.scheduled_procedure_step_sequence tag then Step
     else (if is_tag tags.requested_procedure_code_sequence tag then Code
     else (if is_reference tag then Reference else Other))
 
-abbrev pub below_step : Tag → Level
+abbrev pub below_step : Tag → KeyScope
 below_step tag = if is_tag tags.scheduled_protocol_code_sequence tag then Code else Other
 
-unfoldable pub below : Level → Tag → Level
+unfoldable pub below : KeyScope → Tag → KeyScope
 below (Identifier Entry) tag = below_entry tag
 below (Identifier Study) tag = Other
 below (Identifier Series) tag = Other
@@ -115,39 +115,39 @@ below Other tag = Other
 
 -- an identifier without the elements that are not supported, inside items too
 abbrev mutual
-  pub supported_part : Level → ElementList → ElementList
-  supported_part level no_elements = no_elements
-  supported_part level (element tag vr octets rest) =
-      if is_supported level tag then element tag vr octets (supported_part level rest)
-      else supported_part level rest
-  supported_part level (sequence tag vr items rest) =
-      if is_supported level tag
-      then sequence tag vr (supported_items (below level tag) items) (supported_part level rest)
-      else supported_part level rest
+  pub supported_part : KeyScope → ElementList → ElementList
+  supported_part scope no_elements = no_elements
+  supported_part scope (element tag vr octets rest) =
+      if is_supported scope tag then element tag vr octets (supported_part scope rest)
+      else supported_part scope rest
+  supported_part scope (sequence tag vr items rest) =
+      if is_supported scope tag
+      then sequence tag vr (supported_items (below scope tag) items) (supported_part scope rest)
+      else supported_part scope rest
 
-  pub supported_items : Level → ItemList → ItemList
-  supported_items level no_items = no_items
-  supported_items level (item d rest) = item (supported_part level d) (supported_items level rest)
+  pub supported_items : KeyScope → ItemList → ItemList
+  supported_items scope no_items = no_items
+  supported_items scope (item d rest) = item (supported_part scope d) (supported_items scope rest)
 
 -- some element is not supported
 abbrev mutual
-  pub has_unsupported : Level → ElementList → Bool
-  has_unsupported level no_elements = false
-  has_unsupported level (element tag vr octets rest) =
-      not (is_supported level tag) || has_unsupported level rest
-  has_unsupported level (sequence tag vr items rest) =
-      (not (is_supported level tag) || have_unsupported (below level tag) items)
-      || has_unsupported level rest
+  pub has_unsupported : KeyScope → ElementList → Bool
+  has_unsupported scope no_elements = false
+  has_unsupported scope (element tag vr octets rest) =
+      not (is_supported scope tag) || has_unsupported scope rest
+  has_unsupported scope (sequence tag vr items rest) =
+      (not (is_supported scope tag) || have_unsupported (below scope tag) items)
+      || has_unsupported scope rest
 
-  pub have_unsupported : Level → ItemList → Bool
-  have_unsupported level no_items = false
-  have_unsupported level (item d rest) = has_unsupported level d || have_unsupported level rest
+  pub have_unsupported : KeyScope → ItemList → Bool
+  have_unsupported scope no_items = false
+  have_unsupported scope (item d rest) = has_unsupported scope d || have_unsupported scope rest
 
 -- the same of the value of one element
-abbrev pub supported_value : Level → Value → Value
-supported_value level (Octets octets) = Octets octets
-supported_value level (Items items) = Items (list_of (supported_items level (items_of items)))
+abbrev pub supported_value : KeyScope → Value → Value
+supported_value scope (Octets octets) = Octets octets
+supported_value scope (Items items) = Items (list_of (supported_items scope (items_of items)))
 
-abbrev pub value_has_unsupported : Level → Value → Bool
-value_has_unsupported level (Octets octets) = false
-value_has_unsupported level (Items items) = have_unsupported level (items_of items)
+abbrev pub value_has_unsupported : KeyScope → Value → Bool
+value_has_unsupported scope (Octets octets) = false
+value_has_unsupported scope (Items items) = have_unsupported scope (items_of items)

@@ -2,8 +2,9 @@
 ghost use Rattle.std.specs.Prelude.{◌≡◌, find};
 ghost use Rattle.std.specs.Option.{option_copied};
 ghost use Rattle.std.specs.List.{list_any};
-ghost use Rattle.dq_match.specs.Keys.{octets_in, items_in, is_tag, is_key, other_than_keys};
+ghost use Rattle.dq_match.specs.Keys.{items_in, is_tag, is_key, other_than_keys};
 ghost use Rattle.dq_dataset.specs.View.{has_tag};
+ghost use Rattle.dq_dataset.specs.Values.{octets_in};
 
 use dq_dataset::{DataSet, Element, Value};
 use dq_vr::{Tag, tags};

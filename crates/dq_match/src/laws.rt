@@ -1,10 +1,10 @@
 //! Laws of the definitions, which the contracts of functions with no body name.
 ghost use Rattle.std.specs.Prelude.{◌≡◌, ◌↔◌, ◌⊎◌, ◌≤◌, ◌≤ℤ◌, ◌<ℤ◌, true, false, ◌&&◌, ℕ, ℤ, List, [], ◌∷◌, ◌++◌, Some, None, map, filter};
 ghost use Rattle.dq_vr.specs.declared.Vr.{Vr};
-ghost use Rattle.dq_dataset.specs.Tree.{ElementList};
+ghost use Rattle.dq_dataset.specs.Tree.{ElementList, ItemList, item};
 ghost use Rattle.dq_match.specs.declared.keys.Place.{Place};
 ghost use Rattle.dq_match.specs.declared.keys.Place.TheVariants.{Outer};
-ghost use Rattle.dq_match.specs.declared.supported.Level.{Level};
+ghost use Rattle.dq_match.specs.declared.supported.KeyScope.{KeyScope};
 ghost use Rattle.dq_match.specs.declared.wildcards.Casing.{Casing};
 ghost use Rattle.dq_match.specs.Wildcards.{Fits, wild};
 ghost use Rattle.std.specs.Char.{to_ascii_lowercase};
@@ -15,7 +15,8 @@ ghost use Rattle.dq_match.specs.declared.values.Matching.TheVariants.{Name, Wild
 ghost use Rattle.dq_match.specs.Ranges.{Bounds, has_day, has_time, date_meets, time_meets, is_from, is_until};
 ghost use Rattle.dq_match.specs.Values.{is_name_pad, name_of, value_meets, is_universal, octets_meet};
 ghost use Rattle.dq_match.specs.Keys.{is_key};
-ghost use Rattle.dq_match.specs.Matching.{all_met};
+ghost use Rattle.dq_match.specs.Matching.{items_meet, all_met};
+ghost use Rattle.dq_match.specs.Fitting.{EachIsMet, PeriodIsMet, SomeItemFits};
 ghost use Rattle.dq_match.specs.Universal.{all_universal};
 ghost use Rattle.dq_match.specs.Supported.{supported_part, has_unsupported};
 ghost use Rattle.dq_match.specs.Responses.{character_set, shown};
@@ -26,6 +27,17 @@ ghost use Rattle.dq_match.specs.ShownTags.{tags_of, set_tags};
 pub fn wild_cards_fit()
     ensures { (casing : Casing) (pattern text : List ℕ)
         → (wild casing pattern text ≡ true) ↔ Fits casing pattern text }
+{}
+
+/// A record, or an item of one, fits keys where each key that stands alone is met by the element
+/// with its tag, and the period, if there is one, is met too (PS3.4 section C.2.2.2 and table
+/// K.6-1). A sequence key is met where one item fits the keys of its item, and where there are no
+/// items (PS3.4 section C.2.2.2.6).
+pub fn keys_are_met_alone_and_as_a_period()
+    ensures each { (place : Place) (keys held : ElementList)
+        → (all_met place keys held ≡ true) ↔ (EachIsMet place keys held × PeriodIsMet keys held) }
+    ensures items { (keys : ElementList) (others : ItemList) (items : List ElementList)
+        → (items_meet (item keys others) items ≡ true) ↔ SomeItemFits keys items }
 {}
 
 /// A value is met by itself, whatever its kind (PS3.4 section C.2.2.2.1). Of dates
@@ -92,11 +104,11 @@ pub fn names_are_met_in_any_case()
 /// where it is left as it was.
 #[tactic(auto, using(crate::proofs::Struck::nothing_left, crate::proofs::Struck::nothing_struck))]
 pub fn striking_again_strikes_nothing()
-    ensures again { (level : Level) (identifier : ElementList)
-        → has_unsupported level (supported_part level identifier) ≡ false }
-    ensures nothing { (level : Level) (identifier : ElementList)
-        → (has_unsupported level identifier ≡ false)
-        ↔ (supported_part level identifier ≡ identifier) }
+    ensures again { (scope : KeyScope) (identifier : ElementList)
+        → has_unsupported scope (supported_part scope identifier) ≡ false }
+    ensures nothing { (scope : KeyScope) (identifier : ElementList)
+        → (has_unsupported scope identifier ≡ false)
+        ↔ (supported_part scope identifier ≡ identifier) }
 {}
 
 /// What is shown of a record has the tags of the keys, after that of the character set where the

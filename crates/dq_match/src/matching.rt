@@ -5,52 +5,44 @@ ghost use Rattle.std.specs.List.{list_any};
 ghost use Rattle.jiff.specs.Words.{epoch_day};
 ghost use Rattle.dq_dataset.specs.View.{as_elements, items_of};
 ghost use Rattle.dq_match.specs.DateBounds.{days_of};
-ghost use Rattle.dq_match.specs.Matching.{sole_at, asked_days, asked_times, start_day, start_time, period, is_start, is_passed, each_met, items_meet, all_met, fits, meets};
+ghost use Rattle.dq_match.specs.Matching.{asked_days, asked_times, start_day, start_time, period, is_start, is_passed, each_met, items_meet, all_met, fits, meets};
 ghost use Rattle.dq_match.specs.declared.keys.Place.TheVariants.{Inner};
 
 use crate::keys::{Place, items_in, octets_in};
 use crate::ranges::{Bounds, Span, date_range, is_within, time_range};
 use crate::values::octets_meet;
 use dq_dataset::{DataSet, Element, Value};
-use dq_value::{date_of, sole_value, time_of};
+use dq_value::{date_of, time_of};
 use dq_vr::Tag;
 use dq_vr::tags::{SCHEDULED_PROCEDURE_STEP_START_DATE, SCHEDULED_PROCEDURE_STEP_START_TIME};
 use jiff::civil::Date;
-
-/// The only value of the element with the tag.
-fn sole_at(tag: Tag, data_set: &DataSet) -> Option<&[u8]>
-    ensures { option_copied result ≡ sole_at tag data_set.now }
-{
-    let element = data_set.get(tag)?;
-    sole_value(element.vr, octets_in(Some(element)))
-}
 
 #[tactic(auto, unfolding(crate::specs::Matching::asked_days))]
 fn asked_days(keys: &DataSet) -> Option<Bounds<Date>>
     ensures { option_map days_of result ≡ asked_days keys.now }
 {
-    date_range(sole_at(SCHEDULED_PROCEDURE_STEP_START_DATE, keys)?)
+    date_range(keys.sole_value(SCHEDULED_PROCEDURE_STEP_START_DATE)?)
 }
 
 #[tactic(auto, unfolding(crate::specs::Matching::asked_times))]
 fn asked_times(keys: &DataSet) -> Option<Bounds<Span>>
     ensures { result ≡ asked_times keys.now }
 {
-    time_range(sole_at(SCHEDULED_PROCEDURE_STEP_START_TIME, keys)?)
+    time_range(keys.sole_value(SCHEDULED_PROCEDURE_STEP_START_TIME)?)
 }
 
 #[tactic(auto, unfolding(crate::specs::Matching::start_day))]
 fn start_day(held: &DataSet) -> Option<Date>
     ensures { option_map epoch_day result ≡ start_day held.now }
 {
-    date_of(sole_at(SCHEDULED_PROCEDURE_STEP_START_DATE, held)?)
+    date_of(held.sole_value(SCHEDULED_PROCEDURE_STEP_START_DATE)?)
 }
 
 #[tactic(auto, unfolding(crate::specs::Matching::start_time))]
 fn start_time(held: &DataSet) -> Option<Span>
     ensures { result ≡ start_time held.now }
 {
-    time_of(sole_at(SCHEDULED_PROCEDURE_STEP_START_TIME, held)?)
+    time_of(held.sole_value(SCHEDULED_PROCEDURE_STEP_START_TIME)?)
 }
 
 /// Whether the start of the record's procedure step is in the period that the keys ask for, where

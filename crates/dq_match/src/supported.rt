@@ -4,7 +4,7 @@ ghost use Rattle.std.specs.Prelude.{◌≡◌, IfOk};
 ghost use Rattle.dq_dataset.specs.View.{as_elements, elements_of, items_of, list_of};
 ghost use Rattle.dq_match.specs.Identifiers.{HasKnownTags};
 ghost use Rattle.dq_match.specs.Supported.{keys_of, leaves, is_among, is_supported, below, below_entry, below_step, supported_part, supported_items, supported_value, has_unsupported, have_unsupported, value_has_unsupported};
-ghost use Rattle.dq_match.specs.declared.supported.Level.TheVariants.{Identifier};
+ghost use Rattle.dq_match.specs.declared.supported.KeyScope.TheVariants.{Identifier};
 
 use crate::keys::is_other_than_key;
 use dq_dataset::{DataSet, Element, Value};
@@ -24,7 +24,7 @@ pub enum KeyList {
 
 /// Where keys stand: in an identifier, or in the items of one of its sequences.
 #[derive(Clone, Copy, Debug, PartialEq, Eq)]
-pub enum Level {
+pub enum KeyScope {
     Identifier(KeyList),
     /// A scheduled procedure step.
     Step,
@@ -172,79 +172,79 @@ impl KeyList {
     }
 }
 
-impl Level {
+impl KeyScope {
     #[tactic(auto, unfolding(crate::specs::Supported::is_supported))]
     fn supports(self, tag: Tag) -> bool
         ensures { result ≡ is_supported self tag }
     {
         match self {
-            Level::Identifier(list) => list.has(tag) || list.leaves(tag),
-            Level::Step => is_among(tag, &STEP_KEYS),
-            Level::Code => is_among(tag, &CODE_KEYS),
-            Level::Reference => is_among(tag, &REFERENCE_KEYS),
-            Level::Other => false,
+            KeyScope::Identifier(list) => list.has(tag) || list.leaves(tag),
+            KeyScope::Step => is_among(tag, &STEP_KEYS),
+            KeyScope::Code => is_among(tag, &CODE_KEYS),
+            KeyScope::Reference => is_among(tag, &REFERENCE_KEYS),
+            KeyScope::Other => false,
         }
     }
 
-    /// The level of the items of a sequence.
+    /// The scope of the items of a sequence.
     #[tactic(auto, unfolding(crate::specs::Supported::below))]
-    fn below(self, tag: Tag) -> Level
+    fn below(self, tag: Tag) -> KeyScope
         ensures { result ≡ below self tag }
     {
         match self {
-            Level::Identifier(KeyList::Entry) => below_entry(tag),
-            Level::Step => below_step(tag),
-            _ => Level::Other,
+            KeyScope::Identifier(KeyList::Entry) => below_entry(tag),
+            KeyScope::Step => below_step(tag),
+            _ => KeyScope::Other,
         }
     }
 }
 
-fn below_entry(tag: Tag) -> Level
+fn below_entry(tag: Tag) -> KeyScope
     ensures { result ≡ below_entry tag }
 {
     if tag == tags::SCHEDULED_PROCEDURE_STEP_SEQUENCE {
-        return Level::Step;
+        return KeyScope::Step;
     }
     if tag == tags::REQUESTED_PROCEDURE_CODE_SEQUENCE {
-        return Level::Code;
+        return KeyScope::Code;
     }
     if tag == tags::REFERENCED_STUDY_SEQUENCE || tag == tags::REFERENCED_PATIENT_SEQUENCE {
-        return Level::Reference;
+        return KeyScope::Reference;
     }
-    Level::Other
+    KeyScope::Other
 }
 
-fn below_step(tag: Tag) -> Level
+fn below_step(tag: Tag) -> KeyScope
     ensures { result ≡ below_step tag }
 {
     if tag == tags::SCHEDULED_PROTOCOL_CODE_SEQUENCE {
-        Level::Code
+        KeyScope::Code
     } else {
-        Level::Other
+        KeyScope::Other
     }
 }
 
 #[cycle(supported)]
-fn supported_part(alloc: Global, level: Level, keys: &DataSet) -> Result<DataSet, AllocError>
-    ensures { IfOk result (λ part. part ≡ supported_part level keys.now) }
+fn supported_part(alloc: Global, scope: KeyScope, keys: &DataSet) -> Result<DataSet, AllocError>
+    ensures { IfOk result (λ part. part ≡ supported_part scope keys.now) }
 {
-    let elements = supported_elements(alloc, level, keys.elements())?;
+    let elements = supported_elements(alloc, scope, keys.elements())?;
     Ok(DataSet::from_elements(elements))
 }
 
 #[cycle(supported)]
 fn supported_elements(
     alloc: Global,
-    level: Level,
+    scope: KeyScope,
     keys: &[Element],
 ) -> Result<Vec<Element>, AllocError>
     ensures { IfOk result (λ kept. kept.items
-        ≡ elements_of (supported_part level (as_elements keys.now))) }
+        ≡ elements_of (supported_part scope (as_elements keys.now))) }
 {
     let mut kept = Vec::new(alloc);
     for key in keys {
-        if level.supports(key.tag) {
-            let value = supported_value(alloc, level.below(key.tag), &key.value)?;
+        if scope.supports(key.tag) {
+            let value = supported_value(alloc, scope.below(key.tag), &key.value)?;
             kept.push(Element {
                 tag: key.tag,
                 vr: key.vr,
@@ -256,8 +256,8 @@ fn supported_elements(
 }
 
 #[cycle(supported)]
-fn supported_value(alloc: Global, level: Level, value: &Value) -> Result<Value, AllocError>
-    ensures { IfOk result (λ kept. kept ≡ supported_value level value.now) }
+fn supported_value(alloc: Global, scope: KeyScope, value: &Value) -> Result<Value, AllocError>
+    ensures { IfOk result (λ kept. kept ≡ supported_value scope value.now) }
 {
     match value {
         Value::Octets(octets) => {
@@ -265,7 +265,7 @@ fn supported_value(alloc: Global, level: Level, value: &Value) -> Result<Value, 
             Ok(Value::Octets(octets))
         }
         Value::Items(items) => {
-            let items = supported_items(alloc, level, items.as_slice())?;
+            let items = supported_items(alloc, scope, items.as_slice())?;
             Ok(Value::Items(Listed::from_inner(items)))
         }
     }
@@ -274,32 +274,32 @@ fn supported_value(alloc: Global, level: Level, value: &Value) -> Result<Value, 
 #[cycle(supported)]
 fn supported_items(
     alloc: Global,
-    level: Level,
+    scope: KeyScope,
     items: &[DataSet],
 ) -> Result<Vec<DataSet>, AllocError>
     ensures { IfOk result (λ kept. kept.items
-        ≡ list_of (supported_items level (items_of items.now))) }
+        ≡ list_of (supported_items scope (items_of items.now))) }
 {
     let mut kept = Vec::new(alloc);
     for item in items {
-        kept.push(supported_part(alloc, level, item)?)?;
+        kept.push(supported_part(alloc, scope, item)?)?;
     }
     Ok(kept)
 }
 
 #[cycle(unsupported)]
-fn has_unsupported(level: Level, keys: &DataSet) -> bool
-    ensures { result ≡ has_unsupported level keys.now }
+fn has_unsupported(scope: KeyScope, keys: &DataSet) -> bool
+    ensures { result ≡ has_unsupported scope keys.now }
 {
-    some_unsupported(level, keys.elements())
+    some_unsupported(scope, keys.elements())
 }
 
 #[cycle(unsupported)]
-fn some_unsupported(level: Level, keys: &[Element]) -> bool
-    ensures { result ≡ has_unsupported level (as_elements keys.now) }
+fn some_unsupported(scope: KeyScope, keys: &[Element]) -> bool
+    ensures { result ≡ has_unsupported scope (as_elements keys.now) }
 {
     for key in keys {
-        if !level.supports(key.tag) || value_has_unsupported(level.below(key.tag), &key.value) {
+        if !scope.supports(key.tag) || value_has_unsupported(scope.below(key.tag), &key.value) {
             return true;
         }
     }
@@ -307,21 +307,21 @@ fn some_unsupported(level: Level, keys: &[Element]) -> bool
 }
 
 #[cycle(unsupported)]
-fn value_has_unsupported(level: Level, value: &Value) -> bool
-    ensures { result ≡ value_has_unsupported level value.now }
+fn value_has_unsupported(scope: KeyScope, value: &Value) -> bool
+    ensures { result ≡ value_has_unsupported scope value.now }
 {
     match value {
         Value::Octets(_) => false,
-        Value::Items(items) => have_unsupported(level, items.as_slice()),
+        Value::Items(items) => have_unsupported(scope, items.as_slice()),
     }
 }
 
 #[cycle(unsupported)]
-fn have_unsupported(level: Level, items: &[DataSet]) -> bool
-    ensures { result ≡ have_unsupported level (items_of items.now) }
+fn have_unsupported(scope: KeyScope, items: &[DataSet]) -> bool
+    ensures { result ≡ have_unsupported scope (items_of items.now) }
 {
     for item in items {
-        if has_unsupported(level, item) {
+        if has_unsupported(scope, item) {
             return true;
         }
     }
@@ -341,7 +341,7 @@ pub fn strike(
         (λ struck. struck.1 ≡ has_unsupported (Identifier list) identifier.now) }
     ensures known { IfOk result (λ struck. HasKnownTags struck.0) }
 {
-    let level = Level::Identifier(list);
-    let part = supported_part(alloc, level, identifier)?;
-    Ok((part, has_unsupported(level, identifier)))
+    let scope = KeyScope::Identifier(list);
+    let part = supported_part(alloc, scope, identifier)?;
+    Ok((part, has_unsupported(scope, identifier)))
 }

@@ -1,6 +1,6 @@
 -- What the last octet is to the padding.
 use Rattle.std.proofs.Common.{◌≡◌, ℕ, Bool, true, false, cond, List, [], ◌∷◌, ◌++◌, length, refl, sym, ap, ◌∙◌, arith}
-use Rattle.dq_value.specs.Trimming.{is_pad, kept_before, without_trailing}
+use Rattle.dq_value.specs.Trimming.{kept_before, without_trailing}
 
 kept_before-push : (test : ℕ → Bool) (octet last : ℕ) (xs : List ℕ) → kept_before test octet (xs ++ last ∷ []) ≡ octet ∷ (xs ++ last ∷ [])
 unfolding kept_before
@@ -19,20 +19,21 @@ unfolding without_trailing kept_before
 without_trailing-push test last [] = refl
 without_trailing-push test last (x ∷ xs) = rw (without_trailing-push test last xs) (kept_before-cond test x last xs (test last))
 
-pub pad_taken : (kept others octets : List ℕ) (last : ℕ) → kept ≡ others ++ last ∷ [] → is_pad last ≡ true
-    → without_trailing is_pad kept ≡ without_trailing is_pad octets → without_trailing is_pad others ≡ without_trailing is_pad octets
-pad_taken kept others octets last cut pad same =
-    sym (without_trailing-push is_pad last others ∙ ap (λ b. cond b (without_trailing is_pad others) (others ++ last ∷ [])) pad)
-    ∙ ap (without_trailing is_pad) (sym cut) ∙ same
+module _ (test : ℕ → Bool) where
+  pub pad_taken : (kept others octets : List ℕ) (last : ℕ) → kept ≡ others ++ last ∷ [] → test last ≡ true
+      → without_trailing test kept ≡ without_trailing test octets → without_trailing test others ≡ without_trailing test octets
+  pad_taken kept others octets last cut pad same =
+      sym (without_trailing-push test last others ∙ ap (λ b. cond b (without_trailing test others) (others ++ last ∷ [])) pad)
+      ∙ ap (without_trailing test) (sym cut) ∙ same
 
-pub no_pad_left : (kept others octets : List ℕ) (last : ℕ) → kept ≡ others ++ last ∷ [] → is_pad last ≡ false
-    → without_trailing is_pad kept ≡ without_trailing is_pad octets → kept ≡ without_trailing is_pad octets
-no_pad_left kept others octets last cut pad same =
-    cut ∙ sym (without_trailing-push is_pad last others ∙ ap (λ b. cond b (without_trailing is_pad others) (others ++ last ∷ [])) pad)
-    ∙ ap (without_trailing is_pad) (sym cut) ∙ same
+  pub no_pad_left : (kept others octets : List ℕ) (last : ℕ) → kept ≡ others ++ last ∷ [] → test last ≡ false
+      → without_trailing test kept ≡ without_trailing test octets → kept ≡ without_trailing test octets
+  no_pad_left kept others octets last cut pad same =
+      cut ∙ sym (without_trailing-push test last others ∙ ap (λ b. cond b (without_trailing test others) (others ++ last ∷ [])) pad)
+      ∙ ap (without_trailing test) (sym cut) ∙ same
 
-pub nothing_left : (kept octets : List ℕ) → length kept ≡ 0 → without_trailing is_pad kept ≡ without_trailing is_pad octets
-    → kept ≡ without_trailing is_pad octets
-unfolding without_trailing
-nothing_left [] octets none same = same
-nothing_left (x ∷ kept) octets none same = absurd (omega arith)
+  pub nothing_left : (kept octets : List ℕ) → length kept ≡ 0 → without_trailing test kept ≡ without_trailing test octets
+      → kept ≡ without_trailing test octets
+  unfolding without_trailing
+  nothing_left [] octets none same = same
+  nothing_left (x ∷ kept) octets none same = absurd (omega arith)

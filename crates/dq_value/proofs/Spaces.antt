@@ -1,19 +1,10 @@
 -- Titles without the spaces at their ends.
-use Rattle.std.proofs.Common.{◌≡◌, ℕ, true, false, cond, eqb, List, [], ◌∷◌, ◌++◌, append_assoc, append-nil, refl, sym, ap, ◌∙◌}
+use Rattle.std.proofs.Common.{◌≡◌, ℕ, true, false, List, [], ◌∷◌, ◌++◌, append_assoc, append-nil, refl, sym, ap, ◌∙◌}
 use Rattle.std.proofs.lemmas.Bool.{and_parts}
 use Rattle.std.specs.List.{list_all}
 use Rattle.dq_value.specs.Trimming.{is_space, without_leading, without_trailing, kept_before, first_is, last_is}
 use Rattle.dq_value.specs.Title.{IsStripped, stripped}
 use Rattle.dq_value.proofs.Kept.{leads, trails, first_kept, last_stays, last_kept, leading_same, trailing_same}
-use Rattle.dq_value.proofs.Pads.{without_trailing-push}
-
--- a space at the end is taken
-pub space_taken : (octets : List ℕ) → without_trailing is_space (octets ++ 32 ∷ []) ≡ without_trailing is_space octets
-space_taken octets = without_trailing-push is_space 32 octets
-
--- any other octet at the end stays
-pub other_kept : (octets : List ℕ) (last : ℕ) → eqb last 32 ≡ false → without_trailing is_space (octets ++ last ∷ []) ≡ octets ++ last ∷ []
-other_kept octets last differs = without_trailing-push is_space last octets ∙ ap (λ b. cond b (without_trailing is_space octets) (octets ++ last ∷ [])) differs
 
 pub strips : (title : List ℕ) → IsStripped title (stripped title)
 unfolding stripped

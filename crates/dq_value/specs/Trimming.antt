@@ -4,6 +4,8 @@ use Rattle.std.specs.List.{list_all}
 use Rattle.dq_vr.specs.declared.Vr.{Vr}
 use Rattle.dq_vr.specs.declared.Vr.TheVariants.{AE, CS, DS, IS, LO, SH, UI}
 use Rattle.dq_vr.specs.Vr.{is_text}
+use Rattle.dq_value.specs.declared.padding.Padding.{Padding}
+use Rattle.dq_value.specs.declared.padding.Padding.TheVariants.{Spaces, SpacesAndZeros}
 
 -- character strings and UI are padded at the end to an even length (PS3.5 sections 6.2 and 9.1)
 unfoldable pub is_padded : Vr → Bool
@@ -26,6 +28,11 @@ is_space octet = nat_eq octet 0x20
 
 abbrev pub is_pad : ℕ → Bool
 is_pad octet = nat_eq octet 0x20 || nat_eq octet 0
+
+-- whether an octet is of a padding
+abbrev pub is_padding : Padding → ℕ → Bool
+is_padding Spaces = is_space
+is_padding SpacesAndZeros = is_pad
 
 -- the octets from the first that fails the test on
 unfoldable pub without_leading : (ℕ → Bool) → List ℕ → List ℕ

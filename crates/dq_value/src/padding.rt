@@ -1,8 +1,17 @@
 ghost use Rattle.std.specs.Prelude.{◌≡◌, ℕ, List};
 ghost use Rattle.dq_vr.specs.declared.Vr.{Vr};
-ghost use Rattle.dq_value.specs.Trimming.{is_padded, ignores_leading_spaces, is_space, is_pad, without_leading, without_trailing, unpadded, trimmed, IsTrimming};
+ghost use Rattle.dq_value.specs.Trimming.{is_padded, ignores_leading_spaces, is_space, is_padding, without_leading, without_trailing, unpadded, trimmed, IsTrimming};
 
 use dq_vr::Vr;
+
+/// What does not count at the end of a value (PS3.5 section 6.2).
+#[derive(Clone, Copy)]
+pub(crate) enum Padding {
+    /// Spaces, 20H.
+    Spaces,
+    /// Spaces and 00H.
+    SpacesAndZeros,
+}
 
 /// A value without the padding at its end, spaces and 00H, and without its leading spaces where the
 /// VR gives them no meaning (PS3.5 section 6.2). Values of other VRs than the character strings and
@@ -12,7 +21,7 @@ pub fn trimmed(vr: Vr, octets: &[u8]) -> &[u8]
     ensures { result.now ≡ trimmed vr octets.now }
 {
     let octets = if is_padded(vr) {
-        without_padding(octets)
+        without_trailing(octets, Padding::SpacesAndZeros)
     } else {
         octets
     };
@@ -59,12 +68,12 @@ pub(crate) fn without_leading_spaces(octets: &[u8]) -> &[u8]
     kept
 }
 
-fn without_padding(octets: &[u8]) -> &[u8]
-    ensures { result.now ≡ without_trailing is_pad octets.now }
+pub(crate) fn without_trailing(octets: &[u8], padding: Padding) -> &[u8]
+    ensures { result.now ≡ without_trailing (is_padding padding) octets.now }
 {
     let mut kept = octets;
     while let Some((last, others)) = kept.split_last() {
-        if !is_pad(*last) {
+        if !is_padding(padding, *last) {
             break;
         }
         kept = others;
@@ -72,8 +81,11 @@ fn without_padding(octets: &[u8]) -> &[u8]
     kept
 }
 
-fn is_pad(octet: u8) -> bool
-    ensures { result ≡ is_pad octet }
+fn is_padding(padding: Padding, octet: u8) -> bool
+    ensures { result ≡ is_padding padding octet }
 {
-    octet == b' ' || octet == 0
+    match padding {
+        Padding::Spaces => octet == b' ',
+        Padding::SpacesAndZeros => octet == b' ' || octet == 0,
+    }
 }

@@ -14,16 +14,16 @@ supported_part-supported_elements-requires t c = rw (c.elements.ensures.elements
 pub supported_part-from_elements-requires : goal.supported_part-from_elements-requires
 supported_part-from_elements-requires t c =
     let read : as_elements c.elements.result.now ≡ c.args.keys.now = ap as_elements c.elements.ensures.elements ∙ as_elements-elements_of c.args.keys.now in
-    let built = ap as_elements c.in_ok-elements.ensures ∙ as_elements-elements_of (supported_part c.args.level (as_elements c.elements.result.now))
-    ∙ ap (supported_part c.args.level) read in
-    subst (λ (d : ElementList). IsDataSet d) (sym built) (part_facts c.args.level 16 None c.args.keys.now c.elements.ensures.facts)
+    let built = ap as_elements c.in_ok-elements.ensures ∙ as_elements-elements_of (supported_part c.args.scope (as_elements c.elements.result.now))
+    ∙ ap (supported_part c.args.scope) read in
+    subst (λ (d : ElementList). IsDataSet d) (sym built) (part_facts c.args.scope 16 None c.args.keys.now c.elements.ensures.facts)
 
 pub supported_part-returns : goal.supported_part-returns
 supported_part-returns t c =
     let read : as_elements c.elements.result.now ≡ c.args.keys.now = ap as_elements c.elements.ensures.elements ∙ as_elements-elements_of c.args.keys.now in
     c.from_elements.ensures ∙ ap as_elements c.in_ok-elements.ensures
-    ∙ as_elements-elements_of (supported_part c.args.level (as_elements c.elements.result.now))
-    ∙ ap (supported_part c.args.level) read
+    ∙ as_elements-elements_of (supported_part c.args.scope (as_elements c.elements.result.now))
+    ∙ ap (supported_part c.args.scope) read
 
 pub supported_elements-supported_value-requires : goal.supported_elements-supported_value-requires
 supported_elements-supported_value-requires t c =

@@ -19,8 +19,8 @@ decreases-supported_items l = 4 * items_count (items_of l.items.now)
 
 abbrev pub invariant-supported_elements-loop-key : goal.invariant-supported_elements-loop-key
 invariant-supported_elements-loop-key l =
-    l.kept.items ++ elements_of (supported_part l.level (as_elements (drop l.key-index l.keys))) ≡ elements_of (supported_part l.level (as_elements l.keys))
+    l.kept.items ++ elements_of (supported_part l.scope (as_elements (drop l.key-index l.keys))) ≡ elements_of (supported_part l.scope (as_elements l.keys))
 
 abbrev pub invariant-supported_items-loop-item : goal.invariant-supported_items-loop-item
 invariant-supported_items-loop-item l =
-    l.kept.items ++ list_of (supported_items l.level (items_of (drop l.item-index l.items))) ≡ list_of (supported_items l.level (items_of l.items))
+    l.kept.items ++ list_of (supported_items l.scope (items_of (drop l.item-index l.items))) ≡ list_of (supported_items l.scope (items_of l.items))

@@ -18,7 +18,7 @@ abbrev pub decreases-have_unsupported : goal.decreases-have_unsupported
 decreases-have_unsupported l = 4 * items_count (items_of l.items.now)
 
 abbrev pub invariant-some_unsupported-loop-key : goal.invariant-some_unsupported-loop-key
-invariant-some_unsupported-loop-key l = has_unsupported l.level (as_elements (drop l.key-index l.keys)) ≡ has_unsupported l.level (as_elements l.keys)
+invariant-some_unsupported-loop-key l = has_unsupported l.scope (as_elements (drop l.key-index l.keys)) ≡ has_unsupported l.scope (as_elements l.keys)
 
 abbrev pub invariant-have_unsupported-loop-item : goal.invariant-have_unsupported-loop-item
-invariant-have_unsupported-loop-item l = have_unsupported l.level (items_of (drop l.item-index l.items)) ≡ have_unsupported l.level (items_of l.items)
+invariant-have_unsupported-loop-item l = have_unsupported l.scope (items_of (drop l.item-index l.items)) ≡ have_unsupported l.scope (items_of l.items)
