@@ -112,7 +112,7 @@ more_within : (octets header value rest t : List ℕ) → octets ≡ parts_of he
 more_within octets header value rest t e none = rw (e, none) (simp (append_assoc, append-nil))
 
 mutual
-  elements_stay : (t : List ℕ) (bound : Bound) (syntax : Syntax) (levels : ℕ) (last : Option Tag) (octets : List ℕ) (f : ReadFault)
+  pub elements_stay : (t : List ℕ) (bound : Bound) (syntax : Syntax) (levels : ℕ) (last : Option Tag) (octets : List ℕ) (f : ReadFault)
       → HasFault bound syntax levels last octets f → (f ≡ Truncated) ⊎ HasFault bound syntax levels last (octets ++ t) f
   elements_stay t bound syntax levels last octets f (at_header _ _ _ _ _ _ open_here first) =
       elim (stays_met bound 0xE00D (λ o. first_of (header_faults syntax levels last o)) t f (λ o short. rw short refl)
@@ -136,7 +136,7 @@ mutual
             (more_behind octets header value rest t e))
       ]
 
-  items_stay : (t : List ℕ) (bound : Bound) (syntax : Syntax) (levels : ℕ) (octets : List ℕ) (f : ReadFault)
+  pub items_stay : (t : List ℕ) (bound : Bound) (syntax : Syntax) (levels : ℕ) (octets : List ℕ) (f : ReadFault)
       → ItemsHaveFault bound syntax levels octets f → (f ≡ Truncated) ⊎ ItemsHaveFault bound syntax levels (octets ++ t) f
   items_stay t bound syntax levels octets f (at_item _ _ _ _ _ open_here first) =
       elim (stays_met bound 0xE0DD (λ o. first_of (item_faults o)) t f (λ o short. rw short refl)

@@ -110,7 +110,7 @@ after_long Two None behind h = absurd h
 after_long Two (Some n) behind (lt, e) = omega (arith, ap length e)
 after_long Four extent behind (reserved, two, four, is, e) = omega (arith, ap length e, length-append reserved four, two)
 
-spelling_long : (syntax : Syntax) (known spelled : Option Vr) (extent : Option ℕ) (behind : List ℕ) → IsSpelling syntax known spelled extent behind
+pub spelling_long : (syntax : Syntax) (known spelled : Option Vr) (extent : Option ℕ) (behind : List ℕ) → IsSpelling syntax known spelled extent behind
     → 4 ≤ length behind
 spelling_long Implicit known None extent behind h = omega (arith, length_four extent behind h)
 spelling_long Implicit known (Some vr) extent behind h = absurd h

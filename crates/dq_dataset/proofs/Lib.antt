@@ -23,3 +23,13 @@ pub mod LentFaults
 pub mod Lengths
 pub mod Same
 pub mod Holding
+pub mod KnownVrs
+pub mod Fronts
+pub mod Walks
+pub mod Entering
+pub mod Nesting
+pub mod WalkSteps
+pub mod WalkHeaders
+pub mod Sieves
+pub mod SieveSteps
+pub mod SieveValues

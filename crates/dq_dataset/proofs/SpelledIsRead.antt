@@ -53,7 +53,7 @@ nested_again fewer vr syntax (Some n) octets items has again t m le =
     ∙ again [] refl m (omega (arith, length-append octets t, ap length (append-nil octets))) in
     rw (one_less, take_at octets t n has, drop_at octets t n has, alone) refl
 
-kept_elements : (tag : Tag) (vr : Vr) (held : Value) (others : ElementList) (b : Bool)
+pub kept_elements : (tag : Tag) (vr : Vr) (held : Value) (others : ElementList) (b : Bool)
     → cond b (elements_of others) (record { tag = tag; vr = vr; value = held } ∷ elements_of others)
     ≡ elements_of (cond b others (with_value (record { tag = tag; vr = vr; value = held }) held others))
 kept_elements tag vr held others true = refl

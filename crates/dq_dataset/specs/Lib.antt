@@ -1,5 +1,6 @@
 pub mod Tree
 pub mod View
+pub mod Values
 pub mod Falls
 pub mod Rules
 pub mod Reading
@@ -8,9 +9,14 @@ pub mod Parts
 pub mod Grammar
 pub mod Facts
 pub mod Faults
+pub mod FaultNumbers
 pub mod Written
 pub mod Lending
 pub mod LentView
 pub mod Agreement
 pub mod Editing
 pub mod Same
+pub mod Fronts
+pub mod Sifting
+pub mod Sieve
+pub mod Sieving

@@ -79,6 +79,13 @@ impl DataSet {
         }
     }
 
+    /// It has the facts of every data set (PS3.5 sections 6.2, 7.1 and 7.5).
+    pub fn has_facts(&self)
+        ensures { IsDataSet self.now }
+    {
+        let _elements = &self.elements;
+    }
+
     /// The elements, in rising order of their tags.
     pub fn elements(&self) -> &[Element]
         ensures elements { result.now ≡ elements_of self.now }

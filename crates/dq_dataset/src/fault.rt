@@ -31,6 +31,17 @@ pub enum ReadFault {
     NoMemory = 7,
 }
 
+impl ReadFault {
+    ghost use Rattle.dq_dataset.specs.FaultNumbers.{number_of};
+
+    /// 1 to 7, in the order in which the faults are declared.
+    pub fn number(self) -> u8
+        ensures { result ≡ number_of self }
+    {
+        self as u8
+    }
+}
+
 impl From<AllocError> for ReadFault {
     ghost from_gives = { λ _ e. e ≡ NoMemory };
 

@@ -3,6 +3,7 @@ ghost use Rattle.std.specs.Prelude.{◌≡◌, true, ◌+◌, ◌≤◌, length,
 ghost use Rattle.std.specs.Int.{w16, w32};
 ghost use Rattle.std.specs.Option.{option_copied};
 ghost use Rattle.dq_dataset.specs.Rules.{is_sequence, is_unknown, agrees, content_of, vr_of};
+ghost use Rattle.dq_dataset.specs.Fronts.{front_at, item_front_at};
 ghost use Rattle.dq_dataset.specs.Reading.{Answers, tag_at, number_at, long_length_at, length_at, vr_at, spelling_at, header_at, item_header_at, end_at, follows, may_nest, length_of, fits};
 
 use crate::fault::ReadFault;
@@ -260,18 +261,18 @@ fn fits(length: Option<u32>, octets: &[u8]) -> bool
     }
 }
 
-/// The header of an element after the tag `last`, with so many more levels of sequences allowed.
-#[tactic(auto, unfolding(crate::specs::Reading::header_at))]
-pub fn header_at(
+/// The header of an element after the tag `last`, with so many more levels of sequences allowed,
+/// whether or not its value is there.
+#[tactic(auto, unfolding(crate::specs::Fronts::front_at))]
+pub fn front_at(
     syntax: Syntax,
     levels: u8,
     last: Option<Tag>,
     octets: &[u8],
 ) -> Result<(Header, &[u8]), ReadFault>
-    ensures value { Answers (λ x. (x.0, x.1.now)) result (header_at syntax levels last octets.now) }
+    ensures value { Answers (λ x. (x.0, x.1.now)) result (front_at syntax levels last octets.now) }
     ensures shorter { IfOk result (λ x. length x.1.now + 8 ≤ length octets.now) }
     ensures nests { IfOk result (λ x. may_nest levels x.0.content ≡ true) }
-    ensures whole { IfOk result (λ x. fits (length_of x.0.content) x.1.now ≡ true) }
 {
     let (tag, rest) = tag_at(octets)?;
     if tag.group == DELIMITERS {
@@ -286,25 +287,51 @@ pub fn header_at(
     if !may_nest(levels, content) {
         return Err(ReadFault::TooDeep);
     }
-    if !fits(length_of(content), rest) {
-        return Err(ReadFault::Truncated);
-    }
     let vr = vr_of(known, content);
     Ok((Header { tag, vr, content }, rest))
 }
 
-/// The header of an item, and its length.
-#[tactic(auto, unfolding(crate::specs::Reading::item_header_at))]
-pub fn item_header_at(octets: &[u8]) -> Result<(Option<u32>, &[u8]), ReadFault>
-    ensures value { Answers (λ x. (x.0, x.1.now)) result (item_header_at octets.now) }
+/// The header of an element after the tag `last`, with so many more levels of sequences allowed.
+#[tactic(auto, using(crate::proofs::Fronts::header_by_front))]
+pub fn header_at(
+    syntax: Syntax,
+    levels: u8,
+    last: Option<Tag>,
+    octets: &[u8],
+) -> Result<(Header, &[u8]), ReadFault>
+    ensures value { Answers (λ x. (x.0, x.1.now)) result (header_at syntax levels last octets.now) }
     ensures shorter { IfOk result (λ x. length x.1.now + 8 ≤ length octets.now) }
-    ensures whole { IfOk result (λ x. fits x.0 x.1.now ≡ true) }
+    ensures nests { IfOk result (λ x. may_nest levels x.0.content ≡ true) }
+    ensures whole { IfOk result (λ x. fits (length_of x.0.content) x.1.now ≡ true) }
+{
+    let (header, rest) = front_at(syntax, levels, last, octets)?;
+    if !fits(length_of(header.content), rest) {
+        return Err(ReadFault::Truncated);
+    }
+    Ok((header, rest))
+}
+
+/// The header of an item, and its length, whether or not the item is there.
+#[tactic(auto, unfolding(crate::specs::Fronts::item_front_at))]
+pub fn item_front_at(octets: &[u8]) -> Result<(Option<u32>, &[u8]), ReadFault>
+    ensures value { Answers (λ x. (x.0, x.1.now)) result (item_front_at octets.now) }
+    ensures shorter { IfOk result (λ x. length x.1.now + 8 ≤ length octets.now) }
 {
     let (tag, rest) = tag_at(octets)?;
     if tag.group != DELIMITERS || tag.element != ITEM {
         return Err(ReadFault::BadItem);
     }
-    let (length, rest) = long_length_at(rest)?;
+    long_length_at(rest)
+}
+
+/// The header of an item, and its length.
+#[tactic(auto, using(crate::proofs::Fronts::item_by_front))]
+pub fn item_header_at(octets: &[u8]) -> Result<(Option<u32>, &[u8]), ReadFault>
+    ensures value { Answers (λ x. (x.0, x.1.now)) result (item_header_at octets.now) }
+    ensures shorter { IfOk result (λ x. length x.1.now + 8 ≤ length octets.now) }
+    ensures whole { IfOk result (λ x. fits x.0 x.1.now ≡ true) }
+{
+    let (length, rest) = item_front_at(octets)?;
     if !fits(length, rest) {
         return Err(ReadFault::Truncated);
     }

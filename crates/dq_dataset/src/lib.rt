@@ -11,6 +11,8 @@ mod header;
 pub mod laws;
 mod lending;
 mod reading;
+mod sieve;
+mod values;
 mod writing;
 
 pub use data_set::{DataSet, Element, Value};
@@ -18,4 +20,5 @@ pub use fault::ReadFault;
 pub use header::Syntax;
 pub use lending::{Elements, Lent};
 pub use reading::read;
+pub use sieve::{Sieve, Sifted};
 pub use writing::write;

@@ -1,0 +1,131 @@
+-- An element of octets that is read has the dictionary's VR.
+use Rattle.std.proofs.Common.{◌≡◌, ℕ, zero, suc, ◌+◌, ◌-◌, Bool, true, false, not, eqb, List, [], ◌∷◌, length, take, drop, Option, Some, None, Result, Ok, Err, refl, sym, ap, subst, ◌∙◌, cond, unwrap_or}
+use Rattle.std.specs.List.{AllByRecursion}
+use Rattle.dq_vr.specs.Dictionary.{known_vr}
+use Rattle.dq_dataset.specs.Rules.{vr_of, content_of, padded}
+use Rattle.dq_dataset.proofs.Types.{Tag, Vr, UN, ReadFault, Truncated, TagOrder, BadItem, TooDeep, Syntax, Bound, Filled, Delimited, Content, Plain, Sequence, Header, Element, Value, Octets, Items, ElementList, no_elements, element, sequence}
+use Rattle.dq_dataset.specs.Facts.{AreElements}
+use Rattle.dq_dataset.specs.View.{as_elements, elements_of, list_of}
+use Rattle.dq_dataset.specs.Reading.{◌>>=◌, Readers, check, may_nest, length_of, kept, unless_ended, tag_at, spelling_at, follows, fits, header_at, end_at, value_by, element_by, elements_after, elements_by, readers, reading}
+use Rattle.dq_dataset.proofs.Fields.{bind_ok, ok_is}
+use Rattle.dq_dataset.proofs.Headers.{whole_step, content_step, spelling_step, rises_step, placed_step, tag_step}
+use Rattle.dq_dataset.proofs.Views.{elements_of-as_elements}
+
+abbrev pub HasKnownVr : Element → Type 0
+HasKnownVr e = (octets : List ℕ) → e.value ≡ Octets octets → e.vr ≡ unwrap_or (known_vr e.tag) UN
+
+-- the VR of a header
+header_vr : (syntax : Syntax) (levels : ℕ) (last : Option Tag) (octets rest : List ℕ) (h : Header) → header_at syntax levels last octets ≡ Ok (h, rest)
+    → h.vr ≡ vr_of (known_vr h.tag) h.content
+unfolding header_at
+header_vr syntax levels last octets rest h e =
+    let a = bind_ok (tag_at octets) (tag_step syntax levels last) (h, rest) e in
+    let tag = a.0.0 in
+    let b = bind_ok (check (not (eqb tag.group 0xFFFE)) BadItem) (placed_step syntax levels last tag a.0.1) (h, rest) a.2 in
+    let c = bind_ok (check (follows last tag) TagOrder) (rises_step syntax levels tag a.0.1) (h, rest) b.2 in
+    let d = bind_ok (spelling_at syntax (known_vr tag) a.0.1) (spelling_step levels tag) (h, rest) c.2 in
+    let f = bind_ok (content_of (known_vr tag) d.0.0.0 d.0.0.1) (content_step levels tag d.0.1) (h, rest) d.2 in
+    let g = bind_ok (check (may_nest levels f.0) TooDeep) (whole_step tag f.0 d.0.1) (h, rest) f.2 in
+    let made : Header = record { tag = tag; vr = vr_of (known_vr tag) f.0; content = f.0 } in
+    let k = bind_ok (check (fits (length_of f.0) d.0.1) Truncated) (λ whole. Ok (made, d.0.1)) (h, rest) g.2 in
+    subst (λ (p : Header × List ℕ). p.0.vr ≡ vr_of (known_vr p.0.tag) p.0.content) (ok_is (made, d.0.1) (h, rest) k.2) refl
+
+abbrev pub made_of : Header → Value → Element
+made_of h v = record { tag = h.tag; vr = h.vr; value = v }
+
+-- items are no octets
+no_octets : (tag : Tag) (vr : Vr) (items : List ElementList) → HasKnownVr (record { tag = tag; vr = vr; value = Items items })
+no_octets tag vr items octets same = absurd cc
+
+value_of : (next : Readers) (levels : ℕ) (vr : Vr) (content : Content) (octets rest : List ℕ) (tag : Tag) (v : Value) → vr ≡ vr_of (known_vr tag) content
+    → value_by next levels vr content octets ≡ Ok (v, rest) → HasKnownVr (record { tag = tag; vr = vr; value = v })
+unfolding value_by
+value_of next levels vr (Plain n) octets rest tag v is e = λ held same. is
+value_of next levels vr (Sequence syntax (Some n)) octets rest tag v is e =
+    let items = bind_ok (next.items Filled syntax (levels - 1) (take n octets)) (λ (x : List ElementList × List ℕ). Ok (Items x.0, drop n octets)) (v, rest) e in
+    subst (λ (p : Value × List ℕ). HasKnownVr (record { tag = tag; vr = vr; value = p.0 })) (ok_is (Items items.0.0, drop n octets) (v, rest) items.2)
+    (no_octets tag vr items.0.0)
+value_of next levels vr (Sequence syntax None) octets rest tag v is e =
+    let items = bind_ok (next.items Delimited syntax (levels - 1) octets) (λ (x : List ElementList × List ℕ). Ok (Items x.0, x.1)) (v, rest) e in
+    subst (λ (p : Value × List ℕ). HasKnownVr (record { tag = tag; vr = vr; value = p.0 })) (ok_is (Items items.0.0, items.0.1) (v, rest) items.2)
+    (no_octets tag vr items.0.0)
+
+abbrev Read : Type 0
+Read = Option (Header × Value) × List ℕ
+
+abbrev IfRead : Option (Header × Value) → Type 0
+IfRead None = Unit {0}
+IfRead (Some first) = HasKnownVr (made_of first.0 first.1)
+
+abbrev value_step : Header → Value × List ℕ → Result Read ReadFault
+value_step header value = Ok (Some (header, value.0), value.1)
+
+abbrev header_step : Readers → ℕ → Header × List ℕ → Result Read ReadFault
+header_step next levels header = value_by next levels header.0.vr header.0.content header.1 >>= value_step header.0
+
+more_read : (next : Readers) (syntax : Syntax) (levels : ℕ) (last : Option Tag) (octets rest : List ℕ) (first : Option (Header × Value))
+    → (header_at syntax levels last octets >>= header_step next levels) ≡ Ok (first, rest) → IfRead first
+more_read next syntax levels last octets rest first e =
+    let header = bind_ok (header_at syntax levels last octets) (header_step next levels) (first, rest) e in
+    let h = header.0.0 in
+    let value = bind_ok (value_by next levels h.vr h.content header.0.1) (value_step h) (first, rest) header.2 in
+    subst (λ (p : Read). IfRead p.0) (ok_is (Some (h, value.0.0), value.0.1) (first, rest) value.2)
+    (value_of next levels h.vr h.content header.0.1 value.0.1 h.tag value.0.0 (header_vr syntax levels last octets header.0.1 h header.1) value.1)
+
+unless_read : (end : Option (List ℕ)) (more : Result Read ReadFault) (first : Option (Header × Value)) (rest : List ℕ)
+    → (more ≡ Ok (first, rest) → IfRead first) → unless_ended end more ≡ Ok (first, rest) → IfRead first
+unless_read (Some left) more first rest reads e = subst (λ (p : Read). IfRead p.0) (ok_is (None, left) (first, rest) e) tt
+unless_read None more first rest reads e = reads e
+
+element_read : (next : Readers) (bound : Bound) (syntax : Syntax) (levels : ℕ) (last : Option Tag) (octets rest : List ℕ) (first : Option (Header × Value))
+    → element_by next bound syntax levels last octets ≡ Ok (first, rest) → IfRead first
+unfolding element_by
+element_read next bound syntax levels last octets rest first e =
+    let more = header_at syntax levels last octets >>= header_step next levels in
+    let end = bind_ok (end_at bound 0xE00D octets) (λ (x : Option (List ℕ)). unless_ended x more) (first, rest) e in
+    unless_read end.0 more first rest (more_read next syntax levels last octets rest first) end.2
+
+abbrev Elements : Type 0
+Elements = List Element × List ℕ
+
+kept_by : (b : Bool) (e : Element) (others : List Element) → HasKnownVr e → AllByRecursion HasKnownVr others
+    → AllByRecursion HasKnownVr (cond b others (e ∷ others))
+kept_by true e others one all = all
+kept_by false e others one all = (one, all)
+
+-- what follows an element, where the readers of what is left read known VRs
+after_read : (next : Readers) (bound : Bound) (syntax : Syntax) (levels : ℕ) (first : Option (Header × Value)) (octets rest : List ℕ) (es : List Element)
+    → ((last : Option Tag) (left : List ℕ) (others : List Element) (behind : List ℕ) → next.elements bound syntax levels last left ≡ Ok (others, behind)
+    → AllByRecursion HasKnownVr others)
+    → IfRead first → elements_after next bound syntax levels first octets ≡ Ok (es, rest) → AllByRecursion HasKnownVr es
+unfolding elements_after
+after_read next bound syntax levels None octets rest es reads is e =
+    subst (λ (p : Elements). AllByRecursion HasKnownVr p.0) (ok_is ([], octets) (es, rest) e) tt
+after_read next bound syntax levels (Some first) octets rest es reads is e =
+    let others = bind_ok (next.elements bound syntax levels (Some first.0.tag) octets) (λ (x : Elements). Ok (kept first.0 first.1 x.0, x.1)) (es, rest) e in
+    subst (λ (p : Elements). AllByRecursion HasKnownVr p.0) (ok_is (kept first.0 first.1 others.0.0, others.0.1) (es, rest) others.2)
+    (kept_by (eqb first.0.tag.element 0) (made_of first.0 first.1) others.0.0 is
+    (reads (Some first.0.tag) octets others.0.0 others.0.1 others.1))
+
+elements_read : (n : ℕ) (bound : Bound) (syntax : Syntax) (levels : ℕ) (last : Option Tag) (octets : List ℕ) (es : List Element) (rest : List ℕ)
+    → (readers n).elements bound syntax levels last octets ≡ Ok (es, rest) → AllByRecursion HasKnownVr es
+unfolding readers elements_by
+elements_read zero bound syntax levels last octets es rest e = absurd cc
+elements_read (suc n) bound syntax levels last octets es rest e =
+    let first = bind_ok (element_by (readers n) bound syntax levels last octets) (λ (x : Read). elements_after (readers n) bound syntax levels x.0 x.1)
+    (es, rest) e in
+    after_read (readers n) bound syntax levels first.0.0 first.0.1 rest es (elements_read n bound syntax levels)
+    (element_read (readers n) bound syntax levels last octets first.0.1 first.0.0 first.1) first.2
+
+pub read_has_known_vrs : (syntax : Syntax) (octets : List ℕ) (d : ElementList) → reading syntax octets ≡ Ok d → AllByRecursion HasKnownVr (elements_of d)
+unfolding reading
+read_has_known_vrs syntax octets d e =
+    let found = bind_ok ((readers (length octets + 1)).elements Filled syntax 16 None octets) (λ (x : Elements). Ok (as_elements x.0)) d e in
+    let same : elements_of d ≡ found.0.0 = ap elements_of (sym (ok_is (as_elements found.0.0) d found.2)) ∙ elements_of-as_elements found.0.0 in
+    subst (AllByRecursion HasKnownVr) (sym same) (elements_read (length octets + 1) Filled syntax 16 None octets found.0.0 found.0.1 found.1)
+
+-- each of a data set has it too
+pub facts_give_known_vrs : (levels : ℕ) (last : Option Tag) (d : ElementList) → AreElements levels last d → AllByRecursion HasKnownVr (elements_of d)
+facts_give_known_vrs levels last no_elements h = tt
+facts_give_known_vrs levels last (element t v o rest) h = (λ octets same. h.1.by_dictionary, facts_give_known_vrs levels (Some t) rest h.2)
+facts_give_known_vrs levels last (sequence t v items rest) h = (no_octets t v (list_of items), facts_give_known_vrs levels (Some t) rest h.4)

@@ -1,0 +1,172 @@
+-- What the octets of a header and of a value make of a sieve.
+use Rattle.std.proofs.Common.{◌≡◌, ◌≢◌, ℕ, true, false, not, eqb, ◌||◌, List, [], ◌∷◌, ◌++◌, Option, Some, None, Result, Ok, Err, refl, sym, ap, subst, ◌∙◌, append_assoc, arith, inl, inr}
+use Rattle.std.specs.Global.{Vec}
+use Rattle.std.specs.Result.{IfOk}
+use Rattle.std.proofs.lemmas.List.{append-nil}
+use Rattle.dq_dataset.proofs.Types.{Tag, ReadFault, Truncated, Syntax, Filled, Content, ElementList}
+use Rattle.dq_dataset.specs.declared.sieve.Sifted.TheVariants.{Fault}
+use Rattle.dq_dataset.specs.declared.sieve.Outer.{Outer}
+use Rattle.dq_dataset.specs.declared.sieve.Stage.{Stage}
+use Rattle.dq_dataset.specs.declared.sieve.Stage.TheVariants.{Between, Past, Into, Stopped}
+use Rattle.dq_dataset.specs.declared.sieve.Held.{Held}
+use Rattle.dq_dataset.specs.declared.sieve.Held.TheVariants.{Sifting}
+use Rattle.dq_dataset.specs.declared.sieve.walk.Walk.{Walk}
+use Rattle.dq_dataset.specs.declared.sieve.walk.Walked.{Walked}
+use Rattle.dq_dataset.specs.declared.sieve.walk.Walked.TheVariants.{Over}
+use Rattle.dq_dataset.specs.declared.sieve.walk.Reach.TheVariants.{Endless}
+use Rattle.dq_dataset.specs.declared.sieve.walk.Place.TheVariants.{InElements}
+use Rattle.dq_dataset.specs.View.{elements_of}
+use Rattle.dq_dataset.specs.Reading.{end_at, may_nest}
+use Rattle.dq_dataset.specs.Fronts.{front_at}
+use Rattle.dq_dataset.specs.Grammar.{IsPlaced, IsHeader, IsSpelled}
+use Rattle.dq_dataset.specs.Sifting.{WalkedLeads, LeadsOn}
+use Rattle.dq_dataset.specs.Sieving.{tag_is_listed, SiftsFrom, OuterSifts, FollowsPast, FollowsInto, IsStage, GoesOn, HasFed, HeldAfter, SieveAfter, IsSieve, PastBy, IntoBy}
+use Rattle.dq_dataset.proofs.Nesting.{none_is_part}
+use Rattle.dq_dataset.proofs.Fronts.{open_here, front_fault_stays}
+use Rattle.dq_dataset.proofs.Sieves.{Inside, past_header, into_header, sifted_step, sifts_more}
+use Rattle.dq_dataset.proofs.SieveSteps.{fed_on}
+
+-- no octets are no header
+pub nothing_came : (outer : Outer) (front : List ℕ) → front ≡ [] → front_at outer.syntax 16 outer.last front ≡ Err Truncated
+nothing_came outer front none = rw none (none_is_part (InElements outer.syntax 16 outer.last Endless))
+
+-- ---- headers
+
+-- an octet of a header: what all of the header makes of the sieve, with the octet added to it
+pub adds_octet : (tags : List Tag) (outer next : Outer) (then : Stage) (before after : Vec ℕ) (octet : ℕ) → after.items ≡ before.items ++ octet ∷ []
+    → GoesOn tags outer (Between after) [] next then → GoesOn tags outer (Between before) (octet ∷ []) next then
+adds_octet tags outer next then before after octet is g = record {
+  sound = g.sound;
+  syntax = g.syntax;
+  sifts = λ octets answer m.
+      let all : after.items ++ octets ≡ before.items ++ (octet ∷ octets) =
+      ap (λ (x : List ℕ). x ++ octets) is ∙ append_assoc before.items (octet ∷ []) octets in
+      subst (λ (x : List ℕ). OuterSifts tags outer x answer) all (g.sifts octets answer m);
+}
+
+-- a fault of a header is that of the data set
+pub stops_at_header : (tags : List Tag) (outer : Outer) (front : Vec ℕ) (fault : ReadFault)
+    → ((rest : List ℕ) → end_at Filled 0xE00D front.items ≡ Ok (Some rest) → ⊥) → front_at outer.syntax 16 outer.last front.items ≡ Err fault
+    → fault ≢ Truncated → GoesOn tags outer (Between front) [] outer (Stopped fault 0)
+stops_at_header tags outer front fault none is other = record {
+  sound = tt;
+  syntax = refl;
+  sifts = λ octets answer m.
+      let same : fault ≡ m.0 = elim m.1 [ inl x ↦ absurd (omega arith) | inr x ↦ (let e = x.1 in cc) ] in
+      let has = front_fault_stays Filled outer.syntax 16 outer.last front.items octets fault (open_here Filled 0xE00D front.items none) is other in
+      inr (fault, has, m.2 ∙ ap Fault (sym same));
+}
+
+-- ---- values
+
+-- the value of an element, from its header
+module _ (tags : List Tag) (outer : Outer) (front : Vec ℕ) (tag : Tag) (content : Content) (placed : IsPlaced outer.last tag)
+    (is_header : IsHeader outer.syntax tag content front.items) (nests : may_nest 16 content ≡ true) (walked : Walked)
+    (leads : (octets : List ℕ) (end : Option ReadFault) → WalkedLeads walked octets end
+    → Inside outer.syntax outer.last tag content front.items placed is_header nests octets end) where
+  abbrev passed_by : Outer
+  passed_by = record { syntax = outer.syntax; last = Some tag; kept = outer.kept; other = outer.other || not (eqb tag.element 0) }
+
+  pub goes_past : tag_is_listed tags tag ≡ false → (stage : Stage) → IsStage passed_by stage → PastBy walked stage
+      → GoesOn tags outer (Between front) [] passed_by stage
+  goes_past listed stage sound past = record {
+    sound = sound;
+    syntax = refl;
+    sifts = λ octets answer m.
+        past_header outer.syntax outer.last tag content front.items placed is_header nests tags outer.kept.items outer.other octets answer listed
+        (sifts_more walked (Inside outer.syntax outer.last tag content front.items placed is_header nests) leads (FollowsPast tags passed_by answer) octets
+        answer (past passed_by tags octets answer m));
+  }
+
+  abbrev begun : Outer
+  begun = record { syntax = outer.syntax; last = Some tag; kept = outer.kept; other = outer.other }
+
+  into_by : tag_is_listed tags tag ≡ true → (next : Outer) (then : Stage) → IntoBy begun walked front.items next then
+      → GoesOn tags outer (Between front) [] next then
+  into_by listed next then into = record {
+    sound = into.sound;
+    syntax = into.syntax;
+    sifts = λ octets answer m.
+        into_header outer.syntax outer.last tag content front.items placed is_header nests tags outer.kept.items outer.other octets answer listed
+        (sifts_more walked (Inside outer.syntax outer.last tag content front.items placed is_header nests) leads (FollowsInto tags begun front.items answer)
+        octets answer (into.sifts tags octets answer m));
+  }
+
+  pub goes_into : {E : Type 0} → tag_is_listed tags tag ≡ true → (r : Result (Outer × Stage) E)
+      → IfOk r (λ x. IntoBy begun walked front.items x.0 x.1) → IfOk r (λ x. GoesOn tags outer (Between front) [] x.0 x.1)
+  goes_into listed (Ok x) into = into_by listed x.0 x.1 into
+  goes_into listed (Err e) into = tt
+
+-- octets of a value that is not kept
+pub steps_past : (tags : List Tag) (outer : Outer) (walk : Walk) (taken : List ℕ) (walked : Walked) → LeadsOn walk taken walked → (stage : Stage)
+    → IsStage outer stage → PastBy walked stage → GoesOn tags outer (Past walk) taken outer stage
+steps_past tags outer walk taken walked on stage sound past = record {
+  sound = sound;
+  syntax = refl;
+  sifts = λ octets answer m. sifted_step walk taken walked on (FollowsPast tags outer answer) (FollowsPast tags outer answer) (λ v rest n. n) octets answer
+      (past outer tags octets answer m);
+}
+
+-- octets of a value that is kept
+pub steps_into : (tags : List Tag) (outer : Outer) (walk : Walk) (taken : List ℕ) (walked : Walked) → LeadsOn walk taken walked → (came : Vec ℕ)
+    (now : List ℕ) → now ≡ came.items ++ taken → (next : Outer) (then : Stage) → IntoBy outer walked now next then
+    → GoesOn tags outer (Into walk came) taken next then
+steps_into tags outer walk taken walked on came now is next then into = record {
+  sound = into.sound;
+  syntax = into.syntax;
+  sifts = λ octets answer m. sifted_step walk taken walked on (FollowsInto tags outer came.items answer) (FollowsInto tags outer now answer)
+      (λ v rest follows one spelled. follows one (subst (λ (x : List ℕ). IsSpelled outer.syntax x one)
+      (sym (append_assoc came.items taken v) ∙ ap (λ (x : List ℕ). x ++ v) (sym is)) spelled)) octets answer
+      (into.sifts tags octets answer m);
+}
+
+-- all of a value that is kept: the element is kept
+pub keeps_one : (outer next : Outer) (came : List ℕ) (front : Vec ℕ) (one : ElementList)
+    → ((d : ElementList) → IsSpelled outer.syntax came d → one ≡ d) → next.syntax ≡ outer.syntax → next.last ≡ outer.last → next.other ≡ outer.other
+    → next.kept.items ≡ outer.kept.items ++ elements_of one → front.items ≡ [] → IntoBy outer Over came next (Between front)
+keeps_one outer next came front one only syntax_is last_is other_is kept_is none = record {
+  sound = nothing_came next front.items none;
+  syntax = syntax_is;
+  sifts = λ tags octets answer m. inr (
+    [],
+    octets,
+    refl,
+    (refl, refl),
+    λ d spelled.
+        let same : one ≡ d = only d (rw append-nil at spelled) in
+        subst (λ (x : ElementList). SiftsFrom outer.syntax tags outer.last (outer.kept.items ++ elements_of x) outer.other octets answer) same
+        (rw (syntax_is, last_is, other_is, kept_is, none) at m),
+  );
+}
+
+-- ---- the start, and pieces
+
+pub starts : (tags : List Tag) (outer : Outer) (front : Vec ℕ) → outer.last ≡ None → outer.kept.items ≡ [] → outer.other ≡ false → front.items ≡ []
+    → HasFed outer.syntax tags [] outer (Between front)
+starts tags outer front last kept other none = record {
+  is = refl;
+  sound = nothing_came outer front.items none;
+  sifts = λ rest answer m. rw (last, kept, other, none) at m;
+}
+
+pub is_fed_on : (tags : List Tag) (piece : List ℕ) (a b : Outer) (x y : Stage) → IsSieve tags (Sifting a x) → GoesOn tags a x piece b y
+    → IsSieve tags (Sifting b y)
+is_fed_on tags piece a b x y (fed, f) g =
+    (fed ++ piece, subst (λ (z : Syntax). HasFed z tags (fed ++ piece) b y) (sym g.syntax) (fed_on a.syntax tags fed piece a b x y f g))
+
+pub held_is : (syntax : Syntax) (tags listed : List Tag) (fed : List ℕ) (held : Held) (sieve : List Tag × Held) (a : Outer) (x : Stage) → (listed, held) ≡ sieve
+    → held ≡ Sifting a x → SieveAfter syntax tags fed sieve → HasFed syntax tags fed a x
+held_is syntax tags listed fed held sieve a x view is after =
+    let now : sieve.1 ≡ Sifting a x = sym (ap (λ (s : List Tag × Held). s.1) view) ∙ is in
+    subst (λ (h : Held). HeldAfter syntax tags fed h) now after.after
+
+pub fed_after : (syntax : Syntax) (tags listed : List Tag) (fed piece : List ℕ) (held : Held) (sieve : List Tag × Held) (a b : Outer) (x y : Stage)
+    → (listed, held) ≡ sieve → held ≡ Sifting a x → GoesOn listed a x piece b y → SieveAfter syntax tags fed sieve
+    → SieveAfter syntax tags (fed ++ piece) (listed, Sifting b y)
+fed_after syntax tags listed fed piece held sieve a b x y view is g after =
+    let same : listed ≡ tags = ap (λ (s : List Tag × Held). s.0) view ∙ after.tags_are in
+    record {
+      tags_are = same;
+      after = fed_on syntax tags fed piece a b x y (held_is syntax tags listed fed held sieve a x view is after)
+          (subst (λ (ts : List Tag). GoesOn ts a x piece b y) same g);
+    }

@@ -1,0 +1,134 @@
+-- A device of the proofs: what octets that are still to come make of a sieve. What is to be
+-- believed stands in Sieve.
+use Rattle.std.specs.Prelude.{◌≡◌, ℕ, Bool, ◌||◌, ◌&&◌, ◌==◌, filter, List, [], ◌++◌, Option, Some, None, Err, ◌⊎◌}
+use Rattle.std.specs.List.{list_any}
+use Rattle.dq_vr.specs.declared.Tag.{Tag}
+use Rattle.dq_dataset.specs.declared.fault.ReadFault.{ReadFault}
+use Rattle.dq_dataset.specs.declared.fault.ReadFault.TheVariants.{Truncated}
+use Rattle.dq_dataset.specs.declared.header.Syntax.{Syntax}
+use Rattle.dq_dataset.specs.declared.header.Bound.TheVariants.{Filled}
+use Rattle.dq_dataset.specs.declared.data_set.Element.{Element}
+use Rattle.dq_dataset.specs.declared.sieve.Sifted.{Sifted}
+use Rattle.dq_dataset.specs.declared.sieve.Sifted.TheVariants.{Kept, Fault}
+use Rattle.dq_dataset.specs.declared.sieve.Outer.{Outer}
+use Rattle.dq_dataset.specs.declared.sieve.Stage.{Stage}
+use Rattle.dq_dataset.specs.declared.sieve.Stage.TheVariants.{Between, Past, Into, Stopped}
+use Rattle.dq_dataset.specs.declared.sieve.walk.Walked.{Walked}
+use Rattle.dq_dataset.specs.declared.sieve.Held.{Held}
+use Rattle.dq_dataset.specs.declared.sieve.Held.TheVariants.{Sifting, Spent}
+use Rattle.dq_dataset.specs.Tree.{ElementList}
+use Rattle.dq_dataset.specs.View.{as_elements, elements_of}
+use Rattle.dq_dataset.specs.Grammar.{Spells, IsSpelled}
+use Rattle.dq_dataset.specs.Faults.{HasFault}
+use Rattle.dq_dataset.specs.Editing.{is_listed}
+use Rattle.dq_dataset.specs.Fronts.{front_at}
+use Rattle.dq_dataset.specs.Sifting.{FaultLeads, WalkLeads, WalkedLeads, IsWalk}
+use Rattle.dq_dataset.specs.Sieve.{has_other, IsSifted}
+
+abbrev pub tag_is_listed : List Tag → Tag → Bool
+tag_is_listed tags tag =
+    list_any (λ (t : Tag). (tag.group == t.group) && (tag.element == t.element)) tags
+
+-- What the octets after the tag last add to the elements that are kept.
+abbrev pub SiftsFrom : Syntax → List Tag → Option Tag → List Element → Bool → List ℕ → Sifted
+    → Type 0
+SiftsFrom syntax tags last kept other octets answer =
+    ((d : ElementList) × Spells Filled syntax 16 last octets d
+    × (answer ≡ Kept (as_elements (kept ++ filter (is_listed tags) (elements_of d)))
+    (other || has_other tags d)))
+    ⊎ ((fault : ReadFault) × HasFault Filled syntax 16 last octets fault × (answer ≡ Fault fault))
+
+abbrev pub OuterSifts : List Tag → Outer → List ℕ → Sifted → Type 0
+OuterSifts tags outer octets answer =
+    SiftsFrom outer.syntax tags outer.last outer.kept.items outer.other octets answer
+
+-- The octets lead to a fault of a value, or to its end, and what follows it sifts on.
+abbrev pub SiftsOn : (List ℕ → Option ReadFault → Type 0) → (List ℕ → List ℕ → Type 0) → List ℕ
+    → Sifted → Type 0
+SiftsOn leads follows octets answer =
+    ((fault : ReadFault) × leads octets (Some fault) × (answer ≡ Fault fault))
+    ⊎ ((value : List ℕ) × (rest : List ℕ) × (octets ≡ value ++ rest) × leads value None
+    × follows value rest)
+
+-- Behind a value that is not kept, and behind one that is.
+abbrev pub FollowsPast : List Tag → Outer → Sifted → List ℕ → List ℕ → Type 0
+FollowsPast tags outer answer value rest = OuterSifts tags outer rest answer
+
+abbrev pub FollowsInto : List Tag → Outer → List ℕ → Sifted → List ℕ → List ℕ → Type 0
+FollowsInto tags outer came answer value rest =
+    (one : ElementList) → IsSpelled outer.syntax (came ++ value) one
+    → SiftsFrom outer.syntax tags outer.last (outer.kept.items ++ elements_of one) outer.other rest
+    answer
+
+abbrev pub StageSifts : List Tag → Outer → Stage → List ℕ → Sifted → Type 0
+StageSifts tags outer (Between front) octets answer =
+    OuterSifts tags outer (front.items ++ octets) answer
+StageSifts tags outer (Past walk) octets answer =
+    SiftsOn (WalkLeads walk) (FollowsPast tags outer answer) octets answer
+StageSifts tags outer (Into walk came) octets answer =
+    SiftsOn (WalkLeads walk) (FollowsInto tags outer came.items answer) octets answer
+StageSifts tags outer (Stopped fault missing) octets answer =
+    (first : ReadFault) × FaultLeads fault missing octets (Some first) × (answer ≡ Fault first)
+
+abbrev pub IsStage : Outer → Stage → Type 0
+IsStage outer (Between front) = front_at outer.syntax 16 outer.last front.items ≡ Err Truncated
+IsStage outer (Past walk) = IsWalk walk
+IsStage outer (Into walk came) = IsWalk walk
+IsStage outer (Stopped fault missing) = Unit {0}
+
+-- What was made of a sieve by the octets taken.
+pub record GoesOn (tags : List Tag) (outer : Outer) (stage : Stage) (taken : List ℕ)
+    (next : Outer) (then : Stage) : Type 0 where
+  pub sound : IsStage next then
+  pub syntax : next.syntax ≡ outer.syntax
+  pub sifts : (octets : List ℕ) (answer : Sifted) → StageSifts tags next then octets answer
+      → StageSifts tags outer stage (taken ++ octets) answer
+
+-- The sieve was fed these octets: whatever follows is sifted as all of them are.
+pub record HasFed (syntax : Syntax) (tags : List Tag) (octets : List ℕ) (outer : Outer)
+    (stage : Stage) : Type 0 where
+  pub is : outer.syntax ≡ syntax
+  pub sound : IsStage outer stage
+  pub sifts : (rest : List ℕ) (answer : Sifted) → StageSifts tags outer stage rest answer
+      → IsSifted syntax tags (octets ++ rest) answer
+
+abbrev pub HeldAfter : Syntax → List Tag → List ℕ → Held → Type 0
+HeldAfter syntax tags octets (Sifting outer stage) = HasFed syntax tags octets outer stage
+HeldAfter syntax tags octets Spent = ⊥
+
+-- A sieve for the syntax and the tags that was fed the octets, in pieces of any length. Of this
+-- nothing is to be believed: a new sieve is one after no octets, a piece is added to them, and what
+-- such a sieve gives at the end is IsSifted.
+pub record SieveAfter (syntax : Syntax) (tags : List Tag) (octets : List ℕ)
+    (sieve : List Tag × Held) : Type 0 where
+  pub tags_are : sieve.0 ≡ tags
+  pub after : HeldAfter syntax tags octets sieve.1
+
+-- What is true of every sieve: it was fed some octets, or memory ran out.
+abbrev pub IsSieve : List Tag → Held → Type 0
+IsSieve tags (Sifting outer stage) = (octets : List ℕ) × HasFed outer.syntax tags octets outer stage
+IsSieve tags Spent = Unit {0}
+
+-- What a walk past a value, and one into a value, is followed by.
+abbrev pub PastBy : Walked → Stage → Type 0
+PastBy walked stage =
+    (outer : Outer) (tags : List Tag) (octets : List ℕ) (answer : Sifted)
+    → StageSifts tags outer stage octets answer
+    → SiftsOn (WalkedLeads walked) (FollowsPast tags outer answer) octets answer
+
+pub record IntoBy (outer : Outer) (walked : Walked) (came : List ℕ) (next : Outer) (then : Stage)
+    : Type 0 where
+  pub sound : IsStage next then
+  pub syntax : next.syntax ≡ outer.syntax
+  pub sifts : (tags : List Tag) (octets : List ℕ) (answer : Sifted)
+      → StageSifts tags next then octets answer
+      → SiftsOn (WalkedLeads walked) (FollowsInto tags outer came answer) octets answer
+
+-- What octets that end at a stage are: the data set that was kept, or faulty.
+abbrev pub EndsBy : Stage → Option ReadFault → Type 0
+EndsBy stage None =
+    (tags : List Tag) (outer : Outer) (octets : List ℕ) (answer : Sifted)
+    → OuterSifts tags outer octets answer → StageSifts tags outer stage octets answer
+EndsBy stage (Some fault) =
+    (tags : List Tag) (outer : Outer) → IsStage outer stage
+    → StageSifts tags outer stage [] (Fault fault)
