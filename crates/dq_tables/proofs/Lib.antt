@@ -8,3 +8,6 @@ pub mod Seen
 pub mod Listing
 pub mod Refusing
 pub mod Calling
+pub mod Members
+pub mod OneOrder
+pub mod Rising

@@ -1,5 +1,5 @@
 -- The records of a kind, in the order of their keys.
-use Rattle.std.proofs.Common.{◌≡◌, ℕ, true, nat_eq, List, [], ◌∷◌, map, refl, sym, ap, ◌∙◌, subst, arith, if◌then◌else◌}
+use Rattle.std.proofs.Common.{◌≡◌, ℕ, Bool, true, false, nat_eq, List, [], ◌∷◌, map, filter, refl, sym, ap, ◌∙◌, subst, arith, if◌then◌else◌}
 use Rattle.std.specs.List.{AllByRecursion}
 use Rattle.std.specs.Str.{bytes_eq}
 use Rattle.std.specs.declared.cmp.Ordering.TheVariants.{Less}
@@ -105,3 +105,15 @@ above_in_order k institution above rows rising =
     (by_keys k institution (rows_above k institution above rows)
     (each_filtered (IsAt k institution) under (rows_of k institution rows) (listed_at k institution rows))
     (IsRising-filter under (rows_of k institution rows) (IsRising-filter (is_of k institution) rows rising)))
+
+-- records that a filter keeps stay in order
+in_order_by : (r : Record) (kept : List Record) (b : Bool) → AllByRecursion (λ (s : Record). octet_order r.key s.key ≡ Less) kept → AreInOrder kept
+    → AreInOrder (if b then r ∷ kept else kept)
+in_order_by r kept true later ordered = (later, ordered)
+in_order_by r kept false later ordered = ordered
+
+pub in_order_filter : (p : Record → Bool) (records : List Record) → AreInOrder records → AreInOrder (filter p records)
+in_order_filter p [] ordered = tt
+in_order_filter p (r ∷ records) ordered =
+    in_order_by r (filter p records) (p r) (each_filtered (λ (s : Record). octet_order r.key s.key ≡ Less) p records ordered.0)
+    (in_order_filter p records ordered.1)

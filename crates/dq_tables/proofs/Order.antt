@@ -70,14 +70,14 @@ past_cases p q r Less e late less = cc
 past_cases p q r Equal e late less = greater_from p r (sym (rows_total.congr q p r e) ∙ less)
 past_cases p q r Greater e late less = greater_from p r (rows_total.trans p q r (less_from q p e) less)
 
-later_past : (p q : RowPlace) → is_lt (row_place_order q p) ≡ false → (rows : List Row)
+pub later_past : (p q : RowPlace) → is_lt (row_place_order q p) ≡ false → (rows : List Row)
     → AllByRecursion (λ (later : Row). row_place_order q (row_place_of later) ≡ Less) rows
     → AllByRecursion (λ (later : Row). row_place_order (row_place_of later) p ≡ Greater) rows
 later_past p q late rows h =
     each_weaker (λ (r : Row). row_place_order q (row_place_of r) ≡ Less) (λ (r : Row). row_place_order (row_place_of r) p ≡ Greater)
     (λ (r : Row) less. past_cases p q (row_place_of r) (row_place_order q p) refl late less) rows h
 
-all_past : (p : RowPlace) (rows : List Row) → AllByRecursion (λ (later : Row). row_place_order (row_place_of later) p ≡ Greater) rows
+pub all_past : (p : RowPlace) (rows : List Row) → AllByRecursion (λ (later : Row). row_place_order (row_place_of later) p ≡ Greater) rows
     → (rows_before p rows ≡ []) × (filter (is_at p) rows ≡ []) × (rows_past p rows ≡ rows)
 all_past p rows h = (
   filter_none (is_before p) rows (each_weaker _ (λ (r : Row). is_before p r ≡ false) (λ (r : Row) e. ap is_lt e) rows h),

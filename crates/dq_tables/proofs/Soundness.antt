@@ -9,7 +9,7 @@ use Rattle.dq_tables.specs.declared.row.Kind.TheVariants.{Study, Series, Image, 
 use Rattle.dq_tables.specs.declared.row.Row.{Row}
 use Rattle.dq_tables.specs.declared.change.Change.{Change}
 use Rattle.dq_tables.specs.declared.change.Change.TheVariants.{Stored, EntryAdded, EntryRemoved, StepAdded, StepChanged}
-use Rattle.dq_tables.specs.Rows.{RowPlace, row_place_of, row_place_order, place, rows_before, rows_past, Edit, Put, Remove, record_of, row_of, after_edit, after_edits, after, operation_of, put_if, IsOf, edit_place, left_there, within}
+use Rattle.dq_tables.specs.Rows.{RowPlace, row_place_of, row_place_order, place, rows_before, rows_past, Edit, Put, Remove, record_of, row_of, after_edit, after_edits, after, operation_of, put_if, IsOf, edit_place, left_by, of, within}
 use Rattle.dq_tables.specs.Finding.{row_at}
 use Rattle.dq_tables.specs.Sound.{IsSound, HeldEach, is_own, is_held, IsNew, IsNewIf, IsChanged, Fits, FitsStored}
 use Rattle.dq_tables.proofs.Order.{rows_total, is_at, is_before, is_past, each_filtered, each_appended, each_weaker}
@@ -146,13 +146,14 @@ held_each rows more grows some held =
     each_weaker (λ (row : Row). is_held rows row.kind row.inst row.above ≡ true) (λ (row : Row). is_held more row.kind row.inst row.above ≡ true)
     (λ (row : Row) h. held_more rows more grows row.kind row.inst row.above h) some held
 
-each_edited : (P : Row → Type 0) (h : List ℕ) (e : Edit) (rows : List Row) → AllByRecursion P rows → AllByRecursion P (map (row_of h) (left_there e))
+each_edited : (P : Row → Type 0) (h : List ℕ) (e : Edit) (rows : List Row) → AllByRecursion P rows → AllByRecursion P (map (row_of h) (left_by e (of h rows)))
     → AllByRecursion P (after_edit h e rows)
 unfolding after_edit
 each_edited P h e rows all put =
     let p = within h (edit_place e) in
-    each_appended P (rows_before p rows ++ map (row_of h) (left_there e)) (rows_past p rows)
-    (each_appended P (rows_before p rows) (map (row_of h) (left_there e)) (each_filtered P (is_before p) rows all) put) (each_filtered P (is_past p) rows all)
+    each_appended P (rows_before p rows ++ map (row_of h) (left_by e (of h rows))) (rows_past p rows)
+    (each_appended P (rows_before p rows) (map (row_of h) (left_by e (of h rows))) (each_filtered P (is_before p) rows all) put)
+    (each_filtered P (is_past p) rows all)
 
 pub put_sound : (rows : List Row) (row : Row) → IsSound rows → is_own row ≡ true → is_held rows row.kind row.inst row.above ≡ true
     → IsSound (after_edit row.inst (Put (record_of row)) rows)

@@ -3,15 +3,8 @@ use Rattle.std.specs.Prelude.{◌≡◌, ℕ, ◌+◌, ◌<◌, ◌≤◌, take,
 use Rattle.std.specs.Str.{bytes_eq}
 use Rattle.dq_tables.specs.declared.row.Kind.{Kind}
 use Rattle.dq_tables.specs.declared.row.Row.{Row}
-use Rattle.dq_tables.specs.Rows.{number_of, Record, RowPlace, rows_before, rows_past}
-
-abbrev pub same_kind : Kind → Kind → Bool
-same_kind a b = number_of a == number_of b
-
--- the record of a kind with a key
-unfoldable pub record_at : Kind → List ℕ → List Record → Option Record
-record_at kind key records =
-    find (λ (r : Record). same_kind r.kind kind && bytes_eq r.key key) records
+use Rattle.dq_tables.specs.Rows.{Record, RowPlace, rows_before, rows_past}
+unfoldable pub use Rattle.dq_tables.specs.Rows.{same_kind, record_at}
 
 -- the records of a kind, and those among them under another record
 unfoldable pub records_of : Kind → List Record → List Record

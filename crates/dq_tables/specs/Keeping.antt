@@ -1,43 +1,44 @@
--- What a call of tables leaves besides its answer: `rows` are the rows of tables, `honest` says
--- that they are read and kept truly, `failed` that a call has answered Store, and `may_leave` which
--- rows a crash may leave.
+-- What tables show to contracts, and what a call of them leaves besides its answer.
 use Rattle.std.specs.Prelude.{◌≡◌, Bool, true, List, Result, Err, OnOk, OnErr, ◌⊎◌}
 use Rattle.dq_tables.specs.declared.fault.TableFault.{TableFault}
 use Rattle.dq_tables.specs.declared.fault.TableFault.TheVariants.{Store}
 use Rattle.dq_tables.specs.declared.row.Row.{Row}
 
+-- The rows, in order of kind, institution and key. Tables are honest while nothing else writes the
+-- rows, and what was written is what is read. They have failed once a call has answered Store. A
+-- crash may leave some lists of rows and no others.
+pub record State : Type 1 where
+  pub rows : List Row
+  pub honest : Type 0
+  pub failed : Bool
+  pub may_leave : List Row → Type 0
+
 -- A crash leaves the rows and no others.
-pub record IsSettled {Tables : Type 0} (rows : Tables → List Row)
-    (may_leave : Tables → List Row → Type 0) (it : Tables) : Type 0 where
-  pub only : (r : List Row) → may_leave it r → r ≡ rows it
+pub record IsSettled (it : State) : Type 0 where
+  pub only : (r : List Row) → it.may_leave r → r ≡ it.rows
 
 -- What was not honest does not become so. Store is answered only where a failure is there
 -- afterwards, and a failure comes with Store alone and stays.
-pub record Goes {Tables : Type 0} {Answer : Type 0} (honest : Tables → Type 0)
-    (failed : Tables → Bool) (old new : Tables)
-    (result : Result Answer TableFault) : Type 0 where
-  pub was_honest : honest new → honest old
-  pub told : result ≡ Err Store → failed new ≡ true
-  pub untold : failed new ≡ true → (failed old ≡ true) ⊎ (result ≡ Err Store)
-  pub lasts : failed old ≡ true → failed new ≡ true
+pub record Goes {Answer : Type 0} (old new : State) (result : Result Answer TableFault)
+    : Type 0 where
+  pub was_honest : new.honest → old.honest
+  pub told : result ≡ Err Store → new.failed ≡ true
+  pub untold : new.failed ≡ true → (old.failed ≡ true) ⊎ (result ≡ Err Store)
+  pub lasts : old.failed ≡ true → new.failed ≡ true
 
 -- a call that reads
-pub record Reads {Tables : Type 0} {Answer : Type 0} (rows : Tables → List Row)
-    (honest : Tables → Type 0) (failed : Tables → Bool)
-    (may_leave : Tables → List Row → Type 0) (old new : Tables)
-    (result : Result Answer TableFault) : Type 0 where
-  pub goes : Goes honest failed old new result
-  pub same : honest new → rows new ≡ rows old
-  pub crash : honest new → (r : List Row) → may_leave new r → may_leave old r
+pub record Reads {Answer : Type 0} (old new : State) (result : Result Answer TableFault)
+    : Type 0 where
+  pub goes : Goes old new result
+  pub same : new.honest → new.rows ≡ old.rows
+  pub crash : new.honest → (r : List Row) → new.may_leave r → old.may_leave r
 
 -- a call that changes the rows, whole or not at all
-pub record Writes {Tables : Type 0} {Answer : Type 0} (rows : Tables → List Row)
-    (honest : Tables → Type 0) (failed : Tables → Bool)
-    (may_leave : Tables → List Row → Type 0) (old new : Tables) (changed : List Row)
+pub record Writes {Answer : Type 0} (old new : State) (changed : List Row)
     (result : Result Answer TableFault) : Type 0 where
-  pub goes : Goes honest failed old new result
-  pub done : honest new → OnOk result (rows new ≡ changed)
-  pub same : honest new → OnErr result (rows new ≡ rows old)
-  pub settles : honest new → OnOk result (IsSettled rows may_leave new)
-  pub crash : honest new
-      → OnErr result ((r : List Row) → may_leave new r → (may_leave old r) ⊎ (r ≡ changed))
+  pub goes : Goes old new result
+  pub done : new.honest → OnOk result (new.rows ≡ changed)
+  pub same : new.honest → OnErr result (new.rows ≡ old.rows)
+  pub settles : new.honest → OnOk result (IsSettled new)
+  pub crash : new.honest
+      → OnErr result ((r : List Row) → new.may_leave r → (old.may_leave r) ⊎ (r ≡ changed))

@@ -1,24 +1,13 @@
 -- The keys that a data set holds.
-use Rattle.std.specs.Prelude.{ℕ, Bool, ◌&&◌, nat_le, List, length, find, Option, Some, None, if◌then◌else◌}
+use Rattle.std.specs.Prelude.{ℕ, Bool, ◌&&◌, nat_le, List, length, Option, Some, None, if◌then◌else◌}
 use Rattle.dq_vr.specs.declared.Tag.{Tag}
 use Rattle.dq_vr.specs.Tags.{scheduled_procedure_step_sequence, scheduled_procedure_step_id}
-use Rattle.dq_value.specs.Parts.{parts, sole}
+use Rattle.dq_value.specs.Parts.{sole}
 use Rattle.dq_value.specs.Uid.{is_uid}
 use Rattle.dq_dataset.specs.declared.data_set.Element.{Element}
 use Rattle.dq_dataset.specs.declared.data_set.Value.TheVariants.{Octets, Items}
 use Rattle.dq_dataset.specs.Tree.{ElementList}
-use Rattle.dq_dataset.specs.View.{elements_of, has_tag}
-
-abbrev pub element_at : Tag → ElementList → Option Element
-element_at tag d = find (has_tag tag) (elements_of d)
-
--- the only value of an element
-unfoldable pub sole_of : Option Element → Option (List ℕ)
-sole_of None = None
-sole_of (Some e) = elim e.value [ Octets octets ↦ sole (parts e.vr octets) | Items items ↦ None ]
-
-unfoldable pub sole_at : Tag → ElementList → Option (List ℕ)
-sole_at tag d = sole_of (element_at tag d)
+use Rattle.dq_dataset.specs.Values.{element_at, sole_at}
 
 abbrev pub passing : (List ℕ → Bool) → Option (List ℕ) → Option (List ℕ)
 passing test None = None

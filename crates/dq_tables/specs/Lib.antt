@@ -2,6 +2,8 @@ pub mod Rows
 pub mod Finding
 pub mod Records
 pub mod Keys
+pub mod Faults
+pub mod Labels
 pub mod Sound
 pub mod Keeping
 pub mod Serving

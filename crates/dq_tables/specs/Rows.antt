@@ -1,8 +1,8 @@
 -- What is kept: records of one institution, rows of all, and what changes make of them.
-use Rattle.std.specs.Prelude.{◌≡◌, ℕ, List, [], ◌∷◌, ◌++◌, if◌then◌else◌, filter, map, Option, Some, None}
+use Rattle.std.specs.Prelude.{◌≡◌, ℕ, Bool, ◌==◌, ◌&&◌, not, find, List, [], ◌∷◌, ◌++◌, if◌then◌else◌, filter, map, Option, Some, None}
 use Rattle.std.specs.declared.cmp.Ordering.{Ordering}
 use Rattle.std.specs.declared.cmp.Ordering.TheVariants.{Less}
-use Rattle.std.specs.Ordering.{nat_cmp, ordering_then, is_lt, is_gt}
+use Rattle.std.specs.Ordering.{nat_cmp, ordering_then, is_lt, is_eq, is_gt}
 use Rattle.std.specs.Cmp.Lexicographic.{slice_cmp}
 use Rattle.std.specs.List.{AllByRecursion}
 use Rattle.std.specs.Str.{bytes_eq}
@@ -52,6 +52,14 @@ records_before p records = filter (λ (r : Record). is_lt (place_order (place_of
 abbrev pub records_past : Place → List Record → List Record
 records_past p records = filter (λ (r : Record). is_gt (place_order (place_of r) p)) records
 
+abbrev pub same_kind : Kind → Kind → Bool
+same_kind a b = number_of a == number_of b
+
+-- the record of a kind with a key
+unfoldable pub record_at : Kind → List ℕ → List Record → Option Record
+record_at kind key records =
+    find (λ (r : Record). same_kind r.kind kind && bytes_eq r.key key) records
+
 -- A record put in its place, where it replaces the one that was there, or the record at a place
 -- removed.
 pub data Edit : Type 0 where
@@ -62,14 +70,19 @@ abbrev pub edit_place : Edit → Place
 edit_place (Put r) = place_of r
 edit_place (Remove kind key) = record { kind = kind; key = key }
 
--- what stands at that place afterwards
-abbrev pub left_there : Edit → List Record
-left_there (Put r) = r ∷ []
-left_there (Remove kind key) = []
+-- what stands at that place afterwards, by what stands there before
+abbrev pub left_there : Edit → Option Record → List Record
+left_there (Put r) there = r ∷ []
+left_there (Remove kind key) there = []
+
+abbrev pub left_by : Edit → List Record → List Record
+left_by e records =
+    left_there e (record_at (edit_place e).kind (edit_place e).key records)
 
 unfoldable pub edited_by : Edit → List Record → List Record
 edited_by e records =
-    records_before (edit_place e) records ++ left_there e ++ records_past (edit_place e) records
+    records_before (edit_place e) records ++ left_by e records
+    ++ records_past (edit_place e) records
 
 -- the records after some edits in turn
 abbrev pub edited : List Edit → List Record → List Record
@@ -137,10 +150,15 @@ rows_before p rows = filter (λ (row : Row). is_lt (row_place_order (row_place_o
 abbrev pub rows_past : RowPlace → List Row → List Row
 rows_past p rows = filter (λ (row : Row). is_gt (row_place_order (row_place_of row) p)) rows
 
+abbrev pub rows_elsewhere : RowPlace → List Row → List Row
+rows_elsewhere p rows =
+    filter (λ (row : Row). not (is_eq (row_place_order (row_place_of row) p))) rows
+
 -- the rows after an edit of an institution's records
 unfoldable pub after_edit : List ℕ → Edit → List Row → List Row
 after_edit institution e rows =
-    rows_before (within institution (edit_place e)) rows ++ map (row_of institution) (left_there e)
+    rows_before (within institution (edit_place e)) rows
+    ++ map (row_of institution) (left_by e (of institution rows))
     ++ rows_past (within institution (edit_place e)) rows
 
 abbrev pub after_edits : List ℕ → List Edit → List Row → List Row

@@ -16,6 +16,17 @@ pub enum TableFault {
     Store = 2,
 }
 
+impl TableFault {
+    ghost use Rattle.dq_tables.specs.Faults.{number_of_fault};
+
+    /// 1 and 2, in the order in which the faults are declared.
+    pub fn number(self) -> u8
+        ensures { result ≡ number_of_fault self }
+    {
+        self as u8
+    }
+}
+
 impl From<AllocError> for TableFault {
     ghost from_gives = { λ _ e. e ≡ NoMemory };
 

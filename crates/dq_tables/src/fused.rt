@@ -1,10 +1,16 @@
 //! Tables that fail, for tests.
-ghost use Rattle.std.specs.Prelude.{◌≡◌, ◌||◌, false, true, OnOk, IfErr, List};
-ghost use Rattle.dq_tables.specs.declared.row.Row.{Row};
+ghost use Rattle.std.specs.Prelude.{◌≡◌, ◌||◌, false, true, length, OnOk, IfOk, IfErr, List};
 ghost use Rattle.dq_tables.specs.declared.fault.TableFault.TheVariants.{Store};
+ghost use Rattle.dq_tables.specs.declared.row.Row.{Row};
+ghost use Rattle.dq_tables.specs.Rows.{after, operation_of};
+ghost use Rattle.dq_tables.specs.Finding.{row_at, rows_of, rows_above};
+ghost use Rattle.dq_tables.specs.Sound.{Fits};
+ghost use Rattle.dq_tables.specs.Keeping.{Reads, Writes};
+ghost use Rattle.dq_tables.specs.Faults.{burnt};
 
 use crate::change::Change;
 use crate::fault::TableFault;
+use crate::fuse::Fuse;
 use crate::row::{Kind, Row};
 use crate::tables::Tables;
 use dq_list::Listed;
@@ -15,32 +21,40 @@ use std::alloc::Global;
 #[derive(Debug, Drop)]
 pub struct Fused<T> {
     tables: T,
-    left: u64,
-    blown: bool,
+    fuse: Fuse,
 }
 
 impl<T: Tables> Fused<T> {
     /// The tables, for so many changes. It takes no memory.
     pub fn new(tables: T, left: u64) -> Fused<T>
-        ensures rows { ⟦<Fused<T> as Tables>⟧.rows result ≡ T.rows tables }
-        ensures honest { T.honest tables → ⟦<Fused<T> as Tables>⟧.honest result }
-        ensures was_honest { ⟦<Fused<T> as Tables>⟧.honest result → T.honest tables }
-        ensures failed { ⟦<Fused<T> as Tables>⟧.failed result ≡ T.failed tables }
-        ensures crash { (r : List Row) → ⟦<Fused<T> as Tables>⟧.may_leave result r
-            → T.may_leave tables r }
+        ensures rows { (⟦<Fused<T> as Tables>⟧.state result).rows ≡ (T.state tables).rows }
+        ensures honest { (T.state tables).honest → (⟦<Fused<T> as Tables>⟧.state result).honest }
+        ensures was_honest { (⟦<Fused<T> as Tables>⟧.state result).honest
+            → (T.state tables).honest }
+        ensures failed { (⟦<Fused<T> as Tables>⟧.state result).failed ≡ (T.state tables).failed }
+        ensures crash { (r : List Row) → (⟦<Fused<T> as Tables>⟧.state result).may_leave r
+            → (T.state tables).may_leave r }
+        ensures fuse { result.fuse ≡ record { left = left; blown = false } }
     {
         Fused {
             tables,
-            left,
-            blown: false,
+            fuse: Fuse { left, blown: false },
         }
     }
 
-    fn check(&self) -> Result<(), TableFault>
-        ensures ok { OnOk result (self.now.blown ≡ false) }
-        ensures err { IfErr result (λ fault. (fault ≡ Store) × (self.now.blown ≡ true)) }
+    /// How many changes it will still make, and whether it answers `Store` to each call.
+    pub fn fuse(&self) -> Fuse
+        ensures { result ≡ self.now.fuse }
     {
-        if self.blown {
+        let Fused { fuse, .. } = self;
+        *fuse
+    }
+
+    fn check(&self) -> Result<(), TableFault>
+        ensures ok { OnOk result (self.now.fuse.blown ≡ false) }
+        ensures err { IfErr result (λ fault. (fault ≡ Store) × (self.now.fuse.blown ≡ true)) }
+    {
+        if self.fuse.blown {
             return Err(TableFault::Store);
         }
         Ok(())
@@ -48,117 +62,125 @@ impl<T: Tables> Fused<T> {
 }
 
 impl<T: Tables> Tables for Fused<T> {
-    ghost rows = { λ f. T.rows f.tables };
-
-    ghost honest = { λ f. T.honest f.tables };
-
-    ghost failed = { λ f. f.blown || T.failed f.tables };
-
-    ghost may_leave = { λ f. T.may_leave f.tables };
+    ghost state = { λ f. record {
+      rows = (T.state f.tables).rows;
+      honest = (T.state f.tables).honest;
+      failed = f.fuse.blown || (T.state f.tables).failed;
+      may_leave = (T.state f.tables).may_leave;
+    } };
 
     ghost sound = { λ f h. T.sound f.tables h };
 
-    fn study(
+    ghost left_sound = { λ f h r left. T.left_sound f.tables h r left };
+
+    fn row(
         &mut self,
         alloc: Global,
+        kind: Kind,
         institution: &[u8],
         key: &[u8],
-    ) -> Result<Option<Row>, TableFault> {
+    ) -> Result<Option<Row>, TableFault>
+        ensures found { (⟦<Fused<T> as Tables>⟧.state self.new).honest → IfOk result
+            (λ found. found
+            ≡ row_at kind institution.now key.now (⟦<Fused<T> as Tables>⟧.state self.old).rows) }
+        ensures reads { Reads (⟦<Fused<T> as Tables>⟧.state self.old)
+            (⟦<Fused<T> as Tables>⟧.state self.new) result }
+        ensures fuse { self.new.fuse ≡ self.old.fuse }
+        ensures blown { self.old.fuse.blown ≡ true → result ≡ Err Store }
+    {
         self.check()?;
-        self.tables.study(alloc, institution, key)
+        self.tables.row(alloc, kind, institution, key)
     }
 
-    fn series(
+    fn rows_of(
         &mut self,
         alloc: Global,
+        kind: Kind,
         institution: &[u8],
-        key: &[u8],
-    ) -> Result<Option<Row>, TableFault> {
+    ) -> Result<Listed<Row>, TableFault>
+        ensures found { (⟦<Fused<T> as Tables>⟧.state self.new).honest → IfOk result
+            (λ found. found
+            ≡ rows_of kind institution.now (⟦<Fused<T> as Tables>⟧.state self.old).rows) }
+        ensures reads { Reads (⟦<Fused<T> as Tables>⟧.state self.old)
+            (⟦<Fused<T> as Tables>⟧.state self.new) result }
+        ensures fuse { self.new.fuse ≡ self.old.fuse }
+        ensures blown { self.old.fuse.blown ≡ true → result ≡ Err Store }
+    {
         self.check()?;
-        self.tables.series(alloc, institution, key)
+        self.tables.rows_of(alloc, kind, institution)
     }
 
-    fn image(
+    fn rows_above(
         &mut self,
         alloc: Global,
-        institution: &[u8],
-        key: &[u8],
-    ) -> Result<Option<Row>, TableFault> {
-        self.check()?;
-        self.tables.image(alloc, institution, key)
-    }
-
-    fn entry(
-        &mut self,
-        alloc: Global,
-        institution: &[u8],
-        key: &[u8],
-    ) -> Result<Option<Row>, TableFault> {
-        self.check()?;
-        self.tables.entry(alloc, institution, key)
-    }
-
-    fn step(
-        &mut self,
-        alloc: Global,
-        institution: &[u8],
-        key: &[u8],
-    ) -> Result<Option<Row>, TableFault> {
-        self.check()?;
-        self.tables.step(alloc, institution, key)
-    }
-
-    fn studies(&mut self, alloc: Global, institution: &[u8]) -> Result<Listed<Row>, TableFault> {
-        self.check()?;
-        self.tables.studies(alloc, institution)
-    }
-
-    fn entries(&mut self, alloc: Global, institution: &[u8]) -> Result<Listed<Row>, TableFault> {
-        self.check()?;
-        self.tables.entries(alloc, institution)
-    }
-
-    fn steps(&mut self, alloc: Global, institution: &[u8]) -> Result<Listed<Row>, TableFault> {
-        self.check()?;
-        self.tables.steps(alloc, institution)
-    }
-
-    fn series_of(
-        &mut self,
-        alloc: Global,
+        kind: Kind,
         institution: &[u8],
         above: &[u8],
-    ) -> Result<Listed<Row>, TableFault> {
+    ) -> Result<Listed<Row>, TableFault>
+        ensures found { (⟦<Fused<T> as Tables>⟧.state self.new).honest → IfOk result
+            (λ found. found
+            ≡ rows_above kind institution.now above.now (⟦<Fused<T> as Tables>⟧.state self.old).rows) }
+        ensures reads { Reads (⟦<Fused<T> as Tables>⟧.state self.old)
+            (⟦<Fused<T> as Tables>⟧.state self.new) result }
+        ensures fuse { self.new.fuse ≡ self.old.fuse }
+        ensures blown { self.old.fuse.blown ≡ true → result ≡ Err Store }
+    {
         self.check()?;
-        self.tables.series_of(alloc, institution, above)
+        self.tables.rows_above(alloc, kind, institution, above)
     }
 
-    fn images_of(
-        &mut self,
-        alloc: Global,
-        institution: &[u8],
-        above: &[u8],
-    ) -> Result<Listed<Row>, TableFault> {
-        self.check()?;
-        self.tables.images_of(alloc, institution, above)
-    }
-
-    fn count(&mut self, alloc: Global, kind: Kind, institution: &[u8]) -> Result<u64, TableFault> {
+    fn count(&mut self, alloc: Global, kind: Kind, institution: &[u8]) -> Result<u64, TableFault>
+        ensures found { (⟦<Fused<T> as Tables>⟧.state self.new).honest → IfOk result
+            (λ found. found
+            ≡ length (rows_of kind institution.now (⟦<Fused<T> as Tables>⟧.state self.old).rows)) }
+        ensures reads { Reads (⟦<Fused<T> as Tables>⟧.state self.old)
+            (⟦<Fused<T> as Tables>⟧.state self.new) result }
+        ensures fuse { self.new.fuse ≡ self.old.fuse }
+        ensures blown { self.old.fuse.blown ≡ true → result ≡ Err Store }
+    {
         self.check()?;
         self.tables.count(alloc, kind, institution)
     }
 
-    fn failed(&self) -> bool {
-        self.blown || self.tables.failed()
+    fn count_above(
+        &mut self,
+        alloc: Global,
+        kind: Kind,
+        institution: &[u8],
+        above: &[u8],
+    ) -> Result<u64, TableFault>
+        ensures found { (⟦<Fused<T> as Tables>⟧.state self.new).honest → IfOk result
+            (λ found. found
+            ≡ length (rows_above kind institution.now above.now
+            (⟦<Fused<T> as Tables>⟧.state self.old).rows)) }
+        ensures reads { Reads (⟦<Fused<T> as Tables>⟧.state self.old)
+            (⟦<Fused<T> as Tables>⟧.state self.new) result }
+        ensures fuse { self.new.fuse ≡ self.old.fuse }
+        ensures blown { self.old.fuse.blown ≡ true → result ≡ Err Store }
+    {
+        self.check()?;
+        self.tables.count_above(alloc, kind, institution, above)
     }
 
-    fn apply(&mut self, alloc: Global, change: &Change) -> Result<(), TableFault> {
+    fn failed(&self) -> bool {
+        self.fuse.blown || self.tables.failed()
+    }
+
+    fn apply(&mut self, alloc: Global, change: &Change) -> Result<(), TableFault>
+        requires { (⟦<Fused<T> as Tables>⟧.state self.old).honest
+            → Fits (⟦<Fused<T> as Tables>⟧.state self.old).rows change.now }
+        ensures writes { Writes (⟦<Fused<T> as Tables>⟧.state self.old)
+            (⟦<Fused<T> as Tables>⟧.state self.new)
+            (after (operation_of change.now) (⟦<Fused<T> as Tables>⟧.state self.old).rows) result }
+        ensures fuse { self.new.fuse ≡ burnt self.old.fuse }
+        ensures blown { self.new.fuse.blown ≡ true → result ≡ Err Store }
+    {
         self.check()?;
-        if self.left == 0 {
-            self.blown = true;
+        if self.fuse.left == 0 {
+            self.fuse.blown = true;
             return Err(TableFault::Store);
         }
-        self.left -= 1;
+        self.fuse.left -= 1;
         self.tables.apply(alloc, change)
     }
 }

@@ -1,31 +1,19 @@
 //! The keys that a data set holds.
 ghost use Rattle.std.specs.Prelude.{◌≡◌};
 ghost use Rattle.std.specs.Option.{option_copied};
-ghost use Rattle.dq_tables.specs.Keys.{sole_of, sole_at, uid_at, sole_item_at, entry_id, is_id};
+ghost use Rattle.dq_tables.specs.Keys.{uid_at, sole_item_at, entry_id, is_id};
 
 use dq_dataset::{DataSet, Value};
-use dq_value::{is_uid, sole_value};
+use dq_value::is_uid;
 use dq_vr::Tag;
 use dq_vr::tags::{SCHEDULED_PROCEDURE_STEP_ID, SCHEDULED_PROCEDURE_STEP_SEQUENCE};
-
-/// The value of the element with the tag, where it has exactly one, trimmed (PS3.5 section 6.4).
-#[tactic(auto, unfolding(crate::specs::Keys::sole_at, crate::specs::Keys::sole_of))]
-pub fn sole_at(data_set: &DataSet, tag: Tag) -> Option<&[u8]>
-    ensures { option_copied result ≡ sole_at tag data_set.now }
-{
-    let element = data_set.get(tag)?;
-    match &element.value {
-        Value::Octets(octets) => sole_value(element.vr, octets.as_slice()),
-        Value::Items(_) => None,
-    }
-}
 
 /// The value of the element with the tag, where it is exactly one UID (PS3.5 section 9.1).
 #[tactic(auto, unfolding(crate::specs::Keys::uid_at))]
 pub fn uid_at(data_set: &DataSet, tag: Tag) -> Option<&[u8]>
     ensures { option_copied result ≡ uid_at tag data_set.now }
 {
-    let value = sole_at(data_set, tag)?;
+    let value = data_set.sole_value(tag)?;
     if is_uid(value) { Some(value) } else { None }
 }
 
@@ -51,7 +39,7 @@ pub fn entry_id(data_set: &DataSet) -> Option<&[u8]>
     ensures { option_copied result ≡ entry_id data_set.now }
 {
     let step = sole_item_at(data_set, SCHEDULED_PROCEDURE_STEP_SEQUENCE)?;
-    let id = sole_at(step, SCHEDULED_PROCEDURE_STEP_ID)?;
+    let id = step.sole_value(SCHEDULED_PROCEDURE_STEP_ID)?;
     if 1 <= id.len() && id.len() <= 16 {
         Some(id)
     } else {

@@ -1,10 +1,10 @@
 //! Laws of rows and of their changes. Each function's contract is a law; its body does nothing.
 
-ghost use Rattle.std.specs.Prelude.{◌≡◌, ◌≢◌, ℕ, List, map, length, option_map, false};
+ghost use Rattle.std.specs.Prelude.{◌≡◌, ◌≢◌, ℕ, List, ◌∷◌, map, length, option_map, false, None, IsPermutation};
 ghost use Rattle.dq_tables.specs.declared.row.Kind.{Kind};
 ghost use Rattle.dq_tables.specs.declared.row.Row.{Row};
 ghost use Rattle.dq_tables.specs.declared.change.Change.{Change};
-ghost use Rattle.dq_tables.specs.Rows.{Record, Edit, edited, edited_all, of, IsRising, Operation, by, after, after_all, own_edits, operation_of, row_of};
+ghost use Rattle.dq_tables.specs.Rows.{Record, Edit, Put, Remove, record_of, row_place_of, place, rows_elsewhere, after_edit, edited, edited_all, of, IsRising, Operation, by, after, after_all, own_edits, operation_of, row_of};
 ghost use Rattle.dq_tables.specs.Finding.{row_at, rows_of, rows_above, record_at, records_of, records_above};
 ghost use Rattle.dq_tables.specs.Records.{AreInOrder};
 ghost use Rattle.dq_tables.specs.Sound.{IsSound, Fits};
@@ -76,16 +76,44 @@ pub fn records_are_in_order()
         → AreInOrder (records_above kind above (of institution rows)) }
 {}
 
-/// What keeps rows honestly keeps sound rows, which are in order.
+/// What keeps rows honestly keeps sound rows, which are in order, and a crash leaves sound rows.
 pub fn honest_rows_are_sound<T: Tables>()
-    ensures sound { (it : T) → T.honest it → IsSound (T.rows it) }
-    ensures rising { (it : T) → T.honest it → IsRising (T.rows it) }
+    ensures sound { (it : T) → (T.state it).honest → IsSound (T.state it).rows }
+    ensures rising { (it : T) → (T.state it).honest → IsRising (T.state it).rows }
+    ensures left { (it : T) → (T.state it).honest
+        → (r : List Row) → (T.state it).may_leave r → IsSound r }
 {}
 
 /// Rows in memory are always honest, their keeper never fails, and a crash leaves none of them.
 pub fn plain_tables_never_fail()
-    ensures honest { (it : PlainTables) → ⟦<PlainTables as Tables>⟧.honest it }
-    ensures failed { (it : PlainTables) → ⟦<PlainTables as Tables>⟧.failed it ≡ false }
+    ensures honest { (it : PlainTables) → (⟦<PlainTables as Tables>⟧.state it).honest }
+    ensures failed { (it : PlainTables) → (⟦<PlainTables as Tables>⟧.state it).failed ≡ false }
     ensures crash { (it : PlainTables) (r : List Row)
-        → ⟦<PlainTables as Tables>⟧.may_leave it r → ⊥ }
+        → (⟦<PlainTables as Tables>⟧.state it).may_leave r → ⊥ }
+{}
+
+/// Rows in order are the only order of themselves.
+#[tactic(auto, using(crate::proofs::OneOrder::one_order))]
+pub fn rows_have_one_order()
+    ensures { (xs ys : List Row) → IsRising xs → IsRising ys → IsPermutation xs ys → xs ≡ ys }
+{}
+
+/// A row that is put is there, and so are the rows elsewhere. Where its place was free, those are
+/// all rows.
+#[tactic(auto, using(crate::proofs::Members::put_has, crate::proofs::Members::added_has))]
+pub fn put_rows_are_there()
+    ensures put { (row : Row) (rows : List Row) → IsRising rows
+        → IsPermutation (row ∷ rows_elsewhere (row_place_of row) rows)
+        (after_edit row.inst (Put (record_of row)) rows) }
+    ensures added { (row : Row) (rows : List Row) → IsRising rows
+        → row_at row.kind row.inst row.key rows ≡ None
+        → IsPermutation (row ∷ rows) (after_edit row.inst (Put (record_of row)) rows) }
+{}
+
+/// Where a row is removed the rows elsewhere are left.
+#[tactic(auto, using(crate::proofs::Members::removed_has))]
+pub fn other_rows_are_left()
+    ensures { (kind : Kind) (institution key : List ℕ) (rows : List Row) → IsRising rows
+        → after_edit institution (Remove kind key) rows
+        ≡ rows_elsewhere (place kind institution key) rows }
 {}

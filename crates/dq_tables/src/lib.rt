@@ -3,8 +3,10 @@
 
 mod change;
 mod fault;
+mod fuse;
 mod fused;
 mod keys;
+mod labels;
 pub mod laws;
 mod own;
 mod plain;
@@ -16,8 +18,12 @@ mod tables;
 
 pub use change::Change;
 pub use fault::TableFault;
+pub use fuse::Fuse;
 pub use fused::Fused;
-pub use keys::{entry_id, sole_at, sole_item_at, uid_at};
+pub use keys::{entry_id, sole_item_at, uid_at};
+pub use labels::Labels;
 pub use plain::PlainTables;
+pub use put::put as put_row;
 pub use row::{Kind, RecordKeys, Row};
+pub use search::search as search_rows;
 pub use tables::Tables;

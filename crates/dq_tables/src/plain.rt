@@ -22,9 +22,9 @@ impl PlainTables {
     /// Tables without rows. It takes no memory.
     #[tactic(auto, unfolding(crate::specs::Rows::IsRising))]
     pub fn new(alloc: Global) -> PlainTables
-        ensures rows { ⟦<PlainTables as crate::tables::Tables>⟧.rows result ≡ [] }
-        ensures honest { ⟦<PlainTables as crate::tables::Tables>⟧.honest result }
-        ensures failed { ⟦<PlainTables as crate::tables::Tables>⟧.failed result ≡ false }
+        ensures rows { (⟦<PlainTables as crate::tables::Tables>⟧.state result).rows ≡ [] }
+        ensures honest { (⟦<PlainTables as crate::tables::Tables>⟧.state result).honest }
+        ensures failed { (⟦<PlainTables as crate::tables::Tables>⟧.state result).failed ≡ false }
     {
         PlainTables {
             kept: Vec::new(alloc),

@@ -1,112 +1,70 @@
 //! Rows in memory are kept as every keeper keeps them.
-ghost use Rattle.std.specs.Prelude.{◌≡◌};
-ghost use Rattle.dq_tables.specs.Sound.{IsSound};
-
 use crate::change::Change;
 use crate::fault::TableFault;
 use crate::plain::PlainTables;
 use crate::row::{Kind, Row};
-use crate::search::{copies, copies_under, found, group};
+use crate::search::{copies, copies_under, count_under, found, group};
 use crate::tables::Tables;
 use dq_list::Listed;
 use std::alloc::Global;
 
 impl Tables for PlainTables {
-    ghost use Rattle.std.specs.Prelude.{false, List};
-    ghost use Rattle.dq_tables.specs.declared.row.Row.{Row};
-    ghost use Rattle.dq_tables.specs.Sound.{IsSound};
+    ghost use Rattle.std.specs.Prelude.{false};
 
-    ghost rows = { λ t. t.kept.items };
-
-    ghost honest = { λ _. Unit {0} };
-
-    ghost failed = { λ _. false };
-
-    ghost may_leave = { λ _ _. ⊥ };
+    ghost state = { λ t. record {
+      rows = t.kept.items;
+      honest = Unit {0};
+      failed = false;
+      may_leave = λ _. ⊥;
+    } };
 
     ghost sound = { λ t _. record { rising = t.rising; own = t.own; held = t.held } };
 
-    fn study(
+    ghost left_sound = { λ _ _ _ left. absurd left };
+
+    fn row(
         &mut self,
         alloc: Global,
+        kind: Kind,
         institution: &[u8],
         key: &[u8],
     ) -> Result<Option<Row>, TableFault> {
-        Ok(found(alloc, self.kept(), Kind::Study, institution, key)?)
+        Ok(found(alloc, self.kept(), kind, institution, key)?)
     }
 
-    fn series(
+    fn rows_of(
         &mut self,
         alloc: Global,
+        kind: Kind,
         institution: &[u8],
-        key: &[u8],
-    ) -> Result<Option<Row>, TableFault> {
-        Ok(found(alloc, self.kept(), Kind::Series, institution, key)?)
-    }
-
-    fn image(
-        &mut self,
-        alloc: Global,
-        institution: &[u8],
-        key: &[u8],
-    ) -> Result<Option<Row>, TableFault> {
-        Ok(found(alloc, self.kept(), Kind::Image, institution, key)?)
-    }
-
-    fn entry(
-        &mut self,
-        alloc: Global,
-        institution: &[u8],
-        key: &[u8],
-    ) -> Result<Option<Row>, TableFault> {
-        Ok(found(alloc, self.kept(), Kind::Entry, institution, key)?)
-    }
-
-    fn step(
-        &mut self,
-        alloc: Global,
-        institution: &[u8],
-        key: &[u8],
-    ) -> Result<Option<Row>, TableFault> {
-        Ok(found(alloc, self.kept(), Kind::Step, institution, key)?)
-    }
-
-    fn studies(&mut self, alloc: Global, institution: &[u8]) -> Result<Listed<Row>, TableFault> {
-        Ok(copies(alloc, group(self.kept(), Kind::Study, institution))?)
-    }
-
-    fn entries(&mut self, alloc: Global, institution: &[u8]) -> Result<Listed<Row>, TableFault> {
-        Ok(copies(alloc, group(self.kept(), Kind::Entry, institution))?)
-    }
-
-    fn steps(&mut self, alloc: Global, institution: &[u8]) -> Result<Listed<Row>, TableFault> {
-        Ok(copies(alloc, group(self.kept(), Kind::Step, institution))?)
+    ) -> Result<Listed<Row>, TableFault> {
+        Ok(copies(alloc, group(self.kept(), kind, institution))?)
     }
 
     #[tactic(auto, unfolding(crate::specs::Finding::rows_above))]
-    fn series_of(
+    fn rows_above(
         &mut self,
         alloc: Global,
+        kind: Kind,
         institution: &[u8],
         above: &[u8],
     ) -> Result<Listed<Row>, TableFault> {
-        let series = group(self.kept(), Kind::Series, institution);
-        Ok(copies_under(alloc, series, above)?)
-    }
-
-    #[tactic(auto, unfolding(crate::specs::Finding::rows_above))]
-    fn images_of(
-        &mut self,
-        alloc: Global,
-        institution: &[u8],
-        above: &[u8],
-    ) -> Result<Listed<Row>, TableFault> {
-        let images = group(self.kept(), Kind::Image, institution);
-        Ok(copies_under(alloc, images, above)?)
+        Ok(copies_under(alloc, group(self.kept(), kind, institution), above)?)
     }
 
     fn count(&mut self, _alloc: Global, kind: Kind, institution: &[u8]) -> Result<u64, TableFault> {
         Ok(group(self.kept(), kind, institution).len() as u64)
+    }
+
+    #[tactic(auto, unfolding(crate::specs::Finding::rows_above))]
+    fn count_above(
+        &mut self,
+        _alloc: Global,
+        kind: Kind,
+        institution: &[u8],
+        above: &[u8],
+    ) -> Result<u64, TableFault> {
+        Ok(count_under(group(self.kept(), kind, institution), above) as u64)
     }
 
     fn failed(&self) -> bool {

@@ -7,7 +7,7 @@ use crate::row::{Kind, Row};
 use crate::search::search;
 
 /// Puts a row in its place, where it replaces the one that was there.
-pub(crate) fn put(rows: &mut Vec<Row>, row: Row)
+pub fn put(rows: &mut Vec<Row>, row: Row)
     requires rising { IsRising rows.old.items }
     requires room { vec_len rows.old < vec_capacity rows.old }
     ensures done { rows.new.items ≡ after_edit row.inst (Put (record_of row)) rows.old.items }

@@ -26,6 +26,8 @@ pub enum Kind {
 }
 
 impl Kind {
+    ghost use Rattle.std.specs.Prelude.{◌↔◌};
+    ghost use Rattle.dq_tables.specs.declared.row.Kind.{Kind};
     ghost use Rattle.dq_tables.specs.Rows.{number_of};
 
     /// 1 to 5, in the order in which the kinds are declared.
@@ -33,6 +35,20 @@ impl Kind {
         ensures { result ≡ number_of self }
     {
         self as u8
+    }
+
+    /// The kind of a number.
+    pub fn from_number(number: u8) -> Option<Kind>
+        ensures { (kind : Kind) → (result ≡ Some kind) ↔ (number_of kind ≡ number) }
+    {
+        match number {
+            1 => Some(Kind::Study),
+            2 => Some(Kind::Series),
+            3 => Some(Kind::Image),
+            4 => Some(Kind::Entry),
+            5 => Some(Kind::Step),
+            _ => None,
+        }
     }
 }
 

@@ -10,12 +10,7 @@ use std::alloc::{AllocError, Global};
 use std::cmp::Ordering;
 
 /// The index of the row at a place, or that where it would stand.
-pub(crate) fn search(
-    rows: &[Row],
-    kind: Kind,
-    institution: &[u8],
-    key: &[u8],
-) -> Result<usize, usize>
+pub fn search(rows: &[Row], kind: Kind, institution: &[u8], key: &[u8]) -> Result<usize, usize>
     requires { IsRising rows.now }
     ensures { MatchResult result (IsThere (place kind institution.now key.now) rows.now)
         (IsFree (place kind institution.now key.now) rows.now) }
@@ -84,6 +79,15 @@ pub(crate) fn copies_under(
         }
     }
     Ok(copies)
+}
+
+/// How many rows are under another row.
+pub(crate) fn count_under(rows: &[Row], above: &[u8]) -> usize
+    ensures { result ≡ length (filter (λ row. bytes_eq row.above above.now) rows.now) }
+{
+    rows.iter()
+        .filter(|row| row.above.as_slice() == above)
+        .count()
 }
 
 /// Copies of the rows.
