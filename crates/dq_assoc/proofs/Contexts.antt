@@ -28,6 +28,7 @@ found-passes test [] x e = absurd cc
 found-passes test (y ∷ ys) x e = found-next (test y) test y x (find test ys) refl (λ later. found-passes test ys x later) e
 
 pub class-named : (uid : List ℕ) (class : SopClass) → class_of uid ≡ Some class → uid_of class ≡ uid
+unfolding class_of
 class-named uid class e =
     (bytes_eq-Decides (uid_of class) uid).0 (found-passes (λ (class : SopClass). bytes_eq (uid_of class) uid) served_classes class e)
 

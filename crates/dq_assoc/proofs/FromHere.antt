@@ -46,7 +46,7 @@ inputs-nil : (h : Held) (roles : List Role) (fault : Option PduFault)
     → inputs_by h roles fault ≡ inputs_by h [] None ++ inputs_by (association_by h []) roles fault
 inputs-nil held.Waiting roles fault = refl
 inputs-nil (held.Open a s) roles fault = nil-open a s roles fault
-inputs-nil held.Closed roles fault = refl
+inputs-nil (held.Closed agreed) roles fault = refl
 
 -- a P-DATA PDU, and the PDUs after it
 carries : (a : Agreement) (s : Assembly) (pdvs : List Pdv) (roles : List Role) (fault : Option PduFault)
@@ -74,9 +74,9 @@ inputs-cons held.Waiting (Ends ending) roles fault = refl
 inputs-cons (held.Open a s) (Carries pdvs) roles fault = carries a s pdvs roles fault
 inputs-cons (held.Open a s) (Asks request) roles fault = sym (append-nil (inputs_by (held.Open a s) (Asks request ∷ []) None))
 inputs-cons (held.Open a s) (Ends ending) roles fault = sym (append-nil (inputs_by (held.Open a s) (Ends ending ∷ []) None))
-inputs-cons held.Closed role roles fault = refl
+inputs-cons (held.Closed agreed) role roles fault = refl
 
-closed-with : (a : Agreement) (s : Assembly) (d : DimseFault) → spent_by s ≡ Some d → (roles : List Role) → open_with a s roles ≡ held.Closed
+closed-with : (a : Agreement) (s : Assembly) (d : DimseFault) → spent_by s ≡ Some d → (roles : List Role) → open_with a s roles ≡ held.Closed (Some a)
 closed-with a s d e [] = ap (λ (f : Option DimseFault). open_if f a s) e
 closed-with a s d e (role ∷ roles) = refl
 
@@ -90,7 +90,7 @@ association-nil : (h : Held) (roles : List Role) → association_by h roles ≡ 
 association-nil held.Waiting roles = refl
 association-nil (held.Open a s) roles =
     leave a s (spent_by s) refl roles ∙ ap (λ (t : Assembly). association_by (open_if (spent_by t) a t) roles) (sym (assembly_from-nil s))
-association-nil held.Closed roles = refl
+association-nil (held.Closed agreed) roles = refl
 
 -- where one PDU, and those after it, leave an association
 pub association-cons : (h : Held) (role : Role) (roles : List Role) → association_by h (role ∷ roles) ≡ association_by (association_by h (role ∷ [])) roles
@@ -103,7 +103,7 @@ association-cons (held.Open a s) (Carries pdvs) roles =
     ∙ ap (λ (v : List Pdv). association_by (open_if (spent_by (assembly_from s v)) a (assembly_from s v)) roles) (sym (append-nil pdvs))
 association-cons (held.Open a s) (Asks request) roles = refl
 association-cons (held.Open a s) (Ends ending) roles = refl
-association-cons held.Closed role roles = refl
+association-cons (held.Closed agreed) role roles = refl
 
 -- PDUs that come in two parts
 pub inputs-append : (h : Held) (xs ys : List Role) (fault : Option PduFault)

@@ -29,15 +29,15 @@ stays-open : (now new : Held) → state_of now ≡ Open → is_closed (state_of 
 stays-open held.Waiting new o u e = absurd cc
 stays-open (held.Open a s) held.Waiting o u e = absurd cc
 stays-open (held.Open a s) (held.Open b t) o u e = refl
-stays-open (held.Open a s) held.Closed o u e = absurd cc
-stays-open held.Closed new o u e = absurd cc
+stays-open (held.Open a s) (held.Closed agreed) o u e = absurd cc
+stays-open (held.Closed agreed) new o u e = absurd cc
 
 -- a PDU that was taken
 pub record TookOne (now new : Held) (pdu : Pdu) (step : Step) : Type 0 where
   pub leads : step ≡ outcome (state_of now) (inputs_from now (pdu ∷ []) None)
   pub closes : step.close ≡ is_closed (state_of new)
   pub after : (before : List Pdu) → AssociationAfter before now → AssociationAfter (before ++ pdu ∷ []) new
-  pub agrees : agreement_in new ≡ cond (is_closed (state_of new)) None (agreement_in now)
+  pub agrees : agreement_in new ≡ agreement_in now
   pub further : (pdus : List Pdu) (fault : Option PduFault) → inputs_from now (pdu ∷ pdus) fault ≡ inputs_from now (pdu ∷ []) None ++ inputs_from new pdus fault
 
 -- PDUs that were taken, their messages, and the PDUs that are left
@@ -67,10 +67,9 @@ pub took-more : (old now new : Held) (list longer : List Message) (fault : Optio
     → TookSome old new longer fault all (done ++ pdu ∷ []) later
 took-more old now new list longer fault all done left later pdu step so l t c e =
     let unclosed_new : is_closed (state_of new) ≡ false = sym t.closes ∙ c in
-    let kept : agreement_in new ≡ agreement_in now = t.agrees ∙ ap (λ (b : Bool). cond b None (agreement_in now)) unclosed_new in
     let first = inputs_from now (pdu ∷ []) None in
     record {
-      is_open = stays-open now new so.is_open unclosed_new kept;
+      is_open = stays-open now new so.is_open unclosed_new t.agrees;
       parts = so.parts ∙ ap (λ (pdus : List Pdu). done ++ pdus) l ∙ sym (append_assoc done (pdu ∷ []) later);
       leads = ap (λ (messages : List Message). after_messages messages (open_outcome (inputs_from new later fault))) e
           ∙ after-both list step.messages (open_outcome (inputs_from new later fault))
@@ -80,7 +79,7 @@ took-more old now new list longer fault all done left later pdu step so l t c e 
           ∙ so.leads;
       after = λ before a.
           subst (λ (pdus : List Pdu). AssociationAfter pdus new) (append_assoc before done (pdu ∷ [])) (t.after (before ++ done) (so.after before a));
-      agrees = kept ∙ so.agrees;
+      agrees = t.agrees ∙ so.agrees;
     }
 
 -- no fault comes after them

@@ -57,12 +57,12 @@ one-then (held.Open a s) (Ends AbortSent) later sound begun =
     rw (read-nil s sound (closing_input (Ends AbortSent) ∷ [])) refl
 one-then (held.Open a s) (Ends OutOfPlace) later sound begun =
     rw (read-nil s sound (closing_input (Ends OutOfPlace) ∷ [])) refl
-one-then held.Closed role later sound begun = refl
+one-then (held.Closed agreed) role later sound begun = refl
 
 none-then : (h : Held) → IsTrue (is_sound h) → state_of h ≢ Waiting → no_step (state_of h) ≡ outcome (state_of h) (inputs_by h [] None)
 none-then held.Waiting sound begun = absurd (begun refl)
 none-then (held.Open a s) sound begun = ap open_outcome (sym (read-nil s sound []))
-none-then held.Closed sound begun = refl
+none-then (held.Closed agreed) sound begun = refl
 
 begun-if : (a : Agreement) (s : Assembly) (f : Option DimseFault) → state_of (open_if f a s) ≢ Waiting
 begun-if a s None = λ e. absurd cc
@@ -73,7 +73,7 @@ begun-next held.Waiting role begun = absurd (begun refl)
 begun-next (held.Open a s) (Carries pdvs) begun = begun-if a (assembly_from s (pdvs ++ [])) (spent_by (assembly_from s (pdvs ++ [])))
 begun-next (held.Open a s) (Asks request) begun = λ e. absurd cc
 begun-next (held.Open a s) (Ends ending) begun = λ e. absurd cc
-begun-next held.Closed role begun = λ e. absurd cc
+begun-next (held.Closed agreed) role begun = λ e. absurd cc
 
 pub one-by-one : (h : Held) (pdus : List Pdu) → IsTrue (is_sound h) → state_of h ≢ Waiting
     → joined_step h pdus ≡ outcome (state_of h) (inputs_by h (map role_of pdus) None)

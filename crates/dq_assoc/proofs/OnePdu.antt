@@ -14,7 +14,7 @@ use Rattle.dq_dimse.proofs.Assemblies.{assembly_from-nil}
 use Rattle.dq_assoc.specs.declared.association.Held.{Held}
 use Rattle.dq_assoc.specs.declared.association.Held.TheVariants as held
 use Rattle.dq_assoc.specs.declared.association.State.{State}
-use Rattle.dq_assoc.specs.declared.association.State.TheVariants.{Waiting, Open}
+use Rattle.dq_assoc.specs.declared.association.State.TheVariants.{Waiting, Open, Closed}
 use Rattle.dq_assoc.specs.declared.association.Step.{Step}
 use Rattle.dq_assoc.specs.declared.association.Verdict.{Verdict}
 use Rattle.dq_assoc.specs.Negotiation.{agreement_of, acceptance_of}
@@ -56,9 +56,9 @@ take-after (Err error) old new pdu x pdus after = tt
 
 pub take-agreement : (result : Result Step AllocError) (old new : Held) (pdu : Pdu) → TakesRole old (role_of pdu)
     → OnOk result (new ≡ association_by old (role_of pdu ∷ []))
-    → OnOk result (agreement_in new ≡ cond (is_closed (state_of new)) None (agreement_in old))
+    → OnOk result (agreement_in new ≡ agreement_in old)
 take-agreement (Ok step) old new pdu takes x =
-    ap agreement_in x ∙ agreement-stays old (role_of pdu) takes ∙ ap (λ (h : Held). cond (is_closed (state_of h)) None (agreement_in old)) (sym x)
+    ap agreement_in x ∙ agreement-stays old (role_of pdu) takes
 take-agreement (Err error) old new pdu takes x = tt
 
 pub take-further : (result : Result Step AllocError) (old new : Held) (pdu : Pdu) → OnOk result (new ≡ association_by old (role_of pdu ∷ []))
@@ -101,10 +101,26 @@ pub accept-agreement : (result : Result Step AllocError) (request : Request) (ve
 accept-agreement (Ok step) request verdict new e x = λ unclosed. ap agreement_in (opened request verdict step new e x unclosed)
 accept-agreement (Err error) request verdict new e x = tt
 
+writable-closed : (b : Bool) (answer : Pdu) → let l = cond b (goes (Some answer) Open) stray_line in is_closed l.next ≡ true → l.next ≡ Closed
+writable-closed true answer e = absurd cc
+writable-closed false answer e = refl
+
+requested-closed : (request : Request) (o : Option Pdu) → is_closed (requested_line request o).next ≡ true → (requested_line request o).next ≡ Closed
+requested-closed request None e = writable-closed (is_writable (acceptance_of request)) (acceptance_of request) e
+requested-closed request (Some answer) e = refl
+
+pub accept-refused : (result : Result Step AllocError) (request : Request) (verdict : Verdict) (new : Held)
+    → let l = line Waiting verdict (Requested request) in
+    IfOk result (λ step. step ≡ step_of l) → OnOk result (new ≡ association_at l.next request)
+    → IfOk result (λ step. step.close ≡ true → agreement_in new ≡ None)
+accept-refused (Ok step) request verdict new e x = λ closed. ap agreement_in
+    (x ∙ ap (λ (state : State). association_at state request) (requested-closed request _ (sym (ap (λ (s : Step). s.close) e) ∙ closed)))
+accept-refused (Err error) request verdict new e x = tt
+
 waiting-is : (h : Held) → state_of h ≡ Waiting → held.Waiting ≡ h
 waiting-is held.Waiting e = refl
 waiting-is (held.Open agreement assembly) e = absurd cc
-waiting-is held.Closed e = absurd cc
+waiting-is (held.Closed agreed) e = absurd cc
 
 pub accept-further : (result : Result Step AllocError) (request : Request) (verdict : Verdict) (old new : Held)
     → let l = line Waiting verdict (Requested request) in

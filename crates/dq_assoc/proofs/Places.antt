@@ -10,4 +10,4 @@ use Rattle.dq_assoc.specs.After.{state_of, Takes}
 pub takes_open : (h : Held) (pdu : Pdu) → state_of h ≡ Open → Takes h pdu
 takes_open held.Waiting pdu e = absurd cc
 takes_open (held.Open agreement assembly) pdu e = tt
-takes_open held.Closed pdu e = absurd cc
+takes_open (held.Closed agreed) pdu e = absurd cc

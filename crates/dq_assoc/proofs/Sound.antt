@@ -37,7 +37,7 @@ sound-with : (a : Agreement) (s : Assembly) (roles : List Role) → IsTrue (is_s
 sound-with a s [] = sound-if a s (spent_by s) refl
 sound-with a s (role ∷ roles) = refl
 
-closed-if : (a : Agreement) (s : Assembly) (f : Option DimseFault) → is_some f ≡ true → held.Closed ≡ open_if f a s
+closed-if : (a : Agreement) (s : Assembly) (f : Option DimseFault) → is_some f ≡ true → held.Closed (Some a) ≡ open_if f a s
 closed-if a s None e = absurd cc
 closed-if a s (Some d) e = refl
 
@@ -57,7 +57,7 @@ sound-by held.Waiting (Asks request ∷ roles) sound = sound-with (agreement_of 
 sound-by held.Waiting (Carries pdvs ∷ roles) sound = refl
 sound-by held.Waiting (Ends ending ∷ roles) sound = refl
 sound-by (held.Open a s) roles sound = sound-with a (assembly_from s (values roles)) (after_values roles)
-sound-by held.Closed roles sound = refl
+sound-by (held.Closed agreed) roles sound = refl
 
 -- what comes where no values came before it
 pub read-nil : (s : Assembly) → IsTrue (is_none (spent_by s)) → (later : List Input) → inputs_of_messages (messages_from s []) later ≡ later
@@ -68,19 +68,19 @@ read-nil s sound later =
 pub nothing-added : (h : Held) → IsTrue (is_sound h) → inputs_by h [] None ≡ []
 nothing-added held.Waiting sound = refl
 nothing-added (held.Open a s) sound = read-nil s sound []
-nothing-added held.Closed sound = refl
+nothing-added (held.Closed agreed) sound = refl
 
 pub fault-added : (h : Held) (fault : PduFault) → IsTrue (is_sound h) → inputs_by h [] (Some fault) ≡ fault_inputs (state_of h) fault
 fault-added held.Waiting fault sound = refl
 fault-added (held.Open a s) fault sound = read-nil s sound _
-fault-added held.Closed fault sound = refl
+fault-added (held.Closed agreed) fault sound = refl
 
 -- what a fault leads to
 pub fault-outcome : (h : Held) (fault : PduFault) → IsTrue (is_sound h)
     → record { messages = []; octets = answer_octets (fault_answer (state_of h) fault); close = true } ≡ outcome (state_of h) (inputs_by h [] (Some fault))
 fault-outcome held.Waiting fault sound = refl
 fault-outcome (held.Open a s) fault sound = ap open_outcome (sym (read-nil s sound (Bad (reason_of fault) ∷ [])))
-fault-outcome held.Closed fault sound = refl
+fault-outcome (held.Closed agreed) fault sound = refl
 
 pub fault-step : (result : Result Step AllocError) (h : Held) (fault : PduFault) (list : List Message) (answer : Option Pdu) → IsTrue (is_sound h)
     → list ≡ [] → answer ≡ fault_answer (state_of h) fault → IfOk result
@@ -93,7 +93,7 @@ fault-step (Err error) h fault list answer sound e f x = tt
 
 -- values leave an association open unless they are no messages
 pub values-closed : (a : Agreement) (s : Assembly) (pdvs : List Pdv) → is_some (messages_from s pdvs).fault ≡ true
-    → let next = assembly_from s pdvs in held.Closed ≡ open_if (spent_by next) a next
+    → let next = assembly_from s pdvs in held.Closed (Some a) ≡ open_if (spent_by next) a next
 values-closed a s pdvs e = closed-if a (assembly_from s pdvs) (spent_by (assembly_from s pdvs)) (ap is_some (sym (messages_from-fault s pdvs)) ∙ e)
 
 pub values-open : (a : Agreement) (s : Assembly) (pdvs : List Pdv) → is_some (messages_from s pdvs).fault ≡ false
@@ -111,20 +111,20 @@ values-outcome [] (Some d) = refl
 values-outcome (message ∷ list) f = ap (with_message message) (values-outcome list f)
 
 agreement-if : (a : Agreement) (s : Assembly) (f : Option DimseFault)
-    → agreement_in (open_if f a s) ≡ cond (is_closed (state_of (open_if f a s))) None (Some a)
+    → agreement_in (open_if f a s) ≡ Some a
 agreement-if a s None = refl
 agreement-if a s (Some d) = refl
 
--- an association keeps its agreement until it is closed
+-- an association keeps its agreement
 pub agreement-stays : (h : Held) (role : Role) → TakesRole h role → let next = association_by h (role ∷ []) in
-    agreement_in next ≡ cond (is_closed (state_of next)) None (agreement_in h)
+    agreement_in next ≡ agreement_in h
 agreement-stays held.Waiting (Asks request) takes = absurd takes
 agreement-stays held.Waiting (Carries pdvs) takes = refl
 agreement-stays held.Waiting (Ends ending) takes = refl
 agreement-stays (held.Open a s) (Carries pdvs) takes = agreement-if a (assembly_from s (pdvs ++ [])) (spent_by (assembly_from s (pdvs ++ [])))
 agreement-stays (held.Open a s) (Asks request) takes = refl
 agreement-stays (held.Open a s) (Ends ending) takes = refl
-agreement-stays held.Closed role takes = absurd takes
+agreement-stays (held.Closed agreed) role takes = absurd takes
 
 -- ---- a PDU that an open association takes
 
@@ -166,14 +166,14 @@ closing-role (Ok step) inside old a s role list answer i o sound not e f x =
 closing-role (Err error) inside old a s role list answer i o sound not e f x = tt
 
 role-closed : (a : Agreement) (s : Assembly) (role : Role) → ((pdvs : List Pdv) → role ≡ Carries pdvs → ⊥)
-    → held.Closed ≡ association_by (held.Open a s) (role ∷ [])
+    → held.Closed (Some a) ≡ association_by (held.Open a s) (role ∷ [])
 role-closed a s (Asks request) not = refl
 role-closed a s (Carries pdvs) not = absurd (not pdvs refl)
 role-closed a s (Ends ending) not = refl
 
 pub closed-role : (inside old : Held) (a : Agreement) (s : Assembly) (role : Role) → held.Open a s ≡ inside → inside ≡ old
     → ((pdvs : List Pdv) → role ≡ Carries pdvs → ⊥)
-    → held.Closed ≡ association_by old (role ∷ [])
+    → held.Closed (Some a) ≡ association_by old (role ∷ [])
 closed-role inside old a s role i o not = role-closed a s role not ∙ ap (λ (h : Held). association_by h (role ∷ [])) (i ∙ o)
 
 pub on-ok : (result : Result Step AllocError) (x y : Held) → x ≡ y → OnOk result (x ≡ y)

@@ -93,7 +93,7 @@ after-opens pdus h after e = subst (Opens pdus) (sym after.stands) (opens-by pdu
 pub after-ends : (pdus : List Pdu) (fault : Option PduFault) (h : Held) → state_of h ≡ Closed → inputs_from h pdus fault ≡ []
 after-ends pdus fault held.Waiting e = absurd cc
 after-ends pdus fault (held.Open a s) e = absurd cc
-after-ends pdus fault held.Closed e = refl
+after-ends pdus fault (held.Closed agreed) e = refl
 
 -- ---- streams
 

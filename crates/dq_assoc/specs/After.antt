@@ -23,28 +23,28 @@ use Rattle.dq_assoc.specs.Inputs.{values, after_values, closing_inputs, inputs_o
 abbrev pub state_of : Held → State
 state_of held.Waiting = Waiting
 state_of (held.Open agreement assembly) = Open
-state_of held.Closed = Closed
+state_of (held.Closed agreement) = Closed
 
 abbrev pub is_closed : State → Bool
 is_closed Waiting = false
 is_closed Open = false
 is_closed Closed = true
 
--- what an open association agreed on
+-- what an association agreed on, also after it is closed
 abbrev pub agreement_in : Held → Option Agreement
 agreement_in held.Waiting = None
 agreement_in (held.Open agreement assembly) = Some agreement
-agreement_in held.Closed = None
+agreement_in (held.Closed agreement) = agreement
 
 -- an association is open only while its values are messages and part of one
 abbrev pub is_sound : Held → Bool
 is_sound held.Waiting = true
 is_sound (held.Open agreement assembly) = is_none (spent_by assembly)
-is_sound held.Closed = true
+is_sound (held.Closed agreement) = true
 
 -- what an association takes: nothing once it is closed, and a request by accept alone
 abbrev pub TakesRole : Held → Role → Type 0
-TakesRole held.Closed role = ⊥
+TakesRole (held.Closed agreement) role = ⊥
 TakesRole held.Waiting (Asks request) = ⊥
 TakesRole held.Waiting (Carries pdvs) = Unit {0}
 TakesRole held.Waiting (Ends ending) = Unit {0}
@@ -56,12 +56,12 @@ Takes association pdu = TakesRole association (role_of pdu)
 -- values that are no messages close
 abbrev pub open_if : Option DimseFault → Agreement → Assembly → Held
 open_if None agreement assembly = held.Open agreement assembly
-open_if (Some fault) agreement assembly = held.Closed
+open_if (Some fault) agreement assembly = held.Closed (Some agreement)
 
 -- open with what was assembled of the values, unless PDUs stand after these
 abbrev pub open_with : Agreement → Assembly → List Role → Held
 open_with agreement assembly [] = open_if (spent_by assembly) agreement assembly
-open_with agreement assembly (role ∷ roles) = held.Closed
+open_with agreement assembly (role ∷ roles) = held.Closed (Some agreement)
 
 -- the assembler of an association whose request was just accepted
 abbrev pub assembly_for : Request → Assembly
@@ -71,7 +71,7 @@ assembly_for request = new_assembly (ids_of (agreement_of request))
 abbrev pub association_at : State → Request → Held
 association_at Open request = held.Open (agreement_of request) (assembly_for request)
 association_at Waiting request = held.Waiting
-association_at Closed request = held.Closed
+association_at Closed request = held.Closed None
 
 -- where PDUs leave an open association
 abbrev pub open_from : Agreement → Assembly → List Role → Held
@@ -80,12 +80,12 @@ open_from agreement assembly roles =
 
 abbrev pub association_by : Held → List Role → Held
 association_by (held.Open agreement assembly) roles = open_from agreement assembly roles
-association_by held.Closed roles = held.Closed
+association_by (held.Closed agreement) roles = held.Closed agreement
 association_by held.Waiting [] = held.Waiting
 association_by held.Waiting (Asks request ∷ roles) =
     open_from (agreement_of request) (assembly_for request) roles
-association_by held.Waiting (Carries pdvs ∷ roles) = held.Closed
-association_by held.Waiting (Ends ending ∷ roles) = held.Closed
+association_by held.Waiting (Carries pdvs ∷ roles) = held.Closed None
+association_by held.Waiting (Ends ending ∷ roles) = held.Closed None
 
 abbrev pub association_from : Held → List Pdu → Held
 association_from association pdus = association_by association (map role_of pdus)
@@ -100,7 +100,7 @@ inputs_by held.Waiting roles fault = inputs_of_roles roles fault
 inputs_by (held.Open agreement assembly) roles fault =
     let read = messages_from assembly (values roles) in
     inputs_of_messages read (closing_inputs (after_values roles) fault)
-inputs_by held.Closed roles fault = []
+inputs_by (held.Closed agreement) roles fault = []
 
 abbrev pub inputs_from : Held → List Pdu → Option PduFault → List Input
 inputs_from association pdus fault = inputs_by association (map role_of pdus) fault

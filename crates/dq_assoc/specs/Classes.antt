@@ -26,7 +26,7 @@ served_classes =
     ∷ sop.ModalityWorklistFind ∷ sop.ModalityPerformedProcedureStep ∷ []
 
 -- the class that is served with the UID
-abbrev pub class_of : List ℕ → Option SopClass
+unfoldable pub class_of : List ℕ → Option SopClass
 class_of uid = find (λ (class : SopClass). bytes_eq (uid_of class) uid) served_classes
 
 -- what serves a class

@@ -54,7 +54,20 @@ pub struct Step {
 pub(crate) enum Held {
     Waiting,
     Open(Agreement, Assembler),
-    Closed,
+    Closed(Option<Agreement>),
+}
+
+impl Held {
+    /// What was agreed on.
+    fn into_agreement(self) -> Option<Agreement>
+        ensures { result ≡ agreement_in self }
+    {
+        match self {
+            Held::Waiting => None,
+            Held::Open(agreement, _) => Some(agreement),
+            Held::Closed(agreement) => agreement,
+        }
+    }
 }
 
 /// An association.
@@ -275,17 +288,18 @@ impl Association {
         match self.held {
             Held::Waiting => State::Waiting,
             Held::Open(..) => State::Open,
-            Held::Closed => State::Closed,
+            Held::Closed(_) => State::Closed,
         }
     }
 
-    /// What an open association agreed on: that of its request.
+    /// What the association agreed on with its request, also after it is closed.
     pub fn agreement(&self) -> Option<&Agreement>
         ensures { option_copied result ≡ agreement_in self.now }
     {
         match &self.held {
+            Held::Waiting => None,
             Held::Open(agreement, _) => Some(agreement),
-            Held::Waiting | Held::Closed => None,
+            Held::Closed(agreement) => agreement.as_ref(),
         }
     }
 
@@ -300,6 +314,7 @@ impl Association {
             step.close ≡ false → AssociationAfter (Pdu.Request request ∷ []) self.new) }
         ensures agreement { IfOk result (λ step.
             step.close ≡ false → agreement_in self.new ≡ Some (agreement_of request)) }
+        ensures refused { IfOk result (λ step. step.close ≡ true → agreement_in self.new ≡ None) }
         // What PDUs add after the request, they add from here.
         ensures further { IfOk result (λ step. step.close ≡ false →
             (pdus : List Pdu) (fault : Option PduFault) →
@@ -318,7 +333,7 @@ impl Association {
             let next = (line State.Waiting verdict (Requested request)).next in
             self.new ≡ association_at next request) }
     {
-        self.held = Held::Closed;
+        self.held = Held::Closed(None);
         match negotiation::peer_limit(&request, verdict) {
             Ok(limit) => self.open_unless_stray(&request, limit),
             Err(rejected) => {
@@ -332,7 +347,7 @@ impl Association {
     /// Answers a request that is not rejected.
     #[tactic(auto, using(crate::proofs::ShortPdus::abort_is_writable))]
     fn open_unless_stray(&mut self, request: &Request, limit: PeerLimit) -> Result<Step, AllocError>
-        requires closed { self.old ≡ Held.Closed }
+        requires closed { self.old ≡ Held.Closed None }
         requires limit { limit ≡ peer_limit request.now }
         ensures step { IfOk result (λ step.
             step ≡ step_of (accepted_line (acceptance_of request.now))) }
@@ -365,7 +380,7 @@ impl Association {
         mut assembler: Assembler,
         values: &[Pdv],
     ) -> Result<Step, AllocError>
-        requires closed { self.old ≡ Held.Closed }
+        requires closed { self.old ≡ Held.Closed None }
         requires sound { spent_by assembler ≡ None }
         ensures step { IfOk result (λ step.
             step ≡ values_step (messages_from assembler values.now)) }
@@ -376,6 +391,7 @@ impl Association {
     {
         let read = read_values(self.alloc, &mut assembler, values)?;
         if read.is_faulty {
+            self.held = Held::Closed(Some(agreement));
             // AA-8
             let invalid = Pdu::Abort(BY_PROVIDER, INVALID_PARAMETER);
             return closing_step(self.alloc, read.messages, Some(invalid));
@@ -398,12 +414,15 @@ impl Association {
         ensures exact { OnOk result (self.new ≡ association_by self.old (role.now ∷ [])) }
     {
         let messages = Listed::empty(self.alloc);
-        match mem::replace(&mut self.held, Held::Closed) {
-            Held::Closed => unreachable!(),
+        match mem::replace(&mut self.held, Held::Closed(None)) {
+            Held::Closed(_) => unreachable!(),
             Held::Waiting => closing_step(self.alloc, messages, misplaced_answer(role)),
             Held::Open(agreement, assembler) => match role {
                 Role::Carries(values) => self.take_values(agreement, assembler, values.as_slice()),
-                _ => closing_step(self.alloc, messages, closing_answer(role)),
+                _ => {
+                    self.held = Held::Closed(Some(agreement));
+                    closing_step(self.alloc, messages, closing_answer(role))
+                }
             },
         }
     }
@@ -417,8 +436,7 @@ impl Association {
         ensures close { IfOk result (λ step. step.close ≡ is_closed (state_of self.new)) }
         ensures after { (pdus : List Pdu) → AssociationAfter pdus self.old →
             OnOk result (AssociationAfter (pdus ++ pdu ∷ []) self.new) }
-        ensures agreement { OnOk result (agreement_in self.new
-            ≡ (if is_closed (state_of self.new) then None else agreement_in self.old)) }
+        ensures agreement { OnOk result (agreement_in self.new ≡ agreement_in self.old) }
         // What PDUs add, this one and those after it add from here on.
         ensures further { OnOk result ((pdus : List Pdu) (fault : Option PduFault) →
             inputs_from self.old (pdu ∷ pdus) fault
@@ -437,8 +455,7 @@ impl Association {
         ensures after { (before : List Pdu) → AssociationAfter before self.old →
             IfOk result (λ step. step.close ≡ false →
             (fault ≡ None) × AssociationAfter (before ++ pdus.items) self.new) }
-        ensures agreement { IfOk result (λ step. step.close ≡ false →
-            agreement_in self.new ≡ agreement_in self.old) }
+        ensures agreement { OnOk result (agreement_in self.new ≡ agreement_in self.old) }
     {
         let mut messages = Vec::new(self.alloc);
         for pdu in pdus {
@@ -459,6 +476,7 @@ impl Association {
         ensures close { IfOk result (λ step. step.close ≡ is_closed (state_of self.new)) }
         ensures kept { IfOk result (λ step. step.close ≡ false →
             (fault ≡ None) × (self.new ≡ self.old)) }
+        ensures agreement { OnOk result (agreement_in self.new ≡ agreement_in self.old) }
     {
         match fault {
             None => Ok(Step {
@@ -477,9 +495,11 @@ impl Association {
             step ≡ outcome (state_of self.old) (inputs_from self.old [] (Some fault))) }
         ensures close { IfOk result (λ step. step.close ≡ true) }
         ensures state { state_of self.new ≡ State.Closed }
+        ensures agreement { agreement_in self.new ≡ agreement_in self.old }
     {
         let answer = fault_answer(self.state(), fault);
-        self.held = Held::Closed;
+        let held = mem::replace(&mut self.held, Held::Closed(None));
+        self.held = Held::Closed(held.into_agreement());
         closing_step(self.alloc, Listed::empty(self.alloc), answer)
     }
 }

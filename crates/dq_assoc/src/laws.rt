@@ -29,6 +29,7 @@ ghost use Rattle.dq_assoc.specs.Steps.{outcome, joined_step, fault_inputs};
 use dq_pdu::laws::a_longer_stream_adds;
 
 /// The classes that are served have UIDs of their own.
+#[tactic(auto, unfolding(crate::specs::Classes::class_of))]
 pub fn classes_are_named()
     ensures found { (class : SopClass) → class_of (uid_of class) ≡ Some class }
     ensures named { (uid : List ℕ) (class : SopClass) →

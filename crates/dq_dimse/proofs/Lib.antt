@@ -7,6 +7,7 @@ pub mod Fragments
 pub mod Gatherings
 pub mod Octets
 pub mod Parsing
+pub mod Refusing
 pub mod Responses
 pub mod Runs
 pub mod Uniqueness

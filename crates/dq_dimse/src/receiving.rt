@@ -4,12 +4,16 @@ ghost use Rattle.std.specs.Result.{result_ok};
 ghost use Rattle.dq_dataset.specs.declared.header.Syntax.TheVariants.{Explicit};
 ghost use Rattle.dq_dataset.specs.Reading.{reading};
 ghost use Rattle.dq_dataset.specs.Canonical.{HasLengths};
-ghost use Rattle.dq_dimse.specs.Receiving.{is_over};
+ghost use Rattle.dq_dimse.specs.Receiving.{is_over, identifier_in};
 
 use crate::command::Message;
+use crate::status::{CANNOT_UNDERSTAND, OUT_OF_RESOURCES};
 use dq_dataset::laws::spelling_law;
 use dq_dataset::{DataSet, ReadFault, Syntax, read};
 use std::alloc::{AllocError, Global};
+
+/// An Identifier is at most so many octets.
+const IDENTIFIER_LIMIT: usize = 1_048_576;
 
 impl Message {
     /// Whether the data set has more octets than the limit, or was discarded because it had too
@@ -33,6 +37,26 @@ impl Message {
             Ok(data_set) => Ok(Some(data_set)),
             Err(ReadFault::NoMemory) => Err(AllocError),
             Err(_) => Ok(None),
+        }
+    }
+
+    /// The Identifier of a C-FIND request, or the status that refuses it: A700 where its octets are
+    /// more than 1,048,576, and C000 where they spell no data set in that transfer syntax (PS3.4
+    /// sections C.4.1.1.4 and K.4.1.1.4).
+    #[tactic(auto, unfolding(crate::specs::Receiving::identifier_in))]
+    pub fn identifier(
+        &self,
+        alloc: Global,
+        syntax: Syntax,
+    ) -> Result<Result<DataSet, u16>, AllocError>
+        ensures { IfOk result (λ identifier. identifier ≡ identifier_in self.now syntax) }
+    {
+        if self.is_over(IDENTIFIER_LIMIT) {
+            return Ok(Err(OUT_OF_RESOURCES));
+        }
+        match self.data_set(alloc, syntax)? {
+            Some(identifier) => Ok(Ok(identifier)),
+            None => Ok(Err(CANNOT_UNDERSTAND)),
         }
     }
 }

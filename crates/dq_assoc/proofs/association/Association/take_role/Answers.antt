@@ -1,6 +1,8 @@
-use Rattle.std.proofs.Common.{◌∙◌}
+use Rattle.std.proofs.Common.{◌≡◌, Some, ◌∙◌}
+use Rattle.dq_assoc.specs.declared.association.Held.TheVariants as held
 use Rattle.dq_assoc.proofs.Sound.{carried-step, closing-role, closed-role, on-ok}
 use Rattle.dq_assoc.proofs.association.Association.take_role.Goals as goal
+use Rattle.dq_assoc.proofs.association.Association.take_role.Goals.{in-CommandPart-1, in-DataPart-1, in-Nothing-1}
 
 pub returns-in-Carries-clause-step : goal.returns-in-Carries-clause-step
 returns-in-Carries-clause-step c =
@@ -16,6 +18,8 @@ returns-in_default-clause-step c =
 
 pub returns-in_default-clause-exact : goal.returns-in_default-clause-exact
 returns-in_default-clause-exact c =
+    let closed : c.match-assembler.self ≡ held.Closed (Some c.in-Open.agreement) =
+    elim c.match-assembler.branch [ in-CommandPart-1 w ↦ w.self-is | in-DataPart-1 w ↦ w.self-is | in-Nothing-1 w ↦ w.self-is ] in
     on-ok c.closing_step-in_default.result _ _
-    (c.replace.ensures.after ∙ closed-role _ c.args.self.now c.in-Open.agreement c.in-Open.assembler c.args.role.now c.in-Open.ensures.value c.self.view_is
+    (closed ∙ closed-role _ c.args.self.now c.in-Open.agreement c.in-Open.assembler c.args.role.now c.in-Open.ensures.value c.self.view_is
     c.in_default.not-Carries)

@@ -8,10 +8,10 @@ use Rattle.dq_assoc.proofs.association.Association.take_values.Goals as goal
 pub returns-then-read-clause-exact : goal.returns-then-read-clause-exact
 returns-then-read-clause-exact c =
     on-ok c.closing_step.result _ _
-    (c.requires.closed ∙ values-closed c.args.agreement c.args.assembler c.args.values.now (sym c.in_ok-read.ensures.fault ∙ c.if-read.true))
+    (values-closed c.args.agreement c.args.assembler c.args.values.now (sym c.in_ok-read.ensures.fault ∙ c.if-read.true))
 
-pub invariant_of-self : goal.invariant_of-self
-invariant_of-self c =
+pub invariant_of-self-2 : goal.invariant_of-self-2
+invariant_of-self-2 c =
     subst (λ (s : Assembly). IsTrue (is_none (spent_by s))) (sym (c.in_ok-read.ensures.next c.if-read.false))
     (values-sound c.args.assembler c.args.values.now (sym c.in_ok-read.ensures.fault ∙ c.if-read.false))
 
