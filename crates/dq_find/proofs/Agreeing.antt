@@ -3,9 +3,10 @@ use Rattle.std.proofs.Common.{◌≡◌, Bool, true, false, cond, ◌||◌, ◌&
 use Rattle.dq_vr.specs.Tags.{specific_character_set, scheduled_procedure_step_start_date, scheduled_procedure_step_start_time}
 use Rattle.dq_dataset.specs.declared.data_set.Value.TheVariants.{Octets, Items}
 use Rattle.dq_dataset.specs.Tree.{ElementList, no_elements, element, sequence}
+use Rattle.dq_dataset.specs.Values.{element_at, octets_in, sole_at}
 use Rattle.dq_match.specs.declared.keys.Place.{Place}
 use Rattle.dq_match.specs.declared.keys.Place.TheVariants.{Outer}
-use Rattle.dq_match.specs.Keys.{element_at, octets_in, items_in, is_key}
+use Rattle.dq_match.specs.Keys.{items_in, is_key}
 use Rattle.dq_match.specs.Values.{octets_meet}
 use Rattle.dq_match.specs.Matching.{period, start_day, start_time, is_passed, with_period, each_met, items_meet, fits}
 use Rattle.dq_match.specs.Responses.{put, or_empty, with_cut, shown_keys, shown_items, unless_empty, put_first, shown}
@@ -33,7 +34,7 @@ with_alike (Some b) f g h = ap (λ (x : Bool). b && x) (h true)
 
 pub fits_alike : (keys a b : ElementList) → Agree keys a b → element_at scheduled_procedure_step_start_date a ≡ element_at scheduled_procedure_step_start_date b
     → element_at scheduled_procedure_step_start_time a ≡ element_at scheduled_procedure_step_start_time b → fits keys a ≡ fits keys b
-unfolding start_day start_time
+unfolding start_day start_time sole_at
 fits_alike keys a b h date time =
     let day : start_day a ≡ start_day b = rw date refl in
     let hour : start_time a ≡ start_time b = rw time refl in

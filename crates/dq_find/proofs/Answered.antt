@@ -1,5 +1,5 @@
 -- Laws of queries.
-use Rattle.std.proofs.Common.{◌≡◌, ◌≢◌, ◌↔◌, ℕ, List, [], ◌∷◌, Option, Some, None, option_map, Result, Ok, Err, refl, sym, ap, ◌∙◌, codes}
+use Rattle.std.proofs.Common.{◌≡◌, ◌≢◌, ℕ, List, [], ◌∷◌, Option, Some, None, option_map, Result, Ok, Err, refl, ap, codes}
 use Rattle.std.specs.List.{AllByRecursion, filter_map, cons_option}
 use Rattle.std.specs.Str.{bytes_eq}
 use Rattle.std.proofs.lemmas.Slice.Eq.{bytes_eq-Decides}
@@ -12,13 +12,12 @@ use Rattle.dq_value.specs.Title.{stripped}
 use Rattle.dq_dataset.specs.declared.data_set.Element.{Element}
 use Rattle.dq_dataset.specs.declared.data_set.Value.TheVariants.{Octets}
 use Rattle.dq_dataset.specs.Rules.{padded}
-use Rattle.dq_match.specs.Keys.{octets_in}
 use Rattle.dq_dataset.specs.declared.header.Syntax.{Syntax}
 use Rattle.dq_dataset.specs.Tree.{ElementList}
+use Rattle.dq_dataset.specs.Values.{octets_in}
 use Rattle.dq_dimse.specs.Statuses.{success}
 use Rattle.dq_dimse.specs.declared.command.Message.{Message}
 use Rattle.dq_match.specs.Answers.{answer}
-use Rattle.dq_match.proofs.Answering.{given_from, given_to, answer_from as fit_from, answer_to as fit_to}
 use Rattle.dq_tables.specs.declared.row.Kind.{Kind}
 use Rattle.dq_tables.specs.declared.row.Kind.TheVariants as kind
 use Rattle.dq_tables.specs.declared.row.Row.{Row}
@@ -33,10 +32,16 @@ use Rattle.dq_find.specs.declared.query.Query.{Query}
 use Rattle.dq_find.specs.Levels.{kind_of, name_of}
 use Rattle.dq_find.specs.Computed.{completed}
 use Rattle.dq_find.specs.Queries.{query_of, key_above, records_asked, asked_records, told, answer_of, answers, about_answers, found_by, found}
-use Rattle.dq_find.specs.Answers.{IsUnder, IsAnswer, Tells}
+use Rattle.dq_find.specs.Answers.{Tells}
 use Rattle.dq_find.proofs.Completing.{first_of_three, second_of_three, third_of_three}
 
 -- ---- the records that are asked for
+
+-- the record is under the one that a unique key names
+abbrev pub IsUnder : Level → ElementList → Record → Type 0
+IsUnder Study keys r = Unit {0}
+IsUnder Series keys r = r.above ≡ key_above tags.study_instance_uid keys
+IsUnder Image keys r = r.above ≡ key_above tags.series_instance_uid keys
 
 above_from : (k : Kind) (above : List ℕ) (r : Record) (records : List Record) → IsAmong r (records_above k above records)
     → IsAmong r records × (r.kind ≡ k) × (r.above ≡ above)
@@ -66,41 +71,12 @@ asked_to Study keys r records h e under = of_kind_to kind.Study r records h e
 asked_to Series keys r records h e under = above_to kind.Series (key_above tags.study_instance_uid keys) r records h e under
 asked_to Image keys r records h e under = above_to kind.Image (key_above tags.series_instance_uid keys) r records h e under
 
--- ---- exactly those that fit
-
-module _ (records : List Record) (called : List ℕ) (query : Query) (d : ElementList) where
-  told_from : (o : Option ElementList) → option_map (told called query) o ≡ Some d → (part : ElementList) × (o ≡ Some part) × (d ≡ told called query part)
-  told_from None e = cc
-  told_from (Some part) e = (part, refl, cc)
-
-  answer_from : IsAmong d (answers records called query) → IsAnswer records called query d
-  unfolding answers
-  answer_from h =
-      let given = given_from (answer_of records called query) d (asked_records records query) h in
-      let held : ElementList = completed records query.level given.0 in
-      let part = told_from (answer query.keys held) given.2 in
-      let fit = fit_from query.keys held part.0 part.1 in
-      let asked = asked_from query.level query.keys given.0 records given.1 in
-      (given.0, record { kept = asked.0; kind = asked.1; under = asked.2; fit = fit.0 }, part.2 ∙ ap (told called query) fit.1)
-
-  answer_to : IsAnswer records called query d → IsAmong d (answers records called query)
-  unfolding answers
-  answer_to h =
-      let r = h.0 in
-      let fit = fit_to query.keys (completed records query.level r) h.1.fit in
-      given_to (answer_of records called query) d r (asked_records records query) (asked_to query.level query.keys r records h.1.kept h.1.kind h.1.under)
-      (ap (option_map (told called query)) fit ∙ ap (λ (x : ElementList). Some x) (sym h.2))
-
-pub exact : (records : List Record) (called : List ℕ) (query : Query) (d : ElementList)
-    → IsAmong d (answers records called query) ↔ IsAnswer records called query d
-exact records called query d = (answer_from records called query d, answer_to records called query d)
+-- ---- in order
 
 pub answered_query : (records : List Record) (called : List ℕ) (message : Message) (syntax : Syntax) (query : Query) → query_of message syntax ≡ Ok query
     → (found records called message syntax).answers ≡ answers records called query
 unfolding found
 answered_query records called message syntax query is = ap (λ (q : Result Query ℕ). (found_by records called q).answers) is
-
--- ---- in order
 
 level_in_order : (institution : List ℕ) (rows : List Row) (level : Level) (keys : ElementList) → IsRising rows
     → AreInOrder (records_asked (of institution rows) level keys)
@@ -159,5 +135,3 @@ tells_all records called query (r ∷ rs) =
 pub each_tells : (records : List Record) (called : List ℕ) (query : Query) → AllByRecursion (Tells called query.level) (answers records called query)
 unfolding answers
 each_tells records called query = tells_all records called query (asked_records records query)
-
-pub ruleset asked_and_answered = (answered_query, asked_in_order)

@@ -10,7 +10,8 @@ use Rattle.dq_dataset.specs.declared.data_set.Value.TheVariants.{Octets, Items}
 use Rattle.dq_dataset.specs.Tree.{ElementList, no_elements, element, sequence}
 use Rattle.dq_dataset.specs.View.{elements_of, has_tag, list_of}
 use Rattle.dq_dataset.specs.Editing.{merged}
-use Rattle.dq_match.specs.Keys.{element_at, is_tag}
+use Rattle.dq_dataset.specs.Values.{element_at}
+use Rattle.dq_match.specs.Keys.{is_tag}
 use Rattle.dq_match.specs.Answers.{refused}
 use Rattle.dq_match.proofs.Answering.{given_of_each}
 use Rattle.dq_tables.specs.declared.row.Row.{Row}
@@ -65,7 +66,7 @@ module _ (listed : List Tag) (sent : ElementList) (within : (tag : Tag) → list
       let parts = none_here listed (record { tag = t; vr = v; value = Items (list_of items) }) rest h in
       (element_stays t held sent (within t parts.0), agree_unasked rest parts.1)
 
-abbrev all_computed : List Tag
+abbrev pub all_computed : List Tag
 all_computed = tags.modalities_in_study ∷ tags.number_of_study_related_series ∷ tags.number_of_study_related_instances
     ∷ tags.number_of_series_related_instances ∷ []
 
@@ -97,7 +98,7 @@ computed_tags_alone records Series key tag h =
     (is_tag tags.number_of_series_related_instances tag) h)
 computed_tags_alone records Image key tag h = refl
 
-stays : (records : List Record) (level : Level) (key : List ℕ) (held : ElementList) (tag : Tag) → list_any (λ one. is_tag one tag) all_computed ≡ false
+pub stays : (records : List Record) (level : Level) (key : List ℕ) (held : ElementList) (tag : Tag) → list_any (λ one. is_tag one tag) all_computed ≡ false
     → element_at tag (merged held (computed records level key)) ≡ element_at tag held
 stays records level key held tag other = element_stays tag held (computed records level key) (computed_tags_alone records level key tag other)
 
@@ -111,27 +112,6 @@ answered_alike records called key query held h =
     (stays records query.level key held tags.scheduled_procedure_step_start_time refl) in
     let show = shown_alike query.keys (merged held sent) held agree (stays records query.level key held tags.specific_character_set refl) in
     sym (λ i. option_map (told called query) (cond (fit i) (Some (show i)) None))
-
--- ---- all rows
-
-pub answered_one_by_one : (records : List Record) (called institution : List ℕ) (query : Query)
-    → filter_map (λ (row : Row). answer_of records called query (record_of row)) (map (row_of institution) (asked_records records query))
-    ≡ answers records called query
-unfolding answers
-answered_one_by_one records called institution query =
-    given_of_each (λ (row : Row). answer_of records called query (record_of row)) (row_of institution) (asked_records records query)
-
--- what is answered of the rows that are asked for
-pub answered_of_rows : (old mid : List Row) (name given called : List ℕ) (query : Query) (found seen : List Row) (answered : List ElementList)
-    → given ≡ name → mid ≡ old
-    → found ≡ map (row_of given) (asked_records (of given old) query) → seen ≡ found
-    → answered ≡ filter_map (λ (row : Row). answer_of (of given mid) called query (record_of row)) seen
-    → answered ≡ answers (of name old) called query
-answered_of_rows old mid name given called query found seen answered same_name same_rows found_is seen_is answered_is =
-    let asked : seen ≡ map (row_of name) (asked_records (of name old) query) =
-    seen_is ∙ found_is ∙ ap (λ (n : List ℕ). map (row_of n) (asked_records (of n old) query)) same_name in
-    answered_is ∙ (λ i. filter_map (λ (row : Row). answer_of (of (same_name i) (same_rows i)) called query (record_of row)) (asked i))
-    ∙ answered_one_by_one (of name old) called name query
 
 -- ---- what is found
 

@@ -22,8 +22,8 @@ use Rattle.dq_find.specs.declared.level.Level.TheVariants.{Study, Series, Image}
 use Rattle.dq_find.specs.declared.query.Query.{Query}
 use Rattle.dq_find.specs.Levels.{kind_of, has_keys_above}
 use Rattle.dq_find.specs.Queries.{asked_records}
-use Rattle.dq_find.specs.Answers.{IsUnder, HasKeyAbove, IsAsked}
-use Rattle.dq_find.proofs.Answered.{asked_from, asked_to}
+use Rattle.dq_find.specs.Answers.{HasKeyAbove}
+use Rattle.dq_find.proofs.Answered.{IsUnder, asked_from, asked_to}
 
 -- ---- the key above of a record is its data set's own
 
@@ -60,7 +60,7 @@ own_above institution rows r sound h = own_filtered r (λ (row : Row). bytes_eq 
 
 -- ---- the same as the value of an element
 
-value_from : (value : Option (List ℕ)) (above : List ℕ) → is_value value above ≡ true → value ≡ Some above
+pub value_from : (value : Option (List ℕ)) (above : List ℕ) → is_value value above ≡ true → value ≡ Some above
 value_from None above h = absurd (cc)
 value_from (Some v) above h = ap (λ (o : List ℕ). Some o) ((bytes_eq-Decides v above).0 h)
 
@@ -105,11 +105,12 @@ under_to Image keys r own there key =
     (and_parts (is_some (uid_at tags.series_instance_uid keys)) true series).0 key
 
 pub asked_by_key : (institution : List ℕ) (rows : List Row) (query : Query) (r : Record) → IsSound rows → has_keys_above query.level query.keys ≡ true
-    → IsAmong r (asked_records (of institution rows) query) ↔ IsAsked (of institution rows) query r
+    → IsAmong r (asked_records (of institution rows) query)
+    ↔ (IsAmong r (of institution rows) × (r.kind ≡ kind_of query.level) × HasKeyAbove query.level query.keys (data_set_of r.octets))
 asked_by_key institution rows query r sound there = (
   λ h. (let asked = asked_from query.level query.keys r (of institution rows) h in
       let own = own_value query.level r asked.1 (own_above institution rows r sound asked.0) in
-      record { kept = asked.0; kind = asked.1; key = under_from query.level query.keys r own there asked.2 }),
-  λ (asked : IsAsked (of institution rows) query r). (let own = own_value query.level r asked.kind (own_above institution rows r sound asked.kept) in
-      asked_to query.level query.keys r (of institution rows) asked.kept asked.kind (under_to query.level query.keys r own there asked.key)),
+      (asked.0, asked.1, under_from query.level query.keys r own there asked.2)),
+  λ asked. (let own = own_value query.level r asked.1 (own_above institution rows r sound asked.0) in
+      asked_to query.level query.keys r (of institution rows) asked.0 asked.1 (under_to query.level query.keys r own there asked.2)),
 )

@@ -8,8 +8,9 @@ use Rattle.dq_dataset.specs.declared.data_set.Element.{Element}
 use Rattle.dq_dataset.specs.Tree.{ElementList}
 use Rattle.dq_dataset.specs.View.{elements_of, as_elements, has_tag}
 use Rattle.dq_dataset.specs.Editing.{elements_below, elements_above, merged_elements, merged}
+use Rattle.dq_dataset.specs.Values.{element_at}
 use Rattle.dq_dataset.proofs.Views.{elements_of-as_elements}
-use Rattle.dq_match.specs.Keys.{element_at, is_tag}
+use Rattle.dq_match.specs.Keys.{is_tag}
 
 abbrev or_else : Option Element → Option Element → Option Element
 or_else None other = other
@@ -46,7 +47,7 @@ find_dropped : (test keep : Element → Bool) (xs : List Element) → ((x : Elem
 find_dropped test keep [] h = refl
 find_dropped test keep (x ∷ xs) h = dropped_by (test x) (keep x) test keep x xs refl refl (h x) (find_dropped test keep xs h)
 
-same_tag : (a b : Tag) → is_tag a b ≡ true → a ≡ b
+pub same_tag : (a b : Tag) → is_tag a b ≡ true → a ≡ b
 same_tag a b h =
     let group : a.group ≡ b.group = grind (arith, nat_tests) in
     let number : a.element ≡ b.element = grind (arith, nat_tests) in

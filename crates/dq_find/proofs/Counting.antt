@@ -1,5 +1,6 @@
 -- Counting images, and what is computed of the records that are found.
 use Rattle.std.proofs.Common.{◌≡◌, ℕ, suc, ◌+◌, ◌<◌, List, [], ◌∷◌, map, length, get_or, drop, refl, sym, ap, ◌∙◌, arith}
+use Rattle.std.proofs.lemmas.List.Sums.{sum_by-cons}
 use Rattle.dq_tables.specs.declared.row.Kind.{Kind}
 use Rattle.dq_tables.specs.declared.row.Kind.TheVariants.{Series as SeriesKind, Image as ImageKind}
 use Rattle.dq_tables.specs.declared.row.Row.{Row}
@@ -25,6 +26,7 @@ counted_more : (records : List Record) (item : Row) (series : List Row) (at numb
 counted_more records item series at number images all within is same so_far =
     let step : images_below records (map record_of (drop at series)) ≡ images + images_below records (map record_of (drop (at + 1) series)) =
     ap (λ (rows : List Row). images_below records (map record_of rows)) (from_place series at item within is)
+    ∙ sum_by-cons (λ (one : Record). length (records_above ImageKind one.key records)) (record_of item) (map record_of (drop (at + 1) series))
     ∙ ap (λ n. n + images_below records (map record_of (drop (at + 1) series))) (sym same) in
     omega arith
 

@@ -2,10 +2,14 @@ mod Agreeing
 mod Answered
 mod Answering
 mod Asking
+mod Naming
+mod LookedUp
 mod Completing
 mod Counting
 mod InOrder
 mod Looking
+mod Matching
 mod TextFacts
 mod Asked
 mod Modalities
+mod WorkedExamples

@@ -1,8 +1,7 @@
 -- Looking up, call after call.
-use Rattle.std.proofs.Common.{◌≡◌, ℕ, zero, suc, ◌+◌, ◌<◌, ◌≤◌, arith, Bool, List, [], ◌∷◌, length, get_or, drop, Ok, refl, sym, ◌∙◌, ap, drop-cons, add-one}
-use Rattle.dq_tables.specs.declared.row.Row.{Row}
+use Rattle.std.proofs.Common.{◌≡◌, ℕ, zero, suc, ◌+◌, ◌<◌, ◌≤◌, arith, List, [], ◌∷◌, length, get_or, drop, Ok, refl, sym, ◌∙◌, ap, drop-cons, add-one}
 use Rattle.dq_tables.specs.Rows.{Record, of}
-use Rattle.dq_tables.specs.Keeping.{Reads}
+use Rattle.dq_tables.specs.Keeping.{State, Reads}
 use Rattle.dq_tables.proofs.Calling.{reads_right, reads_nothing}
 use Rattle.dq_find.specs.Looking.{Looks}
 
@@ -16,19 +15,18 @@ past_all [] (suc at) h = refl
 past_all (x ∷ xs) zero h = absurd (omega arith)
 past_all (x ∷ xs) (suc at) h = past_all xs at (omega arith)
 
-module _ {Tables : Type 0} (rows : Tables → List Row) (honest : Tables → Type 0) (failed : Tables → Bool) (may_leave : Tables → List Row → Type 0)
-    (institution : List ℕ) where
+module _ (institution : List ℕ) where
   -- an answer after calls that read
-  pub looks_right : {A B : Type 0} (old new : Tables) (x : A) (a : B) (does : List Record → B) → Reads rows honest failed may_leave old new (Ok x)
-      → (honest new → a ≡ does (of institution (rows old))) → Looks rows honest failed may_leave old new institution does (Ok a)
+  pub looks_right : {A B : Type 0} (old new : State) (x : A) (a : B) (does : List Record → B) → Reads old new (Ok x)
+      → (new.honest → a ≡ does (of institution old.rows)) → Looks old new institution does (Ok a)
   looks_right old new x a does reads defined = record {
-    reads = reads_right rows honest failed may_leave old new x a reads;
+    reads = reads_right old new x a reads;
     answered = defined;
   }
 
-  pub looks_nothing : {B : Type 0} (it : Tables) (a : B) (does : List Record → B) → a ≡ does (of institution (rows it))
-      → Looks rows honest failed may_leave it it institution does (Ok a)
+  pub looks_nothing : {B : Type 0} (it : State) (a : B) (does : List Record → B) → a ≡ does (of institution it.rows)
+      → Looks it it institution does (Ok a)
   looks_nothing it a does defined = record {
-    reads = reads_nothing rows honest failed may_leave it a;
+    reads = reads_nothing it a;
     answered = λ h. defined;
   }

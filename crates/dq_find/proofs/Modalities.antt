@@ -1,5 +1,5 @@
 -- Modalities in Study: in order, and exactly those of the series.
-use Rattle.std.proofs.Common.{◌≡◌, ℕ, zero, suc, ◌⊎◌, inl, inr, List, [], ◌∷◌, ◌++◌, take, length, refl, sym, ap, ◌∙◌, subst}
+use Rattle.std.proofs.Common.{◌≡◌, ℕ, zero, suc, ◌⊎◌, ◌≤◌, inl, inr, List, [], ◌∷◌, ◌++◌, take, length, refl, sym, ap, ◌∙◌, subst, arith}
 use Rattle.std.specs.declared.cmp.Ordering.{Ordering}
 use Rattle.std.specs.declared.cmp.Ordering.TheVariants.{Less, Equal, Greater}
 use Rattle.std.specs.Ordering.{is_eq, ordering_reverse}
@@ -9,11 +9,12 @@ use Rattle.std.proofs.lemmas.Cmp.{nat_list_cmp_total}
 use Rattle.std.proofs.lemmas.Map.Text.{is_eq-slice_cmp}
 use Rattle.std.proofs.lemmas.Slice.Eq.{bytes_eq-Decides}
 use Rattle.dq_list.specs.Among.{IsAmong}
+use Rattle.dq_tables.proofs.Rising.{Rises, HaveTheirs, each_among, only_one}
 use Rattle.dq_tables.specs.Rows.{Record, octet_order}
 use Rattle.dq_tables.specs.Records.{data_set_of}
 use Rattle.dq_tables.proofs.Order.{each_weaker}
-use Rattle.dq_find.specs.Computed.{placed, put_in_order, all_in_order, modality_limit, modalities_of, modalities_in}
-use Rattle.dq_find.specs.Modalities.{IsModalityOf, IsPast}
+use Rattle.dq_find.specs.Computed.{placed, put_in_order, all_in_order, modalities_in}
+use Rattle.dq_find.specs.Modalities.{modality_limit, modalities_of, IsModalityOf, IsPast, AreModalities}
 
 abbrev Values : Type 0
 Values = List (List ℕ)
@@ -125,11 +126,6 @@ first_from x (suc n) [] h = absurd h
 first_from x (suc n) (y ∷ ys) (inl e) = inl e
 first_from x (suc n) (y ∷ ys) (inr h) = inr (first_from x n ys h)
 
-each_among : (P : List ℕ → Type 0) (x : List ℕ) (xs : Values) → AllByRecursion P xs → IsAmong x xs → P x
-each_among P x [] all h = absurd h
-each_among P x (y ∷ ys) all (inl e) = subst P e all.0
-each_among P x (y ∷ ys) all (inr h) = each_among P x ys all.1 h
-
 abbrev IsPastFirst : ℕ → Values → List ℕ → Type 0
 IsPastFirst n told x = (length told ≡ n) × AllByRecursion (λ (one : List ℕ). IsBefore one x) told
 
@@ -180,11 +176,11 @@ all_told : (series : List Record) → IsInOrder (all_in_order (flat_map held ser
 unfolding IsStrictlySortedBy
 all_told series = all_stays (flat_map held series) [] tt
 
-pub told_in_order : (series : List Record) → IsStrictlySortedBy octet_order (modalities_in series)
+told_in_order : (series : List Record) → IsStrictlySortedBy octet_order (modalities_in series)
 unfolding modalities_in
 told_in_order series = first_in_order modality_limit (all_in_order (flat_map held series) []) (all_told series)
 
-pub told_own : (series : List Record) (value : List ℕ) → IsAmong value (modalities_in series) → IsModalityOf series value
+told_own : (series : List Record) (value : List ℕ) → IsAmong value (modalities_in series) → IsModalityOf series value
 unfolding modalities_in
 told_own series value h =
     elim (all_from value (flat_map held series) [] (first_from value modality_limit (all_in_order (flat_map held series) []) h)) [
@@ -192,8 +188,40 @@ told_own series value h =
       | inr none ↦ absurd none
     ]
 
-pub told_all : (series : List Record) (value : List ℕ) → IsModalityOf series value → IsAmong value (modalities_in series) ⊎ IsPast (modalities_in series) value
+told_all : (series : List Record) (value : List ℕ) → IsModalityOf series value → IsAmong value (modalities_in series) ⊎ IsPast (modalities_in series) value
 unfolding modalities_in
 told_all series value h =
     first_or_past value modality_limit (all_in_order (flat_map held series) []) (all_told series)
     (all_to value (flat_map held series) [] (inl (series_to value series h.0 h.1 h.2)))
+
+first_few : (n : ℕ) (xs : Values) → length (take n xs) ≤ n
+first_few zero xs = omega arith
+first_few (suc n) [] = omega arith
+first_few (suc n) (x ∷ xs) = (let few = first_few n xs in omega (arith, few))
+
+told_few : (series : List Record) → length (modalities_in series) ≤ modality_limit
+unfolding modalities_in
+told_few series = first_few modality_limit (all_in_order (flat_map held series) [])
+
+pub are_modalities : (series : List Record) → AreModalities series (modalities_in series)
+are_modalities series = record { in_order = told_in_order series; own = told_own series; few = told_few series; all = told_all series }
+
+-- ---- no others are
+
+not_both : (a b : List ℕ) → IsBefore a b → IsBefore b a → ⊥
+not_both a b less more = absurd (cc (sym (nat_list_cmp_total.antisymm b a), more))
+
+rises : (values : Values) → IsInOrder values → Rises IsBefore not_both values
+unfolding IsStrictlySortedBy
+rises [] ordered = tt
+rises (x ∷ xs) ordered = (ordered.0, rises xs ordered.1)
+
+theirs : (series : List Record) (told others : Values) → AreModalities series told → AreModalities series others
+    → HaveTheirs IsBefore not_both modality_limit told others
+theirs series told others are those value h = those.all value (are.own value h)
+
+pub modalities_alone : (series : List Record) (told : Values) → AreModalities series told → told ≡ modalities_in series
+modalities_alone series told are =
+    let those = are_modalities series in
+    only_one IsBefore not_both modality_limit told (modalities_in series) (rises told are.in_order) (rises (modalities_in series) those.in_order)
+    (theirs series told (modalities_in series) are those) (theirs series (modalities_in series) told those are) are.few those.few

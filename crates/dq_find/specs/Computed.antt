@@ -1,21 +1,20 @@
 -- Keys that are computed of the records below a study and below a series (PS3.4 sections C.3.4 and
 -- C.6.2.1).
-use Rattle.std.specs.Prelude.{ℕ, Bool, List, [], ◌∷◌, ◌++◌, filter, length, take, nat_le, ◌+◌, ◌&&◌}
+use Rattle.std.specs.Prelude.{ℕ, List, [], ◌∷◌, ◌++◌, length, take, sum_by}
 use Rattle.std.specs.declared.cmp.Ordering.{Ordering}
 use Rattle.std.specs.declared.cmp.Ordering.TheVariants.{Less, Equal, Greater}
 use Rattle.std.specs.Fmt.{decimal}
 use Rattle.std.specs.List.{flat_map}
 use Rattle.dq_vr.specs.declared.Vr.TheVariants.{CS, IS}
 use Rattle.dq_vr.specs.Tags as tags
-use Rattle.dq_value.specs.Parts.{parts}
 use Rattle.dq_dataset.specs.Tree.{ElementList, no_elements}
 use Rattle.dq_dataset.specs.Editing.{merged}
-use Rattle.dq_match.specs.Keys.{element_at, octets_in}
 use Rattle.dq_tables.specs.declared.row.Kind.TheVariants.{Series as SeriesKind, Image as ImageKind}
 use Rattle.dq_tables.specs.Rows.{Record, octet_order}
 use Rattle.dq_tables.specs.Records.{data_set_of}
 use Rattle.dq_tables.specs.Finding.{records_above}
 use Rattle.dq_find.specs.Texts.{text}
+use Rattle.dq_find.specs.Modalities.{modality_limit, modalities_of}
 use Rattle.dq_find.specs.declared.level.Level.{Level}
 use Rattle.dq_find.specs.declared.level.Level.TheVariants.{Study, Series, Image}
 
@@ -34,17 +33,7 @@ unfoldable pub all_in_order : List (List ℕ) → List (List ℕ) → List (List
 all_in_order [] others = others
 all_in_order (value ∷ values) others = all_in_order values (put_in_order value others)
 
--- a modality has 1 to 16 octets (VR CS, PS3.5 section 6.2)
-abbrev pub is_modality : List ℕ → Bool
-is_modality value = nat_le 1 (length value) && nat_le (length value) 16
-
--- of so many modalities the first are told
-abbrev pub modality_limit : ℕ
-modality_limit = 1000
-
-unfoldable pub modalities_of : ElementList → List (List ℕ)
-modalities_of series = filter is_modality (parts CS (octets_in (element_at tags.modality series)))
-
+-- the modalities of some series: those of `AreModalities`, computed
 unfoldable pub modalities_in : List Record → List (List ℕ)
 modalities_in series =
     take modality_limit
@@ -57,9 +46,8 @@ joined (first ∷ others) = first ++ flat_map (λ value. 0x5c ∷ value) others
 
 -- how many images some series have
 abbrev pub images_below : List Record → List Record → ℕ
-images_below records [] = 0
-images_below records (one ∷ others) =
-    length (records_above ImageKind one.key records) + images_below records others
+images_below records series =
+    sum_by (λ (one : Record). length (records_above ImageKind one.key records)) series
 
 unfoldable pub study_values : List ℕ → ℕ → ℕ → ElementList
 study_values modalities series images =

@@ -7,7 +7,7 @@ use Rattle.dq_vr.specs.declared.Vr.TheVariants.{CS}
 use Rattle.dq_vr.specs.Tags as tags
 use Rattle.dq_value.specs.Trimming.{trimmed}
 use Rattle.dq_dataset.specs.Tree.{ElementList}
-use Rattle.dq_match.specs.Keys.{element_at, octets_in}
+use Rattle.dq_dataset.specs.Values.{element_at, octets_in}
 use Rattle.dq_match.specs.declared.supported.KeyList.{KeyList}
 use Rattle.dq_match.specs.declared.supported.KeyList.TheVariants as list
 use Rattle.dq_tables.specs.declared.row.Kind.{Kind}
@@ -41,6 +41,12 @@ level_named name =
 abbrev pub level_of : ElementList → Option Level
 level_of identifier =
     level_named (trimmed CS (octets_in (element_at tags.query_retrieve_level identifier)))
+
+-- the level's own unique key
+abbrev pub unique_key : Level → Tag
+unique_key Study = tags.study_instance_uid
+unique_key Series = tags.series_instance_uid
+unique_key Image = tags.sop_instance_uid
 
 -- the unique keys of the levels above, of which an identifier has each exactly once (PS3.4 section
 -- C.4.1.2.1)

@@ -1,7 +1,9 @@
 pub mod Levels
 pub mod Texts
+pub mod Modalities
 pub mod Computed
 pub mod Queries
+pub mod Candidates
 pub mod Looking
 pub mod Answers
-pub mod Modalities
+pub mod Examples

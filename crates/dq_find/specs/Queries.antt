@@ -1,21 +1,20 @@
 -- Study Root queries (PS3.4 sections C.4.1 and C.6.2).
 use Rattle.std.specs.Prelude.{ℕ, Bool, List, [], ◌∷◌, Option, Some, None, Result, Ok, Err, option_map, codes, is_some, unwrap_or, ◌&&◌, if◌then◌else◌}
 use Rattle.std.specs.List.{filter_map, list_any}
-use Rattle.std.specs.Result.{result_ok}
 use Rattle.dq_vr.specs.declared.Tag.{Tag}
 use Rattle.dq_vr.specs.declared.Vr.TheVariants.{AE, CS}
 use Rattle.dq_vr.specs.Tags as tags
 use Rattle.dq_value.specs.Title.{stripped}
 use Rattle.dq_dataset.specs.declared.header.Syntax.{Syntax}
-use Rattle.dq_dataset.specs.Reading.{reading}
 use Rattle.dq_dataset.specs.Tree.{ElementList, no_elements}
 use Rattle.dq_dataset.specs.Editing.{merged}
+use Rattle.dq_dataset.specs.Values.{element_at}
 use Rattle.dq_dimse.specs.declared.command.Message.{Message}
-use Rattle.dq_dimse.specs.Statuses.{success, out_of_resources, does_not_match_sop_class, cannot_understand}
+use Rattle.dq_dimse.specs.Receiving.{identifier_in}
+use Rattle.dq_dimse.specs.Statuses.{success, does_not_match_sop_class}
 use Rattle.dq_match.specs.declared.responses.Found.{Found}
-use Rattle.dq_match.specs.declared.supported.Level.TheVariants.{Identifier}
+use Rattle.dq_match.specs.declared.supported.KeyScope.TheVariants.{Identifier}
 use Rattle.dq_match.specs.Identifiers.{is_query}
-use Rattle.dq_match.specs.Keys.{element_at}
 use Rattle.dq_match.specs.Supported.{supported_part, has_unsupported}
 use Rattle.dq_match.specs.Answers.{refused, answer}
 use Rattle.dq_tables.specs.Rows.{Record}
@@ -39,15 +38,13 @@ query_at identifier (Some level) =
     then Ok (record { level = level; keys = keys; optional = optional })
     else Err does_not_match_sop_class
 
-abbrev pub query_in : Option ElementList → Result Query ℕ
-query_in None = Err cannot_understand
-query_in (Some identifier) = query_at identifier (level_of identifier)
+abbrev pub query_in : Result ElementList ℕ → Result Query ℕ
+query_in (Err status) = Err status
+query_in (Ok identifier) = query_at identifier (level_of identifier)
 
 -- the query of a message, or the status that refuses it (PS3.4 section C.4.1.1.4)
 unfoldable pub query_of : Message → Syntax → Result Query ℕ
-query_of message syntax =
-    if message.over then Err out_of_resources
-    else query_in (result_ok (reading syntax message.octets))
+query_of message syntax = query_in (identifier_in message syntax)
 
 -- what every answer holds beside the keys: the level, who answers, and that nothing can be
 -- retrieved (PS3.4 section C.4.1.1.3.2)

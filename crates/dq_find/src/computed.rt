@@ -2,16 +2,17 @@
 //! C.6.2.1).
 ghost use Rattle.std.specs.Prelude.{◌≡◌, ◌≤◌, ◌∷◌, ◌++◌, length, take, drop, IfOk, OnOk, IfSome, IfNone, map};
 ghost use Rattle.dq_tables.specs.Rows.{record_of};
-ghost use Rattle.dq_find.specs.Computed.{put_in_order, all_in_order, is_modality, modality_limit, modalities_of, modalities_in, joined, images_below, study_values, series_values, computed};
+ghost use Rattle.dq_find.specs.Computed.{put_in_order, all_in_order, modalities_in, joined, images_below, study_values, series_values, computed};
+ghost use Rattle.dq_find.specs.Modalities.{is_modality, modality_limit, modalities_of};
 ghost use Rattle.dq_find.specs.Looking.{Looks};
 ghost use Rattle.dq_find.specs.declared.level.Level.TheVariants.{Study, Series};
-ghost use Rattle.dq_match.specs.Keys.{element_at, octets_in};
+ghost use Rattle.dq_dataset.specs.Values.{element_at, octets_in};
 
 use crate::texts::{Text, elements};
 use dq_dataset::DataSet;
 use dq_list::Listed;
 use dq_match::octets_in;
-use dq_tables::{Row, TableFault, Tables};
+use dq_tables::{Kind, Row, TableFault, Tables};
 use dq_vr::{Tag, Vr, tags};
 use std::alloc::{AllocError, Global};
 use std::cmp::Ordering;
@@ -143,7 +144,7 @@ fn study_values(
     Ok(DataSet::from_elements(elements(alloc, &texts)?))
 }
 
-fn series_values(alloc: Global, images: usize) -> Result<DataSet, AllocError>
+fn series_values(alloc: Global, images: u64) -> Result<DataSet, AllocError>
     ensures { IfOk result (λ d. d ≡ series_values images) }
 {
     let images = format!(in alloc; "{images}")?;
@@ -162,13 +163,13 @@ fn images_below<T: Tables>(
     institution: &[u8],
     series: &[Row],
 ) -> Result<u128, TableFault>
-    ensures { Looks T.rows T.honest T.failed T.may_leave tables.old tables.new institution.now
+    ensures { Looks (T.state tables.old) (T.state tables.new) institution.now
         (λ records. images_below records (map record_of series.now)) result }
 {
     let mut number = 0;
     for row in series {
-        let images = tables.images_of(alloc, institution, row.key.as_slice())?;
-        number += images.len() as u128;
+        let images = tables.count_above(alloc, Kind::Image, institution, row.key.as_slice())?;
+        number += images as u128;
     }
     Ok(number)
 }
@@ -180,7 +181,7 @@ pub(crate) fn study_computed<T: Tables>(
     institution: &[u8],
     key: &[u8],
 ) -> Result<DataSet, TableFault>
-    ensures { Looks T.rows T.honest T.failed T.may_leave tables.old tables.new institution.now
+    ensures { Looks (T.state tables.old) (T.state tables.new) institution.now
         (λ records. computed records Study key.now) result }
 {
     let series = tables.series_of(alloc, institution, key)?;
@@ -197,9 +198,9 @@ pub(crate) fn series_computed<T: Tables>(
     institution: &[u8],
     key: &[u8],
 ) -> Result<DataSet, TableFault>
-    ensures { Looks T.rows T.honest T.failed T.may_leave tables.old tables.new institution.now
+    ensures { Looks (T.state tables.old) (T.state tables.new) institution.now
         (λ records. computed records Series key.now) result }
 {
-    let images = tables.images_of(alloc, institution, key)?;
-    Ok(series_values(alloc, images.len())?)
+    let images = tables.count_above(alloc, Kind::Image, institution, key)?;
+    Ok(series_values(alloc, images)?)
 }

@@ -1,9 +1,10 @@
 //! The answers to a query (PS3.4 sections C.4.1.3 and C.6.2).
-ghost use Rattle.std.specs.Prelude.{◌≡◌, [], IfOk, map};
+ghost use Rattle.std.specs.Prelude.{◌≡◌, [], IfOk, Some, map, filter};
 ghost use Rattle.std.specs.List.{filter_map};
 ghost use Rattle.dq_match.specs.Identifiers.{HasKnownTags};
 ghost use Rattle.dq_tables.specs.Rows.{record_of, row_of};
 ghost use Rattle.dq_tables.specs.Serving.{Serves};
+ghost use Rattle.dq_find.specs.Candidates.{is_named, candidates, is_under, looked_up};
 ghost use Rattle.dq_find.specs.Computed.{computed};
 ghost use Rattle.dq_find.specs.Queries.{about_answers, key_above, asks_computed, asked_records, answer_if, answer_of, found};
 ghost use Rattle.dq_tables.specs.declared.row.Row.{Row as TheRow};
@@ -18,7 +19,9 @@ use dq_dataset::{DataSet, Syntax};
 use dq_dimse::Message;
 use dq_dimse::status::SUCCESS;
 use dq_list::Listed;
+use dq_match::laws::keys_are_met_alone_and_as_a_period;
 use dq_match::{Found, answer};
+use dq_tables::laws::honest_rows_are_sound;
 use dq_tables::{Row, TableFault, Tables, uid_at};
 use dq_value::stripped;
 use dq_vr::{Tag, Vr, tags};
@@ -76,8 +79,12 @@ struct Search<'a> {
 
 impl Search<'_> {
     /// The records of the level under the unique keys above it.
-    fn rows<T: Tables>(&self, alloc: Global, tables: &mut T) -> Result<Listed<Row>, TableFault>
-        ensures { Looks T.rows T.honest T.failed T.may_leave tables.old tables.new
+    fn asked_rows<T: Tables>(
+        &self,
+        alloc: Global,
+        tables: &mut T,
+    ) -> Result<Listed<Row>, TableFault>
+        ensures { Looks (T.state tables.old) (T.state tables.new)
             self.now.institution.now (λ records. map (row_of self.now.institution.now)
             (asked_records records self.now.query.now)) result }
     {
@@ -95,6 +102,62 @@ impl Search<'_> {
         }
     }
 
+    /// Whether a row is under the unique keys above its level.
+    fn is_under(&self, row: &Row) -> bool
+        ensures { result ≡ is_under self.now.query.now.level self.now.query.now.keys
+            (record_of row.now) }
+    {
+        let keys = &self.query.keys;
+        match self.query.level {
+            Level::Study => true,
+            Level::Series => row.above.as_slice() == key_above(keys, tags::STUDY_INSTANCE_UID),
+            Level::Image => row.above.as_slice() == key_above(keys, tags::SERIES_INSTANCE_UID),
+        }
+    }
+
+    /// A row that was looked up, where it is under them.
+    fn looked_up(&self, alloc: Global, row: Option<Row>) -> Result<Listed<Row>, AllocError>
+        ensures { IfOk result (λ rows. rows
+            ≡ looked_up self.now.query.now.level self.now.query.now.keys row) }
+    {
+        let mut rows = Listed::empty(alloc);
+        if let Some(row) = row {
+            if self.is_under(&row) {
+                rows.push(row)?;
+            }
+        }
+        Ok(rows)
+    }
+
+    /// The record of the level with a unique key, where it is under the unique keys above it.
+    fn row_named<T: Tables>(
+        &self,
+        alloc: Global,
+        tables: &mut T,
+        uid: &[u8],
+    ) -> Result<Listed<Row>, TableFault>
+        ensures { Looks (T.state tables.old) (T.state tables.new)
+            self.now.institution.now (λ records. map (row_of self.now.institution.now)
+            (filter (is_named (Some uid.now)) (asked_records records self.now.query.now))) result }
+    {
+        honest_rows_are_sound::<T>();
+        let row = tables.row(alloc, self.query.level.kind(), self.institution, uid)?;
+        Ok(self.looked_up(alloc, row)?)
+    }
+
+    /// The records that are looked at: where the query gives its level's own unique key one UID, no
+    /// other record can match.
+    fn rows<T: Tables>(&self, alloc: Global, tables: &mut T) -> Result<Listed<Row>, TableFault>
+        ensures { Looks (T.state tables.old) (T.state tables.new)
+            self.now.institution.now (λ records. map (row_of self.now.institution.now)
+            (candidates records self.now.query.now)) result }
+    {
+        match uid_at(&self.query.keys, self.query.level.unique_key()) {
+            Some(uid) => self.row_named(alloc, tables, uid),
+            None => self.asked_rows(alloc, tables),
+        }
+    }
+
     /// What is computed of the record of the level with the key.
     fn computed<T: Tables>(
         &self,
@@ -102,7 +165,7 @@ impl Search<'_> {
         tables: &mut T,
         key: &[u8],
     ) -> Result<DataSet, TableFault>
-        ensures { Looks T.rows T.honest T.failed T.may_leave tables.old tables.new
+        ensures { Looks (T.state tables.old) (T.state tables.new)
             self.now.institution.now
             (λ records. computed records self.now.query.now.level key.now) result }
     {
@@ -134,7 +197,7 @@ impl Search<'_> {
         row: &Row,
     ) -> Result<Option<DataSet>, TableFault>
         requires { HasKnownTags self.now.query.now.keys }
-        ensures { Looks T.rows T.honest T.failed T.may_leave tables.old tables.new
+        ensures { Looks (T.state tables.old) (T.state tables.new)
             self.now.institution.now
             (λ records. answer_of records self.now.called.now self.now.query.now
             (record_of row.now)) result }
@@ -156,7 +219,7 @@ impl Search<'_> {
         rows: &[Row],
     ) -> Result<Listed<DataSet>, TableFault>
         requires { HasKnownTags self.now.query.now.keys }
-        ensures { Looks T.rows T.honest T.failed T.may_leave tables.old tables.new
+        ensures { Looks (T.state tables.old) (T.state tables.new)
             self.now.institution.now (λ records. filter_map (λ (row : TheRow).
             answer_of records self.now.called.now self.now.query.now (record_of row)) rows.now)
             result }
@@ -191,13 +254,16 @@ pub fn find<T: Tables>(
     message: &Message,
     syntax: Syntax,
 ) -> Result<Found, TableFault>
-    ensures { Serves T.rows T.honest T.failed T.may_leave tables.old tables.new institution.now.name
+    ensures { Serves (T.state tables.old) (T.state tables.new) institution.now.name
         (λ records. (found records called.now message.now syntax, [])) result }
 {
     let query = match query_of(alloc, message, syntax)? {
         Ok(query) => query,
         Err(status) => return Ok(Found::refused(alloc, status)),
     };
+    query.keys.has_facts();
+    honest_rows_are_sound::<T>();
+    keys_are_met_alone_and_as_a_period();
     let search = Search {
         institution: institution.name.as_slice(),
         called,

@@ -1,34 +1,37 @@
 //! Laws of queries. Each function's contract is a law; its body does nothing.
-ghost use Rattle.std.specs.Prelude.{◌≡◌, ◌≢◌, ◌↔◌, ◌⊎◌, ℕ, true, List, [], Ok};
+ghost use Rattle.std.specs.Prelude.{◌≡◌, ◌≢◌, ℕ, List, [], ◌∷◌, Ok, codes};
 ghost use Rattle.std.specs.List.{AllByRecursion};
-ghost use Rattle.std.specs.List.Sorted.{IsStrictlySortedBy};
-ghost use Rattle.dq_list.specs.Among.{IsAmong};
 ghost use Rattle.dq_dataset.specs.declared.header.Syntax.{Syntax};
+ghost use Rattle.dq_dataset.specs.declared.header.Syntax.TheVariants.{Explicit};
 ghost use Rattle.dq_dataset.specs.Tree.{ElementList};
 ghost use Rattle.dq_dimse.specs.Statuses.{success};
 ghost use Rattle.dq_dimse.specs.declared.command.Message.{Message};
 ghost use Rattle.dq_tables.specs.declared.row.Row.{Row};
-ghost use Rattle.dq_tables.specs.Rows.{Record, Edit, IsRising, octet_order, of, by, after};
-ghost use Rattle.dq_tables.specs.Records.{AreInOrder};
+ghost use Rattle.dq_tables.specs.Rows.{Record, Edit, IsRising, of, by, after};
 ghost use Rattle.dq_tables.specs.Sound.{IsSound};
 ghost use Rattle.dq_find.specs.declared.query.Query.{Query};
-ghost use Rattle.dq_find.specs.Queries.{query_of, asked_records, answers, found};
-ghost use Rattle.dq_find.specs.Levels.{has_keys_above};
+ghost use Rattle.dq_find.specs.Queries.{query_of, answers, found};
 ghost use Rattle.dq_find.specs.Computed.{modalities_in};
-ghost use Rattle.dq_find.specs.Answers.{IsAsked, IsAnswer, Tells};
-ghost use Rattle.dq_find.specs.Modalities.{IsModalityOf, IsPast};
+ghost use Rattle.dq_find.specs.Answers.{AreAnswers, Tells};
+ghost use Rattle.dq_find.specs.Modalities.{AreModalities};
+ghost use Rattle.dq_find.specs.Examples.{request, identifier, kept, answer, found_with};
 
-/// A query is answered with exactly the records of its level that are under its unique keys and
-/// fit, in the order of their keys (PS3.4 section C.4.1.2.1).
-#[tactic(auto, using(crate::proofs::Answered::asked_and_answered))]
-pub fn answers_are_of_the_records_that_fit()
-    ensures answered { (records : List Record) (called : List ℕ) (message : Message)
-        (syntax : Syntax) (query : Query) → query_of message syntax ≡ Ok query
-        → (found records called message syntax).answers ≡ answers records called query }
-    ensures exact { (records : List Record) (called : List ℕ) (query : Query) (d : ElementList)
-        → IsAmong d (answers records called query) ↔ IsAnswer records called query d }
-    ensures in_order { (institution : List ℕ) (rows : List Row) (query : Query) → IsRising rows
-        → AreInOrder (asked_records (of institution rows) query) }
+/// A query is answered with what is told of the records that match it, each once, in the order of
+/// their keys, and no other list of answers is that (PS3.4 section C.4.1.2.1).
+pub fn answers_are_the_matching_records_in_order()
+    ensures answered { (institution : List ℕ) (rows : List Row) (called : List ℕ)
+        (message : Message) (syntax : Syntax) (query : Query) → IsSound rows
+        → query_of message syntax ≡ Ok query → AreAnswers (of institution rows) called query
+        (found (of institution rows) called message syntax).answers }
+    ensures succeeded { (institution : List ℕ) (rows : List Row) (called : List ℕ)
+        (message : Message) (syntax : Syntax) → IsSound rows
+        → (found (of institution rows) called message syntax).status ≡ success
+        → (query : Query) × (query_of message syntax ≡ Ok query)
+        × AreAnswers (of institution rows) called query
+        (found (of institution rows) called message syntax).answers }
+    ensures alone { (records : List Record) (called : List ℕ) (query : Query)
+        (one other : List ElementList) → AreAnswers records called query one
+        → AreAnswers records called query other → one ≡ other }
 {}
 
 /// A query that is refused has no answers (PS3.4 section C.4.1.1.4).
@@ -56,22 +59,18 @@ pub fn each_answer_tells_who_answers()
         → AllByRecursion (Tells called query.level) (answers records called query) }
 {}
 
-/// The records that a query asks for are those of its level whose data set has the value that the
-/// query gives the unique key above (PS3.4 section C.4.1.2.1).
-pub fn records_are_asked_by_the_key_above()
-    ensures { (institution : List ℕ) (rows : List Row) (query : Query) (r : Record) → IsSound rows
-        → has_keys_above query.level query.keys ≡ true
-        → IsAmong r (asked_records (of institution rows) query)
-        ↔ IsAsked (of institution rows) query r }
+/// Modalities in Study are the modalities of the study's series, each once, in the order of their
+/// octets: all of them, or the first 1,000 (PS3.4 section C.3.4). No other list is that.
+pub fn modalities_are_those_of_the_series()
+    ensures told { (series : List Record) → AreModalities series (modalities_in series) }
+    ensures alone { (series : List Record) (told : List (List ℕ))
+        → AreModalities series told → told ≡ modalities_in series }
 {}
 
-/// Modalities in Study are the modalities of the study's series, each once, in the order of their
-/// octets: all of them, or the first 1,000 (PS3.4 section C.3.4).
-pub fn modalities_are_those_of_the_series()
-    ensures in_order { (series : List Record)
-        → IsStrictlySortedBy octet_order (modalities_in series) }
-    ensures own { (series : List Record) (value : List ℕ)
-        → IsAmong value (modalities_in series) → IsModalityOf series value }
-    ensures all { (series : List Record) (value : List ℕ) → IsModalityOf series value
-        → IsAmong value (modalities_in series) ⊎ IsPast (modalities_in series) value }
+/// On a worked example: of no records nothing is found, with status 0000, and of the studies of two
+/// patients that of the patient whose name was asked for.
+pub fn one_study_of_two_is_found()
+    ensures nothing { found [] (codes "ARCHIVE") (request identifier) Explicit ≡ found_with [] }
+    ensures one { found kept (codes "ARCHIVE") (request identifier) Explicit
+        ≡ found_with (answer ∷ []) }
 {}

@@ -1,13 +1,15 @@
 //! The levels of a Study Root query (PS3.4 section C.6.2.1).
 ghost use Rattle.std.specs.Prelude.{◌≡◌};
-ghost use Rattle.dq_find.specs.Levels.{keys_of, name_of, level_named, level_of, keys_above, has_keys_above};
+ghost use Rattle.dq_find.specs.Levels.{kind_of, keys_of, name_of, unique_key, level_named, level_of, keys_above, has_keys_above};
 
 use crate::computed::octets_at;
 use dq_dataset::DataSet;
 use dq_match::KeyList;
-use dq_tables::uid_at;
+use dq_tables::{Kind, uid_at};
 use dq_value::trimmed;
-use dq_vr::tags::{QUERY_RETRIEVE_LEVEL, SERIES_INSTANCE_UID, STUDY_INSTANCE_UID};
+use dq_vr::tags::{
+    QUERY_RETRIEVE_LEVEL, SERIES_INSTANCE_UID, SOP_INSTANCE_UID, STUDY_INSTANCE_UID,
+};
 use dq_vr::{Tag, Vr};
 
 /// A level of a Study Root query, by which records it is answered.
@@ -48,6 +50,28 @@ impl Level {
             Level::Study => KeyList::Study,
             Level::Series => KeyList::Series,
             Level::Image => KeyList::Image,
+        }
+    }
+
+    /// The kind of the level's records.
+    pub(crate) fn kind(self) -> Kind
+        ensures { result ≡ kind_of self }
+    {
+        match self {
+            Level::Study => Kind::Study,
+            Level::Series => Kind::Series,
+            Level::Image => Kind::Image,
+        }
+    }
+
+    /// The level's own unique key.
+    pub(crate) fn unique_key(self) -> Tag
+        ensures { result ≡ unique_key self }
+    {
+        match self {
+            Level::Study => STUDY_INSTANCE_UID,
+            Level::Series => SERIES_INSTANCE_UID,
+            Level::Image => SOP_INSTANCE_UID,
         }
     }
 

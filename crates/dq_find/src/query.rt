@@ -7,7 +7,7 @@ ghost use Rattle.dq_find.specs.Queries.{query_at, query_of};
 use crate::level::Level;
 use dq_dataset::{DataSet, Syntax};
 use dq_dimse::Message;
-use dq_dimse::status::{CANNOT_UNDERSTAND, DOES_NOT_MATCH_SOP_CLASS, OUT_OF_RESOURCES};
+use dq_dimse::status::DOES_NOT_MATCH_SOP_CLASS;
 use dq_match::{is_query, strike};
 use std::alloc::{AllocError, Global};
 
@@ -30,12 +30,9 @@ pub(crate) fn query_of(
     ensures query { IfOk result (λ q. q ≡ query_of message.now syntax) }
     ensures known { IfOk result (λ q. IfOk q (λ query. HasKnownTags query.keys)) }
 {
-    if message.over {
-        return Ok(Err(OUT_OF_RESOURCES));
-    }
-    match message.data_set(alloc, syntax)? {
-        Some(identifier) => query_at(alloc, &identifier),
-        None => Ok(Err(CANNOT_UNDERSTAND)),
+    match message.identifier(alloc, syntax)? {
+        Ok(identifier) => query_at(alloc, &identifier),
+        Err(status) => Ok(Err(status)),
     }
 }
 

@@ -13,9 +13,9 @@ use Rattle.dq_dataset.specs.Facts.{AreElements, IsDataSet}
 use Rattle.dq_dataset.specs.Editing.{elements_below, elements_above, merged_elements, merged}
 use Rattle.dq_dataset.proofs.Edits.{facts-parts}
 use Rattle.dq_dataset.proofs.Views.{as_elements-elements_of, elements_of-as_elements}
-use Rattle.dq_tables.specs.Keys.{element_at}
 use Rattle.dq_mpps.specs.Attributes.{is_fixed}
 use Rattle.dq_dataset.specs.Same.{same_element, has_element}
+use Rattle.dq_dataset.specs.Values.{element_at}
 use Rattle.dq_mpps.specs.Changing.{changes_fixed}
 use Rattle.std.specs.Option.{option_or}
 use Rattle.std.proofs.lemmas.List.Folds.{find-append}

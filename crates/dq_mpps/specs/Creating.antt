@@ -12,6 +12,7 @@ use Rattle.dq_dataset.specs.declared.data_set.Element.{Element}
 use Rattle.dq_dataset.specs.declared.data_set.Value.TheVariants.{Octets, Items}
 use Rattle.dq_dataset.specs.Tree.{ElementList, no_elements}
 use Rattle.dq_dataset.specs.Reading.{reading}
+use Rattle.dq_dataset.specs.Values.{element_at}
 use Rattle.dq_dimse.specs.declared.command.Message.{Message}
 use Rattle.dq_dimse.specs.Receiving.{is_over}
 use Rattle.dq_dimse.specs.Statuses.{success, processing_failure, duplicate_sop_instance, invalid_sop_instance, missing_attribute, missing_attribute_value, invalid_attribute_value, resource_limitation}
@@ -19,7 +20,6 @@ use Rattle.dq_config.specs.Limits.{Limits}
 use Rattle.dq_tables.specs.declared.row.Kind.TheVariants.{Step}
 use Rattle.dq_tables.specs.Rows.{Record, Edit, Put}
 use Rattle.dq_tables.specs.Finding.{record_at, records_of}
-use Rattle.dq_tables.specs.Keys.{element_at}
 use Rattle.dq_tables.specs.Serving.{first_refusal, outcome}
 use Rattle.dq_mpps.specs.Attributes.{required_attributes}
 use Rattle.dq_mpps.specs.Steps.{in_progress, has_status, data_set_limit, step_record}

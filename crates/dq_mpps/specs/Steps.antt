@@ -4,9 +4,9 @@ use Rattle.dq_vr.specs.Tags.{performed_procedure_step_status}
 use Rattle.dq_dataset.specs.declared.header.Syntax.TheVariants.{Explicit}
 use Rattle.dq_dataset.specs.Tree.{ElementList}
 use Rattle.dq_dataset.specs.Canonical.{canonical}
+use Rattle.dq_dataset.specs.Values.{sole_at}
 use Rattle.dq_tables.specs.declared.row.Kind.TheVariants.{Step}
 use Rattle.dq_tables.specs.Rows.{Record}
-use Rattle.dq_tables.specs.Keys.{sole_at}
 use Rattle.dq_tables.specs.Sound.{is_value}
 
 -- the values of Performed Procedure Step Status (0040,0252) (PS3.3 section C.4.14)

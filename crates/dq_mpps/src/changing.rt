@@ -39,7 +39,7 @@ pub fn set<T: Tables>(
     message: &Message,
     syntax: Syntax,
 ) -> Result<u16, TableFault>
-    ensures { Serves T.rows T.honest T.failed T.may_leave tables.old tables.new institution.now.name
+    ensures { Serves (T.state tables.old) (T.state tables.new) institution.now.name
         (λ records. changed records message.now syntax) result }
 {
     if message.is_over(DATA_SET_LIMIT) {
@@ -63,7 +63,7 @@ fn set_step<T: Tables>(
     sent: &Sent<'_>,
 ) -> Result<u16, TableFault>
     requires { HasLengths Explicit sent.now.data_set.now }
-    ensures { Serves T.rows T.honest T.failed T.may_leave tables.old tables.new name.now
+    ensures { Serves (T.state tables.old) (T.state tables.new) name.now
         (λ records. step_changed sent.now.uid.now sent.now.data_set.now
         (record_at Step sent.now.uid.now records)) result }
 {
@@ -139,10 +139,10 @@ fn change_step<T: Tables>(
     uid: &[u8],
     octets: Vec<u8>,
 ) -> Result<(), TableFault>
-    requires { T.honest tables.old → IsChanged (T.rows tables.old) Step
+    requires { (T.state tables.old).honest → IsChanged (T.state tables.old).rows Step
         (row_of name.now (spelled_step uid.now octets.items)) }
-    ensures { Writes T.rows T.honest T.failed T.may_leave tables.old tables.new
-        (with_put name.now (spelled_step uid.now octets.items) (T.rows tables.old)) result }
+    ensures { Writes (T.state tables.old) (T.state tables.new)
+        (with_put name.now (spelled_step uid.now octets.items) (T.state tables.old).rows) result }
 {
     let row = step_row(alloc, name, uid, octets)?;
     tables.apply(alloc, &Change::StepChanged(row))

@@ -32,7 +32,7 @@ pub fn create<T: Tables>(
     message: &Message,
     syntax: Syntax,
 ) -> Result<u16, TableFault>
-    ensures { Serves T.rows T.honest T.failed T.may_leave tables.old tables.new institution.now.name
+    ensures { Serves (T.state tables.old) (T.state tables.new) institution.now.name
         (λ records. created (limits_of institution.now) records message.now syntax) result }
 {
     if message.is_over(DATA_SET_LIMIT) {
@@ -61,7 +61,7 @@ fn create_step<T: Tables>(
 ) -> Result<u16, TableFault>
     requires uid { is_uid sent.now.uid.now ≡ true }
     requires lengths { HasLengths Explicit sent.now.data_set.now }
-    ensures { Serves T.rows T.honest T.failed T.may_leave tables.old tables.new institution.now.name
+    ensures { Serves (T.state tables.old) (T.state tables.new) institution.now.name
         (step_created (limits_of institution.now) sent.now.uid.now sent.now.data_set.now) result }
 {
     if let Some(status) = refusal(alloc, tables, institution, sent)? {
@@ -78,10 +78,10 @@ fn refusal<T: Tables>(
     institution: &Institution,
     sent: &Sent<'_>,
 ) -> Result<Option<u16>, TableFault>
-    ensures found { T.honest tables.new → IfOk result (λ status. status ≡ first_refusal
-        (step_refusals (limits_of institution.now) (of institution.now.name (T.rows tables.old))
-        sent.now.uid.now sent.now.data_set.now)) }
-    ensures reads { Reads T.rows T.honest T.failed T.may_leave tables.old tables.new result }
+    ensures found { (T.state tables.new).honest → IfOk result (λ status. status ≡ first_refusal
+        (step_refusals (limits_of institution.now)
+        (of institution.now.name (T.state tables.old).rows) sent.now.uid.now sent.now.data_set.now)) }
+    ensures reads { Reads (T.state tables.old) (T.state tables.new) result }
 {
     if is_kept(alloc, tables, institution, sent.uid)? {
         return Ok(Some(status::DUPLICATE_SOP_INSTANCE));
@@ -102,9 +102,10 @@ fn is_kept<T: Tables>(
     institution: &Institution,
     uid: &[u8],
 ) -> Result<bool, TableFault>
-    ensures found { T.honest tables.new → IfOk result (λ kept.
-        kept ≡ is_some (record_at Step uid.now (of institution.now.name (T.rows tables.old)))) }
-    ensures reads { Reads T.rows T.honest T.failed T.may_leave tables.old tables.new result }
+    ensures found { (T.state tables.new).honest → IfOk result (λ kept.
+        kept
+        ≡ is_some (record_at Step uid.now (of institution.now.name (T.state tables.old).rows))) }
+    ensures reads { Reads (T.state tables.old) (T.state tables.new) result }
 {
     let kept = tables.step(alloc, institution.name.as_slice(), uid)?;
     Ok(kept.is_some())
@@ -116,9 +117,10 @@ fn is_full<T: Tables>(
     tables: &mut T,
     institution: &Institution,
 ) -> Result<bool, TableFault>
-    ensures found { T.honest tables.new → IfOk result (λ full. full ≡ nat_le institution.now.steps
-        (length (records_of Step (of institution.now.name (T.rows tables.old))))) }
-    ensures reads { Reads T.rows T.honest T.failed T.may_leave tables.old tables.new result }
+    ensures found { (T.state tables.new).honest → IfOk result (λ full. full
+        ≡ nat_le institution.now.steps (length
+        (records_of Step (of institution.now.name (T.state tables.old).rows)))) }
+    ensures reads { Reads (T.state tables.old) (T.state tables.new) result }
 {
     let count = tables.count(alloc, Kind::Step, institution.name.as_slice())?;
     Ok(u64::from(institution.steps) <= count)
@@ -149,10 +151,11 @@ fn add_step<T: Tables>(
 ) -> Result<(), TableFault>
     requires uid { is_uid sent.now.uid.now ≡ true }
     requires lengths { HasLengths Explicit sent.now.data_set.now }
-    requires new { T.honest tables.old → IsFree name.now sent.now.uid.now (T.rows tables.old) }
-    ensures { Writes T.rows T.honest T.failed T.may_leave tables.old tables.new
+    requires new { (T.state tables.old).honest
+        → IsFree name.now sent.now.uid.now (T.state tables.old).rows }
+    ensures { Writes (T.state tables.old) (T.state tables.new)
         (with_put name.now (step_record sent.now.uid.now sent.now.data_set.now)
-        (T.rows tables.old)) result }
+        (T.state tables.old).rows) result }
 {
     written_law();
     let _elements = sent.data_set.elements();

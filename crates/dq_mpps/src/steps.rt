@@ -5,7 +5,7 @@ ghost use Rattle.dq_mpps.specs.Steps.{has_status, spelled_step, in_progress};
 ghost use Rattle.dq_mpps.specs.Changing.{is_ended, sends_unknown_status};
 
 use dq_dataset::DataSet;
-use dq_tables::{Kind, RecordKeys, Row, sole_at};
+use dq_tables::{Kind, RecordKeys, Row};
 use dq_vr::tags;
 use std::alloc::{AllocError, Global};
 
@@ -24,7 +24,7 @@ pub(crate) struct Sent<'a> {
 fn has_status(step: &DataSet, status: &[u8]) -> bool
     ensures { result ≡ has_status status.now step.now }
 {
-    match sole_at(step, tags::PERFORMED_PROCEDURE_STEP_STATUS) {
+    match step.sole_value(tags::PERFORMED_PROCEDURE_STEP_STATUS) {
         Some(value) => value == status,
         None => false,
     }

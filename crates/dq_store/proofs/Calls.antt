@@ -3,50 +3,38 @@ use Rattle.std.proofs.Common.{◌≡◌, ℕ, Bool, List, Result, Ok, Err, sym, 
 use Rattle.dq_tables.specs.declared.fault.TableFault.{TableFault}
 use Rattle.dq_tables.specs.declared.row.Row.{Row}
 use Rattle.dq_tables.specs.Rows.{Record, Edit, of, by, after}
-use Rattle.dq_tables.specs.Keeping.{Goes, Reads}
+use Rattle.dq_tables.specs.Keeping.{State, Reads}
 use Rattle.dq_tables.specs.Serving.{Serves}
+use Rattle.dq_tables.proofs.Calling.{goes_then}
 
-module _ {Tables : Type 0} (rows : Tables → List Row) (honest : Tables → Type 0) (failed : Tables → Bool) (may_leave : Tables → List Row → Type 0) where
-  goes_on : {A B : Type 0} (old mid new : Tables) (x : A) (result : Result B TableFault) → Goes honest failed old mid (Ok x) → Goes honest failed mid new result
-      → Goes honest failed old new result
-  goes_on old mid new x result first second = record {
-    was_honest = λ h. first.was_honest (second.was_honest h);
-    told = second.told;
-    untold = λ f. (elim (second.untold f) [
-      | inl before ↦ elim (first.untold before) [ inl old_failed ↦ inl old_failed | inr impossible ↦ absurd (cc) ]
-      | inr now ↦ inr now
-    ]);
-    lasts = λ f. second.lasts (first.lasts f);
+module _ {Answer : Type 0} (institution : List ℕ) (does : List Record → Answer × List Edit) (made : Answer × List Edit) where
+  -- a service of which calls that read come first, and whose answer and edits are known then
+  pub reads_serve : {A : Type 0} (old mid new : State) (x : A) (result : Result Answer TableFault) → Reads old mid (Ok x)
+      → Serves mid new institution (λ records. made) result → (mid.honest → does (of institution old.rows) ≡ made)
+      → Serves old new institution does result
+  reads_serve old mid new x (Ok a) reads serves defined = record {
+    goes = goes_then old mid new x (Ok a) reads.goes serves.goes;
+    answered = λ h. serves.answered h ∙ ap (λ (y : Answer × List Edit). y.0) (sym (defined (serves.goes.was_honest h)));
+    done = λ h. (let was = serves.goes.was_honest h in
+        serves.done h ∙ ap (after (by institution made.1)) (reads.same was)
+        ∙ ap (λ (y : Answer × List Edit). after (by institution y.1) old.rows) (sym (defined was)));
+    same = λ h. tt;
+    settles = λ h settled. serves.settles h (record {
+      only = λ r leave. (let was = serves.goes.was_honest h in
+          settled.only r (reads.crash was r leave) ∙ sym (reads.same was));
+    });
+    crash = λ h. tt;
   }
-
-  module _ {Answer : Type 0} (institution : List ℕ) (does : List Record → Answer × List Edit) (made : Answer × List Edit) where
-    -- a service of which calls that read come first, and whose answer and edits are known then
-    pub reads_serve : {A : Type 0} (old mid new : Tables) (x : A) (result : Result Answer TableFault) → Reads rows honest failed may_leave old mid (Ok x)
-        → Serves rows honest failed may_leave mid new institution (λ records. made) result → (honest mid → does (of institution (rows old)) ≡ made)
-        → Serves rows honest failed may_leave old new institution does result
-    reads_serve old mid new x (Ok a) reads serves defined = record {
-      goes = goes_on old mid new x (Ok a) reads.goes serves.goes;
-      answered = λ h. serves.answered h ∙ ap (λ (y : Answer × List Edit). y.0) (sym (defined (serves.goes.was_honest h)));
-      done = λ h. (let was = serves.goes.was_honest h in
-          serves.done h ∙ ap (after (by institution made.1)) (reads.same was)
-          ∙ ap (λ (y : Answer × List Edit). after (by institution y.1) (rows old)) (sym (defined was)));
-      same = λ h. tt;
-      settles = λ h settled. serves.settles h (record {
-        only = λ r leave. (let was = serves.goes.was_honest h in
-            settled.only r (reads.crash was r leave) ∙ sym (reads.same was));
-      });
-      crash = λ h. tt;
-    }
-    reads_serve old mid new x (Err e) reads serves defined = record {
-      goes = goes_on old mid new x (Err e) reads.goes serves.goes;
-      answered = λ h. tt;
-      done = λ h. tt;
-      same = λ h. serves.same h ∙ reads.same (serves.goes.was_honest h);
-      settles = λ h. tt;
-      crash = λ h r leave. (let was = serves.goes.was_honest h in
-          elim (serves.crash h r leave) [
-            | inl before ↦ inl (reads.crash was r before)
-            | inr changed ↦ inr (changed ∙ ap (after (by institution made.1)) (reads.same was)
-                ∙ ap (λ (y : Answer × List Edit). after (by institution y.1) (rows old)) (sym (defined was)))
-          ]);
-    }
+  reads_serve old mid new x (Err e) reads serves defined = record {
+    goes = goes_then old mid new x (Err e) reads.goes serves.goes;
+    answered = λ h. tt;
+    done = λ h. tt;
+    same = λ h. serves.same h ∙ reads.same (serves.goes.was_honest h);
+    settles = λ h. tt;
+    crash = λ h r leave. (let was = serves.goes.was_honest h in
+        elim (serves.crash h r leave) [
+          | inl before ↦ inl (reads.crash was r before)
+          | inr changed ↦ inr (changed ∙ ap (after (by institution made.1)) (reads.same was)
+              ∙ ap (λ (y : Answer × List Edit). after (by institution y.1) old.rows) (sym (defined was)))
+        ]);
+  }

@@ -19,6 +19,7 @@ use Rattle.dq_dataset.specs.View.{elements_of, has_tag}
 use Rattle.dq_dataset.specs.Reading.{reading}
 use Rattle.dq_dataset.specs.Canonical.{canonical}
 use Rattle.dq_dataset.specs.Editing.{cut_out, is_listed}
+use Rattle.dq_dataset.specs.Values.{sole_at}
 use Rattle.dq_dataset.proofs.Views.{elements_of-as_elements}
 use Rattle.dq_tables.specs.declared.row.Kind.{Kind}
 use Rattle.dq_tables.specs.declared.row.Kind.TheVariants.{Study, Series, Image}
@@ -26,7 +27,7 @@ use Rattle.dq_tables.specs.declared.row.Row.{Row}
 use Rattle.dq_tables.specs.declared.change.Change.{Change}
 use Rattle.dq_tables.specs.Rows.{Record, RowPlace, Edit, Put, IsRising, IsOf, of, row_of, place_of, place, within, row_place_of, row_place_order, rows_before, rows_past, after_edit, after_edits, put_if, edits_of, after, by, operation_of}
 use Rattle.dq_tables.specs.Finding.{row_at}
-use Rattle.dq_tables.specs.Keys.{uid_at, sole_at}
+use Rattle.dq_tables.specs.Keys.{uid_at}
 use Rattle.dq_tables.specs.Sound.{is_own, is_held, is_value, has_key, has_above, is_within, IsNew, IsNewIf, FitsStored}
 use Rattle.dq_tables.proofs.Order.{rows_total, is_at, IsRising-split}
 use Rattle.dq_tables.proofs.InOrder.{row_at_is}

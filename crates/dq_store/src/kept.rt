@@ -24,9 +24,9 @@ pub(crate) fn kept_rows<T: Tables>(
     name: &[u8],
     sent: &Instance<'_>,
 ) -> Result<KeptRows, TableFault>
-    ensures found { T.honest tables.new → IfOk result (λ kept.
-        kept_of kept ≡ kept_among (of name.now (T.rows tables.old)) (instance_of sent.now)) }
-    ensures reads { Reads T.rows T.honest T.failed T.may_leave tables.old tables.new result }
+    ensures found { (T.state tables.new).honest → IfOk result (λ kept.
+        kept_of kept ≡ kept_among (of name.now (T.state tables.old).rows) (instance_of sent.now)) }
+    ensures reads { Reads (T.state tables.old) (T.state tables.new) result }
 {
     let study = tables.study(alloc, name, sent.study)?;
     let series = tables.series(alloc, name, sent.series)?;
@@ -72,10 +72,10 @@ fn finds_no_room<T: Tables>(
     name: &[u8],
     level: &Level<'_>,
 ) -> Result<bool, TableFault>
-    ensures found { T.honest tables.new → IfOk result (λ full. full
+    ensures found { (T.state tables.new).honest → IfOk result (λ full. full
         ≡ finds_no_room (option_map record_of level.now.kept.now) level.now.limit
-        (count_of level.now.kind (of name.now (T.rows tables.old)))) }
-    ensures reads { Reads T.rows T.honest T.failed T.may_leave tables.old tables.new result }
+        (count_of level.now.kind (of name.now (T.state tables.old).rows))) }
+    ensures reads { Reads (T.state tables.old) (T.state tables.new) result }
 {
     if level.kept.is_some() {
         return Ok(false);
@@ -91,10 +91,10 @@ pub(crate) fn limit_refusal<T: Tables>(
     institution: &Institution,
     kept: &KeptRows,
 ) -> Result<Option<u16>, TableFault>
-    ensures found { T.honest tables.new → IfOk result (λ status. status
+    ensures found { (T.state tables.new).honest → IfOk result (λ status. status
         ≡ first_refusal (limit_refusals (limits_of institution.now)
-        (of institution.now.name (T.rows tables.old)) (kept_of kept.now))) }
-    ensures reads { Reads T.rows T.honest T.failed T.may_leave tables.old tables.new result }
+        (of institution.now.name (T.state tables.old).rows) (kept_of kept.now))) }
+    ensures reads { Reads (T.state tables.old) (T.state tables.new) result }
 {
     let name = institution.name.as_slice();
     let studies = Level {

@@ -7,7 +7,8 @@ ghost use Rattle.dq_tables.specs.Rows.{of, by, after};
 ghost use Rattle.dq_tables.specs.Keeping.{Writes};
 ghost use Rattle.dq_tables.specs.Serving.{Serves};
 ghost use Rattle.dq_store.specs.Storing.{stored, stored_status, stored_edits, kept_among};
-ghost use Rattle.dq_store.specs.Views.{instance_of, instance_stored, kept_of, HasUids, new_rows};
+ghost use Rattle.dq_store.specs.Storing.{study_record, series_record};
+ghost use Rattle.dq_store.specs.Views.{instance_of, instance_stored, kept_of, HasUids, new_if, new_rows};
 
 use crate::instance::Instance;
 use crate::keeping::KeptRows;
@@ -16,7 +17,7 @@ use dq_config::Institution;
 use dq_dataset::Syntax;
 use dq_dataset::laws::{editing_law, written_law};
 use dq_dimse::{Message, status};
-use dq_tables::{Change, TableFault, Tables};
+use dq_tables::{Change, Row, TableFault, Tables};
 use std::alloc::{AllocError, Global};
 
 /// The data set of a C-STORE is at most so many octets.
@@ -31,7 +32,7 @@ pub fn store<T: Tables>(
     message: &Message,
     syntax: Syntax,
 ) -> Result<u16, TableFault>
-    ensures { Serves T.rows T.honest T.failed T.may_leave tables.old tables.new institution.now.name
+    ensures { Serves (T.state tables.old) (T.state tables.new) institution.now.name
         (λ records. stored (limits_of institution.now) records message.now syntax) result }
 {
     if message.is_over(DATA_SET_LIMIT) {
@@ -55,7 +56,7 @@ fn store_instance<T: Tables>(
 ) -> Result<u16, TableFault>
     requires lengths { HasLengths Explicit sent.now.data_set.now }
     requires own { HasUids sent.now }
-    ensures { Serves T.rows T.honest T.failed T.may_leave tables.old tables.new institution.now.name
+    ensures { Serves (T.state tables.old) (T.state tables.new) institution.now.name
         (λ records. instance_stored (limits_of institution.now) records (instance_of sent.now))
         result }
 {
@@ -80,9 +81,10 @@ fn keep<T: Tables>(
 ) -> Result<u16, TableFault>
     requires lengths { HasLengths Explicit sent.now.data_set.now }
     requires own { HasUids sent.now }
-    requires found { T.honest tables.old
-        → kept_of kept.now ≡ kept_among (of name.now (T.rows tables.old)) (instance_of sent.now) }
-    ensures { Serves T.rows T.honest T.failed T.may_leave tables.old tables.new name.now
+    requires found { (T.state tables.old).honest
+        → kept_of kept.now
+        ≡ kept_among (of name.now (T.state tables.old).rows) (instance_of sent.now) }
+    ensures { Serves (T.state tables.old) (T.state tables.new) name.now
         (λ _. (
           stored_status (kept_of kept.now) (instance_of sent.now),
           stored_edits (kept_of kept.now) (instance_of sent.now),
@@ -105,18 +107,53 @@ fn keep_new<T: Tables>(
 ) -> Result<(), TableFault>
     requires lengths { HasLengths Explicit sent.now.data_set.now }
     requires own { HasUids sent.now }
-    requires found { T.honest tables.old
-        → kept_of kept.now ≡ kept_among (of name.now (T.rows tables.old)) (instance_of sent.now) }
+    requires found { (T.state tables.old).honest
+        → kept_of kept.now
+        ≡ kept_among (of name.now (T.state tables.old).rows) (instance_of sent.now) }
     requires new { kept.now.image ≡ None }
-    ensures { Writes T.rows T.honest T.failed T.may_leave tables.old tables.new
+    ensures { Writes (T.state tables.old) (T.state tables.new)
         (after (by name.now (stored_edits (kept_of kept.now) (instance_of sent.now)))
-        (T.rows tables.old)) result }
+        (T.state tables.old).rows) result }
 {
     written_law();
     editing_law();
     let _elements = sent.data_set.elements();
     let change = new_rows(alloc, name, kept, sent)?;
     tables.apply(alloc, &change)
+}
+
+/// The row of the study of an instance, where it is new.
+fn new_study(
+    alloc: Global,
+    name: &[u8],
+    kept: &KeptRows,
+    sent: &Instance<'_>,
+) -> Result<Option<Row>, AllocError>
+    requires { HasLengths Explicit sent.now.data_set.now }
+    ensures { IfOk result (λ row. row ≡ new_if name.now (kept_of kept.now).study
+        (study_record (instance_of sent.now))) }
+{
+    match &kept.study {
+        Some(_) => Ok(None),
+        None => Ok(Some(sent.study_row(alloc, name)?)),
+    }
+}
+
+/// The row of the series of an instance, where it is new.
+fn new_series(
+    alloc: Global,
+    name: &[u8],
+    kept: &KeptRows,
+    sent: &Instance<'_>,
+) -> Result<Option<Row>, AllocError>
+    requires { HasLengths Explicit sent.now.data_set.now }
+    ensures { IfOk result (λ row. row ≡ new_if name.now (kept_of kept.now).series
+        (series_record (instance_of sent.now))) }
+{
+    match &kept.series {
+        Some(_) => Ok(None),
+        None => Ok(Some(sent.series_row(alloc, name)?)),
+    }
 }
 
 /// The rows of an instance that is new, with those of its study and its series where they are new
@@ -131,14 +168,8 @@ fn new_rows(
     ensures { IfOk result (λ change.
         change ≡ new_rows name.now (kept_of kept.now) (instance_of sent.now)) }
 {
-    let study = match &kept.study {
-        Some(_) => None,
-        None => Some(sent.study_row(alloc, name)?),
-    };
-    let series = match &kept.series {
-        Some(_) => None,
-        None => Some(sent.series_row(alloc, name)?),
-    };
+    let study = new_study(alloc, name, kept, sent)?;
+    let series = new_series(alloc, name, kept, sent)?;
     let image = sent.image_row(alloc, name)?;
     Ok(Change::Stored {
         study,

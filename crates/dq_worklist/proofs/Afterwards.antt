@@ -33,7 +33,7 @@ use Rattle.dq_worklist.specs.declared.refusal.Refusal.{Refusal}
 use Rattle.dq_worklist.specs.Orders.{Order, number_of, is_complete, read_order, order_limit, has_entry, entry_of, answered, refusals, scheduled, withdrawn}
 use Rattle.dq_worklist.specs.Queries.{answers, listed}
 use Rattle.dq_worklist.specs.Views.{order_of}
-use Rattle.dq_worklist.proofs.Exactly.{answer_to}
+use Rattle.dq_worklist.proofs.Matching.{match_shown}
 use Rattle.dq_worklist.proofs.Orders.{malformed}
 
 -- ---- refusals
@@ -158,8 +158,7 @@ module _ (keys : ElementList) where
   put_answered order fit records =
       let p : Place = record { kind = Entry; key = order.id } in
       let among = among_between (entry_of order) (records_before p records) (records_past p records) in
-      answer_to (edited_by (Put (entry_of order)) records) keys (shown keys (data_set_of (entry_of order).octets))
-      (entry_of order, record { kept = among; kind = refl; fit = fit }, refl)
+      match_shown (edited_by (Put (entry_of order)) records) keys (entry_of order) (record { kept = among; kind = refl; fit = fit })
 
   pub scheduled_is_answered : (limits : Limits) (records : List Record) (octets : List ℕ) (edits : List Edit) (order : Order)
       → reading Explicit (canonical Explicit order.elements) ≡ Ok order.elements → scheduled limits records octets ≡ (None, edits)

@@ -1,5 +1,6 @@
 mod Afterwards
-mod Exactly
+mod Matching
 mod Orders
 mod Queries
 mod Records
+mod WorkedExamples

@@ -2,3 +2,4 @@ pub mod Answers
 pub mod Orders
 pub mod Queries
 pub mod Views
+pub mod Examples

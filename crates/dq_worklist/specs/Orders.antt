@@ -12,13 +12,13 @@ use Rattle.dq_dataset.specs.declared.header.Syntax.TheVariants.{Explicit}
 use Rattle.dq_dataset.specs.Tree.{ElementList}
 use Rattle.dq_dataset.specs.Reading.{reading}
 use Rattle.dq_dataset.specs.Canonical.{canonical}
+use Rattle.dq_dataset.specs.Values.{element_at, values_in, sole_at}
 use Rattle.dq_config.specs.Limits.{Limits}
-use Rattle.dq_match.specs.Keys.{element_at, values_in}
 use Rattle.dq_tables.specs.declared.row.Kind.TheVariants.{Entry}
 use Rattle.dq_tables.specs.Rows.{Record, Edit, Put, Remove}
 use Rattle.dq_tables.specs.Finding.{record_at, records_of}
 use Rattle.dq_tables.specs.Serving.{first_refusal, outcome}
-use Rattle.dq_tables.specs.Keys.{sole_at, uid_at, sole_item_at, entry_id}
+use Rattle.dq_tables.specs.Keys.{uid_at, sole_item_at, entry_id}
 use Rattle.dq_worklist.specs.declared.refusal.Refusal.{Refusal}
 use Rattle.dq_worklist.specs.declared.refusal.Refusal.TheVariants.{Malformed, Incomplete, Taken, Full, NoSuchEntry}
 

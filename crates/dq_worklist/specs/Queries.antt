@@ -1,15 +1,14 @@
 -- Worklist queries (PS3.4 sections K.4.1 and K.6.1.2).
-use Rattle.std.specs.Prelude.{ℕ, Option, Some, None, List, Result, Ok, Err, if◌then◌else◌}
+use Rattle.std.specs.Prelude.{ℕ, List, Result, Ok, Err, if◌then◌else◌}
 use Rattle.std.specs.List.{filter_map}
-use Rattle.std.specs.Result.{result_ok}
 use Rattle.dq_dataset.specs.declared.header.Syntax.{Syntax}
-use Rattle.dq_dataset.specs.Reading.{reading}
 use Rattle.dq_dataset.specs.Tree.{ElementList}
 use Rattle.dq_dimse.specs.declared.command.Message.{Message}
-use Rattle.dq_dimse.specs.Statuses.{success, out_of_resources, does_not_match_sop_class, cannot_understand}
+use Rattle.dq_dimse.specs.Receiving.{identifier_in}
+use Rattle.dq_dimse.specs.Statuses.{success, does_not_match_sop_class}
 use Rattle.dq_match.specs.declared.responses.Found.{Found}
 use Rattle.dq_match.specs.declared.supported.KeyList.TheVariants.{Entry as EntryKeys}
-use Rattle.dq_match.specs.declared.supported.Level.TheVariants.{Identifier}
+use Rattle.dq_match.specs.declared.supported.KeyScope.TheVariants.{Identifier}
 use Rattle.dq_match.specs.Identifiers.{is_query}
 use Rattle.dq_match.specs.Supported.{supported_part, has_unsupported}
 use Rattle.dq_match.specs.Answers.{refused, answer}
@@ -27,15 +26,13 @@ query_at identifier =
     if is_query keys then Ok (record { keys = keys; optional = optional })
     else Err does_not_match_sop_class
 
-abbrev pub query_in : Option ElementList → Result Query ℕ
-query_in None = Err cannot_understand
-query_in (Some identifier) = query_at identifier
+abbrev pub query_in : Result ElementList ℕ → Result Query ℕ
+query_in (Err status) = Err status
+query_in (Ok identifier) = query_at identifier
 
 -- the query of a message, or the status that refuses it (PS3.4 section K.4.1.1.4)
 unfoldable pub query_of : Message → Syntax → Result Query ℕ
-query_of message syntax =
-    if message.over then Err out_of_resources
-    else query_in (result_ok (reading syntax message.octets))
+query_of message syntax = query_in (identifier_in message syntax)
 
 -- the answers to the keys of a query that the entries give, in their order
 unfoldable pub answers : List Record → ElementList → List ElementList

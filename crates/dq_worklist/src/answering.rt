@@ -46,7 +46,7 @@ pub fn query<T: Tables>(
     message: &Message,
     syntax: Syntax,
 ) -> Result<Found, TableFault>
-    ensures { Serves T.rows T.honest T.failed T.may_leave tables.old tables.new institution.now.name
+    ensures { Serves (T.state tables.old) (T.state tables.new) institution.now.name
         (λ (records : List Record). (listed records message.now syntax, [])) result }
 {
     let query = match query_of(alloc, message, syntax)? {

@@ -8,9 +8,8 @@ ghost use Rattle.dq_tables.specs.Keys.{sole_item_at, entry_id};
 ghost use Rattle.dq_worklist.specs.Orders.{has_value, holds, is_complete_step, is_complete, order_in};
 ghost use Rattle.dq_worklist.specs.Views.{held};
 
-use dq_dataset::DataSet;
-use dq_match::octets_in;
-use dq_tables::{entry_id, sole_at, sole_item_at, uid_at};
+use dq_dataset::{DataSet, Value};
+use dq_tables::{entry_id, sole_item_at, uid_at};
 use dq_value::{date_of, time_of, values};
 use dq_vr::{Tag, tags};
 
@@ -22,8 +21,10 @@ fn has_value(data_set: &DataSet, tag: Tag) -> bool
     let Some(element) = data_set.get(tag) else {
         return false;
     };
-    let mut values = values(element.vr, octets_in(Some(element)));
-    values.next().is_some()
+    match &element.value {
+        Value::Octets(octets) => values(element.vr, octets.as_slice()).next().is_some(),
+        Value::Items(_) => false,
+    }
 }
 
 fn is_date(value: Option<&[u8]>) -> bool
@@ -51,8 +52,8 @@ fn is_complete_step(step: &DataSet) -> bool
 {
     has_value(step, tags::MODALITY)
         && has_value(step, tags::SCHEDULED_STATION_AE_TITLE)
-        && is_date(sole_at(step, tags::SCHEDULED_PROCEDURE_STEP_START_DATE))
-        && is_time(sole_at(step, tags::SCHEDULED_PROCEDURE_STEP_START_TIME))
+        && is_date(step.sole_value(tags::SCHEDULED_PROCEDURE_STEP_START_DATE))
+        && is_time(step.sole_value(tags::SCHEDULED_PROCEDURE_STEP_START_TIME))
 }
 
 fn has_complete_step(data_set: &DataSet) -> bool

@@ -1,22 +1,21 @@
 //! Laws of the worklist. Each function's contract is a law; its body changes nothing.
-ghost use Rattle.std.specs.Prelude.{◌≡◌, ◌≢◌, ℕ, true, false, List, [], Some, None, Ok, ◌↔◌};
+ghost use Rattle.std.specs.Prelude.{◌≡◌, ◌≢◌, ℕ, true, false, List, [], ◌∷◌, Some, None, Ok, codes};
 ghost use Rattle.dq_dataset.specs.declared.header.Syntax.{Syntax};
 ghost use Rattle.dq_dataset.specs.declared.header.Syntax.TheVariants.{Explicit};
 ghost use Rattle.dq_dataset.specs.Tree.{ElementList};
 ghost use Rattle.dq_dataset.specs.Reading.{reading};
 ghost use Rattle.dq_dataset.specs.Grammar.{AreOctets};
 ghost use Rattle.dq_list.specs.Among.{IsAmong};
+ghost use Rattle.dq_dimse.specs.Statuses.{success};
 ghost use Rattle.dq_dimse.specs.declared.command.Message.{Message};
 ghost use Rattle.dq_config.specs.Limits.{Limits};
 ghost use Rattle.dq_match.specs.Matching.{fits};
 ghost use Rattle.dq_match.specs.Responses.{shown};
 ghost use Rattle.dq_tables.specs.declared.row.Row.{Row};
-ghost use Rattle.dq_tables.specs.declared.row.Kind.TheVariants.{Entry};
-ghost use Rattle.dq_tables.specs.Finding.{records_of};
-ghost use Rattle.dq_tables.specs.Records.{AreInOrder};
 ghost use Rattle.dq_tables.specs.Rows.{Record, Edit, IsRising, of, by, after, edited};
 ghost use Rattle.dq_worklist.specs.Orders.{Order, read_order, has_entry, scheduled, withdrawn};
-ghost use Rattle.dq_worklist.specs.Answers.{IsAnswer};
+ghost use Rattle.dq_worklist.specs.Answers.{AreAnswers};
+ghost use Rattle.dq_worklist.specs.Examples.{request, steps_of, entry, answer, found_with};
 ghost use Rattle.dq_worklist.specs.Queries.{query_of, answers, listed};
 ghost use Rattle.dq_worklist.specs.declared.asking.Query.{Query};
 
@@ -31,16 +30,22 @@ pub fn refused_orders_change_nothing()
         → withdrawn records id ≡ (Some number, edits) → edits ≡ [] }
 {}
 
-/// A query is answered with exactly the entries that fit its keys, in the order of their ids (PS3.4
-/// section K.4.1.2.1).
-pub fn answers_are_of_the_entries_that_fit()
-    ensures listed { (records : List Record) (message : Message) (syntax : Syntax) (query : Query)
-        → query_of message syntax ≡ Ok query
-        → (listed records message syntax).answers ≡ answers records query.keys }
-    ensures exact { (records : List Record) (keys d : ElementList)
-        → IsAmong d (answers records keys) ↔ IsAnswer records keys d }
-    ensures in_order { (institution : List ℕ) (rows : List Row) → IsRising rows
-        → AreInOrder (records_of Entry (of institution rows)) }
+/// A query is answered with what its keys are shown of the entries that match, each once, in the
+/// order of their ids (PS3.4 section K.4.1.2.1).
+pub fn answers_are_the_matching_records_in_order()
+    ensures answered { (institution : List ℕ) (rows : List Row) (message : Message)
+        (syntax : Syntax) (query : Query) → IsRising rows → query_of message syntax ≡ Ok query
+        → AreAnswers (of institution rows) query.keys
+        (listed (of institution rows) message syntax).answers }
+    ensures succeeded { (institution : List ℕ) (rows : List Row) (message : Message)
+        (syntax : Syntax) → IsRising rows
+        → (listed (of institution rows) message syntax).status ≡ success
+        → (query : Query) × (query_of message syntax ≡ Ok query)
+        × AreAnswers (of institution rows) query.keys
+        (listed (of institution rows) message syntax).answers }
+    ensures alone { (records : List Record) (keys : ElementList)
+        (one other : List ElementList) → AreAnswers records keys one
+        → AreAnswers records keys other → one ≡ other }
 {}
 
 /// Entries of other institutions are not listed.
@@ -73,4 +78,13 @@ pub fn what_is_scheduled_is_found()
 pub fn a_withdrawn_id_is_free()
     ensures { (records : List Record) (id : List ℕ) (edits : List Edit)
         → withdrawn records id ≡ (None, edits) → has_entry (edited edits records) id ≡ false }
+{}
+
+/// On a worked example: an entry is listed, with what is asked for, by the modality of its step,
+/// and is not by another.
+pub fn an_entry_is_listed_by_its_modality()
+    ensures one { listed (entry ∷ []) (request (steps_of (codes "CT"))) Explicit
+        ≡ found_with (answer ∷ []) }
+    ensures nothing { listed (entry ∷ []) (request (steps_of (codes "MR"))) Explicit
+        ≡ found_with [] }
 {}

@@ -32,7 +32,7 @@ pub fn schedule<T: Tables>(
     institution: &Institution,
     octets: &[u8],
 ) -> Result<Option<u16>, TableFault>
-    ensures { Serves T.rows T.honest T.failed T.may_leave tables.old tables.new institution.now.name
+    ensures { Serves (T.state tables.old) (T.state tables.new) institution.now.name
         (λ (records : List Record). scheduled (limits_of institution.now) records octets.now)
         result }
 {
@@ -69,7 +69,7 @@ fn schedule_order<T: Tables>(
 ) -> Result<Option<u16>, TableFault>
     requires kept { CanBeKept order.now.elements.now }
     requires own { entry_id order.now.elements.now ≡ Some order.now.id.now }
-    ensures { Serves T.rows T.honest T.failed T.may_leave tables.old tables.new institution.now.name
+    ensures { Serves (T.state tables.old) (T.state tables.new) institution.now.name
         (λ (records : List Record).
         order_outcome (limits_of institution.now) records (held order.now)) result }
 {
@@ -87,9 +87,9 @@ fn record_refusal<T: Tables>(
     institution: &Institution,
     id: &[u8],
 ) -> Result<Option<Refusal>, TableFault>
-    ensures found { T.honest tables.new → IfOk result (λ refusal. refusal ≡ record_refusal
-        (limits_of institution.now) (of institution.now.name (T.rows tables.old)) id.now) }
-    ensures reads { Reads T.rows T.honest T.failed T.may_leave tables.old tables.new result }
+    ensures found { (T.state tables.new).honest → IfOk result (λ refusal. refusal ≡ record_refusal
+        (limits_of institution.now) (of institution.now.name (T.state tables.old).rows) id.now) }
+    ensures reads { Reads (T.state tables.old) (T.state tables.new) result }
 {
     let name = institution.name.as_slice();
     let entry = tables.entry(alloc, name, id)?;
@@ -112,10 +112,11 @@ fn add_entry<T: Tables>(
 ) -> Result<(), TableFault>
     requires kept { CanBeKept order.now.elements.now }
     requires own { entry_id order.now.elements.now ≡ Some order.now.id.now }
-    requires free { T.honest tables.old
-        → row_at Entry name.now order.now.id.now (T.rows tables.old) ≡ None }
-    ensures { Writes T.rows T.honest T.failed T.may_leave tables.old tables.new
-        (after (by name.now (Put (entry_of (held order.now)) ∷ [])) (T.rows tables.old)) result }
+    requires free { (T.state tables.old).honest
+        → row_at Entry name.now order.now.id.now (T.state tables.old).rows ≡ None }
+    ensures { Writes (T.state tables.old) (T.state tables.new)
+        (after (by name.now (Put (entry_of (held order.now)) ∷ [])) (T.state tables.old).rows)
+        result }
 {
     written_law();
     let _elements = order.elements.elements();
@@ -144,7 +145,7 @@ pub fn withdraw<T: Tables>(
     institution: &Institution,
     id: &[u8],
 ) -> Result<Option<u16>, TableFault>
-    ensures { Serves T.rows T.honest T.failed T.may_leave tables.old tables.new institution.now.name
+    ensures { Serves (T.state tables.old) (T.state tables.new) institution.now.name
         (λ (records : List Record). withdrawn records id.now) result }
 {
     let name = institution.name.as_slice();
@@ -162,10 +163,10 @@ fn remove_entry<T: Tables>(
     name: &[u8],
     id: &[u8],
 ) -> Result<(), TableFault>
-    requires there { T.honest tables.old
-        → is_some (row_at Entry name.now id.now (T.rows tables.old)) ≡ true }
-    ensures { Writes T.rows T.honest T.failed T.may_leave tables.old tables.new
-        (after (by name.now (Remove Entry id.now ∷ [])) (T.rows tables.old)) result }
+    requires there { (T.state tables.old).honest
+        → is_some (row_at Entry name.now id.now (T.state tables.old).rows) ≡ true }
+    ensures { Writes (T.state tables.old) (T.state tables.new)
+        (after (by name.now (Remove Entry id.now ∷ [])) (T.state tables.old).rows) result }
 {
     let change = Change::EntryRemoved {
         inst: Listed::copy_of(alloc, name)?,

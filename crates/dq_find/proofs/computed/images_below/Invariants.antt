@@ -6,9 +6,9 @@ use Rattle.dq_find.proofs.computed.images_below.Given as goal
 
 abbrev pub invariant-loop-row : goal.invariant-loop-row
 invariant-loop-row g l = record {
-  reads : Reads g.T.Tables.rows g.T.Tables.honest g.T.Tables.failed g.T.Tables.may_leave l.fn.tables l.tables (Ok l.number);
+  reads : Reads (g.T.Tables.state l.fn.tables) (g.T.Tables.state l.tables) (Ok l.number);
   small : l.number ≤ l.row-index * (2 ^ 64 - 1);
-  counted : g.T.Tables.honest l.tables
-      → l.number + images_below (of l.institution (g.T.Tables.rows l.fn.tables)) (map record_of (drop l.row-index l.series))
-      ≡ images_below (of l.institution (g.T.Tables.rows l.fn.tables)) (map record_of l.series);
+  counted : (g.T.Tables.state l.tables).honest
+      → l.number + images_below (of l.institution (g.T.Tables.state l.fn.tables).rows) (map record_of (drop l.row-index l.series))
+      ≡ images_below (of l.institution (g.T.Tables.state l.fn.tables).rows) (map record_of l.series);
 }

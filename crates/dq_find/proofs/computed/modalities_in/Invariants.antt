@@ -2,7 +2,8 @@ use Rattle.std.proofs.Common.{◌≡◌, ◌≤◌, [], length, take, drop, map}
 use Rattle.std.specs.List.{flat_map}
 use Rattle.dq_tables.specs.Rows.{Record, record_of}
 use Rattle.dq_tables.specs.Records.{data_set_of}
-use Rattle.dq_find.specs.Computed.{all_in_order, modality_limit, modalities_of}
+use Rattle.dq_find.specs.Computed.{all_in_order}
+use Rattle.dq_find.specs.Modalities.{modality_limit, modalities_of}
 use Rattle.dq_find.proofs.computed.modalities_in.Given as goal
 
 abbrev pub invariant-loop-row : goal.invariant-loop-row

@@ -1,5 +1,6 @@
 use Rattle.std.proofs.Common.{◌≡◌, ◌∙◌, List, ℕ, take, sym, ap, subst}
-use Rattle.dq_find.specs.Computed.{put_in_order, modality_limit}
+use Rattle.dq_find.specs.Computed.{put_in_order}
+use Rattle.dq_find.specs.Modalities.{modality_limit}
 use Rattle.dq_find.proofs.InOrder.{few_stay}
 use Rattle.dq_find.proofs.computed.put_in_order.Goals as goal
 

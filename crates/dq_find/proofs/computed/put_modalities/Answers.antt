@@ -1,7 +1,8 @@
 use Rattle.std.proofs.Common.{◌≡◌, ◌∙◌, ◌∷◌, List, ℕ, Bool, cond, filter, take, sym, ap, subst}
 use Rattle.dq_vr.specs.declared.Vr.TheVariants.{CS}
 use Rattle.dq_value.specs.Parts.{parts}
-use Rattle.dq_find.specs.Computed.{all_in_order, is_modality, modality_limit, modalities_of}
+use Rattle.dq_find.specs.Computed.{all_in_order}
+use Rattle.dq_find.specs.Modalities.{is_modality, modality_limit, modalities_of}
 use Rattle.dq_find.proofs.InOrder.{put_more, few_stay}
 use Rattle.dq_find.proofs.computed.put_modalities.Goals as goal
 

@@ -1,5 +1,6 @@
 use Rattle.std.proofs.Common.{◌≡◌, ◌≤◌, length, take, filter}
-use Rattle.dq_find.specs.Computed.{all_in_order, is_modality, modality_limit, modalities_of}
+use Rattle.dq_find.specs.Computed.{all_in_order}
+use Rattle.dq_find.specs.Modalities.{is_modality, modality_limit, modalities_of}
 use Rattle.dq_find.proofs.computed.put_modalities.Given as goal
 
 abbrev pub invariant-loop-part : goal.invariant-loop-part

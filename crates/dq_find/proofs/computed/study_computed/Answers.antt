@@ -10,25 +10,21 @@ use Rattle.dq_find.proofs.computed.study_computed.Goals as goal
 
 pub returns : goal.returns
 returns g c =
-    let rows = g.T.Tables.rows in
-    let honest = g.T.Tables.honest in
-    let failed = g.T.Tables.failed in
-    let may_leave = g.T.Tables.may_leave in
-    let old = c.args.tables.now in
-    let mid = c.series_of.new.self in
-    let new = c.images_below.new.tables in
+    let old = g.T.Tables.state c.args.tables.now in
+    let mid = g.T.Tables.state c.series_of.new.self in
+    let new = g.T.Tables.state c.images_below.new.tables in
     let name = c.args.institution.now in
     let key = c.args.key.now in
     let series : List Row = c.in_ok-series.series in
     let first = c.in_ok-series.ensures.reads in
     let second = c.in_ok-images.ensures.reads in
-    looks_right rows honest failed may_leave name old new c.in_ok-images.images c.in_ok-study_values.field-0
+    looks_right name old new c.in_ok-images.images c.in_ok-study_values.field-0
     (λ (records : List Record). computed records Study key)
-    (reads_then rows honest failed may_leave old mid new series (Ok c.in_ok-images.images) first second)
+    (reads_then old mid new series (Ok c.in_ok-images.images) first second)
     (λ h.
     let was = second.goes.was_honest h in
     c.in_ok-study_values.ensures
-    ∙ computed_of_found name key (rows old) (rows mid) series c.as_slice.result.now c.as_slice-2.result.now c.in_ok-modalities.modalities.items
+    ∙ computed_of_found name key old.rows mid.rows series c.as_slice.result.now c.as_slice-2.result.now c.in_ok-modalities.modalities.items
     c.deref-2.result.now c.len.result c.in_ok-images.images (first.same was) (c.in_ok-series.ensures.found was) c.as_slice.ensures
     c.as_slice-2.ensures (c.in_ok-images.ensures.answered h) c.in_ok-modalities.ensures
     (c.deref-2.ensures.value ∙ c.in_ok-modalities-2.ensures ∙ ap joined c.deref.ensures.value) c.len.ensures)

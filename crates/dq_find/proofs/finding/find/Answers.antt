@@ -1,9 +1,11 @@
 use Rattle.std.proofs.Common.{◌∙◌, List, [], Ok, sym, ap}
 use Rattle.dq_tables.specs.Rows.{Record, Edit, of}
 use Rattle.dq_tables.proofs.Calling.{reads_nothing, reads_then, reads_right, serves_read}
+use Rattle.dq_match.specs.declared.keys.Place.TheVariants.{Outer}
 use Rattle.dq_match.specs.declared.responses.Found.{Found}
 use Rattle.dq_find.specs.Queries.{found}
-use Rattle.dq_find.proofs.Answering.{answered_of_rows, found_none, found_some}
+use Rattle.dq_find.proofs.Answering.{found_none, found_some}
+use Rattle.dq_find.proofs.LookedUp.{answered_of_candidates}
 use Rattle.dq_find.proofs.finding.find.Goals as goal
 
 abbrev alone : Found → Found × List Edit
@@ -11,26 +13,18 @@ alone f = (f, [])
 
 pub returns-in-Err : goal.returns-in-Err
 returns-in-Err g c =
-    let rows = g.T.Tables.rows in
-    let honest = g.T.Tables.honest in
-    let failed = g.T.Tables.failed in
-    let may_leave = g.T.Tables.may_leave in
-    let it = c.args.tables.now in
+    let it = g.T.Tables.state c.args.tables.now in
     let name = c.args.institution.now.name in
     let does : List Record → Found × List Edit = λ records. (found records c.args.called.now c.args.message.now c.args.syntax, []) in
-    serves_read rows honest failed may_leave name does it it c.refused.result (reads_nothing rows honest failed may_leave it c.refused.result)
-    (λ h. ap alone (found_none (of name (rows it)) c.args.called.now c.args.message.now c.args.syntax c.in-Err.status
+    serves_read name does it it c.refused.result (reads_nothing it c.refused.result)
+    (λ h. ap alone (found_none (of name it.rows) c.args.called.now c.args.message.now c.args.syntax c.in-Err.status
     (sym c.in_ok-query.ensures.query ∙ c.in-Err.is) ∙ sym c.refused.ensures))
 
 pub returns : goal.returns
 returns g c =
-    let rows = g.T.Tables.rows in
-    let honest = g.T.Tables.honest in
-    let failed = g.T.Tables.failed in
-    let may_leave = g.T.Tables.may_leave in
-    let old = c.args.tables.now in
-    let mid = c.rows.new.tables in
-    let new = c.answers_of.new.tables in
+    let old = g.T.Tables.state c.args.tables.now in
+    let mid = g.T.Tables.state c.rows.new.tables in
+    let new = g.T.Tables.state c.answers_of.new.tables in
     let name = c.args.institution.now.name in
     let query = c.in-Ok.query in
     let answers = c.in_ok-answers.answers in
@@ -38,12 +32,14 @@ returns g c =
     let second = c.in_ok-answers.ensures.reads in
     let does : List Record → Found × List Edit = λ records. (found records c.args.called.now c.args.message.now c.args.syntax, []) in
     let answer : Found = record { status = 0; optional = query.optional; answers = answers } in
-    serves_read rows honest failed may_leave name does old new answer
-    (reads_right rows honest failed may_leave old new answers answer
-    (reads_then rows honest failed may_leave old mid new c.in_ok-rows.rows (Ok answers) first second))
+    serves_read name does old new answer
+    (reads_right old new answers answer
+    (reads_then old mid new c.in_ok-rows.rows (Ok answers) first second))
     (λ h.
     let was = second.goes.was_honest h in
-    let is = answered_of_rows (rows old) (rows mid) name c.as_slice.result.now c.args.called.now query c.in_ok-rows.rows c.as_slice-2.result.now answers
+    let sound = c.honest_rows_are_sound.ensures.sound c.args.tables.now (first.goes.was_honest was) in
+    let is = answered_of_candidates old.rows mid.rows name c.as_slice.result.now c.args.called.now query c.in_ok-rows.rows c.as_slice-2.result.now answers
+    sound c.has_facts.ensures (λ held fit. ((c.keys_are_met_alone_and_as_a_period.ensures.each Outer query.keys held).0 fit).0)
     c.as_slice.ensures (first.same was) (c.in_ok-rows.ensures.answered was) c.as_slice-2.ensures (c.in_ok-answers.ensures.answered h) in
-    ap alone (found_some (of name (rows old)) c.args.called.now c.args.message.now c.args.syntax query answers
+    ap alone (found_some (of name old.rows) c.args.called.now c.args.message.now c.args.syntax query answers
     (sym c.in_ok-query.ensures.query ∙ c.in-Ok.is) is))

@@ -12,27 +12,19 @@ use Rattle.dq_mpps.proofs.changing.set.Goals as goal
 
 pub returns-then-is_over : goal.returns-then-is_over
 returns-then-is_over g c =
-    let rows = g.T.Tables.rows in
-    let honest = g.T.Tables.honest in
-    let failed = g.T.Tables.failed in
-    let may_leave = g.T.Tables.may_leave in
-    let it = c.args.tables.now in
+    let it = g.T.Tables.state c.args.tables.now in
     let name = c.args.institution.now.name in
     let does = λ (records : List Record). changed records c.args.message.now c.args.syntax in
-    serves_read rows honest failed may_leave name does it it 0x0213 (reads_nothing rows honest failed may_leave it 0x0213)
-    (λ h. set_over (of name (rows it)) c.args.message.now c.args.syntax (sym c.is_over.ensures ∙ c.if-is_over.true))
+    serves_read name does it it 0x0213 (reads_nothing it 0x0213)
+    (λ h. set_over (of name it.rows) c.args.message.now c.args.syntax (sym c.is_over.ensures ∙ c.if-is_over.true))
 
 pub returns-in_default : goal.returns-in_default
 returns-in_default g c =
-    let rows = g.T.Tables.rows in
-    let honest = g.T.Tables.honest in
-    let failed = g.T.Tables.failed in
-    let may_leave = g.T.Tables.may_leave in
-    let it = c.args.tables.now in
+    let it = g.T.Tables.state c.args.tables.now in
     let name = c.args.institution.now.name in
     let does = λ (records : List Record). changed records c.args.message.now c.args.syntax in
-    serves_read rows honest failed may_leave name does it it 0x0110 (reads_nothing rows honest failed may_leave it 0x0110)
-    (λ h. set_unread (of name (rows it)) c.args.message.now c.args.syntax (sym c.is_over.ensures ∙ c.if-is_over.false)
+    serves_read name does it it 0x0110 (reads_nothing it 0x0110)
+    (λ h. set_unread (of name it.rows) c.args.message.now c.args.syntax (sym c.is_over.ensures ∙ c.if-is_over.false)
     (sym c.in_ok-data_set.ensures.read ∙ c.in_default.is))
 
 pub returns : goal.returns
@@ -43,7 +35,8 @@ returns g c =
     ap (λ (key : List ℕ). step_changed key sent (record_at Step key records)) c.as_slice.ensures
     ∙ sym (set_handed_on records c.args.message.now c.args.syntax sent (sym c.is_over.ensures ∙ c.if-is_over.false) read) in
     let serves = subst (λ (does : List Record → ℕ × List Edit).
-    Serves g.T.Tables.rows g.T.Tables.honest g.T.Tables.failed g.T.Tables.may_leave c.args.tables.now c.set_step.new.tables c.as_slice-2.result.now does
+    Serves (g.T.Tables.state c.args.tables.now) (g.T.Tables.state c.set_step.new.tables) c.as_slice-2.result.now does
     c.set_step.result) (λ i. λ records. same records i) c.set_step.ensures in
-    subst (λ (name : List ℕ). Serves g.T.Tables.rows g.T.Tables.honest g.T.Tables.failed g.T.Tables.may_leave c.args.tables.now
-    c.set_step.new.tables name (λ (records : List Record). changed records c.args.message.now c.args.syntax) c.set_step.result) c.as_slice-2.ensures serves
+    subst (λ (name : List ℕ). Serves (g.T.Tables.state c.args.tables.now)
+    (g.T.Tables.state c.set_step.new.tables) name
+    (λ (records : List Record). changed records c.args.message.now c.args.syntax) c.set_step.result) c.as_slice-2.ensures serves

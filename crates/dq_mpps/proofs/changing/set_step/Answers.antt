@@ -16,83 +16,67 @@ use Rattle.dq_mpps.proofs.changing.set_step.Goals as goal
 
 pub returns-in_default : goal.returns-in_default
 returns-in_default g c =
-    let rows = g.T.Tables.rows in
-    let honest = g.T.Tables.honest in
-    let failed = g.T.Tables.failed in
-    let may_leave = g.T.Tables.may_leave in
-    let old = c.args.tables.now in
-    let mid = c.step.new.self in
+    let old = g.T.Tables.state c.args.tables.now in
+    let mid = g.T.Tables.state c.step.new.self in
     let name = c.args.name.now in
     let uid = c.args.sent.now.uid.now in
     let sent = c.args.sent.now.data_set.now in
     let does = λ (records : List Record). step_changed uid sent (record_at Step uid records) in
-    let found = λ (h : honest mid). kept_record name uid (rows old) c.in_ok-row.field-0 (c.in_ok-row.ensures.found h)
+    let found = λ (h : mid.honest). kept_record name uid old.rows c.in_ok-row.field-0 (c.in_ok-row.ensures.found h)
     ∙ ap (option_map record_of) c.in_default.is in
-    serves_read rows honest failed may_leave name does old mid 0x0112
-    (reads_right rows honest failed may_leave old mid c.in_ok-row.field-0 0x0112 c.in_ok-row.ensures.reads)
+    serves_read name does old mid 0x0112
+    (reads_right old mid c.in_ok-row.field-0 0x0112 c.in_ok-row.ensures.reads)
     (λ h. ap (step_changed uid sent) (found h))
 
 pub returns-in-Some-attribute_refusal : goal.returns-in-Some-attribute_refusal
 returns-in-Some-attribute_refusal g c =
-    let rows = g.T.Tables.rows in
-    let honest = g.T.Tables.honest in
-    let failed = g.T.Tables.failed in
-    let may_leave = g.T.Tables.may_leave in
-    let old = c.args.tables.now in
-    let mid = c.step.new.self in
+    let old = g.T.Tables.state c.args.tables.now in
+    let mid = g.T.Tables.state c.step.new.self in
     let name = c.args.name.now in
     let uid = c.args.sent.now.uid.now in
     let sent = c.args.sent.now.data_set.now in
     let status = c.in-Some-attribute_refusal.status in
     let does = λ (records : List Record). step_changed uid sent (record_at Step uid records) in
-    let found = λ (h : honest mid). kept_record name uid (rows old) c.in_ok-row.field-0 (c.in_ok-row.ensures.found h)
+    let found = λ (h : mid.honest). kept_record name uid old.rows c.in_ok-row.field-0 (c.in_ok-row.ensures.found h)
     ∙ ap (option_map record_of) c.in-Some.is in
-    serves_read rows honest failed may_leave name does old mid status
-    (reads_right rows honest failed may_leave old mid c.in_ok-row.field-0 status c.in_ok-row.ensures.reads)
+    serves_read name does old mid status
+    (reads_right old mid c.in_ok-row.field-0 status c.in_ok-row.ensures.reads)
     (λ h. ap (step_changed uid sent) (found h) ∙ refused_by uid sent (record_of c.in-Some.row) c.in_ok-kept.kept c.in_ok-kept.ensures.data_set status
     (sym c.attribute_refusal.ensures ∙ c.in-Some-attribute_refusal.is))
 
 pub returns-then-is_too_long : goal.returns-then-is_too_long
 returns-then-is_too_long g c =
-    let rows = g.T.Tables.rows in
-    let honest = g.T.Tables.honest in
-    let failed = g.T.Tables.failed in
-    let may_leave = g.T.Tables.may_leave in
-    let old = c.args.tables.now in
-    let mid = c.step.new.self in
+    let old = g.T.Tables.state c.args.tables.now in
+    let mid = g.T.Tables.state c.step.new.self in
     let name = c.args.name.now in
     let uid = c.args.sent.now.uid.now in
     let sent = c.args.sent.now.data_set.now in
     let does = λ (records : List Record). step_changed uid sent (record_at Step uid records) in
-    let found = λ (h : honest mid). kept_record name uid (rows old) c.in_ok-row.field-0 (c.in_ok-row.ensures.found h)
+    let found = λ (h : mid.honest). kept_record name uid old.rows c.in_ok-row.field-0 (c.in_ok-row.ensures.found h)
     ∙ ap (option_map record_of) c.in-Some.is in
-    serves_read rows honest failed may_leave name does old mid 0x0213
-    (reads_right rows honest failed may_leave old mid c.in_ok-row.field-0 0x0213 c.in_ok-row.ensures.reads)
+    serves_read name does old mid 0x0213
+    (reads_right old mid c.in_ok-row.field-0 0x0213 c.in_ok-row.ensures.reads)
     (λ h. ap (step_changed uid sent) (found h) ∙ too_long uid sent (record_of c.in-Some.row) c.in_ok-kept.kept c.in_ok-kept.ensures.data_set
     (sym c.attribute_refusal.ensures ∙ c.in_default-attribute_refusal.is)
     (sym (c.is_too_long.ensures (merged c.in_ok-kept.kept sent) (c.deref.ensures.value ∙ c.in_ok-octets.ensures.spelled)) ∙ c.if-is_too_long.true))
 
 pub change_step-requires : goal.change_step-requires
 change_step-requires g c = λ h.
-    let rows = g.T.Tables.rows in
-    let old = c.args.tables.now in
+    let old = g.T.Tables.state c.args.tables.now in
     let first = c.in_ok-row.ensures.reads in
     let was = first.goes.was_honest h in
     let uid = c.args.sent.now.uid.now in
     let row = row_of c.args.name.now (spelled_step uid c.in_ok-octets.octets.items) in
     subst (λ (rs : List Row). IsChanged rs Step row) (sym (first.same h))
-    (changed_fits c.args.name.now uid (merged c.in_ok-kept.kept c.args.sent.now.data_set.now) c.in_ok-octets.octets.items (rows old) c.in-Some.row
-    (g.met.T.Tables.sound old was).own (sym c.in-Some.is ∙ c.in_ok-row.ensures.found h) c.in_ok-octets.ensures.spelled c.in_ok-octets.ensures.read_back)
+    (changed_fits c.args.name.now uid (merged c.in_ok-kept.kept c.args.sent.now.data_set.now) c.in_ok-octets.octets.items old.rows c.in-Some.row
+    (g.met.T.Tables.sound c.args.tables.now was).own (sym c.in-Some.is ∙ c.in_ok-row.ensures.found h) c.in_ok-octets.ensures.spelled
+    c.in_ok-octets.ensures.read_back)
 
 pub returns-in_err-change_step : goal.returns-in_err-change_step
 returns-in_err-change_step g c =
-    let rows = g.T.Tables.rows in
-    let honest = g.T.Tables.honest in
-    let failed = g.T.Tables.failed in
-    let may_leave = g.T.Tables.may_leave in
-    let old = c.args.tables.now in
-    let mid = c.step.new.self in
-    let new = c.change_step.new.tables in
+    let old = g.T.Tables.state c.args.tables.now in
+    let mid = g.T.Tables.state c.step.new.self in
+    let new = g.T.Tables.state c.change_step.new.tables in
     let name = c.args.name.now in
     let uid = c.args.sent.now.uid.now in
     let sent = c.args.sent.now.data_set.now in
@@ -100,9 +84,9 @@ returns-in_err-change_step g c =
     let does = λ (records : List Record). step_changed uid sent (record_at Step uid records) in
     let put : List Edit = Put (spelled_step uid c.in_ok-octets.octets.items) ∷ [] in
     let left = err_from_is_err_and c.from_residual-in_err-change_step.result c.from_residual-in_err-change_step.ensures.1 in
-    let found = λ (h : honest mid). kept_record name uid (rows old) c.in_ok-row.field-0 (c.in_ok-row.ensures.found h)
+    let found = λ (h : mid.honest). kept_record name uid old.rows c.in_ok-row.field-0 (c.in_ok-row.ensures.found h)
     ∙ ap (option_map record_of) c.in-Some.is in
-    rw (left.1, left.2) (serves_refused rows honest failed may_leave name does old mid new c.in_ok-row.field-0 0 put e c.in_ok-row.ensures.reads
+    rw (left.1, left.2) (serves_refused name does old mid new c.in_ok-row.field-0 0 put e c.in_ok-row.ensures.reads
     c.in_err-change_step.ensures
     (λ h. ap (step_changed uid sent) (found h) ∙ changed_to uid sent (record_of c.in-Some.row) c.in_ok-kept.kept c.in_ok-kept.ensures.data_set
     (sym c.attribute_refusal.ensures ∙ c.in_default-attribute_refusal.is)
@@ -111,21 +95,17 @@ returns-in_err-change_step g c =
 
 pub returns : goal.returns
 returns g c =
-    let rows = g.T.Tables.rows in
-    let honest = g.T.Tables.honest in
-    let failed = g.T.Tables.failed in
-    let may_leave = g.T.Tables.may_leave in
-    let old = c.args.tables.now in
-    let mid = c.step.new.self in
-    let new = c.change_step.new.tables in
+    let old = g.T.Tables.state c.args.tables.now in
+    let mid = g.T.Tables.state c.step.new.self in
+    let new = g.T.Tables.state c.change_step.new.tables in
     let name = c.args.name.now in
     let uid = c.args.sent.now.uid.now in
     let sent = c.args.sent.now.data_set.now in
     let does = λ (records : List Record). step_changed uid sent (record_at Step uid records) in
     let put : List Edit = Put (spelled_step uid c.in_ok-octets.octets.items) ∷ [] in
-    let found = λ (h : honest mid). kept_record name uid (rows old) c.in_ok-row.field-0 (c.in_ok-row.ensures.found h)
+    let found = λ (h : mid.honest). kept_record name uid old.rows c.in_ok-row.field-0 (c.in_ok-row.ensures.found h)
     ∙ ap (option_map record_of) c.in-Some.is in
-    serves_written rows honest failed may_leave name does old mid new c.in_ok-row.field-0 0 put c.in_ok-row.ensures.reads
+    serves_written name does old mid new c.in_ok-row.field-0 0 put c.in_ok-row.ensures.reads
     c.in_ok-change_step.ensures
     (λ h. ap (step_changed uid sent) (found h) ∙ changed_to uid sent (record_of c.in-Some.row) c.in_ok-kept.kept c.in_ok-kept.ensures.data_set
     (sym c.attribute_refusal.ensures ∙ c.in_default-attribute_refusal.is)

@@ -10,7 +10,7 @@ use Rattle.dq_mpps.proofs.creating.add_step.Goals as goal
 
 pub apply-requires : goal.apply-requires
 apply-requires g c = λ h.
-    let rows = g.T.Tables.rows c.args.tables.now in
+    let rows = (g.T.Tables.state c.args.tables.now).rows in
     let name = c.args.name.now in
     let uid = c.args.sent.now.uid.now in
     let d = c.args.sent.now.data_set.now in

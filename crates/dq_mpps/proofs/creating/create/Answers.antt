@@ -12,44 +12,32 @@ use Rattle.dq_mpps.proofs.creating.create.Goals as goal
 
 pub returns-then-is_over : goal.returns-then-is_over
 returns-then-is_over g c =
-    let rows = g.T.Tables.rows in
-    let honest = g.T.Tables.honest in
-    let failed = g.T.Tables.failed in
-    let may_leave = g.T.Tables.may_leave in
-    let it = c.args.tables.now in
+    let it = g.T.Tables.state c.args.tables.now in
     let name = c.args.institution.now.name in
     let limits = limits_of c.args.institution.now in
     let does = λ (records : List Record). created limits records c.args.message.now c.args.syntax in
-    serves_read rows honest failed may_leave name does it it 0x0213 (reads_nothing rows honest failed may_leave it 0x0213)
-    (λ h. create_over limits (of name (rows it)) c.args.message.now c.args.syntax (sym c.is_over.ensures ∙ c.if-is_over.true))
+    serves_read name does it it 0x0213 (reads_nothing it 0x0213)
+    (λ h. create_over limits (of name it.rows) c.args.message.now c.args.syntax (sym c.is_over.ensures ∙ c.if-is_over.true))
 
 pub returns-in_default : goal.returns-in_default
 returns-in_default g c =
-    let rows = g.T.Tables.rows in
-    let honest = g.T.Tables.honest in
-    let failed = g.T.Tables.failed in
-    let may_leave = g.T.Tables.may_leave in
-    let it = c.args.tables.now in
+    let it = g.T.Tables.state c.args.tables.now in
     let name = c.args.institution.now.name in
     let limits = limits_of c.args.institution.now in
     let does = λ (records : List Record). created limits records c.args.message.now c.args.syntax in
-    serves_read rows honest failed may_leave name does it it 0x0110 (reads_nothing rows honest failed may_leave it 0x0110)
-    (λ h. create_unread limits (of name (rows it)) c.args.message.now c.args.syntax (sym c.is_over.ensures ∙ c.if-is_over.false)
+    serves_read name does it it 0x0110 (reads_nothing it 0x0110)
+    (λ h. create_unread limits (of name it.rows) c.args.message.now c.args.syntax (sym c.is_over.ensures ∙ c.if-is_over.false)
     (sym c.in_ok-data_set.ensures.read ∙ c.in_default.is))
 
 pub returns-then-not-is_uid : goal.returns-then-not-is_uid
 returns-then-not-is_uid g c =
-    let rows = g.T.Tables.rows in
-    let honest = g.T.Tables.honest in
-    let failed = g.T.Tables.failed in
-    let may_leave = g.T.Tables.may_leave in
-    let it = c.args.tables.now in
+    let it = g.T.Tables.state c.args.tables.now in
     let name = c.args.institution.now.name in
     let limits = limits_of c.args.institution.now in
     let does = λ (records : List Record). created limits records c.args.message.now c.args.syntax in
     let read = read_is (reading c.args.syntax c.args.message.now.octets) c.in-Some.data_set (sym c.in_ok-data_set.ensures.read ∙ c.in-Some.is) in
-    serves_read rows honest failed may_leave name does it it 0x0117 (reads_nothing rows honest failed may_leave it 0x0117)
-    (λ h. create_unnamed limits (of name (rows it)) c.args.message.now c.args.syntax c.in-Some.data_set (sym c.is_over.ensures ∙ c.if-is_over.false) read
+    serves_read name does it it 0x0117 (reads_nothing it 0x0117)
+    (λ h. create_unnamed limits (of name it.rows) c.args.message.now c.args.syntax c.in-Some.data_set (sym c.is_over.ensures ∙ c.if-is_over.false) read
     (ap is_uid (sym c.as_slice-uid.ensures) ∙ sym c.is_uid.ensures ∙ c.if-not-is_uid.true))
 
 pub returns : goal.returns
@@ -62,5 +50,5 @@ returns g c =
     let same = λ (records : List Record).
     ap (λ (key : List ℕ). step_created limits key step records) c.as_slice-uid.ensures
     ∙ sym (create_handed_on limits records c.args.message.now c.args.syntax step (sym c.is_over.ensures ∙ c.if-is_over.false) read uid_is) in
-    subst (λ (does : List Record → ℕ × List Edit). Serves g.T.Tables.rows g.T.Tables.honest g.T.Tables.failed g.T.Tables.may_leave c.args.tables.now
-    c.create_step.new.tables c.args.institution.now.name does c.create_step.result) (λ i. λ records. same records i) c.create_step.ensures
+    subst (λ (does : List Record → ℕ × List Edit). Serves (g.T.Tables.state c.args.tables.now)
+    (g.T.Tables.state c.create_step.new.tables) c.args.institution.now.name does c.create_step.result) (λ i. λ records. same records i) c.create_step.ensures

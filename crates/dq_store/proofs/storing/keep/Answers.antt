@@ -9,10 +9,7 @@ use Rattle.dq_store.proofs.storing.keep.Goals as goal
 
 pub returns-else-is_none : goal.returns-else-is_none
 returns-else-is_none g c =
-    let rows = g.T.Tables.rows in
-    let honest = g.T.Tables.honest in
-    let failed = g.T.Tables.failed in
-    let may_leave = g.T.Tables.may_leave in
+    let it = g.T.Tables.state c.args.tables.now in
     let kept = kept_of c.args.kept.now in
     let sent = instance_of c.args.sent.now in
     let made : ℕ × List Edit = (stored_status kept sent, stored_edits kept sent) in
@@ -20,5 +17,4 @@ returns-else-is_none g c =
     let status_is = sym c.in_ok-status.ensures in
     let there : is_some c.args.kept.now.image ≡ true = grind (arith, common_steps) in
     let edits_are = nothing_again c.args.kept.now sent there in
-    serves_read rows honest failed may_leave c.args.name.now does c.args.tables.now c.args.tables.now c.in_ok-status.status
-    (reads_nothing rows honest failed may_leave c.args.tables.now c.in_ok-status.status) (λ h. λ i. (status_is i, edits_are i))
+    serves_read c.args.name.now does it it c.in_ok-status.status (reads_nothing it c.in_ok-status.status) (λ h. λ i. (status_is i, edits_are i))

@@ -20,13 +20,13 @@ apply-requires g c = λ h.
     let back = λ (tags : List Tag). c.written_law.ensures.read_back Explicit (cut_out tags d) (c.editing_law.ensures.cut tags d facts)
     (c.editing_law.ensures.cut_lengths Explicit tags d c.requires.lengths) tt in
     let rising = (g.met.T.Tables.sound c.args.tables.now h).rising in
-    subst (λ (change : Change). Fits (g.T.Tables.rows c.args.tables.now) change) (sym c.in_ok-change.ensures)
+    subst (λ (change : Change). Fits (g.T.Tables.state c.args.tables.now).rows change) (sym c.in_ok-change.ensures)
     (new_fits c.args.name.now (instance_of sent) back c.requires.own.study c.requires.own.series c.requires.own.image
-    (g.T.Tables.rows c.args.tables.now) rising (kept_of c.args.kept.now) (c.requires.found h) (ap (option_map record_of) c.requires.new))
+    (g.T.Tables.state c.args.tables.now).rows rising (kept_of c.args.kept.now) (c.requires.found h) (ap (option_map record_of) c.requires.new))
 
 pub returns : goal.returns
 returns g c =
-    subst (λ (rs : List Row). Writes g.T.Tables.rows g.T.Tables.honest g.T.Tables.failed g.T.Tables.may_leave c.args.tables.now c.apply.new.self rs
+    subst (λ (rs : List Row). Writes (g.T.Tables.state c.args.tables.now) (g.T.Tables.state c.apply.new.self) rs
     c.apply.result)
-    (made_of_rows c.args.name.now (instance_of c.args.sent.now) (g.T.Tables.rows c.args.tables.now) c.in_ok-change.change
+    (made_of_rows c.args.name.now (instance_of c.args.sent.now) (g.T.Tables.state c.args.tables.now).rows c.in_ok-change.change
     (kept_of c.args.kept.now) c.in_ok-change.ensures (ap (option_map record_of) c.requires.new)) c.apply.ensures

@@ -8,28 +8,20 @@ use Rattle.dq_worklist.proofs.answering.query.Goals as goal
 
 pub returns-in-Err : goal.returns-in-Err
 returns-in-Err g c =
-    let rows = g.T.Tables.rows in
-    let honest = g.T.Tables.honest in
-    let failed = g.T.Tables.failed in
-    let may_leave = g.T.Tables.may_leave in
-    let it = c.args.tables.now in
+    let it = g.T.Tables.state c.args.tables.now in
     let name = c.args.institution.now.name in
     let message = c.args.message.now in
     let syntax = c.args.syntax in
     let answer : Found = c.refused.result in
-    serves_read rows honest failed may_leave name (λ (records : List Record). (listed records message syntax, [])) it it answer
-    (reads_nothing rows honest failed may_leave it answer)
-    (λ h. ap (λ (f : Found). (f, [])) (not_asked (of name (rows it)) message syntax c.in-Err.status
+    serves_read name (λ (records : List Record). (listed records message syntax, [])) it it answer
+    (reads_nothing it answer)
+    (λ h. ap (λ (f : Found). (f, [])) (not_asked (of name it.rows) message syntax c.in-Err.status
     (sym c.in_ok-query.ensures.query ∙ c.in-Err.is) ∙ sym c.refused.ensures))
 
 pub returns : goal.returns
 returns g c =
-    let rows = g.T.Tables.rows in
-    let honest = g.T.Tables.honest in
-    let failed = g.T.Tables.failed in
-    let may_leave = g.T.Tables.may_leave in
-    let old = c.args.tables.now in
-    let new = c.entries.new.self in
+    let old = g.T.Tables.state c.args.tables.now in
+    let new = g.T.Tables.state c.entries.new.self in
     let name = c.args.institution.now.name in
     let message = c.args.message.now in
     let syntax = c.args.syntax in
@@ -37,7 +29,7 @@ returns g c =
     let found = c.in_ok-answers.answers in
     let answer : Found = record { status = 0; optional = query.optional; answers = found } in
     let is_found = c.in_ok-answers.ensures ∙ ap (row_answers query.keys) c.as_slice-2.ensures in
-    serves_read rows honest failed may_leave name (λ (records : List Record). (listed records message syntax, [])) old new answer
-    (reads_right rows honest failed may_leave old new c.in_ok-rows.rows answer c.in_ok-rows.ensures.reads)
-    (λ h. ap (λ (f : Found). (f, [])) (asked (of name (rows old)) message syntax query found (sym c.in_ok-query.ensures.query ∙ c.in-Ok.is)
-    (answered name c.as_slice.result.now query.keys (rows old) c.in_ok-rows.rows found c.as_slice.ensures (c.in_ok-rows.ensures.found h) is_found)))
+    serves_read name (λ (records : List Record). (listed records message syntax, [])) old new answer
+    (reads_right old new c.in_ok-rows.rows answer c.in_ok-rows.ensures.reads)
+    (λ h. ap (λ (f : Found). (f, [])) (asked (of name old.rows) message syntax query found (sym c.in_ok-query.ensures.query ∙ c.in-Ok.is)
+    (answered name c.as_slice.result.now query.keys old.rows c.in_ok-rows.rows found c.as_slice.ensures (c.in_ok-rows.ensures.found h) is_found)))

@@ -12,7 +12,7 @@ use Rattle.dq_worklist.proofs.scheduling.add_entry.Goals as goal
 pub apply-requires : goal.apply-requires
 apply-requires g c = λ h.
     let d = c.args.order.now.elements.now in
-    let rows = g.T.Tables.rows c.args.tables.now in
+    let rows = (g.T.Tables.state c.args.tables.now).rows in
     let back = c.written_law.ensures.read_back Explicit d c.elements-elements.ensures.facts c.requires.kept.lengths tt in
     let id = c.args.order.now.id.now in
     subst (λ (row : Row). IsNew rows Entry row)

@@ -7,7 +7,7 @@ use Rattle.dq_worklist.proofs.scheduling.record_refusal.Goals as goal
 
 pub returns-then-is_some-clause-found : goal.returns-then-is_some-clause-found
 returns-then-is_some-clause-found g c = λ h.
-    let rows = g.T.Tables.rows c.args.tables.now in
+    let rows = (g.T.Tables.state c.args.tables.now).rows in
     let name = c.args.institution.now.name in
     let id = c.args.id.now in
     sym (taken (limits_of c.args.institution.now) (of name rows) id (entry_there name c.as_slice-name.result.now id rows c.in_ok-entry.entry true
@@ -15,7 +15,7 @@ returns-then-is_some-clause-found g c = λ h.
 
 pub returns-then-from-count-clause-found : goal.returns-then-from-count-clause-found
 returns-then-from-count-clause-found g c = λ h.
-    let rows = g.T.Tables.rows c.args.tables.now in
+    let rows = (g.T.Tables.state c.args.tables.now).rows in
     let name = c.args.institution.now.name in
     let limits = limits_of c.args.institution.now in
     let id = c.args.id.now in
@@ -27,7 +27,7 @@ returns-then-from-count-clause-found g c = λ h.
 
 pub returns-clause-found : goal.returns-clause-found
 returns-clause-found g c = λ h.
-    let rows = g.T.Tables.rows c.args.tables.now in
+    let rows = (g.T.Tables.state c.args.tables.now).rows in
     let name = c.args.institution.now.name in
     let limits = limits_of c.args.institution.now in
     let id = c.args.id.now in

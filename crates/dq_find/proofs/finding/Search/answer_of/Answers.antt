@@ -8,13 +8,12 @@ use Rattle.dq_find.proofs.finding.Search.answer_of.Goals as goal
 
 pub returns-then-not-asks_computed : goal.returns-then-not-asks_computed
 returns-then-not-asks_computed g c =
-    let rows = g.T.Tables.rows in
-    let it = c.args.tables.now in
+    let it = g.T.Tables.state c.args.tables.now in
     let name = c.args.self.now.institution.now in
     let called = c.args.self.now.called.now in
     let query = c.args.self.now.query.now in
     let row = c.args.row.now in
-    looks_nothing rows g.T.Tables.honest g.T.Tables.failed g.T.Tables.may_leave name it c.in_ok-answer.field-0
+    looks_nothing name it c.in_ok-answer.field-0
     (λ (records : List Record). answer_of records called query (record_of row))
     (c.in_ok-answer.ensures ∙ ap (answer_if called query) c.in_ok-held.ensures.data_set
-    ∙ answered_alike (of name (rows it)) called row.key query (data_set_of row.octets) (sym c.asks_computed.ensures ∙ c.if-not-asks_computed.true))
+    ∙ answered_alike (of name it.rows) called row.key query (data_set_of row.octets) (sym c.asks_computed.ensures ∙ c.if-not-asks_computed.true))

@@ -8,9 +8,9 @@ use Rattle.dq_find.proofs.finding.Search.answers_of.Given as goal
 
 abbrev pub invariant-loop-row : goal.invariant-loop-row
 invariant-loop-row g l =
-    let records = of l.self.institution.now (g.T.Tables.rows l.fn.tables) in
+    let records = of l.self.institution.now (g.T.Tables.state l.fn.tables).rows in
     let given = λ (row : Row). answer_of records l.self.called.now l.self.query.now (record_of row) in
     record {
-      reads : Reads g.T.Tables.rows g.T.Tables.honest g.T.Tables.failed g.T.Tables.may_leave l.fn.tables l.tables (Ok l.answers);
-      so_far : g.T.Tables.honest l.tables → l.answers ++ filter_map given (drop l.row-index l.rows) ≡ filter_map given l.rows;
+      reads : Reads (g.T.Tables.state l.fn.tables) (g.T.Tables.state l.tables) (Ok l.answers);
+      so_far : (g.T.Tables.state l.tables).honest → l.answers ++ filter_map given (drop l.row-index l.rows) ≡ filter_map given l.rows;
     }

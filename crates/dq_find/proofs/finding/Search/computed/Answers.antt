@@ -8,9 +8,8 @@ use Rattle.dq_find.proofs.finding.Search.computed.Goals as goal
 pub returns-in-Image : goal.returns-in-Image
 unfolding computed
 returns-in-Image g c =
-    let rows = g.T.Tables.rows in
-    let it = c.args.tables.now in
+    let it = g.T.Tables.state c.args.tables.now in
     let key = c.args.key.now in
-    looks_nothing rows g.T.Tables.honest g.T.Tables.failed g.T.Tables.may_leave c.args.self.now.institution.now it c.new.result
+    looks_nothing c.args.self.now.institution.now it c.new.result
     (λ (records : List Record). computed records c.args.self.now.query.now.level key)
-    (c.new.ensures ∙ ap (λ (level : Level). computed (of c.args.self.now.institution.now (rows it)) level key) (sym c.in-Image.is))
+    (c.new.ensures ∙ ap (λ (level : Level). computed (of c.args.self.now.institution.now it.rows) level key) (sym c.in-Image.is))

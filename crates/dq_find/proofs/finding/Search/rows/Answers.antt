@@ -1,37 +1,19 @@
-use Rattle.std.proofs.Common.{◌∙◌}
+use Rattle.std.proofs.Common.{◌≡◌, ◌∙◌, sym, ap, None}
 use Rattle.std.proofs.lemmas.Result.{IfOk-weaker}
-use Rattle.dq_find.proofs.Asking.{asked_studies, asked_series, asked_images}
+use Rattle.std.specs.Option.{option_copied}
+use Rattle.dq_vr.specs.declared.Tag.{Tag}
+use Rattle.dq_tables.specs.Keys.{uid_at}
+use Rattle.dq_find.proofs.LookedUp.{all_candidates}
 use Rattle.dq_find.proofs.finding.Search.rows.Goals as goal
 
-pub returns-in-Study : goal.returns-in-Study
-returns-in-Study g c =
-    let name = c.args.self.now.institution.now in
+pub returns-in-None : goal.returns-in-None
+returns-in-None g c =
     let query = c.args.self.now.query.now in
+    let none : uid_at c.unique_key.result query.keys ≡ None = sym c.uid_at.ensures ∙ ap option_copied c.in-None.is in
     record {
-      reads = c.studies.ensures.reads;
-      answered = λ h. IfOk-weaker c.studies.result _ _
-          (λ v e. e ∙ asked_studies name _ query.level query.keys c.in-Study.is)
-          (c.studies.ensures.found h);
-    }
-
-pub returns-in-Series : goal.returns-in-Series
-returns-in-Series g c =
-    let name = c.args.self.now.institution.now in
-    let query = c.args.self.now.query.now in
-    record {
-      reads = c.series_of.ensures.reads;
-      answered = λ h. IfOk-weaker c.series_of.result _ _
-          (λ v e. e ∙ asked_series name _ query.level query.keys c.key_above-study.result.now c.in-Series.is c.key_above-study.ensures)
-          (c.series_of.ensures.found h);
-    }
-
-pub returns-in-Image : goal.returns-in-Image
-returns-in-Image g c =
-    let name = c.args.self.now.institution.now in
-    let query = c.args.self.now.query.now in
-    record {
-      reads = c.images_of.ensures.reads;
-      answered = λ h. IfOk-weaker c.images_of.result _ _
-          (λ v e. e ∙ asked_images name _ query.level query.keys c.key_above-series.result.now c.in-Image.is c.key_above-series.ensures)
-          (c.images_of.ensures.found h);
+      reads = c.asked_rows.ensures.reads;
+      answered = λ h. IfOk-weaker c.asked_rows.result _ _
+          (λ v e. e ∙ all_candidates c.args.self.now.institution.now _ query
+          (ap (λ (t : Tag). uid_at t query.keys) (sym c.unique_key.ensures) ∙ none))
+          (c.asked_rows.ensures.answered h);
     }

@@ -1,0 +1,42 @@
+-- What is found on a worked example, by computation.
+use Rattle.std.proofs.Common.{◌≡◌, [], ◌∷◌, codes, refl}
+use Rattle.dq_vr.specs.Dictionary.{dictionary, vr_in, known_vr}
+use Rattle.dq_vr.specs.Tag.{is_below}
+use Rattle.dq_vr.specs.Vr.{length_form_of, is_text, letters_of, every_vr, vr_among, vr_with_letters}
+use Rattle.dq_value.specs.Parts.{has_separator, joined, pieces, pieces_of, parts}
+use Rattle.dq_value.specs.Trimming.{is_padded, ignores_leading_spaces, kept_before, without_leading, without_trailing, unpadded, trimmed}
+use Rattle.dq_value.specs.Title.{stripped}
+use Rattle.dq_dataset.specs.Rules.{agrees, content_of}
+use Rattle.dq_dataset.specs.Reading.{tag_at, long_length_at, length_at, vr_or_fault, vr_at, spelling_at, header_at, end_at, value_by, element_by, elements_after, elements_by, readers, reading}
+use Rattle.dq_dataset.specs.Canonical.{header_of, vr_and_length}
+use Rattle.dq_dataset.specs.Values.{sole_at}
+use Rattle.dq_dataset.specs.declared.header.Syntax.TheVariants.{Explicit}
+use Rattle.dq_dimse.specs.Receiving.{identifier_in}
+use Rattle.dq_match.specs.Matching.{asked_days, asked_times, start_day, start_time, period}
+use Rattle.dq_match.specs.Responses.{shown}
+use Rattle.dq_match.specs.Supported.{keys_of, leaves, is_supported, below}
+use Rattle.dq_match.specs.Values.{matching_of, is_universal, octets_meet, are_well_formed}
+use Rattle.dq_tables.specs.Finding.{records_of, records_above}
+use Rattle.dq_tables.specs.Keys.{uid_at}
+use Rattle.dq_tables.specs.Records.{data_set_of}
+use Rattle.dq_find.specs.Computed.{put_in_order, all_in_order, modalities_in, study_values, computed}
+use Rattle.dq_find.specs.Modalities.{modalities_of}
+use Rattle.dq_find.specs.Levels.{level_named, has_keys_above}
+use Rattle.dq_find.specs.Queries.{query_of, about_answers, records_asked, answers, found}
+use Rattle.dq_find.specs.Examples.{request, identifier, kept, answer, found_with}
+
+pub nothing_found : found [] (codes "ARCHIVE") (request identifier) Explicit ≡ found_with []
+unfolding found query_of identifier_in reading readers elements_by element_by elements_after value_by header_at end_at tag_at spelling_at vr_at vr_or_fault
+    length_at long_length_at is_below known_vr vr_in dictionary length_form_of vr_with_letters vr_among every_vr letters_of is_text agrees content_of
+    level_named trimmed unpadded is_padded ignores_leading_spaces without_leading without_trailing kept_before keys_of leaves is_supported below
+    has_keys_above is_universal are_well_formed matching_of parts pieces_of pieces joined has_separator answers records_asked records_of header_of vr_and_length
+nothing_found = refl
+
+pub one_found : found kept (codes "ARCHIVE") (request identifier) Explicit ≡ found_with (answer ∷ [])
+unfolding found query_of identifier_in reading readers elements_by element_by elements_after value_by header_at end_at tag_at spelling_at vr_at vr_or_fault
+    length_at long_length_at is_below known_vr vr_in dictionary length_form_of vr_with_letters vr_among every_vr letters_of is_text agrees content_of
+    level_named trimmed unpadded is_padded ignores_leading_spaces without_leading without_trailing kept_before keys_of leaves is_supported below
+    has_keys_above is_universal are_well_formed matching_of parts pieces_of pieces joined has_separator answers records_asked records_of
+    records_above data_set_of computed study_values modalities_in all_in_order put_in_order modalities_of octets_meet period asked_days asked_times start_day
+    start_time shown about_answers stripped sole_at uid_at header_of vr_and_length
+one_found = refl

@@ -1,0 +1,37 @@
+-- What the worklist lists on a worked example, by computation.
+use Rattle.std.proofs.Common.{◌≡◌, [], ◌∷◌, codes, refl}
+use Rattle.dq_vr.specs.Dictionary.{dictionary, vr_in, known_vr}
+use Rattle.dq_vr.specs.Tag.{is_below}
+use Rattle.dq_vr.specs.Vr.{length_form_of, is_text, letters_of, every_vr, vr_among, vr_with_letters}
+use Rattle.dq_value.specs.Parts.{has_separator, joined, pieces, pieces_of, parts}
+use Rattle.dq_value.specs.Trimming.{is_padded, ignores_leading_spaces, kept_before, without_leading, without_trailing, unpadded, trimmed}
+use Rattle.dq_dataset.specs.Rules.{agrees, content_of}
+use Rattle.dq_dataset.specs.Reading.{tag_at, long_length_at, length_at, vr_or_fault, vr_at, spelling_at, header_at, end_at, value_by, element_by, elements_after, elements_by, item_header_at, content_by, item_by, items_after, items_by, readers, reading}
+use Rattle.dq_dataset.specs.Canonical.{header_of, item_header_of, vr_and_length}
+use Rattle.dq_dataset.specs.Values.{sole_at}
+use Rattle.dq_dataset.specs.declared.header.Syntax.TheVariants.{Explicit}
+use Rattle.dq_dimse.specs.Receiving.{identifier_in}
+use Rattle.dq_match.specs.Matching.{asked_days, asked_times, start_day, start_time, period}
+use Rattle.dq_match.specs.Responses.{shown}
+use Rattle.dq_match.specs.Supported.{keys_of, leaves, is_supported, below}
+use Rattle.dq_match.specs.Values.{matching_of, is_universal, octets_meet, are_well_formed}
+use Rattle.dq_tables.specs.Finding.{records_of}
+use Rattle.dq_tables.specs.Records.{data_set_of}
+use Rattle.dq_worklist.specs.Queries.{query_of, answers, listed}
+use Rattle.dq_worklist.specs.Examples.{request, steps_of, entry, answer, found_with}
+
+pub one_listed : listed (entry ∷ []) (request (steps_of (codes "CT"))) Explicit ≡ found_with (answer ∷ [])
+unfolding listed query_of identifier_in reading readers elements_by element_by elements_after items_by item_by items_after item_header_at content_by value_by
+    header_at end_at tag_at spelling_at vr_at vr_or_fault length_at long_length_at is_below known_vr vr_in dictionary length_form_of vr_with_letters vr_among
+    every_vr letters_of is_text agrees content_of header_of item_header_of vr_and_length trimmed unpadded is_padded ignores_leading_spaces without_leading
+    without_trailing kept_before keys_of leaves is_supported below is_universal are_well_formed matching_of parts pieces_of pieces joined has_separator answers
+    records_of data_set_of octets_meet period sole_at asked_days asked_times start_day start_time shown
+one_listed = refl
+
+pub none_listed : listed (entry ∷ []) (request (steps_of (codes "MR"))) Explicit ≡ found_with []
+unfolding listed query_of identifier_in reading readers elements_by element_by elements_after items_by item_by items_after item_header_at content_by value_by
+    header_at end_at tag_at spelling_at vr_at vr_or_fault length_at long_length_at is_below known_vr vr_in dictionary length_form_of vr_with_letters vr_among
+    every_vr letters_of is_text agrees content_of header_of item_header_of vr_and_length trimmed unpadded is_padded ignores_leading_spaces without_leading
+    without_trailing kept_before keys_of leaves is_supported below is_universal are_well_formed matching_of parts pieces_of pieces joined has_separator answers
+    records_of data_set_of octets_meet period sole_at asked_days asked_times start_day start_time shown
+none_listed = refl

@@ -1,0 +1,11 @@
+use Rattle.dq_worklist.proofs.Matching.{matching_in_order, succeeded_in_order, answers_alone}
+use Rattle.dq_worklist.proofs.laws.answers_are_the_matching_records_in_order.Goals as goal
+
+pub returns-clause-answered : goal.returns-clause-answered
+returns-clause-answered c = matching_in_order
+
+pub returns-clause-succeeded : goal.returns-clause-succeeded
+returns-clause-succeeded c = succeeded_in_order
+
+pub returns-clause-alone : goal.returns-clause-alone
+returns-clause-alone c = answers_alone
