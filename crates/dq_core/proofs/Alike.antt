@@ -15,13 +15,12 @@ use Rattle.dq_config.specs.declared.config.Institution.{Institution}
 use Rattle.dq_config.specs.Limits.{Limits, limits_of}
 use Rattle.dq_tables.specs.declared.row.Row.{Row}
 use Rattle.dq_tables.specs.Rows.{Record, Edit, of}
-use Rattle.dq_core.specs.declared.slot.Home.{Home}
 use Rattle.dq_core.specs.declared.slot.Taken.{Taken}
 use Rattle.dq_core.specs.Answers.{Progress, Answer, line_answer, then_answer, answers, stranger_answer}
 use Rattle.dq_core.specs.Owners.{is_sound}
 use Rattle.dq_core.specs.Shared.{operations_by}
-use Rattle.dq_core.specs.Doing.{agreement_after, served_answer, messages_answer, home_answer, opened, taken}
-use Rattle.dq_core.specs.Slots.{home_of, answer_of, AreAlike}
+use Rattle.dq_core.specs.Doing.{agreement_after, served_answer, messages_answer, agreed_answer, opened, taken}
+use Rattle.dq_core.specs.Slots.{answer_of, AreAlike}
 use Rattle.dq_core.proofs.isolation.Requests.{nowhere-closes, unsound-line}
 
 abbrev with_records : Option Agreement → List Record → Progress
@@ -48,46 +47,46 @@ open-is_of limits verdict a records (Sent message ∷ inputs) =
     }
 open-is_of limits verdict a records (input ∷ inputs) = record { octets = refl; close = refl; changes = refl }
 
--- the home is that of what was agreed, or has no message to serve
-abbrev IsHome : List Message → Option Home → Institution → Agreement → Type 0
-IsHome messages home i a = (messages ≡ []) ⊎ (home ≡ home_of (Some i) (Some a))
+-- that was agreed on, or there is no message to serve
+abbrev IsAgreed : List Message → Option Agreement → Agreement → Type 0
+IsAgreed messages agreed a = (messages ≡ []) ⊎ (agreed ≡ Some a)
 
-at-home : (limits : Limits) (records : List Record) (messages : List Message) (home : Option Home) (i : Institution) (a : Agreement)
-    → IsHome messages home i a → let x = messages_answer limits a records messages in let y = home_answer limits records home messages in
+served-alike : (limits : Limits) (records : List Record) (messages : List Message) (agreed : Option Agreement) (a : Agreement)
+    → IsAgreed messages agreed a → let x = messages_answer limits a records messages in let y = agreed_answer limits records agreed messages in
     (x.octets ≡ y.octets) × (x.changes ≡ y.changes)
-at-home limits records [] None i a h = (refl, refl)
-at-home limits records [] (Some home) i a h = (refl, refl)
-at-home limits records (message ∷ messages) home i a (inl none) = cc
-at-home limits records (message ∷ messages) home i a (inr e) = rw e (refl, refl)
+served-alike limits records [] None a h = (refl, refl)
+served-alike limits records [] (Some agreed) a h = (refl, refl)
+served-alike limits records (message ∷ messages) agreed a (inl none) = cc
+served-alike limits records (message ∷ messages) agreed a (inr e) = rw e (refl, refl)
 
 module _ (i : Institution) (verdict : Verdict) (rows : List Row) where
   abbrev answered : Option Agreement → List Input → Answer
   answered agreement inputs = answers (limits_of i) verdict (with_records agreement (of i.name rows)) inputs
 
-  abbrev IsAnswered : Answer → Option Home → Taken → Type 0
-  IsAnswered x home t = AreAlike (Some i) x (Some i) (answer_of (Some i) rows home t)
+  abbrev IsAnswered : Answer → Option Agreement → Taken → Type 0
+  IsAnswered x agreed t = AreAlike (Some i) x (Some i) (answer_of (Some i) rows agreed t)
 
   -- a connection that was opened before
-  pub alike-open : (a : Agreement) (inputs : List Input) (home : Option Home) → IsHome (open_outcome inputs).messages home i a
-      → IsAnswered (answered (Some a) inputs) home (record { opening = []; step = open_outcome inputs })
-  alike-open a inputs home h =
+  pub alike-open : (a : Agreement) (inputs : List Input) (agreed : Option Agreement) → IsAgreed (open_outcome inputs).messages agreed a
+      → IsAnswered (answered (Some a) inputs) agreed (record { opening = []; step = open_outcome inputs })
+  alike-open a inputs agreed h =
       let x = open-is_of (limits_of i) verdict a (of i.name rows) inputs in
-      let y = at-home (limits_of i) (of i.name rows) (open_outcome inputs).messages home i a h in record {
+      let y = served-alike (limits_of i) (of i.name rows) (open_outcome inputs).messages agreed a h in record {
         octets = x.octets ∙ ap (λ (octets : List ℕ). octets ++ (open_outcome inputs).octets) y.0;
         close = x.close;
         operations = ap (operations_by (Some i)) (x.changes ∙ y.1);
       }
 
   -- a request, and what comes after it
-  alike-opened : (l : Line) (request : Request) (inputs : List Input) (home : Option Home) (b : Bool) → is_closed l.next ≡ b
-      → IsHome (opened l inputs).step.messages home i (agreement_of request)
+  alike-opened : (l : Line) (request : Request) (inputs : List Input) (agreed : Option Agreement) (b : Bool) → is_closed l.next ≡ b
+      → IsAgreed (opened l inputs).step.messages agreed (agreement_of request)
       → IsAnswered (let progress = with_records (Some (agreement_of request)) (of i.name rows) in
-      then_answer (line_answer l progress) (answers (limits_of i) verdict progress inputs)) home (opened l inputs)
+      then_answer (line_answer l progress) (answers (limits_of i) verdict progress inputs)) agreed (opened l inputs)
   alike-opened l request inputs None true h k = rw h (record { octets = refl; close = refl; operations = refl })
-  alike-opened l request inputs (Some home) true h k = rw h (record { octets = refl; close = refl; operations = refl })
-  alike-opened l request inputs home false h k =
-      let at : IsHome (open_outcome inputs).messages home i (agreement_of request) = rw h at k in
-      let x = alike-open (agreement_of request) inputs home at in
+  alike-opened l request inputs (Some agreed) true h k = rw h (record { octets = refl; close = refl; operations = refl })
+  alike-opened l request inputs agreed false h k =
+      let at : IsAgreed (open_outcome inputs).messages agreed (agreement_of request) = rw h at k in
+      let x = alike-open (agreement_of request) inputs agreed at in
       rw h (record {
         octets = ap (λ (octets : List ℕ). (line_answer l (with_records None [])).octets ++ octets) x.octets;
         close = x.close;
@@ -95,32 +94,32 @@ module _ (i : Institution) (verdict : Verdict) (rows : List Row) where
       })
 
   -- a connection without a request yet
-  pub alike-waiting : (inputs : List Input) (home : Option Home)
-      → ((taken verdict Waiting inputs).step.messages ≡ []) ⊎ (home ≡ home_of (Some i) (agreement_after None inputs))
-      → IsAnswered (answered None inputs) home (taken verdict Waiting inputs)
-  alike-waiting (Requested request ∷ inputs) home h =
-      let l = line Waiting verdict (Requested request) in alike-opened l request inputs home (is_closed l.next) refl h
+  pub alike-waiting : (inputs : List Input) (agreed : Option Agreement)
+      → ((taken verdict Waiting inputs).step.messages ≡ []) ⊎ (agreed ≡ agreement_after None inputs)
+      → IsAnswered (answered None inputs) agreed (taken verdict Waiting inputs)
+  alike-waiting (Requested request ∷ inputs) agreed h =
+      let l = line Waiting verdict (Requested request) in alike-opened l request inputs agreed (is_closed l.next) refl h
   alike-waiting [] None h = record { octets = refl; close = refl; operations = refl }
-  alike-waiting [] (Some home) h = record { octets = refl; close = refl; operations = refl }
+  alike-waiting [] (Some agreed) h = record { octets = refl; close = refl; operations = refl }
   alike-waiting (input ∷ inputs) None h = record { octets = refl; close = refl; operations = refl }
-  alike-waiting (input ∷ inputs) (Some home) h = record { octets = refl; close = refl; operations = refl }
+  alike-waiting (input ∷ inputs) (Some agreed) h = record { octets = refl; close = refl; operations = refl }
 
 -- ---- strangers
 
 -- the rejection of a request on a connection of no owner, whatever institution has its titles
-rejected-alike : (institution : Option Institution) (rows : List Row) (l : Line) (inputs : List Input) (progress : Progress) (home : Option Home)
-    → is_closed l.next ≡ true → AreAlike None (line_answer l progress) institution (answer_of institution rows home (opened l inputs))
-rejected-alike None rows l inputs progress home h = rw h (record { octets = refl; close = refl; operations = refl })
+rejected-alike : (institution : Option Institution) (rows : List Row) (l : Line) (inputs : List Input) (progress : Progress) (agreed : Option Agreement)
+    → is_closed l.next ≡ true → AreAlike None (line_answer l progress) institution (answer_of institution rows agreed (opened l inputs))
+rejected-alike None rows l inputs progress agreed h = rw h (record { octets = refl; close = refl; operations = refl })
 rejected-alike (Some i) rows l inputs progress None h = rw h (record { octets = refl; close = refl; operations = refl })
-rejected-alike (Some i) rows l inputs progress (Some home) h = rw h (record { octets = refl; close = refl; operations = refl })
+rejected-alike (Some i) rows l inputs progress (Some agreed) h = rw h (record { octets = refl; close = refl; operations = refl })
 
 -- a connection that no institution has
-pub alike-stranger : (rows : List Row) (inputs : List Input) (progress : Progress) (home : Option Home)
-    → AreAlike None (stranger_answer progress inputs) None (answer_of None rows home (taken Nowhere Waiting inputs))
-alike-stranger rows [] progress home = record { octets = refl; close = refl; operations = refl }
-alike-stranger rows (Requested request ∷ inputs) progress home =
-    rejected-alike None rows (line Waiting Nowhere (Requested request)) inputs progress home (nowhere-closes request)
-alike-stranger rows (input ∷ inputs) progress home = record { octets = refl; close = refl; operations = refl }
+pub alike-stranger : (rows : List Row) (inputs : List Input) (progress : Progress) (agreed : Option Agreement)
+    → AreAlike None (stranger_answer progress inputs) None (answer_of None rows agreed (taken Nowhere Waiting inputs))
+alike-stranger rows [] progress agreed = record { octets = refl; close = refl; operations = refl }
+alike-stranger rows (Requested request ∷ inputs) progress agreed =
+    rejected-alike None rows (line Waiting Nowhere (Requested request)) inputs progress agreed (nowhere-closes request)
+alike-stranger rows (input ∷ inputs) progress agreed = record { octets = refl; close = refl; operations = refl }
 
 -- a request that fails the checks is rejected alike whatever the verdict
 pub unsound-closes : (request : Request) (verdict : Verdict) (inputs : List Input) → is_sound request ≡ false
@@ -131,8 +130,8 @@ unsound-closes request verdict inputs e =
     rw closes refl
 
 pub alike-unsound : (institution : Option Institution) (verdict : Verdict) (rows : List Row) (request : Request)
-    (inputs : List Input) (progress : Progress) (home : Option Home) → is_sound request ≡ false
+    (inputs : List Input) (progress : Progress) (agreed : Option Agreement) → is_sound request ≡ false
     → AreAlike None (stranger_answer progress (Requested request ∷ inputs))
-    institution (answer_of institution rows home (taken verdict Waiting (Requested request ∷ inputs)))
-alike-unsound institution verdict rows request inputs progress home e = rw (unsound-line request verdict e)
-    (rejected-alike institution rows (line Waiting Nowhere (Requested request)) inputs progress home (nowhere-closes request))
+    institution (answer_of institution rows agreed (taken verdict Waiting (Requested request ∷ inputs)))
+alike-unsound institution verdict rows request inputs progress agreed e = rw (unsound-line request verdict e)
+    (rejected-alike institution rows (line Waiting Nowhere (Requested request)) inputs progress agreed (nowhere-closes request))

@@ -1,19 +1,28 @@
 -- Answers that are given one after the other.
-use Rattle.std.proofs.Common.{◌≡◌, ℕ, Bool, true, false, List, [], ◌∷◌, ◌++◌, map, Option, Some, None, refl, sym, ap, ◌∙◌, append_assoc}
+use Rattle.std.proofs.Common.{◌≡◌, ℕ, Bool, true, false, List, [], ◌∷◌, ◌++◌, map, take, Option, Some, None, ◌⊎◌, inl, inr, refl, sym, ap, ◌∙◌, append_assoc}
 use Rattle.std.proofs.lemmas.List.{map-append, append-nil}
 use Rattle.dq_dimse.specs.declared.command.Message.{Message}
 use Rattle.dq_assoc.specs.declared.agreement.Agreement.{Agreement}
 use Rattle.dq_config.specs.declared.config.Institution.{Institution}
 use Rattle.dq_config.specs.Limits.{limits_of}
 use Rattle.dq_tables.specs.declared.row.Row.{Row}
-use Rattle.dq_tables.specs.Rows.{Edit, edited_all, of, Operation, by, after, after_all}
+use Rattle.dq_tables.specs.Rows.{Record, Edit, edited_all, of, Operation, by, after, after_all}
 use Rattle.dq_core.specs.Answers.{Answer, then_answer}
 use Rattle.dq_core.specs.Shared.{operations_by}
+use Rattle.dq_core.specs.Stepping.{IsPartOf}
 use Rattle.dq_core.specs.Doing.{Did, DidPart, served_answer, messages_answer}
+use Rattle.dq_core.proofs.Going.{part-left}
 
-after-append : (xs ys : List Operation) (rows : List Row) → after_all (xs ++ ys) rows ≡ after_all ys (after_all xs rows)
+pub after-append : (xs ys : List Operation) (rows : List Row) → after_all (xs ++ ys) rows ≡ after_all ys (after_all xs rows)
 after-append [] ys rows = refl
 after-append (x ∷ xs) ys rows = after-append xs ys (after x rows)
+
+-- the next operation is the first of those left, where some are left
+next-first : (later more : List Operation) (rows r : List Row) → (r ≡ rows) ⊎ (r ≡ after_all (take 1 later) rows)
+    → (r ≡ rows) ⊎ (r ≡ after_all (take 1 (later ++ more)) rows)
+next-first [] more rows r (inl e) = inl e
+next-first [] more rows r (inr e) = inl e
+next-first (x ∷ later) more rows r left = left
 
 operations-append : (owner : Option Institution) (xs ys : List (List Edit)) → operations_by owner (xs ++ ys) ≡ operations_by owner xs ++ operations_by owner ys
 operations-append None xs ys = refl
@@ -33,29 +42,51 @@ module _ (owner : Option Institution) (a b : Answer) where
     rows = rw (joined, after-append first_operations (operations_by owner b.changes) r0, later.rows, first.rows) refl;
   })
 
-  part-first : (r0 r1 : List Row) (p : Bool) → a.close ≡ p → DidPart owner a r0 r1 → DidPart owner (then_answer a b) r0 r1
-  part-first r0 r1 true h part = rw h part
-  part-first r0 r1 false h part = rw (h, joined) (record {
+  part-first : (r0 r1 : List Row) (IsLeft : List Row → Type 0) (p : Bool) → a.close ≡ p → DidPart owner a r0 r1 IsLeft
+      → DidPart owner (then_answer a b) r0 r1 IsLeft
+  part-first r0 r1 IsLeft true h part = rw h part
+  part-first r0 r1 IsLeft false h part = rw (h, joined) (record {
     done = part.done;
     later = part.later ++ operations_by owner b.changes;
     whole = sym (append_assoc part.done part.later (operations_by owner b.changes))
         ∙ ap (λ (os : List Operation). os ++ operations_by owner b.changes) part.whole;
     made = part.made;
+    crash = λ r left. next-first part.later (operations_by owner b.changes) r1 r (part.crash r left);
   })
 
-  part-then : (r0 r1 r2 : List Row) (x0 x1 : List ℕ) → a.close ≡ false → Did owner a r0 r1 x0 x1 → DidPart owner b r1 r2
-      → DidPart owner (then_answer a b) r0 r2
-  part-then r0 r1 r2 x0 x1 h first part = rw (h, joined) (record {
+  part-then : (r0 r1 r2 : List Row) (x0 x1 : List ℕ) (IsLeft : List Row → Type 0) → a.close ≡ false → Did owner a r0 r1 x0 x1
+      → DidPart owner b r1 r2 IsLeft → DidPart owner (then_answer a b) r0 r2 IsLeft
+  part-then r0 r1 r2 x0 x1 IsLeft h first part = rw (h, joined) (record {
     done = first_operations ++ part.done;
     later = part.later;
     whole = append_assoc first_operations part.done part.later ∙ ap (λ (os : List Operation). first_operations ++ os) part.whole;
     made = rw (after-append first_operations part.done r0, ← first.rows) part.made;
+    crash = part.crash;
   })
+
+-- the rows, and those after the next operation, are left
+abbrev Left : List Row → List Operation → List Row → Type 0
+Left after later r = (r ≡ after) ⊎ (r ≡ after_all (take 1 later) after)
+
+abbrev Unleft : List Row → Type 0
+Unleft r = ⊥
+
+abbrev bare : {operations : List Operation} {before after : List Row} {IsLeft : List Row → Type 0} → IsPartOf operations before after IsLeft
+    → IsPartOf operations before after Unleft
+bare part = record { done = part.done; later = part.later; whole = part.whole; made = part.made; crash = λ r none. absurd none }
+
+widest : {operations : List Operation} {before after : List Row} {IsLeft : List Row → Type 0} (part : IsPartOf operations before after IsLeft)
+    → IsPartOf operations before after (Left after part.later)
+widest part = record { done = part.done; later = part.later; whole = part.whole; made = part.made; crash = λ r left. left }
 
 -- What is left of an answer: where it is given or begun from here, the whole is given or begun.
 pub record From (owner : Option Institution) (whole rest : Answer) (r0 r1 : List Row) (x0 x1 : List ℕ) : Type 0 where
   pub did : (r2 : List Row) (x2 : List ℕ) → Did owner rest r1 r2 x1 x2 → Did owner whole r0 r2 x0 x2
-  pub part : (r2 : List Row) → DidPart owner rest r1 r2 → DidPart owner whole r0 r2
+  pub part : (r2 : List Row) (begun : DidPart owner rest r1 r2 Unleft) → DidPart owner whole r0 r2 (Left r2 begun.later)
+
+from-part : {owner : Option Institution} {whole rest : Answer} {r0 r1 : List Row} {x0 x1 : List ℕ} → From owner whole rest r0 r1 x0 x1
+    → (r2 : List Row) (IsLeft : List Row → Type 0) → DidPart owner rest r1 r2 IsLeft → DidPart owner whole r0 r2 IsLeft
+from-part from r2 IsLeft begun = part-left IsLeft (λ r left. begun.crash r left) (from.part r2 (bare begun))
 
 -- an institution's records after its operations
 abbrev pub Lens : Type 0
@@ -64,6 +95,12 @@ Lens = (h : List ℕ) (changes : List (List Edit)) (rows : List Row) → of h (a
 -- Messages are left of those that are served for an institution.
 pub record Serves (i : Institution) (a : Agreement) (all left : List Message) (r0 r1 : List Row) (x0 x1 : List ℕ) : Type 0 where
   pub rest : From (Some i) (messages_answer (limits_of i) a (of i.name r0) all) (messages_answer (limits_of i) a (of i.name r1) left) r0 r1 x0 x1
+
+-- a part of the answers to messages, from the records that there are
+part-of : (i : Institution) (a : Agreement) (ms : List Message) (r0 r1 : List Row) (IsLeft : List Row → Type 0) (records : List Record)
+    → of i.name r0 ≡ records → DidPart (Some i) (messages_answer (limits_of i) a (of i.name r0) ms) r0 r1 IsLeft
+    → DidPart (Some i) (messages_answer (limits_of i) a records ms) r0 r1 IsLeft
+part-of i a ms r0 r1 IsLeft records same part = rw same at part
 
 module _ {i : Institution} {a : Agreement} {all left : List Message} {r0 r1 : List Row} {x0 x1 : List ℕ} (serves : Serves i a all left r0 r1 x0 x1) where
   abbrev served : Message → Answer
@@ -81,12 +118,15 @@ module _ {i : Institution} {a : Agreement} {all left : List Message} {r0 r1 : Li
         let same : of i.name r2 ≡ (served m).next.records = ap (of i.name) d.rows ∙ lens i.name (served m).changes r1 in record {
           rest = record {
             did = λ r3 x3 later. serves.rest.did r3 x3 (rw e (did-then (Some i) (served m) rest r1 r2 r3 x1 x2 x3 refl d (rw same at later)));
-            part = λ r3 later. serves.rest.part r3 (rw e (part-then (Some i) (served m) rest r1 r2 r3 x1 x2 refl d (rw same at later)));
+            part = λ r3 begun.
+                from-part serves.rest r3 (Left r3 begun.later)
+                (rw e (part-then (Some i) (served m) rest r1 r2 r3 x1 x2 (Left r3 begun.later) refl d
+                (part-of i a ms r2 r3 (Left r3 begun.later) (served m).next.records same (widest begun))));
           };
         }
 
     -- a message was served in part
-    pub serves-part : {r2 : List Row} → DidPart (Some i) (served m) r1 r2
-        → DidPart (Some i) (messages_answer (limits_of i) a (of i.name r0) all) r0 r2
-    serves-part {r2 = r2} part = serves.rest.part r2
-        (rw e (part-first (Some i) (served m) (messages_answer (limits_of i) a (served m).next.records ms) r1 r2 false refl part))
+    pub serves-part : {r2 : List Row} (IsLeft : List Row → Type 0) → DidPart (Some i) (served m) r1 r2 IsLeft
+        → DidPart (Some i) (messages_answer (limits_of i) a (of i.name r0) all) r0 r2 IsLeft
+    serves-part {r2 = r2} IsLeft part = from-part serves.rest r2 IsLeft
+        (rw e (part-first (Some i) (served m) (messages_answer (limits_of i) a (served m).next.records ms) r1 r2 IsLeft false refl part))

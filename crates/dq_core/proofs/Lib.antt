@@ -11,3 +11,4 @@ pub mod Owning
 pub mod Pieces
 pub mod Turning
 pub mod Taking
+pub mod Looking

@@ -17,7 +17,6 @@ use Rattle.dq_assoc.specs.Inputs.{inputs_of, inputs}
 use Rattle.dq_assoc.specs.After.{AssociationAfter, state_of, is_closed, agreement_in, inputs_from}
 use Rattle.dq_config.specs.declared.config.Institution.{Institution}
 use Rattle.dq_config.specs.Routing.{routed, named}
-use Rattle.dq_core.specs.declared.slot.Home.{Home}
 use Rattle.dq_core.specs.declared.slot.Slot.{Slot}
 use Rattle.dq_core.specs.Answers.{request_in, inputs_added, verdict_at}
 use Rattle.dq_core.specs.Connections.{Connection}
@@ -59,7 +58,7 @@ agreed waits opens stream held.Waiting f a u =
 agreed waits opens stream (held.Open agreement assembly) f a u =
     let o = opens (pdus_in stream).list (held.Open agreement assembly) a refl in
     ap (λ (xs : List Input). option_map agreement_of (request_in xs)) (inputs-are stream (request_pdu o.0 ∷ o.1) o.2 f) ∙ sym o.3
-agreed waits opens stream held.Closed f a u = cc
+agreed waits opens stream (held.Closed b) f a u = cc
 
 -- what a piece adds follows from the association
 pub added : Further → (stream piece : List ℕ) (pdus : List Pdu) (fault : Option PduFault) (association : Held) → (pdus_in stream).fault ≡ None
@@ -81,13 +80,13 @@ pub no-home : (o : Option Institution) → home_of o None ≡ None
 no-home None = refl
 no-home (Some i) = refl
 
-counted-at : Waits → (institutions : List Institution) (name stream : List ℕ) (association : Held) (home : Option Home) → (pdus_in stream).fault ≡ None
+counted-at : Waits → (institutions : List Institution) (name stream : List ℕ) (association : Held) (home : Option (List ℕ)) → (pdus_in stream).fault ≡ None
     → AssociationAfter (pdus_in stream).list association → is_closed (state_of association) ≡ false
     → home ≡ home_of (owner institutions stream) (agreement_in association) → is_home name home ≡ is_of name (owner institutions stream)
 counted-at waits institutions name stream held.Waiting home f a u e =
     rw (e, no-home (owner institutions stream), no-inputs_yet waits stream held.Waiting f a refl) refl
 counted-at waits institutions name stream (held.Open agreement assembly) home f a u e = rw e (home-named name (owner institutions stream) agreement)
-counted-at waits institutions name stream held.Closed home f a u e = cc
+counted-at waits institutions name stream (held.Closed b) home f a u e = cc
 
 counts : Waits → (institutions : List Institution) (name : List ℕ) (slots : List Slot) (cs : List Connection) → AreHeld institutions slots cs
     → count_at name slots ≡ live_of institutions name cs

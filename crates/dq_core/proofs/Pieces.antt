@@ -21,7 +21,6 @@ use Rattle.dq_assoc.specs.Table.{Input}
 use Rattle.dq_assoc.specs.Inputs.{inputs_of, inputs}
 use Rattle.dq_assoc.specs.After.{AssociationAfter, state_of, is_closed, agreement_in, inputs_from}
 use Rattle.dq_config.specs.declared.config.Institution.{Institution}
-use Rattle.dq_core.specs.declared.slot.Home.{Home}
 use Rattle.dq_core.specs.declared.slot.Slot.{Slot}
 use Rattle.dq_core.specs.declared.slot.Taken.{Taken}
 use Rattle.dq_core.specs.Answers.{request_in, progress_of, inputs_added, verdict_at}
@@ -55,44 +54,44 @@ some-is : (o : Option Institution) (i : Institution) → o ≡ Some i → IsSome
 some-is o i e = rw e refl
 
 -- a slot before the piece, part by part
-record Before (institutions : List Institution) (stream : List ℕ) (h : Held) (home : Option Home) : Type 0 where
+record Before (institutions : List Institution) (stream : List ℕ) (h : Held) (home : Option (List ℕ)) : Type 0 where
   faultless : (pdus_in stream).fault ≡ None
   association : AssociationAfter (pdus_in stream).list h
   not_closed : is_closed (state_of h) ≡ false
   home_is : home ≡ home_of (owner institutions stream) (agreement_in h)
   owned : (a : Agreement) → agreement_in h ≡ Some a → IsSome (owner institutions stream)
 
--- ---- what is taken is answered alike, where a home has been given to what is served
+-- ---- what is taken is answered alike, where what is served is over what was agreed on
 
 module _ (institutions : List Institution) (world : World) (c : Connection) (piece : List ℕ) (slots : List Slot)
     (counts : Counts institutions world slots) where
   -- for an owner of the stream, and for the institution that has the connection
-  abbrev Told : State → Option Agreement → List Input → Option Home → Option Institution → Option Institution → Type 0
-  Told state agreement xs home o q =
-      ((taken (verdict_for q slots) state xs).step.messages ≡ []) ⊎ (home ≡ home_of q (agreement_after agreement xs))
-      → AreAlike o (answer_by o institutions world c piece) q (answer_of q world.rows home (taken (verdict_for q slots) state xs))
+  abbrev Told : State → Option Agreement → List Input → Option Agreement → Option Institution → Option Institution → Type 0
+  Told state agreement xs agreed_on o q =
+      ((taken (verdict_for q slots) state xs).step.messages ≡ []) ⊎ (agreed_on ≡ agreement_after agreement xs)
+      → AreAlike o (answer_by o institutions world c piece) q (answer_of q world.rows agreed_on (taken (verdict_for q slots) state xs))
 
-  told-same : (q : Option Institution) (xs : List Input) (home : Option Home) → option_map agreement_of (request_in (inputs c.stream)) ≡ None
-      → inputs_added c.stream piece ≡ xs → Told Waiting None xs home q q
-  told-same None xs home e f = λ k. rw f (alike-stranger world.rows xs (progress_of c.stream []) home)
-  told-same (Some i) xs home e f = λ k. rw (counts i, e, f) (alike-waiting i (verdict_of i slots) world.rows xs home k)
+  told-same : (q : Option Institution) (xs : List Input) (agreed_on : Option Agreement) → option_map agreement_of (request_in (inputs c.stream)) ≡ None
+      → inputs_added c.stream piece ≡ xs → Told Waiting None xs agreed_on q q
+  told-same None xs agreed_on e f = λ k. rw f (alike-stranger world.rows xs (progress_of c.stream []) agreed_on)
+  told-same (Some i) xs agreed_on e f = λ k. rw (counts i, e, f) (alike-waiting i (verdict_of i slots) world.rows xs agreed_on k)
 
-  told-first : (o q : Option Institution) (xs : List Input) (home : Option Home) → option_map agreement_of (request_in (inputs c.stream)) ≡ None
-      → inputs_added c.stream piece ≡ xs → (o ≡ q) ⊎ IsUnsound o xs → Told Waiting None xs home o q
-  told-first o q xs home e f (inl same) = rw same (told-same q xs home e f)
-  told-first o q xs home e f (inr (none, request, later, is, unsound)) = rw (none, is) (λ k.
-      rw (f ∙ is) (alike-unsound q (verdict_for q slots) world.rows request later (progress_of c.stream []) home unsound))
+  told-first : (o q : Option Institution) (xs : List Input) (agreed_on : Option Agreement) → option_map agreement_of (request_in (inputs c.stream)) ≡ None
+      → inputs_added c.stream piece ≡ xs → (o ≡ q) ⊎ IsUnsound o xs → Told Waiting None xs agreed_on o q
+  told-first o q xs agreed_on e f (inl same) = rw same (told-same q xs agreed_on e f)
+  told-first o q xs agreed_on e f (inr (none, request, later, is, unsound)) = rw (none, is) (λ k.
+      rw (f ∙ is) (alike-unsound q (verdict_for q slots) world.rows request later (progress_of c.stream []) agreed_on unsound))
 
-  told-open : (i : Institution) (a : Agreement) (xs : List Input) (home : Option Home)
-      → option_map agreement_of (request_in (inputs c.stream)) ≡ Some a → inputs_added c.stream piece ≡ xs → Told Open (Some a) xs home (Some i) (Some i)
-  told-open i a xs home e f = λ k. rw (counts i, e, f) (alike-open i (verdict_of i slots) world.rows a xs home k)
+  told-open : (i : Institution) (a : Agreement) (xs : List Input) (agreed_on : Option Agreement)
+      → option_map agreement_of (request_in (inputs c.stream)) ≡ Some a → inputs_added c.stream piece ≡ xs → Told Open (Some a) xs agreed_on (Some i) (Some i)
+  told-open i a xs agreed_on e f = λ k. rw (counts i, e, f) (alike-open i (verdict_of i slots) world.rows a xs agreed_on k)
 
 module _ (institutions : List Institution) (laws : Laws institutions) (c : Connection) (piece : List ℕ) (pdus : List Pdu) (fault : Option PduFault) where
   abbrev owner_after : Option Institution
   owner_after = owner institutions (c.stream ++ piece)
 
   -- who has the connection before its first PDU: the owner of the stream, or nobody, where the request is not sound
-  whose-first : (home : Option Home) → Before institutions c.stream held.Waiting home → inputs (c.stream ++ piece) ≡ inputs c.stream ++ inputs_of pdus fault
+  whose-first : (home : Option (List ℕ)) → Before institutions c.stream held.Waiting home → inputs (c.stream ++ piece) ≡ inputs c.stream ++ inputs_of pdus fault
       → (owner_after ≡ owner_with institutions home pdus) ⊎ IsUnsound owner_after (inputs_of pdus fault)
   whose-first home b e =
       let none : inputs c.stream ≡ [] = no-inputs_yet laws.waits c.stream held.Waiting b.faultless b.association refl in
@@ -100,18 +99,18 @@ module _ (institutions : List Institution) (laws : Laws institutions) (c : Conne
       rw (whole, b.home_is, no-home (owner institutions c.stream)) (first-owner institutions pdus fault)
 
   -- the owner of an open connection has it from then on
-  has-open : (home : Option Home) (a : Agreement) → home ≡ home_of (owner institutions c.stream) (Some a) → IsSome (owner institutions c.stream)
+  has-open : (home : Option (List ℕ)) (a : Agreement) → home ≡ home_of (owner institutions c.stream) (Some a) → IsSome (owner institutions c.stream)
       → (i : Institution) × (owner institutions c.stream ≡ Some i) × (owner_after ≡ Some i) × (owner_with institutions home pdus ≡ Some i)
   has-open home a e some =
       let i = some-of (owner institutions c.stream) some in (
         i.0,
         i.1,
         owner-stays laws.adds institutions c.stream piece i.0 i.1,
-        ap (λ (h : Option Home). owner_with institutions h pdus) (e ∙ ap (λ (o : Option Institution). home_of o (Some a)) i.1)
+        ap (λ (h : Option (List ℕ)). owner_with institutions h pdus) (e ∙ ap (λ (o : Option Institution). home_of o (Some a)) i.1)
             ∙ owner-named institutions laws.names (request_in (inputs c.stream)) i.0 i.1,
       )
 
-  told-at : (world : World) (slots : List Slot) (counts : Counts institutions world slots) (h : Held) (home next : Option Home)
+  told-at : (world : World) (slots : List Slot) (counts : Counts institutions world slots) (h : Held) (home : Option (List ℕ)) (next : Option Agreement)
       → Before institutions c.stream h home → inputs (c.stream ++ piece) ≡ inputs c.stream ++ inputs_from h pdus fault
       → Told institutions world c piece slots counts (state_of h) (agreement_in h) (inputs_from h pdus fault) next
       owner_after (owner_with institutions home pdus)
@@ -124,10 +123,10 @@ module _ (institutions : List Institution) (laws : Laws institutions) (c : Conne
       let xs = inputs_from (held.Open a assembly) pdus fault in
       rw (has.2, has.3) (told-open institutions world c piece slots counts has.0 a xs next
       (agreed laws.waits laws.opens c.stream (held.Open a assembly) b.faultless b.association refl) (added-is c.stream piece xs e))
-  told-at world slots counts held.Closed home next b e = absurd (false≢true (sym b.not_closed))
+  told-at world slots counts (held.Closed agreed) home next b e = absurd (false≢true (sym b.not_closed))
 
   -- the slot stands for the institution that has the connection
-  stands-at : (h : Held) (home : Option Home) → Before institutions c.stream h home → let q = owner_with institutions home pdus in
+  stands-at : (h : Held) (home : Option (List ℕ)) → Before institutions c.stream h home → let q = owner_with institutions home pdus in
       (home ≡ home_of q (agreement_in h)) × ((a : Agreement) → agreement_in h ≡ Some a → IsSome q)
   stands-at held.Waiting home b =
       (b.home_is ∙ no-home (owner institutions c.stream) ∙ sym (no-home (owner_with institutions home pdus)), λ a e. cc)
@@ -136,7 +135,7 @@ module _ (institutions : List Institution) (laws : Laws institutions) (c : Conne
         b.home_is ∙ ap (λ (o : Option Institution). home_of o (Some a)) (has.1 ∙ sym has.3),
         λ d e. some-is (owner_with institutions home pdus) has.0 has.3,
       )
-  stands-at held.Closed home b = absurd (false≢true (sym b.not_closed))
+  stands-at (held.Closed agreed) home b = absurd (false≢true (sym b.not_closed))
 
   -- one that is not closed has the owner of the stream
   same-first : (o q : Option Institution) (xs : List Input) (verdict : Verdict) → (o ≡ q) ⊎ IsUnsound o xs
@@ -145,21 +144,21 @@ module _ (institutions : List Institution) (laws : Laws institutions) (c : Conne
   same-first o q xs verdict (inr (none, request, later, is, unsound)) close =
       absurd (false≢true (sym (rw is at close) ∙ unsound-closes request verdict later unsound))
 
-  same-owner : (verdict : Verdict) (h : Held) (home : Option Home) → Before institutions c.stream h home
+  same-owner : (verdict : Verdict) (h : Held) (home : Option (List ℕ)) → Before institutions c.stream h home
       → inputs (c.stream ++ piece) ≡ inputs c.stream ++ inputs_from h pdus fault
       → (taken verdict (state_of h) (inputs_from h pdus fault)).step.close ≡ false → owner_with institutions home pdus ≡ owner_after
   same-owner verdict held.Waiting home b e close =
       same-first owner_after (owner_with institutions home pdus) (inputs_of pdus fault) verdict (whose-first home b e) close
   same-owner verdict (held.Open a assembly) home b e close = let has = has-open home a b.home_is (b.owned a refl) in has.3 ∙ sym has.2
-  same-owner verdict held.Closed home b e close = absurd (false≢true (sym b.not_closed))
+  same-owner verdict (held.Closed agreed) home b e close = absurd (false≢true (sym b.not_closed))
 
 -- ---- what a slot's take ensures, and what follows of the piece
 
 -- the slot took the PDUs and the fault
 pub record TookBy (q : Option Institution) (verdict : Verdict) (pdus : List Pdu) (fault : Option PduFault) (old new : Slot) (t : Taken) : Type 0 where
   pub taken_is : t ≡ taken verdict (state_of old.association) (inputs_from old.association pdus fault)
-  pub at_home : (earlier : List Pdu) → StandsAt q old earlier → (t.step.messages ≡ [])
-      ⊎ (new.home ≡ home_of q (agreement_after (agreement_in old.association) (inputs_from old.association pdus fault)))
+  pub agrees : (earlier : List Pdu) → StandsAt q old earlier → (t.step.messages ≡ [])
+      ⊎ (agreement_in new.association ≡ agreement_after (agreement_in old.association) (inputs_from old.association pdus fault))
   pub stands : (earlier : List Pdu) → StandsAt q old earlier → (q ≡ None → verdict ≡ Nowhere) → t.step.close ≡ false
       → (fault ≡ None) × StandsAt q new (earlier ++ pdus)
   pub number : new.number ≡ old.number
@@ -217,10 +216,10 @@ module _ (institutions : List Institution) (laws : Laws institutions) (world : W
     alike-answer : (new : Slot) (t : Taken) → Counts institutions world middle
         → TookBy owner_now (verdict_for owner_now middle) pdus fault (fed_slot old inbox) new t
         → let o = owner institutions (c.stream ++ piece) in
-        AreAlike o (answer_by o institutions world c piece) owner_now (answer_of owner_now world.rows new.home t)
+        AreAlike o (answer_by o institutions world c piece) owner_now (answer_of owner_now world.rows (agreement_in new.association) t)
     alike-answer new t counts took =
-        rw took.taken_is (told-at institutions laws c piece pdus fault world middle counts old.association old.home new.home at-first whole
-        (rw took.taken_is at (took.at_home (pdus_in c.stream).list mid-stands)))
+        rw took.taken_is (told-at institutions laws c piece pdus fault world middle counts old.association old.home (agreement_in new.association) at-first whole
+        (rw took.taken_is at (took.agrees (pdus_in c.stream).list mid-stands)))
 
     still-held : (new : Slot) (t : Taken) → TookBy owner_now (verdict_for owner_now middle) pdus fault (fed_slot old inbox) new t
         → t.step.close ≡ false → IsHeld institutions new (with_piece c piece)

@@ -1,23 +1,25 @@
 -- A run of a history, event by event.
-use Rattle.std.proofs.Common.{◌≡◌, ℕ, suc, Bool, false, IsTrue, List, [], ◌∷◌, ◌++◌, length, take, Option, Some, None, Result, Ok, Err, refl, sym, ap, ◌∙◌, append_assoc}
-use Rattle.std.specs.Result.{result_err, MatchResult}
-use Rattle.std.proofs.lemmas.List.{append-nil, length-append}
+use Rattle.std.proofs.Common.{◌≡◌, ℕ, suc, false, IsTrue, List, [], ◌∷◌, ◌++◌, length, take, Option, Some, None, Result, Ok, Err, inl, inr, refl, sym, ap, ◌∙◌, append_assoc}
+use Rattle.std.specs.Result.{result_err, MatchResult, OnOk, OnErr}
+use Rattle.std.proofs.lemmas.List.{length-append}
 use Rattle.std.proofs.Math.Seq.{take-append_seam, drop-append_seam, take-length}
 use Rattle.dq_config.specs.declared.config.Institution.{Institution}
 use Rattle.dq_tables.specs.declared.row.Row.{Row}
-use Rattle.dq_tables.specs.Rows.{after_all}
+use Rattle.dq_tables.specs.Rows.{Operation, after_all}
+use Rattle.dq_tables.specs.Keeping.{State, IsSettled}
 use Rattle.dq_core.specs.declared.event.Event.{Event}
 use Rattle.dq_core.specs.declared.event.Event.TheVariants as event
 use Rattle.dq_core.specs.declared.event.Reply.{Reply}
 use Rattle.dq_core.specs.declared.fault.Fault.{Fault}
 use Rattle.dq_core.specs.Shared.{World, turn, world_after_turn, replies_from, opening, replies, world_after, operations_next, rows_within}
 use Rattle.dq_core.specs.Histories.{is_above, newest_after, rises_from}
-use Rattle.dq_core.specs.Doing.{Goes, IsPartOf}
-use Rattle.dq_core.specs.Runs.{IsRun}
-use Rattle.dq_core.specs.Standing.{Standing, StandsFor, Opens}
+use Rattle.dq_core.specs.Stepping.{Opens, TakesNoMemory, Goes, MayLeave, IsPartOf}
+use Rattle.dq_core.specs.Runs.{IsRun, IsLeftOf, FaultsAfter}
+use Rattle.dq_core.specs.Standing.{Standing, StandsFor}
+use Rattle.dq_core.proofs.Composing.{after-append}
 use Rattle.dq_core.proofs.Going.{ok_of, goes-then, goes-start}
 use Rattle.dq_core.proofs.isolation.Rising.{both-true}
-use Rattle.dq_core.proofs.Standing.{world-append, replies-append, newest-append}
+use Rattle.dq_core.proofs.Standing.{replies-append, newest-append}
 
 rises-later : (newest : Option ℕ) (xs ys : List Event) → IsTrue (rises_from newest (xs ++ ys)) → IsTrue (rises_from (newest_after newest xs) ys)
 rises-later newest [] ys h = h
@@ -32,6 +34,15 @@ opens-at newest event later h = tt
 count-from : (institutions : List Institution) (world : World) (events : List Event) → length (replies_from institutions world events) ≡ length events
 count-from institutions world [] = refl
 count-from institutions world (e ∷ events) = ap (λ n. suc n) (count-from institutions (world_after_turn world (turn institutions world e)) events)
+
+-- the rows after one operation more
+take-next : (done later : List Operation) → take (suc (length done)) (done ++ later) ≡ done ++ take 1 later
+take-next [] later = refl
+take-next (x ∷ done) later = ap (λ (os : List Operation). x ∷ os) (take-next done later)
+
+next-made : (operations done later : List Operation) (before after : List Row) → done ++ later ≡ operations → after ≡ after_all done before
+    → after_all (take 1 later) after ≡ after_all (take (suc (length done)) operations) before
+next-made operations done later before after w m = rw (← w, take-next done later, after-append done (take 1 later) before, m) refl
 
 module _ (institutions : List Institution) (rows : List Row) where
   pub replies_follow : (events : List Event) (event : Event) → replies institutions rows (events ++ event ∷ [])
@@ -60,45 +71,56 @@ module _ (institutions : List Institution) (rows : List Row) where
         let n : length given ≡ length done = ap length e ∙ replies_count done in
         rw (n, take-append_seam done left, drop-append_seam done left) refl
 
-  pub run-part : (done : List Event) (event : Event) (later : List Event) (given : List Reply) (kept : List Row) → given ≡ replies institutions rows done
-      → (let world = world_after institutions rows done in IsPartOf (turn institutions world event).operations world.rows kept)
-      → IsRun institutions rows (done ++ event ∷ later) given kept
-  run-part done event later given kept e p = record {
-    first_replies = front done (event ∷ later) given e;
-    operations = length p.done;
-    rows_then = rw (within done (event ∷ later) given e (length p.done), ← p.whole, take-append_seam p.done p.later) p.made;
-  }
+  module _ (done : List Event) (event : Event) (later : List Event) (given : List Reply) (kept : List Row) (IsLeft : List Row → Type 0)
+      (e : given ≡ replies institutions rows done)
+      (p : (let world = world_after institutions rows done in IsPartOf (turn institutions world event).operations world.rows kept IsLeft)) where
+    kept-part : kept ≡ rows_within institutions rows (done ++ event ∷ later) (length given) (length p.done)
+    kept-part = rw (within done (event ∷ later) given e (length p.done), ← p.whole, take-append_seam p.done p.later) p.made
+
+    pub run-part : IsRun institutions rows (done ++ event ∷ later) given kept
+    run-part = record { first_replies = front done (event ∷ later) given e; operations = length p.done; rows_then = kept-part }
+
+    pub run-left : (r : List Row) → IsLeft r → IsLeftOf institutions rows (done ++ event ∷ later) given kept r
+    run-left r left = record {
+      operations = length p.done;
+      rows_then = kept-part;
+      with_next = elim (p.crash r left) [
+        | inl same ↦ inl same
+        | inr next ↦ inr (next ∙ next-made (turn institutions (world_after institutions rows done) event).operations p.done p.later
+            (world_after institutions rows done).rows kept p.whole p.made ∙ sym (within done (event ∷ later) given e (suc (length p.done))))
+      ];
+    }
 
 -- an answer without a fault
 abbrev pub went : Result (Unit {0}) Fault
 went = Ok tt
 
 -- Events that were answered so far, and those that are left.
-pub record RanSo {Tables : Type 0} (rows_of : Tables → List Row) (honest : Tables → Type 0) (failed : Tables → Bool) (first now : Standing Tables)
+pub record RanSo {Tables : Type 0} (state : Tables → State) (first now : Standing Tables)
     (given : List Reply) (all done left : List Event) : Type 0 where
   pub parts : done ++ left ≡ all
   pub count : length given ≡ length done
   pub unspent : now.spent ≡ false
   pub newest : now.newest ≡ newest_after first.newest done
   pub institutions : now.institutions ≡ first.institutions
-  pub goes : Goes honest failed first.tables now.tables went
-  pub stands : (rows : List Row) → StandsFor rows_of rows first [] → honest now.tables → StandsFor rows_of rows now done
-  pub replied : (rows : List Row) → StandsFor rows_of rows first [] → honest now.tables → given ≡ replies first.institutions rows done
+  pub goes : Goes (state first.tables) (state now.tables) went
+  pub stands : (rows : List Row) → StandsFor state rows first [] → (state now.tables).honest → StandsFor state rows now done
+  pub replied : (rows : List Row) → StandsFor state rows first [] → (state now.tables).honest → given ≡ replies first.institutions rows done
 
 -- What a step gives, where it gives a reply.
-pub record Stepped {Tables : Type 0} (rows_of : Tables → List Row) (honest : Tables → Type 0) (failed : Tables → Bool) (now next : Standing Tables)
+pub record Stepped {Tables : Type 0} (state : Tables → State) (now next : Standing Tables)
     (event : Event) (reply : Reply) : Type 0 where
-  pub replied : (rows : List Row) (events : List Event) → StandsFor rows_of rows now events → honest next.tables
+  pub replied : (rows : List Row) (events : List Event) → StandsFor state rows now events → (state next.tables).honest
       → reply ≡ (turn now.institutions (world_after now.institutions rows events) event).reply
-  pub stands : (rows : List Row) (events : List Event) → StandsFor rows_of rows now events → honest next.tables
-      → StandsFor rows_of rows next (events ++ event ∷ [])
+  pub stands : (rows : List Row) (events : List Event) → StandsFor state rows now events → (state next.tables).honest
+      → StandsFor state rows next (events ++ event ∷ [])
   pub institutions : next.institutions ≡ now.institutions
   pub newest : next.newest ≡ newest_after now.newest (event ∷ [])
   pub unspent : next.spent ≡ false
-  pub goes : Goes honest failed now.tables next.tables (ok_of reply)
+  pub goes : Goes (state now.tables) (state next.tables) (ok_of reply)
 
-module _ {Tables : Type 0} {rows_of : Tables → List Row} {honest : Tables → Type 0} {failed : Tables → Bool} {first now : Standing Tables}
-    {given : List Reply} {all done left : List Event} (ran : RanSo rows_of honest failed first now given all done left)
+module _ {Tables : Type 0} {state : Tables → State} {first now : Standing Tables}
+    {given : List Reply} {all done left : List Event} (ran : RanSo state first now given all done left)
     {event : Event} {later : List Event} (e : left ≡ event ∷ later) where
   -- The next event opens a number that is above the others.
   pub ran-opens : IsTrue (rises_from first.newest all) → Opens now.newest event
@@ -106,16 +128,39 @@ module _ {Tables : Type 0} {rows_of : Tables → List Row} {honest : Tables → 
       (rises-later first.newest done (event ∷ later) (rw (← ran.parts, e) at w)))
 
   -- A fault within the next event: the first of its operations were made.
-  pub ran-part : (next : Tables) → (honest next → honest now.tables)
-      → ((rows : List Row) (events : List Event) → StandsFor rows_of rows now events → honest next
-      → (let world = world_after now.institutions rows events in IsPartOf (turn now.institutions world event).operations world.rows (rows_of next)))
-      → (rows : List Row) → StandsFor rows_of rows first [] → honest next → IsRun first.institutions rows all given (rows_of next)
-  ran-part next was part rows f h = rw (← ran.parts, e) (run-part first.institutions rows done event later given (rows_of next)
+  pub ran-part : (next : Tables) → ((state next).honest → (state now.tables).honest)
+      → ((rows : List Row) (events : List Event) → StandsFor state rows now events → (state next).honest
+      → (let world = world_after now.institutions rows events in
+      IsPartOf (turn now.institutions world event).operations world.rows (state next).rows (MayLeave (state now.tables) (state next))))
+      → (rows : List Row) → StandsFor state rows first [] → (state next).honest → IsRun first.institutions rows all given (state next).rows
+  ran-part next was part rows f h = rw (← ran.parts, e) (run-part first.institutions rows done event later given (state next).rows
+      (MayLeave (state now.tables) (state next))
       (ran.replied rows f (was h)) (rw (← ran.institutions) (part rows done (ran.stands rows f (was h)) h)))
 
-  module _ {next : Standing Tables} {reply : Reply} (stepped : Stepped rows_of honest failed now next event reply) where
+  -- and what a crash leaves
+  pub ran-left : (next : Tables) → ((state next).honest → (state now.tables).honest)
+      → ((rows : List Row) (events : List Event) → StandsFor state rows now events → (state next).honest
+      → (let world = world_after now.institutions rows events in
+      IsPartOf (turn now.institutions world event).operations world.rows (state next).rows (MayLeave (state now.tables) (state next))))
+      → (rows : List Row) → StandsFor state rows first [] → (state next).honest → IsSettled (state first.tables)
+      → (r : List Row) → (state next).may_leave r → IsLeftOf first.institutions rows all given (state next).rows r
+  ran-left next was part rows f h settled r left = rw (← ran.parts, e) (run-left first.institutions rows done event later given (state next).rows
+      (MayLeave (state now.tables) (state next))
+      (ran.replied rows f (was h)) (rw (← ran.institutions) (part rows done (ran.stands rows f (was h)) h)) r
+      (ran.goes.settles (was h) settled, left))
+
+  -- A fault within the next event, which is none that takes no memory.
+  pub ran-faulted : (next : Tables) → ((state next).honest → (state now.tables).honest)
+      → ((rows : List Row) (events : List Event) → StandsFor state rows now events
+      → TakesNoMemory (world_after now.institutions rows events).connections event → ⊥)
+      → (rows : List Row) → StandsFor state rows first [] → (state next).honest → FaultsAfter first.institutions rows all (length given)
+  ran-faulted next was loud rows f h =
+      rw (← ran.parts, e, ran.count, take-append_seam done (event ∷ later), drop-append_seam done (event ∷ later))
+      (rw (← ran.institutions) (loud rows done (ran.stands rows f (was h))))
+
+  module _ {next : Standing Tables} {reply : Reply} (stepped : Stepped state now next event reply) where
     -- one event more, whose reply was added
-    pub ran-next : {grown : List Reply} → grown ≡ given ++ reply ∷ [] → RanSo rows_of honest failed first next grown all (done ++ event ∷ []) later
+    pub ran-next : {grown : List Reply} → grown ≡ given ++ reply ∷ [] → RanSo state first next grown all (done ++ event ∷ []) later
     ran-next m = record {
       parts = append_assoc done (event ∷ []) later ∙ rw (← e) ran.parts;
       count = rw (m, length-append, length-append, ran.count) refl;
@@ -129,18 +174,17 @@ module _ {Tables : Type 0} {rows_of : Tables → List Row} {honest : Tables → 
           rw (m, ran.replied rows f (stepped.goes.was_honest h), stepped.replied rows done stood h, ran.institutions, replies_follow) refl;
     }
 
-    -- The reply to the next event found no room: all its operations were made.
-    pub ran-unsaid : {said : List Reply} → said ≡ given → (rows : List Row) → StandsFor rows_of rows first [] → honest next.tables
-        → IsRun first.institutions rows all said (rows_of next.tables)
-    ran-unsaid m rows f h = rw m (ran-part next.tables stepped.goes.was_honest (λ others events s k. record {
-      done = (turn now.institutions (world_after now.institutions others events) event).operations;
-      later = [];
-      whole = append-nil _;
-      made = (stepped.stands others events s k).keeps ∙ rw (stepped.institutions, world-append now.institutions (opening others) events (event ∷ [])) refl;
-    }) rows f h)
-
 -- what holds of an answer without a fault
 pub without-fault : {A : Type 0} {P : Type 0} (Q : Fault → Type 0) (r : Result A Fault) (fault : Option Fault) → fault ≡ result_err r → fault ≡ None
     → MatchResult r (λ _. P) Q → P
 without-fault Q (Ok a) fault e n p = p
 without-fault Q (Err f) fault e n p = cc
+
+pub without-err : {A : Type 0} {P : Type 0} (r : Result A Fault) (fault : Option Fault) → fault ≡ result_err r → fault ≡ None → OnOk r P → P
+without-err (Ok a) fault e n p = p
+without-err (Err f) fault e n p = cc
+
+-- and of a fault
+pub with-fault : {A : Type 0} {P : Type 0} (r : Result A Fault) (fault : Option Fault) → fault ≡ result_err r → (fault ≡ None → ⊥) → OnErr r P → P
+with-fault (Ok a) fault e n p = absurd (n e)
+with-fault (Err f) fault e n p = p

@@ -1,5 +1,5 @@
 -- What a message is answered with and changes, by its service.
-use Rattle.std.proofs.Common.{◌≡◌, ℕ, true, false, ◌==◌, List, [], ◌∷◌, ◌++◌, Some, None, refl, sym}
+use Rattle.std.proofs.Common.{◌≡◌, ℕ, true, false, ◌==◌, List, [], ◌∷◌, ◌++◌, Some, None, ◌⊎◌, inl, refl, sym}
 use Rattle.std.specs.List.{flat_map}
 use Rattle.std.proofs.lemmas.List.{append-nil}
 use Rattle.dq_dimse.specs.declared.command.Message.{Message}
@@ -11,9 +11,10 @@ use Rattle.dq_config.specs.declared.config.Institution.{Institution}
 use Rattle.dq_config.specs.Limits.{limits_of}
 use Rattle.dq_match.specs.declared.responses.Found.{Found}
 use Rattle.dq_tables.specs.declared.row.Row.{Row}
-use Rattle.dq_tables.specs.Rows.{of, by, after}
+use Rattle.dq_tables.specs.Rows.{of, by, after, Operation, after_all}
 use Rattle.dq_core.specs.Services.{responses, outcome_on, served}
 use Rattle.dq_core.specs.Answers.{response_octets}
+use Rattle.dq_core.specs.Stepping.{IsPartOf}
 use Rattle.dq_core.specs.Doing.{Did, DidPart, served_answer}
 
 module _ (i : Institution) (a : Agreement) (m : Message) where
@@ -36,13 +37,33 @@ module _ (i : Institution) (a : Agreement) (m : Message) where
     did-served r0 r1 x0 x1 found h answered done added = rw (e, h) (record { octets = rw (added, answered) refl; rows = done })
 
     -- its edits were made, and not all responses could be added
-    pub part-served : (r0 r1 : List Row) → (m.command.code == c_cancel) ≡ false
-        → r1 ≡ after (by i.name (outcome_on a c (limits_of i) m (of i.name r0)).1) r0
-        → DidPart (Some i) (served_answer (limits_of i) a (of i.name r0) m) r0 r1
+    pub part-served : (r0 r1 : List Row) (IsLeft : List Row → Type 0) → (m.command.code == c_cancel) ≡ false
+        → r1 ≡ after (by i.name (outcome_on a c (limits_of i) m (of i.name r0)).1) r0 → ((r : List Row) → IsLeft r → r ≡ r1)
+        → DidPart (Some i) (served_answer (limits_of i) a (of i.name r0) m) r0 r1 IsLeft
     unfolding served
-    part-served r0 r1 h done = rw (e, h) (record {
+    part-served r0 r1 IsLeft h done only = rw (e, h) (record {
       done = by i.name (outcome_on a c (limits_of i) m (of i.name r0)).1 ∷ [];
       later = [];
       whole = refl;
       made = done;
+      crash = λ r left. inl (only r left);
     })
+
+    -- its edits were not made
+    pub part-unserved : (r0 r1 : List Row) (IsLeft : List Row → Type 0) → (m.command.code == c_cancel) ≡ false → r1 ≡ r0
+        → ((r : List Row) → IsLeft r → (r ≡ r0) ⊎ (r ≡ after (by i.name (outcome_on a c (limits_of i) m (of i.name r0)).1) r0))
+        → DidPart (Some i) (served_answer (limits_of i) a (of i.name r0) m) r0 r1 IsLeft
+    unfolding served
+    part-unserved r0 r1 IsLeft h same crash = rw (e, h, same) (record {
+      done = [];
+      later = by i.name (outcome_on a c (limits_of i) m (of i.name r0)).1 ∷ [];
+      whole = refl;
+      made = refl;
+      crash = crash;
+    })
+
+-- an answer whose operations were all made
+pub part-whole : {operations : List Operation} {before after : List Row} {IsLeft : List Row → Type 0} → after ≡ after_all operations before
+    → ((r : List Row) → IsLeft r → r ≡ after) → IsPartOf operations before after IsLeft
+part-whole {operations = operations} made only =
+    record { done = operations; later = []; whole = append-nil operations; made = made; crash = λ r left. inl (only r left) }

@@ -1,5 +1,5 @@
 -- Slots and the connections that they are held for: which of both has a number, and what is held after a change there.
-use Rattle.std.proofs.Common.{◌≡◌, ℕ, zero, suc, ◌<◌, ◌==◌, Bool, true, false, List, [], ◌∷◌, ◌++◌, length, get_or, set, Option, Some, None, refl, arith}
+use Rattle.std.proofs.Common.{◌≡◌, ℕ, zero, suc, ◌<◌, ◌==◌, Bool, true, false, List, [], ◌∷◌, ◌++◌, length, get_or, set, Option, Some, None, is_some, refl, sym, arith}
 use Rattle.std.specs.Prelude.{remove}
 use Rattle.std.specs.List.{position}
 use Rattle.std.proofs.lemmas.Bool.Decides.{nat_tests}
@@ -13,11 +13,6 @@ use Rattle.dq_core.proofs.isolation.Lists.{at-number}
 -- whether a slot has a number
 abbrev pub numbered : ℕ → Slot → Bool
 numbered number slot = slot.number == number
-
--- where the slot with a number stands, in the list that was looked through
-pub slot-at : {seen slots : List Slot} {r o : Option ℕ} (number : ℕ) → seen ≡ slots → r ≡ position (numbered number) seen → r ≡ o
-    → position (numbered number) slots ≡ o
-slot-at number e f g = cc
 
 pub found-within : (number : ℕ) (slots : List Slot) (index : ℕ) → position (numbered number) slots ≡ Some index → index < length slots
 found-within number [] index e = cc
@@ -72,6 +67,12 @@ module _ (institutions : List Institution) (number : ℕ) where
   found-none [] (c ∷ cs) h e = absurd h
   found-none (slot ∷ slots) [] h e = absurd h
   found-none (slot ∷ slots) (c ∷ cs) h e = let same = h.0.number in grind (arith, nat_tests, found-none slots cs h.1)
+
+-- a slot has a number where a connection has it
+pub is-held : (institutions : List Institution) (number : ℕ) (slots : List Slot) (cs : List Connection) (o : Option ℕ) → AreHeld institutions slots cs
+    → o ≡ position (numbered number) slots → is_some o ≡ is_some (connection_in number cs)
+is-held institutions number slots cs None h e = rw (found-none institutions number slots cs h (sym e)) refl
+is-held institutions number slots cs (Some index) h e = rw (found-slot institutions number slots cs index h (sym e)).is_in refl
 
 -- a connection that is opened
 pub opened-held : (institutions : List Institution) (slots : List Slot) (cs : List Connection) (slot : Slot) (c : Connection) → AreHeld institutions slots cs

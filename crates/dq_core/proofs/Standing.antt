@@ -1,14 +1,18 @@
 -- A server that stands for a history stands for it with one event more.
-use Rattle.std.proofs.Common.{◌≡◌, ℕ, List, [], ◌∷◌, ◌++◌, Option, Some, refl, ap, ◌∙◌}
+use Rattle.std.proofs.Common.{◌≡◌, ℕ, Bool, true, false, List, [], ◌∷◌, ◌++◌, Option, Some, inl, inr, refl, sym, ap, ◌∙◌}
+use Rattle.std.proofs.lemmas.Bool.{false≢true}
 use Rattle.dq_config.specs.declared.config.Institution.{Institution}
 use Rattle.dq_tables.specs.declared.row.Row.{Row}
+use Rattle.dq_tables.specs.Keeping.{State}
 use Rattle.dq_core.specs.declared.event.Event.{Event}
 use Rattle.dq_core.specs.declared.event.Event.TheVariants as event
 use Rattle.dq_core.specs.declared.event.Reply.{Reply}
 use Rattle.dq_core.specs.Shared.{World, turn, world_after_turn, replies_from, world_from, opening, world_after}
 use Rattle.dq_core.specs.Histories.{newest_after}
 use Rattle.dq_core.specs.Slots.{Turned}
+use Rattle.dq_core.specs.Stepping.{Goes}
 use Rattle.dq_core.specs.Standing.{Standing, StandsFor}
+use Rattle.dq_core.proofs.Going.{ok_of}
 
 module _ (institutions : List Institution) where
   pub world-append : (world : World) (xs ys : List Event)
@@ -27,16 +31,22 @@ newest-append newest [] ys = refl
 newest-append newest (event.Open number ∷ xs) ys = newest-append (Some number) xs ys
 newest-append newest (event ∷ xs) ys = newest-append newest xs ys
 
-pub stands-next : {Tables : Type 0} {rows_of : Tables → List Row} {server new : Standing Tables} {rows : List Row} {events : List Event} (event : Event)
-    (reply : Reply) → StandsFor rows_of rows server events → new.institutions ≡ server.institutions → new.spent ≡ server.spent
+-- An answer leaves tables that have not failed.
+still-working : {A : Type 0} {old new : State} {a : A} → Goes old new (ok_of a) → old.failed ≡ false → (b : Bool) → new.failed ≡ b → b ≡ false
+still-working goes works false e = refl
+still-working goes works true e = elim (goes.untold e) [ inl was ↦ absurd (false≢true (sym works ∙ was)) | inr faulted ↦ cc ]
+
+pub stands-next : {Tables : Type 0} {state : Tables → State} {server new : Standing Tables} {rows : List Row} {events : List Event} (event : Event)
+    (reply : Reply) → StandsFor state rows server events → new.institutions ≡ server.institutions → new.spent ≡ server.spent
     → new.newest ≡ newest_after server.newest (event ∷ [])
     → (let world = world_after server.institutions rows events in
-    Turned server.institutions (turn server.institutions world event) reply world.rows (rows_of new.tables) new.slots)
-    → StandsFor rows_of rows new (events ++ event ∷ [])
-stands-next {server = server} {rows = rows} {events = events} event reply s i p n t =
+    Turned server.institutions (turn server.institutions world event) reply world.rows (state new.tables).rows new.slots)
+    → Goes (state server.tables) (state new.tables) (ok_of reply) → StandsFor state rows new (events ++ event ∷ [])
+stands-next {state = state} {server = server} {new = new} {rows = rows} {events = events} event reply s i p n t g =
     let after = world-append server.institutions (opening rows) events (event ∷ []) in record {
       unspent = p ∙ s.unspent;
       newest = rw (n, s.newest, newest-append) refl;
       holds = rw (i, after) t.holds;
       keeps = rw (i, after) t.rows;
+      working = still-working g s.working (state new.tables).failed refl;
     }

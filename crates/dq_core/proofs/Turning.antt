@@ -8,18 +8,20 @@ use Rattle.std.proofs.lemmas.Bool.Decides.{nat_tests}
 use Rattle.std.proofs.Math.Seq.{drop-length}
 use Rattle.dq_pdu.specs.Stream.{pdus_within}
 use Rattle.dq_pdu.specs.Inboxes.{InboxAfter}
+use Rattle.dq_assoc.specs.declared.agreement.Agreement.{Agreement}
+use Rattle.dq_assoc.specs.After.{agreement_in}
 use Rattle.dq_assoc.specs.Inputs.{inputs}
 use Rattle.dq_config.specs.declared.config.Institution.{Institution}
 use Rattle.dq_tables.specs.declared.row.Row.{Row}
 use Rattle.dq_core.specs.declared.event.Event.TheVariants as event
 use Rattle.dq_core.specs.declared.event.Reply.{Reply}
 use Rattle.dq_core.specs.declared.event.Reply.TheVariants as reply
-use Rattle.dq_core.specs.declared.slot.Home.{Home}
 use Rattle.dq_core.specs.declared.slot.Slot.{Slot}
 use Rattle.dq_core.specs.declared.slot.Taken.{Taken}
 use Rattle.dq_core.specs.Answers.{Answer, inputs_added}
 use Rattle.dq_core.specs.Connections.{Connection, new_connection, with_piece, connection_in, without, with_connection, after_piece}
-use Rattle.dq_core.specs.Doing.{IsPartOf, Did, DidPart}
+use Rattle.dq_core.specs.Stepping.{IsPartOf}
+use Rattle.dq_core.specs.Doing.{Did, DidPart}
 use Rattle.dq_core.specs.Owners.{owner}
 use Rattle.dq_core.specs.Shared.{World, turn, owner_turn, answer_by}
 use Rattle.dq_core.specs.Slots.{StandsAt, IsHeld, AreHeld, Turned, Took, answer_of}
@@ -40,9 +42,9 @@ with-same : (c : Connection) (cs : List Connection) → connection_in c.number c
 with-same c [] e = cc
 with-same c (d ∷ cs) e = grind (arith, nat_tests, with-same c cs)
 
-close-of : (q : Option Institution) (rows : List Row) (home : Option Home) (t : Taken) → (answer_of q rows home t).close ≡ t.step.close
-close-of None rows home t = refl
-close-of (Some i) rows home t = refl
+close-of : (q : Option Institution) (rows : List Row) (agreed : Option Agreement) (t : Taken) → (answer_of q rows agreed t).close ≡ t.step.close
+close-of None rows agreed t = refl
+close-of (Some i) rows agreed t = refl
 
 holds-after : (institutions : List Institution) (slots : List Slot) (c : Connection) (piece : List ℕ) (x : Answer) (cs : List Connection) (close : Bool)
     → x.close ≡ close → (close ≡ true → AreHeld institutions slots (without c.number cs))
@@ -100,11 +102,11 @@ module _ (institutions : List Institution) (world : World) (number : ℕ) where
     TookAny index q t held =
         (c : Connection) → connection_in number world.connections ≡ Some c → Took institutions world c piece index q t held
 
-    module _ (before held : List Slot) (index : ℕ) (d : Slot) (q : Option Institution) (home : Option Home) (t : Taken) (old rows : List Row)
+    module _ (before held : List Slot) (index : ℕ) (d : Slot) (q : Option Institution) (agreed : Option Agreement) (t : Taken) (old rows : List Row)
         (h : AreHeld institutions before world.connections) (e : position (numbered number) before ≡ Some index)
-        (took : TookAny index q t held) (home_is : home ≡ (get_or held index d).home) (old_is : old ≡ world.rows) where
+        (took : TookAny index q t held) (agreed_is : agreed ≡ agreement_in (get_or held index d).association) (old_is : old ≡ world.rows) where
       -- a piece was taken, and answered
-      pub piece-taken : (slots : List Slot) (octets : List ℕ) (r : Reply) → Did q (answer_of q old home t) old rows [] octets
+      pub piece-taken : (slots : List Slot) (octets : List ℕ) (r : Reply) → Did q (answer_of q old agreed t) old rows [] octets
           → (t.step.close ≡ true → slots ≡ remove held index) → (t.step.close ≡ false → slots ≡ held) → r ≡ reply.Octets number octets t.step.close
           → Turned institutions (turn institutions world (event.Piece number piece)) r world.rows rows slots
       piece-taken slots octets r did closed open_on g =
@@ -112,9 +114,9 @@ module _ (institutions : List Institution) (world : World) (number : ℕ) where
           let c = found.connection in
           let x = answer_by (owner institutions (c.stream ++ piece)) institutions world c piece in
           let took_it = took c found.is_in in
-          let alike = rw (← home_is) at (took_it.answer d) in
+          let alike = rw (← agreed_is) at (took_it.answer d) in
           let now = rw old_is at did in
-          let close : x.close ≡ t.step.close = alike.close ∙ close-of q world.rows home t in
+          let close : x.close ≡ t.step.close = alike.close ∙ close-of q world.rows agreed t in
           rw found.is_in (record {
             replied = cc (found.same, now.octets, alike.octets);
             rows = rw alike.operations now.rows;
@@ -123,11 +125,11 @@ module _ (institutions : List Institution) (world : World) (number : ℕ) where
           })
 
       -- a piece was taken, and answered in part
-      pub piece-part : DidPart q (answer_of q old home t) old rows
-          → IsPartOf (turn institutions world (event.Piece number piece)).operations world.rows rows
-      piece-part did =
+      pub piece-part : (IsLeft : List Row → Type 0) → DidPart q (answer_of q old agreed t) old rows IsLeft
+          → IsPartOf (turn institutions world (event.Piece number piece)).operations world.rows rows IsLeft
+      piece-part IsLeft did =
           let found = found-slot institutions number before world.connections index h e in
-          let alike = rw (← home_is) at ((took found.connection found.is_in).answer d) in
+          let alike = rw (← agreed_is) at ((took found.connection found.is_in).answer d) in
           rw (found.is_in, alike.operations) (rw old_is at did)
 
 -- ---- empty pieces

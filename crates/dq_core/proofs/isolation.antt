@@ -12,7 +12,10 @@ pub mod Promise
 pub mod Strangers
 pub mod Faulted
 pub mod Rising
+pub mod Renumbering
+pub mod Numberless
 pub mod Accepting
 pub mod Living
 pub mod Searching
+pub mod Succeeding
 pub mod WorkedExamples

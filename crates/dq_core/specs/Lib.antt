@@ -6,9 +6,14 @@ pub mod Shared
 pub mod Alone
 pub mod Own
 pub mod Isolation
+pub mod Renumbering
 pub mod Accepted
 pub mod Runs
+pub mod Searches
 pub mod Histories
+pub mod Faults
+pub mod Stepping
 pub mod Doing
 pub mod Slots
 pub mod Standing
+pub mod Looking

@@ -1,15 +1,17 @@
 -- What a run of a history comes to, also where a fault ends it.
-use Rattle.std.specs.Prelude.{◌≡◌, ℕ, List, length, take}
+use Rattle.std.specs.Prelude.{◌≡◌, ℕ, suc, ◌⊎◌, List, [], ◌∷◌, length, take, drop}
 use Rattle.dq_config.specs.declared.config.Institution.{Institution}
 use Rattle.dq_config.specs.Limits.{limits_of}
 use Rattle.dq_tables.specs.declared.row.Row.{Row}
 use Rattle.dq_tables.specs.Rows.{of}
 use Rattle.dq_core.specs.declared.event.Event.{Event}
 use Rattle.dq_core.specs.declared.event.Reply.{Reply}
-use Rattle.dq_core.specs.Shared.{replies, rows_within}
+use Rattle.dq_core.specs.Connections.{Connection}
+use Rattle.dq_core.specs.Shared.{replies, world_after, rows_within}
 use Rattle.dq_core.specs.Alone.{records_within}
 use Rattle.dq_core.specs.Own.{is_own, replies_at}
 use Rattle.dq_core.specs.Isolation.{own_replies}
+use Rattle.dq_core.specs.Stepping.{TakesNoMemory}
 
 -- The replies are those to the first events, and the rows those after these events and the first
 -- operations of the next.
@@ -18,6 +20,26 @@ pub record IsRun (institutions : List Institution) (rows : List Row) (events : L
   pub first_replies : given ≡ take (length given) (replies institutions rows events)
   pub operations : ℕ
   pub rows_then : kept ≡ rows_within institutions rows events (length given) operations
+
+-- What a crash leaves after such a run, where before it could leave the rows alone: the rows of the
+-- run, with or without the next operation of the event in which a fault came.
+pub record IsLeftOf (institutions : List Institution) (rows : List Row) (events : List Event)
+    (given : List Reply) (kept left : List Row) : Type 0 where
+  pub operations : ℕ
+  pub rows_then : kept ≡ rows_within institutions rows events (length given) operations
+  pub with_next : (left ≡ kept)
+      ⊎ (left ≡ rows_within institutions rows events (length given) (suc operations))
+
+-- the next event, which is there, may fault: it is none of those that take no memory
+abbrev pub MayFault : List Connection → List Event → Type 0
+MayFault connections [] = ⊥
+MayFault connections (event ∷ events) = TakesNoMemory connections event → ⊥
+
+-- Where a fault ends a run after the replies to so many events, it came in the next one.
+abbrev pub FaultsAfter : List Institution → List Row → List Event → ℕ → Type 0
+FaultsAfter institutions rows events answered =
+    MayFault (world_after institutions rows (take answered events)).connections
+    (drop answered events)
 
 -- The replies at an institution's own events are those of its server alone to those among them
 -- that were answered. Its records are those that this server then has, after the first changes

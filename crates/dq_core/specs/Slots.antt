@@ -14,7 +14,6 @@ use Rattle.dq_config.specs.Limits.{limits_of}
 use Rattle.dq_config.specs.Routing.{routed, named}
 use Rattle.dq_tables.specs.declared.row.Row.{Row}
 use Rattle.dq_tables.specs.Rows.{of, after_all}
-use Rattle.dq_core.specs.declared.slot.Home.{Home}
 use Rattle.dq_core.specs.declared.slot.Slot.{Slot}
 use Rattle.dq_core.specs.declared.slot.Taken.{Taken}
 use Rattle.dq_core.specs.Answers.{Answer}
@@ -24,9 +23,9 @@ use Rattle.dq_core.specs.Owners.{owner}
 use Rattle.dq_core.specs.Shared.{World, Turn, answer_by, operations_by}
 use Rattle.dq_core.specs.declared.event.Reply.{Reply}
 
--- what an institution has of a connection on which something is agreed
-abbrev pub home_of : Option Institution → Option Agreement → Option Home
-home_of (Some i) (Some agreement) = Some (record { name = i.name; agreement = agreement })
+-- the name of the institution that has a connection on which something is agreed
+abbrev pub home_of : Option Institution → Option Agreement → Option (List ℕ)
+home_of (Some i) (Some agreement) = Some i.name
 home_of (Some i) None = None
 home_of None agreement = None
 
@@ -62,9 +61,9 @@ pub record Turned (institutions : List Institution) (t : Turn) (reply : Reply)
   pub holds : AreHeld institutions slots t.connections
 
 -- whether a slot has its home at the institution with a name
-abbrev pub is_home : List ℕ → Option Home → Bool
+abbrev pub is_home : List ℕ → Option (List ℕ) → Bool
 is_home name None = false
-is_home name (Some home) = bytes_eq home.name name
+is_home name (Some home) = bytes_eq home name
 
 -- how many slots have it there
 abbrev pub count_at : List ℕ → List Slot → ℕ
@@ -83,22 +82,23 @@ routed_first institutions (request_pdu request ∷ pdus) =
     routed institutions request.called request.calling
 routed_first institutions pdus = None
 
-abbrev pub owner_with : List Institution → Option Home → List Pdu → Option Institution
+abbrev pub owner_with : List Institution → Option (List ℕ) → List Pdu → Option Institution
 owner_with institutions None pdus = routed_first institutions pdus
-owner_with institutions (Some home) pdus = named institutions home.name
+owner_with institutions (Some home) pdus = named institutions home
 
 abbrev pub owner_at : List Institution → Slot → List Pdu → Option Institution
 owner_at institutions slot pdus = owner_with institutions slot.home pdus
 
 -- what was taken on a connection is answered by the institution that has it, if one has
-abbrev pub answer_of : Option Institution → List Row → Option Home → Taken → Answer
-answer_of None rows home t = record {
+abbrev pub answer_of : Option Institution → List Row → Option Agreement → Taken → Answer
+answer_of None rows agreement t = record {
   octets = t.opening ++ t.step.octets;
   close = t.step.close;
   changes = [];
   next = record { agreement = None; records = [] };
 }
-answer_of (Some i) rows home t = taken_answer (limits_of i) (of i.name rows) home t
+answer_of (Some i) rows agreement t =
+    taken_answer (limits_of i) (of i.name rows) agreement t
 
 -- Two answers, each of an institution or of none, that are the same to the peer and to the tables.
 pub record AreAlike (one : Option Institution) (x : Answer) (other : Option Institution)
@@ -114,7 +114,8 @@ pub record Took (institutions : List Institution) (world : World) (c : Connectio
     (index : ℕ) (institution : Option Institution) (t : Taken) (slots : List Slot) : Type 0 where
   pub answer : (d : Slot) → let o = owner institutions (c.stream ++ piece) in
       AreAlike o (answer_by o institutions world c piece)
-      institution (answer_of institution world.rows (get_or slots index d).home t)
+      institution (answer_of institution world.rows
+      (agreement_in (get_or slots index d).association) t)
   pub held : t.step.close ≡ false
       → AreHeld institutions slots (with_connection (with_piece c piece) world.connections)
   pub left : AreHeld institutions (remove slots index) (without c.number world.connections)

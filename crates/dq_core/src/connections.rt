@@ -3,20 +3,20 @@
 ghost use Rattle.std.specs.Prelude.{◌≡◌, ◌≢◌, ◌<◌, ◌==◌, ◌⊎◌, ℕ, List, [], None, Some, IfOk, IfErr, OnErr, IsOk, is_some, remove, vec_len};
 ghost use Rattle.std.specs.List.{position};
 ghost use Rattle.std.specs.Option.{option_copied};
-ghost use Rattle.dq_config.specs.declared.config.Institution.{Institution};
 ghost use Rattle.dq_core.specs.declared.event.Event.{Event};
 ghost use Rattle.dq_core.specs.declared.event.Reply.{Reply};
 ghost use Rattle.dq_core.specs.Connections.{Connection, connection_in};
 ghost use Rattle.dq_core.specs.Shared.{World, turn};
-ghost use Rattle.dq_core.specs.Doing.{Goes, IsPartOf, Did, DidPart};
+ghost use Rattle.dq_core.specs.Stepping.{Goes, MayLeave, IsPartOf};
+ghost use Rattle.dq_core.specs.Doing.{Did, DidPart};
 ghost use Rattle.dq_core.specs.Slots.{AreHeld, Turned, Took, answer_of, count_at, owner_at, verdict_of, verdict_for};
 
 use crate::event::Reply;
 use crate::fault::Fault;
-use crate::service::{answer, answer_stranger};
-use crate::slot::{Called, Home, Slot, Taken};
-use dq_assoc::Verdict;
+use crate::service::{Provider, answer_unserved};
+use crate::slot::{Called, Slot, Taken};
 use dq_assoc::laws::{a_longer_stream_adds_inputs, an_association_after_pdus};
+use dq_assoc::{Agreement, Verdict};
 use dq_config::laws::{a_name_is_of_one, a_pair_is_of_one};
 use dq_config::{Config, Institution};
 use dq_list::Listed;
@@ -24,31 +24,123 @@ use dq_pdu::Pdu;
 use dq_tables::Tables;
 use std::alloc::{AllocError, Global};
 
-/// Where the slot with the number stands.
-fn index_of(slots: &[Slot], number: u64) -> Option<usize>
-    ensures { result ≡ position (λ slot. slot.number == number) slots.now }
-{
-    slots.iter().position(|slot| slot.number == number)
+/// The connections that are held, and the configuration that says whose they are.
+#[derive(Debug, Drop)]
+pub(crate) struct Connections {
+    pub config: Config,
+    pub slots: Vec<Slot>,
 }
 
-/// Whether a connection is held under a number.
-pub(crate) fn is_held(slots: &[Slot], number: u64) -> bool
-    ensures { (institutions : List Institution) (connections : List Connection) →
-        AreHeld institutions slots.now connections →
-        result ≡ is_some (connection_in number connections) }
-{
-    match index_of(slots, number) {
-        None => false,
-        Some(_) => true,
+impl Connections {
+    /// None is held. It takes no memory.
+    pub(crate) fn new(alloc: Global, config: Config) -> Self
+        ensures config { result.config ≡ config }
+        ensures none { result.slots.items ≡ [] }
+    {
+        Connections {
+            config,
+            slots: Vec::new(alloc),
+        }
     }
-}
 
-/// Takes the slot at an index out.
-fn remove_at(slots: &mut Vec<Slot>, index: usize)
-    requires { index < vec_len slots.old }
-    ensures { slots.new.items ≡ remove slots.old.items index }
-{
-    slots.remove(index);
+    /// Where the slot with the number stands.
+    fn index_of(&self, number: u64) -> Option<usize>
+        ensures { result ≡ position (λ slot. slot.number == number) self.now.slots.items }
+    {
+        self.slots.iter().position(|slot| slot.number == number)
+    }
+
+    /// Whether a connection is held under a number.
+    pub(crate) fn is_held(&self, number: u64) -> bool
+        ensures { (connections : List Connection) →
+            AreHeld self.now.config self.now.slots.items connections →
+            result ≡ is_some (connection_in number connections) }
+    {
+        self.index_of(number).is_some()
+    }
+
+    /// Takes the slot at an index out.
+    fn remove_at(&mut self, index: usize)
+        requires { index < vec_len self.old.slots }
+        ensures slots { self.new.slots.items ≡ remove self.old.slots.items index }
+        ensures config { self.new.config ≡ self.old.config }
+    {
+        self.slots.remove(index);
+    }
+
+    /// Opens a connection.
+    pub(crate) fn open(&mut self, alloc: Global, number: u64) -> Result<Reply, AllocError>
+        ensures turned { (world : World) →
+            AreHeld self.old.config self.old.slots.items world.connections →
+            IfOk result (λ reply.
+            Turned self.old.config (turn self.old.config world (Event.Open number)) reply
+            world.rows world.rows self.new.slots.items) }
+        ensures config { self.new.config ≡ self.old.config }
+    {
+        self.slots.push(Slot::new(alloc, number))?;
+        Ok(Reply::Done)
+    }
+
+    /// Answers a piece, and ends the connection where the answer closes it.
+    pub(crate) fn answer_piece<T: Tables>(
+        &mut self,
+        alloc: Global,
+        tables: &mut T,
+        number: u64,
+        piece: &[u8],
+    ) -> Result<Reply, Fault>
+        ensures goes { Goes (T.state tables.old) (T.state tables.new) result }
+        ensures turned { (world : World) →
+            AreHeld self.old.config self.old.slots.items world.connections →
+            (T.state tables.old).rows ≡ world.rows → (T.state tables.new).honest →
+            IfOk result (λ reply. Turned self.old.config
+            (turn self.old.config world (Event.Piece number piece.now)) reply
+            world.rows (T.state tables.new).rows self.new.slots.items) }
+        ensures part { (world : World) →
+            AreHeld self.old.config self.old.slots.items world.connections →
+            (T.state tables.old).rows ≡ world.rows → (T.state tables.new).honest →
+            OnErr result (
+            IsPartOf (turn self.old.config world (Event.Piece number piece.now)).operations
+            world.rows (T.state tables.new).rows
+            (MayLeave (T.state tables.old) (T.state tables.new))) }
+        ensures fault { IfErr result (λ fault. fault ≢ Fault.Stopped) }
+        ensures quiet { (connections : List Connection) →
+            AreHeld self.old.config self.old.slots.items connections →
+            (piece.now ≡ []) ⊎ (connection_in number connections ≡ None) → IsOk result }
+        ensures config { self.new.config ≡ self.old.config }
+    {
+        let Some(index) = self.index_of(number) else {
+            return Ok(Reply::Ignored);
+        };
+        if piece.is_empty() {
+            return Ok(octets_reply(number, Vec::new(alloc), false));
+        }
+        let (institution, taken) = take_piece(alloc, &self.config, &mut self.slots, index, piece)?;
+        let close = taken.step.close;
+        let agreement = self.slots[index].association.agreement();
+        let octets = answer_taken(alloc, institution, agreement, taken, tables)?;
+        if close {
+            self.remove_at(index);
+        }
+        Ok(octets_reply(number, octets, close))
+    }
+
+    /// Ends a connection.
+    pub(crate) fn end(&mut self, number: u64) -> Reply
+        ensures turned { (world : World) →
+            AreHeld self.old.config self.old.slots.items world.connections →
+            Turned self.old.config (turn self.old.config world (Event.End number)) result
+            world.rows world.rows self.new.slots.items }
+        ensures config { self.new.config ≡ self.old.config }
+    {
+        match self.index_of(number) {
+            None => Reply::Ignored,
+            Some(index) => {
+                self.remove_at(index);
+                Reply::Done
+            }
+        }
+    }
 }
 
 /// How many connections an institution has open.
@@ -64,7 +156,7 @@ fn owner_of<'a>(config: &'a Config, slot: &Slot, pdus: &[Pdu]) -> Option<&'a Ins
     ensures { option_copied result ≡ owner_at config.now slot.now pdus.now }
 {
     match &slot.home {
-        Some(home) => config.institution(home.name.as_slice()),
+        Some(home) => config.institution(home.as_slice()),
         None => match pdus.first() {
             Some(Pdu::Request(request)) => config.route(&request.called, &request.calling),
             _ => None,
@@ -91,21 +183,6 @@ fn verdict_for(institution: Option<&Institution>, slots: &[Slot]) -> Verdict
         None => Verdict::Nowhere,
         Some(institution) => verdict_of(institution, slots),
     }
-}
-
-/// Opens a connection.
-pub(crate) fn open_connection(
-    alloc: Global,
-    slots: &mut Vec<Slot>,
-    number: u64,
-) -> Result<Reply, AllocError>
-    ensures { (institutions : List Institution) (world : World) →
-        AreHeld institutions slots.old.items world.connections → IfOk result (λ reply.
-        Turned institutions (turn institutions world (Event.Open number)) reply
-        world.rows world.rows slots.new.items) }
-{
-    slots.push(Slot::new(alloc, number))?;
-    Ok(Reply::Done)
 }
 
 /// Takes a piece on the connection that has the slot at an index: gives the institution that has
@@ -143,68 +220,36 @@ fn take_piece<'a>(
     Ok((institution, taken))
 }
 
-/// Answers what was taken for the institution that has the connection, if one has.
+/// Answers what was taken: by the institution that has the connection, where one has and something
+/// is agreed on it.
 fn answer_taken<T: Tables>(
     alloc: Global,
     institution: Option<&Institution>,
-    home: Option<&Home>,
+    agreement: Option<&Agreement>,
     taken: Taken,
     tables: &mut T,
 ) -> Result<Vec<u8>, Fault>
-    ensures goes { Goes T.honest T.failed tables.old tables.new result }
-    ensures does { T.honest tables.new → IfOk result (λ octets.
+    ensures goes { Goes (T.state tables.old) (T.state tables.new) result }
+    ensures does { (T.state tables.new).honest → IfOk result (λ octets.
         Did (option_copied institution.entry) (answer_of (option_copied institution.entry)
-        (T.rows tables.old) (option_copied home.entry) taken)
-        (T.rows tables.old) (T.rows tables.new) [] octets.items) }
-    ensures stops { T.honest tables.new → OnErr result (
+        (T.state tables.old).rows (option_copied agreement.entry) taken)
+        (T.state tables.old).rows (T.state tables.new).rows [] octets.items) }
+    ensures stops { (T.state tables.new).honest → OnErr result (
         DidPart (option_copied institution.entry) (answer_of (option_copied institution.entry)
-        (T.rows tables.old) (option_copied home.entry) taken)
-        (T.rows tables.old) (T.rows tables.new)) }
+        (T.state tables.old).rows (option_copied agreement.entry) taken)
+        (T.state tables.old).rows (T.state tables.new).rows
+        (MayLeave (T.state tables.old) (T.state tables.new))) }
     ensures fault { IfErr result (λ fault. fault ≢ Fault.Stopped) }
 {
-    match institution {
-        Some(institution) => answer(alloc, institution, home, taken, tables),
-        None => Ok(answer_stranger(taken)?),
-    }
-}
-
-/// Answers a piece, and ends the connection where the answer closes it.
-pub(crate) fn answer_piece<T: Tables>(
-    alloc: Global,
-    config: &Config,
-    slots: &mut Vec<Slot>,
-    tables: &mut T,
-    number: u64,
-    piece: &[u8],
-) -> Result<Reply, Fault>
-    ensures goes { Goes T.honest T.failed tables.old tables.new result }
-    ensures turned { (world : World) → AreHeld config.now slots.old.items world.connections →
-        T.rows tables.old ≡ world.rows → T.honest tables.new → IfOk result (λ reply.
-        Turned config.now (turn config.now world (Event.Piece number piece.now)) reply
-        world.rows (T.rows tables.new) slots.new.items) }
-    ensures part { (world : World) → AreHeld config.now slots.old.items world.connections →
-        T.rows tables.old ≡ world.rows → T.honest tables.new → OnErr result (
-        IsPartOf (turn config.now world (Event.Piece number piece.now)).operations
-        world.rows (T.rows tables.new)) }
-    ensures fault { IfErr result (λ fault. fault ≢ Fault.Stopped) }
-    ensures quiet { (connections : List Connection) →
-        AreHeld config.now slots.old.items connections →
-        (piece.now ≡ []) ⊎ (connection_in number connections ≡ None) → IsOk result }
-{
-    let Some(index) = index_of(slots, number) else {
-        return Ok(Reply::Ignored);
+    let (Some(institution), Some(agreement)) = (institution, agreement) else {
+        return Ok(answer_unserved(taken)?);
     };
-    if piece.is_empty() {
-        return Ok(octets_reply(number, Vec::new(alloc), false));
-    }
-    let (institution, taken) = take_piece(alloc, config, slots, index, piece)?;
-    let close = taken.step.close;
-    let home = slots[index].home.as_ref();
-    let octets = answer_taken(alloc, institution, home, taken, tables)?;
-    if close {
-        remove_at(slots, index);
-    }
-    Ok(octets_reply(number, octets, close))
+    let provider = Provider {
+        alloc,
+        institution,
+        agreement,
+    };
+    provider.answer(taken, tables)
 }
 
 fn octets_reply(number: u64, octets: Vec<u8>, close: bool) -> Reply
@@ -214,21 +259,5 @@ fn octets_reply(number: u64, octets: Vec<u8>, close: bool) -> Reply
         conn: number,
         octets: Listed::from_inner(octets),
         close,
-    }
-}
-
-/// Ends a connection.
-pub(crate) fn end_connection(slots: &mut Vec<Slot>, number: u64) -> Reply
-    ensures { (institutions : List Institution) (world : World) →
-        AreHeld institutions slots.old.items world.connections →
-        Turned institutions (turn institutions world (Event.End number)) result
-        world.rows world.rows slots.new.items }
-{
-    match index_of(slots, number) {
-        None => Reply::Ignored,
-        Some(index) => {
-            remove_at(slots, index);
-            Reply::Done
-        }
     }
 }

@@ -19,6 +19,17 @@ pub enum Fault {
     Stopped = 3,
 }
 
+impl Fault {
+    ghost use Rattle.dq_core.specs.Faults.{number_of};
+
+    /// 1 to 3, in the order in which the faults are declared.
+    pub fn number(self) -> u8
+        ensures { result ≡ number_of self }
+    {
+        self as u8
+    }
+}
+
 impl From<AllocError> for Fault {
     ghost from_gives = { λ _ e. e ≡ NoMemory };
 

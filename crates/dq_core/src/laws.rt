@@ -1,6 +1,6 @@
 //! Laws of the plain server. Each function's contract is a law; its body does nothing.
 
-ghost use Rattle.std.specs.Prelude.{◌≡◌, ◌≤◌, ◌⊎◌, ◌↔◌, ℕ, Bool, false, IsTrue, Ok, List, [], ◌∷◌, ◌++◌, length, take, filter, Contains, Option, Some, None};
+ghost use Rattle.std.specs.Prelude.{◌≡◌, ◌≤◌, ◌⊎◌, ◌↔◌, ℕ, Bool, false, IsTrue, Ok, List, [], ◌∷◌, ◌++◌, length, take, filter, map, Contains, Option, Some, None};
 ghost use Rattle.dq_pdu.specs.declared.pdu.Request.{Request};
 ghost use Rattle.dq_assoc.specs.declared.association.Verdict.{Verdict};
 ghost use Rattle.dq_assoc.specs.Inputs.{inputs};
@@ -16,7 +16,7 @@ ghost use Rattle.dq_core.specs.Shared.{turn, replies, world_after, rows_within};
 ghost use Rattle.dq_core.specs.Alone.{alone_replies, alone_after, records_within};
 ghost use Rattle.dq_core.specs.Own.{is_own, own, is_on_connection, stream_of, replies_at};
 ghost use Rattle.dq_core.specs.Histories.{is_well_formed, opened_numbers};
-ghost use Rattle.dq_core.specs.Runs.{IsRun, IsOwnRun};
+ghost use Rattle.dq_core.specs.Runs.{IsRun, IsLeftOf, IsOwnRun};
 ghost use Rattle.dq_core.specs.declared.event.Reply.{Reply};
 ghost use Rattle.dq_core.specs.Accepted.{AreOpen};
 ghost use Rattle.dq_core.specs.Connections.{Connection, connection_in};
@@ -24,6 +24,7 @@ ghost use Rattle.std.specs.List.Sorted.{IsStrictlyIncreasing};
 ghost use Rattle.dq_assoc.specs.declared.association.State.TheVariants.{Waiting, Open};
 ghost use Rattle.dq_assoc.specs.Table.{Requested, line};
 ghost use Rattle.dq_core.specs.Isolation.{own_replies, stranger_replies, Begins, Agree, IsPrefix};
+ghost use Rattle.dq_core.specs.Renumbering.{KeepsOrder, renumbered, renumbered_reply, AgreeButForNumbers};
 ghost use Rattle.dq_dataset.specs.Tree.{ElementList};
 ghost use Rattle.dq_dimse.specs.declared.command.Message.{Message};
 ghost use Rattle.dq_dimse.specs.Statuses.{success};
@@ -34,11 +35,21 @@ ghost use Rattle.dq_assoc.specs.Classes.{service_of};
 ghost use Rattle.dq_find.specs.declared.query.Query.{Query};
 ghost use Rattle.dq_find.specs.Queries as study;
 ghost use Rattle.dq_worklist.specs.Queries as worklist;
-ghost use Rattle.dq_core.specs.Services.{refusal_for, outcome_on};
+ghost use Rattle.dq_core.specs.Services.{Response, refusal_for, outcome_on, served};
+ghost use Rattle.dq_core.specs.Searches.{Succeeds, ArePending, Brings, HasResponses};
+ghost use Rattle.dq_find.specs.Answers as study_answers;
+ghost use Rattle.dq_worklist.specs.Answers as worklist_answers;
+ghost use Rattle.dq_tables.specs.Sound.{IsSound};
+ghost use Rattle.dq_core.specs.Shared.{World};
+ghost use Rattle.dq_core.specs.Standing.{Standing};
+ghost use Rattle.dq_core.specs.Looking.{Looked};
 
 use dq_assoc::laws::{a_longer_stream_adds_inputs, the_last_input_closes};
 use dq_config::laws::a_name_is_of_one;
+use dq_find::laws::answers_are_the_matching_records_in_order as study_answers_in_order;
+use dq_tables::Tables;
 use dq_tables::laws::{other_records_stay, own_records_are_edited, rows_stay_in_order};
+use dq_worklist::laws::answers_are_the_matching_records_in_order as worklist_answers_in_order;
 
 /// The replies to a history are the replies to each event in turn: there is one for each event, and
 /// what comes later does not change it.
@@ -283,3 +294,146 @@ pub fn runs_are_isolated()
     other_records_stay();
     rows_stay_in_order();
 }
+
+/// Nothing depends on how connections are numbered. Where each has another number, in the same
+/// order, the replies are for the connections under these and are otherwise the same, the rows are
+/// the same, and so is whose each event is; likewise for the server of one institution alone.
+pub fn replies_do_not_depend_on_numbers()
+    ensures replies { (institutions : List Institution) (rows : List Row) (events : List Event)
+        (another : ℕ → ℕ) → KeepsOrder another →
+        replies institutions rows (map (renumbered another) events)
+        ≡ map (renumbered_reply another) (replies institutions rows events) }
+    ensures rows { (institutions : List Institution) (rows : List Row) (events : List Event)
+        (another : ℕ → ℕ) → KeepsOrder another →
+        (world_after institutions rows (map (renumbered another) events)).rows
+        ≡ (world_after institutions rows events).rows }
+    ensures well_formed { (events : List Event) (another : ℕ → ℕ) → KeepsOrder another →
+        is_well_formed (map (renumbered another) events) ≡ is_well_formed events }
+    ensures own { (institutions : List Institution) (name : List ℕ) (events : List Event)
+        (another : ℕ → ℕ) → KeepsOrder another →
+        own institutions name (map (renumbered another) events)
+        ≡ map (renumbered another) (own institutions name events) }
+    ensures own_replies { (institutions : List Institution) (name : List ℕ) (events : List Event)
+        (given : List Reply) (another : ℕ → ℕ) → KeepsOrder another →
+        let anew = map (renumbered another) events in
+        replies_at (is_own institutions name anew) anew (map (renumbered_reply another) given)
+        ≡ map (renumbered_reply another)
+        (replies_at (is_own institutions name events) events given) }
+    ensures alone { (limits : Limits) (records : List Record) (events : List Event)
+        (another : ℕ → ℕ) → KeepsOrder another →
+        alone_replies limits records (map (renumbered another) events)
+        ≡ map (renumbered_reply another) (alone_replies limits records events) }
+    ensures alone_records { (limits : Limits) (records : List Record) (events : List Event)
+        (another : ℕ → ℕ) → KeepsOrder another →
+        (alone_after limits records (map (renumbered another) events)).records
+        ≡ (alone_after limits records events).records }
+{}
+
+/// Isolation speaks of a server that numbers connections as they come, whoever opens them. Two
+/// histories that agree for an institution but for the numbers of its connections have the same
+/// replies at its own events, but for these numbers, and leave it the same records. Of the replies
+/// at its own events in two runs that a fault may end, one list begins with the other, but for
+/// these numbers.
+pub fn isolation_by_any_number()
+    ensures replies { (institutions others : List Institution) (rows other_rows : List Row)
+        (events other_events : List Event) (i j : Institution) (anew other_anew : ℕ → ℕ) →
+        Begins institutions rows events i → Begins others other_rows other_events j →
+        AgreeButForNumbers institutions others rows other_rows events other_events i j
+        anew other_anew →
+        map (renumbered_reply anew) (replies_at (is_own institutions i.name events) events
+        (replies institutions rows events))
+        ≡ map (renumbered_reply other_anew) (replies_at (is_own others j.name other_events)
+        other_events (replies others other_rows other_events)) }
+    ensures records { (institutions others : List Institution) (rows other_rows : List Row)
+        (events other_events : List Event) (i j : Institution) (anew other_anew : ℕ → ℕ) →
+        Begins institutions rows events i → Begins others other_rows other_events j →
+        AgreeButForNumbers institutions others rows other_rows events other_events i j
+        anew other_anew →
+        of i.name (world_after institutions rows events).rows
+        ≡ of j.name (world_after others other_rows other_events).rows }
+    ensures runs { (institutions others : List Institution) (rows other_rows : List Row)
+        (events other_events : List Event) (i j : Institution) (anew other_anew : ℕ → ℕ)
+        (given other_given : List Reply) (kept other_kept : List Row) →
+        IsRun institutions rows events given kept →
+        IsRun others other_rows other_events other_given other_kept →
+        Begins institutions rows events i → Begins others other_rows other_events j →
+        AgreeButForNumbers institutions others rows other_rows events other_events i j
+        anew other_anew →
+        let some = map (renumbered_reply anew)
+        (replies_at (is_own institutions i.name events) events given) in
+        let more = map (renumbered_reply other_anew)
+        (replies_at (is_own others j.name other_events) other_events other_given) in
+        IsPrefix some more ⊎ IsPrefix more some }
+{
+    a_longer_stream_adds_inputs();
+    own_records_are_edited();
+    other_records_stay();
+    rows_stay_in_order();
+}
+
+/// Whatever a crash leaves after a run, the rows are those after all events that were answered and
+/// the first operations of the next one, so that they are a run's rows themselves: each
+/// institution's are those of its server alone. A further history may begin from them, with no
+/// connection held, and is isolated again.
+pub fn what_a_crash_leaves()
+    ensures run { (institutions : List Institution) (rows : List Row) (events : List Event)
+        (given : List Reply) (kept left : List Row) → IsRun institutions rows events given kept →
+        IsLeftOf institutions rows events given kept left →
+        IsRun institutions rows events given left }
+    ensures own { (institutions : List Institution) (rows : List Row) (events : List Event)
+        (given : List Reply) (kept left : List Row) → IsRun institutions rows events given kept →
+        IsLeftOf institutions rows events given kept left →
+        (i : Institution) → Begins institutions rows events i →
+        IsOwnRun institutions rows events i given left }
+    ensures again { (institutions : List Institution) (rows : List Row) (events : List Event)
+        (given : List Reply) (kept left : List Row) →
+        IsLeftOf institutions rows events given kept left →
+        (i : Institution) → Begins institutions rows events i →
+        (more : List Event) → IsTrue (is_well_formed more) → Begins institutions left more i }
+{
+    a_longer_stream_adds_inputs();
+    own_records_are_edited();
+    other_records_stay();
+    rows_stay_in_order();
+}
+
+/// The pending responses of a C-FIND that ends with 0000 are the answers to its query, each in its
+/// own response, in the order of the records' keys: what is told of the records that match, over
+/// the rows that there are as the message is served. In the reply to the piece that brings the
+/// message, the octets of its responses stand one after the other.
+pub fn searches_end_with_their_answers()
+    ensures studies { (institution : List ℕ) (rows : List Row) (limits : Limits)
+        (agreement : Agreement) (message : Message) (context : AgreedContext)
+        (pendings : List Response) → IsSound rows → service_of context.class ≡ StudyRootFind →
+        Succeeds limits (of institution rows) agreement message context pendings →
+        (query : Query) × (study.query_of message context.syntax ≡ Ok query)
+        × (answers : List ElementList)
+        × study_answers.AreAnswers (of institution rows) agreement.called query answers
+        × ArePending context message.command query.optional answers pendings }
+    ensures entries { (institution : List ℕ) (rows : List Row) (limits : Limits)
+        (agreement : Agreement) (message : Message) (context : AgreedContext)
+        (pendings : List Response) → IsSound rows → service_of context.class ≡ WorklistFind →
+        Succeeds limits (of institution rows) agreement message context pendings →
+        (keys : ElementList) × (optional : Bool) × (worklist.query_of message context.syntax
+        ≡ Ok (record { keys = keys; optional = optional }))
+        × (answers : List ElementList)
+        × worklist_answers.AreAnswers (of institution rows) keys answers
+        × ArePending context message.command optional answers pendings }
+    ensures in_reply { (institutions : List Institution) (world : World) (c : Connection)
+        (piece : List ℕ) (i : Institution) (agreement : Agreement) (records : List Record)
+        (message : Message) → connection_in c.number world.connections ≡ Some c →
+        Brings institutions world c piece i agreement records message →
+        HasResponses c.number message.context agreement.limit
+        (served (limits_of i) records agreement message).responses
+        (turn institutions world (Event.Piece c.number piece)).reply }
+{
+    study_answers_in_order();
+    worklist_answers_in_order();
+}
+
+/// Two looks at a server are as one, and no look is as one.
+pub fn looks_are_one_look<T: Tables>()
+    ensures no_look { (server : Standing T) → Looked T.state server server }
+    ensures another { (old mid new : Standing T) → Looked T.state old mid →
+        Looked T.state mid new → Looked T.state old new }
+{}

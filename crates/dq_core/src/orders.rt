@@ -32,7 +32,7 @@ pub(crate) fn schedule_entry<T: Tables>(
     octets: &[u8],
     tables: &mut T,
 ) -> Result<Reply, Fault>
-    ensures orders { Orders T.rows T.honest T.failed tables.old tables.new
+    ensures orders { Orders (T.state tables.old) (T.state tables.new)
         (named config.now name.now) (Scheduling octets.now) result }
     ensures fault { IfErr result (λ fault. fault ≢ Fault.Stopped) }
 {
@@ -54,7 +54,7 @@ pub(crate) fn withdraw_entry<T: Tables>(
     id: &[u8],
     tables: &mut T,
 ) -> Result<Reply, Fault>
-    ensures orders { Orders T.rows T.honest T.failed tables.old tables.new
+    ensures orders { Orders (T.state tables.old) (T.state tables.new)
         (named config.now name.now) (Withdrawal id.now) result }
     ensures fault { IfErr result (λ fault. fault ≢ Fault.Stopped) }
 {

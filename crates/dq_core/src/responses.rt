@@ -54,34 +54,6 @@ fn response_command(
     })
 }
 
-/// Adds a response with a status, and with a data set where there is one.
-fn respond(
-    alloc: Global,
-    asked: Asked,
-    status: u16,
-    data_set: Option<&[u8]>,
-    out: &mut Vec<u8>,
-) -> Result<(), AllocError>
-    ensures { OnOk result (out.new.items ≡ out.old.items
-        ++ response_octets asked.entry.message.now.context asked.entry.agreement.now.limit
-        (response asked.entry.context.class asked.entry.message.now.command status
-        (option_map (λ o. o.now) data_set.entry))) }
-{
-    let message = asked.message;
-    let limit = &asked.agreement.limit;
-    let with_data = data_set.is_some();
-    let response = response_command(
-        alloc,
-        asked.context.class,
-        &message.command,
-        status,
-        with_data,
-    )?;
-    let octets = write_message(alloc, message.context, &response, data_set, limit.octets())?;
-    out.extend_from_slice(octets.as_slice())?;
-    Ok(())
-}
-
 /// The status of the responses before the last (PS3.4 section C.4.1.1.4).
 fn pending_status(optional: bool) -> u16
     ensures { result ≡ pending_status optional }
@@ -103,38 +75,60 @@ fn answer_octets(alloc: Global, answer: &DataSet, syntax: Syntax) -> Result<Vec<
     write(alloc, answer, syntax)
 }
 
-/// Adds a response for each answer, in order.
-fn respond_pending(
-    alloc: Global,
-    asked: Asked,
-    found: &Found,
-    out: &mut Vec<u8>,
-) -> Result<(), AllocError>
-    ensures { OnOk result (out.new.items ≡ out.old.items
-        ++ flat_map
-        (response_octets asked.entry.message.now.context asked.entry.agreement.now.limit)
-        (pending_responses asked.entry.context asked.entry.message.now.command found.now)) }
-{
-    let status = pending_status(found.optional);
-    for answer in found.answers.as_slice() {
-        let octets = answer_octets(alloc, answer, asked.context.syntax)?;
-        respond(alloc, asked, status, Some(octets.as_slice()), out)?;
+impl Asked<'_> {
+    /// Adds a response with a status, and with a data set where there is one.
+    fn respond(
+        self,
+        status: u16,
+        data_set: Option<&[u8]>,
+        out: &mut Vec<u8>,
+    ) -> Result<(), AllocError>
+        ensures { OnOk result (out.new.items ≡ out.old.items
+            ++ response_octets self.entry.message.now.context
+            self.entry.provider.agreement.now.limit
+            (response self.entry.context.class self.entry.message.now.command status
+            (option_map (λ o. o.now) data_set.entry))) }
+    {
+        let Asked {
+            provider,
+            context,
+            message,
+        } = self;
+        let alloc = provider.alloc;
+        let limit = &provider.agreement.limit;
+        let with_data = data_set.is_some();
+        let response = response_command(alloc, context.class, &message.command, status, with_data)?;
+        let octets = write_message(alloc, message.context, &response, data_set, limit.octets())?;
+        out.extend_from_slice(octets.as_slice())?;
+        Ok(())
     }
-    Ok(())
-}
 
-/// Adds the responses with the answers, and then the one with the status.
-pub(crate) fn respond_all(
-    alloc: Global,
-    asked: Asked,
-    found: &Found,
-    out: &mut Vec<u8>,
-) -> Result<(), AllocError>
-    ensures { OnOk result (out.new.items ≡ out.old.items
-        ++ flat_map
-        (response_octets asked.entry.message.now.context asked.entry.agreement.now.limit)
-        (responses asked.entry.context asked.entry.message.now.command found.now)) }
-{
-    respond_pending(alloc, asked, found, out)?;
-    respond(alloc, asked, found.status, None, out)
+    /// Adds a response for each answer, in order.
+    fn respond_pending(self, found: &Found, out: &mut Vec<u8>) -> Result<(), AllocError>
+        ensures { OnOk result (out.new.items ≡ out.old.items
+            ++ flat_map
+            (response_octets self.entry.message.now.context
+            self.entry.provider.agreement.now.limit)
+            (pending_responses self.entry.context self.entry.message.now.command found.now)) }
+    {
+        let alloc = self.provider.alloc;
+        let status = pending_status(found.optional);
+        for answer in found.answers.as_slice() {
+            let octets = answer_octets(alloc, answer, self.context.syntax)?;
+            self.respond(status, Some(octets.as_slice()), out)?;
+        }
+        Ok(())
+    }
+
+    /// Adds the responses with the answers, and then the one with the status.
+    pub(crate) fn respond_all(self, found: &Found, out: &mut Vec<u8>) -> Result<(), AllocError>
+        ensures { OnOk result (out.new.items ≡ out.old.items
+            ++ flat_map
+            (response_octets self.entry.message.now.context
+            self.entry.provider.agreement.now.limit)
+            (responses self.entry.context self.entry.message.now.command found.now)) }
+    {
+        self.respond_pending(found, out)?;
+        self.respond(found.status, None, out)
+    }
 }

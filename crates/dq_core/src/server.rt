@@ -1,7 +1,8 @@
-ghost use Rattle.std.specs.Prelude.{◌≡◌, ◌≢◌, ◌<◌, ◌↔◌, ℕ, List, ◌∷◌, [], ◌++◌, length, take, filter, Contains, Some, None, true, false, IsTrue, is_some, IsOk, IfOk, OnOk, IfErr, OnErr, IsErrOf, MatchResult};
+ghost use Rattle.std.specs.Prelude.{◌≡◌, ◌≢◌, ◌<◌, ◌≤◌, ◌↔◌, ℕ, vec_capacity, List, ◌∷◌, [], ◌++◌, length, take, filter, Contains, Some, None, true, false, IsTrue, is_some, IsOk, IfOk, OnOk, IfErr, OnErr, IsErrOf, MatchResult};
 ghost use Rattle.dq_config.specs.declared.config.Institution.{Institution};
 ghost use Rattle.dq_tables.specs.declared.row.Row.{Row};
 ghost use Rattle.dq_config.specs.Limits.{limits_of};
+ghost use Rattle.dq_tables.specs.Keeping.{IsSettled};
 ghost use Rattle.dq_tables.specs.Rows.{of};
 ghost use Rattle.dq_core.specs.Connections.{connection_in};
 ghost use Rattle.dq_core.specs.Shared.{World, turn, world_after, replies};
@@ -9,21 +10,22 @@ ghost use Rattle.dq_core.specs.Alone.{alone_replies, alone_after};
 ghost use Rattle.dq_core.specs.Owners.{owner};
 ghost use Rattle.dq_core.specs.Own.{is_own, own, is_on_connection, stream_of, replies_at};
 ghost use Rattle.dq_core.specs.Isolation.{stranger_replies};
-ghost use Rattle.dq_core.specs.Runs.{IsRun, IsOwnRun};
+ghost use Rattle.dq_core.specs.Runs.{IsRun, IsLeftOf, FaultsAfter, IsOwnRun};
 ghost use Rattle.dq_core.specs.Histories.{is_above, newest_after, rises_from, is_well_formed};
-ghost use Rattle.dq_core.specs.Doing.{Goes, IsPartOf};
+ghost use Rattle.dq_core.specs.Stepping.{Opens, TakesNoMemory, Goes, MayLeave, IsPartOf};
 ghost use Rattle.dq_core.specs.Slots.{AreHeld, Turned};
-ghost use Rattle.dq_core.specs.Standing.{StandsFor, Opens, TakesNoMemory};
+ghost use Rattle.dq_core.specs.Standing.{StandsFor};
+ghost use Rattle.dq_tables.specs.Finding.{rows_of};
+ghost use Rattle.dq_core.specs.Looking.{Looked, FailsToLook};
 
-use crate::connections::{answer_piece, end_connection, is_held, open_connection};
+use crate::connections::Connections;
 use crate::event::{Event, Reply};
 use crate::fault::Fault;
 use crate::laws::{institutions_are_isolated, institutions_have_own_names, runs_are_isolated};
 use crate::orders::{schedule_entry, withdraw_entry};
-use crate::slot::Slot;
-use dq_config::Config;
+use dq_config::{Config, Institution};
 use dq_list::Listed;
-use dq_tables::Tables;
+use dq_tables::{Kind, Tables};
 use std::alloc::Global;
 use std::marker::Model;
 
@@ -31,9 +33,8 @@ use std::marker::Model;
 #[derive(Debug, Drop)]
 pub struct Server<T> {
     alloc: Global,
-    config: Config,
+    connections: Connections,
     tables: T,
-    slots: Vec<Slot>,
     newest: Option<u64>,
     spent: bool,
 }
@@ -44,9 +45,9 @@ impl<T> Model for Server<T> {
     ghost Value = { Standing T };
 
     ghost view = { λ a. record {
-      institutions = a.config;
+      institutions = a.connections.config;
       tables = a.tables;
-      slots = a.slots.items;
+      slots = a.connections.slots.items;
       newest = a.newest;
       spent = a.spent;
     } };
@@ -64,17 +65,16 @@ impl<T: Tables> Server<T> {
     /// A server that holds no connection, over the rows that are there. The only fault is want of
     /// memory.
     pub fn new(alloc: Global, config: Config, tables: T) -> Result<Self, Fault>
-        requires { T.failed tables ≡ false }
-        ensures stands { IfOk result (λ server. StandsFor T.rows (T.rows tables) server []) }
+        requires { (T.state tables).failed ≡ false }
+        ensures stands { IfOk result (λ server. StandsFor T.state (T.state tables).rows server []) }
         ensures institutions { IfOk result (λ server. server.institutions ≡ config) }
         ensures tables { IfOk result (λ server. server.tables ≡ tables) }
         ensures fault { IfErr result (λ fault. fault ≡ Fault.NoMemory) }
     {
         Ok(Server {
             alloc,
-            config,
+            connections: Connections::new(alloc, config),
             tables,
-            slots: Vec::new(alloc),
             newest: None,
             spent: false,
         })
@@ -89,11 +89,18 @@ impl<T: Tables> Server<T> {
 
     /// Whether a connection is held under a number: it was opened, and neither ended nor closed.
     pub fn holds(&self, number: u64) -> bool
-        ensures { (rows : List Row) (events : List Event) → StandsFor T.rows rows self.now events →
+        ensures { (rows : List Row) (events : List Event) → StandsFor T.state rows self.now events →
             let world = world_after self.now.institutions rows events in
             result ≡ is_some (connection_in number world.connections) }
     {
-        is_held(self.slots.as_slice(), number)
+        self.connections.is_held(number)
+    }
+
+    /// The institutions that share the server, in the order of the configuration.
+    pub fn institutions(&self) -> &[Institution]
+        ensures { result.now ≡ self.now.institutions }
+    {
+        self.connections.config.institutions()
     }
 
     /// What keeps the rows.
@@ -109,9 +116,8 @@ impl<T: Tables> Server<T> {
     {
         let Server {
             alloc: _,
-            config: _,
+            connections: _,
             tables,
-            slots: _,
             newest: _,
             spent: _,
         } = self;
@@ -123,28 +129,35 @@ impl<T: Tables> Server<T> {
         requires { Opens self.old.newest event }
         // Whatever history the server stands for, the reply is that of the plain server.
         ensures reply { (rows : List Row) (events : List Event) →
-            StandsFor T.rows rows self.old events → T.honest self.new.tables →
+            StandsFor T.state rows self.old events → (T.state self.new.tables).honest →
             IfOk result (λ reply. reply ≡ (turn self.old.institutions
             (world_after self.old.institutions rows events) event).reply) }
         ensures stands { (rows : List Row) (events : List Event) →
-            StandsFor T.rows rows self.old events → T.honest self.new.tables →
-            OnOk result (StandsFor T.rows rows self.new (events ++ event ∷ [])) }
-        // At a fault the first of the event's operations were made.
+            StandsFor T.state rows self.old events → (T.state self.new.tables).honest →
+            OnOk result (StandsFor T.state rows self.new (events ++ event ∷ [])) }
+        // At a fault the first of the event's operations were made. A crash may leave no others,
+        // but for the next one.
         ensures part { (rows : List Row) (events : List Event) →
-            StandsFor T.rows rows self.old events → T.honest self.new.tables →
+            StandsFor T.state rows self.old events → (T.state self.new.tables).honest →
             OnErr result (let world = world_after self.old.institutions rows events in
             IsPartOf (turn self.old.institutions world event).operations world.rows
-            (T.rows self.new.tables)) }
+            (T.state self.new.tables).rows
+            (MayLeave (T.state self.old.tables) (T.state self.new.tables))) }
         // An end, a piece for a number that is not held, and an empty piece take no memory, and
         // leave the tables alone.
         ensures quiet { (rows : List Row) (events : List Event) →
-            StandsFor T.rows rows self.old events →
+            StandsFor T.state rows self.old events →
             TakesNoMemory (world_after self.old.institutions rows events).connections event →
             IsOk result }
         ensures institutions { self.new.institutions ≡ self.old.institutions }
         ensures newest { OnOk result (self.new.newest ≡ newest_after self.old.newest (event ∷ [])) }
         ensures unspent { OnOk result (self.new.spent ≡ false) }
-        ensures goes { Goes T.honest T.failed self.old.tables self.new.tables result }
+        ensures goes { Goes (T.state self.old.tables) (T.state self.new.tables) result }
+        // Store is answered only where the tables failed in this step.
+        ensures store { (rows : List Row) (events : List Event) →
+            StandsFor T.state rows self.old events → IsErrOf result Fault.Store →
+            ((T.state self.old.tables).failed ≡ false)
+            × ((T.state self.new.tables).failed ≡ true) }
         ensures stopped { IsErrOf result Fault.Stopped ↔ (self.old.spent ≡ true) }
         ensures unchanged { self.old.spent ≡ true → self.new ≡ self.old }
         ensures fault { OnErr result (self.new.spent ≡ true) }
@@ -155,27 +168,58 @@ impl<T: Tables> Server<T> {
         match self.turn(event) {
             Ok(reply) => Ok(reply),
             Err(fault) => {
-                self.slots.clear();
-                self.spent = true;
+                self.spend();
                 Err(fault)
             }
         }
     }
 
+    /// How many rows of a kind the institution of a name has. It is no event, and changes nothing.
+    /// After a fault, of a step or of a count, every count is answered Stopped.
+    pub fn count(&mut self, kind: Kind, name: &[u8]) -> Result<u64, Fault>
+        ensures found { (T.state self.new.tables).honest → IfOk result (λ number.
+            number ≡ length (rows_of kind name.now (T.state self.old.tables).rows)) }
+        ensures looked { OnOk result (Looked T.state self.old self.new) }
+        ensures fails { IfErr result (FailsToLook T.state self.old self.new) }
+    {
+        if self.spent {
+            Err(Fault::Stopped)
+        } else {
+            match self.tables.count(self.alloc, kind, name) {
+                Ok(number) => Ok(number),
+                Err(fault) => {
+                    self.spend();
+                    Err(Fault::from(fault))
+                }
+            }
+        }
+    }
+
+    /// Lets the connections go. From then on nothing is answered.
+    fn spend(&mut self)
+        ensures spent { self.new.spent ≡ true }
+        ensures keeps { (self.new.institutions ≡ self.old.institutions)
+            × (self.new.tables ≡ self.old.tables) × (self.new.newest ≡ self.old.newest) }
+    {
+        self.connections.slots.clear();
+        self.spent = true;
+    }
+
     /// Does what an event asks for.
     fn turn(&mut self, event: Event) -> Result<Reply, Fault>
-        ensures goes { Goes T.honest T.failed self.old.tables self.new.tables result }
+        ensures goes { Goes (T.state self.old.tables) (T.state self.new.tables) result }
         ensures turned { (world : World) →
             AreHeld self.old.institutions self.old.slots world.connections →
-            T.rows self.old.tables ≡ world.rows → T.honest self.new.tables →
+            (T.state self.old.tables).rows ≡ world.rows → (T.state self.new.tables).honest →
             IfOk result (λ reply. Turned self.old.institutions
-            (turn self.old.institutions world event) reply world.rows (T.rows self.new.tables)
+            (turn self.old.institutions world event) reply world.rows (T.state self.new.tables).rows
             self.new.slots) }
         ensures part { (world : World) →
             AreHeld self.old.institutions self.old.slots world.connections →
-            T.rows self.old.tables ≡ world.rows → T.honest self.new.tables →
+            (T.state self.old.tables).rows ≡ world.rows → (T.state self.new.tables).honest →
             OnErr result (IsPartOf (turn self.old.institutions world event).operations world.rows
-            (T.rows self.new.tables)) }
+            (T.state self.new.tables).rows
+            (MayLeave (T.state self.old.tables) (T.state self.new.tables))) }
         ensures newest { OnOk result (self.new.newest ≡ newest_after self.old.newest (event ∷ [])) }
         ensures quiet { (world : World) →
             AreHeld self.old.institutions self.old.slots world.connections →
@@ -186,29 +230,26 @@ impl<T: Tables> Server<T> {
     {
         match event {
             Event::Open(number) => {
-                let reply = open_connection(self.alloc, &mut self.slots, number)?;
+                let reply = self.connections.open(self.alloc, number)?;
                 self.newest = Some(number);
                 Ok(reply)
             }
-            Event::Piece(number, piece) => answer_piece(
-                self.alloc,
-                &self.config,
-                &mut self.slots,
-                &mut self.tables,
-                number,
-                piece.as_slice(),
-            ),
-            Event::End(number) => Ok(end_connection(&mut self.slots, number)),
+            Event::Piece(number, piece) => {
+                let piece = piece.as_slice();
+                self.connections
+                    .answer_piece(self.alloc, &mut self.tables, number, piece)
+            }
+            Event::End(number) => Ok(self.connections.end(number)),
             Event::Schedule { inst, octets } => schedule_entry(
                 self.alloc,
-                &self.config,
+                &self.connections.config,
                 inst.as_slice(),
                 octets.as_slice(),
                 &mut self.tables,
             ),
             Event::Withdraw { inst, id } => withdraw_entry(
                 self.alloc,
-                &self.config,
+                &self.connections.config,
                 inst.as_slice(),
                 id.as_slice(),
                 &mut self.tables,
@@ -242,7 +283,7 @@ fn is_above(newest: Option<u64>, number: u64) -> bool
     }
 }
 
-/// Answers events in order up to a fault, and adds the replies.
+/// Answers events in order up to a fault, and adds the replies, for which there is room.
 fn answer_all<T: Tables>(
     server: &mut Server<T>,
     events: Vec<Event>,
@@ -251,17 +292,28 @@ fn answer_all<T: Tables>(
     requires formed { IsTrue (rises_from server.old.newest events.items) }
     requires unspent { server.old.spent ≡ false }
     requires empty { given.old.items ≡ [] }
-    ensures ran { (rows : List Row) → StandsFor T.rows rows server.old [] →
-        T.honest server.new.tables →
-        IsRun server.old.institutions rows events.items given.new.items (T.rows server.new.tables) }
-    ensures whole { (rows : List Row) → StandsFor T.rows rows server.old [] →
-        T.honest server.new.tables →
-        OnOk result (StandsFor T.rows rows server.new events.items) }
+    requires room { length events.items ≤ vec_capacity given.old }
+    ensures ran { (rows : List Row) → StandsFor T.state rows server.old [] →
+        (T.state server.new.tables).honest →
+        IsRun server.old.institutions rows events.items given.new.items
+        (T.state server.new.tables).rows }
+    ensures faulted { (rows : List Row) → StandsFor T.state rows server.old [] →
+        (T.state server.new.tables).honest →
+        OnErr result (FaultsAfter server.old.institutions rows events.items
+        (length given.new.items)) }
+    ensures crash { (rows : List Row) → StandsFor T.state rows server.old [] →
+        (T.state server.new.tables).honest → OnErr result (IsSettled (T.state server.old.tables) →
+        (r : List Row) → (T.state server.new.tables).may_leave r →
+        IsLeftOf server.old.institutions rows events.items given.new.items
+        (T.state server.new.tables).rows r) }
+    ensures whole { (rows : List Row) → StandsFor T.state rows server.old [] →
+        (T.state server.new.tables).honest →
+        OnOk result (StandsFor T.state rows server.new events.items) }
     ensures count { MatchResult result
         (λ _. length given.new.items ≡ length events.items)
         (λ fault. (length given.new.items < length events.items) × (fault ≢ Fault.Stopped)) }
     ensures institutions { server.new.institutions ≡ server.old.institutions }
-    ensures goes { Goes T.honest T.failed server.old.tables server.new.tables result }
+    ensures goes { Goes (T.state server.old.tables) (T.state server.new.tables) result }
 {
     for event in events {
         let reply = server.step(event)?;
@@ -270,10 +322,10 @@ fn answer_all<T: Tables>(
     Ok(())
 }
 
-/// The replies to a whole history, and the rows after it. Where a fault stopped the run, the
-/// replies are those to the events before it, and the rows are those after these events and the
-/// first operations of the next. It is an error only where the server can't begin; the tables are
-/// then dropped.
+/// The replies to a whole history, and the rows after it. There is room for all replies before the
+/// first event, so that none is lost. Where a fault stopped the run, the replies are those to the
+/// events before it, and the rows are those after these events and the first operations of the
+/// next. It is an error only where there is no room to begin; the tables are then dropped.
 pub fn run<T: Tables + Drop>(
     alloc: Global,
     config: Config,
@@ -281,36 +333,53 @@ pub fn run<T: Tables + Drop>(
     events: Vec<Event>,
 ) -> Result<Outcome<T>, Fault>
     requires formed { IsTrue (is_well_formed events.items) }
-    requires sound { T.failed tables ≡ false }
-    ensures replies { IfOk result (λ outcome. T.honest outcome.tables → outcome.fault ≡ None →
-        outcome.replies ≡ replies config (T.rows tables) events.items) }
-    ensures rows { IfOk result (λ outcome. T.honest outcome.tables → outcome.fault ≡ None →
-        T.rows outcome.tables ≡ (world_after config (T.rows tables) events.items).rows) }
-    ensures ran { IfOk result (λ outcome. T.honest outcome.tables →
-        IsRun config (T.rows tables) events.items outcome.replies (T.rows outcome.tables)) }
+    requires sound { (T.state tables).failed ≡ false }
+    ensures replies { IfOk result (λ outcome. (T.state outcome.tables).honest →
+        outcome.fault ≡ None →
+        outcome.replies ≡ replies config (T.state tables).rows events.items) }
+    ensures rows { IfOk result (λ outcome. (T.state outcome.tables).honest →
+        outcome.fault ≡ None → (T.state outcome.tables).rows
+        ≡ (world_after config (T.state tables).rows events.items).rows) }
+    ensures ran { IfOk result (λ outcome. (T.state outcome.tables).honest →
+        IsRun config (T.state tables).rows events.items outcome.replies
+        (T.state outcome.tables).rows) }
+    // A fault came in the event after those that were answered, which is none that takes no memory.
+    ensures faulted { IfOk result (λ outcome. (T.state outcome.tables).honest →
+        outcome.fault ≢ None →
+        FaultsAfter config (T.state tables).rows events.items (length outcome.replies)) }
     ensures stopped { IfOk result (λ outcome. outcome.fault ≢ None →
         length outcome.replies < length events.items) }
     ensures answered { IfOk result (λ outcome. outcome.fault ≡ None →
         length outcome.replies ≡ length events.items) }
+    // Where a crash could leave the tables' rows alone as the run began, after it a crash leaves
+    // its rows alone, but for the next operation where a fault came.
+    ensures settled { IfOk result (λ outcome. (T.state outcome.tables).honest →
+        outcome.fault ≡ None → IsSettled (T.state tables) → IsSettled (T.state outcome.tables)) }
+    ensures crash { IfOk result (λ outcome. (T.state outcome.tables).honest →
+        outcome.fault ≢ None → IsSettled (T.state tables) →
+        (r : List Row) → (T.state outcome.tables).may_leave r →
+        IsLeftOf config (T.state tables).rows events.items outcome.replies
+        (T.state outcome.tables).rows r) }
     // Isolation: an institution's replies and records are those of a server that it has alone.
-    ensures own { IfOk result (λ outcome. T.honest outcome.tables →
+    ensures own { IfOk result (λ outcome. (T.state outcome.tables).honest →
         (i : Institution) → Contains config i →
-        IsOwnRun config (T.rows tables) events.items i outcome.replies (T.rows outcome.tables)) }
+        IsOwnRun config (T.state tables).rows events.items i outcome.replies
+        (T.state outcome.tables).rows) }
     // Where no fault came, all of them.
-    ensures own_replies { IfOk result (λ outcome. T.honest outcome.tables →
+    ensures own_replies { IfOk result (λ outcome. (T.state outcome.tables).honest →
         outcome.fault ≡ None →
         (i : Institution) → Contains config i →
         replies_at (is_own config i.name events.items) events.items outcome.replies
-        ≡ alone_replies (limits_of i) (of i.name (T.rows tables))
+        ≡ alone_replies (limits_of i) (of i.name (T.state tables).rows)
         (own config i.name events.items)) }
-    ensures own_records { IfOk result (λ outcome. T.honest outcome.tables →
+    ensures own_records { IfOk result (λ outcome. (T.state outcome.tables).honest →
         outcome.fault ≡ None →
         (i : Institution) → Contains config i →
-        of i.name (T.rows outcome.tables)
-        ≡ (alone_after (limits_of i) (of i.name (T.rows tables))
+        of i.name (T.state outcome.tables).rows
+        ≡ (alone_after (limits_of i) (of i.name (T.state tables).rows)
         (own config i.name events.items)).records) }
     // On a connection that nobody owns the replies are a stranger's.
-    ensures strangers { IfOk result (λ outcome. T.honest outcome.tables →
+    ensures strangers { IfOk result (λ outcome. (T.state outcome.tables).honest →
         (number : ℕ) → owner config (stream_of number events.items) ≡ None →
         replies_at (is_on_connection number) events.items outcome.replies
         ≡ stranger_replies (filter (is_on_connection number)
@@ -318,15 +387,15 @@ pub fn run<T: Tables + Drop>(
     ensures faults { IfOk result (λ outcome. outcome.fault ≢ Some Fault.Stopped) }
     // The store failed in the run exactly where that is the fault.
     ensures store { IfOk result (λ outcome.
-        (outcome.fault ≡ Some Fault.Store) ↔ (T.failed outcome.tables ≡ true)) }
+        (outcome.fault ≡ Some Fault.Store) ↔ ((T.state outcome.tables).failed ≡ true)) }
     ensures begins { IfErr result (λ fault. fault ≡ Fault.NoMemory) }
 {
     runs_are_isolated();
     institutions_are_isolated();
     institutions_have_own_names();
     config.is_sound();
+    let mut given = Vec::with_capacity(alloc, events.len())?;
     let mut server = Server::new(alloc, config, tables)?;
-    let mut given = Vec::new(alloc);
     let fault = answer_all(&mut server, events, &mut given).err();
     Ok(Outcome {
         replies: Listed::from_inner(given),

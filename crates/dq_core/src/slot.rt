@@ -11,28 +11,20 @@ ghost use Rattle.dq_core.specs.Doing.{agreement_after, taken};
 ghost use Rattle.dq_core.specs.Slots.{StandsAt, home_of, is_home};
 
 use dq_assoc::laws::{an_association_after_pdus, pdus_in_parts};
-use dq_assoc::{Agreement, Association, PeerLimit, State, Step, Verdict};
+use dq_assoc::{Agreement, Association, State, Step, Verdict};
 use dq_config::Institution;
 use dq_list::Listed;
 use dq_pdu::{Fed, Inbox, Pdu, Request};
 use std::alloc::{AllocError, Global};
 
-/// What an institution has of a connection whose request was accepted: its own name, and what was
-/// agreed.
-#[derive(Debug, Drop)]
-pub(crate) struct Home {
-    pub name: Listed<u8>,
-    pub agreement: Agreement,
-}
-
-/// A connection that is held: its number, what came on it so far, its association, and its home
-/// once its request was accepted.
+/// A connection that is held: its number, what came on it so far, its association, and the name of
+/// the institution that has it once its request was accepted.
 #[derive(Debug, Drop)]
 pub(crate) struct Slot {
     pub number: u64,
     pub inbox: Inbox,
     pub association: Association,
-    pub home: Option<Home>,
+    pub home: Option<Listed<u8>>,
 }
 
 /// Who is called on a connection: the institution that has its titles, if one has, and whether it
@@ -48,36 +40,6 @@ pub(crate) struct Called<'a> {
 pub(crate) struct Taken {
     pub opening: Listed<u8>,
     pub step: Step,
-}
-
-/// A copy of what was agreed.
-fn copied(alloc: Global, agreement: &Agreement) -> Result<Agreement, AllocError>
-    ensures { IfOk result (λ copy. copy ≡ agreement.now) }
-{
-    let Some(limit) = PeerLimit::of(Some(agreement.limit.octets())) else {
-        unreachable!();
-    };
-    Ok(Agreement {
-        contexts: Listed::copy_of(alloc, agreement.contexts.as_slice())?,
-        called: agreement.called,
-        limit,
-    })
-}
-
-impl Home {
-    fn new(
-        alloc: Global,
-        institution: &Institution,
-        agreement: &Agreement,
-    ) -> Result<Self, AllocError>
-        ensures { IfOk result (λ home.
-            (home.name ≡ institution.now.name) × (home.agreement ≡ agreement.now)) }
-    {
-        Ok(Home {
-            name: Listed::copy_of(alloc, institution.name.as_slice())?,
-            agreement: copied(alloc, agreement)?,
-        })
-    }
 }
 
 impl Slot {
@@ -101,7 +63,7 @@ impl Slot {
     {
         match &self.home {
             None => false,
-            Some(home) => home.name.as_slice() == name,
+            Some(home) => home.as_slice() == name,
         }
     }
 
@@ -116,12 +78,11 @@ impl Slot {
         ensures taken { IfOk result (λ t.
             t ≡ taken called.entry.verdict (state_of self.old.association)
             (inputs_from self.old.association fed.pdus fed.fault)) }
-        ensures home { (before : List Pdu) →
+        ensures agreement { (before : List Pdu) →
             StandsAt (option_copied called.entry.institution) self.old before →
-            IfOk result (λ t. (t.step.messages ≡ [])
-            ⊎ (self.new.home ≡ home_of (option_copied called.entry.institution)
-            (agreement_after (agreement_in self.old.association)
-            (inputs_from self.old.association fed.pdus fed.fault)))) }
+            IfOk result (λ t. (t.step.messages ≡ []) ⊎ (agreement_in self.new.association
+            ≡ agreement_after (agreement_in self.old.association)
+            (inputs_from self.old.association fed.pdus fed.fault))) }
         ensures stands { (before : List Pdu) →
             StandsAt (option_copied called.entry.institution) self.old before →
             (option_copied called.entry.institution ≡ None → called.entry.verdict ≡ Nowhere) →
@@ -150,10 +111,9 @@ impl Slot {
         ensures taken { IfOk result (λ t.
             t ≡ taken called.entry.verdict Waiting
             (inputs_from self.old.association fed.pdus fed.fault)) }
-        ensures home { StandsAt (option_copied called.entry.institution) self.old [] →
-            IfOk result (λ t. (t.step.messages ≡ [])
-            ⊎ (self.new.home ≡ home_of (option_copied called.entry.institution)
-            (agreement_after None (inputs_from self.old.association fed.pdus fed.fault)))) }
+        ensures agreement { IfOk result (λ t. (t.step.messages ≡ [])
+            ⊎ (agreement_in self.new.association
+            ≡ agreement_after None (inputs_from self.old.association fed.pdus fed.fault))) }
         ensures stands { StandsAt (option_copied called.entry.institution) self.old [] →
             (option_copied called.entry.institution ≡ None → called.entry.verdict ≡ Nowhere) →
             IfOk result (λ t. t.step.close ≡ false →
@@ -198,11 +158,9 @@ impl Slot {
         requires { state_of self.old.association ≡ Waiting }
         ensures taken { IfOk result (λ t. t ≡ taken called.entry.verdict Waiting
             (inputs_from self.old.association (pdu.Request request ∷ rest.pdus) rest.fault)) }
-        ensures home { StandsAt (option_copied called.entry.institution) self.old [] →
-            IfOk result (λ t. (t.step.messages ≡ [])
-            ⊎ (self.new.home ≡ home_of (option_copied called.entry.institution)
-            (agreement_after None
-            (inputs_from self.old.association (pdu.Request request ∷ rest.pdus) rest.fault)))) }
+        ensures agreement { IfOk result (λ t. (t.step.messages ≡ [])
+            ⊎ (agreement_in self.new.association ≡ agreement_after None
+            (inputs_from self.old.association (pdu.Request request ∷ rest.pdus) rest.fault))) }
         ensures stands { StandsAt (option_copied called.entry.institution) self.old [] →
             (option_copied called.entry.institution ≡ None → called.entry.verdict ≡ Nowhere) →
             IfOk result (λ t. t.step.close ≡ false → (rest.fault ≡ None)
@@ -228,19 +186,19 @@ impl Slot {
     }
 }
 
-/// What an institution has of a connection on which something is agreed.
+/// The name of the institution that has a connection on which something is agreed.
 fn home_for(
     alloc: Global,
     institution: Option<&Institution>,
     agreement: Option<&Agreement>,
-) -> Result<Option<Home>, AllocError>
+) -> Result<Option<Listed<u8>>, AllocError>
     ensures { IfOk result (λ home. home
         ≡ home_of (option_copied institution.entry) (option_copied agreement.entry)) }
 {
-    let (Some(institution), Some(agreement)) = (institution, agreement) else {
+    let (Some(institution), Some(_)) = (institution, agreement) else {
         return Ok(None);
     };
-    Ok(Some(Home::new(alloc, institution, agreement)?))
+    Ok(Some(Listed::copy_of(alloc, institution.name.as_slice())?))
 }
 
 /// A step that answers nothing.

@@ -1,5 +1,5 @@
 -- Runs that a fault may have ended.
-use Rattle.std.proofs.Common.{◌≡◌, ℕ, List, length, take, None, ◌⊎◌, IsTrue, sym, ap, ◌∙◌, subst}
+use Rattle.std.proofs.Common.{◌≡◌, ℕ, suc, List, length, take, None, ◌⊎◌, inl, inr, IsTrue, sym, ap, ◌∙◌, subst}
 use Rattle.std.specs.Prelude.{filter}
 use Rattle.dq_config.specs.declared.config.Institution.{Institution}
 use Rattle.dq_tables.specs.declared.row.Row.{Row}
@@ -7,14 +7,14 @@ use Rattle.dq_tables.specs.Rows.{of}
 use Rattle.dq_core.specs.declared.event.Event.{Event}
 use Rattle.dq_core.specs.declared.event.Reply.{Reply}
 use Rattle.dq_core.specs.Owners.{owner}
-use Rattle.dq_core.specs.Shared.{replies}
+use Rattle.dq_core.specs.Shared.{replies, rows_within}
 use Rattle.dq_core.specs.Own.{is_own, is_on_connection, stream_of, replies_at}
 use Rattle.dq_core.specs.Histories.{is_well_formed}
 use Rattle.dq_core.specs.Isolation.{stranger_replies, Begins, Agree, IsPrefix}
-use Rattle.dq_core.specs.Runs.{IsRun, IsOwnRun}
+use Rattle.dq_core.specs.Runs.{IsRun, IsLeftOf, IsOwnRun}
 use Rattle.dq_core.proofs.isolation.Streams.{AddsInputs}
 use Rattle.dq_core.proofs.isolation.Isolating.{Lenses}
-use Rattle.dq_core.proofs.isolation.Promise.{isolated-among, isolated-within, agreeing-fronts}
+use Rattle.dq_core.proofs.isolation.Promise.{isolated-among, isolated-within, isolated-rising, agreeing-fronts}
 use Rattle.dq_core.proofs.isolation.Strangers.{strange-among}
 
 pub own-run : AddsInputs → Lenses → (institutions : List Institution) (rows : List Row) (events : List Event) (given : List Reply) (kept : List Row)
@@ -48,3 +48,30 @@ agreeing-runs adds lenses institutions others rows other_rows events other_event
     (subst (λ (y : List Reply). IsPrefix (at (take (length given) (replies institutions rows events))) y ⊎ IsPrefix y (at (take (length given)
     (replies institutions rows events))))
     (sym (ap other_at other.first_replies)) fronts)
+
+-- ---- what a crash leaves after a run
+
+left-within : (institutions : List Institution) (rows : List Row) (events : List Event) (given : List Reply) (kept left : List Row)
+    → IsLeftOf institutions rows events given kept left
+    → (operations : ℕ) × (left ≡ rows_within institutions rows events (length given) operations)
+left-within institutions rows events given kept left is = elim is.with_next [
+  | inl same ↦ (is.operations, same ∙ is.rows_then)
+  | inr next ↦ (suc is.operations, next)
+]
+
+pub left-run : (institutions : List Institution) (rows : List Row) (events : List Event) (given : List Reply) (kept left : List Row)
+    → IsRun institutions rows events given kept → IsLeftOf institutions rows events given kept left → IsRun institutions rows events given left
+left-run institutions rows events given kept left run is =
+    let within = left-within institutions rows events given kept left is in
+    record { first_replies = run.first_replies; operations = within.0; rows_then = within.1 }
+
+pub left-begins : AddsInputs → Lenses → (institutions : List Institution) (rows : List Row) (events : List Event) (given : List Reply) (kept left : List Row)
+    → IsLeftOf institutions rows events given kept left → (i : Institution) → Begins institutions rows events i → (more : List Event)
+    → IsTrue (is_well_formed more) → Begins institutions left more i
+left-begins adds lenses institutions rows events given kept left is i b more formed =
+    let within = left-within institutions rows events given kept left is in record {
+      own_names = b.own_names;
+      listed = b.listed;
+      rising = rw within.1 (isolated-rising adds lenses institutions rows events i (length given) within.0 b);
+      well_formed = formed;
+    }

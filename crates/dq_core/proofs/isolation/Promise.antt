@@ -8,14 +8,14 @@ use Rattle.dq_core.specs.declared.event.Event.{Event}
 use Rattle.dq_core.specs.declared.event.Reply.{Reply}
 use Rattle.dq_tables.specs.declared.row.Row.{Row}
 use Rattle.dq_config.specs.Limits.{Limits, limits_of}
-use Rattle.dq_tables.specs.Rows.{of, after_all, edited_all}
+use Rattle.dq_tables.specs.Rows.{of, after_all, edited_all, IsRising}
 use Rattle.dq_core.specs.Shared.{World, turn, world_after_turn, replies_from, opening, replies, world_after, operations_next, rows_within}
 use Rattle.dq_core.specs.Alone.{AloneWorld, alone_turn, alone_after_turn, alone_replies_from, alone_world_from, alone_opening, alone_replies, alone_after, changes_next, records_within}
 use Rattle.dq_core.specs.Own.{owns, is_own, own, replies_at}
 use Rattle.dq_core.specs.Isolation.{own_among, own_replies, Begins, Agree, IsPrefix}
 use Rattle.dq_core.proofs.isolation.Streams.{AddsInputs}
 use Rattle.dq_core.proofs.isolation.Isolating.{Lenses, Configured, alike}
-use Rattle.dq_core.proofs.isolation.Others.{other, own-rows, other-rows, take-map, all-take}
+use Rattle.dq_core.proofs.isolation.Others.{other, rising-all, own-rows, other-rows, take-map, all-take}
 use Rattle.dq_core.proofs.isolation.Isolated.{Are, After, is_mine, are-after}
 use Rattle.dq_core.proofs.isolation.Named.{configured}
 
@@ -90,6 +90,12 @@ module _ (adds : AddsInputs) (lenses : Lenses) (institutions : List Institution)
       (world_after institutions rows (take k events)) (alone_after (limits_of i) (of i.name rows) (filter (is_mine i.name mine) (take k events))) j
       (drop k events) then_are.are
 
+  -- rows within a history are in order
+  pub isolated-rising : (k j : ℕ) → Begins institutions rows events i → IsRising (rows_within institutions rows events k j)
+  isolated-rising k j b =
+      rising-all lenses (take j (operations_next institutions (world_after institutions rows (take k events)) (drop k events)))
+      (world_after institutions rows (take k events)).rows (after b (take k events) (drop k events) (take-append-drop k events)).are.rising
+
   pub isolated-records : Begins institutions rows events i
       → of i.name (world_after institutions rows events).rows ≡ (alone_after (limits_of i) (of i.name rows) (own institutions i.name events)).records
   isolated-records b = sym (after b events [] (append-nil events)).are.beside.records
@@ -112,7 +118,7 @@ own-front institutions rows events i k =
     )
 
 -- of two fronts of one list one is the front of the other
-fronts : (xs ys a b z : List Reply) → xs ++ a ≡ z → ys ++ b ≡ z → IsPrefix xs ys ⊎ IsPrefix ys xs
+pub fronts : (xs ys a b z : List Reply) → xs ++ a ≡ z → ys ++ b ≡ z → IsPrefix xs ys ⊎ IsPrefix ys xs
 fronts [] ys a b z e f = inl (ys, refl)
 fronts (x ∷ xs) [] a b z e f = inr (x ∷ xs, refl)
 fronts (x ∷ xs) (y ∷ ys) a b z e f =

@@ -5,25 +5,44 @@ use Rattle.dq_pdu.specs.Reading.{front, pdu_of, associate_of, request_of, item_a
 use Rattle.dq_pdu.specs.Octets.{parts}
 use Rattle.dq_vr.specs.Dictionary.{dictionary, vr_in, known_vr}
 use Rattle.dq_vr.specs.Tag.{is_below}
+use Rattle.dq_vr.specs.Vr.{vr_with_letters, vr_among, every_vr, letters_of, length_form_of, is_text}
 use Rattle.dq_value.specs.Trimming.{is_padded, ignores_leading_spaces, kept_before, without_leading, without_trailing, unpadded, trimmed}
 use Rattle.dq_value.specs.Title.{stripped}
+use Rattle.dq_value.specs.Parts as value
 use Rattle.dq_dimse.specs.Assembling.{messages_from}
-use Rattle.dq_dataset.specs.Rules.{content_of}
-use Rattle.dq_dataset.specs.Reading.{tag_at, long_length_at, spelling_at, header_at, end_at, value_by, element_by, elements_after, elements_by, item_by, items_after, items_by, readers, reading}
+use Rattle.dq_dimse.specs.Receiving.{identifier_in}
+use Rattle.dq_dataset.specs.Rules.{content_of, agrees}
+use Rattle.dq_dataset.specs.Reading.{tag_at, vr_at, vr_or_fault, length_at, long_length_at, spelling_at, header_at, end_at, value_by, element_by, elements_after, elements_by, item_by, items_after, items_by, readers, reading}
+use Rattle.dq_dataset.specs.Canonical.{header_of, vr_and_length}
+use Rattle.dq_dataset.specs.Values.{sole_at}
 use Rattle.dq_dimse.specs.Commands.{command_from, command_of}
+use Rattle.dq_assoc.specs.Classes.{class_of}
 use Rattle.dq_config.specs.declared.config.Institution.{Institution}
 use Rattle.dq_core.specs.declared.event.Event.{Event}
 use Rattle.dq_core.specs.declared.event.Event.TheVariants.{Open, Piece, End, Schedule, Withdraw}
 use Rattle.dq_core.specs.declared.event.Reply.{Reply}
 use Rattle.dq_core.specs.declared.event.Reply.TheVariants.{Octets, Done, Refused, Ignored}
 use Rattle.dq_config.specs.Document.{built_in}
+use Rattle.dq_config.specs.Limits.{Limits}
 use Rattle.dq_config.specs.Routing.{routed, has_route, joins, named}
-use Rattle.dq_find.specs.Queries.{query_of, found}
+use Rattle.dq_match.specs.Supported.{is_supported, keys_of, leaves}
+use Rattle.dq_match.specs.Values.{are_well_formed, is_universal, matching_of, octets_meet}
+use Rattle.dq_find.specs.Levels.{level_named, has_keys_above}
+use Rattle.dq_find.specs.Queries.{query_of, records_asked, answers, about_answers, found}
+use Rattle.dq_find.specs.Computed.{computed, study_values, modalities_in, all_in_order, put_in_order}
+use Rattle.dq_match.specs.Responses.{shown}
+use Rattle.dq_match.specs.Matching.{asked_days, asked_times, start_day, start_time, period}
+use Rattle.dq_store.specs.Storing.{is_named, stored}
 use Rattle.dq_worklist.specs.Orders.{scheduled, withdrawn}
 use Rattle.dq_tables.specs.Rows.{of}
-use Rattle.dq_tables.specs.Finding.{record_at}
+use Rattle.dq_tables.specs.Finding.{record_at, records_of, records_above}
+use Rattle.dq_tables.specs.Records.{data_set_of}
+use Rattle.dq_tables.specs.declared.row.Row.{Row}
+use Rattle.dq_tables.specs.declared.row.Kind.TheVariants.{Study}
+use Rattle.dq_tables.specs.Keys.{uid_at}
 use Rattle.dq_core.specs.Services.{served, ordered}
 use Rattle.dq_core.specs.Shared.{replies}
+use Rattle.dq_core.specs.Alone.{alone_replies}
 use Rattle.dq_core.specs.Own.{own}
 
 -- an item: its type, its length, its body
@@ -213,7 +232,7 @@ closed octets = Octets 1 octets true
 an_association :
     (replies built_in [] (history (request ∷ echo ∷ release ∷ [])) ≡ Done ∷ answered accepted ∷ answered echoed ∷ closed released ∷ [])
     × (replies built_in [] (history ((request ++ echo ++ release) ∷ [])) ≡ Done ∷ closed (accepted ++ echoed ++ released) ∷ [])
-unfolding pdus_within front pdu_of associate_of request_of item_at pdv_at proposed_of user_information_of values_of parts routed has_route joins built_in
+unfolding pdus_within front pdu_of associate_of request_of item_at pdv_at proposed_of user_information_of values_of parts routed has_route joins built_in class_of
     stripped without_leading without_trailing kept_before messages_from command_from command_of reading readers elements_by element_by elements_after value_by
     items_by item_by items_after header_at end_at is_below tag_at spelling_at long_length_at content_of known_vr vr_in dictionary trimmed unpadded is_padded
     ignores_leading_spaces served
@@ -224,7 +243,7 @@ command_sets :
     (replies built_in [] (history (request ∷ echo_with_sequence ∷ [])) ≡ Done ∷ answered accepted ∷ answered echoed ∷ [])
     × (replies built_in [] (history (request ∷ echo_of_two_groups ∷ [])) ≡ Done ∷ answered accepted ∷ closed (short 7 0 2 6) ∷ [])
     × (replies built_in [] (history (request_from 1 modality 1 8 ∷ echo ∷ [])) ≡ Done ∷ answered accepted ∷ answered (in_twos echoed_set) ∷ [])
-unfolding pdus_within front pdu_of associate_of request_of item_at pdv_at proposed_of user_information_of values_of parts routed has_route joins built_in
+unfolding pdus_within front pdu_of associate_of request_of item_at pdv_at proposed_of user_information_of values_of parts routed has_route joins built_in class_of
     stripped without_leading without_trailing kept_before messages_from command_from command_of reading readers elements_by element_by elements_after value_by
     items_by item_by items_after header_at end_at is_below tag_at spelling_at long_length_at content_of known_vr vr_in dictionary trimmed unpadded is_padded
     ignores_leading_spaces served
@@ -237,7 +256,7 @@ statuses :
     × (replies built_in [] (history (request ∷ command 0x0020 verification_class ∷ command 0x0020
     (codes "1.2.840.10008.1.20") ∷ [])) ≡ Done ∷ answered accepted ∷ answered (response 0x8020 0x0211) ∷ answered (response 0x8020 0x0211) ∷ [])
     × (replies built_in [] (history (request ∷ cancel ∷ echo ∷ [])) ≡ Done ∷ answered accepted ∷ answered [] ∷ answered echoed ∷ [])
-unfolding pdus_within front pdu_of associate_of request_of item_at pdv_at proposed_of user_information_of values_of parts routed has_route joins built_in
+unfolding pdus_within front pdu_of associate_of request_of item_at pdv_at proposed_of user_information_of values_of parts routed has_route joins built_in class_of
     stripped without_leading without_trailing kept_before messages_from command_from command_of reading readers elements_by element_by elements_after value_by
     items_by item_by items_after header_at end_at is_below tag_at spelling_at long_length_at content_of known_vr vr_in dictionary trimmed unpadded is_padded
     ignores_leading_spaces served
@@ -250,13 +269,13 @@ rejections :
     × (replies built_in [] (history (request_from 2 ct9 1 7 ∷ [])) ≡ Done ∷ closed (short 3 1 2 2) ∷ [])
     × (replies built_in [] (history (request_from 1 modality 1 7 ∷ [])) ≡ Done ∷ closed (short 3 1 1 1) ∷ [])
     × (replies built_in [] (history (request_from 1 modality 2 16384 ∷ [])) ≡ Done ∷ closed (short 7 0 0 0) ∷ [])
-unfolding pdus_within front pdu_of associate_of request_of item_at pdv_at proposed_of user_information_of values_of parts routed has_route joins built_in
+unfolding pdus_within front pdu_of associate_of request_of item_at pdv_at proposed_of user_information_of values_of parts routed has_route joins built_in class_of
     stripped without_leading without_trailing kept_before messages_from
 rejections = (refl, refl, refl, refl, refl)
 
 -- Explicit before Implicit; result 4 where no syntax is taken, and 3 where the class is not served
 contexts : replies built_in [] (history (four_contexts ∷ [])) ≡ Done ∷ answered four_results ∷ []
-unfolding pdus_within front pdu_of associate_of request_of item_at pdv_at proposed_of user_information_of values_of parts routed has_route joins built_in
+unfolding pdus_within front pdu_of associate_of request_of item_at pdv_at proposed_of user_information_of values_of parts routed has_route joins built_in class_of
     stripped without_leading without_trailing kept_before messages_from
 contexts = refl
 
@@ -266,7 +285,7 @@ in_place_of_a_request :
     × (replies built_in [] (history (release ∷ [])) ≡ Done ∷ closed (short 7 0 0 0) ∷ [])
     × (replies built_in [] (history ((8 ∷ 0 ∷ 0 ∷ 0 ∷ 0 ∷ 0 ∷ []) ∷ (0 ∷ []) ∷ [])) ≡ Done ∷ closed (short 7 0 0 0) ∷ Ignored ∷ [])
     × (replies built_in [] (history (short 7 0 0 0 ∷ echo ∷ [])) ≡ Done ∷ closed [] ∷ Ignored ∷ [])
-unfolding pdus_within front pdu_of associate_of request_of item_at pdv_at proposed_of user_information_of values_of parts routed has_route joins built_in
+unfolding pdus_within front pdu_of associate_of request_of item_at pdv_at proposed_of user_information_of values_of parts routed has_route joins built_in class_of
     stripped without_leading without_trailing kept_before messages_from
 in_place_of_a_request = (refl, refl, refl, refl)
 
@@ -277,7 +296,7 @@ after_a_request :
     × (replies built_in [] (history (request ∷ value_pdu 6 3 3 [] ∷ [])) ≡ Done ∷ answered accepted ∷ closed (short 7 0 2 6) ∷ [])
     × (replies built_in [] (history (request ∷ (4 ∷ 0 ∷ 0 ∷ 0 ∷ 0 ∷ 0 ∷ []) ∷ [])) ≡ Done ∷ answered accepted ∷ closed (short 7 0 2 6) ∷ [])
     × (replies built_in [] (history (request ∷ short 7 0 0 0 ∷ [])) ≡ Done ∷ answered accepted ∷ closed [] ∷ [])
-unfolding pdus_within front pdu_of associate_of request_of item_at pdv_at proposed_of user_information_of values_of parts routed has_route joins built_in
+unfolding pdus_within front pdu_of associate_of request_of item_at pdv_at proposed_of user_information_of values_of parts routed has_route joins built_in class_of
     stripped without_leading without_trailing kept_before messages_from
 after_a_request = (refl, refl, refl, refl, refl)
 
@@ -286,7 +305,7 @@ in_mid_message :
     (replies built_in [] (history (request ∷ (value_pdu 24 20 1 (element 0x0000 4
     (56 ∷ 0 ∷ 0 ∷ 0 ∷ []) ++ 0 ∷ 0 ∷ 2 ∷ 0 ∷ 18 ∷ 0 ∷ []) ++ release) ∷ [])) ≡ Done ∷ answered accepted ∷ closed released ∷ [])
     × (replies built_in [] (history (request ∷ (echo ++ 8 ∷ 0 ∷ 0 ∷ 0 ∷ 0 ∷ 0 ∷ []) ∷ [])) ≡ Done ∷ answered accepted ∷ closed (echoed ++ short 7 0 2 1) ∷ [])
-unfolding pdus_within front pdu_of associate_of request_of item_at pdv_at proposed_of user_information_of values_of parts routed has_route joins built_in
+unfolding pdus_within front pdu_of associate_of request_of item_at pdv_at proposed_of user_information_of values_of parts routed has_route joins built_in class_of
     stripped without_leading without_trailing kept_before messages_from command_from command_of reading readers elements_by element_by elements_after value_by
     items_by item_by items_after header_at end_at is_below tag_at spelling_at long_length_at content_of known_vr vr_in dictionary trimmed unpadded is_padded
     ignores_leading_spaces served
@@ -296,7 +315,7 @@ in_mid_message = (refl, refl)
 two_institutions : replies (two 4) [] (Open 1 ∷ Open 2 ∷ Piece 2 (request_of_title ct2) ∷ Piece 1 (request_of_title ct1) ∷ Piece 2 echo ∷ Piece 1 echo ∷
     Piece 1 release ∷ End 1 ∷ End 2 ∷ End 2 ∷ Piece 2 echo ∷ End 9 ∷ []) ≡ Done ∷ Done ∷ Octets 2 (accepted_title ct2) false ∷ Octets 1 (accepted_title ct1)
     false ∷ Octets 2 echoed false ∷ Octets 1 echoed false ∷ Octets 1 released true ∷ Ignored ∷ Done ∷ Ignored ∷ Ignored ∷ Ignored ∷ []
-unfolding pdus_within front pdu_of associate_of request_of item_at pdv_at proposed_of user_information_of values_of parts routed has_route joins built_in
+unfolding pdus_within front pdu_of associate_of request_of item_at pdv_at proposed_of user_information_of values_of parts routed has_route joins built_in class_of
     stripped without_leading without_trailing kept_before messages_from command_from command_of reading readers elements_by element_by elements_after value_by
     items_by item_by items_after header_at end_at is_below tag_at spelling_at long_length_at content_of known_vr vr_in dictionary trimmed unpadded is_padded
     ignores_leading_spaces served
@@ -307,14 +326,14 @@ one_at_a_time : replies (two 1) [] (Open 1 ∷ Open 2 ∷ Open 3 ∷ Piece 1 (re
     ct2) ∷ Piece 1 release ∷ Open 4 ∷ Piece 4 (request_of_title ct1) ∷ End 4 ∷ Open 5 ∷ Piece 5 (request_of_title ct1) ∷ []) ≡ Done ∷ Done ∷ Done ∷ Octets 1
     (accepted_title ct1) false ∷ Octets 2 (short 3 2 3 2) true ∷ Octets 3 (accepted_title ct2) false ∷ Octets 1 released true ∷ Done ∷ Octets 4
     (accepted_title ct1) false ∷ Done ∷ Done ∷ Octets 5 (accepted_title ct1) false ∷ []
-unfolding pdus_within front pdu_of associate_of request_of item_at pdv_at proposed_of user_information_of values_of parts routed has_route joins built_in
+unfolding pdus_within front pdu_of associate_of request_of item_at pdv_at proposed_of user_information_of values_of parts routed has_route joins built_in class_of
     stripped without_leading without_trailing kept_before messages_from
 one_at_a_time = refl
 
 -- of a request that does not pass the checks nobody asks whether it is busy
 a_busy_request : replies (two 1) [] (Open 1 ∷ Open 2 ∷ Piece 1 (request_of_title ct1) ∷ Piece 2 (request_from 2 ct1 1 16384) ∷ []) ≡ Done ∷ Done ∷ Octets 1
     (accepted_title ct1) false ∷ Octets 2 (short 3 1 2 2) true ∷ []
-unfolding pdus_within front pdu_of associate_of request_of item_at pdv_at proposed_of user_information_of values_of parts routed has_route joins built_in
+unfolding pdus_within front pdu_of associate_of request_of item_at pdv_at proposed_of user_information_of values_of parts routed has_route joins built_in class_of
     stripped without_leading without_trailing kept_before messages_from
 a_busy_request = refl
 
@@ -324,13 +343,13 @@ own_events :
     (request_of_title ct1) ∷ Schedule south [] ∷ Withdraw north [] ∷ []) ≡ Open 3 ∷ Piece 3 (request_of_title ct1) ∷ Withdraw north [] ∷ [])
     × (own (two 4) north (Piece 1 [] ∷ Open 1 ∷ Piece 1 (take 20 (request_of_title ct1)) ∷ Piece 1 (drop 20
     (request_of_title ct1)) ∷ []) ≡ Piece 1 [] ∷ Open 1 ∷ Piece 1 (take 20 (request_of_title ct1)) ∷ Piece 1 (drop 20 (request_of_title ct1)) ∷ [])
-unfolding pdus_within front pdu_of associate_of request_of item_at pdv_at proposed_of user_information_of values_of parts routed has_route joins built_in
+unfolding pdus_within front pdu_of associate_of request_of item_at pdv_at proposed_of user_information_of values_of parts routed has_route joins built_in class_of
     stripped without_leading without_trailing kept_before messages_from
 own_events = (refl, refl)
 
 -- an order for an institution that is not configured
 orders : replies (two 4) [] (Schedule (codes "EAST") [] ∷ Withdraw (codes "EAST") [] ∷ []) ≡ Refused 6 ∷ Refused 6 ∷ []
-unfolding pdus_within front pdu_of associate_of request_of item_at pdv_at proposed_of user_information_of values_of parts routed has_route joins built_in
+unfolding pdus_within front pdu_of associate_of request_of item_at pdv_at proposed_of user_information_of values_of parts routed has_route joins built_in class_of
     stripped without_leading without_trailing kept_before messages_from named
 orders = refl
 
@@ -338,21 +357,28 @@ orders = refl
 abbrev study_root : List ℕ
 study_root = codes "1.2.840.10008.5.1.4.1.2.2.1" ++ 0 ∷ []
 
-abbrev find : List ℕ
-find = value_pdu 84 80 3 (
+abbrev find_command : List ℕ
+find_command = value_pdu 84 80 3 (
     element 0x0000 4 (66 ∷ 0 ∷ 0 ∷ 0 ∷ []) ++ element 0x0002 28 study_root ++ element 0x0100 2 (0x20 ∷ 0 ∷ []) ++ element 0x0110 2 (1 ∷ 0 ∷ [])
-    ++ element 0x0800 2 (0 ∷ 0 ∷ [])) ++ value_pdu 8 4 2 (8 ∷ 0 ∷ [])
+    ++ element 0x0800 2 (0 ∷ 0 ∷ []))
+
+abbrev find : List ℕ
+find = find_command ++ value_pdu 8 4 2 (8 ∷ 0 ∷ [])
+
+-- the response without an identifier, with a status
+abbrev find_status : ℕ → List ℕ
+find_status status = value_pdu 94 90 3 (
+    element 0x0000 4 (76 ∷ 0 ∷ 0 ∷ 0 ∷ []) ++ element 0x0002 28 study_root ++ element 0x0100 2 (0x20 ∷ 0x80 ∷ []) ++ element 0x0120 2 (1 ∷ 0 ∷ [])
+    ++ element 0x0800 2 (1 ∷ 1 ∷ []) ++ element 0x0900 2 ((status % 256) ∷ (status / 256) ∷ []))
 
 abbrev not_understood : List ℕ
-not_understood = value_pdu 94 90 3 (
-    element 0x0000 4 (76 ∷ 0 ∷ 0 ∷ 0 ∷ []) ++ element 0x0002 28 study_root ++ element 0x0100 2 (0x20 ∷ 0x80 ∷ []) ++ element 0x0120 2 (1 ∷ 0 ∷ [])
-    ++ element 0x0800 2 (1 ∷ 1 ∷ []) ++ element 0x0900 2 (0 ∷ 0xc0 ∷ []))
+not_understood = find_status 0xc000
 
 a_query : replies built_in [] (history (four_contexts ∷ find ∷ [])) ≡ Done ∷ answered four_results ∷ answered not_understood ∷ []
-unfolding pdus_within front pdu_of associate_of request_of item_at pdv_at proposed_of user_information_of values_of parts routed has_route joins built_in
+unfolding pdus_within front pdu_of associate_of request_of item_at pdv_at proposed_of user_information_of values_of parts routed has_route joins built_in class_of
     stripped without_leading without_trailing kept_before messages_from command_from command_of reading readers elements_by element_by elements_after value_by
     items_by item_by items_after header_at end_at is_below tag_at spelling_at long_length_at content_of known_vr vr_in dictionary trimmed unpadded is_padded
-    ignores_leading_spaces served found query_of
+    ignores_leading_spaces served found query_of identifier_in
 a_query = refl
 
 -- an entry that can't be read, and one that is not there
@@ -360,3 +386,112 @@ orders_of_the_worklist : replies (two 4) [] (Schedule north (8 ∷ 0 ∷ []) ∷
 unfolding reading readers elements_by element_by elements_after value_by items_by item_by items_after header_at end_at is_below tag_at spelling_at
     long_length_at content_of known_vr vr_in dictionary named of record_at ordered scheduled withdrawn
 orders_of_the_worklist = refl
+
+-- a query for all studies, and one for a level that there is not
+abbrev find_level : ℕ → ℕ → List ℕ → List ℕ
+find_level one_pdu value level =
+    find_command ++ value_pdu one_pdu value 2 (0x08 ∷ 0 ∷ 0x52 ∷ 0 ∷ 0x43 ∷ 0x53 ∷ 6 ∷ 0 ∷ [] ++ level)
+
+abbrev find_studies : List ℕ
+find_studies = find_level 20 16 (codes "STUDY ")
+
+-- over no rows: the response with 0000, and no other
+a_query_over_no_rows :
+    (replies built_in [] (history (four_contexts ∷ find_studies ∷ [])) ≡ Done ∷ answered four_results ∷ answered (find_status 0) ∷ [])
+    × (replies built_in [] (history (four_contexts ∷ find_level 20 16 (codes "VISIT ") ∷ [])) ≡ Done ∷ answered four_results ∷ answered
+    (find_status 0xa900) ∷ [])
+unfolding pdus_within front pdu_of associate_of request_of item_at pdv_at proposed_of user_information_of values_of parts routed has_route joins built_in class_of
+    stripped without_leading without_trailing kept_before messages_from command_from command_of reading readers elements_by element_by elements_after value_by
+    items_by item_by items_after header_at end_at is_below tag_at spelling_at long_length_at content_of known_vr vr_in dictionary trimmed unpadded is_padded
+    ignores_leading_spaces served found query_of identifier_in level_named has_keys_above is_supported keys_of leaves answers records_asked records_of of
+    vr_at vr_or_fault vr_with_letters vr_among every_vr letters_of agrees length_at length_form_of is_text are_well_formed is_universal matching_of value.parts
+    value.pieces_of value.has_separator value.pieces value.joined uid_at sole_at
+a_query_over_no_rows = (refl, refl)
+
+-- a C-STORE of a CT image without a data set, on a context, and its response with a status
+abbrev value_on : ℕ → ℕ → ℕ → List ℕ → List ℕ
+value_on context one_pdu value fragment = 4 ∷ 0 ∷ 0 ∷ 0 ∷ 0 ∷ one_pdu ∷ 0 ∷ 0 ∷ 0 ∷ value ∷ context ∷ 3 ∷ [] ++ fragment
+
+abbrev ct_storage : List ℕ
+ct_storage = codes "1.2.840.10008.5.1.4.1.1.2" ++ 0 ∷ []
+
+abbrev image_element : List ℕ
+image_element = element 0x1000 6 (codes "1.2.3" ++ 0 ∷ [])
+
+abbrev store_on : ℕ → List ℕ
+store_on context = value_on context 96 92 (
+    element 0x0000 4 (78 ∷ 0 ∷ 0 ∷ 0 ∷ []) ++ element 0x0002 26 ct_storage ++ element 0x0100 2 (1 ∷ 0 ∷ []) ++ element 0x0110 2 (1 ∷ 0 ∷ [])
+    ++ element 0x0800 2 (1 ∷ 1 ∷ []) ++ image_element)
+
+abbrev store_status : ℕ → ℕ → List ℕ
+store_status context status = value_on context 106 102 (
+    element 0x0000 4 (88 ∷ 0 ∷ 0 ∷ 0 ∷ []) ++ element 0x0002 26 ct_storage ++ element 0x0100 2 (1 ∷ 0x80 ∷ []) ++ element 0x0120 2 (1 ∷ 0 ∷ [])
+    ++ element 0x0800 2 (1 ∷ 1 ∷ []) ++ element 0x0900 2 ((status % 256) ∷ (status / 256) ∷ []) ++ image_element)
+
+-- A data set without elements names no instance. On Verification the operation is not recognized, and no instance is named.
+stores :
+    (replies built_in [] (history (four_contexts ∷ store_on 3 ∷ [])) ≡ Done ∷ answered four_results ∷ answered (store_status 3 0xa900) ∷ [])
+    × (replies built_in [] (history (request ∷ store_on 1 ∷ [])) ≡ Done ∷ answered accepted ∷ answered (response 0x8001 0x0211) ∷ [])
+unfolding pdus_within front pdu_of associate_of request_of item_at pdv_at proposed_of user_information_of values_of parts routed has_route joins built_in class_of
+    stripped without_leading without_trailing kept_before messages_from command_from command_of reading readers elements_by element_by elements_after value_by
+    items_by item_by items_after header_at end_at is_below tag_at spelling_at long_length_at content_of known_vr vr_in dictionary trimmed unpadded is_padded
+    ignores_leading_spaces served stored is_named uid_at sole_at
+stores = (refl, refl)
+
+-- the server of one institution alone, which has no routes: a pair of titles that nobody has, a search and an order
+abbrev limits : Limits
+limits = record { studies = 100; images = 1000; entries = 100; steps = 100; associations = 4 }
+
+alone : alone_replies limits [] (Open 1 ∷ Piece 1 (request_of_title ct9) ∷ Piece 1 echo ∷ Open 2 ∷ Piece 2 four_contexts ∷ Piece 2 find_studies ∷
+    Piece 2 (store_on 3) ∷ Withdraw [] [] ∷ []) ≡ Done ∷ Octets 1 (accepted_title ct9) false ∷ Octets 1 echoed false ∷ Done ∷ Octets 2 four_results
+    false ∷ Octets 2 (find_status 0) false ∷ Octets 2 (store_status 3 0xa900) false ∷ Refused 5 ∷ []
+unfolding pdus_within front pdu_of associate_of request_of item_at pdv_at proposed_of user_information_of values_of parts
+    stripped without_leading without_trailing kept_before messages_from command_from command_of reading readers elements_by element_by elements_after value_by
+    items_by item_by items_after header_at end_at is_below tag_at spelling_at long_length_at content_of known_vr vr_in dictionary trimmed unpadded is_padded
+    ignores_leading_spaces served found query_of identifier_in level_named has_keys_above is_supported keys_of leaves answers records_asked records_of stored
+    is_named ordered withdrawn record_at class_of
+    vr_at vr_or_fault vr_with_letters vr_among every_vr letters_of agrees length_at length_form_of is_text are_well_formed is_universal matching_of value.parts
+    value.pieces_of value.has_separator value.pieces value.joined uid_at sole_at
+alone = refl
+
+-- A study that one institution keeps: it is found there, and not at another.
+abbrev study_element : ℕ → List ℕ → List ℕ
+study_element size value = 0x20 ∷ 0 ∷ 0x0d ∷ 0 ∷ 0x55 ∷ 0x49 ∷ size ∷ 0 ∷ [] ++ value
+
+abbrev kept_study : Row
+kept_study = record { kind = Study; inst = north; key = codes "1.21"; above = []; octets = study_element 4 (codes "1.21") }
+
+-- Study Root FIND in Explicit alone, for a modality
+abbrev find_request : List ℕ → List ℕ
+find_request calling = associate 1 176 1 calling (
+    proposed 1 58 (item 0x30 27 (codes "1.2.840.10008.5.1.4.1.2.2.1") ++ explicit)
+    ++ item 0x50 17 (item 0x51 4 (0 ∷ 0 ∷ 64 ∷ 0 ∷ []) ++ item 0x52 5 (codes "1.2.3")))
+
+abbrev find_accepted : List ℕ → List ℕ
+find_accepted calling = associate 2 169 1 calling (
+    result 1 27 0 explicit
+    ++ item 0x50 41 (item 0x51 4 (0 ∷ 1 ∷ 0 ∷ 0 ∷ []) ++ item 0x52 15 (codes "2.25.2718281828") ++ item 0x55 10 (codes "DQARCHIVE1")))
+
+abbrev find_uids : List ℕ
+find_uids = find_command ++ value_pdu 28 24 2 (0x08 ∷ 0 ∷ 0x52 ∷ 0 ∷ 0x43 ∷ 0x53 ∷ 6 ∷ 0 ∷ [] ++ codes "STUDY " ++ study_element 0 [])
+
+-- the pending response, with level, title, availability and the UID
+abbrev found_study : List ℕ
+found_study = value_pdu 94 90 3 (
+    element 0x0000 4 (76 ∷ 0 ∷ 0 ∷ 0 ∷ []) ++ element 0x0002 28 study_root ++ element 0x0100 2 (0x20 ∷ 0x80 ∷ []) ++ element 0x0120 2 (1 ∷ 0 ∷ [])
+    ++ element 0x0800 2 (1 ∷ 0 ∷ []) ++ element 0x0900 2 (0 ∷ 0xff ∷ []))
+    ++ value_pdu 68 64 2 (0x08 ∷ 0 ∷ 0x52 ∷ 0 ∷ 0x43 ∷ 0x53 ∷ 6 ∷ 0 ∷ [] ++ codes "STUDY " ++ 0x08 ∷ 0 ∷ 0x54 ∷ 0 ∷ 0x41 ∷ 0x45 ∷ 8 ∷ 0 ∷ [] ++ codes "ARCHIVE "
+    ++ 0x08 ∷ 0 ∷ 0x56 ∷ 0 ∷ 0x43 ∷ 0x53 ∷ 12 ∷ 0 ∷ [] ++ codes "UNAVAILABLE " ++ study_element 4 (codes "1.21"))
+
+a_kept_study :
+    (replies (two 4) (kept_study ∷ []) (history (find_request ct1 ∷ find_uids ∷ [])) ≡ Done ∷ answered (find_accepted ct1) ∷ answered
+    (found_study ++ find_status 0) ∷ [])
+    × (replies (two 4) (kept_study ∷ []) (history (find_request ct2 ∷ find_uids ∷ [])) ≡ Done ∷ answered (find_accepted ct2) ∷ answered (find_status 0) ∷ [])
+unfolding pdus_within front pdu_of associate_of request_of item_at pdv_at proposed_of user_information_of values_of parts routed has_route joins built_in class_of
+    stripped without_leading without_trailing kept_before messages_from command_from command_of reading readers elements_by element_by elements_after value_by
+    items_by item_by items_after header_at end_at is_below tag_at spelling_at long_length_at content_of known_vr vr_in dictionary trimmed unpadded is_padded
+    ignores_leading_spaces served found query_of identifier_in level_named has_keys_above is_supported keys_of leaves answers records_asked records_of of
+    vr_at vr_or_fault vr_with_letters vr_among every_vr letters_of agrees length_at length_form_of is_text are_well_formed is_universal matching_of value.parts
+    value.pieces_of value.has_separator value.pieces value.joined uid_at sole_at data_set_of about_answers shown octets_meet asked_days asked_times
+    start_day start_time period computed study_values modalities_in all_in_order put_in_order records_above header_of vr_and_length
+a_kept_study = (refl, refl)

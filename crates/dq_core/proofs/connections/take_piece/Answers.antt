@@ -38,7 +38,7 @@ returns-clause-took c = λ number world x h e f.
     c.verdict_for-verdict.ensures ∙ ap (λ (ss : List Slot). verdict_for q ss) c.deref.ensures.value in
     let by : TookBy q verdict fed.pdus fed.fault c.index_mut-2.result.now c.take.new.self c.in_ok-taken.taken = record {
       taken_is = c.in_ok-taken.ensures.taken;
-      at_home = c.in_ok-taken.ensures.home;
+      agrees = c.in_ok-taken.ensures.agreement;
       stands = c.in_ok-taken.ensures.stands;
       number = c.take.ensures.keeps.0;
       inbox = c.take.ensures.keeps.1;

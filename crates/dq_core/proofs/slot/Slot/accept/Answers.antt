@@ -16,7 +16,7 @@ returns-clause-stands c = λ before stands e.
       record {
         association = rw (← c.into_inner-pdus.ensures) taken.1;
         not_closed = sym c.in_ok-step.ensures.close ∙ e;
-        home = c.in_ok-self.ensures ∙ ap (home_of owner) (c.agreement.ensures ∙ sym (c.in_ok-step.ensures.agreement e));
+        home = c.in_ok-self.ensures ∙ ap (home_of owner) (c.agreement.ensures ∙ sym c.in_ok-step.ensures.agreement);
         owned = λ agreement is. accepted-owned owner c.args.called.verdict c.args.request stands line_is;
       },
     )

@@ -15,7 +15,7 @@ returns-in_ok-take-in_default c =
     record {
       taken = rw (← c.into_inner-pdus.ensures)
           (ap (λ (octets : List ℕ). record { opening = octets; step = step }) c.empty-in_default.ensures ∙ sym m.taken_is);
-      home = λ s. inl m.messages_are;
+      agreement = inl m.messages_are;
       stands = λ s n e. absurd (false≢true (sym e ∙ m.closes));
       keeps = (refl, refl);
     }

@@ -1,0 +1,152 @@
+-- Queries that end with 0000, and where the responses to a message stand in a reply.
+use Rattle.std.proofs.Common.{◌≡◌, ℕ, ◌==◌, Bool, true, false, not, if◌then◌else◌, List, [], ◌∷◌, ◌++◌, Option, Some, None, Ok, refl, sym, ap, ◌∙◌, append_assoc, arith}
+use Rattle.std.specs.List.{flat_map}
+use Rattle.std.specs.Str.{bytes_eq}
+use Rattle.dq_dataset.specs.Tree.{ElementList}
+use Rattle.dq_dimse.specs.CommandFields.{c_cancel}
+use Rattle.dq_dimse.specs.declared.command.Message.{Message}
+use Rattle.dq_dimse.specs.Statuses.{success, sop_class_not_supported, unrecognized_operation}
+use Rattle.dq_assoc.specs.declared.agreement.AgreedContext.{AgreedContext}
+use Rattle.dq_assoc.specs.declared.agreement.Agreement.{Agreement}
+use Rattle.dq_assoc.specs.declared.association.Verdict.{Verdict}
+use Rattle.dq_assoc.specs.declared.classes.Service.{Service}
+use Rattle.dq_assoc.specs.declared.classes.Service.TheVariants.{StudyRootFind, WorklistFind}
+use Rattle.dq_assoc.specs.Classes.{service_of, uid_of}
+use Rattle.dq_assoc.specs.Table.{Input, Sent}
+use Rattle.dq_config.specs.declared.config.Institution.{Institution}
+use Rattle.dq_config.specs.Limits.{Limits, limits_of}
+use Rattle.dq_match.specs.declared.responses.Found.{Found}
+use Rattle.dq_find.specs.declared.query.Query.{Query}
+use Rattle.dq_find.specs.Queries as study
+use Rattle.dq_worklist.specs.Queries as worklist
+use Rattle.dq_tables.specs.Rows.{Record, of}
+use Rattle.dq_core.specs.declared.event.Event.TheVariants as event
+use Rattle.dq_core.specs.declared.event.Reply.TheVariants as reply
+use Rattle.dq_core.specs.Services.{Response, response, pending_responses, has_operation, refusal_for, operation, outcome_on, outcome_unless, served}
+use Rattle.dq_core.specs.Answers.{Answer, response_octets, answer, answers, then_answer, progress_of, verdict_at}
+use Rattle.dq_core.specs.Connections.{Connection, connection_in}
+use Rattle.dq_core.specs.Owners.{live_of}
+use Rattle.dq_core.specs.Shared.{World, answer_by, turn}
+use Rattle.dq_core.specs.Searches.{Succeeds, Brings, first_answer_by, HasResponses}
+use Rattle.dq_core.proofs.isolation.AnswerLaws.{answers-append}
+
+-- lists that end with one element
+not-nil : {A : Type 0} (xs : List A) (x : A) → xs ++ x ∷ [] ≡ [] → ⊥
+not-nil [] x e = cc
+not-nil (y ∷ xs) x e = cc
+
+same-front : {A : Type 0} (xs ys : List A) (x y : A) → xs ++ x ∷ [] ≡ ys ++ y ∷ [] → (xs ≡ ys) × (x ≡ y)
+same-front [] [] x y e = (refl, cc)
+same-front [] (z ∷ ys) x y e = absurd (not-nil ys y (sym (let rest : [] ≡ ys ++ y ∷ [] = cc in rest)))
+same-front (z ∷ xs) [] x y e = absurd (not-nil xs x (let rest : xs ++ x ∷ [] ≡ [] = cc in rest))
+same-front (z ∷ xs) (w ∷ ys) x y e =
+    let head : z ≡ w = cc in
+    let tail : xs ++ x ∷ [] ≡ ys ++ y ∷ [] = cc in
+    let rest = same-front xs ys x y tail in (cc rest.0, rest.1)
+
+-- a refusal is no success
+refused-by : (has is : Bool) (status : ℕ)
+    → (if not has then Some unrecognized_operation else (if not is then Some sop_class_not_supported else None)) ≡ Some status → status ≡ success → ⊥
+refused-by true true status e s = cc
+refused-by true false status e s = let one : sop_class_not_supported ≡ status = cc in absurd (omega (arith, one, s))
+refused-by false is status e s = let one : unrecognized_operation ≡ status = cc in absurd (omega (arith, one, s))
+
+module _ (limits : Limits) (records : List Record) (a : Agreement) (message : Message) (context : AgreedContext) where
+  abbrev outcome_found : Found
+  outcome_found = (outcome_on a context limits message records).0
+
+  -- where the responses end with 0000, the others are pending ones, of what was found
+  pendings-are : (pendings : List Response) (b : Bool) → (message.command.code == c_cancel) ≡ b → Succeeds limits records a message context pendings
+      → (pendings ≡ pending_responses context message.command outcome_found) × (outcome_found.status ≡ success)
+  unfolding served
+  pendings-are pendings true h s =
+      let computed : (served limits records a message).responses ≡ [] = rw (s.on_context, h) refl in
+      absurd (not-nil pendings s.final (sym s.responses ∙ computed))
+  pendings-are pendings false h s =
+      let last : Response = response context.class message.command outcome_found.status None in
+      let computed : (served limits records a message).responses ≡ pending_responses context message.command outcome_found ++ last ∷ [] =
+      rw (s.on_context, h) refl in
+      let both = same-front pendings (pending_responses context message.command outcome_found) s.final last (sym s.responses ∙ computed) in
+      (both.0, sym (ap (λ (r : Response). r.0.status) both.1) ∙ s.success)
+
+  study-found : (p : Option ℕ) → refusal_for context.class message.command ≡ p → service_of context.class ≡ StudyRootFind → outcome_found.status ≡ success
+      → outcome_found ≡ study.found records a.called message context.syntax
+  study-found (Some status) e service ok =
+      absurd (refused-by (has_operation (service_of context.class) message.command.code) (bytes_eq message.command.sop_class (uid_of context.class)) status e
+      (sym (ap (λ (p : Option ℕ). (outcome_unless p a context limits message records).0.status) e) ∙ ok))
+  study-found None e service ok =
+      ap (λ (p : Option ℕ). (outcome_unless p a context limits message records).0) e
+      ∙ ap (λ (s : Service). (operation s a.called context.syntax limits message records).0) service
+
+  entries-found : (p : Option ℕ) → refusal_for context.class message.command ≡ p → service_of context.class ≡ WorklistFind → outcome_found.status ≡ success
+      → outcome_found ≡ worklist.listed records message context.syntax
+  entries-found (Some status) e service ok =
+      absurd (refused-by (has_operation (service_of context.class) message.command.code) (bytes_eq message.command.sop_class (uid_of context.class)) status e
+      (sym (ap (λ (p : Option ℕ). (outcome_unless p a context limits message records).0.status) e) ∙ ok))
+  entries-found None e service ok =
+      ap (λ (p : Option ℕ). (outcome_unless p a context limits message records).0) e
+      ∙ ap (λ (s : Service). (operation s a.called context.syntax limits message records).0) service
+
+  pub study-pending : (pendings : List Response) → service_of context.class ≡ StudyRootFind → Succeeds limits records a message context pendings
+      → ((study.found records a.called message context.syntax).status ≡ success)
+      × (pendings ≡ pending_responses context message.command (study.found records a.called message context.syntax))
+  study-pending pendings service s =
+      let are = pendings-are pendings (message.command.code == c_cancel) refl s in
+      let is = study-found (refusal_for context.class message.command) refl service are.1 in
+      (sym (ap (λ (f : Found). f.status) is) ∙ are.1, are.0 ∙ ap (pending_responses context message.command) is)
+
+  pub entries-pending : (pendings : List Response) → service_of context.class ≡ WorklistFind → Succeeds limits records a message context pendings
+      → ((worklist.listed records message context.syntax).status ≡ success)
+      × (pendings ≡ pending_responses context message.command (worklist.listed records message context.syntax))
+  entries-pending pendings service s =
+      let are = pendings-are pendings (message.command.code == c_cancel) refl s in
+      let is = entries-found (refusal_for context.class message.command) refl service are.1 in
+      (sym (ap (λ (f : Found). f.status) is) ∙ are.1, are.0 ∙ ap (pending_responses context message.command) is)
+
+-- whether some keys are optional is the query's
+pub study-optional : (records : List Record) (called : List ℕ) (message : Message) (context : AgreedContext) (query : Query)
+    → study.query_of message context.syntax ≡ Ok query → (study.found records called message context.syntax).optional ≡ query.optional
+unfolding study.found
+study-optional records called message context query e = rw e refl
+
+pub entries-optional : (records : List Record) (message : Message) (context : AgreedContext) (keys : ElementList) (optional : Bool)
+    → worklist.query_of message context.syntax ≡ Ok (record { keys = keys; optional = optional })
+    → (worklist.listed records message context.syntax).optional ≡ optional
+unfolding worklist.listed
+entries-optional records message context keys optional e = rw e refl
+
+-- ---- where responses stand in a reply
+
+then-octets : (x y : Answer) → x.close ≡ false → (then_answer x y).octets ≡ x.octets ++ y.octets
+then-octets x y h = rw h refl
+
+sent-octets : (limits : Limits) (verdict : Verdict) (a : Agreement) (message : Message) (later : List Input) (records : List Record) (o : Option Agreement)
+    → o ≡ Some a → (back : List ℕ)
+    × ((answers limits verdict (record { agreement = o; records = records }) (Sent message ∷ later)).octets
+    ≡ flat_map (response_octets message.context a.limit) (served limits records a message).responses ++ back)
+sent-octets limits verdict a message later records o e =
+    let next = answer limits verdict (record { agreement = Some a; records = records }) (Sent message) in
+    rw e ((answers limits verdict next.next later).octets, refl)
+
+pub reply-has : (institutions : List Institution) (world : World) (c : Connection) (piece : List ℕ) (i : Institution) (a : Agreement) (records : List Record)
+    (message : Message) → connection_in c.number world.connections ≡ Some c → Brings institutions world c piece i a records message
+    → HasResponses c.number message.context a.limit (served (limits_of i) records a message).responses
+    (turn institutions world (event.Piece c.number piece)).reply
+reply-has institutions world c piece i a records message held b =
+    let limits = limits_of i in
+    let verdict = verdict_at i.associations (live_of institutions i.name world.connections) in
+    let progress = progress_of c.stream (of i.name world.rows) in
+    let first = first_answer_by i institutions world c b.before in
+    let whole = answer_by (Some i) institutions world c piece in
+    let sent = sent-octets limits verdict a message b.later first.next.records first.next.agreement b.agreed in
+    let joined : whole ≡ then_answer first (answers limits verdict first.next (Sent message ∷ b.later)) =
+    ap (answers limits verdict progress) b.inputs ∙ answers-append limits verdict progress b.before (Sent message ∷ b.later) in
+    let octets : whole.octets ≡ first.octets ++ flat_map (response_octets message.context a.limit) (served limits first.next.records a message).responses
+    ++ sent.0 =
+    ap (λ (x : Answer). x.octets) joined ∙ then-octets first (answers limits verdict first.next (Sent message ∷ b.later)) b.goes_on
+    ∙ ap (λ (os : List ℕ). first.octets ++ os) sent.1
+    ∙ sym (append_assoc first.octets (flat_map (response_octets message.context a.limit) (served limits first.next.records a message).responses) sent.0)
+    in
+    let with_records = ap (λ (rs : List Record).
+    first.octets ++ flat_map (response_octets message.context a.limit) (served limits rs a message).responses ++ sent.0) b.has in
+    (first.octets, sent.0, whole.close, rw (held, b.owned) (ap (λ (os : List ℕ). reply.Octets c.number os whole.close) (octets ∙ with_records)))

@@ -1,0 +1,37 @@
+-- What a look at a server's rows leaves.
+use Rattle.std.specs.Prelude.{◌≡◌, ◌↔◌, true, false, List, Ok, Err}
+use Rattle.dq_tables.specs.declared.row.Row.{Row}
+use Rattle.dq_tables.specs.Keeping.{State}
+use Rattle.dq_core.specs.declared.event.Event.{Event}
+use Rattle.dq_core.specs.declared.fault.Fault.{Fault}
+use Rattle.dq_core.specs.declared.fault.Fault.TheVariants.{Store, Stopped}
+use Rattle.dq_core.specs.Stepping.{Goes}
+use Rattle.dq_core.specs.Standing.{Standing, StandsFor}
+
+-- It is answered: the server stands for whatever history it stood for, and its rows stay.
+pub record Looked {Tables : Type 0} (state : Tables → State) (old new : Standing Tables)
+    : Type 0 where
+  pub stands : (rows : List Row) (events : List Event) → StandsFor state rows old events
+      → (state new.tables).honest → StandsFor state rows new events
+  pub same : (state new.tables).honest → (state new.tables).rows ≡ (state old.tables).rows
+  pub institutions : new.institutions ≡ old.institutions
+  pub newest : new.newest ≡ old.newest
+  pub spent : new.spent ≡ old.spent
+  pub goes : Goes {A = Unit {0}} (state old.tables) (state new.tables) (Ok tt)
+
+-- The server fails at it, and is spent. Its rows stay, and a crash leaves nothing that it could not
+-- leave before. A server that stands for a history fails with Store only where its tables failed.
+pub record FailsToLook {Tables : Type 0} (state : Tables → State) (old new : Standing Tables)
+    (fault : Fault) : Type 0 where
+  pub same : (state new.tables).honest → (state new.tables).rows ≡ (state old.tables).rows
+  pub crash : (state new.tables).honest → (r : List Row) → (state new.tables).may_leave r
+      → (state old.tables).may_leave r
+  pub institutions : new.institutions ≡ old.institutions
+  pub newest : new.newest ≡ old.newest
+  pub spent : new.spent ≡ true
+  pub goes : Goes {A = Unit {0}} (state old.tables) (state new.tables) (Err fault)
+  pub store : (rows : List Row) (events : List Event) → StandsFor state rows old events
+      → fault ≡ Store
+      → ((state old.tables).failed ≡ false) × ((state new.tables).failed ≡ true)
+  pub stopped : (fault ≡ Stopped) ↔ (old.spent ≡ true)
+  pub unchanged : old.spent ≡ true → new ≡ old
