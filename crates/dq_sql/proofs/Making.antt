@@ -1,0 +1,46 @@
+-- What a change is made of.
+use Rattle.std.proofs.Common.{◌≡◌, ℕ, List, true, Option, None, Some, sym, subst}
+use Rattle.std.specs.Option.{is_some}
+use Rattle.sqlite.specs.Effect.{Database}
+use Rattle.dq_tables.specs.declared.row.Kind.{Kind}
+use Rattle.dq_tables.specs.declared.row.Kind.TheVariants.{Study, Series, Image, Entry, Step}
+use Rattle.dq_tables.specs.declared.row.Row.{Row}
+use Rattle.dq_tables.specs.declared.change.Change.TheVariants.{Stored, EntryAdded, EntryRemoved, StepAdded, StepChanged}
+use Rattle.dq_tables.specs.Rows.{after_edit, after_edits, put_if, Put, record_of, IsOf}
+use Rattle.dq_tables.specs.Finding.{row_at}
+use Rattle.dq_tables.specs.Sound.{IsNew, IsNewIf}
+use Rattle.dq_tables.proofs.Soundness.{stored_is}
+use Rattle.dq_sql.specs.Tie.{HasRows}
+use Rattle.dq_sql.specs.Writing.{Adds, AddsIf, Replaces, Removes, Makes}
+
+pub free_place : (rows : List Row) (kind : Kind) (row : Row) → IsNew rows kind row → row_at row.kind row.inst row.key rows ≡ None
+free_place rows kind row new = subst (λ (k : Kind). row_at k row.inst row.key rows ≡ None) (sym new.kind_is) new.free
+
+added_if : (d e : Database) (kind : Kind) (h : List ℕ) (row : Option Row) (rows : List Row) → AddsIf d e row → HasRows d rows → IsOf h row → IsNewIf rows kind row
+    → HasRows e (after_edits h (put_if row) rows)
+added_if d e kind h None rows same has own new = subst (λ (x : Database). HasRows x rows) (sym same) has
+added_if d e kind h (Some row) rows adds has own new =
+    subst (λ (g : List ℕ). HasRows e (after_edit g (Put (record_of row)) rows)) own (adds rows has (free_place rows kind row new))
+
+module _ (d : Database) where
+  pub stored_made : (d1 d2 e : Database) (study series : Option Row) (image : Row) → AddsIf d d1 study → AddsIf d1 d2 series → Adds d2 e image
+      → Makes d e (Stored study series image)
+  stored_made d1 d2 e study series image first second third rows has fits =
+      let h = image.inst in
+      let has1 = added_if d d1 Study h study rows first has fits.study_of fits.study_new in
+      let has2 = added_if d1 d2 Series h series (after_edits h (put_if study) rows) second has1 fits.series_of fits.series_new in
+      let more = after_edits h (put_if series) (after_edits h (put_if study) rows) in
+      subst (HasRows e) (sym (stored_is rows study series image)) (third more has2 (free_place more Image image fits.image_new))
+
+  pub entry_made : (e : Database) (row : Row) → Adds d e row → Makes d e (EntryAdded row)
+  entry_made e row adds rows has fits = adds rows has (free_place rows Entry row fits)
+
+  pub step_made : (e : Database) (row : Row) → Adds d e row → Makes d e (StepAdded row)
+  step_made e row adds rows has fits = adds rows has (free_place rows Step row fits)
+
+  pub step_changed : (e : Database) (row : Row) → Replaces d e row → Makes d e (StepChanged row)
+  step_changed e row replaces rows has fits =
+      replaces rows has (subst (λ (k : Kind). is_some (row_at k row.inst row.key rows) ≡ true) (sym fits.kind_is) fits.there)
+
+  pub entry_gone : (e : Database) (institution key : List ℕ) → Removes d e Entry institution key → Makes d e (EntryRemoved institution key)
+  entry_gone e institution key removes rows has fits = removes rows has

@@ -1,0 +1,150 @@
+-- The rows that the tables hold once the row at a place is replaced, or removed.
+use Rattle.std.proofs.Common.{◌≡◌, inl, inr, ℕ, ℤ, pos, List, [], ◌∷◌, map, length, drop, Bool, true, false, not, ◌&&◌, filter, if◌then◌else◌, IsTrue, refl, sym, ap, subst, ◌∙◌}
+use Rattle.std.specs.List.{AllByRecursion, IsDistinct}
+use Rattle.std.specs.Ordering.{is_eq, ordering_then}
+use Rattle.std.specs.List.Sorted.{IsPermutation}
+use Rattle.std.proofs.lemmas.List.Sorted.{length_permutation}
+use Rattle.std.proofs.lemmas.Map.Text.{is_eq-slice_cmp}
+use Rattle.std.proofs.lemmas.Slice.Eq.{bytes_eq-Decides}
+use Rattle.sqlite_value.specs.declared.value.Value.{Value}
+use Rattle.sqlite_value.specs.declared.value.Value.TheVariants.{Int, Text, Blob}
+use Rattle.sqlite_value.specs.Order.{Row as Values, column}
+use Rattle.sqlite_trees.specs.Tree.{rowid, put_row}
+use Rattle.sqlite_trees.specs.View.{is_int}
+use Rattle.sqlite_sql.specs.Term.{eval_all}
+use Rattle.sqlite_rules.specs.Calls.{ids_of}
+use Rattle.sqlite_rules.specs.Cast.{cast_row}
+use Rattle.sqlite_rules.specs.Edit.{id_in, without_all, put_all, are_fresh, is_taken}
+use Rattle.sqlite.specs.Effect.{Database}
+use Rattle.sqlite.proofs.Callers.{one_permutation}
+use Rattle.dq_tables.specs.declared.row.Kind.{Kind}
+use Rattle.dq_tables.specs.declared.row.Row.{Row}
+use Rattle.dq_tables.specs.Rows.{RowPlace, place, number_of, after_edit, Put, Remove, record_of, kind_order, octet_order}
+use Rattle.dq_tables.proofs.Order.{is_at, each_filtered, each_passed}
+use Rattle.dq_tables.proofs.InOrder.{is_eq_then, is_eq_nat}
+use Rattle.dq_tables.proofs.Listing.{one_kind}
+use Rattle.dq_tables.proofs.Lens.{rising_edit}
+use Rattle.dq_sql.specs.Schema.{kept_table}
+use Rattle.dq_sql.specs.Cells.{patient_of, day_of, columns_of}
+use Rattle.dq_sql.specs.Tie.{kept_of, IsKept, same_id, HasRows}
+use Rattle.dq_sql.specs.Writing.{Replaces, Removes}
+use Rattle.dq_sql.proofs.Statements.{changed}
+use Rattle.dq_tables.proofs.Members.{removed_has}
+use Rattle.dq_sql.proofs.Inserted.{cast-Int, day_cast, not_so}
+use Rattle.dq_sql.proofs.Added.{placed}
+use Rattle.dq_sql.proofs.Selected.{holds_at, one_found, is_found, others_same, none_others, none_if, named, int_of}
+use Rattle.dq_sql.proofs.Replaced.{Deleted, Updated}
+
+apart_filter : (p : Values → Bool) (xs : List Values) → IsDistinct same_id xs → IsDistinct same_id (filter p xs)
+unfolding IsDistinct
+apart_filter p [] h = tt
+apart_filter p (x ∷ xs) h = elim (p x) as (λ b. IsDistinct same_id (if b then x ∷ filter p xs else filter p xs)) [
+  | true ↦ (each_filtered _ p xs h.0, apart_filter p xs h.1)
+  | false ↦ apart_filter p xs h.1
+]
+
+pub both : (a b : Bool) → (a && b) ≡ true → (a ≡ true) × (b ≡ true)
+both true b e = (refl, e)
+both false b e = absurd cc
+
+pub record IsAtPlace (p : RowPlace) (row : Row) : Type 0 where
+  pub kind : row.kind ≡ p.kind
+  pub institution : row.inst ≡ p.institution
+  pub key : row.key ≡ p.key
+
+-- a row that is at a place has its kind, institution and key
+pub at_place : (p : RowPlace) (row : Row) → is_at p row ≡ true → IsAtPlace p row
+at_place p row h =
+    let first = both (is_eq (ordering_then (kind_order row.kind p.kind) (octet_order row.inst p.institution))) (is_eq (octet_order row.key p.key))
+    (sym (is_eq_then (ordering_then (kind_order row.kind p.kind) (octet_order row.inst p.institution)) (octet_order row.key p.key)) ∙ h) in
+    let second = both (is_eq (kind_order row.kind p.kind)) (is_eq (octet_order row.inst p.institution))
+    (sym (is_eq_then (kind_order row.kind p.kind) (octet_order row.inst p.institution)) ∙ first.0) in
+    record {
+      kind = one_kind row.kind p.kind (sym (is_eq_nat (number_of row.kind) (number_of p.kind)) ∙ second.0);
+      institution = (bytes_eq-Decides row.inst p.institution).0 (sym (is_eq-slice_cmp row.inst p.institution) ∙ second.1);
+      key = (bytes_eq-Decides row.key p.key).0 (sym (is_eq-slice_cmp row.key p.key) ∙ first.1);
+    }
+
+module _ (p : RowPlace) (d : Database) (rows : List Row) (has : HasRows d rows) where
+  t : List Values
+  t = d.trees 0
+
+  others : List Values
+  others = filter (λ r. not (holds_at p r)) (d.trees 0)
+
+  the_id : (x : Values) → filter (holds_at p) (d.trees 0) ≡ x ∷ [] → rowid x ≡ Int (id_in (rowid x))
+  the_id x one = int_of (rowid x) (subst (AllByRecursion (λ r. IsTrue (is_int (rowid r)))) one (each_filtered _ (holds_at p) (d.trees 0) has.ids)).0
+
+  is_kept : (x : Values) → filter (holds_at p) (d.trees 0) ≡ x ∷ [] → IsKept x
+  is_kept x one = (subst (AllByRecursion IsKept) one (each_filtered IsKept (holds_at p) (d.trees 0) has.kept)).0
+
+  is_there : (x : Values) → filter (holds_at p) (d.trees 0) ≡ x ∷ [] → IsAtPlace p (kept_of x)
+  is_there x one =
+      at_place p (kept_of x) (subst (AllByRecursion (λ r. holds_at p r ≡ true)) one (each_passed (λ r. holds_at p r ≡ true) (holds_at p) (λ r h. h) (d.trees 0))).0
+
+  -- the one row that is found has the id
+  shown_one : (f : Values → Values) (found : List Values) (x : Values) → IsPermutation (map f (filter (holds_at p) (d.trees 0))) found
+      → filter (holds_at p) (d.trees 0) ≡ x ∷ [] → found ≡ f x ∷ []
+  shown_one f found x shown one = one_permutation (f x) found (subst (λ l. IsPermutation (map f l) found) one shown)
+
+  shown_none : (f : Values → Values) (found : List Values) → IsPermutation (map f (filter (holds_at p) (d.trees 0))) found
+      → filter (holds_at p) (d.trees 0) ≡ [] → found ≡ []
+  shown_none f found shown none = none_if found (length_permutation _ _ shown ∙ ap (λ l. length (map f l)) none)
+
+pub removed : (d e : Database) (kind : Kind) (institution key : List ℕ) → Deleted d e kind institution key → Removes d e kind institution key
+removed d e kind institution key it rows has =
+    let p = place kind institution key in
+    let q = holds_at p in
+    let f : Values → Values = λ r. rowid r ∷ [] in
+    let left : e.trees 0 ≡ filter (λ r. not (q r)) (d.trees 0) = it.edits.rows ∙ elim (one_found p (d.trees 0) rows has.same has.rising) [
+      | inl none ↦ ap (λ l. without_all (d.trees 0) (ids_of l)) (shown_none p d rows has f it.found it.shown none) ∙ sym (none_others q (d.trees 0) none)
+      | inr one ↦ ap (λ l. without_all (d.trees 0) (ids_of l)) (shown_one p d rows has f it.found one.0 it.shown one.1)
+          ∙ named q one.0 (id_in (rowid one.0)) (the_id p d rows has one.0 one.1) (d.trees 0) has.apart one.1
+    ] in
+    record {
+      schema = it.edits.schema;
+      version = rw it.edits.version has.version;
+      apart = rw left (apart_filter _ (d.trees 0) has.apart);
+      ids = rw left (each_filtered _ _ (d.trees 0) has.ids);
+      kept = rw left (each_filtered IsKept _ (d.trees 0) has.kept);
+      same = rw left (subst (IsPermutation (map kept_of (filter (λ r. not (q r)) (d.trees 0)))) (sym (removed_has kind institution key rows has.rising)) (others_same p (d.trees 0) rows has.same));
+      rising = rising_edit institution (Remove kind key) rows has.rising;
+    }
+
+-- the columns of a row are cast to what they are
+recast : (row : Row) (id : ℤ) (a b c v : Value) → a ≡ Int id → b ≡ Int (pos (number_of row.kind)) → c ≡ Text row.inst → v ≡ Blob row.key
+    → cast_row kept_table (a ∷ b ∷ c ∷ v ∷ Blob row.above ∷ patient_of row ∷ day_of row ∷ Blob row.octets ∷ []) ≡ Int id ∷ columns_of row
+recast row id a b c v p q r s = rw (p, q, r, s, cast-Int, cast-Int, day_cast row) refl
+
+replaced_one : (d e : Database) (row : Row) (it : Updated d e row) (rows : List Row) (has : HasRows d rows) (x : Values)
+    → filter (holds_at (place row.kind row.inst row.key)) (d.trees 0) ≡ x ∷ [] → HasRows e (after_edit row.inst (Put (record_of row)) rows)
+replaced_one d e row it rows has x one =
+    let p = place row.kind row.inst row.key in
+    let q = holds_at p in
+    let f : Values → Values = λ r. eval_all changed (columns_of row ∷ r ∷ []) in
+    let recasts : List Values → List Values = map (λ s. cast_row kept_table (drop 1 s)) in
+    let id = id_in (rowid x) in
+    let new = Int id ∷ columns_of row in
+    let left = filter (λ r. not (q r)) (d.trees 0) in
+    let found : it.found ≡ f x ∷ [] = shown_one p d rows has f it.found x it.shown one in
+    let kept = is_kept p d rows has x one in
+    let at = is_there p d rows has x one in
+    let cast : cast_row kept_table (drop 1 (f x)) ≡ new = recast row id (column x 0) (column x 1) (column x 2) (column x 3) (the_id p d rows has x one)
+    (kept.kind ∙ ap (λ k. Int (pos (number_of k))) at.kind) (kept.inst ∙ ap Text at.institution) (kept.key ∙ ap Blob at.key) in
+    let news : recasts it.found ≡ new ∷ [] = ap recasts found ∙ ap (λ r. r ∷ []) cast in
+    let base : without_all (d.trees 0) (ids_of it.found) ≡ left =
+    ap (λ l. without_all (d.trees 0) (ids_of l)) found ∙ named q x id (the_id p d rows has x one) (d.trees 0) has.apart one in
+    let is : e.trees 0 ≡ put_row new left = it.edits.rows ∙ ap (λ l. put_all l (recasts it.found)) base ∙ ap (put_all left) news in
+    let fresh : are_fresh left (new ∷ []) ≡ true =
+    sym (ap (λ l. are_fresh l (recasts it.found)) base ∙ ap (are_fresh left) news) ∙ it.edits.fresh in
+    placed row id d e left rows has it.edits.schema it.edits.version is (not_so (is_taken left new) fresh)
+    (apart_filter _ (d.trees 0) has.apart) (each_filtered _ _ (d.trees 0) has.ids) (each_filtered IsKept _ (d.trees 0) has.kept)
+    (others_same p (d.trees 0) rows has.same)
+
+pub replaced : (d e : Database) (row : Row) → Updated d e row → Replaces d e row
+replaced d e row it rows has there =
+    let p = place row.kind row.inst row.key in
+    elim (one_found p (d.trees 0) rows has.same has.rising) [
+      | inl none ↦ absurd (is_found p (d.trees 0) rows has.same there none)
+      | inr one ↦ replaced_one d e row it rows has one.0 one.1
+    ]

@@ -1,0 +1,157 @@
+-- Found rows that are put in their places.
+use Rattle.std.proofs.Common.{◌≡◌, ◌⊎◌, inl, inr, ℕ, zero, suc, ◌+◌, ◌<◌, Bool, List, [], ◌∷◌, ◌++◌, map, take, drop, length, get_or, slice_get, find, Option, Some, None, is_some, is_ok, true, false, Result, Ok, Err, MatchResult, refl, sym, ap, ◌∙◌, subst, arith}
+use Rattle.std.specs.List.{AllByRecursion, IsDistinct, Contains}
+use Rattle.std.specs.List.Sorted.{IsPermutation}
+use Rattle.std.specs.Ordering.{is_eq, ordering_reverse}
+use Rattle.std.specs.declared.cmp.Ordering.{Ordering}
+use Rattle.std.specs.declared.cmp.Ordering.TheVariants.{Less, Equal, Greater}
+use Rattle.std.proofs.lemmas.List.Sorted.{IsPermutation-sym, IsPermutation-trans, IsPermutation-cons, IsPermutation-refl, IsPermutation-to_front, Contains-permutation}
+use Rattle.std.proofs.lemmas.Map.Keys.{IsDistinct-IsPermutation}
+use Rattle.sqlite_value.specs.Order.{Row as Values}
+use Rattle.dq_tables.specs.declared.row.Kind.{Kind}
+use Rattle.dq_tables.specs.declared.row.Row.{Row}
+use Rattle.dq_tables.specs.Rows.{IsRising, place, row_place_of, row_place_order, after_edit, Put, record_of}
+use Rattle.dq_tables.specs.Finding.{row_at, IsThere, IsFree}
+use Rattle.dq_tables.proofs.Order.{rows_total, is_at}
+use Rattle.dq_tables.proofs.InOrder.{row_at_is}
+use Rattle.dq_tables.proofs.OneOrder.{rising_distinct}
+use Rattle.dq_tables.proofs.Members.{added_has}
+use Rattle.dq_sql.specs.declared.fault.StoreFault.{StoreFault}
+use Rattle.dq_sql.specs.Tie.{kept_of}
+use Rattle.dq_sql.specs.Adopting.{IsTaken, IsGood, AreGood}
+
+within : {X : Type 0} (xs : List X) (at : ℕ) → at < length xs → is_some (slice_get xs at) ≡ true
+within [] at h = absurd (omega arith)
+within (x ∷ xs) zero h = refl
+within (x ∷ xs) (suc at) h = within xs at (omega arith)
+
+pub there_is : (kind : Kind) (institution key : List ℕ) (rows : List Row) (r : Result ℕ ℕ)
+    → MatchResult r (IsThere (place kind institution key) rows) (IsFree (place kind institution key) rows)
+    → is_ok r ≡ is_some (row_at kind institution key rows)
+there_is kind institution key rows (Ok at) there = sym (ap is_some there.found ∙ within rows at there.within)
+there_is kind institution key rows (Err at) free = sym (ap is_some free.found)
+
+none_inside : {X : Type 0} (o : Option X) → is_some o ≡ false → o ≡ None
+none_inside None e = refl
+none_inside (Some x) e = absurd cc
+
+-- a row that is put where its place is free is added to the rows
+pub put_adds : (row kept : Row) (rows room new : List Row) → row ≡ kept → room ≡ rows → IsRising rows
+    → is_some (row_at row.kind row.inst row.key rows) ≡ false → new ≡ after_edit row.inst (Put (record_of row)) room
+    → IsPermutation (kept ∷ rows) new
+put_adds row kept rows room new same roomy rising free is =
+    let made : after_edit row.inst (Put (record_of row)) rows ≡ new = ap (after_edit row.inst (Put (record_of row))) (sym roomy) ∙ sym is in
+    subst (λ (k : Row). IsPermutation (k ∷ rows) new) same
+    (subst (IsPermutation (row ∷ rows)) made (added_has row rows rising (none_inside _ free)))
+
+pub kept_taken : (row kept : Row) (rows : List Row) → row ≡ kept → is_some (row_at row.kind row.inst row.key rows) ≡ true → IsTaken rows kept
+kept_taken row kept rows same taken = subst (IsTaken rows) same taken
+
+head_in : {X : Type 0} (x : X) (xs : List X) → Contains (x ∷ xs) x
+head_in x xs = (0, omega arith, refl)
+
+tail_in : {X : Type 0} (x : X) (xs : List X) (y : X) → Contains xs y → Contains (x ∷ xs) y
+tail_in x xs y h = (suc h.0, omega (arith, h.1), h.2)
+
+member_of : {X : Type 0} (x : X) (xs : List X) (y : X) → Contains (x ∷ xs) y → (y ≡ x) ⊎ Contains xs y
+member_of x xs y (zero, near, is) = inl (sym is)
+member_of x xs y (suc k, near, is) = inr (k, omega arith, is)
+
+each_in : {X : Type 0} (P : X → Type 0) (xs : List X) → AllByRecursion P xs → (y : X) → Contains xs y → P y
+each_in P [] h y in_it = absurd (omega (arith, in_it.1))
+each_in P (x ∷ xs) h y in_it = elim (member_of x xs y in_it) [
+  | inl e ↦ subst P (sym e) h.0
+  | inr later ↦ each_in P xs h.1 y later
+]
+
+each_from : {X : Type 0} (P : X → Type 0) (xs : List X) → ((y : X) → Contains xs y → P y) → AllByRecursion P xs
+each_from P [] f = tt
+each_from P (x ∷ xs) f = (f x (head_in x xs), each_from P xs (λ y h. f y (tail_in x xs y h)))
+
+-- what holds of each of a list holds of each in another order
+pub each_moved : {X : Type 0} (P : X → Type 0) (xs ys : List X) → IsPermutation xs ys → AllByRecursion P xs → AllByRecursion P ys
+each_moved P xs ys moved all = each_from P ys (λ y h. each_in P xs all y (Contains-permutation ys xs y (IsPermutation-sym xs ys moved) h))
+
+abbrev same_place : Row → Row → Bool
+same_place a b = is_eq (row_place_order (row_place_of a) (row_place_of b))
+
+is_eq_reverse : (o : Ordering) → is_eq o ≡ is_eq (ordering_reverse o)
+is_eq_reverse Less = refl
+is_eq_reverse Equal = refl
+is_eq_reverse Greater = refl
+
+flips : (a b : Row) → same_place a b ≡ same_place b a
+flips a b = is_eq_reverse (row_place_order (row_place_of a) (row_place_of b)) ∙ ap is_eq (sym (rows_total.antisymm (row_place_of b) (row_place_of a)))
+
+at_middle : {X : Type 0} (P : X → Type 0) (done : List X) (x : X) (more : List X) → AllByRecursion P (done ++ x ∷ more) → P x
+at_middle P [] x more h = h.0
+at_middle P (d ∷ done) x more h = at_middle P done x more h.1
+
+before_apart : (done : List Row) (x : Row) (more : List Row) → IsDistinct same_place (done ++ x ∷ more) → AllByRecursion (λ d. same_place d x ≡ false) done
+unfolding IsDistinct
+before_apart [] x more h = tt
+before_apart (d ∷ done) x more h = (at_middle (λ y. same_place d y ≡ false) done x more h.0, before_apart done x more h.1)
+
+none_found : (q : Row → Bool) (rows : List Row) → AllByRecursion (λ r. q r ≡ false) rows → find q rows ≡ None
+none_found q [] h = refl
+none_found q (r ∷ rows) h = rw h.0 (none_found q rows h.1)
+
+map_split : (done : List Values) (x : Values) (more : List Values) → map kept_of (done ++ x ∷ more) ≡ map kept_of done ++ kept_of x ∷ map kept_of more
+map_split [] x more = refl
+map_split (d ∷ done) x more = ap (λ l. kept_of d ∷ l) (map_split done x more)
+
+-- The place of a row is free of those before it, where all are rows of one order.
+free_before : (done more : List Values) (x : Values) (rows all : List Row) → IsPermutation (map kept_of done) rows
+    → IsPermutation (map kept_of (done ++ x ∷ more)) all → IsRising all → ¬ IsTaken rows (kept_of x)
+free_before done more x rows all some every rising taken =
+    let apart = IsDistinct-IsPermutation same_place flips all (map kept_of (done ++ x ∷ more)) (IsPermutation-sym _ all every) (rising_distinct all rising) in
+    let free = before_apart (map kept_of done) (kept_of x) (map kept_of more) (subst (IsDistinct same_place) (map_split done x more) apart) in
+    let none = none_found (is_at (row_place_of (kept_of x))) rows (each_moved (λ d. same_place d (kept_of x) ≡ false) _ rows some free) in
+    let no : is_some (row_at (kept_of x).kind (kept_of x).inst (kept_of x).key rows) ≡ false = ap is_some (row_at_is (row_place_of (kept_of x)) rows ∙ none) in
+    let wrong : true ≡ false = sym taken ∙ no in cc
+
+pub split_at : {X : Type 0} (xs : List X) (i : ℕ) (d : X) → i < length xs → take i xs ++ get_or xs i d ∷ drop (suc i) xs ≡ xs
+split_at [] i d h = absurd (omega arith)
+split_at (x ∷ xs) zero d h = refl
+split_at (x ∷ xs) (suc i) d h = ap (λ l. x ∷ l) (split_at xs i d (omega arith))
+
+take_next : {X : Type 0} (xs : List X) (i : ℕ) (d : X) → i < length xs → take (suc i) xs ≡ take i xs ++ get_or xs i d ∷ []
+take_next [] i d h = absurd (omega arith)
+take_next (x ∷ xs) zero d h = refl
+take_next (x ∷ xs) (suc i) d h = ap (λ l. x ∷ l) (take_next xs i d (omega arith))
+
+each_and : {X : Type 0} (P : X → Type 0) (xs : List X) (x : X) → AllByRecursion P xs → P x → AllByRecursion P (xs ++ x ∷ [])
+each_and P [] x all last = (last, tt)
+each_and P (y ∷ ys) x all last = (all.0, each_and P ys x all.1 last)
+
+last_first : (done : List Values) (x : Values) → IsPermutation (map kept_of (done ++ x ∷ [])) (kept_of x ∷ map kept_of done)
+last_first done x = subst (λ l. IsPermutation l (kept_of x ∷ map kept_of done)) (sym (map_split done x [])) (IsPermutation-to_front (map kept_of done) (kept_of x))
+
+-- a good row that is added
+pub good_next : (found : List Values) (i : ℕ) (x : Values) (rows new : List Row) → i < length found → x ≡ get_or found i x → AreGood (take i found) rows → IsGood x
+    → IsPermutation (kept_of x ∷ rows) new → IsRising new → AreGood (take (i + 1) found) new
+good_next found i x rows new near is good is_good added rising =
+    let one_more : i + 1 ≡ suc i = omega arith in
+    let longer : take (i + 1) found ≡ take i found ++ x ∷ [] =
+    ap (λ n. take n found) one_more ∙ (take_next found i x near ∙ ap (λ y. take i found ++ y ∷ []) (sym is)) in
+    subst (λ l. AreGood l new) (sym longer) (record {
+      each = each_and IsGood (take i found) x good.each is_good;
+      same = IsPermutation-trans _ (kept_of x ∷ rows) new
+          (IsPermutation-trans _ (kept_of x ∷ map kept_of (take i found)) _ (last_first (take i found) x) (IsPermutation-cons (kept_of x) _ rows good.same)) added;
+      rising = rising;
+    })
+
+-- a row that is bad, or whose place is taken, is none of good ones
+pub bad_next : (found : List Values) (i : ℕ) (x : Values) (rows : List Row) → i < length found → x ≡ get_or found i x → AreGood (take i found) rows
+    → (IsGood x → IsTaken rows (kept_of x)) → (all : List Row) → ¬ AreGood found all
+bad_next found i x rows near is good bad all every =
+    let whole : take i found ++ x ∷ drop (suc i) found ≡ found = ap (λ y. take i found ++ y ∷ drop (suc i) found) is ∙ split_at found i x near in
+    let is_good = at_middle IsGood (take i found) x (drop (suc i) found) (subst (AllByRecursion IsGood) (sym whole) every.each) in
+    free_before (take i found) (drop (suc i) found) x rows all good.same (subst (λ l. IsPermutation (map kept_of l) all) (sym whole) every.same) every.rising (bad is_good)
+
+pub none_good : AreGood [] []
+unfolding IsRising
+none_good = record { each = tt; same = IsPermutation-refl []; rising = tt }
+
+pub same_fault : {A : Type 0} (a b : StoreFault) → ◌≡◌ {A = Result A StoreFault} (Err a) (Err b) → a ≡ b
+same_fault a b e = cc

@@ -1,0 +1,130 @@
+-- What the texts of the queries mean.
+use Rattle.std.proofs.Common.{◌≡◌, ℕ, List, [], ◌∷◌, None, Some, Option, codes, false, pos, negsuc, refl}
+use Rattle.sqlite_value.specs.declared.value.Value.TheVariants.{Int, Null}
+use Rattle.sqlite_value.specs.declared.keys.Collation.TheVariants.{Binary}
+use Rattle.sqlite_value.specs.declared.keys.Key.{Key}
+use Rattle.sqlite_value.specs.Keys.{ascending}
+use Rattle.sqlite_sql.specs.declared.ops.BinaryOp.TheVariants.{Compare}
+use Rattle.sqlite_sql.specs.declared.ops.CompareOp.TheVariants.{Eq}
+use Rattle.sqlite_sql.specs.declared.aggregate.AggregateOp.TheVariants.{CountRows}
+use Rattle.sqlite_sql.specs.Term.{Term, lit, col, op2}
+use Rattle.sqlite_sql.specs.Group.{Grouping}
+use Rattle.sqlite_sql.specs.Query.{Query, inner, end}
+use Rattle.sqlite_schema.specs.declared.command.Command.TheVariants.{Select}
+use Rattle.sqlite.specs.Listing.{understood, reads_listing}
+use Rattle.sqlite_tied.specs.Compute.{everything}
+use Rattle.sqlite.proofs.Callers.{IsPlain, command_of}
+use Rattle.dq_sql.specs.Schema.{kept_schema}
+
+-- each row of a tree that passes these tests, shown by these terms, in this order
+abbrev pub selecting : ℕ → List Term → Option Grouping → List Term → List (Term × Key) → Query
+selecting tree tests group shown order = record {
+  from = inner tree end;
+  filter = tests;
+  group = group;
+  project = shown;
+  distinct = false;
+  collations = [];
+  order = order;
+  limit = lit (Int (negsuc 0));
+  offset = lit (Int (pos 0));
+}
+
+-- a column of the row is a parameter
+abbrev pub column_is : ℕ → ℕ → Term
+column_is at parameter = op2 (Compare Eq Binary) (col 1 at) (col 0 parameter)
+
+-- the rows of a kind and an institution, those among them with a key, and those under a key
+abbrev pub of_tests : List Term
+of_tests = column_is 1 0 ∷ column_is 2 1 ∷ []
+
+abbrev pub at_tests : List Term
+at_tests = column_is 1 0 ∷ column_is 2 1 ∷ column_is 3 2 ∷ []
+
+abbrev pub above_tests : List Term
+above_tests = column_is 1 0 ∷ column_is 2 1 ∷ column_is 4 2 ∷ []
+
+abbrev pub shown_columns : List Term
+shown_columns = col 1 3 ∷ col 1 4 ∷ col 1 7 ∷ []
+
+abbrev pub by_id : List (Term × Key)
+by_id = (col 1 3, ascending Binary) ∷ []
+
+abbrev pub count_grouping : Grouping
+count_grouping = record {
+  keys = [];
+  collations = [];
+  aggregates = (record { op = CountRows; distinct = false; collation = Binary; argument = lit Null }) ∷ [];
+  having = [];
+}
+
+abbrev pub counted : Option Grouping
+counted = Some count_grouping
+
+-- the text is this query under our schema
+pub record Means (text : List ℕ) (q : Query) : Type 0 where
+  pub names : List (List ℕ)
+  pub is : command_of (understood kept_schema text) ≡ Select (record { lets = []; body = q }) names
+  pub plain : IsPlain (understood kept_schema text)
+  pub unlisted : reads_listing kept_schema text ≡ false
+
+abbrev pub row_text : List ℕ
+row_text = codes "SELECT id, above, octets FROM kept WHERE kind = ?1 AND inst = ?2 AND id = ?3"
+
+abbrev pub of_text : List ℕ
+of_text = codes "SELECT id, above, octets FROM kept WHERE kind = ?1 AND inst = ?2 ORDER BY id"
+
+abbrev pub above_text : List ℕ
+above_text = codes "SELECT id, above, octets FROM kept WHERE kind = ?1 AND inst = ?2 AND above = ?3 ORDER BY id"
+
+abbrev pub count_text : List ℕ
+count_text = codes "SELECT count(*) FROM kept WHERE kind = ?1 AND inst = ?2"
+
+abbrev pub count_above_text : List ℕ
+count_above_text = codes "SELECT count(*) FROM kept WHERE kind = ?1 AND inst = ?2 AND above = ?3"
+
+abbrev pub all_text : List ℕ
+all_text = codes "SELECT rowid, kind, inst, id, above, patient, day, octets FROM kept ORDER BY kind, inst, id"
+
+abbrev pub version_text : List ℕ
+version_text = codes "SELECT number FROM version"
+
+abbrev pub all_columns : List Term
+all_columns = col 1 0 ∷ col 1 1 ∷ col 1 2 ∷ col 1 3 ∷ col 1 4 ∷ col 1 5 ∷ col 1 6 ∷ col 1 7 ∷ []
+
+abbrev pub by_place : List (Term × Key)
+by_place = (col 1 1, ascending Binary) ∷ (col 1 2, ascending Binary) ∷ (col 1 3, ascending Binary) ∷ []
+
+abbrev names : List (List ℕ)
+names = codes "id" ∷ codes "above" ∷ codes "octets" ∷ []
+
+abbrev all_names : List (List ℕ)
+all_names = codes "rowid" ∷ codes "kind" ∷ codes "inst" ∷ codes "id" ∷ codes "above" ∷ codes "patient" ∷ codes "day" ∷ codes "octets" ∷ []
+
+pub row_means : Means row_text (selecting 0 at_tests None shown_columns [])
+unfolding understood everything kept_schema
+row_means = record { names = names; is = refl; plain = (refl, refl); unlisted = refl }
+
+pub of_means : Means of_text (selecting 0 of_tests None shown_columns by_id)
+unfolding understood everything kept_schema
+of_means = record { names = names; is = refl; plain = (refl, refl); unlisted = refl }
+
+pub above_means : Means above_text (selecting 0 above_tests None shown_columns by_id)
+unfolding understood everything kept_schema
+above_means = record { names = names; is = refl; plain = (refl, refl); unlisted = refl }
+
+pub count_means : Means count_text (selecting 0 of_tests counted (col 1 0 ∷ []) [])
+unfolding understood everything kept_schema
+count_means = record { names = codes "count(*)" ∷ []; is = refl; plain = (refl, refl); unlisted = refl }
+
+pub count_above_means : Means count_above_text (selecting 0 above_tests counted (col 1 0 ∷ []) [])
+unfolding understood everything kept_schema
+count_above_means = record { names = codes "count(*)" ∷ []; is = refl; plain = (refl, refl); unlisted = refl }
+
+pub all_means : Means all_text (selecting 0 [] None all_columns by_place)
+unfolding understood everything kept_schema
+all_means = record { names = all_names; is = refl; plain = (refl, refl); unlisted = refl }
+
+pub version_means : Means version_text (selecting 2 [] None (col 1 1 ∷ []) [])
+unfolding understood everything kept_schema
+version_means = record { names = codes "number" ∷ []; is = refl; plain = (refl, refl); unlisted = refl }

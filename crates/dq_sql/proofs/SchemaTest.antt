@@ -1,0 +1,27 @@
+-- A schema is known by its parts.
+use Rattle.std.proofs.Common.{◌≡◌, ℕ, Bool, List, [], ◌∷◌, codes, pos, refl}
+use Rattle.sqlite_sql.specs.declared.ops.BinaryOp.TheVariants.{And}
+use Rattle.sqlite_sql.specs.declared.ops.CompareOp.TheVariants.{Ge, Le}
+use Rattle.sqlite_schema.specs.declared.code.Op.{Op}
+use Rattle.sqlite_schema.specs.declared.code.Op.TheVariants.{Binary}
+use Rattle.sqlite_schema.specs.Code.{terms_in}
+use Rattle.sqlite_schema.specs.declared.schema.Table.{Table}
+use Rattle.sqlite_schema.specs.declared.schema.Index.{Index}
+use Rattle.dq_sql.specs.Schema.{kept_columns, version_columns, kind_checks, kept_table, version_table, kept_index}
+use Rattle.dq_sql.specs.SchemaTest.{HasNoMore, HasNoRules, HasKey, BoundsKind}
+
+pub kind_range : (a b c d e f g : Op) → BoundsKind a b c Ge (pos 1) 0 → BoundsKind d e f Le (pos 5) 3 → g ≡ Binary And 2 5
+    → terms_in (a ∷ b ∷ c ∷ d ∷ e ∷ f ∷ g ∷ []) (6 ∷ []) ≡ kind_checks
+kind_range a b c d e f g least most both = rw (least.kind_is, least.limit_is, least.test_is, most.kind_is, most.limit_is, most.test_is, both) refl
+
+pub index_from : (i : Index) (name : List ℕ) (tree : ℕ) (columns : List ℕ) (is_unique : Bool) → i.name ≡ name → i.tree ≡ tree → i.table ≡ 0
+    → i.columns ≡ columns → i.order.digits ≡ 0 → i.is_unique ≡ is_unique → i ≡ kept_index name tree columns is_unique
+index_from i name tree columns is_unique p q r s t u = rw (p, q, r, s, t, u) refl
+
+pub kept_from : (t : Table) → t.name ≡ codes "kept" → t.tree ≡ 0 → t.columns ≡ kept_columns → HasKey t → t.checks ≡ kind_checks → HasNoMore t → t ≡ kept_table
+kept_from t name tree columns key checks more =
+    rw (name, tree, columns, key.primary, key.uniques, key.orders, checks, more.key, more.references, more.computed, more.stamps, more.uncounted) refl
+
+pub version_from : (t : Table) → t.name ≡ codes "version" → t.tree ≡ 2 → t.columns ≡ version_columns → HasNoRules t → HasNoMore t → t ≡ version_table
+version_from t name tree columns rules more =
+    rw (name, tree, columns, rules.primary, rules.uniques, rules.orders, rules.checks, more.key, more.references, more.computed, more.stamps, more.uncounted) refl

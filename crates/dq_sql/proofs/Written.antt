@@ -1,0 +1,50 @@
+-- What the statements make of the rows, in a transaction.
+use Rattle.std.proofs.Common.{ℕ, pos, List, [], ◌∷◌, Ok, Err, Result, OnOk, ◌∙◌}
+use Rattle.sqlite_value.specs.declared.value.Value.TheVariants.{Int, Text, Blob}
+use Rattle.sqlite.specs.State.{State, ExecutesInside}
+use Rattle.dq_tables.specs.declared.row.Kind.{Kind}
+use Rattle.dq_tables.specs.declared.row.Row.{Row}
+use Rattle.dq_tables.specs.Rows.{number_of}
+use Rattle.dq_sql.specs.Cells.{columns_of}
+use Rattle.dq_sql.specs.Writing.{Adds, Replaces, Removes, GoesOn, Went}
+use Rattle.dq_sql.proofs.Statements.{insert_text, update_text, delete_text}
+use Rattle.dq_sql.proofs.Inserted.{inserted}
+use Rattle.dq_sql.proofs.Added.{added}
+use Rattle.dq_sql.proofs.Replaced.{at_params, deleted, updated}
+use Rattle.dq_sql.proofs.Moved.{removed, replaced}
+
+pub on_ok : {X E : Type 0} (r : Result X E) (P Q : Type 0) → (P → Q) → OnOk r P → OnOk r Q
+on_ok (Ok x) P Q f h = f h
+on_ok (Err e) P Q f h = tt
+
+pub gone_further : (a b c : State) → GoesOn a b → GoesOn b c → GoesOn a c
+gone_further a b c p q = record { was_open = λ h. p.was_open (q.was_open h); committed = q.committed ∙ p.committed; inside = q.inside }
+
+pub gone_on : (a b c : State) → GoesOn a b → Went b c → Went a c
+gone_on a b c p q = record { is_open = q.is_open; on = gone_further a b c p q.on }
+
+module _ (old new : State) where
+  went_on : (sql : List ℕ) (params : _) (count : ℕ) → ExecutesInside 0 sql params old new (Ok count) → Went old new
+  went_on sql params count h = record {
+    is_open = h.1.is_open;
+    on = record { was_open = λ _. h.1.was_open; committed = h.1.committed_is; inside = h.1.mode };
+  }
+
+  pub put_done : (row : Row) → (count : ℕ) × ExecutesInside 0 insert_text (columns_of row) old new (Ok count) → Went old new × Adds old.now new.now row
+  put_done row h = (
+    went_on insert_text (columns_of row) h.0 h.1,
+    λ rows has free. added old.now new.now row (inserted old new row h.0 has.schema h.1.0) rows has free,
+  )
+
+  pub replace_done : (row : Row) → (count : ℕ) × ExecutesInside 0 update_text (columns_of row) old new (Ok count) → Went old new × Replaces old.now new.now row
+  replace_done row h = (
+    went_on update_text (columns_of row) h.0 h.1,
+    λ rows has there. replaced old.now new.now row (updated old new row h.0 has.schema has.kept h.1.0) rows has there,
+  )
+
+  pub remove_done : (kind : Kind) (institution key : List ℕ) → (count : ℕ) × ExecutesInside 0 delete_text (Int (pos (number_of kind)) ∷ Text institution ∷ Blob key ∷ []) old new (Ok count)
+      → Went old new × Removes old.now new.now kind institution key
+  remove_done kind institution key h = (
+    went_on delete_text (at_params kind institution key) h.0 h.1,
+    λ rows has. removed old.now new.now kind institution key (deleted old new kind institution key h.0 has.schema has.kept h.1.0) rows has,
+  )

@@ -1,0 +1,30 @@
+use Rattle.dq_tables.specs.declared.row.Kind.TheVariants.{Entry, Step}
+use Rattle.dq_sql.proofs.Counted.{stored_right, new_right, gone_right, changed_right}
+use Rattle.dq_sql.proofs.counts.Counts.follow.Goals as goal
+
+pub returns-in-Stored : goal.returns-in-Stored
+returns-in-Stored c rows rising fits right =
+    let it = c.in-Stored in
+    rw it.is (stored_right it.study it.series it.image rows c.add_if.new.self c.add_if-in-Stored.new.self c.add.new.self rising (rw it.is at fits)
+    (c.add_if.ensures rows right) c.add_if-in-Stored.ensures c.add.ensures)
+
+pub returns-in-EntryAdded : goal.returns-in-EntryAdded
+returns-in-EntryAdded c rows rising fits right =
+    let it = c.in-EntryAdded in
+    rw it.is (new_right rows rising Entry it.row c.add-in-EntryAdded.new.self (rw it.is at fits) (c.add-in-EntryAdded.ensures rows right))
+
+pub returns-in-EntryRemoved : goal.returns-in-EntryRemoved
+returns-in-EntryRemoved c rows rising fits right =
+    let it = c.in-EntryRemoved in
+    rw it.is (gone_right it.inst it.key rows c.args.self.now c.take.new.self rising (rw it.is at fits) right
+    (λ row others kind inst. c.take.ensures row others kind (rw c.as_slice.ensures inst)))
+
+pub returns-in-StepAdded : goal.returns-in-StepAdded
+returns-in-StepAdded c rows rising fits right =
+    let it = c.in-StepAdded in
+    rw it.is (new_right rows rising Step it.row c.add-in-StepAdded.new.self (rw it.is at fits) (c.add-in-StepAdded.ensures rows right))
+
+pub returns-in-StepChanged : goal.returns-in-StepChanged
+returns-in-StepChanged c rows rising fits right =
+    let it = c.in-StepChanged in
+    rw it.is (changed_right it.field-0 rows c.args.self.now rising (rw it.is at fits) right)

@@ -1,0 +1,100 @@
+-- Which rows of a found table are rows of ours.
+use Rattle.std.specs.Prelude.{◌≡◌, true, pos, List, [], ◌∷◌, ℤ, IsTrue, is_some, map, IsPermutation}
+use Rattle.std.specs.List.{AllByRecursion, IsDistinct}
+use Rattle.sqlite_value.specs.declared.value.Value.TheVariants.{Int, Text, Blob}
+use Rattle.sqlite_value.specs.Order.{Row as Values, column}
+use Rattle.sqlite_trees.specs.declared.store.Store.{Ghosts}
+use Rattle.sqlite_trees.specs.Tree.{rowid}
+use Rattle.sqlite_trees.specs.View.{is_int}
+use Rattle.sqlite_rules.specs.Edit.{id_in}
+use Rattle.sqlite.specs.Effect.{Database}
+use Rattle.sqlite.specs.State.{State, HasCleanDisk}
+use Rattle.sqlite.specs.Held.{Held, state}
+use Rattle.dq_tables.specs.declared.row.Row.{Row}
+use Rattle.dq_tables.specs.Rows.{number_of, IsRising}
+use Rattle.dq_tables.specs.Finding.{row_at}
+use Rattle.dq_tables.specs.Sound.{is_own, HeldEach, IsSound}
+use Rattle.dq_sql.specs.declared.fault.StoreFault.{StoreFault}
+use Rattle.dq_sql.specs.declared.fault.StoreFault.TheVariants.{WrongVersion, BadRows}
+use Rattle.dq_sql.specs.Cells.{patient_of, day_of}
+use Rattle.dq_sql.specs.Schema.{kept_schema}
+use Rattle.dq_sql.specs.Tie.{IsKept, kept_of, same_id, HasRows, IsAtRest, Stays}
+
+-- The columns hold the row, but for what they say of a study's patient and day.
+pub record HoldsRecord (row : Row) (r : Values) : Type 0 where
+  pub kind : column r 1 ≡ Int (pos (number_of row.kind))
+  pub inst : column r 2 ≡ Text row.inst
+  pub key : column r 3 ≡ Blob row.key
+  pub above : column r 4 ≡ Blob row.above
+  pub octets : column r 7 ≡ Blob row.octets
+
+-- the columns say of a study's patient and day what its record says
+pub record HasCells (row : Row) (r : Values) : Type 0 where
+  pub patient : column r 5 ≡ patient_of row
+  pub day : column r 6 ≡ day_of row
+
+-- The columns hold a row that is its record's own.
+pub record IsGood (r : Values) : Type 0 where
+  pub kept : IsKept r
+  pub own : is_own (kept_of r) ≡ true
+
+-- a row of the same place is there
+abbrev pub IsTaken : List Row → Row → Type 0
+IsTaken rows row = is_some (row_at row.kind row.inst row.key rows) ≡ true
+
+-- All are good, and no two are of one place.
+pub record AreGood (found : List Values) (rows : List Row) : Type 0 where
+  pub each : AllByRecursion IsGood found
+  pub same : IsPermutation (map kept_of found) rows
+  pub rising : IsRising rows
+
+-- the rowid is a whole number
+abbrev pub IsNumbered : Values → Type 0
+IsNumbered r = IsTrue (is_int (rowid r))
+
+abbrev pub id_of : Values → ℤ
+id_of r = id_in (rowid r)
+
+-- The rowids are whole numbers, no two alike.
+pub record AreApart (found : List Values) : Type 0 where
+  pub whole : AllByRecursion IsNumbered found
+  pub apart : IsDistinct same_id found
+
+-- what the query of the version shows: one number, and that is 1
+abbrev pub SaysOne : List Values → Type 0
+SaysOne found = map (λ r. column r 0) found ≡ Int (pos 1) ∷ []
+
+-- the table `version` says 1
+abbrev pub IsVersionOne : Database → Type 0
+IsVersionOne d = map (λ r. column r 1) (d.trees 2) ≡ Int (pos 1) ∷ []
+
+-- No transaction is open, and the store has the tables and the index of a store of rows alone.
+pub record IsOurs (s : State) : Type 0 where
+  pub rest : IsAtRest s
+  pub schema : s.now.schema ≡ kept_schema
+
+-- Found rows are those of a store of sound rows.
+pub record AreSound (found : List Values) (rows : List Row) : Type 0 where
+  pub apart : AreApart found
+  pub good : AreGood found rows
+  pub held : HeldEach rows rows
+
+-- The store was open and had the rows, which are sound.
+pub record IsFound (s : State) (rows : List Row) : Type 0 where
+  pub is_open : IsTrue s.is_open
+  pub rest : IsAtRest s
+  pub has : HasRows s.now rows
+  pub sound : IsSound rows
+
+-- A found store is refused by a fault, and its connection is dropped as it is left. Where the disk
+-- returned what was written until then, the fault is true of the store: a wrong version is not 1,
+-- and bad rows are found in version 1, of which no rows that it has are sound.
+pub record IsRefused {S : Type 0} (g : Ghosts S) (found : Held S) (fault : StoreFault)
+    : Type 0 where
+  pub left : Held S
+  pub stays : Stays (state g found) (state g left)
+  pub version : HasCleanDisk (state g left) → fault ≡ WrongVersion
+      → ¬ IsVersionOne (state g found).now
+  pub said : HasCleanDisk (state g left) → fault ≡ BadRows → IsVersionOne (state g found).now
+  pub bad : HasCleanDisk (state g left) → fault ≡ BadRows
+      → (rows : List Row) → HasRows (state g found).now rows → ¬ IsSound rows

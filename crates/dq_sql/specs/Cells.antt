@@ -1,0 +1,22 @@
+-- The columns in which a store holds a row.
+use Rattle.std.specs.Prelude.{pos, [], ◌∷◌}
+use Rattle.sqlite_value.specs.declared.value.Value.{Value}
+use Rattle.sqlite_value.specs.declared.value.Value.TheVariants.{Int, Text, Blob}
+use Rattle.sqlite_value.specs.Order.{Row as Values}
+use Rattle.sqlite.specs.Values.{or_null}
+use Rattle.dq_tables.specs.declared.row.Row.{Row}
+use Rattle.dq_tables.specs.Rows.{number_of}
+use Rattle.dq_tables.specs.Labels as labels
+
+-- a study's patient and its day
+unfoldable pub patient_of : Row → Value
+patient_of row = or_null Blob (labels.patient_of row)
+
+unfoldable pub day_of : Row → Value
+day_of row = or_null Int (labels.day_of row)
+
+-- the columns of a row, after its rowid
+abbrev pub columns_of : Row → Values
+columns_of row =
+    Int (pos (number_of row.kind)) ∷ Text row.inst ∷ Blob row.key ∷ Blob row.above
+    ∷ patient_of row ∷ day_of row ∷ Blob row.octets ∷ []

@@ -1,0 +1,12 @@
+pub mod Schema
+pub mod Cells
+pub mod Tie
+pub mod Reading
+pub mod Opening
+pub mod Making
+pub mod SchemaTest
+pub mod Writing
+pub mod Keeping
+pub mod Kept
+pub mod Adopting
+pub mod Counts

@@ -1,0 +1,48 @@
+-- What is read from the tables of a database.
+use Rattle.std.specs.Prelude.{◌≡◌, ◌<◌, ℕ, pos, slice_index_or, List, [], ◌∷◌, None, IfOk, IsTrue, map, IsPermutation}
+use Rattle.sqlite_value.specs.declared.value.Value.TheVariants.{Int}
+use Rattle.sqlite_value.specs.Order.{Row as Values, column, bytes}
+use Rattle.sqlite_schema.specs.declared.schema.Schema.{Schema}
+use Rattle.sqlite.specs.Listing.{understood}
+use Rattle.sqlite.specs.State.{State}
+use Rattle.dq_tables.specs.declared.row.Kind.{Kind}
+use Rattle.dq_tables.specs.declared.row.Row.{Row}
+use Rattle.dq_sql.specs.Schema.{kept_schema}
+use Rattle.dq_sql.specs.Tie.{HasRows}
+
+-- A text that shows no rows of a write, whatever the schema.
+abbrev pub ShowsNoWrite : List ℕ → Type 0
+ShowsNoWrite sql = (schema : Schema) → IfOk (understood schema sql) (λ c. c.returning ≡ None)
+
+-- The store is open, and this holds of the rows that it has, whichever they are.
+pub record HoldsOf (s : State) (P : List Row → Type 0) : Type 0 where
+  pub is_open : IsTrue s.is_open
+  pub of_rows : (rows : List Row) → HasRows s.now rows → P rows
+
+-- The rowid and the columns of a row of the table `kept`.
+abbrev pub columns : Values → Values
+columns r =
+    column r 0 ∷ column r 1 ∷ column r 2 ∷ column r 3 ∷ column r 4 ∷ column r 5 ∷ column r 6
+    ∷ column r 7 ∷ []
+
+-- The store is open, and where it has our schema these are the rows of a tree, each shown so, in
+-- any order.
+pub record ShowsTree (s : State) (tree : ℕ) (show : Values → Values)
+    (answer : List Values) : Type 0 where
+  pub is_open : IsTrue s.is_open
+  pub rows : s.now.schema ≡ kept_schema → IsPermutation (map show (s.now.trees tree)) answer
+
+-- the row of a kind and an institution whose key, key above and octets these are
+abbrev pub row_shown : Kind → List ℕ → Values → Row
+row_shown kind institution values = record {
+  kind = kind;
+  inst = institution;
+  key = bytes (column values 0);
+  above = bytes (column values 1);
+  octets = bytes (column values 2);
+}
+
+-- What a count shows, which is no number from the greatest whole number of SQL on.
+pub record IsCount (answer : List Values) (number : ℕ) : Type 0 where
+  pub shown : column (slice_index_or answer 0 []) 0 ≡ Int (pos number)
+  pub whole : number < 9223372036854775807

@@ -1,0 +1,99 @@
+-- The schema of a store of rows.
+use Rattle.std.specs.Prelude.{Bool, true, false, List, ℕ, [], ◌∷◌, None, codes, pos}
+use Rattle.sqlite_value.specs.declared.keys.Collation.TheVariants.{Binary}
+use Rattle.sqlite_value.specs.declared.value.Value.TheVariants.{Null, Int}
+use Rattle.sqlite_value.specs.Keys.{plain}
+use Rattle.sqlite_sql.specs.declared.ops.BinaryOp.TheVariants.{And, Compare}
+use Rattle.sqlite_sql.specs.declared.ops.CompareOp.TheVariants.{Ge, Le}
+use Rattle.sqlite_sql.specs.Term.{Term, lit, col, op2}
+use Rattle.sqlite_schema.specs.declared.schema.Kind.{Kind}
+use Rattle.sqlite_schema.specs.declared.schema.Kind.TheVariants.{Integer, Text, Blob}
+use Rattle.sqlite_schema.specs.declared.schema.Column.{Column}
+use Rattle.sqlite_schema.specs.declared.schema.Table.{Table}
+use Rattle.sqlite_schema.specs.declared.schema.Index.{Index}
+use Rattle.sqlite_schema.specs.declared.schema.Schema.{Schema}
+
+-- a column of a STRICT table without a default
+abbrev pub optional : List ℕ → Kind → Column
+optional name kind = record {
+  name = name;
+  kind = kind;
+  is_strict = true;
+  not_null = false;
+  default = Null;
+  collation = Binary;
+}
+
+abbrev pub required : List ℕ → Kind → Column
+required name kind = record (optional name kind) { not_null = true }
+
+abbrev pub kept_columns : List Column
+kept_columns =
+    required (codes "kind") Integer ∷ required (codes "inst") Text ∷ required (codes "id") Blob
+    ∷ required (codes "above") Blob ∷ optional (codes "patient") Blob ∷ optional (codes "day") Integer
+    ∷ required (codes "octets") Blob ∷ []
+
+abbrev pub version_columns : List Column
+version_columns = required (codes "number") Integer ∷ []
+
+-- a kind is 1 to 5
+abbrev pub kind_checks : List Term
+kind_checks = op2 And (op2 (Compare Ge Binary) (col 1 1) (lit (Int (pos 1)))) (op2 (Compare Le Binary) (col 1 1) (lit (Int (pos 5)))) ∷ []
+
+abbrev pub kept_table : Table
+kept_table = record {
+  name = codes "kept";
+  tree = 0;
+  columns = kept_columns;
+  key = None;
+  primary = 1 ∷ 2 ∷ 3 ∷ [];
+  uniques = (1 ∷ 2 ∷ 3 ∷ []) ∷ [];
+  orders = plain ∷ [];
+  checks = kind_checks;
+  references = [];
+  computed = [];
+  stamps = record { places = []; terms = []; formats = [] };
+  is_counted = false;
+}
+
+abbrev pub version_table : Table
+version_table = record {
+  name = codes "version";
+  tree = 2;
+  columns = version_columns;
+  key = None;
+  primary = [];
+  uniques = [];
+  orders = [];
+  checks = [];
+  references = [];
+  computed = [];
+  stamps = record { places = []; terms = []; formats = [] };
+  is_counted = false;
+}
+
+-- an index of the table `kept`, ascending octet by octet
+abbrev pub kept_index : List ℕ → ℕ → List ℕ → Bool → Index
+kept_index name tree columns is_unique = record {
+  name = name;
+  tree = tree;
+  table = 0;
+  columns = columns;
+  order = plain;
+  is_unique = is_unique;
+}
+
+-- that of the PRIMARY KEY
+abbrev pub key_index : Index
+key_index = kept_index (codes "sqlite_autoindex_kept_1") 1 (1 ∷ 2 ∷ 3 ∷ []) true
+
+-- that by which the rows under another are found
+abbrev pub above_index : Index
+above_index = kept_index (codes "kept_above") 3 (1 ∷ 2 ∷ 4 ∷ 3 ∷ []) false
+
+unfoldable pub kept_schema : Schema
+kept_schema = record {
+  tables = kept_table ∷ version_table ∷ [];
+  indexes = key_index ∷ above_index ∷ [];
+  views = [];
+}

@@ -1,0 +1,149 @@
+//! How many rows there are, remembered so that a change need not count them again.
+ghost use Rattle.std.specs.Prelude.{◌≡◌, List, ◌∷◌, length, IfSome, OnOk, MatchBool};
+ghost use Rattle.dq_tables.specs.declared.row.Row.{Row};
+ghost use Rattle.dq_tables.specs.Rows.{IsRising, after, operation_of};
+ghost use Rattle.dq_tables.specs.Finding.{rows_of};
+ghost use Rattle.dq_tables.specs.Sound.{Fits};
+ghost use Rattle.dq_sql.specs.Counts.{IsRight, AreRight, added};
+
+use dq_list::Listed;
+use dq_tables::{Change, Kind, Row};
+use std::alloc::{AllocError, Global};
+
+/// How many rows of a kind an institution has. A number that its type cannot hold is not known.
+#[derive(Debug, Drop)]
+struct Count {
+    kind: Kind,
+    inst: Listed<u8>,
+    number: Option<u64>,
+}
+
+impl Count {
+    fn is_of(&self, kind: Kind, institution: &[u8]) -> bool
+        ensures { MatchBool result ((self.now.kind ≡ kind) × (self.now.inst ≡ institution.now))
+            (¬ ((self.now.kind ≡ kind) × (self.now.inst ≡ institution.now))) }
+    {
+        self.kind == kind && self.inst.as_slice() == institution
+    }
+
+    /// The institution has a row more of the kind.
+    #[tactic(auto, using(crate::proofs::Counted::one_more, crate::proofs::Counted::no_more))]
+    fn add(&mut self, kind: Kind, institution: &[u8])
+        ensures { (row : Row) (rows : List Row) → row.kind ≡ kind → row.inst ≡ institution.now
+            → IsRight rows self.old → IsRight (row ∷ rows) self.new }
+    {
+        if self.is_of(kind, institution) {
+            self.number = self.number.and_then(|number| number.checked_add(1));
+        }
+    }
+
+    /// The institution has a row less of the kind.
+    #[tactic(auto, using(crate::proofs::Counted::one_more, crate::proofs::Counted::no_more))]
+    fn take(&mut self, kind: Kind, institution: &[u8])
+        ensures { (row : Row) (rows : List Row) → row.kind ≡ kind → row.inst ≡ institution.now
+            → IsRight (row ∷ rows) self.old → IsRight rows self.new }
+    {
+        if self.is_of(kind, institution) {
+            self.number = self.number.and_then(|number| number.checked_sub(1));
+        }
+    }
+}
+
+/// How many rows of some kinds some institutions have.
+#[derive(Debug, Drop)]
+pub(crate) struct Counts {
+    known: Vec<Count>,
+}
+
+impl Counts {
+    /// No counts. It takes no memory.
+    pub(crate) fn new(alloc: Global) -> Counts
+        ensures { (rows : List Row) → AreRight rows result }
+    {
+        Counts {
+            known: Vec::new(alloc),
+        }
+    }
+
+    /// How many rows of a kind the institution has, where that is known.
+    pub(crate) fn get(&self, kind: Kind, institution: &[u8]) -> Option<u64>
+        ensures { (rows : List Row) → AreRight rows self.now
+            → IfSome result (λ number. number ≡ length (rows_of kind institution.now rows)) }
+    {
+        self.known
+            .iter()
+            .find(|count| count.is_of(kind, institution))?
+            .number
+    }
+
+    /// Remembers how many rows of a kind the institution has.
+    pub(crate) fn note(
+        &mut self,
+        alloc: Global,
+        kind: Kind,
+        institution: &[u8],
+        number: u64,
+    ) -> Result<(), AllocError>
+        ensures { (rows : List Row) → number ≡ length (rows_of kind institution.now rows)
+            → AreRight rows self.old → AreRight rows self.new }
+    {
+        let inst = Listed::copy_of(alloc, institution)?;
+        self.known.push(Count {
+            kind,
+            inst,
+            number: Some(number),
+        })?;
+        Ok(())
+    }
+
+    /// There is this row more.
+    fn add(&mut self, row: &Row)
+        ensures { (rows : List Row) → AreRight rows self.old → AreRight (row.now ∷ rows) self.new }
+    {
+        for count in self.known.iter_mut() {
+            count.add(row.kind, row.inst.as_slice());
+        }
+    }
+
+    /// The institution has a row less of the kind.
+    fn take(&mut self, kind: Kind, institution: &[u8])
+        ensures { (row : Row) (rows : List Row) → row.kind ≡ kind → row.inst ≡ institution.now
+            → AreRight (row ∷ rows) self.old → AreRight rows self.new }
+    {
+        for count in self.known.iter_mut() {
+            count.take(kind, institution);
+        }
+    }
+
+    /// There is this row more, if there is one.
+    fn add_if(&mut self, row: &Option<Row>)
+        ensures { (rows : List Row) → AreRight rows self.old
+            → AreRight (added row.now rows) self.new }
+    {
+        if let Some(row) = row {
+            self.add(row);
+        }
+    }
+
+    /// A change was made.
+    pub(crate) fn follow(&mut self, change: &Change)
+        ensures { (rows : List Row) → IsRising rows → Fits rows change.now → AreRight rows self.old
+            → AreRight (after (operation_of change.now) rows) self.new }
+    {
+        match change {
+            Change::Stored {
+                study,
+                series,
+                image,
+            } => {
+                self.add_if(study);
+                self.add_if(series);
+                self.add(image);
+            }
+            Change::EntryAdded(row) => self.add(row),
+            Change::EntryRemoved { inst, key: _ } => self.take(Kind::Entry, inst.as_slice()),
+            Change::StepAdded(row) => self.add(row),
+            Change::StepChanged(_) => {}
+        }
+    }
+}

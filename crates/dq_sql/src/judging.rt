@@ -1,0 +1,177 @@
+//! What the columns of a found row hold.
+ghost use Rattle.std.specs.Prelude.{◌≡◌, ◌≢◌, ℕ, List, pos, Err, IfOk, MatchOption, MatchBool};
+ghost use Rattle.sqlite_value.specs.declared.value.Value.TheVariants.{Int, Text, Blob};
+ghost use Rattle.sqlite_value.specs.Value.{owned};
+ghost use Rattle.sqlite_value.specs.Order.{column};
+ghost use Rattle.sqlite.specs.Values.{or_null};
+ghost use Rattle.dq_tables.specs.declared.row.Kind.{Kind};
+ghost use Rattle.dq_tables.specs.declared.row.Row.{Row};
+ghost use Rattle.dq_tables.specs.Rows.{number_of};
+ghost use Rattle.dq_sql.specs.Tie.{kept_of};
+ghost use Rattle.dq_sql.specs.declared.fault.StoreFault.TheVariants.{WrongVersion, BadRows};
+ghost use Rattle.dq_sql.specs.Adopting.{HoldsRecord, HasCells, IsGood};
+
+use crate::cells::Cells;
+use crate::fault::StoreFault;
+use dq_list::Listed;
+use dq_tables::{Kind, Row};
+use sqlite::types::ValueRef;
+use std::alloc::{AllocError, Global};
+
+/// A record of so many octets is not read.
+const TOO_LONG: usize = 0x8000_0000;
+
+/// The kind whose number a value is.
+fn kind_in(value: ValueRef<'_>) -> Option<Kind>
+    ensures { MatchOption result ((kind : Kind) → owned value.entry ≢ Int (pos (number_of kind)))
+        (λ kind. owned value.entry ≡ Int (pos (number_of kind))) }
+{
+    match value {
+        ValueRef::Int(number) => Kind::from_number(u8::try_from(number).ok()?),
+        _ => None,
+    }
+}
+
+/// The octets of a text.
+fn text_in<'a>(value: ValueRef<'a>) -> Option<&'a [u8]>
+    ensures { MatchOption result ((octets : List ℕ) → owned value.entry ≢ Text octets)
+        (λ octets. owned value.entry ≡ Text octets.now) }
+{
+    match value {
+        ValueRef::Text(octets) => Some(octets),
+        _ => None,
+    }
+}
+
+/// The octets of a blob.
+fn blob_in<'a>(value: ValueRef<'a>) -> Option<&'a [u8]>
+    ensures { MatchOption result ((octets : List ℕ) → owned value.entry ≢ Blob octets)
+        (λ octets. owned value.entry ≡ Blob octets.now) }
+{
+    match value {
+        ValueRef::Blob(octets) => Some(octets),
+        _ => None,
+    }
+}
+
+/// The value in a column, which is null past the last.
+pub(crate) fn value_at(found: &sqlite::Row, at: usize) -> ValueRef<'_>
+    ensures { owned result ≡ column found.now at }
+{
+    match found.get_ref(at) {
+        Ok(value) => value,
+        Err(_) => ValueRef::Null,
+    }
+}
+
+/// A row's record as columns hold it.
+#[derive(Debug, Clone, Copy)]
+struct Lent<'a> {
+    kind: Kind,
+    inst: &'a [u8],
+    key: &'a [u8],
+    above: &'a [u8],
+    octets: &'a [u8],
+}
+
+/// The row whose record the columns hold, lent.
+fn lent_in(found: &sqlite::Row) -> Option<Lent<'_>>
+    ensures { MatchOption result ((row : Row) → ¬ HoldsRecord row found.now)
+        (λ lent. HoldsRecord (record {
+          kind = lent.kind;
+          inst = lent.inst.now;
+          key = lent.key.now;
+          above = lent.above.now;
+          octets = lent.octets.now;
+        }) found.now) }
+{
+    Some(Lent {
+        kind: kind_in(value_at(found, 1))?,
+        inst: text_in(value_at(found, 2))?,
+        key: blob_in(value_at(found, 3))?,
+        above: blob_in(value_at(found, 4))?,
+        octets: blob_in(value_at(found, 7))?,
+    })
+}
+
+/// The row whose record the columns hold.
+fn record_in(alloc: Global, found: &sqlite::Row) -> Result<Option<Row>, AllocError>
+    ensures { IfOk result (λ row. MatchOption row ((row : Row) → ¬ HoldsRecord row found.now)
+        (λ row. HoldsRecord row found.now)) }
+{
+    let Some(lent) = lent_in(found) else {
+        return Ok(None);
+    };
+    Ok(Some(Row {
+        kind: lent.kind,
+        inst: Listed::copy_of(alloc, lent.inst)?,
+        key: Listed::copy_of(alloc, lent.key)?,
+        above: Listed::copy_of(alloc, lent.above)?,
+        octets: Listed::copy_of(alloc, lent.octets)?,
+    }))
+}
+
+/// Whether a value is the patient, or null where there is none.
+fn is_patient(value: ValueRef<'_>, patient: &Option<Vec<u8>>) -> bool
+    ensures { MatchBool result
+        (owned value.entry ≡ or_null (λ octets. Blob octets.items) patient.now)
+        (owned value.entry ≢ or_null (λ octets. Blob octets.items) patient.now) }
+{
+    match (value, patient) {
+        (ValueRef::Null, None) => true,
+        (ValueRef::Blob(octets), Some(patient)) => octets == patient.as_slice(),
+        _ => false,
+    }
+}
+
+/// Whether a value is the day, or null where there is none.
+fn is_day(value: ValueRef<'_>, day: Option<i64>) -> bool
+    ensures { MatchBool result (owned value.entry ≡ or_null Int day)
+        (owned value.entry ≢ or_null Int day) }
+{
+    match (value, day) {
+        (ValueRef::Null, None) => true,
+        (ValueRef::Int(number), Some(day)) => number == day,
+        _ => false,
+    }
+}
+
+/// Whether the columns say of a study's patient and day what its record says.
+fn has_cells(alloc: Global, row: &Row, found: &sqlite::Row) -> Result<bool, AllocError>
+    ensures { IfOk result (λ has. MatchBool has (HasCells row.now found.now)
+        (¬ HasCells row.now found.now)) }
+{
+    let cells = Cells::of(alloc, row)?;
+    Ok(is_patient(value_at(found, 5), &cells.patient) && is_day(value_at(found, 6), cells.day))
+}
+
+/// The row, where it is its record's own. One of 2^31 octets or more is too long to be read.
+#[tactic(auto, using(crate::proofs::Judged::good_from, crate::proofs::Judged::cells_of_good, crate::proofs::Judged::own_of_good, crate::proofs::Judged::record_kept))]
+fn own_row(alloc: Global, row: Row, found: &sqlite::Row) -> Result<Row, StoreFault>
+    requires { HoldsRecord row found.now }
+    ensures good { IfOk result (λ own. (own ≡ kept_of found.now) × IsGood found.now) }
+    ensures bad { result ≡ Err BadRows → ¬ IsGood found.now }
+    ensures version { result ≢ Err WrongVersion }
+{
+    if row.octets.as_slice().len() >= TOO_LONG {
+        return Err(StoreFault::NoMemory);
+    }
+    if has_cells(alloc, &row, found)? && row.is_own(alloc)? {
+        Ok(row)
+    } else {
+        Err(StoreFault::BadRows)
+    }
+}
+
+/// The row that the columns hold, where it is its record's own.
+#[tactic(auto, using(crate::proofs::Judged::none_good))]
+pub(crate) fn good_row(alloc: Global, found: &sqlite::Row) -> Result<Row, StoreFault>
+    ensures good { IfOk result (λ row. (row ≡ kept_of found.now) × IsGood found.now) }
+    ensures bad { result ≡ Err BadRows → ¬ IsGood found.now }
+    ensures version { result ≢ Err WrongVersion }
+{
+    match record_in(alloc, found)? {
+        Some(row) => own_row(alloc, row, found),
+        None => Err(StoreFault::BadRows),
+    }
+}

@@ -1,0 +1,24 @@
+//! Rows in SQLite: a keeper of rows over a database that lasts.
+#![tactic(auto)]
+
+mod adopting;
+mod cells;
+mod counts;
+mod fault;
+mod finding;
+mod history;
+mod ids;
+mod judging;
+pub mod laws;
+mod open;
+mod opening;
+mod placing;
+mod reading;
+mod schema_test;
+mod sql_tables;
+mod writing;
+
+pub use fault::StoreFault;
+pub use finding::kept_rows;
+pub use open::make_store;
+pub use sql_tables::SqlTables;

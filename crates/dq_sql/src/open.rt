@@ -1,0 +1,137 @@
+//! A new store.
+ghost use Rattle.std.specs.Prelude.{◌≡◌, ◌≢◌, ◌⊎◌, [], Err, true, false, IsTrue, IfErr, OnOk, OnErr, MatchBool};
+ghost use Rattle.sqlite.specs.State.{HasCleanDisk, Survives, KeepsCommit};
+ghost use Rattle.sqlite.specs.Held.{state};
+ghost use Rattle.dq_sql.specs.declared.fault.StoreFault.TheVariants.{NoMemory, Store};
+ghost use Rattle.dq_sql.specs.Making.{no_schema, MakesKept, MakesVersion, MakesIndex, SaysVersion, GoesOn, HasNoRows, IsNewStore};
+ghost use Rattle.dq_sql.specs.Tie.{HasRows, IsAtRest, IsSame};
+
+use crate::fault::StoreFault;
+use sqlite::{Alter, Connection, Error, Transaction};
+use sqlite_schema::schema::Schema;
+
+/// Whether a schema has nothing.
+pub(crate) fn is_empty(schema: &Schema) -> bool
+    ensures { MatchBool result (schema.now ≡ no_schema) (schema.now ≢ no_schema) }
+{
+    schema.tables.as_slice().is_empty()
+        && schema.indexes.as_slice().is_empty()
+        && schema.views.as_slice().is_empty()
+}
+
+/// Makes the table `kept`, of a row for each row that is kept: `kind` is a `Kind`'s number, `inst`
+/// the institution's name, `id` the key, `above` the key of the row above, and `octets` the record.
+/// `patient` is the only value of a study's Patient ID, `day` its Study Date as a number; both are
+/// null where there is no such value, and in other rows.
+fn make_kept<S: Alter>(tx: &mut Transaction<'_, S>) -> Result<usize, Error>
+    ensures same_reference { tx.new.conn.ghost_name ≡ tx.old.conn.ghost_name }
+    ensures goes_on { HasCleanDisk (state S.Store tx.new.conn.now)
+        → OnOk result (GoesOn (state S.Store tx.old.conn.now) (state S.Store tx.new.conn.now)) }
+    ensures makes { HasCleanDisk (state S.Store tx.new.conn.now)
+        → OnOk result (MakesKept (state S.Store tx.old.conn.now).now
+        (state S.Store tx.new.conn.now).now) }
+    ensures kept { HasCleanDisk (state S.Store tx.new.conn.now)
+        → KeepsCommit (state S.Store tx.old.conn.now) (state S.Store tx.new.conn.now) }
+    ensures survives { Survives (state S.Store tx.old.conn.now) (state S.Store tx.new.conn.now)
+        (λ _. ⊥) }
+{
+    tx.execute(
+        "CREATE TABLE kept (kind INTEGER NOT NULL CHECK (kind BETWEEN 1 AND 5), inst TEXT NOT NULL, id BLOB NOT NULL, above BLOB NOT NULL, patient BLOB, day INTEGER, octets BLOB NOT NULL, PRIMARY KEY (kind, inst, id)) STRICT",
+        &[],
+    )
+}
+
+/// Makes the table `version`, whose one row says of which version the store is.
+fn make_version<S: Alter>(tx: &mut Transaction<'_, S>) -> Result<usize, Error>
+    ensures same_reference { tx.new.conn.ghost_name ≡ tx.old.conn.ghost_name }
+    ensures goes_on { HasCleanDisk (state S.Store tx.new.conn.now)
+        → OnOk result (GoesOn (state S.Store tx.old.conn.now) (state S.Store tx.new.conn.now)) }
+    ensures makes { HasCleanDisk (state S.Store tx.new.conn.now)
+        → OnOk result (MakesVersion (state S.Store tx.old.conn.now).now
+        (state S.Store tx.new.conn.now).now) }
+    ensures kept { HasCleanDisk (state S.Store tx.new.conn.now)
+        → KeepsCommit (state S.Store tx.old.conn.now) (state S.Store tx.new.conn.now) }
+    ensures survives { Survives (state S.Store tx.old.conn.now) (state S.Store tx.new.conn.now)
+        (λ _. ⊥) }
+{
+    tx.execute("CREATE TABLE version (number INTEGER NOT NULL) STRICT", &[])
+}
+
+/// Makes the index by which the rows under another are found.
+fn make_index<S: Alter>(tx: &mut Transaction<'_, S>) -> Result<usize, Error>
+    ensures same_reference { tx.new.conn.ghost_name ≡ tx.old.conn.ghost_name }
+    ensures goes_on { HasCleanDisk (state S.Store tx.new.conn.now)
+        → OnOk result (GoesOn (state S.Store tx.old.conn.now) (state S.Store tx.new.conn.now)) }
+    ensures makes { HasCleanDisk (state S.Store tx.new.conn.now)
+        → OnOk result (MakesIndex (state S.Store tx.old.conn.now).now
+        (state S.Store tx.new.conn.now).now) }
+    ensures kept { HasCleanDisk (state S.Store tx.new.conn.now)
+        → KeepsCommit (state S.Store tx.old.conn.now) (state S.Store tx.new.conn.now) }
+    ensures survives { Survives (state S.Store tx.old.conn.now) (state S.Store tx.new.conn.now)
+        (λ _. ⊥) }
+{
+    tx.execute(
+        "CREATE INDEX kept_above ON kept (kind, inst, above, id)",
+        &[],
+    )
+}
+
+/// Says that the store is of version 1.
+fn say_version<S: Alter>(tx: &mut Transaction<'_, S>) -> Result<usize, Error>
+    ensures same_reference { tx.new.conn.ghost_name ≡ tx.old.conn.ghost_name }
+    ensures goes_on { HasCleanDisk (state S.Store tx.new.conn.now)
+        → OnOk result (GoesOn (state S.Store tx.old.conn.now) (state S.Store tx.new.conn.now)) }
+    ensures makes { HasCleanDisk (state S.Store tx.new.conn.now)
+        → OnOk result (SaysVersion (state S.Store tx.old.conn.now).now
+        (state S.Store tx.new.conn.now).now) }
+    ensures kept { HasCleanDisk (state S.Store tx.new.conn.now)
+        → KeepsCommit (state S.Store tx.old.conn.now) (state S.Store tx.new.conn.now) }
+    ensures survives { Survives (state S.Store tx.old.conn.now) (state S.Store tx.new.conn.now)
+        (λ _. ⊥) }
+{
+    tx.execute("INSERT INTO version (number) VALUES (1)", &[])
+}
+
+/// Makes the tables and the index, and says the version.
+fn make_tables<S: Alter>(tx: &mut Transaction<'_, S>) -> Result<(), Error>
+    ensures same_reference { tx.new.conn.ghost_name ≡ tx.old.conn.ghost_name }
+    ensures goes_on { HasCleanDisk (state S.Store tx.new.conn.now)
+        → OnOk result (GoesOn (state S.Store tx.old.conn.now) (state S.Store tx.new.conn.now)) }
+    ensures makes { HasCleanDisk (state S.Store tx.new.conn.now)
+        → OnOk result ((state S.Store tx.old.conn.now).now.schema ≡ no_schema
+        → HasRows (state S.Store tx.new.conn.now).now []) }
+    ensures kept { HasCleanDisk (state S.Store tx.new.conn.now)
+        → KeepsCommit (state S.Store tx.old.conn.now) (state S.Store tx.new.conn.now) }
+    ensures survives { Survives (state S.Store tx.old.conn.now) (state S.Store tx.new.conn.now)
+        (λ _. ⊥) }
+{
+    make_kept(tx)?;
+    make_version(tx)?;
+    make_index(tx)?;
+    say_version(tx)?;
+    Ok(())
+}
+
+/// Makes a store of rows of an empty one, in one transaction: the table `kept`, the table `version`
+/// and the index `kept_above`. A store that has anything, or a transaction that is open, is refused
+/// by `Store`, and so is one that fails; what else is refused wants memory. A refusal changes
+/// nothing. A crash leaves the store as it was, or one without rows.
+pub fn make_store<S: Alter>(conn: &mut Connection<S>) -> Result<(), StoreFault>
+    ensures mode { OnOk result (conn.new.in_transaction ≡ false) }
+    ensures taken { (state S.Store conn.old).now.schema ≢ no_schema → result ≡ Err Store }
+    ensures fault { IfErr result (λ e. (e ≡ NoMemory) ⊎ (e ≡ Store)) }
+    ensures made { HasCleanDisk (state S.Store conn.new)
+        → OnOk result (IsNewStore (state S.Store conn.new)) }
+    ensures same { HasCleanDisk (state S.Store conn.new) → IsTrue (state S.Store conn.new).is_open
+        → IsAtRest (state S.Store conn.old)
+        → OnErr result (IsSame (state S.Store conn.old) (state S.Store conn.new)) }
+    ensures survives { Survives (state S.Store conn.old) (state S.Store conn.new) HasNoRows }
+{
+    if !conn.is_autocommit() || !is_empty(conn.schema()) {
+        return Err(StoreFault::Store);
+    }
+    let mut tx = conn.transaction();
+    make_tables(&mut tx)?;
+    tx.commit()?;
+    Ok(())
+}

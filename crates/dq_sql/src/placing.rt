@@ -1,0 +1,77 @@
+//! Found rows, put in order.
+ghost use Rattle.std.specs.Prelude.{◌≡◌, ◌≢◌, ◌∷◌, Err, IfOk, OnOk, MatchBool, is_some, IsPermutation};
+ghost use Rattle.dq_tables.specs.Rows.{IsRising};
+ghost use Rattle.dq_tables.specs.Finding.{row_at};
+ghost use Rattle.dq_tables.specs.Sound.{is_held, HeldEach};
+ghost use Rattle.dq_sql.specs.declared.fault.StoreFault.TheVariants.{WrongVersion, BadRows};
+ghost use Rattle.dq_sql.specs.Tie.{kept_of};
+ghost use Rattle.dq_sql.specs.Adopting.{IsGood, IsTaken, AreGood};
+
+use crate::fault::StoreFault;
+use crate::judging::good_row;
+use dq_tables::{Kind, Row, put_row, search_rows};
+use std::alloc::Global;
+
+/// Whether a row of the kind, the institution and the key is among rows in order.
+#[tactic(auto, using(crate::proofs::Ordered::there_is))]
+fn is_there(rows: &[Row], kind: Kind, institution: &[u8], key: &[u8]) -> bool
+    requires { IsRising rows.now }
+    ensures { result ≡ is_some (row_at kind institution.now key.now rows.now) }
+{
+    search_rows(rows, kind, institution, key).is_ok()
+}
+
+/// Puts the row that the columns hold in its place, which is to be free.
+#[tactic(auto, using(crate::proofs::Ordered::put_adds, crate::proofs::Ordered::kept_taken))]
+fn put_found(alloc: Global, rows: &mut Vec<Row>, found: &sqlite::Row) -> Result<(), StoreFault>
+    requires { IsRising rows.old.items }
+    ensures good { OnOk result (IsGood found.now) }
+    ensures added { OnOk result (IsPermutation (kept_of found.now ∷ rows.old.items) rows.new.items) }
+    ensures rising { OnOk result (IsRising rows.new.items) }
+    ensures bad { result ≡ Err BadRows → IsGood found.now → IsTaken rows.old.items (kept_of found.now) }
+    ensures version { result ≢ Err WrongVersion }
+{
+    let row = good_row(alloc, found)?;
+    if is_there(rows, row.kind, row.inst.as_slice(), row.key.as_slice()) {
+        return Err(StoreFault::BadRows);
+    }
+    rows.reserve(1)?;
+    put_row(rows, row);
+    Ok(())
+}
+
+/// The rows that are found, in order.
+#[tactic(auto, using(crate::proofs::Ordered::good_next, crate::proofs::Ordered::bad_next, crate::proofs::Ordered::none_good))]
+pub(crate) fn rows_found(alloc: Global, found: &[sqlite::Row]) -> Result<Vec<Row>, StoreFault>
+    ensures good { IfOk result (λ rows. AreGood found.now rows.items) }
+    ensures bad { result ≡ Err BadRows → (rows : _) → ¬ AreGood found.now rows }
+    ensures version { result ≢ Err WrongVersion }
+{
+    let mut rows = Vec::new(alloc);
+    for row in found {
+        put_found(alloc, &mut rows, row)?;
+    }
+    Ok(rows)
+}
+
+/// Whether the row above one is there.
+#[tactic(auto, unfolding(dq_tables::specs::Sound::is_held))]
+fn is_held(rows: &[Row], row: &Row) -> bool
+    requires { IsRising rows.now }
+    ensures { result ≡ is_held rows.now row.now.kind row.now.inst row.now.above }
+{
+    let (inst, above) = (row.inst.as_slice(), row.above.as_slice());
+    match row.kind {
+        Kind::Series => is_there(rows, Kind::Study, inst, above),
+        Kind::Image => is_there(rows, Kind::Series, inst, above),
+        Kind::Study | Kind::Entry | Kind::Step => true,
+    }
+}
+
+/// Whether each row has the row above it among them.
+pub(crate) fn are_held(rows: &[Row]) -> bool
+    requires { IsRising rows.now }
+    ensures { MatchBool result (HeldEach rows.now rows.now) (¬ HeldEach rows.now rows.now) }
+{
+    rows.iter().all(|row| is_held(rows, row))
+}

@@ -1,0 +1,264 @@
+//! What the tables of a connection hold, read.
+ghost use Rattle.std.specs.Prelude.{◌≡◌, [], ◌∷◌, IfOk, map, length, slice_get};
+ghost use Rattle.sqlite_value.specs.Order.{column, bytes};
+ghost use Rattle.sqlite.specs.Values.{bound};
+ghost use Rattle.sqlite.specs.State.{HasCleanDisk, Shown};
+ghost use Rattle.sqlite.specs.Held.{state};
+ghost use Rattle.dq_tables.specs.Finding.{row_at, rows_of, rows_above};
+ghost use Rattle.dq_sql.specs.Tie.{Stays};
+ghost use Rattle.dq_sql.specs.Reading.{ShowsNoWrite, HoldsOf, ShowsTree, IsCount, columns, row_shown};
+
+use dq_list::Listed;
+use dq_tables::{Kind, Row, TableFault};
+use sqlite::types::{ToSql, ValueRef};
+use sqlite::{Alter, Connection, Error, ErrorCode};
+use std::alloc::Global;
+
+/// What an error of the database is to a caller of the tables.
+pub(crate) fn fault_of(error: &Error) -> TableFault {
+    match error {
+        Error::SqliteFailure(ErrorCode::OutOfMemory) => TableFault::NoMemory,
+        _ => TableFault::Store,
+    }
+}
+
+/// The rows that a query answers.
+pub(crate) fn answered<S: Alter>(
+    conn: &mut Connection<S>,
+    query: &str,
+    params: &[ValueRef<'_>],
+) -> Result<Vec<sqlite::Row>, TableFault>
+    ensures shown { HasCleanDisk (state S.Store conn.new) → IfOk result (λ rows.
+        Shown query.now (bound params.now) (state S.Store conn.old) (state S.Store conn.new)
+        rows.items) }
+    ensures stays { ShowsNoWrite query.now → Stays (state S.Store conn.old) (state S.Store conn.new) }
+{
+    match conn.query_all(query, params) {
+        Ok(rows) => Ok(rows),
+        Err(error) => Err(fault_of(&error)),
+    }
+}
+
+/// The octets in a column.
+fn octets_at(values: &sqlite::Row, at: usize) -> Result<Listed<u8>, TableFault>
+    ensures { IfOk result (λ octets. octets ≡ bytes (column values.now at)) }
+{
+    match values.get::<Vec<u8>>(at) {
+        Ok(octets) => Ok(Listed::from_inner(octets)),
+        Err(error) => Err(fault_of(&error)),
+    }
+}
+
+/// The row of a kind and an institution whose key, key above and octets a query shows.
+fn row_shown(
+    alloc: Global,
+    kind: Kind,
+    institution: &[u8],
+    values: &sqlite::Row,
+) -> Result<Row, TableFault>
+    ensures { IfOk result (λ row. row ≡ row_shown kind institution.now values.now) }
+{
+    Ok(Row {
+        kind,
+        inst: Listed::copy_of(alloc, institution)?,
+        key: octets_at(values, 0)?,
+        above: octets_at(values, 1)?,
+        octets: octets_at(values, 2)?,
+    })
+}
+
+/// The rows that a query shows so.
+fn rows_shown(
+    alloc: Global,
+    kind: Kind,
+    institution: &[u8],
+    answer: &[sqlite::Row],
+) -> Result<Listed<Row>, TableFault>
+    ensures { IfOk result (λ rows. rows ≡ map (row_shown kind institution.now) answer.now) }
+{
+    let mut rows = Vec::new(alloc);
+    for values in answer {
+        rows.push(row_shown(alloc, kind, institution, values)?)?;
+    }
+    Ok(Listed::from_inner(rows))
+}
+
+/// The first row that a query shows so, if it shows any.
+fn first_shown(
+    alloc: Global,
+    kind: Kind,
+    institution: &[u8],
+    answer: &[sqlite::Row],
+) -> Result<Option<Row>, TableFault>
+    ensures { IfOk result (λ row.
+        row ≡ slice_get (map (row_shown kind institution.now) answer.now) 0) }
+{
+    match answer {
+        [values, ..] => Ok(Some(row_shown(alloc, kind, institution, values)?)),
+        [] => Ok(None),
+    }
+}
+
+/// The row of a kind and an institution that has the key.
+#[tactic(auto, using(crate::proofs::Silent::row_silent))]
+pub(crate) fn row<S: Alter>(
+    conn: &mut Connection<S>,
+    alloc: Global,
+    kind: Kind,
+    institution: &[u8],
+    key: &[u8],
+) -> Result<Option<Row>, TableFault>
+    ensures found { HasCleanDisk (state S.Store conn.new) → IfOk result (λ row.
+        HoldsOf (state S.Store conn.old) (λ rows.
+        row ≡ row_at kind institution.now key.now rows)) }
+    ensures stays { Stays (state S.Store conn.old) (state S.Store conn.new) }
+{
+    let answer = answered(
+        conn,
+        "SELECT id, above, octets FROM kept WHERE kind = ?1 AND inst = ?2 AND id = ?3",
+        &[
+            u32::from(kind.number()).to_sql(),
+            ValueRef::Text(institution),
+            ValueRef::Blob(key),
+        ],
+    )?;
+    first_shown(alloc, kind, institution, answer.as_slice())
+}
+
+/// The rows of a kind and an institution, in the order of their keys.
+#[tactic(auto, using(crate::proofs::Silent::of_silent))]
+pub(crate) fn rows_of<S: Alter>(
+    conn: &mut Connection<S>,
+    alloc: Global,
+    kind: Kind,
+    institution: &[u8],
+) -> Result<Listed<Row>, TableFault>
+    ensures found { HasCleanDisk (state S.Store conn.new) → IfOk result (λ list.
+        HoldsOf (state S.Store conn.old) (λ rows. list ≡ rows_of kind institution.now rows)) }
+    ensures stays { Stays (state S.Store conn.old) (state S.Store conn.new) }
+{
+    let answer = answered(
+        conn,
+        "SELECT id, above, octets FROM kept WHERE kind = ?1 AND inst = ?2 ORDER BY id",
+        &[
+            u32::from(kind.number()).to_sql(),
+            ValueRef::Text(institution),
+        ],
+    )?;
+    rows_shown(alloc, kind, institution, answer.as_slice())
+}
+
+/// Those among them under another record, in the order of their keys.
+#[tactic(auto, using(crate::proofs::Silent::above_silent))]
+pub(crate) fn rows_above<S: Alter>(
+    conn: &mut Connection<S>,
+    alloc: Global,
+    kind: Kind,
+    institution: &[u8],
+    above: &[u8],
+) -> Result<Listed<Row>, TableFault>
+    ensures found { HasCleanDisk (state S.Store conn.new) → IfOk result (λ list.
+        HoldsOf (state S.Store conn.old) (λ rows.
+        list ≡ rows_above kind institution.now above.now rows)) }
+    ensures stays { Stays (state S.Store conn.old) (state S.Store conn.new) }
+{
+    let answer = answered(
+        conn,
+        "SELECT id, above, octets FROM kept WHERE kind = ?1 AND inst = ?2 AND above = ?3 ORDER BY id",
+        &[
+            u32::from(kind.number()).to_sql(),
+            ValueRef::Text(institution),
+            ValueRef::Blob(above),
+        ],
+    )?;
+    rows_shown(alloc, kind, institution, answer.as_slice())
+}
+
+/// The number that a count shows. A count stops at the greatest whole number of SQL, which is
+/// therefore no answer.
+fn count_shown(answer: &[sqlite::Row]) -> Result<u64, TableFault>
+    ensures { IfOk result (IsCount answer.now) }
+{
+    let Some(values) = answer.first() else {
+        return Err(TableFault::Store);
+    };
+    match values.get::<u64>(0) {
+        Ok(number) if number < 0x7fff_ffff_ffff_ffff => Ok(number),
+        Ok(_) => Err(TableFault::Store),
+        Err(error) => Err(fault_of(&error)),
+    }
+}
+
+/// How many rows of a kind the institution has.
+#[tactic(auto, using(crate::proofs::Silent::count_silent))]
+pub(crate) fn count<S: Alter>(
+    conn: &mut Connection<S>,
+    kind: Kind,
+    institution: &[u8],
+) -> Result<u64, TableFault>
+    ensures found { HasCleanDisk (state S.Store conn.new) → IfOk result (λ number.
+        HoldsOf (state S.Store conn.old) (λ rows.
+        number ≡ length (rows_of kind institution.now rows))) }
+    ensures stays { Stays (state S.Store conn.old) (state S.Store conn.new) }
+{
+    let answer = answered(
+        conn,
+        "SELECT count(*) FROM kept WHERE kind = ?1 AND inst = ?2",
+        &[
+            u32::from(kind.number()).to_sql(),
+            ValueRef::Text(institution),
+        ],
+    )?;
+    count_shown(answer.as_slice())
+}
+
+/// How many of those are under another record.
+#[tactic(auto, using(crate::proofs::Silent::count_above_silent))]
+pub(crate) fn count_above<S: Alter>(
+    conn: &mut Connection<S>,
+    kind: Kind,
+    institution: &[u8],
+    above: &[u8],
+) -> Result<u64, TableFault>
+    ensures found { HasCleanDisk (state S.Store conn.new) → IfOk result (λ number.
+        HoldsOf (state S.Store conn.old) (λ rows.
+        number ≡ length (rows_above kind institution.now above.now rows))) }
+    ensures stays { Stays (state S.Store conn.old) (state S.Store conn.new) }
+{
+    let answer = answered(
+        conn,
+        "SELECT count(*) FROM kept WHERE kind = ?1 AND inst = ?2 AND above = ?3",
+        &[
+            u32::from(kind.number()).to_sql(),
+            ValueRef::Text(institution),
+            ValueRef::Blob(above),
+        ],
+    )?;
+    count_shown(answer.as_slice())
+}
+
+/// The rows of the table `kept`, each with its rowid, in the order of kind, institution and id.
+#[tactic(auto, using(crate::proofs::Silent::all_silent))]
+pub(crate) fn rows_read<S: Alter>(conn: &mut Connection<S>) -> Result<Vec<sqlite::Row>, TableFault>
+    ensures found { HasCleanDisk (state S.Store conn.new) → IfOk result (λ answer.
+        ShowsTree (state S.Store conn.old) 0 columns answer.items) }
+    ensures stays { Stays (state S.Store conn.old) (state S.Store conn.new) }
+{
+    answered(
+        conn,
+        "SELECT rowid, kind, inst, id, above, patient, day, octets FROM kept ORDER BY kind, inst, id",
+        &[],
+    )
+}
+
+/// The numbers in the table `version`.
+#[tactic(auto, using(crate::proofs::Silent::version_silent))]
+pub(crate) fn versions_read<S: Alter>(
+    conn: &mut Connection<S>,
+) -> Result<Vec<sqlite::Row>, TableFault>
+    ensures found { HasCleanDisk (state S.Store conn.new) → IfOk result (λ answer.
+        ShowsTree (state S.Store conn.old) 2 (λ r. column r 1 ∷ []) answer.items) }
+    ensures stays { Stays (state S.Store conn.old) (state S.Store conn.new) }
+{
+    answered(conn, "SELECT number FROM version", &[])
+}

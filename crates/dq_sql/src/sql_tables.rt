@@ -1,0 +1,167 @@
+//! Tables over an SQLite store.
+ghost use Rattle.std.specs.Prelude.{◌≡◌, ◌⊎◌, false, true, List, Err, IsTrue};
+ghost use Rattle.sqlite_trees.specs.Tree.{Trees};
+ghost use Rattle.sqlite.specs.State.{HasCleanDisk};
+ghost use Rattle.sqlite.specs.Held.{state};
+ghost use Rattle.dq_tables.specs.declared.fault.TableFault.TheVariants.{Store};
+ghost use Rattle.dq_tables.specs.declared.row.Row.{Row};
+ghost use Rattle.dq_sql.specs.Keeping.{Keeps, under_schema};
+ghost use Rattle.dq_sql.specs.Tie.{HasRows};
+ghost use Rattle.dq_sql.specs.Counts.{AreRight};
+
+use crate::counts::Counts;
+use crate::history::History;
+use crate::{reading, writing};
+use dq_list::Listed;
+use dq_tables::{Change, Kind, Row, TableFault, Tables};
+use sqlite::{Alter, Connection};
+use std::alloc::Global;
+
+/// Rows in an SQLite store. A crash leaves the rows of the last change that was answered, or of
+/// the one that was being made.
+#[derive(Drop)]
+pub struct SqlTables<S: Alter> {
+    conn: Connection<S>,
+    failed: bool,
+    history: History,
+    counts: Counts,
+    ghost alone: { conn.in_transaction ≡ false },
+    ghost keeps: { ∥ (HasCleanDisk (state S.Store conn)
+        → Keeps (state S.Store conn) history.rows) ∥₁ },
+    ghost counted: { ∥ (HasCleanDisk (state S.Store conn) → AreRight history.rows counts) ∥₁ },
+}
+
+/// The answer, whose failure of the store is noted.
+fn noted<T>(failed: &mut bool, answer: Result<T, TableFault>) -> Result<T, TableFault>
+    ensures same { result ≡ answer }
+    ensures told { answer ≡ Err Store → failed.new ≡ true }
+    ensures untold { failed.new ≡ true → (failed.old ≡ true) ⊎ (answer ≡ Err Store) }
+    ensures lasts { failed.old ≡ true → failed.new ≡ true }
+{
+    if let Err(TableFault::Store) = &answer {
+        *failed = true;
+    }
+    answer
+}
+
+impl<S: Alter> SqlTables<S> {
+    /// Tables over a connection whose store has these rows.
+    pub(crate) fn over(alloc: Global, conn: Connection<S>, rows: &Listed<Row>) -> SqlTables<S>
+        requires alone { conn.in_transaction ≡ false }
+        requires keeps { HasCleanDisk (state S.Store conn)
+            → Keeps (state S.Store conn) rows.now }
+        ensures conn { result.conn ≡ conn }
+        ensures rows { result.history.rows ≡ rows.now }
+        ensures failed { result.failed ≡ false }
+    {
+        SqlTables {
+            conn,
+            failed: false,
+            history: History::from_rows(rows),
+            counts: Counts::new(alloc),
+        }
+    }
+
+    /// The connection, whose store has the rows while it is open. Whatever a crash leaves of it is
+    /// a store of rows that a crash could leave before. It takes no memory.
+    pub fn into_connection(self) -> Connection<S>
+        ensures alone { result.in_transaction ≡ false }
+        ensures honest { HasCleanDisk (state S.Store result)
+            → (⟦<SqlTables<S> as Tables>⟧.state self).honest }
+        ensures rows { HasCleanDisk (state S.Store result) → IsTrue (state S.Store result).is_open
+            → ∥ HasRows (state S.Store result).committed
+            (⟦<SqlTables<S> as Tables>⟧.state self).rows ∥₁ }
+        ensures left { HasCleanDisk (state S.Store result) → (trees : Trees)
+            → (state S.Store result).may_leave trees
+            → ∥ ((rows : List Row) × (⟦<SqlTables<S> as Tables>⟧.state self).may_leave rows
+            × HasRows (under_schema trees) rows) ∥₁ }
+    {
+        let SqlTables {
+            conn,
+            failed: _,
+            history: _,
+            counts: _,
+        } = self;
+        conn
+    }
+}
+
+impl<S: Alter> Tables for SqlTables<S> {
+    ghost use Rattle.sqlite.specs.Held.{state};
+    ghost use Rattle.dq_sql.specs.Keeping.{kept_by};
+    ghost use Rattle.dq_sql.specs.Kept.{kept_sound, left_sound};
+
+    ghost state = { λ t. kept_by (state S.Store t.conn) t.history.rows t.failed };
+
+    ghost sound = { λ t. kept_sound _ _ t.keeps };
+
+    ghost left_sound = { λ t. left_sound _ _ t.keeps };
+
+    fn row(
+        &mut self,
+        alloc: Global,
+        kind: Kind,
+        institution: &[u8],
+        key: &[u8],
+    ) -> Result<Option<Row>, TableFault> {
+        let answer = reading::row(&mut self.conn, alloc, kind, institution, key);
+        noted(&mut self.failed, answer)
+    }
+
+    fn rows_of(
+        &mut self,
+        alloc: Global,
+        kind: Kind,
+        institution: &[u8],
+    ) -> Result<Listed<Row>, TableFault> {
+        let answer = reading::rows_of(&mut self.conn, alloc, kind, institution);
+        noted(&mut self.failed, answer)
+    }
+
+    fn rows_above(
+        &mut self,
+        alloc: Global,
+        kind: Kind,
+        institution: &[u8],
+        above: &[u8],
+    ) -> Result<Listed<Row>, TableFault> {
+        let answer = reading::rows_above(&mut self.conn, alloc, kind, institution, above);
+        noted(&mut self.failed, answer)
+    }
+
+    fn count(&mut self, alloc: Global, kind: Kind, institution: &[u8]) -> Result<u64, TableFault> {
+        if let Some(number) = self.counts.get(kind, institution) {
+            return Ok(number);
+        }
+        let answer = reading::count(&mut self.conn, kind, institution);
+        let number = noted(&mut self.failed, answer)?;
+        self.counts.note(alloc, kind, institution, number)?;
+        Ok(number)
+    }
+
+    fn count_above(
+        &mut self,
+        _alloc: Global,
+        kind: Kind,
+        institution: &[u8],
+        above: &[u8],
+    ) -> Result<u64, TableFault> {
+        let answer = reading::count_above(&mut self.conn, kind, institution, above);
+        noted(&mut self.failed, answer)
+    }
+
+    fn failed(&self) -> bool {
+        self.failed
+    }
+
+    fn apply(&mut self, alloc: Global, change: &Change) -> Result<(), TableFault> {
+        match writing::commit(&mut self.conn, alloc, change) {
+            Ok(()) => {
+                self.history = self.history.then(change);
+                self.counts.follow(change);
+                Ok(())
+            }
+            Err(fault) => noted(&mut self.failed, Err(fault)),
+        }
+    }
+}
