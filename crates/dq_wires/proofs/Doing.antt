@@ -1,0 +1,119 @@
+-- How the turn of a connection went, by each deed.
+use Rattle.std.proofs.Common.{◌≡◌, ◌≤◌, ℕ, true, false, List, [], ◌∷◌, length, drop, Option, Some, Result, Ok, Err, refl, sym, ap, inl, inr}
+use Rattle.std.specs.Result.{IfErr, result_err}
+use Rattle.dq_core.specs.declared.event.Event.{Event}
+use Rattle.dq_core.specs.declared.event.Event.TheVariants.{Piece, End}
+use Rattle.dq_core.specs.declared.event.Reply.{Reply}
+use Rattle.dq_core.specs.declared.fault.Fault.{Fault}
+use Rattle.dq_wires.specs.declared.calls.Call.{Call}
+use Rattle.dq_wires.specs.declared.calls.Call.TheVariants.{Read, Write, Shut}
+use Rattle.dq_wires.specs.declared.calls.Came.{Came}
+use Rattle.dq_wires.specs.declared.calls.Came.TheVariants as came
+use Rattle.dq_wires.specs.declared.fault.TurnFault.{TurnFault}
+use Rattle.dq_wires.specs.declared.limits.TheConstants.{READ_MOST}
+use Rattle.dq_wires.specs.Logs.{Logs}
+use Rattle.dq_wires.specs.Held.{Held}
+use Rattle.dq_wires.specs.Steps.{Runs, Stops}
+use Rattle.dq_wires.specs.Deeds.{Shutting, IsSending, IsListening, IsEnd, failed}
+use Rattle.dq_wires.specs.Deeds.Deed.{Sent, Broke, Lost, Closed, Heard, Silent, Left}
+use Rattle.dq_wires.specs.Deeds.Break.{Unkept, Unanswered, Unended, Unbroken}
+use Rattle.dq_wires.specs.Going.{Ends, Hears, FailsToHear, Went, WentOff}
+use Rattle.dq_wires.proofs.Logging.{logs-then}
+
+-- what holds of a fault that a call handed on
+pub handed-on : {A : Type 0} (r : Result A TurnFault) {fault : TurnFault} (P : TurnFault → Type 0) → result_err r ≡ Some fault → P fault → IfErr r P
+handed-on (Ok a) P e p = tt
+handed-on (Err f) {fault} P e p = let same : f ≡ fault = cc in rw same p
+
+-- one event
+run-one : {State : Type 0} (Goes : State → State → Event → Reply → Type 0) {old new : State} (event : Event) (reply : Reply) → Goes old new event reply
+    → Runs Goes old new (record { event = event; reply = reply } ∷ [])
+run-one Goes {old} {new} event reply goes = (new, goes, refl)
+
+module _ {State : Type 0} {Goes : State → State → Event → Reply → Type 0} {before after : Option (List Call)} {old : State} {wire : Held} where
+  pub went-sent : (next : Held) (place : ℕ) (offered : List ℕ) (count : ℕ) → place ≡ wire.place → offered ≡ wire.unsent → IsSending wire
+      → count ≤ length offered → Logs before after (Write place offered (Ok count)) → next ≡ record wire { unsent = drop count wire.unsent }
+      → Went Goes before after old old wire next true
+  went-sent next place offered count at all sending bound told kept = record {
+    deed = Sent count;
+    due = (sending, rw all at bound);
+    calls = rw (at, all) at told;
+    steps = refl;
+    kept = ap (λ (w : Held). w ∷ []) (sym kept);
+  }
+
+  pub went-lost : (mid : Option (List Call)) (next : Held) (place then_place : ℕ) (offered : List ℕ) (answer : Shutting) → place ≡ wire.place
+      → offered ≡ wire.unsent → IsSending wire → wire.closed ≡ true → Logs before mid (Write place offered failed)
+      → then_place ≡ wire.place → Logs mid after (Shut then_place answer) → Went Goes before after old old wire next false
+  went-lost mid next place then_place offered answer at all sending closed told at' told' = record {
+    deed = Lost answer;
+    due = (sending, closed);
+    calls = logs-then before mid after (Write wire.place wire.unsent failed ∷ []) (Shut wire.place answer ∷ []) (rw (at, all) at told) (rw at' at told');
+    steps = refl;
+    kept = refl;
+  }
+
+  pub went-closed : (next : Held) (place : ℕ) (answer : Shutting) → wire.unsent ≡ [] → wire.closed ≡ true → place ≡ wire.place
+      → Logs before after (Shut place answer) → Went Goes before after old old wire next false
+  went-closed next place answer sent closed at told =
+      record { deed = Closed answer; due = (sent, closed); calls = rw at at told; steps = refl; kept = refl }
+
+  pub went-silent : (place room : ℕ) → IsListening wire → place ≡ wire.place → room ≡ READ_MOST
+      → Logs before after (Read place room came.Nothing) → Went Goes before after old old wire wire true
+  went-silent place room listening at all told =
+      record { deed = Silent; due = listening; calls = rw (at, all) at told; steps = refl; kept = refl }
+
+  module _ {new : State} where
+    pub went-broke : (mid : Option (List Call)) (next : Held) (place : ℕ) (offered : List ℕ) → place ≡ wire.place → offered ≡ wire.unsent
+        → IsSending wire → wire.closed ≡ false → Logs before mid (Write place offered failed) → Ends Goes mid after old new wire
+        → Went Goes before after old new wire next false
+    went-broke mid next place offered at all sending unclosed told ends = record {
+      deed = Broke ends.reply ends.answer;
+      due = (sending, unclosed);
+      calls = logs-then before mid after (Write wire.place wire.unsent failed ∷ []) (Shut wire.place ends.answer ∷ []) (rw (at, all) at told) ends.calls;
+      steps = run-one Goes (End wire.number) ends.reply ends.goes;
+      kept = refl;
+    }
+
+    pub went-heard : (next : Held) (place room : ℕ) (octets : List ℕ) → IsListening wire → length octets ≤ READ_MOST → place ≡ wire.place
+        → room ≡ READ_MOST → Logs before after (Read place room (came.Octets octets)) → Hears Goes old new wire next octets
+        → Went Goes before after old new wire next true
+    went-heard next place room octets listening bound at all told hears = record {
+      deed = Heard octets hears.reply;
+      due = (listening, bound);
+      calls = rw (at, all) at told;
+      steps = run-one Goes (Piece wire.number octets) hears.reply hears.goes;
+      kept = ap (λ (w : Held). w ∷ []) (sym hears.kept);
+    }
+
+    pub went-left : (mid : Option (List Call)) (next : Held) (place room : ℕ) (came : Came) → IsListening wire → IsEnd came → place ≡ wire.place
+        → room ≡ READ_MOST → Logs before mid (Read place room came) → Ends Goes mid after old new wire
+        → Went Goes before after old new wire next false
+    went-left mid next place room came listening ended at all told ends = record {
+      deed = Left came ends.reply ends.answer;
+      due = (listening, ended);
+      calls = logs-then before mid after (Read wire.place READ_MOST came ∷ []) (Shut wire.place ends.answer ∷ []) (rw (at, all) at told) ends.calls;
+      steps = run-one Goes (End wire.number) ends.reply ends.goes;
+      kept = refl;
+    }
+
+module _ {State : Type 0} {Fails : State → State → Event → Fault → Type 0} {before after : Option (List Call)} {old new : State} {wire : Held} {fault : TurnFault} where
+  pub off-unheard : (place room : ℕ) (octets : List ℕ) → IsListening wire → length octets ≤ READ_MOST → place ≡ wire.place → room ≡ READ_MOST
+      → Logs before after (Read place room (came.Octets octets)) → FailsToHear Fails old new wire octets fault
+      → WentOff Fails before after old new wire fault
+  off-unheard place room octets listening bound at all told (inl unkept) =
+      record { at = Unkept octets; fits = (listening, bound); calls = rw (at, all) at told; stops = unkept }
+  off-unheard place room octets listening bound at all told (inr unanswered) =
+      record { at = Unanswered octets; fits = (listening, bound); calls = rw (at, all) at told; stops = unanswered }
+
+  pub off-unended : (place room : ℕ) (came : Came) → IsListening wire → IsEnd came → place ≡ wire.place → room ≡ READ_MOST
+      → Logs before after (Read place room came) → Stops Fails old new (Some (End wire.number)) fault
+      → WentOff Fails before after old new wire fault
+  off-unended place room came listening ended at all told stops =
+      record { at = Unended came; fits = (listening, ended); calls = rw (at, all) at told; stops = stops }
+
+  pub off-unbroken : (place : ℕ) (offered : List ℕ) → IsSending wire → wire.closed ≡ false → place ≡ wire.place → offered ≡ wire.unsent
+      → Logs before after (Write place offered failed) → Stops Fails old new (Some (End wire.number)) fault
+      → WentOff Fails before after old new wire fault
+  off-unbroken place offered sending unclosed at all told stops =
+      record { at = Unbroken; fits = (sending, unclosed); calls = rw (at, all) at told; stops = stops }

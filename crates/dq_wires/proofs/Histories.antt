@@ -1,0 +1,39 @@
+-- Steps, one after the other, are a history of the plain server.
+use Rattle.std.proofs.Common.{◌≡◌, List, [], ◌∷◌, ◌++◌, refl, ◌∙◌, ap, append_assoc}
+use Rattle.std.proofs.lemmas.List.{append-nil}
+use Rattle.dq_config.specs.declared.config.Institution.{Institution}
+use Rattle.dq_tables.specs.Keeping.{State}
+use Rattle.dq_core.specs.declared.event.Event.{Event}
+use Rattle.dq_core.specs.Shared.{World, turn, world_after_turn, world_from, opening, world_after, replies_from}
+use Rattle.dq_core.specs.Standing.{Standing}
+use Rattle.dq_wires.specs.Steps.{Step, Runs, events_of, replies_of}
+use Rattle.dq_wires.specs.Stepping.{Stepped}
+use Rattle.dq_wires.specs.Serving.{Serves}
+
+world-next : (institutions : List Institution) (world : World) (events : List Event) (event : Event) → world_from institutions world (events ++ event ∷ [])
+    ≡ world_after_turn (world_from institutions world events) (turn institutions (world_from institutions world events) event)
+world-next institutions world [] event = refl
+world-next institutions world (e ∷ events) event = world-next institutions (world_after_turn world (turn institutions world e)) events event
+
+module _ {Tables : Type 0} (state : Tables → State) where
+  pub runs-serve : (old new : Standing Tables) (steps : List Step) → Runs (Stepped state) old new steps → Serves state old new steps
+  runs-serve old new [] same = record {
+    stands = λ rows events stood h. rw (same, append-nil events) stood;
+    replied = λ rows events stood h. refl;
+    institutions = ap (λ (x : Standing Tables). x.institutions) same;
+    was_honest = λ h. rw same at h;
+  }
+  runs-serve old new (s ∷ steps) (mid, stepped, rest) =
+      let later : Serves state mid new steps = runs-serve mid new steps rest in
+      record {
+        stands = λ rows events stood h. rw (← append_assoc events (s.event ∷ []) (events_of steps))
+            (later.stands rows (events ++ s.event ∷ []) (stepped.stands rows events stood (later.was_honest h)) h);
+        replied = λ rows events stood h.
+            let first = stepped.replied rows events stood (later.was_honest h) in
+            let others : replies_of steps ≡ replies_from mid.institutions (world_after mid.institutions rows (events ++ s.event ∷ [])) (events_of steps) =
+            later.replied rows (events ++ s.event ∷ []) (stepped.stands rows events stood (later.was_honest h)) h in
+            let moved = rw (stepped.institutions, world-next old.institutions (opening rows) events s.event) at others in
+            cc;
+        institutions = later.institutions ∙ stepped.institutions;
+        was_honest = λ h. stepped.goes.was_honest (later.was_honest h);
+      }

@@ -1,0 +1,15 @@
+pub mod Logging
+pub mod Doing
+pub mod Rounding
+pub mod Revolving
+pub mod Accepting
+pub mod Orders
+pub mod Histories
+pub mod Looking
+pub mod Conserving
+pub mod Numbered
+pub mod Answering
+pub mod Serving
+pub mod Isolating
+pub mod Cutting
+pub mod Playing

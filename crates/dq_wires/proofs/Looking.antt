@@ -1,0 +1,65 @@
+-- Steps after a look are steps from before it.
+use Rattle.std.proofs.Common.{List, [], ◌∷◌, ◌++◌, ◌∙◌, ap, refl}
+use Rattle.std.proofs.lemmas.List.{append-nil}
+use Rattle.dq_config.specs.declared.config.Institution.{Institution}
+use Rattle.dq_tables.specs.Keeping.{State}
+use Rattle.dq_core.specs.declared.event.Event.{Event}
+use Rattle.dq_core.specs.declared.event.Reply.{Reply}
+use Rattle.dq_core.specs.Shared.{turn, world_after}
+use Rattle.dq_core.specs.Histories.{newest_after}
+use Rattle.dq_core.specs.Standing.{Standing}
+use Rattle.dq_core.specs.Looking.{Looked}
+use Rattle.dq_core.proofs.Going.{goes-then}
+use Rattle.dq_core.proofs.Looking.{looked-none, looked-then}
+use Rattle.dq_wires.specs.Steps.{Step, Runs}
+use Rattle.dq_wires.specs.Stepping.{Stepped}
+use Rattle.dq_wires.specs.Serving.{Serves}
+use Rattle.dq_wires.specs.Servings.{ComesBy}
+use Rattle.dq_wires.proofs.Histories.{runs-serve}
+use Rattle.dq_wires.proofs.Rounding.{runs-then}
+
+module _ {Tables : Type 0} {state : Tables → State} where
+  pub stepped-after : {old mid new : Standing Tables} {event : Event} {reply : Reply}
+      → Looked state old mid → Stepped state mid new event reply → Stepped state old new event reply
+  stepped-after {event = event} looked stepped = record {
+    replied = λ rows events stood honest.
+        stepped.replied rows events (looked.stands rows events stood (stepped.goes.was_honest honest)) honest
+        ∙ ap (λ (i : List Institution). (turn i (world_after i rows events) event).reply) looked.institutions;
+    stands = λ rows events stood honest.
+        stepped.stands rows events (looked.stands rows events stood (stepped.goes.was_honest honest)) honest;
+    institutions = stepped.institutions ∙ looked.institutions;
+    newest = stepped.newest ∙ ap (λ n. newest_after n (event ∷ [])) looked.newest;
+    unspent = stepped.unspent;
+    goes = goes-then looked.goes stepped.goes;
+  }
+
+  -- no step, nor a look
+  pub comes-none : (server : Standing Tables) → ComesBy state server server []
+  comes-none server = record { last = server; runs = refl; looks = looked-none server }
+
+  -- a look more
+  pub comes-looking : {first mid next : Standing Tables} {steps : List Step}
+      → ComesBy state first mid steps → Looked state mid next → ComesBy state first next steps
+  comes-looking comes looked = record { last = comes.last; runs = comes.runs; looks = looked-then comes.looks looked }
+
+  -- more steps: the looks before them are part of the first
+  pub comes-more : (first mid next : Standing Tables) (steps more : List Step)
+      → ComesBy state first mid steps → Runs (Stepped state) mid next more → ComesBy state first next (steps ++ more)
+  comes-more first mid next steps [] comes same =
+      record { last = comes.last; runs = rw (append-nil steps) comes.runs; looks = rw same comes.looks }
+  comes-more first mid next steps (s ∷ more) comes (after, stepped, rest) = record {
+    last = next;
+    runs = runs-then (Stepped state) first comes.last next steps (s ∷ more) comes.runs (after, stepped-after comes.looks stepped, rest);
+    looks = looked-none next;
+  }
+
+  pub comes-serve : (old new : Standing Tables) (steps : List Step) → ComesBy state old new steps → Serves state old new steps
+  comes-serve old new steps comes =
+      let serves : Serves state old comes.last steps = runs-serve state old comes.last steps comes.runs in
+      let looks = comes.looks in
+      record {
+        stands = λ rows events stood honest. looks.stands rows _ (serves.stands rows events stood (looks.goes.was_honest honest)) honest;
+        replied = λ rows events stood honest. serves.replied rows events stood (looks.goes.was_honest honest);
+        institutions = looks.institutions ∙ serves.institutions;
+        was_honest = λ honest. serves.was_honest (looks.goes.was_honest honest);
+      }

@@ -1,0 +1,130 @@
+-- What is done in the turn of one connection.
+use Rattle.std.specs.Prelude.{◌≡◌, ◌≢◌, ◌≤◌, ℕ, true, false, List, [], ◌∷◌, length, drop, Option, Some, None, Result, Ok, Err}
+use Rattle.dq_core.specs.declared.event.Event.{Event}
+use Rattle.dq_core.specs.declared.event.Event.TheVariants.{Piece, End}
+use Rattle.dq_core.specs.declared.event.Reply.{Reply}
+use Rattle.dq_wires.specs.declared.calls.WireFault.{WireFault}
+use Rattle.dq_wires.specs.declared.calls.Came.{Came}
+use Rattle.dq_wires.specs.declared.calls.Came.TheVariants as came
+use Rattle.dq_wires.specs.declared.calls.Call.{Call}
+use Rattle.dq_wires.specs.declared.calls.Call.TheVariants.{Read, Write, Shut}
+use Rattle.dq_wires.specs.declared.limits.TheConstants.{READ_MOST}
+use Rattle.dq_wires.specs.Held.{Held, answered}
+use Rattle.dq_wires.specs.Steps.{Step}
+
+-- what a shut is answered, which is passed over
+abbrev pub Shutting : Type 0
+Shutting = Result (Unit {0}) WireFault
+
+-- What is done for a connection in its turn.
+pub data Deed : Type 0 where
+  -- so many of its unsent octets were written
+  Sent : ℕ → Deed
+  -- the write failed; its end was stepped, and it was shut
+  Broke : Reply → Shutting → Deed
+  -- the write failed, of one that a reply had closed; it was shut
+  Lost : Shutting → Deed
+  -- it was closed and all was written; it was shut
+  Closed : Shutting → Deed
+  -- octets came and were stepped
+  Heard : List ℕ → Reply → Deed
+  -- nothing came
+  Silent : Deed
+  -- the peer left; its end was stepped, and it was shut
+  Left : Came → Reply → Shutting → Deed
+
+-- a connection with unsent octets
+abbrev pub IsSending : Held → Type 0
+IsSending wire = wire.unsent ≢ []
+
+-- one on which all was sent that was answered, and which no reply closed
+abbrev pub IsListening : Held → Type 0
+IsListening wire = (wire.unsent ≡ []) × (wire.closed ≡ false)
+
+-- a read tells that no more comes
+abbrev pub IsEnd : Came → Type 0
+IsEnd (came.Octets octets) = ⊥
+IsEnd came.Nothing = ⊥
+IsEnd came.Ended = Unit {0}
+IsEnd came.Failed = Unit {0}
+
+-- Which connection a deed is for: unsent octets are written, a closed one that has none is shut,
+-- and from any other is read.
+abbrev pub IsDue : Held → Deed → Type 0
+IsDue wire (Sent count) = IsSending wire × (count ≤ length wire.unsent)
+IsDue wire (Broke reply shut) = IsSending wire × (wire.closed ≡ false)
+IsDue wire (Lost shut) = IsSending wire × (wire.closed ≡ true)
+IsDue wire (Closed shut) = (wire.unsent ≡ []) × (wire.closed ≡ true)
+IsDue wire (Heard octets reply) = IsListening wire × (length octets ≤ READ_MOST)
+IsDue wire Silent = IsListening wire
+IsDue wire (Left came reply shut) = IsListening wire × IsEnd came
+
+-- the failure of a write
+abbrev pub failed : Result ℕ WireFault
+failed = Err (record {})
+
+-- the calls of the wires for it
+abbrev pub deed_calls : Held → Deed → List Call
+deed_calls wire (Sent count) = Write wire.place wire.unsent (Ok count) ∷ []
+deed_calls wire (Broke reply shut) =
+    Write wire.place wire.unsent failed ∷ Shut wire.place shut ∷ []
+deed_calls wire (Lost shut) = Write wire.place wire.unsent failed ∷ Shut wire.place shut ∷ []
+deed_calls wire (Closed shut) = Shut wire.place shut ∷ []
+deed_calls wire (Heard octets reply) = Read wire.place READ_MOST (came.Octets octets) ∷ []
+deed_calls wire Silent = Read wire.place READ_MOST came.Nothing ∷ []
+deed_calls wire (Left came reply shut) =
+    Read wire.place READ_MOST came ∷ Shut wire.place shut ∷ []
+
+abbrev pub stepped : Event → Reply → List Step
+stepped event reply = record { event = event; reply = reply } ∷ []
+
+-- the events that are stepped, under its own number
+abbrev pub deed_steps : Held → Deed → List Step
+deed_steps wire (Sent count) = []
+deed_steps wire (Broke reply shut) = stepped (End wire.number) reply
+deed_steps wire (Lost shut) = []
+deed_steps wire (Closed shut) = []
+deed_steps wire (Heard octets reply) = stepped (Piece wire.number octets) reply
+deed_steps wire Silent = []
+deed_steps wire (Left came reply shut) = stepped (End wire.number) reply
+
+-- the connection afterwards, if it is still held
+abbrev pub deed_after : Held → Deed → List Held
+deed_after wire (Sent count) = record wire { unsent = drop count wire.unsent } ∷ []
+deed_after wire (Broke reply shut) = []
+deed_after wire (Lost shut) = []
+deed_after wire (Closed shut) = []
+deed_after wire (Heard octets reply) = answered wire reply ∷ []
+deed_after wire Silent = wire ∷ []
+deed_after wire (Left came reply shut) = []
+
+-- Where the turn of a connection is cut off by a fault.
+pub data Break : Type 0 where
+  -- octets came, and there is no memory for them
+  Unkept : List ℕ → Break
+  -- octets came, and the server failed at them
+  Unanswered : List ℕ → Break
+  -- the peer left, and the server failed at the end
+  Unended : Came → Break
+  -- the write failed, and the server failed at the end
+  Unbroken : Break
+
+abbrev pub IsBreak : Held → Break → Type 0
+IsBreak wire (Unkept octets) = IsListening wire × (length octets ≤ READ_MOST)
+IsBreak wire (Unanswered octets) = IsListening wire × (length octets ≤ READ_MOST)
+IsBreak wire (Unended came) = IsListening wire × IsEnd came
+IsBreak wire Unbroken = IsSending wire × (wire.closed ≡ false)
+
+-- its only call
+abbrev pub break_calls : Held → Break → List Call
+break_calls wire (Unkept octets) = Read wire.place READ_MOST (came.Octets octets) ∷ []
+break_calls wire (Unanswered octets) = Read wire.place READ_MOST (came.Octets octets) ∷ []
+break_calls wire (Unended came) = Read wire.place READ_MOST came ∷ []
+break_calls wire Unbroken = Write wire.place wire.unsent failed ∷ []
+
+-- the event at which the server failed, if it did
+abbrev pub break_event : Held → Break → Option Event
+break_event wire (Unkept octets) = None
+break_event wire (Unanswered octets) = Some (Piece wire.number octets)
+break_event wire (Unended came) = Some (End wire.number)
+break_event wire Unbroken = Some (End wire.number)

@@ -1,0 +1,53 @@
+-- How the turn of one connection went. This is there for the prover.
+use Rattle.std.specs.Prelude.{◌≡◌, ◌⊎◌, ℕ, Bool, if◌then◌else◌, List, [], ◌∷◌, Option, Some, None}
+use Rattle.dq_core.specs.declared.event.Event.{Event}
+use Rattle.dq_core.specs.declared.event.Event.TheVariants.{Piece, End}
+use Rattle.dq_core.specs.declared.event.Reply.{Reply}
+use Rattle.dq_core.specs.declared.fault.Fault.{Fault}
+use Rattle.dq_wires.specs.declared.calls.Call.{Call}
+use Rattle.dq_wires.specs.declared.calls.Call.TheVariants.{Shut}
+use Rattle.dq_wires.specs.declared.fault.TurnFault.{TurnFault}
+use Rattle.dq_wires.specs.Logs.{Logs, LogsAll}
+use Rattle.dq_wires.specs.Held.{Held, answered}
+use Rattle.dq_wires.specs.Steps.{Runs, Stops}
+use Rattle.dq_wires.specs.Deeds.{Shutting, Deed, IsDue, deed_calls, deed_steps, deed_after, Break, IsBreak, break_calls, break_event}
+
+-- The end of a connection was stepped, and it was shut.
+pub record Ends {State : Type 0} (Goes : State → State → Event → Reply → Type 0)
+    (before after : Option (List Call)) (old new : State) (wire : Held) : Type 0 where
+  pub reply : Reply
+  pub answer : Shutting
+  pub goes : Goes old new (End wire.number) reply
+  pub calls : Logs before after (Shut wire.place answer)
+
+-- Octets were stepped, and the connection keeps the answer.
+pub record Hears {State : Type 0} (Goes : State → State → Event → Reply → Type 0)
+    (old new : State) (wire next : Held) (octets : List ℕ) : Type 0 where
+  pub reply : Reply
+  pub goes : Goes old new (Piece wire.number octets) reply
+  pub kept : next ≡ answered wire reply
+
+-- There was no memory for the octets, or the server failed at them.
+abbrev pub FailsToHear : {State : Type 0} → (State → State → Event → Fault → Type 0)
+    → State → State → Held → List ℕ → TurnFault → Type 0
+FailsToHear Fails old new wire octets fault = (Stops Fails old new None fault)
+    ⊎ (Stops Fails old new (Some (Piece wire.number octets)) fault)
+
+-- A deed was done, and the connection is still held or not.
+pub record Went {State : Type 0} (Goes : State → State → Event → Reply → Type 0)
+    (before after : Option (List Call)) (old new : State) (wire next : Held)
+    (held : Bool) : Type 0 where
+  pub deed : Deed
+  pub due : IsDue wire deed
+  pub calls : LogsAll before after (deed_calls wire deed)
+  pub steps : Runs Goes old new (deed_steps wire deed)
+  pub kept : deed_after wire deed ≡ (if held then next ∷ [] else [])
+
+-- It was cut off by a fault.
+pub record WentOff {State : Type 0} (Fails : State → State → Event → Fault → Type 0)
+    (before after : Option (List Call)) (old new : State) (wire : Held)
+    (fault : TurnFault) : Type 0 where
+  pub at : Break
+  pub fits : IsBreak wire at
+  pub calls : LogsAll before after (break_calls wire at)
+  pub stops : Stops Fails old new (break_event wire at) fault

@@ -1,0 +1,35 @@
+-- The connections that are held over wires.
+use Rattle.std.specs.Prelude.{ℕ, Bool, false, List, []}
+use Rattle.dq_core.specs.declared.event.Reply.{Reply}
+use Rattle.dq_core.specs.declared.event.Reply.TheVariants as reply
+
+-- A connection that is held: its place among the wires, its number, the octets that were answered
+-- and are not yet written, and whether a reply closed it.
+pub record Held : Type 0 where
+  pub place : ℕ
+  pub number : ℕ
+  pub unsent : List ℕ
+  pub closed : Bool
+
+-- as it comes
+abbrev pub new_held : ℕ → ℕ → Held
+new_held place number =
+    record { place = place; number = number; unsent = []; closed = false }
+
+-- the octets of a reply
+abbrev pub octets_in : Reply → List ℕ
+octets_in (reply.Octets conn octets close) = octets
+octets_in reply.Done = []
+octets_in (reply.Refused number) = []
+octets_in reply.Ignored = []
+
+-- whether a reply closes its connection
+abbrev pub closes : Reply → Bool
+closes (reply.Octets conn octets close) = close
+closes reply.Done = false
+closes (reply.Refused number) = false
+closes reply.Ignored = false
+
+-- the connection with its answer
+abbrev pub answered : Held → Reply → Held
+answered wire reply = record wire { unsent = octets_in reply; closed = closes reply }

@@ -1,0 +1,47 @@
+-- What the server does at one event.
+use Rattle.std.specs.Prelude.{◌≡◌, ◌↔◌, true, false, List, [], ◌∷◌, ◌++◌, Ok, Err}
+use Rattle.dq_tables.specs.declared.row.Row.{Row}
+use Rattle.dq_tables.specs.Keeping.{State}
+use Rattle.dq_core.specs.declared.event.Event.{Event}
+use Rattle.dq_core.specs.declared.event.Reply.{Reply}
+use Rattle.dq_core.specs.declared.fault.Fault.{Fault}
+use Rattle.dq_core.specs.declared.fault.Fault.TheVariants.{Store, Stopped}
+use Rattle.dq_core.specs.Shared.{turn, world_after}
+use Rattle.dq_core.specs.Histories.{newest_after}
+use Rattle.dq_core.specs.Stepping.{TakesNoMemory, Goes, MayLeave, IsPartOf}
+use Rattle.dq_core.specs.Standing.{Standing, StandsFor}
+
+-- It is answered: whatever history the server stands for, the reply is that of the plain server,
+-- and the server then stands for the history with the event.
+pub record Stepped {Tables : Type 0} (state : Tables → State) (old new : Standing Tables)
+    (event : Event) (reply : Reply) : Type 0 where
+  pub replied : (rows : List Row) (events : List Event) → StandsFor state rows old events
+      → (state new.tables).honest
+      → reply ≡ (turn old.institutions (world_after old.institutions rows events) event).reply
+  pub stands : (rows : List Row) (events : List Event) → StandsFor state rows old events
+      → (state new.tables).honest → StandsFor state rows new (events ++ event ∷ [])
+  pub institutions : new.institutions ≡ old.institutions
+  pub newest : new.newest ≡ newest_after old.newest (event ∷ [])
+  pub unspent : new.spent ≡ false
+  pub goes : Goes (state old.tables) (state new.tables) (Ok reply)
+
+-- The server fails at it, after the first of its operations, and is spent. At what takes no memory
+-- a server that stands for a history does not fail, and with Store only where its tables failed.
+pub record Fails {Tables : Type 0} (state : Tables → State) (old new : Standing Tables)
+    (event : Event) (fault : Fault) : Type 0 where
+  pub part : (rows : List Row) (events : List Event) → StandsFor state rows old events
+      → (state new.tables).honest
+      → IsPartOf
+      (turn old.institutions (world_after old.institutions rows events) event).operations
+      (world_after old.institutions rows events).rows (state new.tables).rows
+      (MayLeave (state old.tables) (state new.tables))
+  pub never : (rows : List Row) (events : List Event) → StandsFor state rows old events
+      → TakesNoMemory (world_after old.institutions rows events).connections event → ⊥
+  pub institutions : new.institutions ≡ old.institutions
+  pub spent : new.spent ≡ true
+  pub goes : Goes {A = Reply} (state old.tables) (state new.tables) (Err fault)
+  pub store : (rows : List Row) (events : List Event) → StandsFor state rows old events
+      → fault ≡ Store
+      → ((state old.tables).failed ≡ false) × ((state new.tables).failed ≡ true)
+  pub stopped : (fault ≡ Stopped) ↔ (old.spent ≡ true)
+  pub unchanged : old.spent ≡ true → new ≡ old

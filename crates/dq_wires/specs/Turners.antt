@@ -1,0 +1,38 @@
+-- What contracts see of a turner.
+use Rattle.std.specs.Prelude.{◌≡◌, ◌+◌, ℕ, IsTrue, List, [], ◌∷◌, ◌++◌, Option, Some, None, IfSome}
+use Rattle.dq_core.specs.declared.event.Event.{Event}
+use Rattle.dq_core.specs.declared.event.Event.TheVariants.{Open, Piece, End, Schedule, Withdraw}
+use Rattle.dq_core.specs.Histories.{is_above}
+use Rattle.dq_core.specs.Standing.{Standing}
+use Rattle.dq_wires.specs.declared.calls.Call.{Call}
+use Rattle.dq_wires.specs.declared.calls.Call.TheVariants.{Accept}
+use Rattle.dq_wires.specs.declared.fault.TurnFault.{TurnFault}
+use Rattle.dq_wires.specs.Turns.{Hold, refused}
+
+-- Its server, the connections that are held, and the fault that stopped it.
+pub record Turning (Tables : Type 0) : Type 0 where
+  pub server : Standing Tables
+  pub hold : Hold
+  pub fault : Option TurnFault
+
+-- The number after a given one can be opened.
+abbrev pub NextOpens : Option ℕ → ℕ → Type 0
+NextOpens newest number = IsTrue (is_above newest (number + 1))
+
+-- an order of the console
+abbrev pub IsOrder : Event → Type 0
+IsOrder (Open number) = ⊥
+IsOrder (Piece number octets) = ⊥
+IsOrder (End number) = ⊥
+IsOrder (Schedule inst octets) = Unit {0}
+IsOrder (Withdraw inst id) = Unit {0}
+
+-- The first fault stays.
+abbrev pub first_fault : Option TurnFault → TurnFault → TurnFault
+first_fault None fault = fault
+first_fault (Some earlier) fault = earlier
+
+-- The last call that is told is an accept that failed.
+abbrev pub EndsUnaccepted : Option (List Call) → Type 0
+EndsUnaccepted log = IfSome log (λ calls.
+    (earlier : List Call) × (calls ≡ earlier ++ Accept refused ∷ []))

@@ -1,0 +1,54 @@
+//! The calls of wires, with what was answered.
+use dq_list::Listed;
+use thiserror::Error;
+
+/// A call on a wire failed. Why, nobody is told.
+#[derive(Clone, Copy, Debug, PartialEq, Eq, Error)]
+#[error("the wire failed")]
+pub struct WireFault;
+
+/// What a read comes to.
+#[derive(Clone, Copy, Debug, PartialEq, Eq)]
+pub enum ReadTurn {
+    /// So many octets, at the beginning of the buffer.
+    Got(usize),
+    /// Nothing has come yet.
+    Nothing,
+    /// The peer sends no more.
+    Ended,
+}
+
+/// What came at a read.
+#[derive(Debug, Drop)]
+pub enum Came {
+    Octets(Listed<u8>),
+    Nothing,
+    /// The peer sends no more.
+    Ended,
+    /// The read failed.
+    Failed,
+}
+
+/// A call of wires with its answer. A place is where a connection is held among the wires.
+#[derive(Debug, Drop)]
+pub enum Call {
+    /// A connection was asked for: the place of the one that came, if one did.
+    Accept(Result<Option<usize>, WireFault>),
+    /// Octets were asked for, so many at most.
+    Read {
+        place: usize,
+        room: usize,
+        came: Came,
+    },
+    /// Octets were offered: how many of them were taken, from the first on.
+    Write {
+        place: usize,
+        octets: Listed<u8>,
+        taken: Result<usize, WireFault>,
+    },
+    /// The connection was given up.
+    Shut {
+        place: usize,
+        answer: Result<(), WireFault>,
+    },
+}

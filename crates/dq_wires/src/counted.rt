@@ -1,0 +1,57 @@
+//! Wires around wires, which count the octets that pass.
+ghost use Rattle.std.specs.Prelude.{◌≡◌};
+
+use crate::calls::{ReadTurn, WireFault};
+use crate::wires::Wires;
+
+/// Wires that count the octets that are read and written over those inside.
+#[derive(Drop)]
+pub(crate) struct CountedWires<W> {
+    /// Those inside.
+    pub(crate) wires: W,
+    /// How many octets were read, as far as a `u64` counts.
+    pub(crate) read: u64,
+    /// How many octets were written, as far as a `u64` counts.
+    pub(crate) written: u64,
+}
+
+impl<W> CountedWires<W> {
+    /// Around wires over which nothing is counted yet.
+    pub(crate) fn new(wires: W) -> Self
+        ensures { result ≡ record { wires = wires; read = 0; written = 0 } }
+    {
+        CountedWires {
+            wires,
+            read: 0,
+            written: 0,
+        }
+    }
+}
+
+impl<W: Wires> Wires for CountedWires<W> {
+    ghost log = { λ counted. W.log counted.wires };
+
+    fn accept(&mut self) -> Result<Option<usize>, WireFault> {
+        self.wires.accept()
+    }
+
+    fn read(&mut self, place: usize, buffer: &mut [u8]) -> Result<ReadTurn, WireFault> {
+        let turn = self.wires.read(place, buffer);
+        if let Ok(ReadTurn::Got(count)) = turn {
+            self.read = self.read.saturating_add(count as u64);
+        }
+        turn
+    }
+
+    fn write(&mut self, place: usize, octets: &[u8]) -> Result<usize, WireFault> {
+        let taken = self.wires.write(place, octets);
+        if let Ok(count) = taken {
+            self.written = self.written.saturating_add(count as u64);
+        }
+        taken
+    }
+
+    fn shut(&mut self, place: usize) -> Result<(), WireFault> {
+        self.wires.shut(place)
+    }
+}

@@ -1,0 +1,162 @@
+//! Laws of turns and of servings. Each function's contract is a law; its body does nothing.
+ghost use Rattle.std.specs.Prelude.{◌≡◌, ◌≤◌, ℕ, IsTrue, List, [], ◌∷◌, ◌++◌, Option, length, map};
+ghost use Rattle.std.specs.List.{flat_map};
+ghost use Rattle.dq_config.specs.declared.config.Institution.{Institution};
+ghost use Rattle.dq_tables.specs.declared.row.Row.{Row};
+ghost use Rattle.dq_core.specs.declared.event.Event.{Event};
+ghost use Rattle.dq_core.specs.declared.event.Reply.{Reply};
+ghost use Rattle.dq_core.specs.Histories.{is_well_formed};
+ghost use Rattle.dq_core.specs.Shared.{replies, world_after};
+ghost use Rattle.dq_core.specs.Own.{owns};
+ghost use Rattle.dq_core.specs.Isolation.{Begins};
+ghost use Rattle.dq_core.specs.Standing.{Standing, StandsFor};
+ghost use Rattle.dq_core.specs.Looking.{Looked};
+ghost use Rattle.dq_wires.specs.declared.calls.Call.{Call};
+ghost use Rattle.dq_wires.specs.declared.fault.TurnFault.{TurnFault};
+ghost use Rattle.dq_wires.specs.declared.limits.TheConstants.{MOST_WIRES};
+ghost use Rattle.dq_wires.specs.Held.{Held};
+ghost use Rattle.dq_wires.specs.Steps.{Step, Runs, replies_of};
+ghost use Rattle.dq_wires.specs.Deeds.{Deed, IsDue};
+ghost use Rattle.dq_wires.specs.Stepping.{Stepped, Fails};
+ghost use Rattle.dq_wires.specs.Serving.{Serves};
+ghost use Rattle.dq_wires.specs.Turns.{Done, kept_of, Hold, Turn, IsTurn, AreTurns, after_turn, after_turns, Cut, TurnsWent, TurnsCut};
+ghost use Rattle.dq_wires.specs.Turns.Cut.{NoRoom};
+ghost use Rattle.dq_wires.specs.Turners.{IsOrder};
+ghost use Rattle.dq_wires.specs.Octets.{answered_in, written_in, lost_in, unsent_of, held_on, done_on, turns_done, IsNumbered};
+ghost use Rattle.dq_wires.specs.Servings.{Act, nothing_held, all_turned, Serving, Served, served_steps, served_events, written_on, answered_on, IsFrontOf, OneBegins};
+ghost use Rattle.dq_wires.specs.Servings.Act.{Ordered};
+ghost use Rattle.dq_wires.specs.Cuts.{AgreeOnWires};
+
+use dq_assoc::laws::a_longer_stream_adds_inputs;
+use dq_core::laws::{
+    institutions_are_isolated, pieces_join, replies_do_not_depend_on_numbers, runs_are_isolated,
+    verdict_is_of_the_request,
+};
+use dq_tables::Tables;
+
+/// The steps of turns are a history of the plain server: its events come after those that the
+/// server stands for, and its replies are those of the plain server.
+pub fn steps_are_a_history<T: Tables>()
+    ensures { (old new : Standing T) (steps : List Step) →
+        Runs (Stepped T.state) old new steps →
+        Serves T.state old new steps }
+{}
+
+/// No octet is lost or made. In the turn of a connection what was unsent, and what is then
+/// answered, is what is written, what is lost with a connection that is given up, and what is then
+/// unsent; and so over whole turns, under the number of each connection.
+pub fn octets_are_conserved()
+    ensures turn { (wire : Held) (deed : Deed) → IsDue wire deed →
+        let d : Done = record { wire = wire; deed = deed } in
+        wire.unsent ++ answered_in d
+        ≡ written_in d ++ (lost_in d ++ flat_map unsent_of (kept_of d)) }
+    ensures turns { (number : ℕ) (h : Hold) (turns : List Turn) →
+        IsNumbered h → AreTurns h turns →
+        let done = turns_done turns in
+        held_on number h.held ++ done_on number answered_in done
+        ≡ done_on number written_in done
+        ++ (done_on number lost_in done ++ held_on number (after_turns h turns).held) }
+{}
+
+/// The numbers of the connections that are held rise, and none is above the newest.
+pub fn numbers_rise()
+    ensures { (h : Hold) (turns : List Turn) → IsNumbered h → AreTurns h turns →
+        IsNumbered (after_turns h turns) }
+{}
+
+/// No more connections are held than there is room for.
+pub fn no_more_are_held_than_fit()
+    ensures { (h : Hold) (turns : List Turn) → length h.held ≤ MOST_WIRES → AreTurns h turns →
+        length (after_turns h turns).held ≤ MOST_WIRES }
+{}
+
+/// What a look leaves is not seen by the steps after it: a step after a look is that step alone.
+pub fn looks_leave_no_trace<T: Tables>()
+    ensures { (old mid new : Standing T) (event : Event) (reply : Reply) →
+        Looked T.state old mid → Stepped T.state mid new event reply →
+        Stepped T.state old new event reply }
+{}
+
+/// What is asked of a turner from its beginning on, one call after the other, is a serving: turns
+/// that went to their end, orders that were answered, looks, and at last turns that a fault cut
+/// off.
+pub fn calls_are_a_serving<T: Tables>()
+    ensures begins { (rows : List Row) (log : Option (List Call)) (server : Standing T) →
+        StandsFor T.state rows server [] →
+        Serving T.state rows log log server server nothing_held [] }
+    ensures turns { (rows : List Row) (before now after : Option (List Call))
+        (first mid next : Standing T) (hold to : Hold) (acts : List Act) (count : ℕ) →
+        Serving T.state rows before now first mid hold acts →
+        (went : TurnsWent (Stepped T.state) now after mid next hold to count) →
+        Serving T.state rows before after first next to (acts ++ all_turned went.turns) }
+    ensures order { (rows : List Row) (before now : Option (List Call))
+        (first mid next : Standing T) (hold : Hold) (acts : List Act) (event : Event)
+        (reply : Reply) → Serving T.state rows before now first mid hold acts →
+        IsOrder event → Stepped T.state mid next event reply →
+        Serving T.state rows before now first next hold (acts ++ Ordered event reply ∷ []) }
+    ensures look { (rows : List Row) (before now : Option (List Call))
+        (first mid next : Standing T) (hold : Hold) (acts : List Act) →
+        Serving T.state rows before now first mid hold acts → Looked T.state mid next →
+        Serving T.state rows before now first next hold acts }
+    ensures whole { (rows : List Row) (before now : Option (List Call)) (first last : Standing T)
+        (hold : Hold) (acts : List Act) →
+        Serving T.state rows before now first last hold acts →
+        Served T.state rows first last acts NoRoom }
+    ensures cut { (rows : List Row) (before now after : Option (List Call))
+        (first mid new : Standing T) (hold : Hold) (acts : List Act) (count : ℕ)
+        (fault : TurnFault) → Serving T.state rows before now first mid hold acts →
+        (off : TurnsCut (Stepped T.state) (Fails T.state) now after mid new hold count fault) →
+        Served T.state rows first off.mid (acts ++ all_turned off.turns) off.cut }
+{}
+
+/// What a serving answers is what the plain server answers to what came, in which opened numbers
+/// rise, and the rows are then those of the plain server; and what is written on a connection is
+/// the first of what was answered on it, each octet once and in order.
+pub fn servings_are_answered<T: Tables>()
+    ensures well_formed { (rows : List Row) (first last : Standing T) (acts : List Act)
+        (cut : Cut) → Served T.state rows first last acts cut →
+        IsTrue (is_well_formed (served_events acts cut)) }
+    ensures replies { (rows : List Row) (first last : Standing T) (acts : List Act) (cut : Cut) →
+        Served T.state rows first last acts cut → (T.state last.tables).honest →
+        replies_of (served_steps acts cut)
+        ≡ replies first.institutions rows (served_events acts cut) }
+    ensures rows { (rows : List Row) (first last : Standing T) (acts : List Act) (cut : Cut) →
+        Served T.state rows first last acts cut → (T.state last.tables).honest →
+        (T.state last.tables).rows
+        ≡ (world_after first.institutions rows (served_events acts cut)).rows }
+    ensures written { (rows : List Row) (first last : Standing T) (acts : List Act) (cut : Cut) →
+        Served T.state rows first last acts cut → (T.state last.tables).honest → (number : ℕ) →
+        IsFrontOf (written_on number acts cut) (answered_on number acts cut) }
+{}
+
+/// Isolation on the wires. Of two servings, over any wires and any two keepers, in which what came
+/// on one institution's connections and from the console for it is the same, in the same order,
+/// but for the numbers of these connections and the cuts of their octets into pieces, the octets
+/// that are written to each of its connections are such that one list begins the other. More may be
+/// still to come in each (`later`), and nothing is asked of what came on other connections or for
+/// other institutions.
+pub fn institutions_are_isolated_on_wires<T: Tables, O: Tables>()
+    ensures { (rows other_rows : List Row) (first last : Standing T)
+        (other_first other_last : Standing O) (acts other_acts : List Act) (cut other_cut : Cut) →
+        Served T.state rows first last acts cut →
+        Served O.state other_rows other_first other_last other_acts other_cut →
+        (T.state last.tables).honest → (O.state other_last.tables).honest →
+        (later other_later : List Event) (i j : Institution) (anew other_anew : ℕ → ℕ) →
+        let events = served_events acts cut ++ later in
+        let other_events = served_events other_acts other_cut ++ other_later in
+        Begins first.institutions rows events i →
+        Begins other_first.institutions other_rows other_events j →
+        AgreeOnWires first.institutions other_first.institutions rows other_rows events
+        other_events i j anew other_anew →
+        (number other : ℕ) → anew number ≡ other_anew other →
+        IsTrue (owns first.institutions i.name events number) →
+        IsTrue (owns other_first.institutions j.name other_events other) →
+        OneBegins (written_on number acts cut) (written_on other other_acts other_cut) }
+{
+    institutions_are_isolated();
+    runs_are_isolated();
+    replies_do_not_depend_on_numbers();
+    pieces_join();
+    verdict_is_of_the_request();
+    a_longer_stream_adds_inputs();
+}

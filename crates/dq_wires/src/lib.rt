@@ -1,0 +1,37 @@
+//! The server's connections over wires: what comes on them is stepped, and what is answered is
+//! written.
+#![tactic(auto)]
+
+mod association_log;
+mod calls;
+mod clients;
+mod counted;
+mod fault;
+pub mod laws;
+mod limits;
+mod log_line;
+mod logged;
+mod looping;
+mod memory;
+mod passed;
+mod passing;
+mod rounds;
+mod sockets;
+mod stepping;
+mod turner;
+mod turning;
+mod watched;
+mod wire;
+mod wires;
+
+pub use association_log::AssociationLog;
+pub use calls::{Call, Came, ReadTurn, WireFault};
+pub use clients::{Client, Clients, SocketClient};
+pub use fault::TurnFault;
+pub use limits::{MOST_TURNS, MOST_WIRES, READ_MOST};
+pub use logged::LoggedWires;
+pub use looping::{Sent, loop_back};
+pub use memory::{MemoryWires, Script};
+pub use sockets::SocketWires;
+pub use turner::{Turner, turn_all};
+pub use wires::Wires;

@@ -1,0 +1,181 @@
+//! Wires in memory, which play what they are given.
+ghost use Rattle.std.specs.Prelude.{◌≡◌, ◌≤◌, [], length, Some, IfOk, option_copied};
+ghost use Rattle.dq_wires.specs.Logs.{Logs, IfGot, what_came};
+
+use crate::calls::{Call, Came, ReadTurn, WireFault};
+use crate::wires::Wires;
+use dq_list::Listed;
+use std::alloc::{AllocError, Global};
+use std::collections::VecDeque;
+
+/// What calls are answered, each kind in its own order. Where nothing is left of a kind no
+/// connection comes, nothing is read, all octets are taken, and a connection is given up.
+#[derive(Debug, Drop)]
+pub struct Script {
+    pub accepts: VecDeque<Result<Option<usize>, WireFault>>,
+    /// What comes, each with the place at which it is read. Octets for which the buffer has no room
+    /// are lost.
+    pub reads: Vec<(usize, Came)>,
+    /// How many octets are taken, if so many are offered.
+    pub writes: VecDeque<Result<usize, WireFault>>,
+    pub shuts: VecDeque<Result<(), WireFault>>,
+}
+
+impl Script {
+    /// The script that has no answer.
+    pub fn empty(alloc: Global) -> Self
+        ensures accepts { result.accepts.items ≡ [] }
+        ensures reads { result.reads.items ≡ [] }
+        ensures writes { result.writes.items ≡ [] }
+        ensures shuts { result.shuts.items ≡ [] }
+    {
+        Script {
+            accepts: VecDeque::new(alloc),
+            reads: Vec::new(alloc),
+            writes: VecDeque::new(alloc),
+            shuts: VecDeque::new(alloc),
+        }
+    }
+
+    // What comes next at a place.
+    fn take_read(&mut self, place: usize) -> Came {
+        match self.reads.iter().position(|read| read.0 == place) {
+            None => Came::Nothing,
+            Some(at) => {
+                let (_, came) = self.reads.remove(at);
+                came
+            }
+        }
+    }
+}
+
+/// Wires that play a script, and tell their calls as long as there is memory for them.
+#[derive(Debug, Drop)]
+pub struct MemoryWires {
+    alloc: Global,
+    script: Script,
+    calls: Option<Vec<Call>>,
+}
+
+impl MemoryWires {
+    ghost use Rattle.dq_wires.specs.Scripts.{told};
+
+    /// Wires that were not called.
+    pub fn new(alloc: Global, script: Script) -> Self
+        ensures { told result ≡ Some [] }
+    {
+        MemoryWires {
+            alloc,
+            script,
+            calls: Some(Vec::new(alloc)),
+        }
+    }
+
+    /// The calls so far, unless memory ran out for one.
+    pub fn calls(&self) -> Option<&[Call]>
+        ensures { option_copied result ≡ told self.now }
+    {
+        match &self.calls {
+            None => None,
+            Some(calls) => Some(calls.as_slice()),
+        }
+    }
+
+    fn tell(&mut self, call: Result<Call, AllocError>)
+        ensures told { (it : Call) → IfOk call (λ call. call ≡ it) →
+            Logs (told self.old) (told self.new) it }
+    {
+        let is_told = match (&mut self.calls, call) {
+            (Some(calls), Ok(call)) => calls.push(call).is_ok(),
+            _ => false,
+        };
+        if !is_told {
+            self.calls = None;
+        }
+    }
+}
+
+// The first octets, as many as the buffer has room for.
+fn fill(octets: &[u8], buffer: &mut [u8]) -> usize
+    ensures { result ≤ length buffer.old }
+{
+    let count = octets.len().min(buffer.len());
+    for (to, from) in buffer.iter_mut().zip(octets) {
+        *to = *from;
+    }
+    count
+}
+
+fn copied(alloc: Global, octets: &[u8]) -> Result<Came, AllocError>
+    ensures { IfOk result (λ came. came ≡ Came.Octets octets.now) }
+{
+    Ok(Came::Octets(Listed::copy_of(alloc, octets)?))
+}
+
+fn came_of(
+    alloc: Global,
+    answer: &Result<ReadTurn, WireFault>,
+    buffer: &[u8],
+) -> Result<Came, AllocError>
+    requires { IfGot answer.now (λ count. count ≤ length buffer.now) }
+    ensures { IfOk result (λ came. came ≡ what_came answer.now buffer.now) }
+{
+    match answer {
+        Ok(ReadTurn::Got(count)) => copied(alloc, &buffer[..*count]),
+        Ok(ReadTurn::Nothing) => Ok(Came::Nothing),
+        Ok(ReadTurn::Ended) => Ok(Came::Ended),
+        Err(WireFault) => Ok(Came::Failed),
+    }
+}
+
+impl Wires for MemoryWires {
+    ghost use Rattle.dq_wires.specs.Scripts.{told};
+
+    ghost log = { told };
+
+    fn accept(&mut self) -> Result<Option<usize>, WireFault> {
+        let answer = self.script.accepts.pop_front().unwrap_or(Ok(None));
+        self.tell(Ok(Call::Accept(answer)));
+        answer
+    }
+
+    fn read(&mut self, place: usize, buffer: &mut [u8]) -> Result<ReadTurn, WireFault> {
+        let answer = match self.script.take_read(place) {
+            Came::Octets(octets) => Ok(ReadTurn::Got(fill(octets.as_slice(), buffer))),
+            Came::Nothing => Ok(ReadTurn::Nothing),
+            Came::Ended => Ok(ReadTurn::Ended),
+            Came::Failed => Err(WireFault),
+        };
+        let room = buffer.len();
+        let call = match came_of(self.alloc, &answer, buffer) {
+            Ok(came) => Ok(Call::Read { place, room, came }),
+            Err(error) => Err(error),
+        };
+        self.tell(call);
+        answer
+    }
+
+    fn write(&mut self, place: usize, octets: &[u8]) -> Result<usize, WireFault> {
+        let taken = match self.script.writes.pop_front() {
+            Some(Ok(count)) => Ok(count.min(octets.len())),
+            Some(Err(fault)) => Err(fault),
+            None => Ok(octets.len()),
+        };
+        let call = match Listed::copy_of(self.alloc, octets) {
+            Ok(octets) => Ok(Call::Write {
+                place,
+                octets,
+                taken,
+            }),
+            Err(error) => Err(error),
+        };
+        self.tell(call);
+        taken
+    }
+
+    fn shut(&mut self, place: usize) -> Result<(), WireFault> {
+        let answer = self.script.shuts.pop_front().unwrap_or(Ok(()));
+        self.tell(Ok(Call::Shut { place, answer }));
+        answer
+    }
+}

@@ -1,0 +1,159 @@
+//! The server over wires.
+ghost use Rattle.std.specs.Prelude.{◌≡◌, [], length, IsTrue, None, Some, Err, IfOk, IfErr, IfSome, OnOk};
+ghost use Rattle.dq_core.specs.Histories.{is_above};
+ghost use Rattle.dq_core.specs.Looking.{Looked, FailsToLook};
+ghost use Rattle.dq_tables.specs.Finding.{rows_of};
+ghost use Rattle.dq_wires.specs.Stepping.{Stepped, Fails};
+ghost use Rattle.dq_wires.specs.Turns.{TurnsWent, TurnsCut};
+ghost use Rattle.dq_wires.specs.Turners.{IsOrder, first_fault, EndsUnaccepted};
+
+use crate::fault::TurnFault;
+use crate::rounds::turn_times;
+use crate::stepping::step_order;
+use crate::wire::Wire;
+use crate::wires::Wires;
+use dq_core::{Event, Fault, Reply, Server};
+use dq_tables::{Kind, Tables};
+use std::alloc::Global;
+use std::marker::Model;
+
+/// A server with the connections that it holds over wires.
+#[derive(Debug, Drop)]
+pub struct Turner<T> {
+    alloc: Global,
+    server: Server<T>,
+    held: Vec<Wire>,
+    newest: u64,
+    buffer: Vec<u8>,
+    fault: Option<TurnFault>,
+}
+
+impl<T> Model for Turner<T> {
+    ghost use Rattle.std.specs.Prelude.{◌≡◌, None};
+    ghost use Rattle.dq_wires.specs.Turners.{Turning, NextOpens};
+
+    ghost Value = { Turning T };
+
+    ghost view = { λ t. record {
+      server = t.server;
+      hold = record { held = t.held.items; newest = t.newest };
+      fault = t.fault;
+    } };
+
+    ghost invariant = { λ t. t.fault ≡ None → NextOpens t.server.newest t.newest };
+}
+
+impl<T: Tables> Turner<T> {
+    /// Over a server that has opened nothing. No connection is held.
+    pub fn new(alloc: Global, server: Server<T>) -> Self
+        requires { IsTrue (is_above server.newest 0) }
+        ensures server { result.server ≡ server }
+        ensures hold { result.hold ≡ record { held = []; newest = 0 } }
+        ensures fault { result.fault ≡ None }
+    {
+        Turner {
+            alloc,
+            server,
+            held: Vec::new(alloc),
+            newest: 0,
+            buffer: Vec::new(alloc),
+            fault: None,
+        }
+    }
+
+    /// The server.
+    pub fn server(&self) -> &Server<T>
+        ensures { result.now ≡ self.now.server }
+    {
+        &self.server
+    }
+
+    /// Whether octets were answered that are not yet written.
+    pub(crate) fn is_sending(&self) -> bool {
+        self.held.iter().any(|wire| wire.is_sending())
+    }
+
+    /// Steps an order of the console. A fault stops the turner.
+    pub fn console(&mut self, event: Event) -> Result<Reply, Fault>
+        requires { IsOrder event }
+        ensures stepped { IfOk result
+            (Stepped T.state self.old.server self.new.server event) }
+        ensures fails { IfErr result
+            (Fails T.state self.old.server self.new.server event) }
+        ensures hold { self.new.hold ≡ self.old.hold }
+        ensures fault { OnOk result (self.new.fault ≡ self.old.fault) }
+        ensures stops { IfErr result (λ why.
+            self.new.fault ≡ Some (first_fault self.old.fault (TurnFault.Server why))) }
+    {
+        match step_order(&mut self.server, event) {
+            Ok(reply) => Ok(reply),
+            Err(fault) => {
+                self.fault = self.fault.or(Some(TurnFault::Server(fault)));
+                Err(fault)
+            }
+        }
+    }
+
+    /// How many rows of a kind the institution of a name has. A fault stops the turner.
+    pub fn count(&mut self, kind: Kind, name: &[u8]) -> Result<u64, Fault>
+        ensures found { (T.state self.new.server.tables).honest → IfOk result (λ number.
+            number ≡ length (rows_of kind name.now (T.state self.old.server.tables).rows)) }
+        ensures looked { OnOk result (Looked T.state self.old.server self.new.server) }
+        ensures fails { IfErr result (FailsToLook T.state self.old.server self.new.server) }
+        ensures hold { self.new.hold ≡ self.old.hold }
+        ensures fault { OnOk result (self.new.fault ≡ self.old.fault) }
+        ensures stops { IfErr result (λ why.
+            self.new.fault ≡ Some (first_fault self.old.fault (TurnFault.Server why))) }
+    {
+        match self.server.count(kind, name) {
+            Ok(number) => Ok(number),
+            Err(fault) => {
+                self.fault = self.fault.or(Some(TurnFault::Server(fault)));
+                Err(fault)
+            }
+        }
+    }
+}
+
+/// So many turns of all connections. In a turn a connection is accepted where there is room, and
+/// then each that is held has its turn, by rising number: unsent octets are written; one that a
+/// reply closed is given up when all is written; from any other is read, and what came is stepped.
+/// A fault stops the turner, and is answered from then on.
+pub fn turn_all<T: Tables, W: Wires>(
+    turner: &mut Turner<T>,
+    wires: &mut W,
+    turns: u64,
+) -> Result<(), TurnFault>
+    ensures went { turner.old.fault ≡ None → OnOk result
+        (TurnsWent (Stepped T.state) (W.log wires.old) (W.log wires.new)
+        turner.old.server turner.new.server turner.old.hold turner.new.hold turns) }
+    ensures cut { turner.old.fault ≡ None → IfErr result
+        (TurnsCut (Stepped T.state) (Fails T.state)
+        (W.log wires.old) (W.log wires.new) turner.old.server turner.new.server turner.old.hold
+        turns) }
+    ensures fault { turner.old.fault ≡ None → OnOk result (turner.new.fault ≡ None) }
+    ensures stops { turner.old.fault ≡ None →
+        IfErr result (λ fault. turner.new.fault ≡ Some fault) }
+    // No connection can be accepted any more only where an accept failed.
+    ensures network { turner.old.fault ≡ None → result ≡ Err TurnFault.Network →
+        EndsUnaccepted (W.log wires.new) }
+    // After a fault nothing is done.
+    ensures stopped { IfSome turner.old.fault (λ fault. result ≡ Err fault) }
+    ensures unchanged { IfSome turner.old.fault (λ _. turner.new ≡ turner.old) }
+    ensures untouched { IfSome turner.old.fault (λ _. wires.new ≡ wires.old) }
+{
+    if let Some(fault) = turner.fault {
+        return Err(fault);
+    }
+    let turned = turn_times(
+        turner.alloc,
+        &mut turner.held,
+        &mut turner.newest,
+        &mut turner.server,
+        wires,
+        &mut turner.buffer,
+        turns,
+    );
+    turner.fault = turned.err();
+    turned
+}

@@ -1,0 +1,112 @@
+//! A connection that is held over wires.
+ghost use Rattle.std.specs.Prelude.{◌≡◌, ◌≤◌, [], length, drop, false, MatchBool};
+ghost use Rattle.dq_wires.specs.Held.{new_held, answered};
+ghost use Rattle.dq_wires.specs.Deeds.{IsSending};
+
+use dq_core::Reply;
+use dq_list::Listed;
+use std::alloc::Global;
+use std::marker::Model;
+
+/// A connection: its place among the wires, its number, and what was answered on it. Of the octets
+/// answered the first are written.
+#[derive(Debug, Drop)]
+pub(crate) struct Wire {
+    place: usize,
+    number: u64,
+    octets: Listed<u8>,
+    written: usize,
+    closed: bool,
+}
+
+impl Model for Wire {
+    ghost use Rattle.std.specs.Prelude.{◌≤◌, length, drop};
+    ghost use Rattle.dq_wires.specs.Held.{Held};
+
+    ghost Value = { Held };
+
+    ghost view = { λ w. record {
+      place = w.place;
+      number = w.number;
+      unsent = drop w.written w.octets;
+      closed = w.closed;
+    } };
+
+    ghost invariant = { λ w. w.written ≤ length w.octets };
+}
+
+impl Wire {
+    /// One that has just come.
+    pub(crate) fn new(alloc: Global, place: usize, number: u64) -> Self
+        ensures { result ≡ new_held place number }
+    {
+        Wire {
+            place,
+            number,
+            octets: Listed::empty(alloc),
+            written: 0,
+            closed: false,
+        }
+    }
+
+    pub(crate) fn place(&self) -> usize
+        ensures { result ≡ self.now.place }
+    {
+        self.place
+    }
+
+    pub(crate) fn number(&self) -> u64
+        ensures { result ≡ self.now.number }
+    {
+        self.number
+    }
+
+    /// Whether a reply closed it.
+    pub(crate) fn is_closed(&self) -> bool
+        ensures { result ≡ self.now.closed }
+    {
+        self.closed
+    }
+
+    /// The octets that were answered and are not yet written.
+    pub(crate) fn unsent(&self) -> &[u8]
+        ensures { result.now ≡ self.now.unsent }
+    {
+        &self.octets.as_slice()[self.written..]
+    }
+
+    /// Whether there are any.
+    pub(crate) fn is_sending(&self) -> bool
+        ensures { MatchBool result (IsSending self.now) (self.now.unsent ≡ []) }
+    {
+        !self.unsent().is_empty()
+    }
+
+    /// The first of them were written.
+    pub(crate) fn wrote(&mut self, count: usize)
+        requires { count ≤ length self.old.unsent }
+        ensures { self.new ≡ record self.old { unsent = drop count self.old.unsent } }
+    {
+        let length = self.octets.len();
+        prove!(count <= length - self.written);
+        self.written += count;
+    }
+
+    /// Keeps what is answered, where all was written that was answered before.
+    pub(crate) fn answer(&mut self, reply: Reply)
+        requires sent { self.old.unsent ≡ [] }
+        requires open { self.old.closed ≡ false }
+        ensures { self.new ≡ answered self.old reply }
+    {
+        if let Reply::Octets {
+            conn: _,
+            octets,
+            close,
+        } = reply
+        {
+            self.octets = octets;
+            self.written = 0;
+            self.closed = close;
+        }
+    }
+}

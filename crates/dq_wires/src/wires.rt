@@ -1,0 +1,32 @@
+//! What connections are made of.
+ghost use Rattle.std.specs.Prelude.{◌≤◌, List, Option, length, IfOk};
+ghost use Rattle.dq_wires.specs.declared.calls.Call.{Call};
+ghost use Rattle.dq_wires.specs.Logs.{Logs, what_came, IfGot};
+
+use crate::calls::{Call, ReadTurn, WireFault};
+
+/// What accepts connections, and reads and writes their octets, without waiting.
+pub trait Wires {
+    /// The calls so far with their answers, where they are told.
+    ghost log: { Self → Option (List Call) };
+
+    /// The place of the next connection that came, if one did. A place that was shut may come
+    /// again.
+    fn accept(&mut self) -> Result<Option<usize>, WireFault>
+        ensures told { Logs (log self.old) (log self.new) (Call.Accept result) };
+
+    /// The octets that came on a connection, as many as the buffer has room for.
+    fn read(&mut self, place: usize, buffer: &mut [u8]) -> Result<ReadTurn, WireFault>
+        ensures told { Logs (log self.old) (log self.new)
+            (Call.Read place (length buffer.old) (what_came result buffer.new)) }
+        ensures bound { IfGot result (λ count. count ≤ length buffer.old) };
+
+    /// Sends the first of these octets, and answers how many: 0 is not now.
+    fn write(&mut self, place: usize, octets: &[u8]) -> Result<usize, WireFault>
+        ensures told { Logs (log self.old) (log self.new) (Call.Write place octets.now result) }
+        ensures bound { IfOk result (λ count. count ≤ length octets.now) };
+
+    /// Gives up a connection. Its place is then free, also where it fails.
+    fn shut(&mut self, place: usize) -> Result<(), WireFault>
+        ensures told { Logs (log self.old) (log self.new) (Call.Shut place result) };
+}
