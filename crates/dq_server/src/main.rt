@@ -1,31 +1,19 @@
-//! A DICOM server over captures: events in, the octets of its answers out.
+//! A DICOM server, over captures and over sockets: events in, the octets of its answers out.
 #![tactic(auto)]
 
-mod answering;
-mod capture;
-mod printing;
-mod program;
-mod reading;
-mod reporting;
-mod stop;
-mod surroundings;
-#[cfg(test)]
-mod tests;
-mod words;
+mod machine;
 
-use program::{perform, unworded};
+use dq_program::{perform, unworded};
+use machine::Machine;
 use std::env;
 use std::io::{self, BufWriter, Write};
 use std::process::ExitCode;
-use std::rt::{Env, Files};
 
-fn play<R: AllocGlobal + Env + Files + Input + Print, E: Write>(
-    rt: &R,
-    errors: &mut E,
-) -> io::Result<u8> {
+fn play<E: Write>(rt: &HostRuntime, errors: &mut E) -> io::Result<u8> {
     let words: Vec<String> = env::args(rt)?.skip(1).collect(rt.alloc())?;
     let mut output = BufWriter::new(rt.alloc(), io::writer(rt))?;
-    Ok(perform(rt, words.as_slice(), rt.reader(), &mut output, errors))
+    let machine = Machine { rt };
+    Ok(perform(&machine, words.as_slice(), rt.reader(), &mut output, errors))
 }
 
 fn main(rt: HostRuntime) -> ExitCode {

@@ -1,0 +1,154 @@
+-- How a task that stops is told of.
+use Rattle.std.proofs.Common.{◌≡◌, ◌≢◌, ◌⊎◌, ℕ, List, Option, Some, None, IfSome, inl, inr, refl, arith}
+use Rattle.std.specs.Io.KnownBytes.{Keeps}
+use Rattle.clap.specs.declared.error.kind.ErrorKind.{ErrorKind}
+use Rattle.clap.specs.declared.error.kind.ErrorKind.TheVariants as kind
+use Rattle.dq_config.specs.declared.config.Institution.{Institution}
+use Rattle.dq_core.specs.declared.event.Event.{Event}
+use Rattle.dq_core.specs.Shared.{replies}
+use Rattle.dq_tables.specs.declared.row.Row.{Row}
+use Rattle.dq_program.specs.declared.stop.Stop.{Stop}
+use Rattle.dq_program.specs.declared.stop.Stop.TheVariants.{Usage, Config, Capture, Store, Fault, Output, Network}
+use Rattle.dq_program.specs.declared.words.Task.TheVariants.{Replay, Report}
+use Rattle.dq_program.specs.declared.words.Task.{Task}
+use Rattle.dq_program.specs.Words.{Request, Serving, Errand, Serves, Loops}
+use Rattle.dq_program.specs.Serving.{StopsService}
+use Rattle.dq_program.specs.Program.{no_memory, status_of, RefusesFile, RefusesCapture, RefusesStore, IsRunFault, EndsTask, CutsTask, EndsLoop, rows_at, text_of, IsBy, HasConfig, PrintsFirst}
+use Rattle.dq_program.specs.Surroundings.{AppendsPart}
+
+file_memory : (may_fail : List ℕ → Type 0) (held : List ℕ → Option (List ℕ)) (file : Option (List ℕ)) (number : ℕ)
+    → RefusesFile may_fail held file (Fault number) → number ≡ no_memory
+file_memory may_fail held None number is = cc
+file_memory may_fail held (Some path) number is = is
+
+file_output : (may_fail : List ℕ → Type 0) (held : List ℕ → Option (List ℕ)) (file : Option (List ℕ)) → RefusesFile may_fail held file Output → ⊥
+file_output may_fail held None is = cc
+file_output may_fail held (Some path) is = is
+
+file_store : (may_fail : List ℕ → Type 0) (held : List ℕ → Option (List ℕ)) (file : Option (List ℕ)) (number : ℕ)
+    → RefusesFile may_fail held file (Store number) → ⊥
+file_store may_fail held None number is = cc
+file_store may_fail held (Some path) number is = is
+
+memory : (Told : Stop → Type 0) (number : ℕ) → number ≡ no_memory → Told (Fault number) → Told (Fault no_memory)
+memory Told number is told = rw (← is) told
+
+-- with what is known, all that follows
+known : {A : Type 0} {P Q : A → Type 0} (o : Option A) → ((x : A) → P x → Q x) → IfSome o P → IfSome o Q
+known None all is = is
+known (Some x) all is = all x is
+
+memory_or_not : (k : ErrorKind) → (k ≡ kind.OutOfMemory) ⊎ (k ≢ kind.OutOfMemory)
+memory_or_not kind.OutOfMemory = inl refl
+memory_or_not kind.InvalidValue = inr (λ is. cc)
+memory_or_not kind.UnknownArgument = inr (λ is. cc)
+memory_or_not kind.InvalidSubcommand = inr (λ is. cc)
+memory_or_not kind.NoEquals = inr (λ is. cc)
+memory_or_not kind.ValueValidation = inr (λ is. cc)
+memory_or_not kind.TooManyValues = inr (λ is. cc)
+memory_or_not kind.TooFewValues = inr (λ is. cc)
+memory_or_not kind.WrongNumberOfValues = inr (λ is. cc)
+memory_or_not kind.ArgumentConflict = inr (λ is. cc)
+memory_or_not kind.MissingRequiredArgument = inr (λ is. cc)
+memory_or_not kind.MissingSubcommand = inr (λ is. cc)
+memory_or_not kind.DisplayHelp = inr (λ is. cc)
+memory_or_not kind.DisplayHelpOnMissingArgumentOrSubcommand = inr (λ is. cc)
+memory_or_not kind.DisplayVersion = inr (λ is. cc)
+memory_or_not kind.Io = inr (λ is. cc)
+memory_or_not kind.Format = inr (λ is. cc)
+
+keeps : (o : Option (List ℕ)) → Keeps o o
+keeps None = tt
+keeps (Some octets) = refl
+
+no_file : (may_fail : List ℕ → Type 0) (held : List ℕ → Option (List ℕ)) (file : Option (List ℕ)) → RefusesFile may_fail held file (Fault no_memory)
+no_file may_fail held None = refl
+no_file may_fail held (Some path) = refl
+
+-- Words that ask to serve are not read only for want of memory.
+pub unread_words : (found : Option Errand) (serving : Serving) (may_fail : List ℕ → Type 0) (held : List ℕ → Option (List ℕ)) (fails : Type 0)
+    (written : Option (List ℕ)) (Told : Stop → Type 0) (k : ErrorKind) (status : ℕ)
+    → found ≡ Some (Serves serving) → (k ≢ kind.OutOfMemory → found ≡ None) → (k ≡ kind.OutOfMemory → (status ≡ 4) × Told (Fault no_memory))
+    → (cause : Stop) × (status ≡ status_of cause) × Told cause × StopsService may_fail held serving.config fails written written serving.port cause
+unread_words found serving may_fail held fails written Told k status is other memory = elim (memory_or_not k) [
+  | inl so ↦ let told = memory so in (Fault no_memory, told.0, told.1, inl (keeps written, no_file may_fail held serving.config))
+  | inr not ↦ let none : found ≡ None = other not in absurd (cc)
+]
+
+-- Nor are words that ask to play a capture over sockets.
+pub unread_loop : (found : Option Errand) (file : Option (List ℕ)) (fails : Type 0) (written : Option (List ℕ)) (Told : Stop → Type 0) (k : ErrorKind) (status : ℕ)
+    → found ≡ Some (Loops file) → (k ≢ kind.OutOfMemory → found ≡ None) → (k ≡ kind.OutOfMemory → (status ≡ 4) × Told (Fault no_memory))
+    → (cause : Stop) × (status ≡ status_of cause) × Told cause × EndsLoop fails written written cause
+unread_loop found file fails written Told k status is other memory = elim (memory_or_not k) [
+  | inl so ↦ let told = memory so in (Fault no_memory, told.0, told.1, keeps written)
+  | inr not ↦ let none : found ≡ None = other not in absurd (cc)
+]
+
+module _ (request : Request) (file_fails : List ℕ → Type 0) (held : List ℕ → Option (List ℕ)) (stored : List ℕ → Option (List Row)) (input_fails : Type 0)
+    (input : Option (List ℕ)) (fails : Type 0) (before after : Option (List ℕ)) (Told : Stop → Type 0) where
+  abbrev pub Ends : Stop → List Institution → List Event → Type 0
+  Ends cause institutions events = (Keeps before after × RefusesStore cause)
+      ⊎ (EndsTask fails cause × IfSome (rows_at stored request.place) (λ rows. CutsTask request.task before after institutions rows events cause))
+
+  abbrev pub Stops : Stop → Type 0
+  Stops cause = (Keeps before after × RefusesFile file_fails held request.config cause)
+      ⊎ (Keeps before after × HasConfig held request.config × RefusesCapture input_fails input cause)
+      ⊎ IsBy held request.config input (Ends cause)
+
+  abbrev pub Faults : Type 0
+  Faults = (Told (Fault no_memory) × Keeps before after)
+      ⊎ ((number : ℕ) × IsBy held request.config input (λ institutions events. Told (Store number) × Keeps before after))
+      ⊎ ((number : ℕ) × IsRunFault number × IsBy held request.config input (λ institutions events.
+      Told (Fault number) × IfSome (rows_at stored request.place) (λ rows.
+      Keeps before after ⊎ ((request.task ≡ Replay) × PrintsFirst before after (replies institutions rows events)))))
+      ⊎ IsBy held request.config input (λ institutions events.
+      Told Output × fails × IfSome (rows_at stored request.place) (λ rows. AppendsPart before after (text_of request.task institutions rows events)))
+
+  cut_fault : (task : Task) → request.task ≡ task → (number : ℕ) (institutions : List Institution) (events : List Event) (rows : List Row)
+      → CutsTask task before after institutions rows events (Fault number)
+      → Keeps before after ⊎ ((request.task ≡ Replay) × PrintsFirst before after (replies institutions rows events))
+  cut_fault Replay is number institutions events rows (inl kept) = inl kept
+  cut_fault Replay is number institutions events rows (inr first) = inr (is, first)
+  cut_fault Report is number institutions events rows kept = inl kept
+
+  cut_output : (task : Task) (institutions : List Institution) (events : List Event) (rows : List Row)
+      → CutsTask task before after institutions rows events Output → AppendsPart before after (text_of task institutions rows events)
+  cut_output Replay institutions events rows part = part
+  cut_output Report institutions events rows part = part
+
+  pub faults : (cause : Stop) → status_of cause ≡ 4 → Told cause → Stops cause → Faults
+  faults Usage status told stops = absurd (omega (arith, status))
+  faults (Config number) status told stops = absurd (omega (arith, status))
+  faults (Capture number) status told stops = absurd (omega (arith, status))
+  faults (Store number) status told (inl refused) = absurd (file_store file_fails held request.config number refused.1)
+  faults (Store number) status told (inr (inl refused)) = absurd refused.2
+  faults (Store number) status told (inr (inr (institutions, events, by, tells, inl refused))) =
+      inr (inl (number, (institutions, events, by, tells, (told, refused.0))))
+  faults (Store number) status told (inr (inr (institutions, events, by, tells, inr ended))) = absurd ended.0
+  faults (Fault number) status told (inl refused) = inl (memory Told number (file_memory file_fails held request.config number refused.1) told, refused.0)
+  faults (Fault number) status told (inr (inl refused)) = inl (memory Told number refused.2 told, refused.0)
+  faults (Fault number) status told (inr (inr (institutions, events, by, tells, inl refused))) = inl (memory Told number refused.1 told, refused.0)
+  faults (Fault number) status told (inr (inr (institutions, events, by, tells, inr ended))) =
+      inr (inr (inl (
+        number,
+        ended.0,
+        (
+          institutions,
+          events,
+          by,
+          tells,
+          (told, known (rows_at stored request.place) (cut_fault request.task refl number institutions events) ended.1),
+        ),
+      )))
+  faults Output status told (inl refused) = absurd (file_output file_fails held request.config refused.1)
+  faults Output status told (inr (inl refused)) = absurd refused.2
+  faults Output status told (inr (inr (institutions, events, by, tells, inl refused))) = absurd refused.1
+  faults Output status told (inr (inr (institutions, events, by, tells, inr ended))) =
+      inr (inr (inr (
+        institutions,
+        events,
+        by,
+        tells,
+        (told, ended.0, known (rows_at stored request.place) (cut_output request.task institutions events) ended.1),
+      )))
+  faults Network status told stops = absurd (omega (arith, status))

@@ -1,0 +1,254 @@
+-- What the program does with its words, a configuration and a capture.
+use Rattle.std.specs.Prelude.{◌≡◌, ◌≢◌, ℕ, zero, suc, ◌<◌, ◌≤◌, ◌⊎◌, codes, IfSome}
+use Rattle.std.specs.Prelude.{List, [], ◌∷◌, ◌++◌, length, take, Option, None, Some, option_map, Ok, Err}
+use Rattle.std.specs.Fmt.{decimal}
+use Rattle.std.specs.Str.{IsUtf8}
+use Rattle.std.specs.Io.KnownBytes.{Keeps, Appends}
+use Rattle.dq_config.specs.declared.config.Institution.{Institution}
+use Rattle.dq_config.specs.declared.fault.ConfigFault.{ConfigFault}
+use Rattle.dq_config.specs.declared.fault.ConfigFault.TheVariants as config
+use Rattle.dq_config.specs.Conditions.{configuration}
+use Rattle.dq_config.specs.Document.{built_in}
+use Rattle.dq_config.specs.Faults.{number_of as config_number}
+use Rattle.dq_core.specs.declared.event.Event.{Event}
+use Rattle.dq_core.specs.declared.event.Reply.{Reply}
+use Rattle.dq_core.specs.declared.fault.Fault.{Fault}
+use Rattle.dq_core.specs.declared.fault.Fault.TheVariants as fault
+use Rattle.dq_core.specs.Faults.{number_of as fault_number}
+use Rattle.dq_core.specs.Shared.{replies, world_after}
+use Rattle.dq_program.specs.declared.capture.CaptureFault.{CaptureFault}
+use Rattle.dq_program.specs.declared.capture.CaptureFault.TheVariants as capture
+use Rattle.dq_program.specs.declared.printing.PrintFault.{PrintFault}
+use Rattle.dq_program.specs.declared.printing.PrintFault.TheVariants as printing
+use Rattle.dq_program.specs.declared.network.Unheard.{Unheard}
+use Rattle.dq_program.specs.declared.network.Unheard.TheVariants as unheard
+use Rattle.dq_program.specs.declared.surroundings.Unread.{Unread}
+use Rattle.dq_program.specs.declared.surroundings.Unread.TheVariants as unread
+use Rattle.dq_program.specs.declared.stop.Stop.{Stop}
+use Rattle.dq_program.specs.declared.stop.Stop.TheVariants as stop
+use Rattle.dq_program.specs.Captures.{line_feed, lines_of, AreCapture, IsFirstBadLine}
+use Rattle.dq_program.specs.Printing.{printed}
+use Rattle.dq_program.specs.Reports.{names_of, reported}
+use Rattle.dq_program.specs.Surroundings.{AppendsPart}
+use Rattle.dq_program.specs.declared.stores.Unkept.{Unkept}
+use Rattle.dq_program.specs.declared.stores.Unkept.TheVariants as unkept
+use Rattle.dq_program.specs.declared.words.Task.{Task}
+use Rattle.dq_program.specs.declared.words.Task.TheVariants.{Replay, Report}
+use Rattle.dq_program.specs.Words.{Place, InMemory, InNewStore, InStore}
+use Rattle.dq_tables.specs.Keeping.{State}
+use Rattle.dq_tables.specs.declared.row.Row.{Row}
+use Rattle.dq_wires.specs.declared.fault.TurnFault.{TurnFault}
+use Rattle.dq_wires.specs.declared.fault.TurnFault.TheVariants as turning
+
+-- the most octets that a capture may have
+abbrev pub capture_limit : ℕ
+capture_limit = 67108864
+
+-- ---- numbers of faults, and what is told of them
+
+abbrev pub no_memory : ℕ
+no_memory = fault_number fault.NoMemory
+
+-- how faults stop the program
+abbrev pub stop_of_config : ConfigFault → Stop
+stop_of_config config.NoMemory = stop.Fault no_memory
+stop_of_config other = stop.Config (config_number other)
+
+abbrev pub stop_of_capture : CaptureFault → Stop
+stop_of_capture (capture.Line number) = stop.Capture number
+stop_of_capture capture.NoMemory = stop.Fault no_memory
+
+abbrev pub stop_of_printing : PrintFault → Stop
+stop_of_printing printing.NoMemory = stop.Fault no_memory
+stop_of_printing printing.Output = stop.Output
+
+-- a file that is not read, and a capture
+abbrev pub stop_of_file : Unread → Stop
+stop_of_file unread.Failed = stop.Config 0
+stop_of_file unread.NoMemory = stop.Fault no_memory
+
+abbrev pub stop_of_input : Unread → Stop
+stop_of_input unread.Failed = stop.Capture 0
+stop_of_input unread.NoMemory = stop.Fault no_memory
+
+-- a store that is not had
+abbrev pub stop_of_store : Unkept → Stop
+stop_of_store (unkept.Store number) = stop.Store number
+stop_of_store unkept.NoMemory = stop.Fault no_memory
+
+-- turns that stop, and no connections
+abbrev pub stop_of_turning : TurnFault → Stop
+stop_of_turning turning.NoMemory = stop.Fault no_memory
+stop_of_turning (turning.Server why) = stop.Fault (fault_number why)
+stop_of_turning turning.Network = stop.Network
+
+abbrev pub stop_of_listening : Unheard → Stop
+stop_of_listening unheard.Failed = stop.Network
+stop_of_listening unheard.NoMemory = stop.Fault no_memory
+
+-- exit statuses
+abbrev pub status_of : Stop → ℕ
+status_of stop.Usage = 1
+status_of (stop.Config number) = 2
+status_of (stop.Capture number) = 3
+status_of (stop.Store number) = 4
+status_of (stop.Fault number) = 4
+status_of stop.Output = 4
+status_of stop.Network = 5
+
+abbrev pub numbered_line : List ℕ → ℕ → List ℕ
+numbered_line text number = text ++ decimal number ++ line_feed ∷ []
+
+-- What is told of a stop on standard error. For usage that is the command line's own text.
+abbrev pub stop_text : Stop → List ℕ
+stop_text stop.Usage = []
+stop_text (stop.Config number) = numbered_line (codes "config ") number
+stop_text (stop.Capture number) = numbered_line (codes "capture line ") number
+stop_text (stop.Store number) = numbered_line (codes "store ") number
+stop_text (stop.Fault number) = numbered_line (codes "fault ") number
+stop_text stop.Output = []
+stop_text stop.Network = codes "network" ++ line_feed ∷ []
+
+-- ---- what a task goes by
+
+-- The configuration is the one of the file, or the one that is built in. What is held at a path, if
+-- that is known, is what `held` says.
+abbrev pub IsConfigured : (List ℕ → Option (List ℕ)) → Option (List ℕ) → List Institution → Type 0
+IsConfigured held None institutions = institutions ≡ built_in
+IsConfigured held (Some path) institutions =
+    IfSome (held path) (λ octets. IsUtf8 octets × (configuration octets ≡ Ok institutions))
+
+-- The octets are a text of the right size, whose lines tell the events.
+pub record Tells (octets : List ℕ) (events : List Event) : Type 0 where
+  pub bounded : length octets ≤ capture_limit
+  pub text : IsUtf8 octets
+  pub lines : AreCapture (lines_of octets) events
+
+-- ---- refusals
+
+-- The number of a refused configuration is that of its fault. 0 stands for a file that may be
+-- unreadable, or is no text.
+abbrev pub IsBadConfig : Type 0 → Option (List ℕ) → ℕ → Type 0
+IsBadConfig may_fail held zero = may_fail ⊎ IfSome held (λ octets. IsUtf8 octets → ⊥)
+IsBadConfig may_fail held (suc number) = IfSome held (λ octets.
+    IsUtf8 octets × (fault : ConfigFault) × (fault ≢ config.NoMemory)
+    × (configuration octets ≡ Err fault) × (config_number fault ≡ suc number))
+
+-- Line 0 stands for an input that may be unreadable, is too long, or is no text.
+abbrev pub IsBadCapture : Type 0 → Option (List ℕ) → ℕ → Type 0
+IsBadCapture may_fail input zero = may_fail
+    ⊎ IfSome input (λ octets. (capture_limit < length octets) ⊎ (IsUtf8 octets → ⊥))
+IsBadCapture may_fail input (suc number) = IfSome input (λ octets. (length octets ≤ capture_limit)
+    × IsUtf8 octets × IsFirstBadLine (lines_of octets) (suc number))
+
+-- how a configuration is refused
+abbrev pub RefusesConfig : Type 0 → Option (List ℕ) → Stop → Type 0
+RefusesConfig may_fail held (stop.Config number) = IsBadConfig may_fail held number
+RefusesConfig may_fail held (stop.Fault number) = number ≡ no_memory
+RefusesConfig may_fail held other = ⊥
+
+-- how the file of a configuration is refused, or the configuration that is built in
+abbrev pub RefusesFile : (List ℕ → Type 0) → (List ℕ → Option (List ℕ)) → Option (List ℕ) → Stop
+    → Type 0
+RefusesFile may_fail held (Some path) cause = RefusesConfig (may_fail path) (held path) cause
+RefusesFile may_fail held None cause = cause ≡ stop.Fault no_memory
+
+-- how a capture is refused
+abbrev pub RefusesCapture : Type 0 → Option (List ℕ) → Stop → Type 0
+RefusesCapture may_fail input (stop.Capture number) = IsBadCapture may_fail input number
+RefusesCapture may_fail input (stop.Fault number) = number ≡ no_memory
+RefusesCapture may_fail input other = ⊥
+
+-- how a store is refused
+abbrev pub RefusesStore : Stop → Type 0
+RefusesStore (stop.Store number) = Unit {0}
+RefusesStore (stop.Fault number) = number ≡ no_memory
+RefusesStore other = ⊥
+
+-- ---- what is printed
+
+-- whatever keeps rows so is honest
+abbrev pub AreHonest : {Tables : Type 0} → (Tables → State) → Type 0
+AreHonest {Tables} state = (tables : Tables) → (state tables).honest
+
+-- the fault of a run: memory ran out, or what keeps the rows failed
+abbrev pub IsRunFault : ℕ → Type 0
+IsRunFault number =
+    (number ≡ fault_number fault.NoMemory) ⊎ (number ≡ fault_number fault.Store)
+
+-- what may end a task early: the fault of a run, or an output that may fail
+abbrev pub EndsTask : Type 0 → Stop → Type 0
+EndsTask may_fail (stop.Fault number) = IsRunFault number
+EndsTask may_fail stop.Output = may_fail
+EndsTask may_fail other = ⊥
+
+-- the lines of the first replies, and not of all
+abbrev pub PrintsFirst : Option (List ℕ) → Option (List ℕ) → List Reply → Type 0
+PrintsFirst before after given = (count : ℕ) × (count < length given)
+    × Appends before after (printed (take count given))
+
+-- How replies are cut short: at a fault nothing or whole lines were printed, and not all; where the
+-- output fails, the first octets of the lines.
+abbrev pub Cuts : Option (List ℕ) → Option (List ℕ) → List Reply → Stop → Type 0
+Cuts before after given (stop.Fault number) = Keeps before after ⊎ PrintsFirst before after given
+Cuts before after given stop.Output = AppendsPart before after (printed given)
+Cuts before after given other = ⊥
+
+-- The replies of a run: all, or where a fault came the first of them.
+pub record AreGiven (all given : List Reply) (end : Option Fault) : Type 0 where
+  pub whole : end ≡ None → given ≡ all
+  pub first : given ≡ take (length given) all
+  pub fewer : end ≢ None → length given < length all
+
+-- How a text that is printed at once is cut short: at a fault nothing was printed; where the output
+-- fails, its first octets.
+abbrev pub Breaks : Option (List ℕ) → Option (List ℕ) → List ℕ → Stop → Type 0
+Breaks before after text (stop.Fault number) = Keeps before after
+Breaks before after text stop.Output = AppendsPart before after text
+Breaks before after text other = ⊥
+
+-- ---- tasks
+
+-- the rows that a task begins with, where they are known: those of the store that is there, and
+-- else none
+abbrev pub rows_at : (List ℕ → Option (List Row)) → Place → Option (List Row)
+rows_at stored InMemory = Some []
+rows_at stored (InNewStore path) = option_map (λ rows. []) (stored path)
+rows_at stored (InStore path) = stored path
+
+-- What a task prints: of a replay the replies, and of a report how many rows each institution has
+-- after the events.
+abbrev pub text_of : Task → List Institution → List Row → List Event → List ℕ
+text_of Replay institutions rows events = printed (replies institutions rows events)
+text_of Report institutions rows events =
+    reported (world_after institutions rows events).rows (names_of institutions)
+
+-- how it is cut short
+abbrev pub CutsTask : Task → Option (List ℕ) → Option (List ℕ) → List Institution → List Row
+    → List Event → Stop → Type 0
+CutsTask Replay before after institutions rows events =
+    Cuts before after (replies institutions rows events)
+CutsTask Report before after institutions rows events =
+    Breaks before after (text_of Report institutions rows events)
+
+-- What a play over sockets stops by: where the output fails some octets may have been written, and
+-- else nothing was printed.
+abbrev pub EndsLoop : Type 0 → Option (List ℕ) → Option (List ℕ) → Stop → Type 0
+EndsLoop may_fail before after stop.Output = may_fail
+EndsLoop may_fail before after stop.Usage = ⊥
+EndsLoop may_fail before after other = Keeps before after
+
+-- It is so by some configuration of the file and some events that the input tells.
+abbrev pub IsBy : (List ℕ → Option (List ℕ)) → Option (List ℕ) → Option (List ℕ)
+    → (List Institution → List Event → Type 0) → Type 0
+IsBy held file input IsSo = (institutions : List Institution) × (events : List Event)
+    × IsConfigured held file institutions × IfSome input (λ octets. Tells octets events)
+    × IsSo institutions events
+
+-- there is a configuration, and events are told
+abbrev pub HasConfig : (List ℕ → Option (List ℕ)) → Option (List ℕ) → Type 0
+HasConfig held file = (institutions : List Institution) × IsConfigured held file institutions
+
+-- a stop is told by its line, unless that fails
+abbrev pub IsTold : Type 0 → Option (List ℕ) → Option (List ℕ) → Stop → Type 0
+IsTold may_fail before after cause = may_fail ⊎ Appends before after (stop_text cause)

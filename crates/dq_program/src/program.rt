@@ -1,0 +1,274 @@
+//! The program without its surroundings: words, a configuration, an input, stores and two outputs,
+//! and the exit status.
+ghost use Rattle.std.specs.Prelude.{◌≡◌, ◌≢◌, ◌≤◌, ◌⊎◌, ℕ, List, Option, None, Some, false, map, IsTrue, IfErr, IfSome, OnOk};
+ghost use Rattle.dq_config.specs.declared.config.Institution.{Institution};
+ghost use Rattle.std.specs.Option.{option_copied};
+ghost use Rattle.std.specs.IoError.{error_kind};
+ghost use Rattle.std.specs.Io.KnownBytes.{Keeps, Appends};
+ghost use Rattle.clap.specs.Words.{kind_of};
+ghost use Rattle.dq_core.specs.Histories.{is_well_formed, opened_numbers};
+ghost use Rattle.dq_core.specs.Shared.{replies};
+ghost use Rattle.dq_wires.specs.declared.looping.Sent.{Sent};
+ghost use Rattle.dq_wires.specs.Looping.{sent_number};
+ghost use Rattle.dq_program.specs.Printing.{sent_text};
+ghost use Rattle.dq_program.specs.Surroundings.{AppendsPart};
+ghost use Rattle.dq_program.specs.Words.{Request, Serving, Plays, Serves, Loops, asked, place_in};
+ghost use Rattle.dq_program.specs.Program.{no_memory, status_of, IsTold, IsBadConfig, IsBadCapture, RefusesFile, RefusesCapture, RefusesStore, AreHonest, IsRunFault, EndsTask, CutsTask, EndsLoop, rows_at, text_of, IsBy, IsConfigured, HasConfig, PrintsFirst};
+ghost use Rattle.dq_program.specs.Serving.{ready_text, turn_count, IsUncalled, Served, StopsService};
+
+use crate::answering::answer;
+use crate::looping::loop_over;
+use crate::network::Network;
+use crate::reading::{configured, read_events};
+use crate::reporting::report;
+use crate::serving::serve;
+use crate::stop::Stop;
+use crate::stores::Stores;
+use crate::surroundings::{Folder, Sink, Source};
+use crate::words::{Asked, Job, Keeper, Service, Task, line_of, parse};
+use clap::error::ErrorKind;
+use dq_config::Config;
+use dq_core::Event;
+use dq_tables::Tables;
+use std::alloc::{AllocError, Global};
+use std::convert::AsStr;
+use std::io;
+use std::io::ErrorKind as IoKind;
+
+/// Does a task over the rows that are there.
+fn do_task<T: Tables + Drop, W: Sink>(
+    alloc: Global,
+    task: Task,
+    config: Config,
+    tables: T,
+    events: Vec<Event>,
+    output: &mut W,
+) -> Result<(), Stop>
+    requires formed { IsTrue (is_well_formed events.items) }
+    requires unfailed { (T.state tables).failed ≡ false }
+    ensures done { AreHonest T.state → OnOk result (Appends (W.written output.old)
+        (W.written output.new) (text_of task config (T.state tables).rows events.items)) }
+    ensures flushed { OnOk result (W.is_flushed output.new) }
+    ensures ends { IfErr result (EndsTask (W.may_fail output.old)) }
+    ensures cut { AreHonest T.state → IfErr result (CutsTask task (W.written output.old)
+        (W.written output.new) config (T.state tables).rows events.items) }
+{
+    match task {
+        Task::Replay => answer(alloc, config, tables, events, output),
+        Task::Report => report(alloc, config, tables, events, output),
+    }
+}
+
+/// Does a task over the rows that a keeper has.
+fn do_over<Rt: AllocGlobal + Stores, W: Sink>(
+    rt: &Rt,
+    asked: Asked<'_>,
+    config: Config,
+    events: Vec<Event>,
+    output: &mut W,
+) -> Result<(), Stop>
+    requires { IsTrue (is_well_formed events.items) }
+    ensures done { OnOk result (IfSome (rows_at (Rt.stored rt.now) (place_in asked.entry.keeper))
+        (λ rows. Appends (W.written output.old) (W.written output.new)
+        (text_of asked.entry.task config rows events.items))) }
+    ensures flushed { OnOk result (W.is_flushed output.new) }
+    ensures stops { IfErr result (λ stop.
+        (Keeps (W.written output.old) (W.written output.new) × RefusesStore stop)
+        ⊎ (EndsTask (W.may_fail output.old) stop
+        × IfSome (rows_at (Rt.stored rt.now) (place_in asked.entry.keeper)) (λ rows.
+        CutsTask asked.entry.task (W.written output.old) (W.written output.new) config rows
+        events.items stop))) }
+{
+    match asked.keeper {
+        Keeper::Memory => {
+            let tables = rt.memory(rt.alloc())?;
+            do_task(rt.alloc(), asked.task, config, tables, events, output)
+        }
+        Keeper::New(path) => {
+            let tables = rt.new_store(rt.alloc(), path)?;
+            do_task(rt.alloc(), asked.task, config, tables, events, output)
+        }
+        Keeper::Found(path) => {
+            let tables = rt.store(rt.alloc(), path)?;
+            do_task(rt.alloc(), asked.task, config, tables, events, output)
+        }
+    }
+}
+
+/// Does what is asked: reads the configuration, then the capture, opens what keeps the rows, and
+/// prints the replies or the report.
+fn play<Rt: AllocGlobal + Folder + Stores, R: Source, W: Sink>(
+    rt: &Rt,
+    asked: Asked<'_>,
+    input: R,
+    output: &mut W,
+) -> Result<(), Stop>
+    ensures done { OnOk result (IsBy (Rt.held rt.now) (option_copied asked.entry.config)
+        (R.octets input) (λ institutions events.
+        IfSome (rows_at (Rt.stored rt.now) (place_in asked.entry.keeper)) (λ rows.
+        Appends (W.written output.old) (W.written output.new)
+        (text_of asked.entry.task institutions rows events)))) }
+    ensures flushed { OnOk result (W.is_flushed output.new) }
+    ensures stops { IfErr result (λ stop.
+        (Keeps (W.written output.old) (W.written output.new)
+        × RefusesFile (Rt.may_fail rt.now) (Rt.held rt.now) (option_copied asked.entry.config) stop)
+        ⊎ (Keeps (W.written output.old) (W.written output.new)
+        × HasConfig (Rt.held rt.now) (option_copied asked.entry.config)
+        × RefusesCapture (R.may_fail input) (R.octets input) stop)
+        ⊎ IsBy (Rt.held rt.now) (option_copied asked.entry.config) (R.octets input)
+        (λ institutions events.
+        (Keeps (W.written output.old) (W.written output.new) × RefusesStore stop)
+        ⊎ (EndsTask (W.may_fail output.old) stop
+        × IfSome (rows_at (Rt.stored rt.now) (place_in asked.entry.keeper)) (λ rows.
+        CutsTask asked.entry.task (W.written output.old) (W.written output.new) institutions rows
+        events stop)))) }
+{
+    let config = configured(rt, asked.config)?;
+    let events = read_events(rt.alloc(), input)?;
+    do_over(rt, asked, config, events, output)
+}
+
+/// Tells of a stop. The exit status is its own.
+fn stopped<E: Sink>(stop: Stop, errors: &mut E) -> u8
+    ensures status { result ≡ status_of stop }
+    ensures told { IsTold (E.may_fail errors.old) (E.written errors.old) (E.written errors.new)
+        stop }
+{
+    let _ = stop.tell(errors);
+    stop.status()
+}
+
+/// Tells why a command line is not read, in its own text where it is not understood.
+fn refused<E: Sink>(error: &clap::Error, errors: &mut E) -> u8
+    ensures memory { kind_of error.now ≡ ErrorKind.OutOfMemory → (result ≡ 4)
+        × IsTold (E.may_fail errors.old) (E.written errors.old) (E.written errors.new)
+        (Stop.Fault no_memory) }
+    ensures usage { kind_of error.now ≢ ErrorKind.OutOfMemory → result ≡ 1 }
+{
+    if error.kind() == ErrorKind::OutOfMemory {
+        return stopped(Stop::from(AllocError), errors);
+    }
+    let _ = errors.put_line(error);
+    Stop::Usage.status()
+}
+
+/// Plays the program: what opens its files and its stores and listens, its words, its input, its
+/// output and where it tells of errors. The exit status is 0 where all was done, 1 for words that
+/// are not understood, 2 for a refused configuration, 3 for a bad capture, 4 for a fault, a refused
+/// store, or where the output cannot be written, and 5 where no connections can come in.
+pub fn perform<Rt: AllocGlobal + Folder + Stores + Network, S: AsStr, R: Source, W: Sink, E: Sink>(
+    rt: &Rt,
+    words: &[S],
+    input: R,
+    output: &mut W,
+    errors: &mut E,
+) -> u8
+    ensures statuses { result ≤ 5 }
+    ensures flushed { result ≡ 0 → W.is_flushed output.new }
+    ensures quiet { result ≡ 0 → Keeps (E.written errors.old) (E.written errors.new) }
+    ensures usage { result ≡ 1 → (asked (map S.text words.now) ≡ None)
+        × Keeps (W.written output.old) (W.written output.new) }
+    ensures refused { asked (map S.text words.now) ≡ None → (result ≡ 1) ⊎ (result ≡ 4) }
+    // A task over a capture.
+    ensures plays { (request : Request) → asked (map S.text words.now) ≡ Some (Plays request) →
+        result ≤ 4 }
+    ensures done { (request : Request) → asked (map S.text words.now) ≡ Some (Plays request) →
+        result ≡ 0 → IsBy (Rt.held rt.now) request.config (R.octets input)
+        (λ institutions events. IfSome (rows_at (Rt.stored rt.now) request.place) (λ rows.
+        Appends (W.written output.old) (W.written output.new)
+        (text_of request.task institutions rows events))) }
+    ensures config { (request : Request) → asked (map S.text words.now) ≡ Some (Plays request) →
+        result ≡ 2 → (path : List ℕ) × (number : ℕ) × (request.config ≡ Some path)
+        × IsBadConfig (Rt.may_fail rt.now path) (Rt.held rt.now path) number
+        × IsTold (E.may_fail errors.old) (E.written errors.old) (E.written errors.new)
+        (Stop.Config number) × Keeps (W.written output.old) (W.written output.new) }
+    ensures capture { (request : Request) → asked (map S.text words.now) ≡ Some (Plays request) →
+        result ≡ 3 → (number : ℕ) × HasConfig (Rt.held rt.now) request.config
+        × IsBadCapture (R.may_fail input) (R.octets input) number
+        × IsTold (E.may_fail errors.old) (E.written errors.old) (E.written errors.new)
+        (Stop.Capture number) × Keeps (W.written output.old) (W.written output.new) }
+    // Want of memory or a refused store, where nothing was printed; a fault of the run, where
+    // nothing was printed, or the lines of the first replies, and none of a report; or an output
+    // that fails, where the first octets of the lines were.
+    ensures fault { (request : Request) → asked (map S.text words.now) ≡ Some (Plays request) →
+        result ≡ 4 →
+        (IsTold (E.may_fail errors.old) (E.written errors.old) (E.written errors.new)
+        (Stop.Fault no_memory) × Keeps (W.written output.old) (W.written output.new))
+        ⊎ ((number : ℕ)
+        × IsBy (Rt.held rt.now) request.config (R.octets input) (λ institutions events.
+        IsTold (E.may_fail errors.old) (E.written errors.old) (E.written errors.new)
+        (Stop.Store number) × Keeps (W.written output.old) (W.written output.new)))
+        ⊎ ((number : ℕ) × IsRunFault number
+        × IsBy (Rt.held rt.now) request.config (R.octets input) (λ institutions events.
+        IsTold (E.may_fail errors.old) (E.written errors.old) (E.written errors.new)
+        (Stop.Fault number) × IfSome (rows_at (Rt.stored rt.now) request.place) (λ rows.
+        Keeps (W.written output.old) (W.written output.new) ⊎ ((request.task ≡ Task.Replay)
+        × PrintsFirst (W.written output.old) (W.written output.new)
+        (replies institutions rows events)))))
+        ⊎ IsBy (Rt.held rt.now) request.config (R.octets input) (λ institutions events.
+        IsTold (E.may_fail errors.old) (E.written errors.old) (E.written errors.new) Stop.Output
+        × W.may_fail output.old × IfSome (rows_at (Rt.stored rt.now) request.place) (λ rows.
+        AppendsPart (W.written output.old) (W.written output.new)
+        (text_of request.task institutions rows events))) }
+    // Serving connections: so many turns were made as are asked for, over wires that had not been
+    // called.
+    ensures served { (serving : Serving) → asked (map S.text words.now) ≡ Some (Serves serving) →
+        result ≡ 0 → (institutions : List Institution)
+        × IsConfigured (Rt.held rt.now) serving.config institutions
+        × IfSome (rows_at (Rt.stored rt.now) serving.place) (λ rows.
+        (wires : Rt.Wired) × (left : Rt.Wired) × IsUncalled (Rt.Wired.log wires)
+        × Served institutions rows (turn_count serving.turns) (Rt.Wired.log wires)
+        (Rt.Wired.log left)) }
+    ensures ready { (serving : Serving) → asked (map S.text words.now) ≡ Some (Serves serving) →
+        result ≡ 0 → Appends (W.written output.old) (W.written output.new)
+        (ready_text serving.port) }
+    ensures stops { (serving : Serving) → asked (map S.text words.now) ≡ Some (Serves serving) →
+        result ≢ 0 → (stop : Stop) × (result ≡ status_of stop)
+        × IsTold (E.may_fail errors.old) (E.written errors.old) (E.written errors.new) stop
+        × StopsService (Rt.may_fail rt.now) (Rt.held rt.now) serving.config
+        (W.may_fail output.old) (W.written output.old) (W.written output.new) serving.port stop }
+    // Playing a capture over sockets: a line was printed for each connection that it opens.
+    ensures looped { (file : Option (List ℕ)) → asked (map S.text words.now) ≡ Some (Loops file) →
+        result ≡ 0 → IsBy (Rt.held rt.now) file (R.octets input) (λ institutions events.
+        (all : List Sent) × (map sent_number all ≡ opened_numbers events)
+        × Appends (W.written output.old) (W.written output.new) (sent_text all)) }
+    ensures unlooped { (file : Option (List ℕ)) →
+        asked (map S.text words.now) ≡ Some (Loops file) → result ≢ 0 → (stop : Stop)
+        × (result ≡ status_of stop)
+        × IsTold (E.may_fail errors.old) (E.written errors.old) (E.written errors.new) stop
+        × EndsLoop (W.may_fail output.old) (W.written output.old) (W.written output.new) stop }
+{
+    let line = match line_of(rt.alloc(), words) {
+        Ok(line) => line,
+        Err(error) => return stopped(Stop::from(error), errors),
+    };
+    match parse(rt.alloc(), line.as_slice()) {
+        Ok(Job::Play(asked)) => match play(rt, asked, input, output) {
+            Ok(()) => 0,
+            Err(stop) => stopped(stop, errors),
+        },
+        Ok(Job::Serve(service)) => match serve(rt, service, output) {
+            Ok(()) => 0,
+            Err(stop) => stopped(stop, errors),
+        },
+        Ok(Job::Loop(config)) => match loop_over(rt, config, input, output) {
+            Ok(()) => 0,
+            Err(stop) => stopped(stop, errors),
+        },
+        Err(error) => refused(&error, errors),
+    }
+}
+
+/// Tells why there are no words: one is no text, which is usage, or memory ran out.
+pub fn unworded<E: Sink>(error: &io::Error, errors: &mut E) -> u8
+    ensures memory { error_kind error.now ≡ IoKind.OutOfMemory → (result ≡ 4)
+        × IsTold (E.may_fail errors.old) (E.written errors.old) (E.written errors.new)
+        (Stop.Fault no_memory) }
+    ensures usage { error_kind error.now ≢ IoKind.OutOfMemory → result ≡ 1 }
+{
+    if error.kind() == io::ErrorKind::OutOfMemory {
+        return stopped(Stop::from(AllocError), errors);
+    }
+    let _ = errors.put_line("a word of the command line is not UTF-8");
+    Stop::Usage.status()
+}

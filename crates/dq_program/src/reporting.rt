@@ -1,0 +1,192 @@
+//! What is kept after a capture, counted.
+ghost use Rattle.std.specs.Prelude.{◌≡◌, ◌≢◌, ◌++◌, codes, false, IsTrue, IfOk, IfErr, OnOk, string_bytes};
+ghost use Rattle.std.specs.Fmt.{decimal};
+ghost use Rattle.std.specs.Io.KnownBytes.{Appends};
+ghost use Rattle.dq_core.specs.Histories.{is_well_formed};
+ghost use Rattle.dq_core.specs.Shared.{world_after};
+ghost use Rattle.dq_program.specs.declared.words.Task.TheVariants.{Report};
+ghost use Rattle.dq_program.specs.Program.{text_of, AreHonest, Breaks, EndsTask};
+ghost use Rattle.dq_program.specs.Reports.{kind_word, count_text, report_line, names_of, reported};
+
+use crate::stop::Stop;
+use crate::surroundings::Sink;
+use dq_config::{Config, Institution};
+use dq_core::{Event, Fault, Outcome, run};
+use dq_list::Listed;
+use dq_tables::{Kind, Tables};
+use std::alloc::{AllocError, Global};
+
+pub static KINDS: [Kind; 5] = [
+    Kind::Study,
+    Kind::Series,
+    Kind::Image,
+    Kind::Entry,
+    Kind::Step,
+];
+
+fn kind_word(kind: Kind) -> &'static str
+    ensures { result.now ≡ kind_word kind }
+{
+    match kind {
+        Kind::Study => "studies",
+        Kind::Series => "series",
+        Kind::Image => "images",
+        Kind::Entry => "entries",
+        Kind::Step => "steps",
+    }
+}
+
+/// A count of rows of a kind, after the word for them.
+pub fn count_text(alloc: Global, kind: Kind, count: u64) -> Result<String, AllocError>
+    ensures { IfOk result (λ text. string_bytes text
+        ≡ codes " " ++ kind_word kind ++ codes " " ++ decimal count) }
+{
+    format!(in alloc; " {} {count}", kind_word(kind))
+}
+
+/// Adds how many rows of a kind an institution has.
+fn put_count<T: Tables>(
+    alloc: Global,
+    line: &mut Vec<u8>,
+    tables: &mut T,
+    name: &[u8],
+    kind: Kind,
+) -> Result<(), Fault>
+    ensures count { AreHonest T.state → OnOk result (line.new.items ≡ line.old.items
+        ++ count_text (T.state tables.old).rows name.now kind) }
+    ensures same { AreHonest T.state → (T.state tables.new).rows ≡ (T.state tables.old).rows }
+    ensures fault { IfErr result (λ fault. fault ≢ Fault.Stopped) }
+{
+    let count = tables.count(alloc, kind, name)?;
+    line.extend_from_slice(count_text(alloc, kind, count)?.as_bytes())?;
+    Ok(())
+}
+
+/// Adds the line of an institution.
+fn put_line<T: Tables>(
+    alloc: Global,
+    text: &mut Vec<u8>,
+    tables: &mut T,
+    name: &[u8],
+) -> Result<(), Fault>
+    ensures line { AreHonest T.state → OnOk result (text.new.items ≡ text.old.items
+        ++ report_line (T.state tables.old).rows name.now) }
+    ensures same { AreHonest T.state → (T.state tables.new).rows ≡ (T.state tables.old).rows }
+    ensures fault { IfErr result (λ fault. fault ≢ Fault.Stopped) }
+{
+    text.extend_from_slice(name)?;
+    for kind in &KINDS {
+        put_count(alloc, text, tables, name, *kind)?;
+    }
+    text.push(b'\n')?;
+    Ok(())
+}
+
+/// The lines of institutions.
+fn lines_of<T: Tables>(
+    alloc: Global,
+    tables: &mut T,
+    names: &[Listed<u8>],
+) -> Result<Vec<u8>, Fault>
+    ensures lines { AreHonest T.state → IfOk result (λ text. text.items
+        ≡ reported (T.state tables.old).rows names.now) }
+    ensures fault { IfErr result (λ fault. fault ≢ Fault.Stopped) }
+{
+    let mut text = Vec::new(alloc);
+    for name in names {
+        put_line(alloc, &mut text, tables, name.as_slice())?;
+    }
+    Ok(text)
+}
+
+/// The names of institutions, in their order.
+pub fn names_of(alloc: Global, institutions: &[Institution]) -> Result<Vec<Listed<u8>>, AllocError>
+    ensures { IfOk result (λ names. names.items ≡ names_of institutions.now) }
+{
+    let mut names = Vec::new(alloc);
+    for institution in institutions {
+        names.push(Listed::copy_of(alloc, institution.name.as_slice())?)?;
+    }
+    Ok(names)
+}
+
+/// What is kept after events, over the rows that are there.
+fn kept_after<T: Tables + Drop>(
+    alloc: Global,
+    config: Config,
+    tables: T,
+    events: Vec<Event>,
+) -> Result<T, Fault>
+    requires formed { IsTrue (is_well_formed events.items) }
+    requires unfailed { (T.state tables).failed ≡ false }
+    ensures kept { AreHonest T.state → IfOk result (λ kept. (T.state kept).rows
+        ≡ (world_after config (T.state tables).rows events.items).rows) }
+    ensures fault { IfErr result (λ fault. fault ≢ Fault.Stopped) }
+{
+    let Outcome {
+        replies: _,
+        fault,
+        tables,
+    } = run(alloc, config, tables, events)?;
+    match fault {
+        None => Ok(tables),
+        Some(fault) => Err(fault),
+    }
+}
+
+/// The text of a report.
+fn report_of<T: Tables + Drop>(
+    alloc: Global,
+    config: Config,
+    tables: T,
+    events: Vec<Event>,
+) -> Result<Vec<u8>, Fault>
+    requires formed { IsTrue (is_well_formed events.items) }
+    requires unfailed { (T.state tables).failed ≡ false }
+    ensures text { AreHonest T.state → IfOk result (λ text. text.items
+        ≡ text_of Report config (T.state tables).rows events.items) }
+    ensures fault { IfErr result (λ fault. fault ≢ Fault.Stopped) }
+{
+    let names = names_of(alloc, config.institutions())?;
+    let mut kept = kept_after(alloc, config, tables, events)?;
+    lines_of(alloc, &mut kept, names.as_slice())
+}
+
+/// Writes a text and hands it on.
+pub fn put_whole<W: Sink>(text: &[u8], output: &mut W) -> Result<(), Stop>
+    ensures done { OnOk result (Appends (W.written output.old) (W.written output.new) text.now) }
+    ensures flushed { OnOk result (W.is_flushed output.new) }
+    ensures ends { IfErr result (λ stop. (stop ≡ Stop.Output) × W.may_fail output.old) }
+    ensures cut { IfErr result (Breaks (W.written output.old) (W.written output.new) text.now) }
+{
+    if output.put(text).is_err() {
+        return Err(Stop::Output);
+    }
+    if output.finish().is_err() {
+        return Err(Stop::Output);
+    }
+    Ok(())
+}
+
+/// Counts what is kept after the events of a capture, over the rows that are there, and prints a
+/// line for each institution in the order of the configuration. Where a fault comes, no line is
+/// printed.
+pub fn report<T: Tables + Drop, W: Sink>(
+    alloc: Global,
+    config: Config,
+    tables: T,
+    events: Vec<Event>,
+    output: &mut W,
+) -> Result<(), Stop>
+    requires formed { IsTrue (is_well_formed events.items) }
+    requires unfailed { (T.state tables).failed ≡ false }
+    ensures done { AreHonest T.state → OnOk result (Appends (W.written output.old)
+        (W.written output.new) (text_of Report config (T.state tables).rows events.items)) }
+    ensures flushed { OnOk result (W.is_flushed output.new) }
+    ensures ends { IfErr result (EndsTask (W.may_fail output.old)) }
+    ensures cut { AreHonest T.state → IfErr result (Breaks (W.written output.old)
+        (W.written output.new) (text_of Report config (T.state tables).rows events.items)) }
+{
+    let text = report_of(alloc, config, tables, events)?;
+    put_whole(text.as_slice(), output)
+}

@@ -1,0 +1,195 @@
+//! Why the program stops, what is told of it, and its exit status.
+ghost use Rattle.std.specs.Prelude.{◌≡◌, OnOk, OnErr};
+ghost use Rattle.std.specs.Io.KnownBytes.{Appends};
+ghost use Rattle.dq_program.specs.Program.{stop_of_file, stop_of_input, stop_text, status_of};
+
+use crate::capture::CaptureFault;
+use crate::network::Unheard;
+use crate::printing::PrintFault;
+use crate::stores::Unkept;
+use crate::surroundings::{Sink, Unread};
+use dq_config::ConfigFault;
+use dq_core::Fault;
+use dq_wires::TurnFault;
+use std::alloc::AllocError;
+use std::io;
+
+/// Why the program stops short of its end.
+#[derive(Clone, Copy, Debug, PartialEq, Eq)]
+pub enum Stop {
+    /// The words are not understood.
+    Usage,
+    /// A refused configuration, with the number of its fault. 0 stands for a file that cannot be
+    /// read, or is no text.
+    Config(u8),
+    /// A bad line of the capture. 0 stands for one that cannot be read, is too long, or is no text.
+    Capture(u64),
+    /// A refused store, with the number of what is wrong with it.
+    Store(u8),
+    /// The number of a fault.
+    Fault(u8),
+    /// The output cannot be written.
+    Output,
+    /// No connections can come in.
+    Network,
+}
+
+impl From<AllocError> for Stop {
+    ghost use Rattle.std.specs.Prelude.{◌≡◌};
+    ghost use Rattle.dq_program.specs.Program.{no_memory};
+    ghost use Rattle.dq_program.specs.declared.stop.Stop.TheVariants.{Fault};
+
+    ghost from_gives = { λ _ stop. stop ≡ Fault no_memory };
+
+    fn from(_error: AllocError) -> Stop {
+        Stop::Fault(Fault::NoMemory.number())
+    }
+}
+
+impl From<ConfigFault> for Stop {
+    ghost use Rattle.std.specs.Prelude.{◌≡◌};
+    ghost use Rattle.dq_program.specs.Program.{stop_of_config};
+
+    ghost from_gives = { λ fault stop. stop ≡ stop_of_config fault };
+
+    fn from(fault: ConfigFault) -> Stop {
+        match fault {
+            ConfigFault::NoMemory => Stop::from(AllocError),
+            other => Stop::Config(other.number()),
+        }
+    }
+}
+
+impl From<CaptureFault> for Stop {
+    ghost use Rattle.std.specs.Prelude.{◌≡◌};
+    ghost use Rattle.dq_program.specs.Program.{stop_of_capture};
+
+    ghost from_gives = { λ fault stop. stop ≡ stop_of_capture fault };
+
+    fn from(fault: CaptureFault) -> Stop {
+        match fault {
+            CaptureFault::Line(number) => Stop::Capture(number),
+            CaptureFault::NoMemory => Stop::from(AllocError),
+        }
+    }
+}
+
+impl From<Unkept> for Stop {
+    ghost use Rattle.std.specs.Prelude.{◌≡◌};
+    ghost use Rattle.dq_program.specs.Program.{stop_of_store};
+
+    ghost from_gives = { λ unkept stop. stop ≡ stop_of_store unkept };
+
+    fn from(unkept: Unkept) -> Stop {
+        match unkept {
+            Unkept::Store(number) => Stop::Store(number),
+            Unkept::NoMemory => Stop::from(AllocError),
+        }
+    }
+}
+
+impl From<Fault> for Stop {
+    ghost use Rattle.std.specs.Prelude.{◌≡◌};
+    ghost use Rattle.dq_core.specs.Faults.{number_of};
+    ghost use Rattle.dq_program.specs.declared.stop.Stop.TheVariants.{Fault};
+
+    ghost from_gives = { λ fault stop. stop ≡ Fault (number_of fault) };
+
+    fn from(fault: Fault) -> Stop {
+        Stop::Fault(fault.number())
+    }
+}
+
+impl From<PrintFault> for Stop {
+    ghost use Rattle.std.specs.Prelude.{◌≡◌};
+    ghost use Rattle.dq_program.specs.Program.{stop_of_printing};
+
+    ghost from_gives = { λ fault stop. stop ≡ stop_of_printing fault };
+
+    fn from(fault: PrintFault) -> Stop {
+        match fault {
+            PrintFault::NoMemory => Stop::from(AllocError),
+            PrintFault::Output => Stop::Output,
+        }
+    }
+}
+
+impl From<TurnFault> for Stop {
+    ghost use Rattle.std.specs.Prelude.{◌≡◌};
+    ghost use Rattle.dq_program.specs.Program.{stop_of_turning};
+
+    ghost from_gives = { λ fault stop. stop ≡ stop_of_turning fault };
+
+    fn from(fault: TurnFault) -> Stop {
+        match fault {
+            TurnFault::NoMemory => Stop::from(AllocError),
+            TurnFault::Server(fault) => Stop::from(fault),
+            TurnFault::Network => Stop::Network,
+        }
+    }
+}
+
+impl From<Unheard> for Stop {
+    ghost use Rattle.std.specs.Prelude.{◌≡◌};
+    ghost use Rattle.dq_program.specs.Program.{stop_of_listening};
+
+    ghost from_gives = { λ unheard stop. stop ≡ stop_of_listening unheard };
+
+    fn from(unheard: Unheard) -> Stop {
+        match unheard {
+            Unheard::Failed => Stop::Network,
+            Unheard::NoMemory => Stop::from(AllocError),
+        }
+    }
+}
+
+impl Stop {
+    /// The stop where a configuration's file is not read.
+    pub fn of_file(unread: Unread) -> Stop
+        ensures { result ≡ stop_of_file unread }
+    {
+        match unread {
+            Unread::Failed => Stop::Config(0),
+            Unread::NoMemory => Stop::from(AllocError),
+        }
+    }
+
+    /// The stop where the capture is not read.
+    pub fn of_input(unread: Unread) -> Stop
+        ensures { result ≡ stop_of_input unread }
+    {
+        match unread {
+            Unread::Failed => Stop::Capture(0),
+            Unread::NoMemory => Stop::from(AllocError),
+        }
+    }
+
+    /// The exit status.
+    pub fn status(self) -> u8
+        ensures { result ≡ status_of self }
+    {
+        match self {
+            Stop::Usage => 1,
+            Stop::Config(_) => 2,
+            Stop::Capture(_) => 3,
+            Stop::Store(_) | Stop::Fault(_) | Stop::Output => 4,
+            Stop::Network => 5,
+        }
+    }
+
+    /// Tells of the stop by its line, if it has one.
+    pub fn tell<E: Sink>(self, errors: &mut E) -> io::Result<()>
+        ensures written { OnOk result
+            (Appends (E.written errors.old) (E.written errors.new) (stop_text self)) }
+        ensures failed { OnErr result (E.may_fail errors.old) }
+    {
+        match self {
+            Stop::Config(number) => errors.put_line(format_args!("config {number}")),
+            Stop::Capture(number) => errors.put_line(format_args!("capture line {number}")),
+            Stop::Store(number) => errors.put_line(format_args!("store {number}")),
+            Stop::Fault(number) => errors.put_line(format_args!("fault {number}")),
+            Stop::Network => errors.put_line("network"),
+            Stop::Usage | Stop::Output => Ok(()),
+        }
+    }
+}
