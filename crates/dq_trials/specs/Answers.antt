@@ -3,7 +3,7 @@ use Rattle.std.specs.Prelude.{ℕ, List, [], ◌∷◌, ◌++◌, codes, Result,
 use Rattle.std.specs.Fmt.{decimal}
 use Rattle.hex.specs.Hex.{encode_lower}
 use Rattle.dq_dataset.specs.declared.fault.ReadFault.{ReadFault}
-use Rattle.dq_dataset.specs.declared.fault.ReadFault.TheVariants.{Truncated, BadVr, TagOrder, BadItem, BadUndefined, TooDeep, NoMemory}
+use Rattle.dq_dataset.specs.FaultNumbers.{number_of}
 use Rattle.dq_dataset.specs.declared.header.Syntax.TheVariants.{Implicit, Explicit}
 use Rattle.dq_dataset.specs.Tree.{ElementList}
 use Rattle.dq_dataset.specs.Canonical.{canonical}
@@ -14,15 +14,6 @@ use Rattle.dq_trials.specs.declared.trial.Answer.TheVariants.{Fault, Spelled}
 abbrev pub answer_of : Result ElementList ReadFault → Answer
 answer_of (Ok d) = Spelled (canonical Explicit d) (canonical Implicit d)
 answer_of (Err fault) = Fault fault
-
-abbrev pub number_of : ReadFault → ℕ
-number_of Truncated = 1
-number_of BadVr = 2
-number_of TagOrder = 3
-number_of BadItem = 4
-number_of BadUndefined = 5
-number_of TooDeep = 6
-number_of NoMemory = 7
 
 -- a hyphen for no octets, else hexadecimal digits
 abbrev pub octets_text : List ℕ → List ℕ

@@ -56,7 +56,7 @@ impl Stop {
         match self {
             Stop::Usage => eprintln!(rt; "usage: dq_trials [cost N [half] | memory N]"),
             Stop::Line(number) => eprintln!(rt; "line {number}"),
-            Stop::Fault(fault) => eprintln!(rt; "fault {}", fault as u8),
+            Stop::Fault(fault) => eprintln!(rt; "fault {}", fault.number()),
             Stop::System => Ok(()),
         }
     }

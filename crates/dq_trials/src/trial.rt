@@ -1,7 +1,7 @@
 //! Trials: octets that are read as a data set, and the canonical spellings of what was read.
 ghost use Rattle.std.specs.Prelude.{◌≡◌, ◌<◌, ◌^◌, length, string_bytes, IfOk};
 ghost use Rattle.dq_dataset.specs.Reading.{reading};
-ghost use Rattle.dq_trials.specs.Answers.{answer_of, number_of, octets_text, answer_text};
+ghost use Rattle.dq_trials.specs.Answers.{answer_of, octets_text, answer_text};
 
 use crate::stop::Stop;
 use dq_dataset::{ReadFault, Syntax, laws, read, write};
@@ -20,12 +20,6 @@ pub enum Answer {
     },
 }
 
-fn number_of(fault: ReadFault) -> u8
-    ensures { result ≡ number_of fault }
-{
-    fault as u8
-}
-
 fn octets_text(alloc: Global, octets: &[u8]) -> Result<String, AllocError>
     ensures { IfOk result (λ text. string_bytes text ≡ octets_text octets.now) }
 {
@@ -40,7 +34,7 @@ fn answer_text(alloc: Global, answer: &Answer) -> Result<String, AllocError>
     ensures { IfOk result (λ text. string_bytes text ≡ answer_text answer.now) }
 {
     match answer {
-        Answer::Fault(fault) => format!(in alloc; "fault {}", number_of(*fault)),
+        Answer::Fault(fault) => format!(in alloc; "fault {}", fault.number()),
         Answer::Spelled { explicit, implicit } => {
             let explicit = octets_text(alloc, explicit.inner().as_slice())?;
             let implicit = octets_text(alloc, implicit.inner().as_slice())?;

@@ -39,7 +39,7 @@ const CT: &[u8] = b"1.2.840.10008.5.1.4.1.1.2";
 
 /// The status of an instance that is sent: the last digits of its own UID, its study's and its
 /// series', and the first letter of the patient's name.
-fn sent<T: Tables>(
+pub(super) fn sent<T: Tables>(
     alloc: Global,
     tables: &mut T,
     institution: &Institution,

@@ -3,7 +3,7 @@ ghost use Rattle.std.specs.Prelude.{◌≡◌, ◌<◌, ◌^◌, [], true, lengt
 ghost use Rattle.dq_tables.specs.Sound.{is_own, Fits};
 
 use dq_list::Listed;
-use dq_tables::{Change, Fused, Kind, PlainTables, Row, TableFault, Tables};
+use dq_tables::{Change, Fuse, Fused, Kind, PlainTables, Row, TableFault, Tables};
 use std::alloc::{AllocError, Global};
 use std::test::*;
 
@@ -136,6 +136,10 @@ fn images_are_found(rt: HostRuntime) -> Result<(), Fail> {
     let mut tables = with_image(rt.alloc())?;
     assert!(rt; tables.image(rt.alloc(), NORTH, b"1.4")?.is_some());
     assert!(rt; tables.images_of(rt.alloc(), NORTH, b"1.2")?.is_empty());
+    assert_eq!(rt;
+        tables.count_above(rt.alloc(), Kind::Image, NORTH, b"1.3")?,
+        1
+    );
     Ok(())
 }
 
@@ -155,6 +159,25 @@ fn steps_are_found(rt: HostRuntime) -> Result<(), Fail> {
     Ok(())
 }
 
+/// A study of a patient and a day, in Explicit.
+#[test]
+fn studies_have_labels(rt: HostRuntime) -> Result<(), Fail> {
+    let octets = b"\x08\0\x20\0DA\x08\x0020230514\x10\0\x20\0LO\x04\0P-17";
+    let labels = row(rt.alloc(), Kind::Study, b"1.2", b"", octets)?.labels(rt.alloc())?;
+    let patient = labels.patient.ok_or("a patient")?;
+    assert!(rt; patient.as_slice() == b"P-17".as_slice());
+    assert_eq!(rt; labels.day, Some(20_230_514));
+    Ok(())
+}
+
+#[test]
+fn kinds_and_faults_have_numbers(rt: HostRuntime) -> Result<(), Fail> {
+    assert_eq!(rt; Kind::from_number(Kind::Entry.number()), Some(Kind::Entry));
+    assert_eq!(rt; Kind::from_number(6), None);
+    assert_eq!(rt; TableFault::Store.number(), 2);
+    Ok(())
+}
+
 /// Tables that make no change fail at the first, and answer nothing from then on.
 #[test]
 fn a_fuse_blows(rt: HostRuntime) -> Result<(), Fail> {
@@ -162,6 +185,13 @@ fn a_fuse_blows(rt: HostRuntime) -> Result<(), Fail> {
     let mut tables = Fused::new(PlainTables::new(rt.alloc()), 0);
     assert!(rt; tables.apply(rt.alloc(), &change) == Err(TableFault::Store));
     assert!(rt; tables.failed());
+    assert!(rt;
+        tables.fuse()
+            == Fuse {
+                left: 0,
+                blown: true
+            }
+    );
     assert!(rt; tables.count(rt.alloc(), Kind::Entry, NORTH) == Err(TableFault::Store));
     Ok(())
 }
