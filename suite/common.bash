@@ -1,12 +1,12 @@
 # What the suites share, to be sourced: the folders `top` and `work` (the latter is removed at the end), an empty file
-# $work/nothing, comparisons that are counted, and runs in which an allocation is refused.
+# $work/nothing, comparisons that are counted, and runs in which an allocation is refused (MOST_ALLOCATIONS is where a suite gives up).
 set -u
 top=$(cd "$(dirname "${BASH_SOURCE[0]}")/.." && pwd)
 work=$(mktemp -d)
 trap 'rm -rf "$work"' EXIT
 passed=0
 failed=0
-most_allocations=100000
+most_allocations=${MOST_ALLOCATIONS:-100000}
 : > "$work/nothing"
 
 # needs PROGRAM: ends the suite where the program is not built
@@ -39,6 +39,15 @@ check() {
     fi
 }
 
+# at_least WHAT LEAST COUNT: no fewer were compared than there are, and not none
+at_least() {
+    if [ "$3" -ge "$2" ] && [ "$3" -gt 0 ]; then
+        passed=$((passed + 1))
+    else
+        fail "$1: $3 were compared, where there are $2 at least"
+    fi
+}
+
 # ready_to_refuse: makes the library that refuses allocations
 ready_to_refuse() {
     "${CC:-cc}" -O1 -shared -fPIC -o "$work/refuse_alloc.so" "$top/tools/refuse_alloc.c" -ldl && return
@@ -55,13 +64,25 @@ refusing() {
     REFUSE_ALLOC=$number REFUSE_ALLOC_MARK=$work/refused LD_PRELOAD=$work/refuse_alloc.so "$@"
 }
 
+# went_through NAME N LEAST: the loop over allocations ended at the Nth because the run went through, and not at its limit,
+# after at least so many were refused
+went_through() {
+    echo "$1: $(($2 - 1)) allocations"
+    if [ "$2" -gt "$most_allocations" ]; then
+        fail "$1: the run did not go through with $most_allocations allocations"
+    else
+        at_least "$1, allocations" "$3" $(($2 - 1))
+    fi
+}
+
 # configuration_of SCENE: the configuration that its first line names
 configuration_of() {
     echo "$top/suite/configurations/$(sed -n 's/^# config: //p' "$1").toml"
 }
 
-# finish: the last line
+# finish: the last line; a suite that compared nothing has failed
 finish() {
+    [ "$passed" -gt 0 ] || [ "$failed" -gt 0 ] || fail 'nothing was compared'
     echo "$passed passed, $failed failed"
     [ "$failed" -eq 0 ]
 }

@@ -20,7 +20,8 @@ A scene is lines like these; N is a connection, I a presentation context, M a me
 
 DATA is keywords of PS3.6 with values, as PatientName=DOE^A, and `Keyword= { .. } { .. }` for a sequence's items. Words
 with spaces stand in double quotes. A tag that has no keyword here is GGGGEEEE:VR=value, octets are written 0xHEX, and
-zeros:COUNT is so many zero octets. `nodata` in place of DATA sends a command without a data set.
+zeros:COUNT is so many zero octets. `nodata` in place of DATA sends a command without a data set. A last word `raw:HEX`
+adds octets after the data set as they are, such as no data set has.
 CLASS is echo, CR, CT, MR, US, SC, study, worklist, mpps or a UID; SYNTAX is explicit, implicit or a UID.
 """
 import shlex
@@ -73,6 +74,12 @@ def data_set(words):
     return sorted(found)
 
 
+def spelled_data_set(words, syntax):
+    """The octets of a data set, and those after it that are given as they are."""
+    end = bytes.fromhex(words.pop()[4:]) if words and words[-1].startswith("raw:") else b""
+    return data_sets.canonical(data_set(words), syntax) + end
+
+
 class Scene:
     def __init__(self):
         self.contexts = {}
@@ -94,7 +101,7 @@ class Scene:
         proposed, syntaxes, maximum = self.contexts[number, context]
         data = None
         if field not in (C_ECHO, C_CANCEL) and words[-1] != "nodata":
-            data = data_sets.canonical(data_set(elements[1]), form_of(syntaxes[0]))
+            data = spelled_data_set(elements[1], form_of(syntaxes[0]))
         kind = two(NO_DATA_SET if data is None else DATA_SET)
         identity = (0x0120 if field == C_CANCEL else 0x0110, two(int(words[2])))
         is_set = field == N_SET
@@ -150,7 +157,7 @@ class Scene:
         elif word == "piece":
             self.piece(words[0], bytes.fromhex(words[1]))
         elif word == "schedule":
-            self.lines.append(f"schedule {words[0]} {data_sets.canonical(data_set(words[1:]), data_sets.EXPLICIT).hex() or '-'}")
+            self.lines.append(f"schedule {words[0]} {spelled_data_set(words[1:], data_sets.EXPLICIT).hex() or '-'}")
         elif word == "withdraw":
             self.lines.append(f"withdraw {words[0]} {words[1].encode().hex()}")
         elif word == "cut":

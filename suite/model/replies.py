@@ -5,8 +5,9 @@ Written from PS3.8 section 9 (PDUs and the state machine), PS3.7 (messages and s
 K (services), with the choices that docs/DECISIONS.md lists where the standard leaves one. It shares nothing with the
 server's code.
 
-Use: replies.py [--config FILE] [--report] < CAPTURE. It prints the lines of the replies, or with --report a line for each
-institution. On a bad line it prints none, tells the line on standard error, and exits with 3; on a bad configuration with 2.
+Use: replies.py [--config FILE] [--new FILE | --store FILE] [--report] < CAPTURE. It prints the lines of the replies, or with
+--report a line for each institution. On a bad line it prints none, tells the line on standard error, and exits with 3; on a
+bad configuration with 2, and on a store that is not taken, or that fails, with 4.
 """
 import argparse
 import re
@@ -14,6 +15,7 @@ import sys
 import tomllib
 
 import services
+import stores
 from messages import C_CANCEL, C_ECHO, C_FIND, C_STORE, N_CREATE, N_SET, Assembler, response, sent
 from upper_layer import (ABORT, APPLICATION_CONTEXT, EXPLICIT, IMPLICIT, P_DATA, RELEASE_RQ, REQUEST, UNEXPECTED, BadPdu,
                          abort, acceptance, next_pdu, reject, release_reply)
@@ -252,10 +254,11 @@ class Server:
             self.held.pop(subject).drop()
         return f"{subject} {out.hex() or '-'}{' close' if close else ''}"
 
-    def report(self):
+    def reported(self):
+        """A line for each institution."""
         for one in self.institutions:
             studies, series, images, entries, steps = one.records.counts()
-            print(f"{one.name} studies {studies} series {series} images {images} entries {entries} steps {steps}")
+            yield f"{one.name} studies {studies} series {series} images {images} entries {entries} steps {steps}"
 
 
 def number_of(text):
@@ -312,28 +315,78 @@ def read_capture(octets):
     return events
 
 
-def main():
-    words = argparse.ArgumentParser()
+def with_options(words, has_store=True):
+    """The options that say whose rows are kept, and where."""
     words.add_argument("--config")
-    words.add_argument("--report", action="store_true")
-    words = words.parse_args()
+    if has_store:
+        store = words.add_mutually_exclusive_group()
+        store.add_argument("--new")
+        store.add_argument("--store")
+    return words
+
+
+def configured(words):
+    """The institutions; None and the exit status where the configuration is refused."""
     try:
         text = BUILT_IN if words.config is None else open(words.config, encoding="utf-8").read()
-        institutions = read_configuration(text)
+        return read_configuration(text), 0
     except (OSError, UnicodeDecodeError, BadConfiguration) as bad:
         print("config", bad.args[0] if isinstance(bad, BadConfiguration) else 0, file=sys.stderr)
-        return 2
+        return None, 2
+
+
+def opened(words, institutions):
+    """The store, whose rows are taken; None where there is none. And the exit status."""
+    try:
+        if words.new is not None:
+            return stores.new(words.new), 0
+        if words.store is None:
+            return None, 0
+        store, rows = stores.adopt(words.store)
+        stores.take(institutions, rows)
+        return store, 0
+    except stores.Refused as refused:
+        print("store", refused.args[0], file=sys.stderr)
+        return None, 4
+
+
+def begun(words):
+    """The institutions, their store if there is one, and the exit status where one of them is refused."""
+    institutions, status = configured(words)
+    store = None
+    if not status and "new" in words:
+        store, status = opened(words, institutions)
+    return institutions, store, status
+
+
+def main():
+    words = with_options(argparse.ArgumentParser())
+    words.add_argument("--report", action="store_true")
+    words = words.parse_args()
+    institutions, status = configured(words)
+    if status:
+        return status
     events = read_capture(sys.stdin.buffer.read())
     if isinstance(events, int):
         print(f"capture line {events}", file=sys.stderr)
         return 3
+    store, status = opened(words, institutions)
+    if status:
+        return status
     server = Server(institutions)
+    changes = stores.noted(institutions)
     for event in events:
         line = server.reply(*event)
+        try:
+            if store is not None:
+                stores.keep(store, changes)
+        except stores.Refused:
+            print("fault 2", file=sys.stderr)
+            return 4
         if not words.report:
             print(line)
     if words.report:
-        server.report()
+        print("".join(f"{line}\n" for line in server.reported()), end="")
     return 0
 
 

@@ -1,0 +1,86 @@
+"""Random histories of one hospital: associations that overlap, and orders of the console."""
+import compose
+
+PROPOSED = "1=echo:implicit 3=CT:explicit 5=study:implicit,explicit 7=worklist:explicit 9=mpps:implicit"
+CT = compose.CLASSES["CT"].decode()
+CUT_OFF = {3: "raw:400000244c54ffff4142", 5: "raw:40000024ffff00004142"}
+STEP = ("Modality=CT PerformedStationAETitle=CT1 PerformedProcedureStepStartDate=20240705 PerformedProcedureStepID=P "
+        "PerformedProcedureStepStartTime=0900 ScheduledStepAttributesSequence= { ScheduledProcedureStepID=S1 } ")
+
+
+def message(chance, number, identity):
+    """A line of a scene: identifiers are few, so that both hospitals use the same."""
+    study, series, image = (f"1.2.{chance.randrange(1, 4)}" for _ in range(3))
+    name = chance.choice(["DOE^A", "ROE^B", "POE^C"])
+    step = f"1.2.9.{chance.randrange(3)}"
+    return chance.choice([
+        f"echo {number} 1 {identity}",
+        f"store {number} 3 {identity} CT {image} SOPClassUID={CT} SOPInstanceUID={image} PatientName={name} "
+        f"StudyInstanceUID={study} SeriesInstanceUID={study}.{series}",
+        f"find {number} 5 {identity} study QueryRetrieveLevel=STUDY StudyInstanceUID= PatientName= ModalitiesInStudy= "
+        "NumberOfStudyRelatedInstances=",
+        f"find {number} 5 {identity} study QueryRetrieveLevel=SERIES StudyInstanceUID={study} SeriesInstanceUID=",
+        f"find {number} 7 {identity} worklist PatientName= ScheduledProcedureStepSequence= {{ }}",
+        f"create {number} 9 {identity} {step} {STEP} PerformedProcedureStepStatus=\"IN PROGRESS\"",
+        f"set {number} 9 {identity} {step} PerformedProcedureStepStatus=COMPLETED",
+        f"set {number} 9 {identity} {step} PerformedProcedureStepDescription={name}",
+        f"cancel {number} 5 {identity}",
+        f"store {number} 3 {identity} CT {image} SOPClassUID={CT} SOPInstanceUID={image} StudyInstanceUID={study} "
+        f"SeriesInstanceUID={study}.{series} {CUT_OFF[3]}",
+        f"find {number} 5 {identity} study QueryRetrieveLevel=STUDY StudyInstanceUID= {CUT_OFF[5]}",
+    ])
+
+
+def console(chance, name):
+    entry = f"S{chance.randrange(1, 4)}"
+    return chance.choice([
+        f"withdraw {name} {entry}",
+        f"schedule {name} PatientName=DOE^A PatientID=P1 StudyInstanceUID=1.2.3 RequestedProcedureID=R "
+        f"ScheduledProcedureStepSequence= {{ Modality=CT ScheduledStationAETitle=CT1 ScheduledProcedureStepID={entry} "
+        "ScheduledProcedureStepStartDate=20240705 ScheduledProcedureStepStartTime=0900 }",
+    ])
+
+
+def session(chance, number, calling):
+    """The capture lines of one connection."""
+    scene = compose.Scene()
+    scene.lines.append(f"open {number}")
+    lines = [f"associate {number} ARCHIVE {calling} {PROPOSED}"]
+    lines += [message(chance, number, identity) for identity in range(1, chance.randrange(1, 9))]
+    lines.append(chance.choice([f"release {number}", f"abort {number}", f"end {number}", f"piece {number} 080000000000"]))
+    for line in lines:
+        scene.most = chance.choice([0, 0, 0, 7, 100])
+        scene.play_line(line)
+    return scene.lines + [f"end {number}"] * chance.randrange(2)
+
+
+def mixed(chance, lists):
+    """The lists, interleaved at random, each in its own order."""
+    lists, out = [list(one) for one in lists if one], []
+    while lists:
+        one = chance.choice(lists)
+        out.append(one.pop(0))
+        lists = [rest for rest in lists if rest]
+    return out
+
+
+def history(chance, name, callings):
+    """Sessions that overlap, and orders of the console; numbers count from 0 and rise with the openings."""
+    lists = [session(chance, f"#{number}", chance.choice(callings)) for number in range(chance.randrange(2, 8))]
+    orders = compose.Scene()
+    for _ in range(chance.randrange(4)):
+        orders.play_line(console(chance, name))
+    return mixed(chance, lists + [orders.lines])
+
+
+def renumbered(lines, next_number):
+    """The lines with numbers that rise: next_number gives that of each opening."""
+    numbers, out = {}, []
+    for line in lines:
+        words = line.split(" ")
+        if words[0] in ("open", "piece", "end"):
+            if words[0] == "open":
+                numbers[words[1]] = next_number()
+            words[1] = str(numbers[words[1]])
+        out.append(" ".join(words))
+    return out

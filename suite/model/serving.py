@@ -1,0 +1,226 @@
+"""The model as a server over sockets: what `serve` and `loopback` do, for the suite that has to notice what is wrong.
+
+Each connection that comes is the next number's, from 1 on. What is read of it is a piece, its end is an end, and what is
+answered is written; nothing more is read of it before. At most MOST are held. The console takes lines of a capture.
+"""
+import argparse
+import contextlib
+import ipaddress
+import selectors
+import socket
+import sys
+import time
+
+import replies
+import stores
+
+MOST, READ_MOST = 64, 16384
+HOST = "127.0.0.1"
+
+
+class Wire:
+    def __init__(self, stream, number):
+        stream.setblocking(False)
+        self.stream, self.number = stream, number
+        self.unsent, self.closed, self.passed = b"", False, time.monotonic()
+
+
+class Keeping:
+    """A server whose changes are in a store before it answers."""
+
+    def __init__(self, institutions, store):
+        self.server, self.store, self.changes = replies.Server(institutions), store, stores.noted(institutions)
+
+    def step(self, *event):
+        line = self.server.reply(*event)
+        if self.store is not None:
+            stores.keep(self.store, self.changes)
+        self.changes.clear()
+        return line
+
+
+class Service:
+    def __init__(self, keeping, listener, console=None, quiet=None, log=None):
+        self.keeping, self.listener, self.console = keeping, listener, console
+        self.quiet, self.log = quiet, log
+        self.newest, self.wires, self.orders = 0, [], []
+        self.rest_most = 1.0
+
+    def wait(self):
+        """The sockets for which something may be done."""
+        with selectors.PollSelector() as selector:
+            if len(self.wires) < MOST:
+                selector.register(self.listener, selectors.EVENT_READ)
+            for wire in self.wires:
+                selector.register(wire.stream, selectors.EVENT_WRITE if wire.unsent else selectors.EVENT_READ)
+            if self.console is not None:
+                selector.register(self.console, selectors.EVENT_READ)
+                for stream, _ in self.orders:
+                    selector.register(stream, selectors.EVENT_READ)
+            return {key.fileobj for key, _ in selector.select(self.rest_most)}
+
+    def turn(self):
+        ready = self.wait()
+        if self.listener in ready:
+            self.newest += 1
+            self.keeping.step("open", self.newest, b"")
+            self.wires.append(Wire(self.listener.accept()[0], self.newest))
+        for wire in [one for one in self.wires if one.stream in ready]:
+            self.serve(wire)
+        for wire in [one for one in self.wires if one.closed and not one.unsent]:
+            self.drop(wire)
+        if self.quiet is not None:
+            for wire in [one for one in self.wires if time.monotonic() - one.passed > self.quiet]:
+                self.leave(wire)
+        if self.console is not None:
+            self.take_orders(ready)
+
+    def serve(self, wire):
+        try:
+            if wire.unsent:
+                self.write(wire)
+            else:
+                self.read(wire)
+        except BlockingIOError:
+            return
+        except OSError:
+            self.leave(wire)
+
+    def write(self, wire):
+        wire.unsent = wire.unsent[wire.stream.send(wire.unsent):]
+        wire.passed = time.monotonic()
+
+    def read(self, wire):
+        octets = wire.stream.recv(READ_MOST)
+        wire.passed = time.monotonic()
+        if not octets:
+            self.leave(wire)
+            return
+        line = self.keeping.step("piece", wire.number, octets).split(" ")
+        self.answer(wire, b"" if line[1] == "-" else bytes.fromhex(line[1]), line[2:] == ["close"])
+
+    def answer(self, wire, octets, close):
+        wire.unsent, wire.closed = octets, close
+
+    def leave(self, wire):
+        """The connection has ended."""
+        if not wire.closed:
+            self.keeping.step("end", wire.number, b"")
+        self.drop(wire)
+
+    def drop(self, wire):
+        with contextlib.suppress(OSError):
+            wire.stream.shutdown(socket.SHUT_WR)
+        wire.stream.close()
+        self.wires.remove(wire)
+
+    def take_orders(self, ready):
+        if self.console in ready:
+            self.orders.append((self.console.accept()[0], bytearray()))
+        for one in [one for one in self.orders if one[0] in ready]:
+            stream, octets = one
+            try:
+                more = stream.recv(READ_MOST)
+            except OSError:
+                more = b""
+            octets += more
+            while b"\n" in octets:
+                line, _, rest = bytes(octets).partition(b"\n")
+                octets[:] = rest
+                stream.sendall(self.order(line.decode("latin-1")).encode() + b"\n")
+            if not more:
+                stream.close()
+                self.orders.remove(one)
+
+    def order(self, line):
+        if line == "report":
+            return "\n".join(self.keeping.server.reported())
+        try:
+            event = replies.event_of(line)
+        except ValueError:
+            return "bad line"
+        return self.keeping.step(*event) if event[0] in ("schedule", "withdraw") else "bad line"
+
+
+def listening(host, port):
+    listener = socket.create_server((host, port), backlog=128)
+    listener.setblocking(False)
+    return listener
+
+
+def number_in(least, most):
+    def number(text):
+        if not text.isdigit() or not least <= int(text) <= most:
+            raise argparse.ArgumentTypeError(text)
+        return int(text)
+    return number
+
+
+class Words(argparse.ArgumentParser):
+    def print_help(self, _=None):
+        """A request for help is usage too."""
+        super().print_help(sys.stderr)
+
+
+def parser():
+    words = Words(prog="dq_server serve", allow_abbrev=False)
+    words.add_argument("--port", type=number_in(1, 65535), required=True, metavar="<PORT>")
+    words.add_argument("--turns", type=number_in(0, 2 ** 32 - 1), metavar="<TURNS>")
+    words.add_argument("--listen", default=HOST, metavar="<ADDRESS>")
+    words.add_argument("--console", type=number_in(1, 65535), metavar="<PORT>")
+    words.add_argument("--quiet", type=number_in(1, 2 ** 32 - 1), metavar="<SECONDS>")
+    words.add_argument("--log", action="store_true")
+    return replies.with_options(words)
+
+
+def serve(words, service=Service):
+    """Serves as the words say; the exit status."""
+    words = parser().parse_args(words)
+    institutions, store, status = replies.begun(words)
+    if status:
+        return status
+    try:
+        listener = listening(str(ipaddress.ip_address(words.listen)), words.port)
+        console = None if words.console is None else listening(HOST, words.console)
+    except (OSError, ValueError):
+        print("network", file=sys.stderr)
+        return 5
+    try:
+        print(f"ready {words.port}", flush=True)
+    except OSError:
+        sys.stdout = None
+        return 4
+    if store is not None:
+        # nobody else may have it from now on
+        store.execute("PRAGMA locking_mode = EXCLUSIVE")
+        store.executescript("BEGIN IMMEDIATE; COMMIT")
+    serving = service(Keeping(institutions, store), listener, console, words.quiet)
+    if words.turns is not None:
+        serving.rest_most = 0.001
+    while words.turns is None or words.turns > 0:
+        serving.turn()
+        if words.turns is not None:
+            words.turns -= 1
+    return 0
+
+
+def loopback(words, capture):
+    """Plays a capture, and prints what each connection was sent; the exit status."""
+    words = replies.with_options(Words(prog="dq_server loopback"), has_store=False).parse_args(words)
+    institutions, _, status = replies.begun(words)
+    if status:
+        return status
+    events = replies.read_capture(capture)
+    if isinstance(events, int):
+        print(f"capture line {events}", file=sys.stderr)
+        return 3
+    server, sent = replies.Server(institutions), {}
+    for event in events:
+        line = server.reply(*event).split(" ")
+        if event[0] == "open":
+            sent[event[1]] = ""
+        if event[0] == "piece" and line != ["ignored"]:
+            sent[event[1]] += line[1].replace("-", "")
+    for number, octets in sorted(sent.items()):
+        print(number, octets or "-")
+    return 0

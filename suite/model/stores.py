@@ -1,0 +1,249 @@
+"""Stores: the rows of all institutions in an SQLite database, as docs describe them. An independent model of the program's
+keeper, over Python's own sqlite3.
+
+A row is (kind, inst, id, above, patient, day, octets): kind 1 study, 2 series, 3 image, 4 entry, 5 step; the institution's
+name; the key, and the key of the row above it; of a study the only value of Patient ID, and the only value of Study Date as
+a number where it is a date; and the data set in Explicit VR Little Endian.
+"""
+import os
+import sqlite3
+
+import data_sets
+import matching
+import services
+from matching import element_of, only_value
+
+NO_MEMORY, STORE, WRONG_VERSION, BAD_ROWS = 1, 2, 3, 4
+STUDY, SERIES, IMAGE, ENTRY, STEP = 1, 2, 3, 4, 5
+VERSION = 1
+LONGEST_ENTRY = 16777216
+PATIENT, DATE = (0x0010, 0x0020), (0x0008, 0x0020)
+TABLES = """
+CREATE TABLE kept (kind INTEGER NOT NULL CHECK (kind BETWEEN 1 AND 5), inst TEXT NOT NULL, id BLOB NOT NULL,
+    above BLOB NOT NULL, patient BLOB, day INTEGER, octets BLOB NOT NULL, PRIMARY KEY (kind, inst, id)) STRICT;
+CREATE TABLE version (number INTEGER NOT NULL) STRICT;
+CREATE INDEX kept_above ON kept (kind, inst, above, id);
+"""
+INSERT = "INSERT INTO kept (kind, inst, id, above, patient, day, octets) VALUES (?, ?, ?, ?, ?, ?, ?)"
+SELECT = "SELECT kind, inst, id, above, patient, day, octets FROM kept ORDER BY kind, inst, id"
+
+
+class Refused(Exception):
+    """A store that is not taken, with the number of the refusal."""
+
+
+def connect(path):
+    if not path:
+        raise Refused(STORE)
+    store = sqlite3.connect(path, isolation_level=None)
+    store.text_factory = bytes
+    return store
+
+
+def labels(kind, data_set):
+    """The patient and the day of a study."""
+    if kind != STUDY:
+        return None, None
+    date = only_value(element_of(data_set, DATE))
+    is_day = date is not None and matching.day_of(date) is not None
+    return only_value(element_of(data_set, PATIENT)), int(date) if is_day else None
+
+
+def row_of(kind, name, key, above, data_set):
+    octets = data_sets.canonical(data_set, data_sets.EXPLICIT)
+    return (kind, name.encode(), key, above, *labels(kind, data_set), octets)
+
+
+def rows_of(institution):
+    """An institution's rows, in no order."""
+    records = institution.records
+    for kind, part in ((STUDY, records.studies), (SERIES, records.series), (IMAGE, records.images)):
+        for key, (above, data_set) in part.items():
+            yield row_of(kind, institution.name, key, above, data_set)
+    for kind, part in ((ENTRY, records.entries), (STEP, records.steps)):
+        for key, data_set in part.items():
+            yield row_of(kind, institution.name, key, b"", data_set)
+
+
+def shape(store):
+    """The tables of a database, with what is to be as documented of their columns, and the indexes with theirs."""
+    found = {}
+    for kind, name in store.execute("SELECT type, name FROM sqlite_schema").fetchall():
+        name = name.decode()
+        if kind == b"table":
+            columns = store.execute(f"PRAGMA table_info({name})").fetchall()
+            found[name] = [(column[1].decode(), column[2].decode(), column[3], column[5]) for column in columns]
+        elif not name.startswith("sqlite_autoindex"):
+            found[name] = [column[2].decode() for column in store.execute(f"PRAGMA index_info({name})").fetchall()]
+    return found
+
+
+def documented():
+    store = connect(":memory:")
+    store.executescript(TABLES)
+    return shape(store)
+
+
+def columns_alone(found):
+    """A shape with its indexes named by their columns."""
+    return sorted(str(columns) if isinstance(columns[0], str) else name + str(columns) for name, columns in found.items())
+
+
+def data_set_of(octets):
+    try:
+        data_set = data_sets.elements(data_sets.Octets(octets), False, data_sets.EXPLICIT, 0)
+    except data_sets.Fault:
+        raise Refused(BAD_ROWS) from None
+    if data_sets.canonical(data_set, data_sets.EXPLICIT) != octets:
+        raise Refused(BAD_ROWS)
+    return data_set
+
+
+def own_key(kind, key, data_set):
+    if kind == STEP:
+        return services.is_uid(key)
+    if kind == ENTRY:
+        steps = element_of(data_set, services.SCHEDULED_STEP)
+        step = steps[2][0] if steps is not None and len(steps[2]) == 1 else []
+        identity = only_value(element_of(step, services.STEP_ID))
+        return identity == key and 1 <= len(key) <= 16
+    tags = {STUDY: services.STUDY, SERIES: services.SERIES, IMAGE: services.IMAGE}
+    return services.only_uid(data_set, tags[kind]) == key
+
+
+def check_row(row, keys):
+    kind, name, key, above, patient, day, octets = row
+    if not STUDY <= kind <= STEP:
+        raise Refused(BAD_ROWS)
+    data_set = data_set_of(octets)
+    tags = {SERIES: services.STUDY, IMAGE: services.SERIES}
+    own_above = services.only_uid(data_set, tags[kind]) if kind in tags else b""
+    if not own_key(kind, key, data_set) or above != own_above or (patient, day) != labels(kind, data_set):
+        raise Refused(BAD_ROWS)
+    if kind in tags and (kind - 1, name, above) not in keys:
+        raise Refused(BAD_ROWS)
+    if kind == ENTRY and len(octets) > LONGEST_ENTRY:
+        raise Refused(BAD_ROWS)
+    return data_set
+
+
+def new(path):
+    """A store that is made."""
+    try:
+        store = connect(path)
+        if shape(store):
+            raise Refused(STORE)
+        store.execute("PRAGMA journal_mode = wal")
+        store.execute("PRAGMA synchronous = EXTRA")
+        store.executescript(f"BEGIN; {TABLES} INSERT INTO version VALUES ({VERSION}); COMMIT")
+    except sqlite3.Error:
+        raise Refused(STORE) from None
+    return store
+
+
+def adopt(path):
+    """A store that is taken, with its rows and their data sets."""
+    if not os.access(path, os.R_OK | os.W_OK):
+        raise Refused(STORE)
+    try:
+        store = connect(path)
+        if columns_alone(shape(store)) != columns_alone(documented()):
+            raise Refused(STORE)
+        versions = store.execute("SELECT number FROM version").fetchall()
+        rows = store.execute(SELECT).fetchall()
+        store.execute("PRAGMA busy_timeout = 0")
+        store.execute("BEGIN IMMEDIATE")
+        store.execute("COMMIT")
+    except (sqlite3.Error, UnicodeDecodeError):
+        raise Refused(STORE) from None
+    if versions != [(VERSION,)]:
+        raise Refused(WRONG_VERSION)
+    keys = {row[:3] for row in rows}
+    return store, [(row, check_row(row, keys)) for row in rows]
+
+
+def take(institutions, found):
+    """The rows of these institutions, into their records."""
+    named = {one.name.encode(): one.records for one in institutions}
+    for (kind, name, key, above, *_), data_set in found:
+        if name not in named:
+            continue
+        records = named[name]
+        if kind in (STUDY, SERIES, IMAGE):
+            part = {STUDY: records.studies, SERIES: records.series, IMAGE: records.images}[kind]
+            part[key] = (above, data_set)
+        else:
+            (records.entries if kind == ENTRY else records.steps)[key] = data_set
+
+
+class Noted(dict):
+    """Records of a kind that note which of them are changed."""
+
+    def __init__(self, kind, name, changes):
+        super().__init__()
+        self.kind, self.name, self.changes = kind, name, changes
+
+    def note(self, key):
+        self.changes.append((self.kind, self.name, key, self))
+
+    def __setitem__(self, key, value):
+        self.note(key)
+        super().__setitem__(key, value)
+
+    def setdefault(self, key, value=None):
+        if key not in self:
+            self.note(key)
+        return super().setdefault(key, value)
+
+    def pop(self, key, *default):
+        if key in self:
+            self.note(key)
+        return super().pop(key, *default)
+
+
+def noted(institutions):
+    """Makes the institutions note their changes; where they are noted."""
+    changes = []
+    for one in institutions:
+        for kind, part in enumerate(("studies", "series", "images", "entries", "steps"), STUDY):
+            held = Noted(kind, one.name, changes)
+            dict.update(held, getattr(one.records, part))
+            setattr(one.records, part, held)
+    return changes
+
+
+def edits(changes):
+    """The places that were changed, each with its row or None; they are noted no more."""
+    for kind, name, key, part in changes:
+        above, data_set = (b"", part.get(key)) if kind in (ENTRY, STEP) else part.get(key, (b"", None))
+        yield (kind, name, key), None if data_set is None else row_of(kind, name, key, above, data_set)
+    changes.clear()
+
+
+def histories(institutions, events, reply):
+    """The rows, by their places, before the first event and after each."""
+    changes, rows = noted(institutions), {}
+    yield rows
+    for event in events:
+        reply(*event)
+        for place, row in edits(changes):
+            if row is None:
+                rows.pop(place, None)
+            else:
+                rows[place] = row
+        yield rows
+
+
+def keep(store, changes):
+    """Keeps what was changed, whole or not at all."""
+    if not changes:
+        return
+    try:
+        store.execute("BEGIN IMMEDIATE")
+        for (kind, name, key), row in edits(changes):
+            store.execute("DELETE FROM kept WHERE kind = ? AND inst = ? AND id = ?", (kind, name, key))
+            if row is not None:
+                store.execute(INSERT, (row[0], name, *row[2:]))
+        store.execute("COMMIT")
+    except sqlite3.Error:
+        raise Refused(STORE) from None

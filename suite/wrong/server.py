@@ -1,0 +1,388 @@
+#!/usr/bin/env python3
+"""The server as the model plays it, but for one thing that it does wrong: server.py FAULT WORD..
+
+FAULT is `nothing` for a server that is right, or names what is wrong, with its parts joined by `:`. The words are `replay`,
+`report`, `serve` or `loopback`, and their options. suite/notices plays such servers in the suites, which have to fail.
+"""
+import io
+import signal
+import sys
+from pathlib import Path
+
+sys.path.insert(0, str(Path(__file__).resolve().parent.parent / "model"))
+
+import data_sets  # noqa: E402
+import matching  # noqa: E402
+import replies  # noqa: E402
+import services  # noqa: E402
+import serving  # noqa: E402
+import stores  # noqa: E402
+from messages import C_FIND, C_STORE, N_CREATE, N_SET, form_of  # noqa: E402
+from upper_layer import reject  # noqa: E402
+
+FIELDS = {"store": C_STORE, "find": C_FIND, "worklist": C_FIND, "create": N_CREATE, "set": N_SET}
+KINDS = ["studies", "series", "images", "entries", "steps"]
+
+
+class Stop(Exception):
+    """The server stops for all."""
+
+
+def stop_at_unreadable(service, syntax):
+    """It stops where the data set of such a message cannot be read."""
+    right = replies.Connection.served
+
+    def served(self, context, command, octets):
+        sop_class, agreed = self.contexts[context]
+        is_worklist = replies.CLASSES[sop_class] == replies.WORKLIST
+        if command.field == FIELDS[service] and is_worklist == (service == "worklist") and form_of(agreed) == syntax:
+            try:
+                data_sets.elements(data_sets.Octets(octets or b""), False, form_of(agreed), 0)
+            except data_sets.Fault:
+                raise Stop from None
+        return right(self, context, command, octets)
+
+    replies.Connection.served = served
+
+
+def limit_over_all(most):
+    """So many associations at a time are open over all institutions."""
+    right = replies.Connection.answer_first
+
+    def answer_first(self, kind, body):
+        if sum(one.live for one in self.server.institutions) >= int(most):
+            yield reject(2, 3, 2), True
+        else:
+            yield from right(self, kind, body)
+
+    replies.Connection.answer_first = answer_first
+
+
+def answers_at_most(most):
+    right = services.find
+
+    def find(*words):
+        pending, answers, last = right(*words)
+        return pending, answers[:int(most)], last
+
+    services.find = find
+
+
+def answers_in_turn():
+    """The answers come in the order in which the records were stored."""
+    right = services.find
+
+    def find(records, called, octets, syntax):
+        services.sorted = list
+        try:
+            return right(records, called, octets, syntax)
+        finally:
+            services.sorted = sorted
+
+    services.find = find
+
+
+def events_at_most(most):
+    right = replies.read_capture
+
+    def read_capture(octets):
+        events = right(octets)
+        return events if isinstance(events, int) else events[:int(most)]
+
+    replies.read_capture = read_capture
+
+
+def shares_rows():
+    """All institutions keep their rows in one place."""
+    kept = services.Records(dict.fromkeys(replies.LIMITS, 1000))
+    right = replies.Institution.__init__
+
+    def begin(self, table):
+        right(self, table)
+        self.records = kept
+
+    replies.Institution.__init__ = begin
+
+
+def keys_of(level):
+    """The keys of a level; those below an entry are named by their sequences."""
+    first, *below = level.split("/")
+    keys = matching.KEYS[first]
+    for name in below:
+        keys = keys[int(name[:4], 16), int(name[5:], 16)]
+    return keys
+
+
+def key_struck(level, tag):
+    del keys_of(level)[int(tag[:4], 16), int(tag[5:], 16)]
+
+
+def key_taken(level, tag):
+    keys_of(level)[int(tag[:4], 16), int(tag[5:], 16)] = None
+
+
+def key_not_met(tag):
+    """Every record meets the key."""
+    right = matching.meets
+
+    def meets(key, held):
+        return key[0] == (int(tag[:4], 16), int(tag[5:], 16)) or right(key, held)
+
+    matching.meets = meets
+
+
+def attribute_dropped(level, tag):
+    del matching.KEPT[level][int(tag[:4], 16), int(tag[5:], 16)]
+
+
+def report_stops_above_one():
+    right = services.Records.counts
+
+    def counts(self):
+        if max(right(self)) > 1:
+            raise Stop
+        return right(self)
+
+    services.Records.counts = counts
+
+
+def report_counts_to_one(kind):
+    right = services.Records.counts
+
+    def counts(self):
+        return [min(count, 1) if named == kind else count for named, count in zip(KINDS, right(self))]
+
+    services.Records.counts = counts
+
+
+def store_kept_late():
+    """What was changed is kept with the next change."""
+    right, late = stores.keep, []
+
+    def keep(store, changes):
+        now, changes[:] = list(changes), late
+        right(store, changes)
+        late[:] = now
+
+    stores.keep = keep
+
+
+def store_kept_by_row():
+    """Each row is kept by itself."""
+    right = stores.keep
+
+    def keep(store, changes):
+        for change in list(changes):
+            right(store, [change])
+        changes.clear()
+
+    stores.keep = keep
+
+
+def store_fault_passed_over():
+    """Where the store fails, the server goes on."""
+    right = stores.keep
+
+    def keep(store, changes):
+        try:
+            right(store, changes)
+        except stores.Refused:
+            if store.in_transaction:
+                store.execute("ROLLBACK")
+            changes.clear()
+
+    stores.keep = keep
+
+
+def store_unchecked():
+    """Rows are taken whatever they are."""
+    def check_row(row, _):
+        try:
+            return data_sets.elements(data_sets.Octets(row[6]), False, data_sets.EXPLICIT, 0)
+        except data_sets.Fault:
+            return []
+
+    stores.check_row = check_row
+
+
+def store_without_patients():
+    right = stores.labels
+    stores.labels = lambda kind, data_set: (None, right(kind, data_set)[1])
+
+
+def store_without_an_index():
+    stores.TABLES = stores.TABLES.rpartition("CREATE INDEX")[0]
+
+
+def of_service(method):
+    """A decorator for what serves over sockets in place of a method; it is given the right one."""
+    def decorate(wrong):
+        right = getattr(serving.Service, method)
+        setattr(serving.Service, method, lambda self, *words: wrong(self, right, *words))
+    return decorate
+
+
+def socket_drops_an_octet():
+    @of_service("answer")
+    def answer(self, right, wire, octets, close):
+        right(self, wire, octets[:-1], close)
+
+
+def socket_answers_another():
+    """What is answered goes to the connection that came last."""
+    @of_service("answer")
+    def answer(self, right, wire, octets, close):
+        right(self, wire, b"", close)
+        right(self, self.wires[-1], octets, close and wire is self.wires[-1])
+
+
+def socket_never_closes():
+    @of_service("answer")
+    def answer(self, right, wire, octets, _):
+        right(self, wire, octets, False)
+
+
+def socket_drops_what_waits():
+    """What is not taken at once is dropped."""
+    @of_service("write")
+    def write(self, right, wire):
+        right(self, wire)
+        wire.unsent = b""
+
+
+def socket_waits_for_one():
+    """All wait until one has taken its answer."""
+    @of_service("write")
+    def write(self, right, wire):
+        wire.stream.setblocking(True)
+        wire.stream.sendall(wire.unsent)
+        wire.stream.setblocking(False)
+        wire.unsent = b""
+
+
+def socket_holds(most):
+    serving.MOST = int(most)
+
+
+def socket_stops_at_a_reset():
+    """The server stops for all where a connection is reset."""
+    @of_service("read")
+    def read(self, right, wire):
+        try:
+            right(self, wire)
+        except ConnectionResetError:
+            raise Stop from None
+
+
+def socket_keeps_what_ended():
+    """A connection that ended stays an association, and its socket stays open."""
+    @of_service("leave")
+    def leave(self, right, wire):
+        self.wires.remove(wire)
+        self.left = [*getattr(self, "left", []), wire]
+
+
+def socket_spins():
+    right = serving.Service.__init__
+
+    def begin(self, *words):
+        right(self, *words)
+        self.rest_most = 0
+
+    serving.Service.__init__ = begin
+
+
+def socket_forgets():
+    """What was changed is kept with the tenth change from then."""
+    right, late = stores.keep, []
+
+    def keep(store, changes):
+        late.extend(changes)
+        changes[:] = late if len(late) > 40 else []
+        if changes:
+            late.clear()
+        right(store, changes)
+
+    stores.keep = keep
+
+
+def socket_ends_with(status):
+    """SIGTERM is answered by another exit status."""
+    signal.signal(signal.SIGTERM, lambda *_: sys.exit(int(status)))
+
+
+def console_forgets_orders():
+    """An order is answered, and nothing is done."""
+    @of_service("order")
+    def order(self, right, line):
+        return "done" if line.startswith("schedule NORTH") and len(line) > 100 else right(self, line)
+
+
+def console_at(address):
+    right = serving.listening
+    serving.listening = lambda host, port: right(address if host == serving.HOST else host, port)
+
+
+def loopback_sorts_by_text():
+    right = serving.loopback
+
+    def loopback(words, capture):
+        sys.stdout, told = io.StringIO(), sys.stdout
+        status = right(words, capture)
+        lines, sys.stdout = sys.stdout.getvalue().split("\n")[:-1], told
+        print("".join(f"{line}\n" for line in sorted(lines, reverse=True)), end="")
+        return status
+
+    serving.loopback = loopback
+
+
+def nothing():
+    pass
+
+
+FAULTS = {"stop-at-unreadable": stop_at_unreadable, "limit-over-all": limit_over_all, "answers-at-most": answers_at_most,
+          "answers-in-turn": answers_in_turn, "events-at-most": events_at_most, "shares-rows": shares_rows,
+          "key-struck": key_struck, "key-taken": key_taken, "key-not-met": key_not_met,
+          "attribute-dropped": attribute_dropped, "report-stops-above-one": report_stops_above_one,
+          "report-counts-to-one": report_counts_to_one, "store-kept-late": store_kept_late,
+          "store-kept-by-row": store_kept_by_row, "store-fault-passed-over": store_fault_passed_over,
+          "store-unchecked": store_unchecked, "store-without-patients": store_without_patients,
+          "store-without-an-index": store_without_an_index, "socket-drops-an-octet": socket_drops_an_octet,
+          "socket-answers-another": socket_answers_another, "socket-never-closes": socket_never_closes,
+          "socket-drops-what-waits": socket_drops_what_waits, "socket-waits-for-one": socket_waits_for_one,
+          "socket-holds": socket_holds, "socket-stops-at-a-reset": socket_stops_at_a_reset,
+          "socket-keeps-what-ended": socket_keeps_what_ended, "socket-spins": socket_spins,
+          "socket-forgets": socket_forgets, "socket-ends-with": socket_ends_with,
+          "console-forgets-orders": console_forgets_orders, "console-at": console_at,
+          "loopback-sorts-by-text": loopback_sorts_by_text, "nothing": nothing}
+
+
+def usage():
+    print("usage", file=sys.stderr)
+    return 1
+
+
+def main():
+    fault, *words = sys.argv[1:]
+    name, *parts = fault.split(":")
+    FAULTS[name](*parts)
+    options = [word.split("=")[0] for word in words if word.startswith("--")]
+    if words[:1] not in ([], ["replay"], ["report"], ["serve"], ["loopback"]) or {"--new", "--store"} <= set(options) or len(
+            options) > len(set(options)):
+        return usage()
+    try:
+        if words[:1] == ["serve"]:
+            return serving.serve(words[1:])
+        if words[:1] == ["loopback"]:
+            return serving.loopback(words[1:], sys.stdin.buffer.read())
+        sys.argv = ["replies.py", *(["--report"] if words[:1] == ["report"] else []), *words[1:]]
+        return replies.main()
+    except SystemExit as end:
+        return usage() if end.code in (0, 2) else end.code
+    except Stop:
+        print("fault 2", file=sys.stderr)
+        return 4
+
+
+if __name__ == "__main__":
+    sys.exit(main())
