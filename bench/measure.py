@@ -1,4 +1,5 @@
-"""What the measurements share: captures that are composed, and runs of the built program that are measured."""
+"""What the measurements share: captures that are composed, and runs of the built program that are measured, or of the one
+that PROGRAM names."""
 import os
 import pathlib
 import subprocess
@@ -6,9 +7,10 @@ import sys
 import tempfile
 
 TOP = pathlib.Path(__file__).resolve().parent.parent
-PROGRAM = TOP / "crates" / "dq_server" / "out" / "dq_server"
+PROGRAM = pathlib.Path(os.environ.get("PROGRAM", TOP / "crates" / "dq_server" / "out" / "dq_server"))
 CONFIGURATION = TOP / "suite" / "configurations" / "large.toml"
 MOST = 2.3
+MEDIUM = 0
 
 sys.path.insert(0, str(TOP / "suite" / "model"))
 
@@ -40,7 +42,8 @@ def message(context, field, name, elements, instance=b""):
         tag, vr = compose.tag_of(keyword)
         parts.append((tag, vr, data_sets.padded(vr, value)))
     data = data_sets.canonical(sorted(parts), data_sets.EXPLICIT)
-    command = [(0x0002, padded(compose.CLASSES[name])), (0x0100, two(field)), (0x0110, two(1)), (0x0800, two(DATA_SET))]
+    command = [(0x0002, padded(compose.CLASSES[name])), (0x0100, two(field)), (0x0110, two(1)), (0x0700, two(MEDIUM)),
+               (0x0800, two(DATA_SET))]
     if instance:
         command.append((0x1000, padded(instance)))
     return sent(context, command_set(command), data, 0)
