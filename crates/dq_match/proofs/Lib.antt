@@ -10,7 +10,9 @@ mod Places
 mod Scanning
 mod Showing
 mod ShownTags
+mod Stretches
 mod Struck
 mod Universal
 mod WildFits
+mod WordsInText
 pub mod Answering

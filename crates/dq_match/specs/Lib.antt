@@ -1,5 +1,6 @@
 pub mod Wildcards
 pub mod Scans
+pub mod Words
 pub mod Ranges
 pub mod DateBounds
 pub mod Values

@@ -13,6 +13,7 @@ mod responses;
 mod supported;
 mod values;
 mod wildcards;
+mod words;
 
 pub use answers::answer;
 pub use identifiers::is_query;

@@ -1,8 +1,11 @@
 //! Wild card matching (PS3.4 section C.2.2.2.4).
-ghost use Rattle.std.specs.Prelude.{◌≡◌};
-ghost use Rattle.dq_match.specs.Wildcards.{wild, compared, stands_for};
+ghost use Rattle.std.specs.Prelude.{◌≡◌, ◌≢◌, ℕ, ◌+◌, ◌<◌, ◌≤◌, false, length, slice_index};
+ghost use Rattle.dq_match.specs.Wildcards.{wild, compared, stands_for, any_run};
 ghost use Rattle.dq_match.specs.Scans.{IsScan, IsFirstFit};
+ghost use Rattle.dq_match.specs.Words.{IsWord};
 ghost use Rattle.dq_match.specs.declared.wildcards.Casing.TheVariants.{Exact};
+
+use crate::words::{Stretch, Word, all_stand};
 
 /// How octets are compared: each for itself, or letters of either case as one.
 #[derive(Clone, Copy, Debug, PartialEq, Eq)]
@@ -29,7 +32,7 @@ pub(crate) enum Scan<'a> {
 }
 
 impl Casing {
-    fn compared(self, octet: u8) -> u8
+    pub(crate) fn compared(self, octet: u8) -> u8
         ensures { result ≡ compared self octet }
     {
         match self {
@@ -38,7 +41,7 @@ impl Casing {
         }
     }
 
-    fn stands_for(self, wanted: u8, octet: u8) -> bool
+    pub(crate) fn stands_for(self, wanted: u8, octet: u8) -> bool
         ensures { result ≡ stands_for self wanted octet }
     {
         wanted == b'?' || self.compared(wanted) == self.compared(octet)
@@ -71,23 +74,83 @@ fn scanned<'a>(casing: Casing, pattern: &'a [u8], text: &'a [u8]) -> Scan<'a>
     }
 }
 
+/// What a start comes to: the text is gone along where the octet of the pattern's word after those
+/// that are there, and what is before the word, do not tell that the pattern does not fit.
+fn tried<'a>(
+    casing: Casing,
+    pattern: &'a [u8],
+    text: &'a [u8],
+    word: Word,
+    there: usize,
+) -> Scan<'a>
+    requires word { IsWord pattern.now word.before word.octets.now }
+    requires text { word.before + length word.octets.now ≤ length text.now }
+    ensures { IsScan casing pattern.now text.now result }
+{
+    if there < word.octets.len() {
+        let octet = text[word.before + there];
+        if casing.compared(word.octets[there]) != casing.compared(octet) {
+            return Scan::Mismatch;
+        }
+    }
+    if !all_stand(casing, pattern, text, word.before) {
+        return Scan::Mismatch;
+    }
+    scanned(casing, pattern, text)
+}
+
 /// Goes along the text from the first start at which the pattern fits up to its next asterisk.
 fn first_fit<'a>(casing: Casing, pattern: &'a [u8], text: &'a [u8]) -> Scan<'a>
     ensures { IsFirstFit casing pattern.now text.now result }
 {
+    let word = Word::of(casing, pattern);
     let mut left = text;
-    loop {
-        match scanned(casing, pattern, left) {
+    let mut stretch = Stretch::none();
+    while word.before + word.octets.len() <= left.len() {
+        let (_, ahead) = left.split_at(word.before);
+        let along = stretch.along(casing, word.octets, ahead);
+        match tried(casing, pattern, left, word, along.matched) {
             Scan::End => return Scan::End,
             Scan::Star(others, rest) => return Scan::Star(others, rest),
-            Scan::Mismatch => {
-                let Some((_, rest)) = left.split_first() else {
-                    return Scan::Mismatch;
-                };
-                left = rest;
-            }
+            Scan::Mismatch => {}
         }
+        if left.len() < along.period {
+            return Scan::Mismatch;
+        }
+        let (_, rest) = left.split_at(along.period);
+        left = rest;
+        stretch = along.shifted(casing, word.octets);
     }
+    Scan::Mismatch
+}
+
+fn has_asterisk(pattern: &[u8]) -> bool
+    ensures { result ≡ false → (k : ℕ) → k < length pattern.now
+        → slice_index pattern.now k ≢ any_run }
+{
+    pattern.iter().any(|octet| *octet == b'*')
+}
+
+/// A pattern without an asterisk fits the end of a text after some run, or none.
+fn at_end<'a>(casing: Casing, pattern: &'a [u8], text: &'a [u8]) -> Scan<'a>
+    requires { (k : ℕ) → k < length pattern.now → slice_index pattern.now k ≢ any_run }
+    ensures { IsFirstFit casing pattern.now text.now result }
+{
+    if text.len() < pattern.len() {
+        return Scan::Mismatch;
+    }
+    let (_, end) = text.split_at(text.len() - pattern.len());
+    scanned(casing, pattern, end)
+}
+
+/// Goes along the text from the first start at which what is behind an asterisk fits.
+fn behind_asterisk<'a>(casing: Casing, pattern: &'a [u8], text: &'a [u8]) -> Scan<'a>
+    ensures { IsFirstFit casing pattern.now text.now result }
+{
+    if has_asterisk(pattern) {
+        return first_fit(casing, pattern, text);
+    }
+    at_end(casing, pattern, text)
 }
 
 /// Whether the pattern fits the text, with letters compared by the casing.
@@ -96,7 +159,7 @@ pub(crate) fn wild_by(casing: Casing, pattern: &[u8], text: &[u8]) -> bool
 {
     let mut scan = scanned(casing, pattern, text);
     while let Scan::Star(others, rest) = scan {
-        scan = first_fit(casing, others, rest);
+        scan = behind_asterisk(casing, others, rest);
     }
     match scan {
         Scan::End => true,
