@@ -1,6 +1,6 @@
 -- The answers of one row after the other, and what is not computed where no key asks for it.
-use Rattle.std.proofs.Common.{◌≡◌, ℕ, Bool, true, false, cond, ◌||◌, List, [], ◌∷◌, map, Option, Some, None, option_map, is_some, Ok, Err, refl, sym, ap, ◌∙◌, arith}
-use Rattle.std.specs.List.{list_any, filter_map}
+use Rattle.std.proofs.Common.{◌≡◌, ℕ, Bool, true, false, cond, ◌||◌, List, [], ◌∷◌, Option, Some, None, option_map, is_some, Ok, Err, refl, sym, ap, ◌∙◌, arith}
+use Rattle.std.specs.List.{list_any}
 use Rattle.std.proofs.lemmas.Bool.Decides.{nat_tests}
 use Rattle.dq_vr.specs.declared.Tag.{Tag}
 use Rattle.dq_vr.specs.Tags as tags
@@ -13,16 +13,14 @@ use Rattle.dq_dataset.specs.Editing.{merged}
 use Rattle.dq_dataset.specs.Values.{element_at}
 use Rattle.dq_match.specs.Keys.{is_tag}
 use Rattle.dq_match.specs.Answers.{refused}
-use Rattle.dq_match.proofs.Answering.{given_of_each}
-use Rattle.dq_tables.specs.declared.row.Row.{Row}
 use Rattle.dq_dimse.specs.declared.command.Message.{Message}
 use Rattle.dq_dimse.specs.Statuses.{success}
-use Rattle.dq_tables.specs.Rows.{Record, of, record_of, row_of}
+use Rattle.dq_tables.specs.Rows.{Record}
 use Rattle.dq_find.specs.declared.level.Level.{Level}
 use Rattle.dq_find.specs.declared.level.Level.TheVariants.{Study, Series, Image}
 use Rattle.dq_find.specs.declared.query.Query.{Query}
 use Rattle.dq_find.specs.Computed.{study_values, series_values, computed}
-use Rattle.dq_find.specs.Queries.{told, answer_if, answer_of, answers, asked_records, asks_computed, query_of, found_by, found}
+use Rattle.dq_find.specs.Queries.{told, answer_if, answers, asks_computed, query_of, found_by, found}
 use Rattle.dq_find.proofs.Completing.{element_stays}
 use Rattle.dq_find.proofs.Agreeing.{Agree, fits_alike, shown_alike}
 

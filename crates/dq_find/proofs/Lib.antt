@@ -8,6 +8,7 @@ mod Completing
 mod Counting
 mod InOrder
 mod Looking
+mod MetFirst
 mod Matching
 mod TextFacts
 mod Asked

@@ -1,9 +1,15 @@
 -- A record that is looked up by its unique key is the only one that is asked for with that key, and
 -- the answers of the records that are looked at are those of all.
-use Rattle.std.proofs.Common.{◌≡◌, ◌≢◌, ◌↔◌, ℕ, Bool, true, false, ◌&&◌, List, [], ◌∷◌, map, find, filter, Option, Some, None, option_map, Result, Ok, Err, inl, inr, refl, sym, ap, subst, ◌∙◌, cond, if◌then◌else◌}
-use Rattle.std.specs.List.{AllByRecursion, filter_map, cons_option}
+use Rattle.std.proofs.Common.{◌≡◌, ℕ, Bool, true, false, ◌&&◌, ◌||◌, ◌⊎◌, List, [], ◌∷◌, map, find, filter, Option, Some, None, option_map, Result, Ok, Err, inl, inr, refl, sym, ap, subst, ◌∙◌, cond, if◌then◌else◌}
+use Rattle.std.specs.Global.{Vec}
+use Rattle.std.specs.BTreeSet.{insert_key}
+use Rattle.std.specs.Option.{option_to_list}
+use Rattle.std.specs.Ordering.{match_ordering}
+use Rattle.std.specs.List.{AllByRecursion, list_any, filter_map, cons_option}
+use Rattle.std.specs.List.Sorted.{IsStrictlySortedBy}
+use Rattle.std.specs.declared.cmp.Ordering.{Ordering}
 use Rattle.std.specs.Str.{bytes_eq}
-use Rattle.std.specs.declared.cmp.Ordering.TheVariants.{Less, Equal}
+use Rattle.std.specs.declared.cmp.Ordering.TheVariants.{Less, Equal, Greater}
 use Rattle.std.proofs.lemmas.Bool.{and_parts}
 use Rattle.std.proofs.lemmas.Cmp.{nat_list_cmp_total, tied_itself}
 use Rattle.std.proofs.lemmas.Slice.Eq.{bytes_eq-Decides}
@@ -22,18 +28,17 @@ use Rattle.dq_dataset.specs.Facts.{IsDataSet}
 use Rattle.dq_dataset.specs.Values.{element_at}
 use Rattle.dq_dataset.proofs.KnownVrs.{HasKnownVr, read_has_known_vrs, facts_give_known_vrs}
 use Rattle.dq_match.specs.declared.keys.Place.TheVariants.{Outer}
-use Rattle.dq_match.specs.Matching.{fits, all_met}
-use Rattle.dq_match.specs.Fitting.{EachIsMet, PeriodIsMet}
+use Rattle.dq_match.specs.Matching.{fits}
+use Rattle.dq_match.specs.Fitting.{EachIsMet}
 use Rattle.dq_match.specs.Responses.{shown}
 use Rattle.dq_match.proofs.Answering.{given_of_each}
 use Rattle.dq_tables.specs.declared.row.Kind.{Kind}
-use Rattle.dq_tables.specs.declared.row.Kind.TheVariants as kind
 use Rattle.dq_tables.specs.declared.row.Row.{Row}
 use Rattle.dq_tables.specs.Rows.{Record, IsRising, octet_order, record_of, row_of, of}
 use Rattle.dq_tables.specs.Finding.{same_kind, record_at, row_at, records_of}
 use Rattle.dq_tables.specs.Records.{AreInOrder, data_set_of}
 use Rattle.dq_tables.specs.Keys.{uid_at}
-use Rattle.dq_tables.specs.Sound.{IsSound, is_own, is_record_of, is_value, has_key, has_above, is_within}
+use Rattle.dq_tables.specs.Sound.{IsSound, is_own, is_record_of, has_key, has_above, is_within}
 use Rattle.dq_tables.proofs.Listing.{its_kind, one_kind, of_kind_to, listed_in_order, in_order_filter}
 use Rattle.dq_tables.proofs.Rising.{each_among, one_list}
 use Rattle.dq_tables.proofs.Seen.{found_own}
@@ -41,13 +46,14 @@ use Rattle.dq_find.specs.declared.level.Level.{Level}
 use Rattle.dq_find.specs.declared.level.Level.TheVariants.{Study, Series, Image}
 use Rattle.dq_find.specs.declared.query.Query.{Query}
 use Rattle.dq_find.specs.Levels.{kind_of, unique_key}
-use Rattle.dq_find.specs.Computed.{completed, computed}
-use Rattle.dq_find.specs.Queries.{key_above, told, answer_if, answer_of, answers, asked_records}
-use Rattle.dq_find.specs.Candidates.{named_uid, is_named, candidates, is_under, looked_up}
+use Rattle.dq_find.specs.Computed.{completed, computed, placed, put_in_order, all_in_order}
+use Rattle.dq_find.specs.Queries.{key_above, told, answer_of, answers, asked_records}
+use Rattle.dq_find.specs.Candidates.{own_values, names_records, has_one_of, is_named, candidates, is_under, under, looked_up, named_record, named_rows, octets_of}
 use Rattle.dq_find.proofs.Answered.{IsUnder, asked_from, asked_to, asked_in_order}
-use Rattle.dq_find.proofs.Answering.{stays, all_computed}
+use Rattle.dq_find.proofs.Answering.{stays}
 use Rattle.dq_find.proofs.Asked.{value_from}
-use Rattle.dq_find.proofs.Naming.{IsUidTag, named_alone}
+use Rattle.dq_find.proofs.Naming.{IsUidTag, named_among}
+use Rattle.dq_find.proofs.Modalities.{IsInOrder, IsBefore, all_stays, all_from, all_to}
 
 -- ---- what is given by those that pass alone
 
@@ -115,108 +121,277 @@ and_true : (a b : Bool) → a ≡ true → b ≡ true → (a && b) ≡ true
 and_true true b x y = y
 and_true false b x y = cc
 
-abbrev record_looked_up : Level → ElementList → Option Record → List Record
-record_looked_up level keys None = []
-record_looked_up level keys (Some r) = if is_under level keys r then r ∷ [] else []
+abbrev keyed : List ℕ → Record → Bool
+keyed uid r = bytes_eq r.key uid
 
-module _ (institution : List ℕ) (rows : List Row) (query : Query) (uid : List ℕ) (rising : IsRising rows) where
+both_ways : (r : Record) (b : Bool) → (if b then r ∷ [] else []) ≡ option_to_list (if b then Some r else None)
+both_ways r true = refl
+both_ways r false = refl
+
+module _ (institution : List ℕ) (rows : List Row) (query : Query) (rising : IsRising rows) where
   abbrev own : List Record
   own = of institution rows
 
   abbrev asked : List Record
   asked = asked_records own query
 
-  abbrev has_uid : Record → Bool
-  has_uid r = same_kind r.kind (kind_of query.level) && bytes_eq r.key uid
+  module _ (uid : List ℕ) where
+    abbrev has_uid : Record → Bool
+    has_uid r = same_kind r.kind (kind_of query.level) && bytes_eq r.key uid
 
-  asked_has : (r : Record) → IsAmong r (filter (is_named (Some uid)) asked)
-      → IsAmong r own × (r.kind ≡ kind_of query.level) × IsUnder query.level query.keys r × (r.key ≡ uid)
-  asked_has r h =
-      let kept = filtered_from (is_named (Some uid)) r asked h in
-      let from = asked_from query.level query.keys r own kept.0 in
-      (from.0, from.1, from.2, (bytes_eq-Decides r.key uid).0 kept.1)
+    asked_has : (r : Record) → IsAmong r (filter (keyed uid) asked)
+        → IsAmong r own × (r.kind ≡ kind_of query.level) × IsUnder query.level query.keys r × (r.key ≡ uid)
+    asked_has r h =
+        let kept = filtered_from (keyed uid) r asked h in
+        let from = asked_from query.level query.keys r own kept.0 in
+        (from.0, from.1, from.2, (bytes_eq-Decides r.key uid).0 kept.1)
 
-  asked_gets : (r : Record) → IsAmong r own → r.kind ≡ kind_of query.level → IsUnder query.level query.keys r → r.key ≡ uid
-      → IsAmong r (filter (is_named (Some uid)) asked)
-  asked_gets r a k under key =
-      among_filter (is_named (Some uid)) r asked (asked_to query.level query.keys r own a k under) ((bytes_eq-Decides r.key uid).1 key)
+    asked_gets : (r : Record) → IsAmong r own → r.kind ≡ kind_of query.level → IsUnder query.level query.keys r → r.key ≡ uid
+        → IsAmong r (filter (keyed uid) asked)
+    asked_gets r a k under key =
+        among_filter (keyed uid) r asked (asked_to query.level query.keys r own a k under) ((bytes_eq-Decides r.key uid).1 key)
 
-  passes : (r : Record) → r.kind ≡ kind_of query.level → r.key ≡ uid → has_uid r ≡ true
-  passes r k key = and_true (same_kind r.kind (kind_of query.level)) (bytes_eq r.key uid) (its_kind r.kind (kind_of query.level) k) ((bytes_eq-Decides r.key uid).1 key)
+    passes : (r : Record) → r.kind ≡ kind_of query.level → r.key ≡ uid → has_uid r ≡ true
+    passes r k key = and_true (same_kind r.kind (kind_of query.level)) (bytes_eq r.key uid) (its_kind r.kind (kind_of query.level) k) ((bytes_eq-Decides r.key uid).1 key)
 
-  found_has : (r : Record) → record_at (kind_of query.level) uid own ≡ Some r → IsAmong r own × (r.kind ≡ kind_of query.level) × (r.key ≡ uid)
-  unfolding record_at
-  found_has r h =
-      let found = found_from has_uid own r h in
-      let parts = and_parts (same_kind r.kind (kind_of query.level)) (bytes_eq r.key uid) found.1 in
-      (found.0, one_kind r.kind (kind_of query.level) parts.0, (bytes_eq-Decides r.key uid).0 parts.1)
+    found_has : (r : Record) → record_at (kind_of query.level) uid own ≡ Some r → IsAmong r own × (r.kind ≡ kind_of query.level) × (r.key ≡ uid)
+    unfolding record_at
+    found_has r h =
+        let found = found_from has_uid own r h in
+        let parts = and_parts (same_kind r.kind (kind_of query.level)) (bytes_eq r.key uid) found.1 in
+        (found.0, one_kind r.kind (kind_of query.level) parts.0, (bytes_eq-Decides r.key uid).0 parts.1)
 
-  -- an asked record with the key is the one that is found
-  same_found : (r s : Record) → IsAmong r own × (r.kind ≡ kind_of query.level) × (r.key ≡ uid) → IsAmong s (filter (is_named (Some uid)) asked) → r ≡ s
-  same_found r s found h =
-      let asked_one = asked_has s h in
-      one_key r s (records_of (kind_of query.level) own) (listed_in_order (kind_of query.level) institution rows rising)
-      (of_kind_to (kind_of query.level) r own found.0 found.1) (of_kind_to (kind_of query.level) s own asked_one.0 asked_one.1)
-      (found.2 ∙ sym asked_one.3)
+    -- an asked record with the key is the one that is found
+    same_found : (r s : Record) → IsAmong r own × (r.kind ≡ kind_of query.level) × (r.key ≡ uid) → IsAmong s (filter (keyed uid) asked) → r ≡ s
+    same_found r s found h =
+        let asked_one = asked_has s h in
+        one_key r s (records_of (kind_of query.level) own) (listed_in_order (kind_of query.level) institution rows rising)
+        (of_kind_to (kind_of query.level) r own found.0 found.1) (of_kind_to (kind_of query.level) s own asked_one.0 asked_one.1)
+        (found.2 ∙ sym asked_one.3)
 
-  listed_in : AreInOrder (filter (is_named (Some uid)) asked)
-  listed_in = in_order_filter (is_named (Some uid)) asked (asked_in_order institution rows query rising)
+    listed_in : AreInOrder (filter (keyed uid) asked)
+    listed_in = in_order_filter (keyed uid) asked (asked_in_order institution rows query rising)
 
-  none_asked : record_at (kind_of query.level) uid own ≡ None → (r : Record) → IsAmong r (filter (is_named (Some uid)) asked) → ⊥
-  unfolding record_at
-  none_asked none r h =
-      let one = asked_has r h in
-      absurd (cc (sym (none_passes has_uid own r none one.0) ∙ passes r one.1 one.3))
+    none_asked : record_at (kind_of query.level) uid own ≡ None → (r : Record) → IsAmong r (filter (keyed uid) asked) → ⊥
+    unfolding record_at
+    none_asked none r h =
+        let one = asked_has r h in
+        absurd (cc (sym (none_passes has_uid own r none one.0) ∙ passes r one.1 one.3))
 
-  one_asked : (r : Record) → record_at (kind_of query.level) uid own ≡ Some r → (b : Bool) → is_under query.level query.keys r ≡ b
-      → filter (is_named (Some uid)) asked ≡ (if b then r ∷ [] else [])
-  one_asked r is true under =
-      let found = found_has r is in
-      one_list (filter (is_named (Some uid)) asked) (r ∷ []) listed_in (tt, tt)
-      (λ s. (λ h. inl (same_found r s found h), λ h. here s h))
+    one_asked : (r : Record) → record_at (kind_of query.level) uid own ≡ Some r → (b : Bool) → is_under query.level query.keys r ≡ b
+        → filter (keyed uid) asked ≡ (if b then r ∷ [] else [])
+    one_asked r is true under =
+        let found = found_has r is in
+        one_list (filter (keyed uid) asked) (r ∷ []) listed_in (tt, tt)
+        (λ s. (λ h. inl (same_found r s found h), λ h. here s h))
+      where
+        here : (s : Record) → IsAmong s (r ∷ []) → IsAmong s (filter (keyed uid) asked)
+        here s (inl e) =
+            let found = found_has r is in
+            subst (λ (t : Record). IsAmong t (filter (keyed uid) asked)) e
+            (asked_gets r found.0 found.1 (under_is query.level query.keys r under) found.2)
+        here s (inr h) = absurd h
+    one_asked r is false under =
+        let found = found_has r is in
+        one_list (filter (keyed uid) asked) [] listed_in tt
+        (λ s. (λ h. not_under s h, λ h. absurd h))
+      where
+        not_under : (s : Record) → IsAmong s (filter (keyed uid) asked) → ⊥
+        not_under s h =
+            let found = found_has r is in
+            let same = same_found r s found h in
+            let one = asked_has s h in
+            absurd (cc (sym under ∙ ap (is_under query.level query.keys) same ∙ is_under_to query.level query.keys s one.2))
+
+    asked_by_found : (o : Option Record) → record_at (kind_of query.level) uid own ≡ o
+        → filter (keyed uid) asked ≡ option_to_list (under query.level query.keys o)
+    asked_by_found None is =
+        one_list (filter (keyed uid) asked) [] listed_in tt (λ r. (λ h. absurd (none_asked is r h), λ h. absurd h))
+    asked_by_found (Some r) is =
+        one_asked r is (is_under query.level query.keys r) refl ∙ both_ways r (is_under query.level query.keys r)
+
+    named_alone : filter (keyed uid) asked ≡ option_to_list (named_record own query uid)
+    named_alone = asked_by_found (record_at (kind_of query.level) uid own) refl
+
+    named_gives : (r : Record) → named_record own query uid ≡ Some r → IsAmong r asked × (r.key ≡ uid)
+    named_gives r is =
+        let here : IsAmong r (filter (keyed uid) asked) =
+        subst (λ (rs : List Record). IsAmong r rs) (sym (named_alone ∙ ap option_to_list is)) (inl refl) in
+        let kept = filtered_from (keyed uid) r asked here in
+        (kept.0, (bytes_eq-Decides r.key uid).0 kept.1)
+
+    only_of : (r : Record) (o : Option Record) → IsAmong r (option_to_list o) → o ≡ Some r
+    only_of r None h = absurd h
+    only_of r (Some s) (inl e) = ap (λ (t : Record). Some t) e
+    only_of r (Some s) (inr h) = absurd h
+
+    gives_named : (r : Record) → IsAmong r asked → r.key ≡ uid → named_record own query uid ≡ Some r
+    gives_named r h key =
+        only_of r (named_record own query uid)
+        (subst (λ (rs : List Record). IsAmong r rs) named_alone (among_filter (keyed uid) r asked h ((bytes_eq-Decides r.key uid).1 key)))
+
+  -- ---- what some keys name
+
+  abbrev all_named : List (List ℕ) → List Record
+  all_named uids = filter_map (named_record own query) uids
+
+  each_step : (P : Record → Type 0) (o : Option Record) (later : List Record) → ((r : Record) → o ≡ Some r → P r) → AllByRecursion P later
+      → AllByRecursion P (cons_option o later)
+  each_step P None later here rest = rest
+  each_step P (Some r) later here rest = (here r refl, rest)
+
+  each_after : (uid : List ℕ) (uids : List (List ℕ)) → AllByRecursion (IsBefore uid) uids
+      → AllByRecursion (λ (s : Record). octet_order uid s.key ≡ Less) (all_named uids)
+  each_after uid [] before = tt
+  each_after uid (next ∷ uids) before =
+      each_step (λ (s : Record). octet_order uid s.key ≡ Less) (named_record own query next) (all_named uids)
+      (λ r is. ap (octet_order uid) (named_gives next r is).1 ∙ before.0) (each_after uid uids before.1)
+
+  in_order_step : (uid : List ℕ) (o : Option Record) (later : List Record) → ((r : Record) → o ≡ Some r → r.key ≡ uid)
+      → AllByRecursion (λ (s : Record). octet_order uid s.key ≡ Less) later → AreInOrder later → AreInOrder (cons_option o later)
+  in_order_step uid None later key after ordered = ordered
+  in_order_step uid (Some r) later key after ordered =
+      (subst (λ (k : List ℕ). AllByRecursion (λ (s : Record). octet_order k s.key ≡ Less) later) (sym (key r refl)) after, ordered)
+
+  named_in_order : (uids : List (List ℕ)) → IsInOrder uids → AreInOrder (all_named uids)
+  unfolding IsStrictlySortedBy
+  named_in_order [] ordered = tt
+  named_in_order (uid ∷ uids) ordered =
+      in_order_step uid (named_record own query uid) (all_named uids) (λ r is. (named_gives uid r is).1) (each_after uid uids ordered.0)
+      (named_in_order uids ordered.1)
+
+  among_step : (r : Record) (o : Option Record) (later : List Record) → IsAmong r (cons_option o later) → (o ≡ Some r) ⊎ IsAmong r later
+  among_step r None later h = inr h
+  among_step r (Some s) later (inl e) = inl (ap (λ (t : Record). Some t) e)
+  among_step r (Some s) later (inr h) = inr h
+
+  step_among : (r : Record) (o : Option Record) (later : List Record) → (o ≡ Some r) ⊎ IsAmong r later → IsAmong r (cons_option o later)
+  step_among r None later (inl e) = absurd cc
+  step_among r None later (inr h) = h
+  step_among r (Some s) later (inl e) = inl cc
+  step_among r (Some s) later (inr h) = inr h
+
+  from_named : (r : Record) (uids : List (List ℕ)) → IsAmong r (all_named uids) → IsAmong r asked × IsAmong r.key uids
+  from_named r [] h = absurd h
+  from_named r (uid ∷ uids) h =
+      by_step (among_step r (named_record own query uid) (all_named uids) h) (λ k. from_named r uids k)
     where
-      here : (s : Record) → IsAmong s (r ∷ []) → IsAmong s (filter (is_named (Some uid)) asked)
-      here s (inl e) =
-          let found = found_has r is in
-          subst (λ (t : Record). IsAmong t (filter (is_named (Some uid)) asked)) e
-          (asked_gets r found.0 found.1 (under_is query.level query.keys r under) found.2)
-      here s (inr h) = absurd h
-  one_asked r is false under =
-      let found = found_has r is in
-      one_list (filter (is_named (Some uid)) asked) [] listed_in tt
-      (λ s. (λ h. not_under s h, λ h. absurd h))
-    where
-      not_under : (s : Record) → IsAmong s (filter (is_named (Some uid)) asked) → ⊥
-      not_under s h =
-          let found = found_has r is in
-          let same = same_found r s found h in
-          let one = asked_has s h in
-          absurd (cc (sym under ∙ ap (is_under query.level query.keys) same ∙ is_under_to query.level query.keys s one.2))
+      by_step : (named_record own query uid ≡ Some r) ⊎ IsAmong r (all_named uids) → (IsAmong r (all_named uids) → IsAmong r asked × IsAmong r.key uids)
+          → IsAmong r asked × IsAmong r.key (uid ∷ uids)
+      by_step (inl is) rest = (let gives = named_gives uid r is in (gives.0, inl (sym gives.1)))
+      by_step (inr k) rest = (let found = rest k in (found.0, inr found.1))
 
-  asked_by_found : (o : Option Record) → record_at (kind_of query.level) uid own ≡ o
-      → filter (is_named (Some uid)) asked ≡ record_looked_up query.level query.keys o
-  asked_by_found None is =
-      one_list (filter (is_named (Some uid)) asked) [] listed_in tt (λ r. (λ h. absurd (none_asked is r h), λ h. absurd h))
-  asked_by_found (Some r) is = one_asked r is (is_under query.level query.keys r) refl
+  to_named : (r : Record) (uids : List (List ℕ)) → IsAmong r asked → IsAmong r.key uids → IsAmong r (all_named uids)
+  to_named r [] h key = absurd key
+  to_named r (uid ∷ uids) h (inl e) =
+      step_among r (named_record own query uid) (all_named uids) (inl (gives_named uid r h (sym e)))
+  to_named r (uid ∷ uids) h (inr key) =
+      step_among r (named_record own query uid) (all_named uids) (inr (to_named r uids h key))
+
+  one_of_from : (key : List ℕ) (uids : List (List ℕ)) → list_any (λ uid. bytes_eq key uid) uids ≡ true → IsAmong key uids
+  one_of_from key [] h = absurd cc
+  one_of_from key (uid ∷ uids) h = by_first (bytes_eq key uid) refl h (one_of_from key uids)
+    where
+      by_first : (b : Bool) → bytes_eq key uid ≡ b → (b || list_any (λ uid. bytes_eq key uid) uids) ≡ true
+          → (list_any (λ uid. bytes_eq key uid) uids ≡ true → IsAmong key uids) → IsAmong key (uid ∷ uids)
+      by_first true is h rest = inl (sym ((bytes_eq-Decides key uid).0 is))
+      by_first false is h rest = inr (rest h)
+
+  or_right : (a b : Bool) → b ≡ true → (a || b) ≡ true
+  or_right true b h = refl
+  or_right false b h = h
+
+  one_of_to : (key : List ℕ) (uids : List (List ℕ)) → IsAmong key uids → list_any (λ uid. bytes_eq key uid) uids ≡ true
+  one_of_to key [] h = absurd h
+  one_of_to key (uid ∷ uids) (inl e) = (λ i. (bytes_eq-Decides key uid).1 (sym e) i || list_any (λ uid. bytes_eq key uid) uids)
+  one_of_to key (uid ∷ uids) (inr h) = or_right (bytes_eq key uid) _ (one_of_to key uids h)
+
+  -- the keys in their order name the records that have one of them
+  named_have_one : (values : List (List ℕ)) → all_named (all_in_order values []) ≡ filter (has_one_of values) asked
+  unfolding IsStrictlySortedBy
+  named_have_one values =
+      one_list (all_named (all_in_order values [])) (filter (has_one_of values) asked)
+      (named_in_order (all_in_order values []) (all_stays values [] tt))
+      (in_order_filter (has_one_of values) asked (asked_in_order institution rows query rising))
+      (λ r. (
+        λ h. (let found = from_named r (all_in_order values []) h in
+            among_filter (has_one_of values) r asked found.0 (one_of_to r.key values (only_left r.key values (all_from r.key values [] found.1)))),
+        λ h. (let kept = filtered_from (has_one_of values) r asked h in
+            to_named r (all_in_order values []) kept.0 (all_to r.key values [] (inl (one_of_from r.key values kept.1)))),
+      ))
+    where
+      only_left : (key : List ℕ) (values : List (List ℕ)) → IsAmong key values ⊎ IsAmong key [] → IsAmong key values
+      only_left key values (inl h) = h
+      only_left key values (inr h) = absurd h
 
 -- the same of rows
-rows_by : (institution : List ℕ) (r : Record) (b : Bool) → (if b then row_of institution r ∷ [] else []) ≡ map (row_of institution) (if b then r ∷ [] else [])
-rows_by institution r true = refl
-rows_by institution r false = refl
+rows_step : (institution : List ℕ) (o : Option Record) (later : List Record)
+    → cons_option (option_map (row_of institution) o) (map (row_of institution) later) ≡ map (row_of institution) (cons_option o later)
+rows_step institution None later = refl
+rows_step institution (Some r) later = refl
 
-rows_looked_up : (institution : List ℕ) (level : Level) (keys : ElementList) (o : Option Record)
-    → looked_up level keys (option_map (row_of institution) o) ≡ map (row_of institution) (record_looked_up level keys o)
-rows_looked_up institution level keys None = refl
-rows_looked_up institution level keys (Some r) = rows_by institution r (is_under level keys r)
+rows_are : (institution : List ℕ) (records : List Record) (query : Query) (uids : List (List ℕ))
+    → named_rows institution records query uids ≡ map (row_of institution) (filter_map (named_record records query) uids)
+rows_are institution records query [] = refl
+rows_are institution records query (uid ∷ uids) =
+    ap (cons_option (option_map (row_of institution) (named_record records query uid))) (rows_are institution records query uids)
+    ∙ rows_step institution (named_record records query uid) (filter_map (named_record records query) uids)
 
-pub looked_up_is : (institution : List ℕ) (rows : List Row) (query : Query) (uid : List ℕ) (kind : Kind) (found : Option Row) (listed : List Row) → IsRising rows
-    → kind ≡ kind_of query.level → found ≡ row_at kind institution uid rows → listed ≡ looked_up query.level query.keys found
-    → listed ≡ map (row_of institution) (filter (is_named (Some uid)) (asked_records (of institution rows) query))
-looked_up_is institution rows query uid kind found listed rising is found_is listed_is =
-    listed_is ∙ ap (looked_up query.level query.keys) (found_is ∙ ap (λ (k : Kind). row_at k institution uid rows) is
+filtered_alike : (values : List (List ℕ)) (b : Bool) → names_records values ≡ b → b ≡ true → (records : List Record)
+    → filter (has_one_of values) records ≡ filter (is_named values) records
+filtered_alike values b is named records =
+    ap (λ (t : Bool). filter (λ (r : Record). if t then has_one_of values r else true) records) (sym (is ∙ named))
+
+pub named_candidates : (institution : List ℕ) (rows : List Row) (query : Query) (uids : List (List ℕ)) → IsRising rows
+    → uids ≡ all_in_order (own_values query) [] → names_records (own_values query) ≡ true
+    → named_rows institution (of institution rows) query uids ≡ map (row_of institution) (candidates (of institution rows) query)
+named_candidates institution rows query uids rising is named =
+    rows_are institution (of institution rows) query uids
+    ∙ ap (map (row_of institution)) (ap (filter_map (named_record (of institution rows) query)) is
+    ∙ named_have_one institution rows query rising (own_values query)
+    ∙ filtered_alike (own_values query) (names_records (own_values query)) refl named (asked_records (of institution rows) query))
+
+-- a row that was looked up
+under_by : (institution : List ℕ) (r : Record) (b : Bool) → (if b then Some (row_of institution r) else None) ≡ option_map (row_of institution) (if b then Some r else None)
+under_by institution r true = refl
+under_by institution r false = refl
+
+row_under : (institution : List ℕ) (level : Level) (keys : ElementList) (o : Option Record)
+    → looked_up level keys (option_map (row_of institution) o) ≡ option_map (row_of institution) (under level keys o)
+row_under institution level keys None = refl
+row_under institution level keys (Some r) = under_by institution r (is_under level keys r)
+
+pub looked_up_is : (institution : List ℕ) (rows : List Row) (query : Query) (uid : List ℕ) (kind : Kind) (found given : Option Row)
+    → kind ≡ kind_of query.level → found ≡ row_at kind institution uid rows → given ≡ looked_up query.level query.keys found
+    → given ≡ option_map (row_of institution) (named_record (of institution rows) query uid)
+looked_up_is institution rows query uid kind found given is found_is given_is =
+    given_is ∙ ap (looked_up query.level query.keys) (found_is ∙ ap (λ (k : Kind). row_at k institution uid rows) is
     ∙ found_own (kind_of query.level) institution uid rows)
-    ∙ rows_looked_up institution query.level query.keys (record_at (kind_of query.level) uid (of institution rows))
-    ∙ ap (map (row_of institution)) (sym (asked_by_found institution rows query uid rising (record_at (kind_of query.level) uid (of institution rows)) refl))
+    ∙ row_under institution query.level query.keys (record_at (kind_of query.level) uid (of institution rows))
+
+-- a value that is put in its place
+placed_octets : (o : Ordering) (value first : Vec ℕ) (others put : List (Vec ℕ))
+    → octets_of (match_ordering o (value ∷ (first ∷ others)) (first ∷ others) (first ∷ put))
+    ≡ placed o value.items first.items (octets_of others) (octets_of put)
+placed_octets Less value first others put = refl
+placed_octets Equal value first others put = refl
+placed_octets Greater value first others put = refl
+
+put_octets : (value : Vec ℕ) (values : List (Vec ℕ))
+    → octets_of (insert_key (λ (a b : Vec ℕ). octet_order a.items b.items) values value) ≡ put_in_order value.items (octets_of values)
+unfolding put_in_order
+put_octets value [] = refl
+put_octets value (first ∷ others) =
+    placed_octets (octet_order value.items first.items) value first others (insert_key (λ (a b : Vec ℕ). octet_order a.items b.items) others value)
+    ∙ ap (placed (octet_order value.items first.items) value.items first.items (octets_of others)) (put_octets value others)
+
+pub one_more : (value : Vec ℕ) (before after : List (Vec ℕ)) (octets : List ℕ) (others left whole : List (List ℕ))
+    → after ≡ insert_key (λ (a b : Vec ℕ). octet_order a.items b.items) before value → value.items ≡ octets → left ≡ octets ∷ others
+    → all_in_order left (octets_of before) ≡ whole → all_in_order others (octets_of after) ≡ whole
+unfolding all_in_order
+one_more value before after octets others left whole put is first so_far =
+    ap (all_in_order others) (ap octets_of put ∙ put_octets value before ∙ ap (λ (o : List ℕ). put_in_order o (octets_of before)) is)
+    ∙ sym (ap (λ (vs : List (List ℕ)). all_in_order vs (octets_of before)) first) ∙ so_far
 
 -- ---- no other matches
 
@@ -241,13 +416,13 @@ row_own row own = own_by (reading Explicit row.octets) row refl own
 module _ (P : Record → Type 0) (own_has : (row : Row) → is_own row ≡ true → P (record_of row)) (r : Record) where
   own_step : (row : Row) (b : Bool) (kept : List Row) → is_own row ≡ true → (IsAmong r (map record_of kept) → P r)
       → IsAmong r (map record_of (if b then row ∷ kept else kept)) → P r
-  own_step row true kept own rest (inl e) = subst P e (own_has row own)
-  own_step row true kept own rest (inr h) = rest h
-  own_step row false kept own rest h = rest h
+  own_step row true kept its_own rest (inl e) = subst P e (own_has row its_own)
+  own_step row true kept its_own rest (inr h) = rest h
+  own_step row false kept its_own rest h = rest h
 
   own_filtered : (p : Row → Bool) (rows : List Row) → AllByRecursion (λ (row : Row). is_own row ≡ true) rows → IsAmong r (map record_of (filter p rows)) → P r
-  own_filtered p [] own h = absurd h
-  own_filtered p (row ∷ rows) own h = own_step row (p row) (filter p rows) own.0 (own_filtered p rows own.1) h
+  own_filtered p [] its_own h = absurd h
+  own_filtered p (row ∷ rows) its_own h = own_step row (p row) (filter p rows) its_own.0 (own_filtered p rows its_own.1) h
 
 own_key : (institution : List ℕ) (rows : List Row) (r : Record) → IsSound rows → IsAmong r (of institution rows) → HasOwnKey r
 unfolding of
@@ -279,30 +454,29 @@ EachAlone keys = (held : ElementList) → fits keys held ≡ true → EachIsMet 
 
 module _ (institution : List ℕ) (rows : List Row) (called : List ℕ) (query : Query) (sound : IsSound rows)
     (known : AllByRecursion HasKnownVr (elements_of query.keys)) (alone : EachAlone query.keys) where
-  not_named_by : (r : Record) (uid : List ℕ) (b : Bool) → IsAmong r (asked_records (of institution rows) query) → named_uid query ≡ Some uid
-      → bytes_eq r.key uid ≡ false → fits query.keys (completed (of institution rows) query.level r) ≡ b
+  not_named_by : (r : Record) (b : Bool) → IsAmong r (asked_records (of institution rows) query) → names_records (own_values query) ≡ true
+      → has_one_of (own_values query) r ≡ false → fits query.keys (completed (of institution rows) query.level r) ≡ b
       → option_map (told called query) (if b then Some (shown query.keys (completed (of institution rows) query.level r)) else None) ≡ None
-  not_named_by r uid true h asked other is =
+  not_named_by r true h named other is =
       let from = asked_from query.level query.keys r (of institution rows) h in
       let own = own_key institution rows r sound from.0 in
       let held = data_set_of r.octets in
-      let same = named_alone (unique_key query.level) query.keys held (completed (of institution rows) query.level r) uid r.key
-      (unique_keys_are_uids query.level) known own.0 (unique_key_stays (of institution rows) query.level r.key held) asked
+      let among = named_among (unique_key query.level) query.keys held (completed (of institution rows) query.level r) (own_values query) r.key
+      (unique_keys_are_uids query.level) known own.0 (unique_key_stays (of institution rows) query.level r.key held) refl named
       (key_is query.level r from.1 own.1) (alone (completed (of institution rows) query.level r) is) in
-      absurd (cc (sym other ∙ (bytes_eq-Decides r.key uid).1 (sym same)))
-  not_named_by r uid false h asked other is = refl
+      absurd (cc (sym other ∙ one_of_to institution rows query sound.rising r.key (own_values query) among))
+  not_named_by r false h named other is = refl
 
-  not_named : (r : Record) (named : Option (List ℕ)) → IsAmong r (asked_records (of institution rows) query) → named_uid query ≡ named
-      → is_named named r ≡ false → answer_of (of institution rows) called query r ≡ None
-  not_named r None h is other = absurd cc
-  not_named r (Some uid) h is other =
-      not_named_by r uid (fits query.keys (completed (of institution rows) query.level r)) h is other refl
+  not_named : (r : Record) (b : Bool) → names_records (own_values query) ≡ b → IsAmong r (asked_records (of institution rows) query)
+      → (if b then has_one_of (own_values query) r else true) ≡ false → answer_of (of institution rows) called query r ≡ None
+  not_named r false is h other = absurd cc
+  not_named r true is h other = not_named_by r (fits query.keys (completed (of institution rows) query.level r)) h is other refl
 
   skipped : answers (of institution rows) called query ≡ filter_map (answer_of (of institution rows) called query) (candidates (of institution rows) query)
   unfolding answers
   skipped =
-      sym (given_skipped (answer_of (of institution rows) called query) (is_named (named_uid query)) (asked_records (of institution rows) query)
-      (λ (r : Record) h other. not_named r (named_uid query) h refl other))
+      sym (given_skipped (answer_of (of institution rows) called query) (is_named (own_values query)) (asked_records (of institution rows) query)
+      (λ (r : Record) h other. not_named r (names_records (own_values query)) refl h other))
 
 -- what is answered of the rows that are looked at
 pub answered_of_candidates : (old mid : List Row) (name given called : List ℕ) (query : Query) (found seen : List Row) (answered : List ElementList)
@@ -317,13 +491,13 @@ answered_of_candidates old mid name given called query found seen answered sound
     ∙ given_of_each (λ (row : Row). answer_of (of name old) called query (record_of row)) (row_of name) (candidates (of name old) query)
     ∙ sym (skipped name old called query sound (facts_give_known_vrs 16 None query.keys facts) alone)
 
--- where no UID is given, all are looked at
-kept_all : (xs : List Record) → filter (is_named None) xs ≡ xs
+-- where none are named, all are looked at
+kept_all : (xs : List Record) → filter (λ (r : Record). true) xs ≡ xs
 kept_all [] = refl
 kept_all (x ∷ xs) = ap (λ (others : List Record). x ∷ others) (kept_all xs)
 
-pub all_candidates : (institution : List ℕ) (rows : List Row) (query : Query) → named_uid query ≡ None
+pub all_candidates : (institution : List ℕ) (rows : List Row) (query : Query) → names_records (own_values query) ≡ false
     → map (row_of institution) (asked_records (of institution rows) query) ≡ map (row_of institution) (candidates (of institution rows) query)
 all_candidates institution rows query none =
     ap (map (row_of institution)) (sym (kept_all (asked_records (of institution rows) query))
-    ∙ ap (λ (o : Option (List ℕ)). filter (is_named o) (asked_records (of institution rows) query)) (sym none))
+    ∙ ap (λ (b : Bool). filter (λ (r : Record). if b then has_one_of (own_values query) r else true) (asked_records (of institution rows) query)) (sym none))

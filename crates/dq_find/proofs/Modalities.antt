@@ -19,10 +19,10 @@ use Rattle.dq_find.specs.Modalities.{modality_limit, modalities_of, IsModalityOf
 abbrev Values : Type 0
 Values = List (List ℕ)
 
-abbrev IsInOrder : Values → Type 0
+abbrev pub IsInOrder : Values → Type 0
 IsInOrder values = IsStrictlySortedBy octet_order values
 
-abbrev IsBefore : List ℕ → List ℕ → Type 0
+abbrev pub IsBefore : List ℕ → List ℕ → Type 0
 IsBefore a b = octet_order a b ≡ Less
 
 -- ---- a value in its place
@@ -85,12 +85,12 @@ put_stays value (y ∷ ys) ordered = placed_in_order (octet_order value y) value
 
 -- ---- all values in their places
 
-all_stays : (values ys : Values) → IsInOrder ys → IsInOrder (all_in_order values ys)
+pub all_stays : (values ys : Values) → IsInOrder ys → IsInOrder (all_in_order values ys)
 unfolding all_in_order
 all_stays [] ys ordered = ordered
 all_stays (value ∷ values) ys ordered = all_stays values (put_in_order value ys) (put_stays value ys ordered)
 
-all_from : (x : List ℕ) (values ys : Values) → IsAmong x (all_in_order values ys) → IsAmong x values ⊎ IsAmong x ys
+pub all_from : (x : List ℕ) (values ys : Values) → IsAmong x (all_in_order values ys) → IsAmong x values ⊎ IsAmong x ys
 unfolding all_in_order
 all_from x [] ys h = inr h
 all_from x (value ∷ values) ys h =
@@ -99,7 +99,7 @@ all_from x (value ∷ values) ys h =
       | inr k ↦ elim (put_from x value ys k) [ inl e ↦ inl (inl e) | inr there ↦ inr there ]
     ]
 
-all_to : (x : List ℕ) (values ys : Values) → IsAmong x values ⊎ IsAmong x ys → IsAmong x (all_in_order values ys)
+pub all_to : (x : List ℕ) (values ys : Values) → IsAmong x values ⊎ IsAmong x ys → IsAmong x (all_in_order values ys)
 unfolding all_in_order
 all_to x [] ys (inl h) = absurd h
 all_to x [] ys (inr h) = h

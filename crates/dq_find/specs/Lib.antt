@@ -4,6 +4,7 @@ pub mod Modalities
 pub mod Computed
 pub mod Queries
 pub mod Candidates
+pub mod Kept
 pub mod Looking
 pub mod Answers
 pub mod Examples

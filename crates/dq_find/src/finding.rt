@@ -1,31 +1,35 @@
 //! The answers to a query (PS3.4 sections C.4.1.3 and C.6.2).
-ghost use Rattle.std.specs.Prelude.{◌≡◌, [], IfOk, Some, map, filter};
-ghost use Rattle.std.specs.List.{filter_map};
+ghost use Rattle.std.specs.Prelude.{◌≡◌, [], IfOk, map, option_map};
+ghost use Rattle.std.specs.List.{filter_map, list_all};
 ghost use Rattle.dq_match.specs.Identifiers.{HasKnownTags};
 ghost use Rattle.dq_tables.specs.Rows.{record_of, row_of};
 ghost use Rattle.dq_tables.specs.Serving.{Serves};
-ghost use Rattle.dq_find.specs.Candidates.{is_named, candidates, is_under, looked_up};
-ghost use Rattle.dq_find.specs.Computed.{computed};
+ghost use Rattle.dq_find.specs.Candidates.{names_records, candidates, is_under, named_record, named_rows, octets_of, looked_up};
+ghost use Rattle.dq_find.specs.Kept.{is_met_later, is_met};
+ghost use Rattle.dq_find.specs.Computed.{computed, all_in_order};
+ghost use Rattle.dq_value.specs.Parts.{parts};
+ghost use Rattle.dq_vr.specs.declared.Vr.TheVariants.{UI};
 ghost use Rattle.dq_find.specs.Queries.{about_answers, key_above, asks_computed, asked_records, answer_if, answer_of, found};
 ghost use Rattle.dq_tables.specs.declared.row.Row.{Row as TheRow};
 ghost use Rattle.dq_find.specs.Looking.{Looks};
 
-use crate::computed::{series_computed, study_computed};
+use crate::computed::{octets_at, series_computed, study_computed};
 use crate::level::Level;
 use crate::query::{Query, query_of};
 use crate::texts::{Text, elements};
 use dq_config::Institution;
-use dq_dataset::{DataSet, Syntax};
+use dq_dataset::{DataSet, Element, Syntax};
 use dq_dimse::Message;
 use dq_dimse::status::SUCCESS;
 use dq_list::Listed;
 use dq_match::laws::keys_are_met_alone_and_as_a_period;
-use dq_match::{Found, answer};
+use dq_match::{Found, answer, meets};
 use dq_tables::laws::honest_rows_are_sound;
 use dq_tables::{Row, TableFault, Tables, uid_at};
-use dq_value::stripped;
+use dq_value::{stripped, values};
 use dq_vr::{Tag, Vr, tags};
 use std::alloc::{AllocError, Global};
+use std::collections::BTreeSet;
 
 /// The keys that are computed (PS3.4 section C.3.4).
 static COMPUTED: [Tag; 4] = [
@@ -33,6 +37,21 @@ static COMPUTED: [Tag; 4] = [
     tags::NUMBER_OF_STUDY_RELATED_SERIES,
     tags::NUMBER_OF_STUDY_RELATED_INSTANCES,
     tags::NUMBER_OF_SERIES_RELATED_INSTANCES,
+];
+
+/// What a kept element does not meet alone: what tells how a query is answered, the keys that are
+/// computed, and the start of a procedure step, which may be met as a period.
+static MET_LATER: [Tag; 10] = [
+    tags::SPECIFIC_CHARACTER_SET,
+    tags::QUERY_RETRIEVE_LEVEL,
+    tags::RETRIEVE_AE_TITLE,
+    tags::INSTANCE_AVAILABILITY,
+    tags::MODALITIES_IN_STUDY,
+    tags::NUMBER_OF_STUDY_RELATED_SERIES,
+    tags::NUMBER_OF_STUDY_RELATED_INSTANCES,
+    tags::NUMBER_OF_SERIES_RELATED_INSTANCES,
+    tags::SCHEDULED_PROCEDURE_STEP_START_DATE,
+    tags::SCHEDULED_PROCEDURE_STEP_START_TIME,
 ];
 
 /// What every answer holds beside the keys.
@@ -116,17 +135,11 @@ impl Search<'_> {
     }
 
     /// A row that was looked up, where it is under them.
-    fn looked_up(&self, alloc: Global, row: Option<Row>) -> Result<Listed<Row>, AllocError>
-        ensures { IfOk result (λ rows. rows
-            ≡ looked_up self.now.query.now.level self.now.query.now.keys row) }
+    fn looked_up(&self, row: Option<Row>) -> Option<Row>
+        ensures { result ≡ looked_up self.now.query.now.level self.now.query.now.keys row }
     {
-        let mut rows = Listed::empty(alloc);
-        if let Some(row) = row {
-            if self.is_under(&row) {
-                rows.push(row)?;
-            }
-        }
-        Ok(rows)
+        let row = row?;
+        if self.is_under(&row) { Some(row) } else { None }
     }
 
     /// The record of the level with a unique key, where it is under the unique keys above it.
@@ -135,27 +148,51 @@ impl Search<'_> {
         alloc: Global,
         tables: &mut T,
         uid: &[u8],
-    ) -> Result<Listed<Row>, TableFault>
+    ) -> Result<Option<Row>, TableFault>
         ensures { Looks (T.state tables.old) (T.state tables.new)
-            self.now.institution.now (λ records. map (row_of self.now.institution.now)
-            (filter (is_named (Some uid.now)) (asked_records records self.now.query.now))) result }
+            self.now.institution.now
+            (λ records. option_map (row_of self.now.institution.now)
+            (named_record records self.now.query.now uid.now)) result }
     {
-        honest_rows_are_sound::<T>();
         let row = tables.row(alloc, self.query.level.kind(), self.institution, uid)?;
-        Ok(self.looked_up(alloc, row)?)
+        Ok(self.looked_up(row))
     }
 
-    /// The records that are looked at: where the query gives its level's own unique key one UID, no
-    /// other record can match.
+    /// The records of the level with some unique keys, in the order of these.
+    fn rows_named<T: Tables>(
+        &self,
+        alloc: Global,
+        tables: &mut T,
+        mut uids: BTreeSet<Vec<u8>>,
+    ) -> Result<Listed<Row>, TableFault>
+        ensures { Looks (T.state tables.old) (T.state tables.new)
+            self.now.institution.now (λ records. named_rows self.now.institution.now records
+            self.now.query.now (octets_of uids.keys)) result }
+    {
+        let mut rows = Listed::empty(alloc);
+        while let Some(uid) = uids.pop_first() {
+            let row = self.row_named(alloc, tables, uid.as_slice())?;
+            if let Some(row) = row {
+                rows.push(row)?;
+            }
+        }
+        Ok(rows)
+    }
+
+    /// The records that are looked at: where the query gives its level's own unique key values, no
+    /// record without one of them can match.
     fn rows<T: Tables>(&self, alloc: Global, tables: &mut T) -> Result<Listed<Row>, TableFault>
         ensures { Looks (T.state tables.old) (T.state tables.new)
             self.now.institution.now (λ records. map (row_of self.now.institution.now)
             (candidates records self.now.query.now)) result }
     {
-        match uid_at(&self.query.keys, self.query.level.unique_key()) {
-            Some(uid) => self.row_named(alloc, tables, uid),
-            None => self.asked_rows(alloc, tables),
+        honest_rows_are_sound::<T>();
+        let values = octets_at(&self.query.keys, self.query.level.unique_key());
+        if !names_records(values) {
+            return self.asked_rows(alloc, tables);
         }
+        let uids = uids_in_order(alloc, values)?;
+        self.rows_named(alloc, tables, uids)
     }
 
     /// What is computed of the record of the level with the key.
@@ -189,7 +226,8 @@ impl Search<'_> {
         Ok(Some(part.merged(alloc, &about)?))
     }
 
-    /// The answer that a row gives. What no key asks for is not computed.
+    /// The answer that a row gives. What no key asks for is not computed, nor what is asked of a
+    /// record that does not meet the keys that are kept.
     fn answer_of<T: Tables>(
         &self,
         alloc: Global,
@@ -202,9 +240,13 @@ impl Search<'_> {
             (λ records. answer_of records self.now.called.now self.now.query.now
             (record_of row.now)) result }
     {
+        keys_are_met_alone_and_as_a_period();
         let held = row.data_set(alloc)?;
         if !asks_computed(self.query) {
             return Ok(self.answer(alloc, &held)?);
+        }
+        if !kept_keys_are_met(self.query.keys.elements(), &held) {
+            return Ok(None);
         }
         let values = self.computed(alloc, tables, row.key.as_slice())?;
         let held = held.merged(alloc, &values)?;
@@ -235,10 +277,52 @@ impl Search<'_> {
     }
 }
 
+/// Whether values of a unique key name records: there are some, and the first is no asterisk, which
+/// every record meets where it stands alone.
+fn names_records(octets: &[u8]) -> bool
+    ensures { result ≡ names_records (parts UI octets.now) }
+{
+    match values(Vr::UI, octets).next() {
+        Some(first) => first != b"*".as_slice(),
+        None => false,
+    }
+}
+
+/// The values of a unique key in the order of their octets, each once.
+fn uids_in_order(alloc: Global, octets: &[u8]) -> Result<BTreeSet<Vec<u8>>, AllocError>
+    ensures { IfOk result (λ uids. octets_of uids.keys
+        ≡ all_in_order (parts UI octets.now) []) }
+{
+    let mut uids = BTreeSet::new(alloc);
+    let mut parts = values(Vr::UI, octets);
+    while let Some(part) = parts.next() {
+        uids.insert(Vec::from_slice(alloc, part)?)?;
+    }
+    Ok(uids)
+}
+
 fn asks_computed(query: &Query) -> bool
     ensures { result ≡ asks_computed query.now }
 {
     COMPUTED.iter().any(|tag| query.keys.get(*tag).is_some())
+}
+
+fn is_met_later(tag: Tag) -> bool
+    ensures { result ≡ is_met_later tag }
+{
+    MET_LATER.iter().any(|one| *one == tag)
+}
+
+/// Whether a record, of which nothing is computed yet, meets the keys that a kept element meets.
+fn kept_keys_are_met(keys: &[Element], held: &DataSet) -> bool
+    ensures { result ≡ list_all (is_met held.now) keys.now }
+{
+    for key in keys {
+        if !is_met_later(key.tag) && !meets(key, held.get(key.tag)) {
+            return false;
+        }
+    }
+    true
 }
 
 /// Answers a Study Root C-FIND from the records of an institution: of the query's level those that

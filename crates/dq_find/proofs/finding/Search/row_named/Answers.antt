@@ -1,7 +1,6 @@
-use Rattle.std.proofs.Common.{List, Some, map, filter}
+use Rattle.std.proofs.Common.{List, option_map}
 use Rattle.dq_tables.specs.Rows.{Record, row_of}
-use Rattle.dq_find.specs.Queries.{asked_records}
-use Rattle.dq_find.specs.Candidates.{is_named}
+use Rattle.dq_find.specs.Candidates.{named_record}
 use Rattle.dq_find.proofs.Looking.{looks_right}
 use Rattle.dq_find.proofs.LookedUp.{looked_up_is}
 use Rattle.dq_find.proofs.finding.Search.row_named.Goals as goal
@@ -13,9 +12,8 @@ returns g c =
     let name = c.args.self.now.institution.now in
     let query = c.args.self.now.query.now in
     let uid = c.args.uid.now in
-    looks_right name old new c.in_ok-row.row c.in_ok-looked_up.field-0
-    (λ (records : List Record). map (row_of name) (filter (is_named (Some uid)) (asked_records records query)))
+    looks_right name old new c.in_ok-row.row c.looked_up.result
+    (λ (records : List Record). option_map (row_of name) (named_record records query uid))
     c.in_ok-row.ensures.reads
-    (λ h. looked_up_is name old.rows query uid c.kind.result c.in_ok-row.row c.in_ok-looked_up.field-0
-    (c.honest_rows_are_sound.ensures.rising c.args.tables.now (c.in_ok-row.ensures.reads.goes.was_honest h)) c.kind.ensures
-    (c.in_ok-row.ensures.found h) c.in_ok-looked_up.ensures)
+    (λ h. looked_up_is name old.rows query uid c.kind.result c.in_ok-row.row c.looked_up.result c.kind.ensures
+    (c.in_ok-row.ensures.found h) c.looked_up.ensures)
