@@ -1,4 +1,5 @@
 mod Afterwards
+mod LookedUp
 mod Matching
 mod Orders
 mod Queries

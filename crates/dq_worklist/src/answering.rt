@@ -1,9 +1,13 @@
 //! The answers to a worklist query (PS3.4 section K.4.1.3).
-ghost use Rattle.std.specs.Prelude.{◌≡◌, List, [], IfOk};
+ghost use Rattle.std.specs.Prelude.{◌≡◌, nat_eq, ◌||◌, List, [], map, IfOk};
+ghost use Rattle.std.specs.Option.{option_copied, option_to_list};
 ghost use Rattle.std.specs.List.{filter_map};
 ghost use Rattle.dq_match.specs.Identifiers.{HasKnownTags};
 ghost use Rattle.dq_tables.specs.declared.row.Row.{Row as TheRow};
-ghost use Rattle.dq_tables.specs.Rows.{Record};
+ghost use Rattle.dq_tables.specs.Rows.{Record, of, row_of};
+ghost use Rattle.dq_tables.specs.Keeping.{Reads};
+ghost use Rattle.dq_match.specs.Wildcards.{any_run, any_one};
+ghost use Rattle.dq_worklist.specs.Candidates.{is_plain, id_asked, candidates};
 ghost use Rattle.dq_tables.specs.Serving.{Serves};
 ghost use Rattle.dq_match.specs.Answers.{answer};
 ghost use Rattle.dq_tables.specs.Records.{data_set_of};
@@ -15,9 +19,69 @@ use dq_dataset::{DataSet, Syntax};
 use dq_dimse::Message;
 use dq_dimse::status::SUCCESS;
 use dq_list::Listed;
+use dq_match::laws::keys_are_met_alone_and_as_a_period;
 use dq_match::{Found, answer};
-use dq_tables::{Row, TableFault, Tables};
+use dq_tables::laws::honest_rows_are_sound;
+use dq_tables::{Row, TableFault, Tables, sole_item_at};
+use dq_vr::tags::{SCHEDULED_PROCEDURE_STEP_ID, SCHEDULED_PROCEDURE_STEP_SEQUENCE};
 use std::alloc::{AllocError, Global};
+
+fn is_wild(octet: u8) -> bool
+    ensures { result ≡ (nat_eq octet any_run || nat_eq octet any_one) }
+{
+    octet == b'*' || octet == b'?'
+}
+
+fn is_plain(value: &[u8]) -> bool
+    ensures { result ≡ is_plain value.now }
+{
+    for octet in value {
+        if is_wild(*octet) {
+            return false;
+        }
+    }
+    true
+}
+
+/// The id of the step that the keys ask for, where it is one value without wild cards.
+#[tactic(auto, unfolding(crate::specs::Candidates::id_asked))]
+fn id_asked(keys: &DataSet) -> Option<&[u8]>
+    ensures { option_copied result ≡ id_asked keys.now }
+{
+    let step = sole_item_at(keys, SCHEDULED_PROCEDURE_STEP_SEQUENCE)?;
+    let id = step.sole_value(SCHEDULED_PROCEDURE_STEP_ID)?;
+    if is_plain(id) { Some(id) } else { None }
+}
+
+/// A row that was looked up, where there is one.
+fn listed(alloc: Global, row: Option<Row>) -> Result<Listed<Row>, AllocError>
+    ensures { IfOk result (λ rows. rows ≡ option_to_list row) }
+{
+    let mut rows = Listed::empty(alloc);
+    if let Some(row) = row {
+        rows.push(row)?;
+    }
+    Ok(rows)
+}
+
+/// The entries that are looked at: where the keys ask for one step's id, no other entry can match.
+fn candidates<T: Tables>(
+    alloc: Global,
+    tables: &mut T,
+    institution: &[u8],
+    keys: &DataSet,
+) -> Result<Listed<Row>, TableFault>
+    ensures found { (T.state tables.new).honest → IfOk result (λ rows. rows
+        ≡ map (row_of institution.now)
+        (candidates (of institution.now (T.state tables.old).rows) keys.now)) }
+    ensures reads { Reads (T.state tables.old) (T.state tables.new) result }
+{
+    let Some(id) = id_asked(keys) else {
+        return tables.entries(alloc, institution);
+    };
+    let row = tables.entry(alloc, institution, id)?;
+    Ok(listed(alloc, row)?)
+}
 
 /// The answers that rows give to the keys.
 fn answers_of(alloc: Global, keys: &DataSet, rows: &[Row]) -> Result<Listed<DataSet>, AllocError>
@@ -53,7 +117,10 @@ pub fn query<T: Tables>(
         Ok(query) => query,
         Err(status) => return Ok(Found::refused(alloc, status)),
     };
-    let rows = tables.entries(alloc, institution.name.as_slice())?;
+    query.keys.has_facts();
+    honest_rows_are_sound::<T>();
+    keys_are_met_alone_and_as_a_period();
+    let rows = candidates(alloc, tables, institution.name.as_slice(), &query.keys)?;
     let answers = answers_of(alloc, &query.keys, rows.as_slice())?;
     Ok(Found {
         status: SUCCESS,

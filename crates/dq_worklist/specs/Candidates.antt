@@ -1,0 +1,34 @@
+-- The entries that are looked at for a query. This is there for the prover: what is answered is
+-- `answers` of Queries, of all entries.
+use Rattle.std.specs.Prelude.{ℕ, Bool, not, nat_eq, ◌||◌, List, Option, Some, None}
+use Rattle.std.specs.List.{list_all}
+use Rattle.std.specs.Option.{option_to_list}
+use Rattle.dq_vr.specs.Tags.{scheduled_procedure_step_sequence, scheduled_procedure_step_id}
+use Rattle.dq_dataset.specs.Tree.{ElementList}
+use Rattle.dq_dataset.specs.Values.{sole_at}
+use Rattle.dq_match.specs.Wildcards.{any_run, any_one}
+use Rattle.dq_tables.specs.declared.row.Kind.TheVariants.{Entry}
+use Rattle.dq_tables.specs.Keys.{passing, sole_item_at}
+use Rattle.dq_tables.specs.Rows.{Record}
+use Rattle.dq_tables.specs.Finding.{records_of, record_at}
+
+-- a value has no wild card
+abbrev pub is_plain : List ℕ → Bool
+is_plain value =
+    list_all (λ octet. not (nat_eq octet any_run || nat_eq octet any_one)) value
+
+abbrev pub id_asked_in : Option ElementList → Option (List ℕ)
+id_asked_in None = None
+id_asked_in (Some step) = passing is_plain (sole_at scheduled_procedure_step_id step)
+
+-- the id of the step that a query asks for, where it is one value without wild cards
+unfoldable pub id_asked : ElementList → Option (List ℕ)
+id_asked keys = id_asked_in (sole_item_at scheduled_procedure_step_sequence keys)
+
+-- the entry with the id, where one is asked for, and all entries where none is
+abbrev pub entries_with : List Record → Option (List ℕ) → List Record
+entries_with records None = records_of Entry records
+entries_with records (Some id) = option_to_list (record_at Entry id records)
+
+abbrev pub candidates : List Record → ElementList → List Record
+candidates records keys = entries_with records (id_asked keys)
