@@ -21,9 +21,14 @@ A scene is lines like these; N is a connection, I a presentation context, M a me
 DATA is keywords of PS3.6 with values, as PatientName=DOE^A, and `Keyword= { .. } { .. }` for a sequence's items. Words
 with spaces stand in double quotes. A tag that has no keyword here is GGGGEEEE:VR=value, octets are written 0xHEX, and
 zeros:COUNT is so many zero octets. `nodata` in place of DATA sends a command without a data set. A last word `raw:HEX`
-adds octets after the data set as they are, such as no data set has.
+adds octets after the data set as they are, such as no data set has. A line that begins with a space goes on with the line
+before it.
 CLASS is echo, CR, CT, MR, US, SC, study, worklist, mpps or a UID; SYNTAX is explicit, implicit or a UID.
+
+On a line that is not understood it tells the line, the word and what was expected there, and exits with 2.
 """
+import difflib
+import re
 import shlex
 import sys
 
@@ -31,7 +36,7 @@ import data_sets
 from keywords import KEYWORDS
 from messages import (C_CANCEL, C_ECHO, C_FIND, C_STORE, DATA_SET, N_CREATE, N_SET, NO_DATA_SET, command_set, form_of,
                       padded, sent, two)
-from upper_layer import APPLICATION_CONTEXT, EXPLICIT, IMPLICIT, pdu, request_pdu
+from upper_layer import ABORT, APPLICATION_CONTEXT, EXPLICIT, IMPLICIT, RELEASE_RQ, pdu, request_pdu
 
 IMAGES = b"1.2.840.10008.5.1.4.1.1."
 CLASSES = {"echo": b"1.2.840.10008.1.1", "CR": IMAGES + b"1", "CT": IMAGES + b"2", "MR": IMAGES + b"4",
@@ -40,43 +45,129 @@ CLASSES = {"echo": b"1.2.840.10008.1.1", "CR": IMAGES + b"1", "CT": IMAGES + b"2
 SYNTAXES = {"explicit": EXPLICIT, "implicit": IMPLICIT}
 
 
-def spelled(text):
+LINES = {"open": "open N", "end": "end N", "associate": "associate N CALLED CALLING I=CLASS:SYNTAX,SYNTAX ..",
+         "echo": "echo N I M", "cancel": "cancel N I M", "store": "store N I M CLASS INSTANCE DATA",
+         "find": "find N I M CLASS DATA", "create": "create N I M INSTANCE DATA", "set": "set N I M INSTANCE DATA",
+         "release": "release N", "abort": "abort N", "piece": "piece N HEX", "schedule": "schedule NAME DATA",
+         "withdraw": "withdraw NAME ID", "cut": "cut COUNT", "join": "join"}
+OPTIONS = ("max", "version", "application")
+
+
+class Word(str):
+    """A word that knows the line that it stands on."""
+
+    def __new__(cls, text, line):
+        word = super().__new__(cls, text)
+        word.line = line
+        return word
+
+
+class BadScene(ValueError):
+    """A word that is not understood, and what was expected in its place."""
+
+    def __init__(self, word, expected):
+        shown = str(word) if len(word) <= 60 else f"{word[:60]}.."
+        super().__init__(f"'{shown}': {expected}")
+        self.line = getattr(word, "line", None)
+
+
+def words_of(text, line):
+    try:
+        return [Word(one, line) for one in shlex.split(text)]
+    except ValueError:
+        raise BadScene(Word(text.strip(), line), "a quotation is not closed") from None
+
+
+def meant(word, known):
+    """What a misspelt word may have been, as the end of a message."""
+    close = difflib.get_close_matches(word, list(known), 1)
+    return f" (is it {close[0]}?)" if close else ""
+
+
+def number_of(word, most):
+    if not re.fullmatch("[0-9]{1,10}", word) or int(word) > most:
+        raise BadScene(word, f"a number up to {most} was expected")
+    return int(word)
+
+
+def hexadecimal(word, text):
+    if not re.fullmatch("([0-9A-Fa-f]{2})*", text):
+        raise BadScene(word, "hexadecimal digits were expected, two for each octet")
+    return bytes.fromhex(text)
+
+
+def uid_of(word, name, known, what):
+    """A UID by its short name, or as it is."""
+    if name not in known and not re.fullmatch("[0-9.]+", name):
+        place = "" if word == name else f" in place of '{name}'"
+        raise BadScene(word, f"{what} was expected{place}: {', '.join(known)} or a UID{meant(name, known)}")
+    return known.get(name, name.encode())
+
+
+def spelled(text, word=None):
     if text.startswith("0x"):
-        return bytes.fromhex(text[2:])
+        return hexadecimal(word or text, text[2:])
     if text.startswith("zeros:"):
-        return bytes(int(text[6:]))
+        return bytes(number_of(text[6:] if word is None else Word(text[6:], getattr(word, "line", None)), 0xFFFFFFFF))
     return text.encode()
 
 
 def tag_of(name):
-    if name in KEYWORDS:
-        tag = KEYWORDS[name]
+    key = name.partition("=")[0]
+    if key in KEYWORDS:
+        tag = KEYWORDS[key]
         return tag, data_sets.DICTIONARY[tag]
-    number, vr = name.split(":")
-    return (int(number[:4], 16), int(number[4:], 16)), vr
+    found = re.fullmatch("([0-9A-Fa-f]{4})([0-9A-Fa-f]{4}):([A-Z]{2})", key)
+    if not found:
+        raise BadScene(name, f"Keyword=value was expected, with a keyword that is known{meant(key, KEYWORDS)}, "
+                             "or GGGGEEEE:VR=value")
+    if found[3] not in data_sets.SHORT | data_sets.LONG:
+        raise BadScene(name, f"{found[3]} is no value representation")
+    return (int(found[1], 16), int(found[2], 16)), found[3]
+
+
+def items(words, name):
+    """The items in braces that follow a sequence's name."""
+    found = []
+    while words and words[0] == "{":
+        brace = words.pop(0)
+        found.append(elements(words))
+        if not words:
+            raise BadScene(brace, f"this brace of {name} is not closed")
+        words.pop(0)
+    return found
+
+
+def elements(words):
+    """Elements up to a closing brace or the end."""
+    found, tags = [], set()
+    while words and words[0] != "}":
+        word = words.pop(0)
+        name, equals, text = word.partition("=")
+        tag, vr = tag_of(word)
+        if not equals:
+            raise BadScene(word, "an = was expected after the keyword, with a value or nothing")
+        if tag in tags:
+            raise BadScene(word, f"{name} stands a second time")
+        if vr == "SQ" and text:
+            raise BadScene(word, f"items in braces, which stand apart, were expected after {name}=")
+        tags.add(tag)
+        found.append((tag, vr, items(words, name) if vr == "SQ" else data_sets.padded(vr, spelled(text, word))))
+    return sorted(found)
 
 
 def data_set(words):
-    """Elements up to a closing brace or the end."""
-    found = []
-    while words and words[0] != "}":
-        name, _, text = words.pop(0).partition("=")
-        tag, vr = tag_of(name)
-        if vr == "SQ":
-            value = []
-            while words and words[0] == "{":
-                words.pop(0)
-                value.append(data_set(words))
-                words.pop(0)
-        else:
-            value = data_sets.padded(vr, spelled(text))
-        found.append((tag, vr, value))
-    return sorted(found)
+    """The elements that all these words spell."""
+    found = elements(words)
+    if words:
+        raise BadScene(words[0], "no brace is open here")
+    return found
 
 
 def spelled_data_set(words, syntax):
     """The octets of a data set, and those after it that are given as they are."""
-    end = bytes.fromhex(words.pop()[4:]) if words and words[-1].startswith("raw:") else b""
+    last = words.pop() if words and words[-1].startswith("raw:") else None
+    end = b"" if last is None else hexadecimal(last, last[4:])
     return data_sets.canonical(data_set(words), syntax) + end
 
 
@@ -96,14 +187,23 @@ class Scene:
         for at in range(0, max(len(octets), 1), most):
             self.lines.append(f"piece {number} {octets[at:at + most].hex() or '-'}")
 
+    def proposed(self, number, context):
+        """The class of a context of the connection's association, and its syntaxes."""
+        if (number, number_of(context, 255)) in self.contexts:
+            return self.contexts[number, int(context)]
+        there = [str(one) for connection, one in self.contexts if connection == number]
+        if not there:
+            raise BadScene(number, "a connection was expected for which a line 'associate' stands before, with contexts")
+        raise BadScene(context, f"a context was expected that connection {number} has proposed: {', '.join(there)}")
+
     def message(self, words, field, sop_class, elements):
-        number, context = words[0], int(words[1])
-        proposed, syntaxes, maximum = self.contexts[number, context]
+        number, context = words[0], number_of(words[1], 255)
+        proposed, syntaxes, _ = self.proposed(words[0], words[1])
         data = None
         if field not in (C_ECHO, C_CANCEL) and words[-1] != "nodata":
             data = spelled_data_set(elements[1], form_of(syntaxes[0]))
         kind = two(NO_DATA_SET if data is None else DATA_SET)
-        identity = (0x0120 if field == C_CANCEL else 0x0110, two(int(words[2])))
+        identity = (0x0120 if field == C_CANCEL else 0x0110, two(number_of(words[2], 0xFFFF)))
         is_set = field == N_SET
         parts = [(0x0003 if is_set else 0x0002, padded(sop_class or proposed)), (0x0100, two(field)), identity,
                  (0x0800, kind)]
@@ -112,22 +212,21 @@ class Scene:
         self.piece(number, sent(context, command_set(parts), data, 0))
 
     def associate(self, words):
-        number, called, calling = words[0], words[1].encode(), words[2].encode()
-        options, contexts, rest = {}, [], words[3:]
+        number, options, contexts, rest = words[0], {}, [], list(words[3:])
         while rest:
             word = rest.pop(0)
-            if "=" not in word:
+            if "=" in word:
+                contexts.append(proposal(word))
+            elif word in OPTIONS and rest:
                 options[word] = rest.pop(0)
-                continue
-            identity, _, proposal = word.partition("=")
-            name, _, syntaxes = proposal.partition(":")
-            syntaxes = [SYNTAXES.get(one, one.encode()) for one in syntaxes.split(",")]
-            sop_class = CLASSES.get(name, name.encode())
-            contexts.append((int(identity), sop_class, syntaxes))
-            self.contexts[number, int(identity)] = (sop_class, syntaxes, 0)
+            else:
+                raise BadScene(word, f"I=CLASS:SYNTAX,SYNTAX or one of {', '.join(OPTIONS)} with a value was expected")
+        for identity, sop_class, syntaxes in contexts:
+            self.contexts[number, identity] = (sop_class, syntaxes, 0)
         maximum = options.get("max", "16384")
-        self.piece(number, request_pdu(called, calling, contexts, None if maximum == "none" else int(maximum),
-                                       int(options.get("version", "1")),
+        self.piece(number, request_pdu(title(words[1]), title(words[2]), contexts,
+                                       None if maximum == "none" else number_of(maximum, 0xFFFFFFFF),
+                                       number_of(options.get("version", "1"), 0xFFFF),
                                        options.get("application", APPLICATION_CONTEXT.decode()).encode()))
 
     def play_line(self, line):
@@ -135,52 +234,106 @@ class Scene:
         self.play(word, words)
 
     def play(self, word, words):
+        if word not in LINES:
+            raise BadScene(word, f"no line begins so{meant(word, LINES)}")
+        check_count(word, words)
+        if word in ("schedule", "withdraw"):
+            self.order(word, words)
+        elif word == "cut":
+            self.most = number_of(words[0], 0xFFFFFFFF)
+        elif word == "join":
+            if not self.lines or not self.lines[-1].startswith("piece "):
+                raise BadScene(word, "a line with octets was expected before it")
+            self.joined = hexadecimal(word, self.lines.pop().split(" ")[2])
+        else:
+            if not re.fullmatch("#?[0-9]+", words[0]):
+                raise BadScene(words[0], "the number of a connection was expected")
+            self.play_on_connection(word, words)
+
+    def order(self, word, words):
+        """An order of the console."""
+        octets = spelled_data_set(words[1:], data_sets.EXPLICIT) if word == "schedule" else spelled(words[1])
+        self.lines.append(f"{word} {words[0]} {octets.hex() or '-'}")
+
+    def play_on_connection(self, word, words):
         if word in ("open", "end"):
             self.lines.append(f"{word} {words[0]}")
         elif word == "associate":
             self.associate(words)
-        elif word == "echo":
-            self.message(words, C_ECHO, None, (b"", []))
-        elif word == "cancel":
-            self.message(words, C_CANCEL, None, (b"", []))
-        elif word == "store":
-            self.message(words, C_STORE, CLASSES.get(words[3], words[3].encode()), (words[4].encode(), words[5:]))
-        elif word == "find":
-            self.message(words, C_FIND, CLASSES.get(words[3], words[3].encode()), (b"", words[4:]))
-        elif word in ("create", "set"):
+        elif word == "piece":
+            self.piece(words[0], b"" if words[1] == "-" else hexadecimal(words[1], words[1]))
+        elif word in ("release", "abort"):
+            self.piece(words[0], pdu(RELEASE_RQ if word == "release" else ABORT, bytes(4)))
+        elif word in ("echo", "cancel"):
+            self.message(words, C_ECHO if word == "echo" else C_CANCEL, None, (b"", []))
+        elif word in ("store", "find"):
+            sop_class = uid_of(words[3], words[3], CLASSES, "a class")
+            identity, data = (words[4].encode(), words[5:]) if word == "store" else (b"", words[4:])
+            self.message(words, C_STORE if word == "store" else C_FIND, sop_class, (identity, data))
+        else:
             field = N_CREATE if word == "create" else N_SET
             self.message(words, field, None, (b"" if words[3] == "-" else words[3].encode(), words[4:]))
-        elif word == "release":
-            self.piece(words[0], pdu(0x05, bytes(4)))
-        elif word == "abort":
-            self.piece(words[0], pdu(0x07, bytes(4)))
-        elif word == "piece":
-            self.piece(words[0], bytes.fromhex(words[1]))
-        elif word == "schedule":
-            self.lines.append(f"schedule {words[0]} {spelled_data_set(words[1:], data_sets.EXPLICIT).hex() or '-'}")
-        elif word == "withdraw":
-            self.lines.append(f"withdraw {words[0]} {words[1].encode().hex()}")
-        elif word == "cut":
-            self.most = int(words[0])
-        elif word == "join":
-            self.joined = bytes.fromhex(self.lines.pop().split(" ")[2])
-        else:
-            raise ValueError(f"no line begins with {word!r}")
+
+
+def title(word):
+    octets = word.encode()
+    if len(octets) > 16:
+        raise BadScene(word, "a title of 16 octets at most was expected")
+    return octets
+
+
+def proposal(word):
+    """A presentation context that is proposed: its id, its class, its syntaxes."""
+    identity, _, proposed = word.partition("=")
+    name, colon, syntaxes = proposed.partition(":")
+    if not re.fullmatch("[0-9]{1,3}", identity) or int(identity) > 255 or not colon:
+        raise BadScene(word, "I=CLASS:SYNTAX,SYNTAX was expected, with a number up to 255")
+    return (int(identity), uid_of(word, name, CLASSES, "a class"),
+            [uid_of(word, one, SYNTAXES, "a syntax") for one in syntaxes.split(",")])
+
+
+def check_count(word, words):
+    """As many words stand after the first one as its line has, or more where others may follow."""
+    form = LINES[word].split(" ")[1:]
+    is_open = form[-1:] in (["DATA"], [".."])
+    least = len(form) - (2 if form[-1:] == [".."] else 1 if is_open else 0)
+    if len(words) < least:
+        raise BadScene(word, f"a word is missing: {LINES[word]}")
+    if len(words) > least and not is_open:
+        raise BadScene(words[least], f"a word too many: {LINES[word]}")
+
+
+def statements(lines):
+    """Comments as they are, and the words of each other line with those of the lines that go on with it."""
+    words = []
+    for number, line in enumerate(lines, 1):
+        text = line.strip()
+        if words and text and not line[0].isspace():
+            yield words
+            words = []
+        if text.startswith("#"):
+            yield text
+        elif text:
+            words += words_of(text, number)
+    if words:
+        yield words
 
 
 def main():
     scene = Scene()
-    for number, line in enumerate(sys.stdin, 1):
-        text = line.strip()
-        if not text or text.startswith("#"):
-            if text:
-                scene.lines.append(text)
-            continue
-        try:
-            scene.play_line(text)
-        except (ValueError, IndexError, KeyError) as bad:
-            print(f"line {number}: {bad}", file=sys.stderr)
-            return 3
+    try:
+        for one in statements(sys.stdin):
+            if isinstance(one, str):
+                scene.lines.append(one)
+            else:
+                line = one[0].line
+                scene.play(one[0], one[1:])
+    except BadScene as bad:
+        print(f"line {bad.line or line}: {bad}", file=sys.stderr)
+        return 2
+    except UnicodeDecodeError as bad:
+        print(f"the scene is no text in UTF-8: {bad.reason}", file=sys.stderr)
+        return 2
     print("\n".join(scene.lines))
     return 0
 

@@ -59,10 +59,12 @@ class Fault(Exception):
 
 
 class Octets:
-    """Octets that are taken from the front, up to an end."""
+    """Octets that are taken from the front, up to an end. With `keeps_vr` an unknown tag has its value representation as it
+    is spelled, in place of UN. `begun` is what was left where the last element outside of all sequences begins.
+    """
 
-    def __init__(self, data):
-        self.data = data
+    def __init__(self, data, keeps_vr=False):
+        self.data, self.keeps_vr, self.begun = data, keeps_vr, data
 
     def take(self, count):
         if len(self.data) < count:
@@ -80,7 +82,7 @@ class Octets:
         return self.number(2), self.number(2)
 
     def within(self, length):
-        return Octets(self.take(length))
+        return Octets(self.take(length), self.keeps_vr)
 
 
 def nothing_follows(octets):
@@ -88,10 +90,14 @@ def nothing_follows(octets):
         raise Fault(BAD_ITEM)
 
 
-def elements(octets, delimited, syntax, depth):
-    """The elements of a data set or of an item, as (tag, VR, octets or items), up to the octets' end or an item end."""
-    found, last = [], None
+def elements(octets, delimited, syntax, depth, found=None):
+    """The elements of a data set or of an item, as (tag, VR, octets or items), up to the octets' end or an item end. A list
+    that is given as `found` has those before a fault.
+    """
+    found, last = [] if found is None else found, None
     while delimited or octets.data:
+        if depth == 0:
+            octets.begun = octets.data
         tag = octets.tag()
         if delimited and tag == ITEM_END:
             nothing_follows(octets)
@@ -130,7 +136,7 @@ def element(octets, tag, syntax, depth):
         part = octets if undefined else octets.within(length)
         return "SQ", items(part, undefined, inner, depth + 1)
     value = octets.take(length)
-    vr = known or "UN"
+    vr = known or octets.keeps_vr and spelled or "UN"
     return vr, padded(vr, value)
 
 

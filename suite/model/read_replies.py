@@ -8,11 +8,10 @@ words of compose.py where it has one. Other lines stay as they are.
 import sys
 
 import data_sets
-from keywords import KEYWORDS
 from messages import form_of, little
+from names import KEYWORDS_BY_TAG
 from upper_layer import ABORT, ACCEPT, IMPLICIT, P_DATA, REJECT, RELEASE_RP, big, items, uid
 
-NAMES = {tag: name for name, tag in KEYWORDS.items()}
 STATUS, KIND, NO_DATA_SET = 0x0900, 0x0800, 0x0101
 
 
@@ -24,7 +23,7 @@ def pdus(octets):
 
 
 def word(tag, vr, value):
-    name = NAMES.get(tag, f"{tag[0]:04X}{tag[1]:04X}:{vr}")
+    name = KEYWORDS_BY_TAG.get(tag, f"{tag[0]:04X}{tag[1]:04X}:{vr}")
     if vr == "SQ":
         return f"{name}= " + " ".join("{ " + " ".join(word(*one) for one in item) + " }" for item in value)
     text = value.decode("latin-1") if vr in data_sets.TEXT or vr == "UI" else "0x" + value.hex()
