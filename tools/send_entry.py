@@ -35,29 +35,21 @@ REFUSALS = {"1": "the data set is too long, or cannot be read", "2": "the entry 
             "5": "there is no such entry", "6": "no institution has the name"}
 
 
-class BadLine(Exception):
-    pass
-
-
 def words_of(lines):
-    """The words of a data set, as compose takes them."""
-    words, depth = [], 0
+    """The words of a data set, as compose takes them, each with its line."""
+    words = []
     for number, line in enumerate(lines, 1):
         line = line.strip()
         key, equals, value = (part.strip() for part in line.partition("="))
         if not line or line.startswith("#"):
             continue
         if line in ("}", "} {", "{"):
-            words += line.split()
-        elif equals and key in compose.KEYWORDS and (value == "{") == (compose.tag_of(key)[1] == "SQ"):
-            words += [f"{key}=", "{"] if value == "{" else [f"{key}={value}"]
+            parts = line.split()
+        elif value == "{":
+            parts = [f"{key}=", "{"]
         else:
-            raise BadLine(f"line {number}: {line}")
-        depth = words.count("{") - words.count("}")
-        if depth < 0:
-            raise BadLine(f"line {number}: {line}")
-    if depth:
-        raise BadLine("a brace is not closed")
+            parts = [key + equals + value]
+        words += [compose.Word(part, number) for part in parts]
     return words
 
 
@@ -87,7 +79,10 @@ def main():
     options = words.parse_args()
     try:
         answer = answer_to(order_of(options), options.host, options.port)
-    except (BadLine, OSError, UnicodeDecodeError) as error:
+    except compose.BadScene as bad:
+        print(f"line {bad.line}: {bad}", file=sys.stderr)
+        return 2
+    except (OSError, UnicodeDecodeError) as error:
         print(error, file=sys.stderr)
         return 2
     word, _, number = answer.partition(" ")

@@ -105,10 +105,13 @@ def uid_of(word, name, known, what):
 
 
 def spelled(text, word=None):
+    """The octets that a value in words stands for; `word` is what is told where they are none."""
     if text.startswith("0x"):
         return hexadecimal(word or text, text[2:])
     if text.startswith("zeros:"):
-        return bytes(number_of(text[6:] if word is None else Word(text[6:], getattr(word, "line", None)), 0xFFFFFFFF))
+        if not re.fullmatch("[0-9]{1,9}", text[6:]):
+            raise BadScene(word or text, "a count of octets was expected after zeros:")
+        return bytes(int(text[6:]))
     return text.encode()
 
 
@@ -319,22 +322,30 @@ def statements(lines):
         yield words
 
 
-def main():
+def composed(lines):
+    """The capture lines of a scene."""
     scene = Scene()
+    for one in statements(lines):
+        if isinstance(one, str):
+            scene.lines.append(one)
+            continue
+        try:
+            scene.play(one[0], one[1:])
+        except BadScene as bad:
+            bad.line = bad.line or one[0].line
+            raise
+    return scene.lines
+
+
+def main():
     try:
-        for one in statements(sys.stdin):
-            if isinstance(one, str):
-                scene.lines.append(one)
-            else:
-                line = one[0].line
-                scene.play(one[0], one[1:])
+        print("\n".join(composed(sys.stdin)))
     except BadScene as bad:
-        print(f"line {bad.line or line}: {bad}", file=sys.stderr)
+        print(f"line {bad.line}: {bad}", file=sys.stderr)
         return 2
     except UnicodeDecodeError as bad:
         print(f"the scene is no text in UTF-8: {bad.reason}", file=sys.stderr)
         return 2
-    print("\n".join(scene.lines))
     return 0
 
 

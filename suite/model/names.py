@@ -7,6 +7,7 @@ from keywords import KEYWORDS
 # PS3.8 section 9.3.1, table 9-10 and those after it: the types of PDUs
 PDUS = {0x01: "A-ASSOCIATE-RQ", 0x02: "A-ASSOCIATE-AC", 0x03: "A-ASSOCIATE-RJ", 0x04: "P-DATA-TF", 0x05: "A-RELEASE-RQ",
         0x06: "A-RELEASE-RP", 0x07: "A-ABORT"}
+PDU_SECTIONS = {kind: f"9.3.{kind + 1}" for kind in PDUS}
 
 # PS3.8 section 9.3.3.2, table 9-18: results of presentation contexts
 CONTEXT_RESULTS = {0: "acceptance", 1: "user-rejection", 2: "no-reason", 3: "abstract-syntax-not-supported",

@@ -3,6 +3,7 @@
 What a capture sends is a scene in the words of compose.py, with the PDUs by their names of the standard as comments; replies
 are these names. Octets that are not understood stand in hexadecimal, so that none is lost.
 """
+import itertools
 import re
 
 import compose
@@ -24,6 +25,10 @@ COMMAND_FIELD, MESSAGE_ID, RESPONDED_TO, DATA_SET_TYPE, STATUS = 0x0100, 0x0110,
 CLASS_ELEMENTS, INSTANCE_ELEMENTS = (0x0002, 0x0003), (0x1000, 0x1001)
 TOLD = {0x0000, COMMAND_FIELD, MESSAGE_ID, RESPONDED_TO, DATA_SET_TYPE, STATUS, *CLASS_ELEMENTS, *INSTANCE_ELEMENTS}
 STEP = "    "
+
+
+def counted(count):
+    return "1 octet" if count == 1 else f"{count} octets"
 
 
 def quoted(text):
@@ -115,7 +120,7 @@ class Command:
         self.field = self.number(COMMAND_FIELD)
         self.is_response = self.field is not None and bool(self.field & 0x8000)
         self.identity = self.number(RESPONDED_TO if self.is_response or self.field == C_CANCEL else MESSAGE_ID)
-        self.has_data = self.number(DATA_SET_TYPE) != NO_DATA_SET
+        self.has_data = self.number(DATA_SET_TYPE) not in (None, NO_DATA_SET)
         self.sop_class, self.instance = self.first_of(CLASS_ELEMENTS), self.first_of(INSTANCE_ELEMENTS)
 
     def number(self, element):
@@ -207,7 +212,7 @@ def abort_line(body):
 
 def value_text(context, control, fragment):
     """A presentation data value (PS3.8 section 9.3.5.1 and annex E.2)."""
-    return f"context {context}, {'command' if control & 1 else 'data'}{', last' if control & 2 else ''}, {len(fragment)} octets"
+    return f"context {context}, {'command' if control & 1 else 'data'}{', last' if control & 2 else ''}, {counted(len(fragment))}"
 
 
 class Unit:
@@ -222,6 +227,12 @@ class Unit:
     def unread(self, line):
         self.lines.append(line)
         self.is_unread = True
+
+    def told(self):
+        """The lines, with equal ones that follow each other as one."""
+        for line, equals in itertools.groupby(self.lines):
+            count = len(list(equals))
+            yield line if count == 1 else f"{line} ({count} times)"
 
 
 class Side:
@@ -273,7 +284,7 @@ class Side:
             name = names.PDUS.get(self.octets[0])
             what = "after what is no PDU" if self.is_lost else f"of a {name} that is not whole" if name else \
                 f"of type {self.octets[0]:02X}H, which no PDU has"
-            self.unit.unread(f"{len(self.octets)} octets {what}")
+            self.unit.unread(f"{counted(len(self.octets))} {what}")
         self.unit.octets += self.octets
         self.unit.statement, self.octets = None, bytearray()
         self.begin_message()
@@ -295,7 +306,8 @@ class Side:
             if is_first:
                 unit.statement = self.connection.statement_of(kind, body)
         except (BadPdu, IndexError):
-            unit.unread(f"{names.PDUS[kind]} of {len(whole)} octets that is malformed")
+            unit.unread(f"{names.PDUS[kind]} of {counted(len(whole))} that is malformed "
+                        f"(PS3.8 section {names.PDU_SECTIONS[kind]})")
             self.begin_message()
 
     def add_values(self, values):
@@ -435,6 +447,8 @@ def octets_of(text):
 class Shown:
     """Lines of captures and of replies, in any order, each with the readable lines for it."""
 
+    FORMS = {"open": "open N", "end": "end N", "piece": "piece N HEX", "schedule": "schedule NAME HEX",
+             "withdraw": "withdraw NAME HEX"}
     AS_THEY_ARE = r"(done|ignored|stopped|network|(refused|fault|config|store|capture line|ready) [0-9]+)"
 
     def __init__(self, is_exact=False):
@@ -456,21 +470,23 @@ class Shown:
             return self.order(word, words[0], octets_of(words[1]))
         if word.isdecimal() and len(words) in (1, 2) and words[1:] in ([], ["close"]):
             return self.reply(word, octets_of(words[0]), words[1:])
-        raise BadLine("this is no line of a capture, and none of replies")
+        if word in self.FORMS:
+            raise BadLine(f"{self.FORMS[word]} was expected")
+        raise BadLine(f"'{word[:60]}' begins no line of a capture, and none of replies")
 
     def piece(self, number, octets):
         if not octets:
             return [f"piece {number} -"]
         sent = self.connection(number).sent
         lines = self.unit_lines(number, list(sent.taken(octets)))
-        return lines if sent.is_whole() else [*lines, f"# {number} {len(octets)} octets, and more of the message is to come"]
+        return lines if sent.is_whole() else [*lines, f"# {number} {counted(len(octets))}, and more of the message is to come"]
 
     def unit_lines(self, number, units):
         """What was sent, as a scene."""
         lines = []
         for at, unit in enumerate(units):
             lines += ["join"] if at else []
-            lines += [f"#{one}" if one.startswith(STEP) else f"# {number} {one}" for one in unit.lines]
+            lines += [f"#{one}" if one.startswith(STEP) else f"# {number} {one}" for one in unit.told()]
             lines += self.scene_lines(number, unit)
         return lines
 
@@ -505,7 +521,7 @@ class Shown:
 
     @staticmethod
     def answer_lines(number, unit):
-        lines = [one if one.startswith(STEP) else f"{number} {one}" for one in unit.lines]
+        lines = [one if one.startswith(STEP) else f"{number} {one}" for one in unit.told()]
         return [*lines, *unit.data, *([f"{STEP}octets {unit.octets.hex()}"] if unit.is_unread else [])]
 
     def rest(self):
