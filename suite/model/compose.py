@@ -147,6 +147,8 @@ def elements(words):
     while words and words[0] != "}":
         word = words.pop(0)
         name, equals, text = word.partition("=")
+        if word == "{":
+            raise BadScene(word, "items stand after the keyword of a sequence alone")
         tag, vr = tag_of(word)
         if not equals:
             raise BadScene(word, "an = was expected after the keyword, with a value or nothing")

@@ -48,6 +48,9 @@ COMMAND_ELEMENTS = {
     0x1023: "NumberOfWarningSuboperations", 0x1030: "MoveOriginatorApplicationEntityTitle",
     0x1031: "MoveOriginatorMessageID"}
 
+# PS3.7 annex E.1, table E.1-1: priorities
+PRIORITIES = {0: "medium", 1: "high", 2: "low"}
+
 # PS3.7 annex C: statuses of all services
 STATUSES = {
     0x0000: "success", 0x0105: "no such attribute", 0x0106: "invalid attribute value", 0x0107: "attribute list error",
