@@ -256,7 +256,10 @@ class Scene:
         else:
             if not re.fullmatch("#?[0-9]+", words[0]):
                 raise BadScene(words[0], "the number of a connection was expected")
-            self.play_on_connection(word, words)
+            try:
+                self.play_on_connection(word, words)
+            except OverflowError:
+                raise BadScene(word, "words were expected for which the lengths of a PDU have room") from None
 
     def order(self, word, words):
         """An order of the console."""
