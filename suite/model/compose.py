@@ -43,8 +43,7 @@ CLASSES = {"echo": b"1.2.840.10008.1.1", "CR": IMAGES + b"1", "CT": IMAGES + b"2
            "US": IMAGES + b"6.1", "SC": IMAGES + b"7", "study": b"1.2.840.10008.5.1.4.1.2.2.1",
            "worklist": b"1.2.840.10008.5.1.4.31", "mpps": b"1.2.840.10008.3.1.2.3.3"}
 SYNTAXES = {"explicit": EXPLICIT, "implicit": IMPLICIT}
-
-
+# the words that a line has, by its first one
 LINES = {"open": "open N", "end": "end N", "associate": "associate N CALLED CALLING I=CLASS:SYNTAX,SYNTAX ..",
          "echo": "echo N I M", "cancel": "cancel N I M", "store": "store N I M CLASS INSTANCE DATA",
          "find": "find N I M CLASS DATA", "create": "create N I M INSTANCE DATA", "set": "set N I M INSTANCE DATA",

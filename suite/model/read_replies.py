@@ -3,7 +3,7 @@
 
 It prints a line for each, with its number, what each PDU of the reply is, and `close`: `accepted` with the result of each
 context; `rejected` and `aborted` with their numbers; `released`; and for each response its status, with its data set in the
-words of compose.py where it has one. Other lines stay as they are.
+words of compose.py where it has one. Other lines stay as they are. It is what suites count; tools/show shows all to people.
 """
 import sys
 
