@@ -210,7 +210,7 @@ def longest_request(kind):
     def request():
         proposed = item(0x30, compose.CLASSES["echo"]) + item(0x40, IMPLICIT)
         name = item(0x10, APPLICATION_CONTEXT.rstrip())
-        room = LONGEST_PDU - 68 - len(name) - 4 - len(item(0x51, bytes(4)))
+        room = LONGEST_PDU - 68 - len(name) - 4 - len(item(0x51, bytes(4))) - 8
         if kind == "syntaxes":
             each = (room - 128 * (8 + len(proposed))) // 128 // 4
             parts = b"".join(item(0x20, bytes([2 * at + 1, 0, 0, 0]) + proposed + item(0x40, b"") * each) for at in range(128))
@@ -218,8 +218,8 @@ def longest_request(kind):
             parts = item(0x20, bytes([1, 0, 0, 0]) + proposed)
         user = item(0x51, bytes(4)) + (item(0x54, b"") * ((room - len(parts)) // 4) if kind == "sub-items" else b"")
         body = name + parts + item(0x50, user)
-        left = LONGEST_PDU - 68 - len(body)
-        body += item(0x60, b"") * (left // 4 - 1) + (item(0x60, bytes(left % 4)) if left >= 4 else b"")
+        body += item(0x60, b"") * ((LONGEST_PDU - 68 - len(body)) // 4 - 1)
+        body += item(0x60, bytes(LONGEST_PDU - 68 - len(body) - 4))
         return pdu(REQUEST, b"\0\1\0\0" + b"ARCHIVE".ljust(16) + b"MODALITY".ljust(16) + bytes(32) + body)
     return request
 
