@@ -340,7 +340,7 @@ def changed_step(group):
 
 def small_changes(count):
     """Small changes of a step with so many elements."""
-    step = step_of(data_sets.IMPLICIT, in_group(0x0011, 1, count))
+    step = step_of(data_sets.IMPLICIT, numbered(count, bytes(4)))
     before = [*begun(), line_of(1, message(9, N_CREATE, "mpps", step, b"1.2.3"))]
     sent_octets = message(9, N_SET, "mpps", elements(*keyed(PerformedProcedureStepDescription=b"KNEE")), b"1.2.3")
     return Made(before, [line_of(1, sent_octets)] * 10, 10 * len(sent_octets), counts_of(s0000=10))
