@@ -393,16 +393,6 @@ def looks_at_all_held():
         return right(self, word, subject, octets)
 
 
-def keeps_every_piece(times):
-    """Each piece is kept, so many times."""
-    kept = []
-
-    @around_replies
-    def reply(right, self, word, subject, octets):
-        kept.extend(bytes(bytearray(octets)) for _ in range(int(times)))
-        return right(self, word, subject, octets)
-
-
 def dear_pdus():
     """A PDU costs the square of its length."""
     right = replies.next_pdu
@@ -471,7 +461,7 @@ FAULTS = {"stop-at-unreadable": stop_at_unreadable, "limit-over-all": limit_over
           "console-forgets-orders": console_forgets_orders, "console-at": console_at,
           "loopback-sorts-by-text": loopback_sorts_by_text, "abort-reason": abort_reason,
           "drops-the-rest": drops_the_rest, "fragments-at-most": fragments_at_most, "opens-at-most": opens_at_most,
-          "looks-at-all-held": looks_at_all_held, "keeps-every-piece": keeps_every_piece, "dear-pdus": dear_pdus,
+          "looks-at-all-held": looks_at_all_held, "dear-pdus": dear_pdus,
           "longest-pdu": longest_pdu, "socket-waits-for-whole-pdus": socket_waits_for_whole_pdus,
           "socket-reads-on": socket_reads_on, "nothing": nothing}
 
