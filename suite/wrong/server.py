@@ -13,12 +13,14 @@ sys.path.insert(0, str(Path(__file__).resolve().parent.parent / "model"))
 
 import data_sets  # noqa: E402
 import matching  # noqa: E402
+import messages  # noqa: E402
 import replies  # noqa: E402
 import services  # noqa: E402
 import serving  # noqa: E402
 import stores  # noqa: E402
+import upper_layer  # noqa: E402
 from messages import C_FIND, C_STORE, N_CREATE, N_SET, form_of  # noqa: E402
-from upper_layer import reject  # noqa: E402
+from upper_layer import INVALID, BadPdu, reject  # noqa: E402
 
 FIELDS = {"store": C_STORE, "find": C_FIND, "worklist": C_FIND, "create": N_CREATE, "set": N_SET}
 KINDS = ["studies", "series", "images", "entries", "steps"]
@@ -336,6 +338,109 @@ def loopback_sorts_by_text():
     serving.loopback = loopback
 
 
+def abort_reason(wrong):
+    """An association that is aborted is told another reason."""
+    right = replies.abort
+    replies.abort = lambda source, reason: right(source, int(wrong) if source == 2 else reason)
+
+
+def drops_the_rest():
+    """What a piece leaves of a PDU is dropped."""
+    right = replies.Connection.feed
+
+    def feed(self, piece):
+        answer = right(self, piece)
+        self.rest = b""
+        return answer
+
+    replies.Connection.feed = feed
+
+
+def fragments_at_most(most):
+    """A message of more fragments breaks the protocol."""
+    right = messages.Assembler.take
+
+    def take(self, context, control, fragment):
+        message = right(self, context, control, fragment)
+        self.count = 0 if message is not None else getattr(self, "count", 0) + 1
+        if self.count > int(most):
+            raise BadPdu(INVALID)
+        return message
+
+    messages.Assembler.take = take
+
+
+def opens_at_most(most):
+    """The server stops where so many connections are held."""
+    @around_replies
+    def reply(right, self, word, subject, octets):
+        if word == "open" and len(self.held) >= int(most):
+            raise Stop
+        return right(self, word, subject, octets)
+
+
+def around_replies(wrong):
+    right = replies.Server.reply
+    replies.Server.reply = lambda *words: wrong(right, *words)
+
+
+def looks_at_all_held():
+    """Each event looks at every connection that is held."""
+    @around_replies
+    def reply(right, self, word, subject, octets):
+        for _ in range(10):
+            sum(self.held)
+        return right(self, word, subject, octets)
+
+
+def dear_pdus():
+    """A PDU costs the square of its length."""
+    right = replies.next_pdu
+
+    def next_pdu(octets):
+        taken = right(octets)
+        if taken is not None:
+            length = len(octets) - len(taken[2])
+            for _ in range(length // 100):
+                octets[:length].count(1)
+        return taken
+
+    replies.next_pdu = next_pdu
+
+
+def longest_pdu(most):
+    """Another length is the greatest that is taken."""
+    upper_layer.LONGEST_PDU = int(most)
+
+
+def socket_waits_for_whole_pdus():
+    """All wait until what one sends is whole."""
+    @of_service("read")
+    def read(self, right, wire):
+        right(self, wire)
+        wire.stream.setblocking(True)
+        while wire in self.wires and not wire.closed and self.keeping.server.held[wire.number].rest:
+            right(self, wire)
+        if wire in self.wires:
+            wire.stream.setblocking(False)
+
+
+def socket_reads_on():
+    """More is read of one whose answers are waiting."""
+    @of_service("wait")
+    def wait(self, right):
+        self.rest_most = 0.001
+        return right(self) | {wire.stream for wire in self.wires}
+
+    @of_service("serve")
+    def serve(self, right, wire):
+        right(self, wire)
+        if wire in self.wires and wire.unsent and not wire.closed:
+            unsent, wire.unsent = wire.unsent, b""
+            right(self, wire)
+            wire.unsent = unsent + wire.unsent
+
+
 def nothing():
     pass
 
@@ -354,7 +459,11 @@ FAULTS = {"stop-at-unreadable": stop_at_unreadable, "limit-over-all": limit_over
           "socket-keeps-what-ended": socket_keeps_what_ended, "socket-spins": socket_spins,
           "socket-forgets": socket_forgets, "socket-ends-with": socket_ends_with,
           "console-forgets-orders": console_forgets_orders, "console-at": console_at,
-          "loopback-sorts-by-text": loopback_sorts_by_text, "nothing": nothing}
+          "loopback-sorts-by-text": loopback_sorts_by_text, "abort-reason": abort_reason,
+          "drops-the-rest": drops_the_rest, "fragments-at-most": fragments_at_most, "opens-at-most": opens_at_most,
+          "looks-at-all-held": looks_at_all_held, "dear-pdus": dear_pdus,
+          "longest-pdu": longest_pdu, "socket-waits-for-whole-pdus": socket_waits_for_whole_pdus,
+          "socket-reads-on": socket_reads_on, "nothing": nothing}
 
 
 def usage():

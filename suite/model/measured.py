@@ -1,0 +1,72 @@
+"""What runs of a program cost: the seconds of the processor, and the resident memory at most.
+
+A process that runs another one counts its own memory to it, so that a small one stands between.
+"""
+import os
+import pathlib
+import subprocess
+import sys
+import tempfile
+
+# after so many seconds of the processor a run is ended
+LONGEST = 40
+LAUNCHER = """
+import os, resource, sys
+resource.setrlimit(resource.RLIMIT_CPU, (int(sys.argv[1]), int(sys.argv[1])))
+files = [(os.POSIX_SPAWN_OPEN, 0, sys.argv[2], os.O_RDONLY, 0),
+         (os.POSIX_SPAWN_OPEN, 1, sys.argv[3], os.O_WRONLY | os.O_CREAT | os.O_TRUNC, 0o600)]
+child = os.posix_spawn(sys.argv[4], sys.argv[4:], os.environ, file_actions=files)
+_, status, used = os.wait4(child, 0)
+print(os.waitstatus_to_exitcode(status), used.ru_utime + used.ru_stime, used.ru_maxrss)
+"""
+
+
+class Cost:
+    """What a run came to."""
+
+    def __init__(self, status, seconds, megabytes):
+        self.status, self.seconds, self.megabytes = status, seconds, megabytes
+
+    def __str__(self):
+        return f"exit {self.status}, {self.seconds:.3f} s, {self.megabytes:.1f} MB"
+
+
+def measured(words, capture, out):
+    """Runs a program on the file of a capture, with its output in another."""
+    command = [sys.executable, "-S", "-E", "-c", LAUNCHER, str(LONGEST), str(capture), str(out), *map(str, words)]
+    told = subprocess.run(command, capture_output=True, text=True, check=False).stdout.split("\n")[0].split(" ")
+    if len(told) != 3:
+        return Cost(None, 0.0, 0.0)
+    return Cost(int(told[0]), float(told[1]), int(told[2]) / 1024)
+
+
+class Play:
+    """A capture that is run again and again: the least that it costs, and what it is answered."""
+
+    def __init__(self, words, lines):
+        self.words = words
+        self.folder = tempfile.TemporaryDirectory()
+        self.capture, self.out = (pathlib.Path(self.folder.name) / name for name in ("capture", "out"))
+        with open(self.capture, "w", encoding="ascii") as file:
+            file.writelines(lines)
+        self.cost = None
+
+    def run(self, times=1):
+        for _ in range(times):
+            cost = measured(self.words, self.capture, self.out)
+            if self.cost is not None:
+                cost = Cost(max(cost.status or 0, self.cost.status or 0), min(cost.seconds, self.cost.seconds),
+                            min(cost.megabytes, self.cost.megabytes))
+            self.cost = cost
+        return self.cost
+
+    def answers(self):
+        with open(self.out, encoding="ascii") as file:
+            return file.read().split("\n")[:-1]
+
+    def close(self):
+        self.folder.cleanup()
+
+
+def processors():
+    return len(os.sched_getaffinity(0))
