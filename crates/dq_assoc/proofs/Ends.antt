@@ -4,7 +4,7 @@ use Rattle.dq_pdu.specs.declared.role.Role.{Role}
 use Rattle.dq_pdu.specs.declared.role.Role.TheVariants.{Asks, Carries, Ends}
 use Rattle.dq_pdu.specs.declared.role.Ending.TheVariants.{ReleaseAsked, AbortSent, OutOfPlace}
 use Rattle.dq_pdu.specs.declared.fault.PduFault.{PduFault}
-use Rattle.dq_dimse.specs.declared.command.Message.{Message}
+use Rattle.dq_dimse.specs.Received.{Message}
 use Rattle.dq_dimse.specs.declared.fault.DimseFault.{DimseFault}
 use Rattle.dq_dimse.specs.Assembling.{Messages, messages}
 use Rattle.dq_assoc.specs.Negotiation.{agreement_of, ids_of}

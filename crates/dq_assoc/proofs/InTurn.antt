@@ -1,17 +1,33 @@
 -- PDUs that an open association takes in turn, and what they have led to so far.
-use Rattle.std.proofs.Common.{◌≡◌, ℕ, Bool, false, IsTrue, cond, List, [], ◌∷◌, ◌++◌, Option, None, refl, sym, ap, subst, ◌∙◌, append_assoc}
-use Rattle.std.proofs.lemmas.List.{append-nil}
+use Rattle.std.proofs.Common.{◌≡◌, true, false, IsTrue, List, [], ◌∷◌, ◌++◌, map, Option, None, Result, Ok, Err, IfOk, refl, sym, ap, subst, ◌∙◌, append_assoc}
+use Rattle.std.proofs.lemmas.List.{append-nil, map-append}
+use Rattle.std.specs.declared.alloc.AllocError.{AllocError}
 use Rattle.dq_pdu.specs.declared.pdu.Pdu.{Pdu}
 use Rattle.dq_pdu.specs.declared.fault.PduFault.{PduFault}
-use Rattle.dq_dimse.specs.declared.command.Message.{Message}
-use Rattle.dq_assoc.specs.declared.association.Held.{Held}
-use Rattle.dq_assoc.specs.declared.association.Held.TheVariants as held
+use Rattle.dq_pdu.specs.Roles.{role_of}
+use Rattle.dq_dimse.specs.declared.assembler.Accepted.{Accepted}
+use Rattle.dq_dimse.specs.declared.command.Message.{Message as HeldMessage}
+use Rattle.dq_dimse.specs.declared.fault.DimseFault.{DimseFault}
+use Rattle.dq_dimse.specs.Assembling.{Assembly, spent_by}
+use Rattle.dq_dimse.specs.Holding.{StandForAll}
+use Rattle.dq_dimse.specs.Received.{Message}
+use Rattle.dq_dimse.proofs.Assemblies.{assembly_from-nil}
+use Rattle.dq_dimse.proofs.Holdings.{stand_append}
+use Rattle.dq_assoc.specs.declared.agreement.Agreement.{Agreement}
+use Rattle.dq_assoc.specs.declared.association.Held.{Held as HeldAssociation}
+use Rattle.dq_assoc.specs.declared.association.Held.TheVariants as code
+use Rattle.dq_assoc.specs.declared.association.State.{State}
 use Rattle.dq_assoc.specs.declared.association.State.TheVariants.{Open}
-use Rattle.dq_assoc.specs.declared.association.Step.{Step}
+use Rattle.dq_assoc.specs.declared.association.Step.{Step as HeldStep}
+use Rattle.dq_assoc.specs.Associations.{Held}
+use Rattle.dq_assoc.specs.Associations as held
 use Rattle.dq_assoc.specs.Table.{Input, Requested, Sent, Released, PeerAborted, Stray, Bad}
-use Rattle.dq_assoc.specs.After.{AssociationAfter, state_of, is_closed, agreement_in, is_sound, inputs_from}
-use Rattle.dq_assoc.specs.Steps.{with_message, after_messages, open_outcome, outcome}
-use Rattle.dq_assoc.proofs.Sound.{nothing-added}
+use Rattle.dq_assoc.specs.After.{state_of, is_closed, is_sound, open_if, association_by, association_from, inputs_from}
+use Rattle.dq_assoc.specs.Holding.{Stands, IsStep, accepted_in, held_agreement, held_state, is_unspent}
+use Rattle.dq_assoc.specs.Steps.{Step, with_message, after_messages, open_outcome, outcome}
+use Rattle.dq_assoc.proofs.FromHere.{inputs-cons, association-append}
+use Rattle.dq_assoc.proofs.Sound.{none_is}
+use Rattle.dq_assoc.proofs.Standing.{after_stands, stands_sound, stands_state}
 
 -- inputs that don't close are messages, and what comes later comes after these
 unclosed : (first later : List Input) → (open_outcome first).close ≡ false
@@ -24,70 +40,163 @@ unclosed (PeerAborted ∷ first) later e = absurd cc
 unclosed (Stray ∷ first) later e = absurd cc
 unclosed (Bad reason ∷ first) later e = absurd cc
 
--- an association that keeps its agreement stays open
-stays-open : (now new : Held) → state_of now ≡ Open → is_closed (state_of new) ≡ false → agreement_in new ≡ agreement_in now → state_of new ≡ Open
-stays-open held.Waiting new o u e = absurd cc
-stays-open (held.Open a s) held.Waiting o u e = absurd cc
-stays-open (held.Open a s) (held.Open b t) o u e = refl
-stays-open (held.Open a s) (held.Closed agreed) o u e = absurd cc
-stays-open (held.Closed agreed) new o u e = absurd cc
-
--- a PDU that was taken
-pub record TookOne (now new : Held) (pdu : Pdu) (step : Step) : Type 0 where
-  pub leads : step ≡ outcome (state_of now) (inputs_from now (pdu ∷ []) None)
-  pub closes : step.close ≡ is_closed (state_of new)
-  pub after : (before : List Pdu) → AssociationAfter before now → AssociationAfter (before ++ pdu ∷ []) new
-  pub agrees : agreement_in new ≡ agreement_in now
-  pub further : (pdus : List Pdu) (fault : Option PduFault) → inputs_from now (pdu ∷ pdus) fault ≡ inputs_from now (pdu ∷ []) None ++ inputs_from new pdus fault
-
--- PDUs that were taken, their messages, and the PDUs that are left
-pub record TookSome (old now : Held) (list : List Message) (fault : Option PduFault) (all done left : List Pdu) : Type 0 where
-  pub is_open : state_of now ≡ Open
-  pub parts : all ≡ done ++ left
-  pub leads : after_messages list (open_outcome (inputs_from now left fault)) ≡ open_outcome (inputs_from old all fault)
-  pub after : (before : List Pdu) → AssociationAfter before old → AssociationAfter (before ++ done) now
-  pub agrees : agreement_in now ≡ agreement_in old
-
--- what an open association's step leads to
-open-step : (now new : Held) (pdu : Pdu) (step : Step) → state_of now ≡ Open → TookOne now new pdu step
-    → step ≡ open_outcome (inputs_from now (pdu ∷ []) None)
-open-step now new pdu step o t = t.leads ∙ ap (λ state. outcome state (inputs_from now (pdu ∷ []) None)) o
-
-step-unclosed : (step : Step) (first later : List Input) → step ≡ open_outcome first → step.close ≡ false
-    → after_messages step.messages (open_outcome later) ≡ open_outcome (first ++ later)
-step-unclosed step first later e c =
-    ap (λ (s : Step). after_messages s.messages (open_outcome later)) e ∙ sym (unclosed first later (ap (λ (s : Step). s.close) (sym e) ∙ c))
-
 after-both : (list more : List Message) (step : Step) → after_messages (list ++ more) step ≡ after_messages list (after_messages more step)
 after-both list more step =
     ap (λ (messages : List Message). record { messages = messages; octets = step.octets; close = step.close }) (append_assoc list more step.messages)
 
-pub took-more : (old now new : Held) (list longer : List Message) (fault : Option PduFault) (all done left later : List Pdu) (pdu : Pdu) (step : Step)
-    → TookSome old now list fault all done left → left ≡ pdu ∷ later → TookOne now new pdu step → step.close ≡ false → longer ≡ list ++ step.messages
-    → TookSome old new longer fault all (done ++ pdu ∷ []) later
-took-more old now new list longer fault all done left later pdu step so l t c e =
-    let unclosed_new : is_closed (state_of new) ≡ false = sym t.closes ∙ c in
-    let first = inputs_from now (pdu ∷ []) None in
-    record {
-      is_open = stays-open now new so.is_open unclosed_new t.agrees;
-      parts = so.parts ∙ ap (λ (pdus : List Pdu). done ++ pdus) l ∙ sym (append_assoc done (pdu ∷ []) later);
-      leads = ap (λ (messages : List Message). after_messages messages (open_outcome (inputs_from new later fault))) e
-          ∙ after-both list step.messages (open_outcome (inputs_from new later fault))
-          ∙ ap (after_messages list) (step-unclosed step first (inputs_from new later fault) (open-step now new pdu step so.is_open t) c)
-          ∙ ap (λ (inputs : List Input). after_messages list (open_outcome inputs)) (sym (t.further later fault))
-          ∙ ap (λ (pdus : List Pdu). after_messages list (open_outcome (inputs_from now pdus fault))) (sym l)
-          ∙ so.leads;
-      after = λ before a.
-          subst (λ (pdus : List Pdu). AssociationAfter pdus new) (append_assoc before done (pdu ∷ [])) (t.after (before ++ done) (so.after before a));
-      agrees = t.agrees ∙ so.agrees;
-    }
+-- inputs that close end what comes after them
+closes : (first later : List Input) → (open_outcome first).close ≡ true → open_outcome (first ++ later) ≡ open_outcome first
+closes [] later e = absurd cc
+closes (Sent message ∷ first) later e = ap (with_message message) (closes first later e)
+closes (Requested request ∷ first) later e = refl
+closes (Released ∷ first) later e = refl
+closes (PeerAborted ∷ first) later e = refl
+closes (Stray ∷ first) later e = refl
+closes (Bad reason ∷ first) later e = refl
 
--- no fault comes after them
-pub nothing-after : (h : Held) (list messages : List Message) (octets : List ℕ) (fault : Option PduFault) → IsTrue (is_sound h) → fault ≡ None
-    → messages ≡ list → octets ≡ []
-    → record { messages = messages; octets = octets; close = false } ≡ after_messages list (open_outcome (inputs_from h [] fault))
-nothing-after h list messages octets fault sound f m o =
-    ap (λ (l : List Message). record { messages = l; octets = octets; close = false }) (m ∙ sym (append-nil list))
-    ∙ ap (λ (l : List ℕ). record { messages = list ++ []; octets = l; close = false }) o
-    ∙ ap (λ (inputs : List Input). after_messages list (open_outcome inputs)) (sym (nothing-added h sound))
-    ∙ ap (λ (g : Option PduFault). after_messages list (open_outcome (inputs_from h [] g))) (sym f)
+unopened : (a : Agreement) (s : Assembly) → spent_by s ≡ None → open_if (spent_by s) a s ≡ held.Open a s
+unopened a s e = ap (λ (f : Option DimseFault). open_if f a s) e
+
+-- no PDUs leave an association as it is
+stays : (h : Held) → IsTrue (is_sound h) → association_from h [] ≡ h
+stays held.Waiting sound = refl
+stays (held.Open a s) sound =
+    ap (λ (t : Assembly). open_if (spent_by t) a t) (assembly_from-nil s) ∙ unopened a s (none_is (spent_by s) sound)
+stays (held.Closed agreed) sound = refl
+
+-- PDUs that were taken, their messages, and the PDUs that are left
+pub record HasTaken (accepted : List Accepted) (helds : List HeldMessage) (now : HeldAssociation) (fault : Option PduFault) (left done all : List Pdu)
+    (first : Held) : Type 0 where
+  pub list : List Message
+  pub association : Held
+  pub stand : StandForAll accepted helds list
+  pub stands : Stands now association
+  pub is : association ≡ association_from first done
+  pub leads : after_messages list (open_outcome (inputs_from association left fault)) ≡ open_outcome (inputs_from first all fault)
+
+pub record TookSome (old now : HeldAssociation) (helds : List HeldMessage) (fault : Option PduFault) (all done left : List Pdu) : Type 0 where
+  pub is_open : held_state now ≡ Open
+  pub parts : all ≡ done ++ left
+  pub agrees : held_agreement now ≡ held_agreement old
+  pub takes : (a : Held) → Stands old a → HasTaken (accepted_in (held_agreement old)) helds now fault left done all a
+
+pub took_none : (old : HeldAssociation) (helds : List HeldMessage) (fault : Option PduFault) (all left : List Pdu) → held_state old ≡ Open
+    → IsTrue (is_unspent old) → helds ≡ [] → left ≡ all → TookSome old old helds fault all [] left
+took_none old helds fault all left opens unspent e l = record {
+  is_open = opens;
+  parts = sym l;
+  agrees = refl;
+  takes = λ a h. record {
+    list = [];
+    association = a;
+    stand = subst (λ (hs : List HeldMessage). StandForAll (accepted_in (held_agreement old)) hs []) (sym e) tt;
+    stands = h;
+    is = sym (stays a (stands_sound old a h unspent));
+    leads = ap (λ (pdus : List Pdu). open_outcome (inputs_from a pdus fault)) l;
+  };
+}
+
+-- a PDU that was taken
+pub record TookOne (now new : HeldAssociation) (pdu : Pdu) (step : HeldStep) : Type 0 where
+  pub leads : (a : Held) → Stands now a
+      → IsStep (accepted_in (held_agreement now)) step (outcome (state_of a) (inputs_from a (pdu ∷ []) None))
+  pub closes : step.close ≡ is_closed (held_state new)
+  pub next : (a : Held) → Stands now a → Stands new (association_from a (pdu ∷ []))
+  pub agrees : held_agreement new ≡ held_agreement now
+
+stays_open : (now new : HeldAssociation) → held_state now ≡ Open → is_closed (held_state new) ≡ false → held_agreement new ≡ held_agreement now
+    → held_state new ≡ Open
+stays_open code.Waiting new o u e = absurd cc
+stays_open (code.Open a s) code.Waiting o u e = absurd cc
+stays_open (code.Open a s) (code.Open b t) o u e = refl
+stays_open (code.Open a s) (code.Closed agreed) o u e = absurd cc
+stays_open (code.Closed agreed) new o u e = absurd cc
+
+-- what one PDU more leads to
+one_leads : (now new : HeldAssociation) (pdu : Pdu) (step : HeldStep) (old_agreement : Option Agreement) (a : Held) → held_state now ≡ Open
+    → held_agreement now ≡ old_agreement → TookOne now new pdu step → Stands now a
+    → IsStep (accepted_in old_agreement) step (open_outcome (inputs_from a (pdu ∷ []) None))
+one_leads now new pdu step agreement a opens agrees t h =
+    subst (λ (o : Option Agreement). IsStep (accepted_in o) step (open_outcome (inputs_from a (pdu ∷ []) None))) agrees
+    (subst (λ (s : State). IsStep (accepted_in (held_agreement now)) step (outcome s (inputs_from a (pdu ∷ []) None)))
+    (sym (stands_state now a h) ∙ opens) (t.leads a h))
+
+pub took_more : (old now new : HeldAssociation) (helds longer : List HeldMessage) (fault : Option PduFault) (all done left later : List Pdu) (pdu : Pdu)
+    (step : HeldStep) → TookSome old now helds fault all done left → left ≡ pdu ∷ later → TookOne now new pdu step → step.close ≡ false
+    → longer ≡ helds ++ step.messages → TookSome old new longer fault all (done ++ pdu ∷ []) later
+took_more old now new helds longer fault all done left later pdu step so l t c e = record {
+  is_open = stays_open now new so.is_open (sym t.closes ∙ c) t.agrees;
+  parts = so.parts ∙ ap (λ (pdus : List Pdu). done ++ pdus) l ∙ sym (append_assoc done (pdu ∷ []) later);
+  agrees = t.agrees ∙ so.agrees;
+  takes = λ a h.
+      let k = so.takes a h in
+      let here = k.association in
+      let first = inputs_from here (pdu ∷ []) None in
+      let next = association_from here (pdu ∷ []) in
+      let is = one_leads now new pdu step (held_agreement old) here so.is_open so.agrees t k.stands in
+      record {
+        list = k.list ++ (open_outcome first).messages;
+        association = next;
+        stand = subst (λ (hs : List HeldMessage). StandForAll (accepted_in (held_agreement old)) hs (k.list ++ (open_outcome first).messages)) (sym e)
+            (stand_append (accepted_in (held_agreement old)) helds step.messages k.list (open_outcome first).messages k.stand is.messages);
+        stands = t.next here k.stands;
+        is = ap (λ (x : Held). association_from x (pdu ∷ [])) k.is ∙ sym (association-append a (map role_of done) (map role_of (pdu ∷ [])))
+            ∙ ap (association_by a) (sym (map-append role_of done (pdu ∷ [])));
+        leads = after-both k.list (open_outcome first).messages (open_outcome (inputs_from next later fault))
+            ∙ ap (after_messages k.list) (sym (unclosed first (inputs_from next later fault) (sym is.close ∙ c)))
+            ∙ ap (λ (inputs : List Input). after_messages k.list (open_outcome inputs))
+            (sym (inputs-cons here (role_of pdu) (map role_of later) fault))
+            ∙ ap (λ (pdus : List Pdu). after_messages k.list (open_outcome (inputs_from here pdus fault))) (sym l)
+            ∙ k.leads;
+      };
+}
+
+-- one that closes
+pub took_last : (old now new : HeldAssociation) (helds : List HeldMessage) (fault : Option PduFault) (all done left later : List Pdu) (pdu : Pdu)
+    (step : HeldStep) (result : Result HeldStep AllocError) → TookSome old now helds fault all done left → left ≡ pdu ∷ later → TookOne now new pdu step
+    → step.close ≡ true
+    → IfOk result (λ (held : HeldStep). held ≡ record { messages = helds ++ step.messages; octets = step.octets; close = step.close })
+    → (a : Held) → Stands old a → IfOk result (λ (held : HeldStep). IsStep (accepted_in (held_agreement old)) held (open_outcome (inputs_from a all fault)))
+took_last old now new helds fault all done left later pdu step (Ok held) so l t c e a h =
+    let k = so.takes a h in
+    let here = k.association in
+    let first = inputs_from here (pdu ∷ []) None in
+    let next = association_from here (pdu ∷ []) in
+    let accepted = accepted_in (held_agreement old) in
+    let is = one_leads now new pdu step (held_agreement old) here so.is_open so.agrees t k.stands in
+    let total = ap (after_messages k.list) (sym (closes first (inputs_from next later fault) (sym is.close ∙ c)))
+    ∙ ap (λ (inputs : List Input). after_messages k.list (open_outcome inputs)) (sym (inputs-cons here (role_of pdu) (map role_of later) fault))
+    ∙ ap (λ (pdus : List Pdu). after_messages k.list (open_outcome (inputs_from here pdus fault))) (sym l)
+    ∙ k.leads in
+    subst (IsStep accepted held) total (subst (λ (x : HeldStep). IsStep accepted x (after_messages k.list (open_outcome first))) (sym e)
+    (after_stands accepted helds k.list step (open_outcome first) k.stand is))
+took_last old now new helds fault all done left later pdu step (Err error) so l t c e a h = tt
+
+-- all PDUs were taken
+pub took_all : (old now : HeldAssociation) (helds : List HeldMessage) (fault : Option PduFault) (all done left : List Pdu)
+    (result : Result HeldStep AllocError) → TookSome old now helds fault all done left → left ≡ []
+    → ((a : Held) (before : List Message) → Stands now a → StandForAll (accepted_in (held_agreement now)) helds before
+    → IfOk result (λ (held : HeldStep). IsStep (accepted_in (held_agreement now)) held (after_messages before (open_outcome (inputs_from a [] fault)))))
+    → (a : Held) → Stands old a → IfOk result (λ (held : HeldStep). IsStep (accepted_in (held_agreement old)) held (open_outcome (inputs_from a all fault)))
+took_all old now helds fault all done left result so l ends a h =
+    let k = so.takes a h in
+    let accepted = accepted_in (held_agreement old) in
+    let back = sym (ap accepted_in so.agrees) in
+    let there = ends k.association k.list k.stands (subst (λ (xs : List Accepted). StandForAll xs helds k.list) back k.stand) in
+    subst (λ (s : Step). IfOk result (λ (held : HeldStep). IsStep accepted held s))
+    (ap (λ (pdus : List Pdu). after_messages k.list (open_outcome (inputs_from k.association pdus fault))) (sym l) ∙ k.leads)
+    (subst (λ (xs : List Accepted). IfOk result (λ (held : HeldStep). IsStep xs held
+    (after_messages k.list (open_outcome (inputs_from k.association [] fault))))) (sym back) there)
+
+pub next_all : (old now new : HeldAssociation) (helds : List HeldMessage) (fault : Option PduFault) (all done left : List Pdu)
+    (result : Result HeldStep AllocError) → TookSome old now helds fault all done left → left ≡ []
+    → IfOk result (λ (step : HeldStep). step.close ≡ false → (fault ≡ None) × (new ≡ now))
+    → (a : Held) → Stands old a → IfOk result (λ (step : HeldStep). step.close ≡ false → (fault ≡ None) × Stands new (association_from a all))
+next_all old now new helds fault all done left (Ok step) so l kept a h = λ c.
+    let k = so.takes a h in
+    let whole : done ≡ all = sym (append-nil done) ∙ ap (λ (pdus : List Pdu). done ++ pdus) (sym l) ∙ sym so.parts in (
+      (kept c).0,
+      subst (λ (x : HeldAssociation). Stands x (association_from a all)) (sym (kept c).1)
+          (subst (Stands now) (k.is ∙ ap (association_from a) whole) k.stands),
+    )
+next_all old now new helds fault all done left (Err error) so l kept a h = tt

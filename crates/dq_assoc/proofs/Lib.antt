@@ -9,5 +9,6 @@ mod OnePdu
 pub mod Places
 pub mod ShortPdus
 mod Sound
+pub mod Standing
 mod Streams
 mod Values

@@ -1,5 +1,5 @@
 -- Loops that go on with one more item of a list.
-use Rattle.std.proofs.Common.{◌≡◌, ℕ, ◌+◌, ◌<◌, ◌≤◌, List, [], ◌∷◌, ◌++◌, length, map, get_or, take, Option, Some, None, refl, sym, ap, ◌∙◌}
+use Rattle.std.proofs.Common.{◌≡◌, ℕ, zero, suc, arith, ◌+◌, ◌<◌, ◌≤◌, List, [], ◌∷◌, ◌++◌, length, map, get_or, take, Option, Some, None, refl, sym, ap, ◌∙◌}
 use Rattle.std.specs.Option.{option_to_list}
 use Rattle.std.specs.List.{filter_map}
 use Rattle.std.proofs.lemmas.List.{map-append, take_all, take_more}
@@ -7,6 +7,12 @@ use Rattle.std.proofs.lemmas.List.Elements.{filter_map-append}
 
 taken : {A : Type 0} (all : List A) (i : ℕ) (x : A) → i < length all → x ≡ get_or all i x → take (i + 1) all ≡ take i all ++ x ∷ []
 taken all i x lt is = take_more all i x lt ∙ ap (λ y. take i all ++ y ∷ []) (sym is)
+
+-- an item does not depend on what stands past the end
+pub same_at : {A : Type 0} (all : List A) (i : ℕ) (d e : A) → i < length all → get_or all i d ≡ get_or all i e
+same_at [] i d e lt = absurd (omega arith)
+same_at (x ∷ xs) zero d e lt = refl
+same_at (x ∷ xs) (suc i) d e lt = same_at xs i d e (omega (arith, lt))
 
 -- one that keeps what a function gives of each item
 pub map-next : {A B : Type 0} (f : A → B) (done longer : List B) (all : List A) (i : ℕ) (x : A) (y : B) → i < length all → x ≡ get_or all i x

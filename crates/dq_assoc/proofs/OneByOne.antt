@@ -5,15 +5,15 @@ use Rattle.dq_pdu.specs.declared.role.Role.{Role}
 use Rattle.dq_pdu.specs.declared.role.Role.TheVariants.{Asks, Carries, Ends}
 use Rattle.dq_pdu.specs.declared.role.Ending.TheVariants.{ReleaseAsked, AbortSent, OutOfPlace}
 use Rattle.dq_pdu.specs.Roles.{role_of}
-use Rattle.dq_dimse.specs.declared.command.Message.{Message}
+use Rattle.dq_dimse.specs.Received.{Message}
 use Rattle.dq_dimse.specs.declared.fault.DimseFault.{DimseFault}
 use Rattle.dq_dimse.specs.Assembling.{Assembly, messages_from, assembly_from, spent_by}
 use Rattle.dq_dimse.proofs.Assemblies.{messages_from-fault}
 use Rattle.dq_assoc.specs.declared.agreement.Agreement.{Agreement}
-use Rattle.dq_assoc.specs.declared.association.Held.{Held}
-use Rattle.dq_assoc.specs.declared.association.Held.TheVariants as held
+use Rattle.dq_assoc.specs.Associations.{Held}
+use Rattle.dq_assoc.specs.Associations as held
 use Rattle.dq_assoc.specs.declared.association.State.TheVariants.{Waiting}
-use Rattle.dq_assoc.specs.declared.association.Step.{Step}
+use Rattle.dq_assoc.specs.Steps.{Step}
 use Rattle.dq_assoc.specs.Table.{Input, Sent}
 use Rattle.dq_assoc.specs.Inputs.{closing_input, inputs_past}
 use Rattle.dq_assoc.specs.After.{state_of, is_sound, open_if, association_by, inputs_by}

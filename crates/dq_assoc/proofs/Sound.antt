@@ -1,28 +1,25 @@
 -- Associations that are open only while their values are messages, and the state that PDUs leave.
-use Rattle.std.proofs.Common.{◌≡◌, true, false, IsTrue, cond, List, [], ◌∷◌, ◌++◌, map, Option, Some, None, Result, Ok, Err, IfOk, OnOk, refl, sym, ap, subst, ◌∙◌}
+use Rattle.std.proofs.Common.{◌≡◌, true, false, IsTrue, List, [], ◌∷◌, ◌++◌, map, Option, Some, None, refl, sym, ap, subst, ◌∙◌}
 use Rattle.std.specs.Prelude.{is_none, is_some}
 use Rattle.std.proofs.lemmas.List.{append-nil}
-use Rattle.std.specs.declared.alloc.AllocError.{AllocError}
-use Rattle.dq_pdu.specs.declared.pdu.Pdu.{Pdu}
 use Rattle.dq_pdu.specs.declared.pdu.Pdv.{Pdv}
 use Rattle.dq_pdu.specs.declared.role.Role.{Role}
 use Rattle.dq_pdu.specs.declared.role.Role.TheVariants.{Asks, Carries, Ends}
 use Rattle.dq_pdu.specs.declared.role.Ending.TheVariants.{ReleaseAsked, AbortSent, OutOfPlace}
 use Rattle.dq_pdu.specs.declared.fault.PduFault.{PduFault}
-use Rattle.dq_dimse.specs.declared.command.Message.{Message}
+use Rattle.dq_dimse.specs.Received.{Message}
 use Rattle.dq_dimse.specs.declared.fault.DimseFault.{DimseFault}
 use Rattle.dq_dimse.specs.Assembling.{Assembly, Messages, messages_from, assembly_from, spent_by}
 use Rattle.dq_dimse.proofs.Assemblies.{messages_from-nil, messages_from-fault}
 use Rattle.dq_assoc.specs.declared.agreement.Agreement.{Agreement}
-use Rattle.dq_assoc.specs.declared.association.Held.{Held}
-use Rattle.dq_assoc.specs.declared.association.Held.TheVariants as held
+use Rattle.dq_assoc.specs.Associations.{Held}
+use Rattle.dq_assoc.specs.Associations as held
 use Rattle.dq_assoc.specs.declared.association.State.TheVariants.{Open}
 use Rattle.dq_assoc.specs.declared.association.Verdict.TheVariants.{Accept}
-use Rattle.dq_assoc.specs.declared.association.Step.{Step}
 use Rattle.dq_assoc.specs.Negotiation.{agreement_of}
 use Rattle.dq_assoc.specs.Table.{Input, Sent, Bad, line, answer_octets}
 use Rattle.dq_assoc.specs.Inputs.{values, after_values, reason_of, closing_input, inputs_past, inputs_of_messages}
-use Rattle.dq_assoc.specs.After.{state_of, is_closed, agreement_in, is_sound, TakesRole, open_if, open_with, assembly_for, association_by, inputs_by}
+use Rattle.dq_assoc.specs.After.{state_of, agreement_in, is_sound, TakesRole, open_if, open_with, assembly_for, association_by, inputs_by}
 use Rattle.dq_assoc.specs.Steps.{with_message, open_outcome, outcome, fault_inputs, fault_answer, values_step}
 
 pub none_is : (o : Option DimseFault) → IsTrue (is_none o) → o ≡ None
@@ -82,15 +79,6 @@ fault-outcome held.Waiting fault sound = refl
 fault-outcome (held.Open a s) fault sound = ap open_outcome (sym (read-nil s sound (Bad (reason_of fault) ∷ [])))
 fault-outcome (held.Closed agreed) fault sound = refl
 
-pub fault-step : (result : Result Step AllocError) (h : Held) (fault : PduFault) (list : List Message) (answer : Option Pdu) → IsTrue (is_sound h)
-    → list ≡ [] → answer ≡ fault_answer (state_of h) fault → IfOk result
-    (λ step. step ≡ record { messages = list; octets = answer_octets answer; close = true })
-    → IfOk result (λ step. step ≡ outcome (state_of h) (inputs_by h [] (Some fault)))
-fault-step (Ok step) h fault list answer sound e f x =
-    x ∙ ap (λ (l : List Message). record { messages = l; octets = answer_octets answer; close = true }) e
-    ∙ ap (λ (o : Option Pdu). record { messages = []; octets = answer_octets o; close = true }) f ∙ fault-outcome h fault sound
-fault-step (Err error) h fault list answer sound e f x = tt
-
 -- values leave an association open unless they are no messages
 pub values-closed : (a : Agreement) (s : Assembly) (pdvs : List Pdv) → is_some (messages_from s pdvs).fault ≡ true
     → let next = assembly_from s pdvs in held.Closed (Some a) ≡ open_if (spent_by next) a next
@@ -116,7 +104,7 @@ agreement-if a s None = refl
 agreement-if a s (Some d) = refl
 
 -- an association keeps its agreement
-pub agreement-stays : (h : Held) (role : Role) → TakesRole h role → let next = association_by h (role ∷ []) in
+pub agreement-stays : (h : Held) (role : Role) → TakesRole (state_of h) role → let next = association_by h (role ∷ []) in
     agreement_in next ≡ agreement_in h
 agreement-stays held.Waiting (Asks request) takes = absurd takes
 agreement-stays held.Waiting (Carries pdvs) takes = refl
@@ -128,22 +116,13 @@ agreement-stays (held.Closed agreed) role takes = absurd takes
 
 -- ---- a PDU that an open association takes
 
-values-carried : (a : Agreement) (s : Assembly) (pdvs : List Pdv)
+pub values-carried : (a : Agreement) (s : Assembly) (pdvs : List Pdv)
     → values_step (messages_from s pdvs) ≡ outcome Open (inputs_by (held.Open a s) (Carries pdvs ∷ []) None)
 values-carried a s pdvs =
     ap (λ (v : List Pdv). values_step (messages_from s v)) (sym (append-nil pdvs))
     ∙ sym (values-outcome (messages_from s (pdvs ++ [])).list (messages_from s (pdvs ++ [])).fault)
 
-pub carried-step : (result : Result Step AllocError) (inside old : Held) (a : Agreement) (s : Assembly) (role : Role) (pdvs slice : List Pdv)
-    → held.Open a s ≡ inside → inside ≡ old → role ≡ Carries pdvs → slice ≡ pdvs → IfOk result (λ step. step ≡ values_step (messages_from s slice))
-    → IfOk result (λ step. step ≡ outcome (state_of old) (inputs_by old (role ∷ []) None))
-carried-step (Ok step) inside old a s role pdvs slice i o r v x =
-    x ∙ ap (λ (v : List Pdv). values_step (messages_from s v)) v ∙ values-carried a s pdvs
-    ∙ ap (λ (r : Role). outcome Open (inputs_by (held.Open a s) (r ∷ []) None)) (sym r)
-    ∙ ap (λ (h : Held). outcome (state_of h) (inputs_by h (role ∷ []) None)) (i ∙ o)
-carried-step (Err error) inside old a s role pdvs slice i o r v x = tt
-
-role-closes : (a : Agreement) (s : Assembly) (role : Role) → IsTrue (is_sound (held.Open a s)) → ((pdvs : List Pdv) → role ≡ Carries pdvs → ⊥)
+pub role-closes : (a : Agreement) (s : Assembly) (role : Role) → IsTrue (is_sound (held.Open a s)) → ((pdvs : List Pdv) → role ≡ Carries pdvs → ⊥)
     → record { messages = []; octets = answer_octets (line Open Accept (closing_input role)).answer; close = true }
     ≡ outcome Open (inputs_by (held.Open a s) (role ∷ []) None)
 role-closes a s (Asks request) sound not = ap open_outcome (sym (read-nil s sound (closing_input (Asks request) ∷ [])))
@@ -152,30 +131,8 @@ role-closes a s (Ends ReleaseAsked) sound not = ap open_outcome (sym (read-nil s
 role-closes a s (Ends AbortSent) sound not = ap open_outcome (sym (read-nil s sound (closing_input (Ends AbortSent) ∷ [])))
 role-closes a s (Ends OutOfPlace) sound not = ap open_outcome (sym (read-nil s sound (closing_input (Ends OutOfPlace) ∷ [])))
 
-pub closing-role : (result : Result Step AllocError) (inside old : Held) (a : Agreement) (s : Assembly) (role : Role) (list : List Message)
-    (answer : Option Pdu)
-    → held.Open a s ≡ inside → inside ≡ old → IsTrue (is_sound inside) → ((pdvs : List Pdv) → role ≡ Carries pdvs → ⊥)
-    → list ≡ [] → answer ≡ (line Open Accept (closing_input role)).answer
-    → IfOk result (λ step. step ≡ record { messages = list; octets = answer_octets answer; close = true })
-    → IfOk result (λ step. step ≡ outcome (state_of old) (inputs_by old (role ∷ []) None))
-closing-role (Ok step) inside old a s role list answer i o sound not e f x =
-    let here : IsTrue (is_sound (held.Open a s)) = subst (λ (h : Held). IsTrue (is_sound h)) (sym i) sound in
-    x ∙ ap (λ (l : List Message). record { messages = l; octets = answer_octets answer; close = true }) e
-    ∙ ap (λ (o : Option Pdu). record { messages = []; octets = answer_octets o; close = true }) f
-    ∙ role-closes a s role here not ∙ ap (λ (h : Held). outcome (state_of h) (inputs_by h (role ∷ []) None)) (i ∙ o)
-closing-role (Err error) inside old a s role list answer i o sound not e f x = tt
-
-role-closed : (a : Agreement) (s : Assembly) (role : Role) → ((pdvs : List Pdv) → role ≡ Carries pdvs → ⊥)
+pub role-closed : (a : Agreement) (s : Assembly) (role : Role) → ((pdvs : List Pdv) → role ≡ Carries pdvs → ⊥)
     → held.Closed (Some a) ≡ association_by (held.Open a s) (role ∷ [])
 role-closed a s (Asks request) not = refl
 role-closed a s (Carries pdvs) not = absurd (not pdvs refl)
 role-closed a s (Ends ending) not = refl
-
-pub closed-role : (inside old : Held) (a : Agreement) (s : Assembly) (role : Role) → held.Open a s ≡ inside → inside ≡ old
-    → ((pdvs : List Pdv) → role ≡ Carries pdvs → ⊥)
-    → held.Closed (Some a) ≡ association_by old (role ∷ [])
-closed-role inside old a s role i o not = role-closed a s role not ∙ ap (λ (h : Held). association_by h (role ∷ [])) (i ∙ o)
-
-pub on-ok : (result : Result Step AllocError) (x y : Held) → x ≡ y → OnOk result (x ≡ y)
-on-ok (Ok step) x y e = e
-on-ok (Err error) x y e = tt

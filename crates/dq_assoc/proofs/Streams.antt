@@ -12,8 +12,8 @@ use Rattle.dq_pdu.specs.Stream.{Pdus, pdus_in, continued}
 use Rattle.dq_dimse.specs.declared.fault.DimseFault.{DimseFault}
 use Rattle.dq_dimse.specs.Assembling.{Assembly, assembly_from, spent_by}
 use Rattle.dq_assoc.specs.declared.agreement.Agreement.{Agreement}
-use Rattle.dq_assoc.specs.declared.association.Held.{Held}
-use Rattle.dq_assoc.specs.declared.association.Held.TheVariants as held
+use Rattle.dq_assoc.specs.Associations.{Held}
+use Rattle.dq_assoc.specs.Associations as held
 use Rattle.dq_assoc.specs.declared.association.State.TheVariants.{Waiting, Open, Closed}
 use Rattle.dq_assoc.specs.Negotiation.{agreement_of}
 use Rattle.dq_assoc.specs.Table.{Input}

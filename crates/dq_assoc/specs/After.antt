@@ -1,6 +1,7 @@
 -- An association that was given the PDUs of a stream so far: the inputs that further PDUs add, and
 -- where they leave it. Upper crates speak of `AssociationAfter`, `state_of`, `agreement_in` and
--- `inputs_from`; what an association holds is there for the prover, and may change.
+-- `inputs_from`; what an association is made of is there for the prover, and may change. What the
+-- code holds of one is said in Holding.
 use Rattle.std.specs.Prelude.{◌≡◌, Bool, true, false, List, [], ◌∷◌, map, Option, Some, None, is_none}
 use Rattle.dq_pdu.specs.declared.pdu.Pdu.{Pdu}
 use Rattle.dq_pdu.specs.declared.role.Role.{Role}
@@ -11,8 +12,8 @@ use Rattle.dq_pdu.specs.Roles.{role_of}
 use Rattle.dq_dimse.specs.declared.fault.DimseFault.{DimseFault}
 use Rattle.dq_dimse.specs.Assembling.{Assembly, new_assembly, spent_by, messages_from, assembly_from}
 use Rattle.dq_assoc.specs.declared.agreement.Agreement.{Agreement}
-use Rattle.dq_assoc.specs.declared.association.Held.{Held}
-use Rattle.dq_assoc.specs.declared.association.Held.TheVariants as held
+use Rattle.dq_assoc.specs.Associations.{Held}
+use Rattle.dq_assoc.specs.Associations as held
 use Rattle.dq_assoc.specs.declared.association.State.{State}
 use Rattle.dq_assoc.specs.declared.association.State.TheVariants.{Waiting, Open, Closed}
 use Rattle.dq_assoc.specs.Negotiation.{agreement_of, ids_of}
@@ -43,15 +44,15 @@ is_sound (held.Open agreement assembly) = is_none (spent_by assembly)
 is_sound (held.Closed agreement) = true
 
 -- what an association takes: nothing once it is closed, and a request by accept alone
-abbrev pub TakesRole : Held → Role → Type 0
-TakesRole (held.Closed agreement) role = ⊥
-TakesRole held.Waiting (Asks request) = ⊥
-TakesRole held.Waiting (Carries pdvs) = Unit {0}
-TakesRole held.Waiting (Ends ending) = Unit {0}
-TakesRole (held.Open agreement assembly) role = Unit {0}
+abbrev pub TakesRole : State → Role → Type 0
+TakesRole Closed role = ⊥
+TakesRole Waiting (Asks request) = ⊥
+TakesRole Waiting (Carries pdvs) = Unit {0}
+TakesRole Waiting (Ends ending) = Unit {0}
+TakesRole Open role = Unit {0}
 
-abbrev pub Takes : Held → Pdu → Type 0
-Takes association pdu = TakesRole association (role_of pdu)
+abbrev pub Takes : State → Pdu → Type 0
+Takes state pdu = TakesRole state (role_of pdu)
 
 -- values that are no messages close
 abbrev pub open_if : Option DimseFault → Agreement → Assembly → Held

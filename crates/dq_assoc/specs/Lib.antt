@@ -3,5 +3,7 @@ pub mod PeerLimits
 pub mod Negotiation
 pub mod Table
 pub mod Inputs
+pub mod Associations
 pub mod After
 pub mod Steps
+pub mod Holding

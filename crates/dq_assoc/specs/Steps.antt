@@ -1,20 +1,25 @@
 -- What inputs lead to: messages to be answered by their service, octets, and whether the connection
 -- is closed.
-use Rattle.std.specs.Prelude.{if◌then◌else◌, List, [], ◌∷◌, ◌++◌, Option, Some, None, is_some, option_map}
+use Rattle.std.specs.Prelude.{ℕ, Bool, if◌then◌else◌, List, [], ◌∷◌, ◌++◌, Option, Some, None, is_some, option_map}
 use Rattle.dq_pdu.specs.declared.pdu.Pdu.{Pdu}
 use Rattle.dq_pdu.specs.declared.pdu.Pdu.TheVariants.{Abort}
 use Rattle.dq_pdu.specs.declared.fault.PduFault.{PduFault}
-use Rattle.dq_dimse.specs.declared.command.Message.{Message}
+use Rattle.dq_dimse.specs.Received.{Message}
 use Rattle.dq_dimse.specs.declared.fault.DimseFault.{DimseFault}
 use Rattle.dq_dimse.specs.Assembling.{Messages}
-use Rattle.dq_assoc.specs.declared.association.Held.{Held}
+use Rattle.dq_assoc.specs.Associations.{Held}
 use Rattle.dq_assoc.specs.declared.association.State.{State}
 use Rattle.dq_assoc.specs.declared.association.State.TheVariants.{Waiting, Open, Closed}
-use Rattle.dq_assoc.specs.declared.association.Step.{Step}
 use Rattle.dq_assoc.specs.declared.association.Verdict.TheVariants.{Accept}
 use Rattle.dq_assoc.specs.Table.{Input, Sent, Stray, Bad, Line, line, by_user, by_provider, not_specified, invalid_parameter, answer_octets}
 use Rattle.dq_assoc.specs.Inputs.{reason_of}
 use Rattle.dq_assoc.specs.After.{state_of, is_closed, association_from, inputs_from}
+
+-- messages to be answered first, then octets, and whether the connection is closed
+pub record Step : Type 0 where
+  pub messages : List Message
+  pub octets : List ℕ
+  pub close : Bool
 
 -- what a line of the table leads to
 abbrev pub step_of : Line → Step

@@ -1,11 +1,13 @@
 //! What an association agrees on when its request is accepted (PS3.8 section 7.1.1).
-ghost use Rattle.std.specs.Prelude.{◌≡◌, IfOk};
+ghost use Rattle.std.specs.Prelude.{◌≡◌, map, IfOk};
 ghost use Rattle.dq_dimse.specs.Sending.{IsLimit};
 ghost use Rattle.dq_assoc.specs.PeerLimits.{limit_of};
-ghost use Rattle.dq_assoc.specs.Negotiation.{context_of, ids_of};
+ghost use Rattle.dq_assoc.specs.Holding.{accepted_by, accepted_context};
+ghost use Rattle.dq_assoc.specs.Negotiation.{context_of};
 
 use crate::classes::SopClass;
 use dq_dataset::Syntax;
+use dq_dimse::Accepted;
 use dq_list::Listed;
 use std::alloc::{AllocError, Global};
 use std::marker::Model;
@@ -62,6 +64,18 @@ pub struct AgreedContext {
     pub syntax: Syntax,
 }
 
+impl AgreedContext {
+    /// What an assembler knows of it.
+    fn accepted(&self) -> Accepted
+        ensures { result ≡ accepted_context self.now }
+    {
+        Accepted {
+            id: self.id,
+            syntax: self.syntax,
+        }
+    }
+}
+
 /// What an open association agreed on.
 #[derive(Debug, Drop)]
 pub struct Agreement {
@@ -81,12 +95,23 @@ impl Agreement {
         contexts.iter().find(|context| context.id == id).copied()
     }
 
-    /// The ids of the contexts, in order.
-    pub(crate) fn ids(&self, alloc: Global) -> Result<Listed<u8>, AllocError>
-        ensures { IfOk result (λ ids. ids ≡ ids_of self.now) }
+    /// The contexts that an assembler is made for.
+    pub(crate) fn accepted(&self, alloc: Global) -> Result<Listed<Accepted>, AllocError>
+        ensures { IfOk result (λ accepted. accepted ≡ accepted_by self.now) }
     {
-        let contexts = self.contexts.as_slice().iter();
-        let ids = contexts.map(|context| context.id).collect(alloc)?;
-        Ok(Listed::from_inner(ids))
+        accepted_contexts(alloc, self.contexts.as_slice())
     }
+}
+
+fn accepted_contexts(
+    alloc: Global,
+    contexts: &[AgreedContext],
+) -> Result<Listed<Accepted>, AllocError>
+    ensures { IfOk result (λ accepted. accepted ≡ map accepted_context contexts.now) }
+{
+    let mut accepted = Listed::empty(alloc);
+    for context in contexts {
+        accepted.push(context.accepted())?;
+    }
+    Ok(accepted)
 }

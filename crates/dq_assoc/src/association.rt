@@ -2,12 +2,17 @@ ghost use Rattle.std.specs.Prelude.{◌≡◌, ◌∷◌, [], ◌++◌, List, Op
 ghost use Rattle.std.specs.Option.{ForSome, option_copied};
 ghost use Rattle.dq_pdu.specs.declared.fault.PduFault.{PduFault};
 ghost use Rattle.dq_pdu.specs.Writing.{IsWritable};
-ghost use Rattle.dq_dimse.specs.Assembling.{spent_by, messages_from, assembly_from};
+ghost use Rattle.dq_dimse.specs.Assembling.{Assembly, spent_by, messages_from, assembly_from};
+ghost use Rattle.dq_dimse.specs.Holding.{Assembles, StandForAll, spent_with};
+ghost use Rattle.dq_dimse.specs.Received.{Message as Received};
+ghost use Rattle.dq_dimse.specs.declared.assembler.Accepted.{Accepted};
 ghost use Rattle.dq_assoc.specs.Negotiation.{agreement_of, acceptance_of, peer_limit};
 ghost use Rattle.dq_assoc.specs.Table.{Requested, accepted_line, line, answer_octets};
 ghost use Rattle.dq_assoc.specs.Inputs.{misplaced_input, closing_input, reason_of};
-ghost use Rattle.dq_assoc.specs.After.{state_of, is_closed, agreement_in, AssociationAfter, association_at, association_by, open_if, inputs_by, inputs_from, TakesRole, Takes};
-ghost use Rattle.dq_assoc.specs.Steps.{step_of, values_step, fault_answer, after_messages, outcome};
+ghost use Rattle.dq_assoc.specs.Associations.{Held as Pure};
+ghost use Rattle.dq_assoc.specs.After.{state_of, is_closed, association_at, association_by, association_from, open_if, inputs_by, inputs_from, TakesRole, Takes};
+ghost use Rattle.dq_assoc.specs.Steps.{after_messages, step_of, values_step, fault_answer, outcome};
+ghost use Rattle.dq_assoc.specs.Holding.{IsStep, Stands, WasGiven, accepted_by, accepted_in, held_agreement, held_state};
 
 use crate::agreement::{Agreement, PeerLimit};
 use crate::negotiation;
@@ -60,7 +65,7 @@ pub(crate) enum Held {
 impl Held {
     /// What was agreed on.
     fn into_agreement(self) -> Option<Agreement>
-        ensures { result ≡ agreement_in self }
+        ensures { result ≡ held_agreement self }
     {
         match self {
             Held::Waiting => None,
@@ -80,14 +85,17 @@ pub struct Association {
 impl Model for Association {
     ghost use Rattle.std.specs.Prelude.{IsTrue};
     ghost use Rattle.dq_assoc.specs.declared.association.Held.{Held};
+    ghost use Rattle.std.specs.Coded.{codes};
+    ghost use Rattle.dq_dataset.specs.contracts.data_set.DataSet as data_set;
+    ghost use Rattle.dq_assoc.specs.Holding.{is_unspent};
 
     ghost Value = { Held };
 
-    ghost use Rattle.dq_assoc.specs.After.{is_sound};
+    ghost coded = { Prim.hlevel (codes, data_set.the_row.coded) };
 
     ghost view = { λ a. a.held };
 
-    ghost invariant = { λ a. IsTrue (is_sound a.held) };
+    ghost invariant = { λ a. IsTrue (is_unspent a.held) };
 }
 
 /// The sources of an abort (PS3.8 table 9-26).
@@ -130,7 +138,11 @@ fn closing_step(
 
 /// A step after messages.
 fn after_messages(mut messages: Vec<Message>, last: Step) -> Result<Step, AllocError>
-    ensures { IfOk result (λ step. step ≡ after_messages messages.items last) }
+    ensures { IfOk result (λ step. step ≡ record {
+      messages = messages.items ++ last.messages;
+      octets = last.octets;
+      close = last.close;
+    }) }
 {
     messages.append(&mut last.messages.into_inner())?;
     Ok(Step {
@@ -197,7 +209,7 @@ fn fault_answer(state: State, fault: PduFault) -> Option<Pdu>
 }
 
 /// What values lead to: the messages that they complete, and whether they are no messages.
-#[derive(Debug, Drop)]
+#[derive(Drop)]
 struct Read {
     messages: Listed<Message>,
     is_faulty: bool,
@@ -210,12 +222,20 @@ fn take_value(
     value: &Pdv,
     messages: &mut Listed<Message>,
 ) -> Result<bool, AllocError>
-    ensures messages { OnOk result (
-        messages.new ≡ messages.old ++ (messages_from assembler.old (value.now ∷ [])).list) }
-    ensures fault { IfOk result (λ is_faulty.
-        is_faulty ≡ is_some (messages_from assembler.old (value.now ∷ [])).fault) }
-    ensures next { IfOk result (λ is_faulty. is_faulty ≡ false →
-        assembler.new ≡ assembly_from assembler.old (value.now ∷ [])) }
+    ensures messages { (assembly : Assembly) (before : List Received) →
+        Assembles assembler.old assembly →
+        StandForAll assembler.old.accepted messages.old before →
+        OnOk result (StandForAll assembler.old.accepted messages.new
+        (before ++ (messages_from assembly (value.now ∷ [])).list)) }
+    ensures fault { (assembly : Assembly) → Assembles assembler.old assembly →
+        IfOk result (λ is_faulty.
+        is_faulty ≡ is_some (messages_from assembly (value.now ∷ [])).fault) }
+    ensures next { (assembly : Assembly) → Assembles assembler.old assembly →
+        IfOk result (λ is_faulty. is_faulty ≡ false →
+        Assembles assembler.new (assembly_from assembly (value.now ∷ []))) }
+    ensures unspent { IfOk result (λ is_faulty. is_faulty ≡ false →
+        spent_with assembler.new ≡ None) }
+    ensures keeps { assembler.new.accepted ≡ assembler.old.accepted }
 {
     match assembler.take(value) {
         Ok(None) => Ok(false),
@@ -235,13 +255,18 @@ fn take_value(
 
 /// Gives values to an assembler, up to one that is faulty.
 fn read_values(alloc: Global, assembler: &mut Assembler, values: &[Pdv]) -> Result<Read, AllocError>
-    requires { spent_by assembler.old ≡ None }
-    ensures messages { IfOk result (λ read.
-        read.messages ≡ (messages_from assembler.old values.now).list) }
-    ensures fault { IfOk result (λ read.
-        read.is_faulty ≡ is_some (messages_from assembler.old values.now).fault) }
-    ensures next { IfOk result (λ read. read.is_faulty ≡ false →
-        assembler.new ≡ assembly_from assembler.old values.now) }
+    requires { spent_with assembler.old ≡ None }
+    ensures messages { (assembly : Assembly) → Assembles assembler.old assembly →
+        IfOk result (λ read. StandForAll assembler.old.accepted read.messages
+        (messages_from assembly values.now).list) }
+    ensures fault { (assembly : Assembly) → Assembles assembler.old assembly →
+        IfOk result (λ read. read.is_faulty ≡ is_some (messages_from assembly values.now).fault) }
+    ensures next { (assembly : Assembly) → Assembles assembler.old assembly →
+        IfOk result (λ read. read.is_faulty ≡ false →
+        Assembles assembler.new (assembly_from assembly values.now)) }
+    ensures unspent { IfOk result (λ read. read.is_faulty ≡ false →
+        spent_with assembler.new ≡ None) }
+    ensures keeps { assembler.new.accepted ≡ assembler.old.accepted }
 {
     let mut messages = Listed::empty(alloc);
     for value in values {
@@ -262,18 +287,18 @@ fn read_values(alloc: Global, assembler: &mut Assembler, values: &[Pdv]) -> Resu
 /// What an association holds once its request is accepted.
 fn opened(alloc: Global, request: &Request, limit: PeerLimit) -> Result<Held, AllocError>
     requires { limit ≡ peer_limit request.now }
-    ensures { IfOk result (λ held. held ≡ association_at State.Open request.now) }
+    ensures { IfOk result (λ held. Stands held (association_at State.Open request.now)) }
 {
     let agreement = negotiation::agreement_of(alloc, request, limit)?;
-    let assembler = Assembler::new(alloc, agreement.ids(alloc)?);
+    let assembler = Assembler::new(alloc, agreement.accepted(alloc)?);
     Ok(Held::Open(agreement, assembler))
 }
 
 impl Association {
     /// An association that awaits its request. It takes no memory.
     pub fn new(alloc: Global) -> Self
-        ensures after { AssociationAfter [] result }
-        ensures state { state_of result ≡ State.Waiting }
+        ensures after { WasGiven [] result }
+        ensures state { held_state result ≡ State.Waiting }
     {
         Association {
             alloc,
@@ -281,9 +306,17 @@ impl Association {
         }
     }
 
+    /// Makes it an association that awaits its request, for another connection. It takes no memory.
+    pub fn reset(&mut self)
+        ensures after { WasGiven [] self.new }
+        ensures state { held_state self.new ≡ State.Waiting }
+    {
+        self.held = Held::Waiting;
+    }
+
     /// The state that the association is in.
     pub fn state(&self) -> State
-        ensures { result ≡ state_of self.now }
+        ensures { result ≡ held_state self.now }
     {
         match self.held {
             Held::Waiting => State::Waiting,
@@ -294,7 +327,7 @@ impl Association {
 
     /// What the association agreed on with its request, also after it is closed.
     pub fn agreement(&self) -> Option<&Agreement>
-        ensures { option_copied result ≡ agreement_in self.now }
+        ensures { option_copied result ≡ held_agreement self.now }
     {
         match &self.held {
             Held::Waiting => None,
@@ -306,32 +339,28 @@ impl Association {
     /// Answers the request (PS3.8 sections 9.3.2 to 9.3.4). After an error the association is
     /// dropped.
     pub fn accept(&mut self, request: Request, verdict: Verdict) -> Result<Step, AllocError>
-        requires { state_of self.old ≡ State.Waiting }
-        ensures step { IfOk result (λ step.
-            step ≡ step_of (line State.Waiting verdict (Requested request))) }
-        ensures close { IfOk result (λ step. step.close ≡ is_closed (state_of self.new)) }
+        requires { held_state self.old ≡ State.Waiting }
+        ensures step { IfOk result (λ step. (accepted : List Accepted) →
+            IsStep accepted step (step_of (line State.Waiting verdict (Requested request)))) }
+        ensures close { IfOk result (λ step. step.close ≡ is_closed (held_state self.new)) }
         ensures after { IfOk result (λ step.
-            step.close ≡ false → AssociationAfter (Pdu.Request request ∷ []) self.new) }
+            step.close ≡ false → WasGiven (Pdu.Request request ∷ []) self.new) }
         ensures agreement { IfOk result (λ step.
-            step.close ≡ false → agreement_in self.new ≡ Some (agreement_of request)) }
-        ensures refused { IfOk result (λ step. step.close ≡ true → agreement_in self.new ≡ None) }
-        // What PDUs add after the request, they add from here.
-        ensures further { IfOk result (λ step. step.close ≡ false →
-            (pdus : List Pdu) (fault : Option PduFault) →
-            inputs_from self.old (Pdu.Request request ∷ pdus) fault
-            ≡ Requested request ∷ inputs_from self.new pdus fault) }
+            step.close ≡ false → held_agreement self.new ≡ Some (agreement_of request)) }
+        ensures refused { IfOk result (λ step.
+            step.close ≡ true → held_agreement self.new ≡ None) }
     {
         self.open(request, verdict)
     }
 
     /// Answers the request, by the line of the table.
     fn open(&mut self, request: Request, verdict: Verdict) -> Result<Step, AllocError>
-        ensures step { IfOk result (λ step.
-            step ≡ step_of (line State.Waiting verdict (Requested request))) }
-        ensures close { IfOk result (λ step. step.close ≡ is_closed (state_of self.new)) }
+        ensures step { IfOk result (λ step. (accepted : List Accepted) →
+            IsStep accepted step (step_of (line State.Waiting verdict (Requested request)))) }
+        ensures close { IfOk result (λ step. step.close ≡ is_closed (held_state self.new)) }
         ensures exact { OnOk result (
             let next = (line State.Waiting verdict (Requested request)).next in
-            self.new ≡ association_at next request) }
+            Stands self.new (association_at next request)) }
     {
         self.held = Held::Closed(None);
         match negotiation::peer_limit(&request, verdict) {
@@ -349,12 +378,12 @@ impl Association {
     fn open_unless_stray(&mut self, request: &Request, limit: PeerLimit) -> Result<Step, AllocError>
         requires closed { self.old ≡ Held.Closed None }
         requires limit { limit ≡ peer_limit request.now }
-        ensures step { IfOk result (λ step.
-            step ≡ step_of (accepted_line (acceptance_of request.now))) }
-        ensures close { IfOk result (λ step. step.close ≡ is_closed (state_of self.new)) }
+        ensures step { IfOk result (λ step. (accepted : List Accepted) →
+            IsStep accepted step (step_of (accepted_line (acceptance_of request.now)))) }
+        ensures close { IfOk result (λ step. step.close ≡ is_closed (held_state self.new)) }
         ensures exact { OnOk result (
             let next = (accepted_line (acceptance_of request.now)).next in
-            self.new ≡ association_at next request.now) }
+            Stands self.new (association_at next request.now)) }
     {
         let answer = negotiation::acceptance(self.alloc, request)?;
         if !writable(&answer) {
@@ -381,13 +410,16 @@ impl Association {
         values: &[Pdv],
     ) -> Result<Step, AllocError>
         requires closed { self.old ≡ Held.Closed None }
-        requires sound { spent_by assembler ≡ None }
-        ensures step { IfOk result (λ step.
-            step ≡ values_step (messages_from assembler values.now)) }
-        ensures close { IfOk result (λ step. step.close ≡ is_closed (state_of self.new)) }
-        ensures exact { OnOk result (
-            let next = assembly_from assembler values.now in
-            self.new ≡ open_if (spent_by next) agreement next) }
+        requires unspent { spent_with assembler ≡ None }
+        ensures step { (assembly : Assembly) → Assembles assembler assembly →
+            IfOk result (λ step. IsStep assembler.accepted step
+            (values_step (messages_from assembly values.now))) }
+        ensures close { IfOk result (λ step. step.close ≡ is_closed (held_state self.new)) }
+        ensures exact { (assembly : Assembly) → Assembles assembler assembly →
+            assembler.accepted ≡ accepted_by agreement →
+            OnOk result (let next = assembly_from assembly values.now in
+            Stands self.new (open_if (spent_by next) agreement next)) }
+        ensures agreement { OnOk result (held_agreement self.new ≡ Some agreement) }
     {
         let read = read_values(self.alloc, &mut assembler, values)?;
         if read.is_faulty {
@@ -407,11 +439,14 @@ impl Association {
 
     /// Takes a PDU, by what it is to an association.
     fn take_role(&mut self, role: &Role) -> Result<Step, AllocError>
-        requires { TakesRole self.old role.now }
-        ensures step { IfOk result (λ step.
-            step ≡ outcome (state_of self.old) (inputs_by self.old (role.now ∷ []) None)) }
-        ensures close { IfOk result (λ step. step.close ≡ is_closed (state_of self.new)) }
-        ensures exact { OnOk result (self.new ≡ association_by self.old (role.now ∷ [])) }
+        requires { TakesRole (held_state self.old) role.now }
+        ensures step { (association : Pure) → Stands self.old association →
+            IfOk result (λ step. IsStep (accepted_in (held_agreement self.old)) step
+            (outcome (state_of association) (inputs_by association (role.now ∷ []) None))) }
+        ensures close { IfOk result (λ step. step.close ≡ is_closed (held_state self.new)) }
+        ensures exact { (association : Pure) → Stands self.old association →
+            OnOk result (Stands self.new (association_by association (role.now ∷ []))) }
+        ensures agreement { OnOk result (held_agreement self.new ≡ held_agreement self.old) }
     {
         let messages = Listed::empty(self.alloc);
         match mem::replace(&mut self.held, Held::Closed(None)) {
@@ -430,17 +465,15 @@ impl Association {
     /// Takes a PDU after the request, or one that stands in its place. After an error the
     /// association is dropped.
     pub fn take(&mut self, pdu: Pdu) -> Result<Step, AllocError>
-        requires { Takes self.old pdu }
-        ensures step { IfOk result (λ step.
-            step ≡ outcome (state_of self.old) (inputs_from self.old (pdu ∷ []) None)) }
-        ensures close { IfOk result (λ step. step.close ≡ is_closed (state_of self.new)) }
-        ensures after { (pdus : List Pdu) → AssociationAfter pdus self.old →
-            OnOk result (AssociationAfter (pdus ++ pdu ∷ []) self.new) }
-        ensures agreement { OnOk result (agreement_in self.new ≡ agreement_in self.old) }
-        // What PDUs add, this one and those after it add from here on.
-        ensures further { OnOk result ((pdus : List Pdu) (fault : Option PduFault) →
-            inputs_from self.old (pdu ∷ pdus) fault
-            ≡ inputs_from self.old (pdu ∷ []) None ++ inputs_from self.new pdus fault) }
+        requires { Takes (held_state self.old) pdu }
+        // Whatever association this one stands for: what the PDU leads to, and where it leaves it.
+        ensures step { (association : Pure) → Stands self.old association →
+            IfOk result (λ step. IsStep (accepted_in (held_agreement self.old)) step
+            (outcome (state_of association) (inputs_from association (pdu ∷ []) None))) }
+        ensures close { IfOk result (λ step. step.close ≡ is_closed (held_state self.new)) }
+        ensures next { (association : Pure) → Stands self.old association →
+            OnOk result (Stands self.new (association_from association (pdu ∷ []))) }
+        ensures agreement { OnOk result (held_agreement self.new ≡ held_agreement self.old) }
     {
         self.take_role(&pdu.into_role())
     }
@@ -448,14 +481,15 @@ impl Association {
     /// Takes PDUs in order after the request, up to one that closes, and then a fault of the
     /// stream. After an error the association is dropped.
     pub fn take_all(&mut self, pdus: Vec<Pdu>, fault: Option<PduFault>) -> Result<Step, AllocError>
-        requires { state_of self.old ≡ State.Open }
-        ensures step { IfOk result (λ step.
-            step ≡ outcome State.Open (inputs_from self.old pdus.items fault)) }
-        ensures close { IfOk result (λ step. step.close ≡ is_closed (state_of self.new)) }
-        ensures after { (before : List Pdu) → AssociationAfter before self.old →
+        requires { held_state self.old ≡ State.Open }
+        ensures step { (association : Pure) → Stands self.old association →
+            IfOk result (λ step. IsStep (accepted_in (held_agreement self.old)) step
+            (outcome State.Open (inputs_from association pdus.items fault))) }
+        ensures close { IfOk result (λ step. step.close ≡ is_closed (held_state self.new)) }
+        ensures next { (association : Pure) → Stands self.old association →
             IfOk result (λ step. step.close ≡ false →
-            (fault ≡ None) × AssociationAfter (before ++ pdus.items) self.new) }
-        ensures agreement { OnOk result (agreement_in self.new ≡ agreement_in self.old) }
+            (fault ≡ None) × Stands self.new (association_from association pdus.items)) }
+        ensures agreement { OnOk result (held_agreement self.new ≡ held_agreement self.old) }
     {
         let mut messages = Vec::new(self.alloc);
         for pdu in pdus {
@@ -470,13 +504,15 @@ impl Association {
 
     /// What messages lead to, and then a fault of the stream if there is one.
     fn end(&mut self, messages: Vec<Message>, fault: Option<PduFault>) -> Result<Step, AllocError>
-        requires { state_of self.old ≡ State.Open }
-        ensures step { IfOk result (λ step. step ≡ after_messages messages.items
-            (outcome State.Open (inputs_from self.old [] fault))) }
-        ensures close { IfOk result (λ step. step.close ≡ is_closed (state_of self.new)) }
+        requires { held_state self.old ≡ State.Open }
+        ensures step { (association : Pure) (before : List Received) → Stands self.old association →
+            let accepted = accepted_in (held_agreement self.old) in
+            StandForAll accepted messages.items before → IfOk result (λ step. IsStep accepted step
+            (after_messages before (outcome State.Open (inputs_from association [] fault)))) }
+        ensures close { IfOk result (λ step. step.close ≡ is_closed (held_state self.new)) }
         ensures kept { IfOk result (λ step. step.close ≡ false →
             (fault ≡ None) × (self.new ≡ self.old)) }
-        ensures agreement { OnOk result (agreement_in self.new ≡ agreement_in self.old) }
+        ensures agreement { OnOk result (held_agreement self.new ≡ held_agreement self.old) }
     {
         match fault {
             None => Ok(Step {
@@ -491,11 +527,12 @@ impl Association {
     /// Answers a fault of the stream, and is closed from then on: AA-1 in Sta2, AA-8 in Sta6. One
     /// that was closed before answers nothing.
     pub fn stop(&mut self, fault: PduFault) -> Result<Step, AllocError>
-        ensures step { IfOk result (λ step.
-            step ≡ outcome (state_of self.old) (inputs_from self.old [] (Some fault))) }
+        ensures step { (association : Pure) → Stands self.old association →
+            IfOk result (λ step. (accepted : List Accepted) → IsStep accepted step
+            (outcome (state_of association) (inputs_from association [] (Some fault)))) }
         ensures close { IfOk result (λ step. step.close ≡ true) }
-        ensures state { state_of self.new ≡ State.Closed }
-        ensures agreement { agreement_in self.new ≡ agreement_in self.old }
+        ensures state { held_state self.new ≡ State.Closed }
+        ensures agreement { held_agreement self.new ≡ held_agreement self.old }
     {
         let answer = fault_answer(self.state(), fault);
         let held = mem::replace(&mut self.held, Held::Closed(None));

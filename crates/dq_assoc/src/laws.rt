@@ -15,7 +15,7 @@ ghost use Rattle.dq_pdu.specs.Acceptances.{AreOctets};
 ghost use Rattle.dq_pdu.specs.Stream.{pdus_in};
 ghost use Rattle.dq_assoc.specs.declared.classes.SopClass.{SopClass};
 ghost use Rattle.dq_assoc.specs.declared.agreement.AgreedContext.{AgreedContext};
-ghost use Rattle.dq_assoc.specs.declared.association.Held.{Held};
+ghost use Rattle.dq_assoc.specs.Associations.{Held};
 ghost use Rattle.dq_assoc.specs.declared.association.State.{State};
 ghost use Rattle.dq_assoc.specs.declared.association.State.TheVariants.{Waiting, Open, Closed};
 ghost use Rattle.dq_assoc.specs.declared.association.Verdict.{Verdict};

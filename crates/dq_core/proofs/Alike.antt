@@ -1,10 +1,10 @@
 -- What inputs are answered with, by the plain server and by the parts of the server: alike.
 use Rattle.std.proofs.Common.{◌≡◌, ℕ, Bool, true, false, List, [], ◌∷◌, ◌++◌, Option, Some, None, ◌⊎◌, inl, inr, refl, sym, ap, ◌∙◌, append_assoc}
 use Rattle.dq_pdu.specs.declared.pdu.Request.{Request}
-use Rattle.dq_dimse.specs.declared.command.Message.{Message}
+use Rattle.dq_dimse.specs.Received.{Message}
 use Rattle.dq_assoc.specs.declared.agreement.Agreement.{Agreement}
 use Rattle.dq_assoc.specs.declared.association.State.TheVariants.{Waiting}
-use Rattle.dq_assoc.specs.declared.association.Step.{Step}
+use Rattle.dq_assoc.specs.Steps.{Step}
 use Rattle.dq_assoc.specs.declared.association.Verdict.{Verdict}
 use Rattle.dq_assoc.specs.declared.association.Verdict.TheVariants.{Nowhere}
 use Rattle.dq_assoc.specs.Negotiation.{agreement_of}
@@ -15,7 +15,7 @@ use Rattle.dq_config.specs.declared.config.Institution.{Institution}
 use Rattle.dq_config.specs.Limits.{Limits, limits_of}
 use Rattle.dq_tables.specs.declared.row.Row.{Row}
 use Rattle.dq_tables.specs.Rows.{Record, Edit, of}
-use Rattle.dq_core.specs.declared.slot.Taken.{Taken}
+use Rattle.dq_core.specs.Doing.{Taken}
 use Rattle.dq_core.specs.Answers.{Progress, Answer, line_answer, then_answer, answers, stranger_answer}
 use Rattle.dq_core.specs.Owners.{is_sound}
 use Rattle.dq_core.specs.Shared.{operations_by}

@@ -1,8 +1,12 @@
 -- Answers that are given one after the other.
-use Rattle.std.proofs.Common.{◌≡◌, ℕ, Bool, true, false, List, [], ◌∷◌, ◌++◌, map, take, Option, Some, None, ◌⊎◌, inl, inr, refl, sym, ap, ◌∙◌, append_assoc}
+use Rattle.std.proofs.Common.{◌≡◌, ℕ, Bool, true, false, List, [], ◌∷◌, ◌++◌, map, take, Option, Some, None, ◌⊎◌, inl, inr, refl, sym, ap, subst, ◌∙◌, append_assoc}
 use Rattle.std.proofs.lemmas.List.{map-append, append-nil}
-use Rattle.dq_dimse.specs.declared.command.Message.{Message}
+use Rattle.dq_dimse.specs.declared.assembler.Accepted.{Accepted}
+use Rattle.dq_dimse.specs.declared.command.Message.{Message as HeldMessage}
+use Rattle.dq_dimse.specs.Holding.{StandForAll, StandsOn}
+use Rattle.dq_dimse.specs.Received.{Message}
 use Rattle.dq_assoc.specs.declared.agreement.Agreement.{Agreement}
+use Rattle.dq_assoc.specs.Holding.{accepted_by}
 use Rattle.dq_config.specs.declared.config.Institution.{Institution}
 use Rattle.dq_config.specs.Limits.{limits_of}
 use Rattle.dq_tables.specs.declared.row.Row.{Row}
@@ -10,7 +14,9 @@ use Rattle.dq_tables.specs.Rows.{Record, Edit, edited_all, of, Operation, by, af
 use Rattle.dq_core.specs.Answers.{Answer, then_answer}
 use Rattle.dq_core.specs.Shared.{operations_by}
 use Rattle.dq_core.specs.Stepping.{IsPartOf}
-use Rattle.dq_core.specs.Doing.{Did, DidPart, served_answer, messages_answer}
+use Rattle.dq_core.specs.declared.slot.Taken.{Taken as HeldTaken}
+use Rattle.dq_core.specs.Doing.{Did, DidPart, Taken, served_answer, messages_answer, taken_answer}
+use Rattle.dq_core.specs.Slots.{IsTaken}
 use Rattle.dq_core.proofs.Going.{part-left}
 
 pub after-append : (xs ys : List Operation) (rows : List Row) → after_all (xs ++ ys) rows ≡ after_all ys (after_all xs rows)
@@ -130,3 +136,74 @@ module _ {i : Institution} {a : Agreement} {all left : List Message} {r0 r1 : Li
         → DidPart (Some i) (messages_answer (limits_of i) a (of i.name r0) all) r0 r2 IsLeft
     serves-part {r2 = r2} IsLeft part = from-part serves.rest r2 IsLeft
         (rw e (part-first (Some i) (served m) (messages_answer (limits_of i) a (served m).next.records ms) r1 r2 IsLeft false refl part))
+
+-- ---- messages that are held
+
+-- what is left of the messages that are held stands for what is left of those that are served
+pub record HasServed (i : Institution) (a : Agreement) (helds : List HeldMessage) (all : List Message) (r0 r1 : List Row) (x0 x1 : List ℕ) : Type 0 where
+  pub left : List Message
+  pub stand : StandForAll (accepted_by a) helds left
+  pub serves : Serves i a all left r0 r1 x0 x1
+
+pub record Unconsed (accepted : List Accepted) (held : HeldMessage) (helds : List HeldMessage) (left : List Message) : Type 0 where
+  pub message : Message
+  pub messages : List Message
+  pub parts : left ≡ message ∷ messages
+  pub on : StandsOn accepted held message
+  pub stand : StandForAll accepted helds messages
+
+unconsed : (accepted : List Accepted) (held : HeldMessage) (helds : List HeldMessage) (left : List Message) → StandForAll accepted (held ∷ helds) left
+    → Unconsed accepted held helds left
+unconsed accepted held helds [] stand = absurd stand
+unconsed accepted held helds (m ∷ ms) stand = record { message = m; messages = ms; parts = refl; on = stand.0; stand = stand.1 }
+
+pub none_stands : (accepted : List Accepted) (left : List Message) → StandForAll accepted [] left → left ≡ []
+none_stands accepted [] stand = refl
+none_stands accepted (m ∷ ms) stand = absurd stand
+
+module _ {i : Institution} {a : Agreement} {helds : List HeldMessage} {all : List Message} {r0 r1 : List Row} {x0 x1 : List ℕ}
+    (has : HasServed i a helds all r0 r1 x0 x1) where
+  pub held-all : helds ≡ [] → Did (Some i) (messages_answer (limits_of i) a (of i.name r0) all) r0 r1 x0 x1
+  held-all e =
+      serves-all has.serves (none_stands (accepted_by a) has.left (subst (λ (hs : List HeldMessage). StandForAll (accepted_by a) hs has.left) e has.stand))
+
+  module _ {held : HeldMessage} {others : List HeldMessage} (e : helds ≡ held ∷ others) where
+    next-held : Unconsed (accepted_by a) held others has.left
+    next-held = unconsed (accepted_by a) held others has.left (subst (λ (hs : List HeldMessage). StandForAll (accepted_by a) hs has.left) e has.stand)
+
+    pub held-next : {r2 : List Row} {x2 : List ℕ} → Lens
+        → ((m : Message) → StandsOn (accepted_by a) held m → Did (Some i) (served_answer (limits_of i) a (of i.name r1) m) r1 r2 x1 x2)
+        → HasServed i a others all r0 r2 x0 x2
+    held-next lens d = record {
+      left = next-held.messages;
+      stand = next-held.stand;
+      serves = serves-next has.serves next-held.parts lens (d next-held.message next-held.on);
+    }
+
+    pub held-part : {r2 : List Row} (IsLeft : List Row → Type 0)
+        → ((m : Message) → StandsOn (accepted_by a) held m → DidPart (Some i) (served_answer (limits_of i) a (of i.name r1) m) r1 r2 IsLeft)
+        → DidPart (Some i) (messages_answer (limits_of i) a (of i.name r0) all) r0 r2 IsLeft
+    held-part IsLeft part = serves-part has.serves next-held.parts IsLeft (part next-held.message next-held.on)
+
+pub none_served : (i : Institution) (a : Agreement) (helds : List HeldMessage) (all : List Message) (r0 : List Row) (x0 : List ℕ)
+    → StandForAll (accepted_by a) helds all → HasServed i a helds all r0 r0 x0 x0
+none_served i a helds all r0 x0 stand = record {
+  left = all;
+  stand = stand;
+  serves = record { rest = record { did = λ r2 x2 did. did; part = λ r2 begun. widest begun } };
+}
+
+-- ---- what was taken
+
+-- the answer to messages, with what comes before it and after it
+pub answer_between : (i : Institution) (a : Agreement) (held : HeldTaken) (t : Taken) (r0 r1 : List Row) (start out octets : List ℕ)
+    → IsTaken (Some a) held t → start ≡ held.opening
+    → Did (Some i) (messages_answer (limits_of i) a (of i.name r0) t.step.messages) r0 r1 start out → octets ≡ out ++ held.step.octets
+    → Did (Some i) (taken_answer (limits_of i) (of i.name r0) (Some a) t) r0 r1 [] octets
+answer_between i a held t r0 r1 start out octets is s did e =
+    let served = messages_answer (limits_of i) a (of i.name r0) t.step.messages in
+    record {
+      octets = e ∙ ap (λ (x : List ℕ). out ++ x) is.step.octets ∙ ap (λ (x : List ℕ). x ++ t.step.octets) did.octets
+          ∙ ap (λ (x : List ℕ). (x ++ served.octets) ++ t.step.octets) (s ∙ is.opening) ∙ append_assoc t.opening served.octets t.step.octets;
+      rows = did.rows;
+    }

@@ -6,6 +6,7 @@ pub mod Responding
 pub mod Serving
 pub mod Going
 pub mod Slotted
+pub mod Tallying
 pub mod Alike
 pub mod Owning
 pub mod Pieces

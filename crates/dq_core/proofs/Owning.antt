@@ -1,6 +1,5 @@
 -- Who has a connection that is held, by its slot and by its stream, and what PDUs more add.
 use Rattle.std.proofs.Common.{◌≡◌, ℕ, Bool, true, false, List, [], ◌∷◌, ◌++◌, length, drop, option_map, Option, Some, None, ◌⊎◌, inl, inr, refl, sym, ap, ◌∙◌, arith}
-use Rattle.std.proofs.lemmas.Bool.Decides.{nat_tests}
 use Rattle.std.proofs.Math.Seq.{drop-append_seam}
 use Rattle.dq_pdu.specs.declared.pdu.Pdu.{Pdu}
 use Rattle.dq_pdu.specs.declared.pdu.Pdu.TheVariants.{Request as request_pdu}
@@ -8,20 +7,21 @@ use Rattle.dq_pdu.specs.declared.pdu.Request.{Request}
 use Rattle.dq_pdu.specs.declared.fault.PduFault.{PduFault}
 use Rattle.dq_pdu.specs.Stream.{pdus_in}
 use Rattle.dq_assoc.specs.declared.agreement.Agreement.{Agreement}
-use Rattle.dq_assoc.specs.declared.association.Held.{Held}
-use Rattle.dq_assoc.specs.declared.association.Held.TheVariants as held
+use Rattle.dq_assoc.specs.Associations.{Held}
+use Rattle.dq_assoc.specs.Associations as held
 use Rattle.dq_assoc.specs.declared.association.State.TheVariants.{Waiting, Open}
 use Rattle.dq_assoc.specs.Negotiation.{agreement_of}
 use Rattle.dq_assoc.specs.Table.{Input, Requested}
 use Rattle.dq_assoc.specs.Inputs.{inputs_of, inputs}
-use Rattle.dq_assoc.specs.After.{AssociationAfter, state_of, is_closed, agreement_in, inputs_from}
+use Rattle.dq_assoc.specs.After.{AssociationAfter, state_of, is_closed, agreement_in, association_from, inputs_from}
+use Rattle.dq_assoc.proofs.Standing.{stands_state, stands_agreement}
 use Rattle.dq_config.specs.declared.config.Institution.{Institution}
 use Rattle.dq_config.specs.Routing.{routed, named}
 use Rattle.dq_core.specs.declared.slot.Slot.{Slot}
-use Rattle.dq_core.specs.Answers.{request_in, inputs_added, verdict_at}
+use Rattle.dq_core.specs.Answers.{request_in, inputs_added}
 use Rattle.dq_core.specs.Connections.{Connection}
-use Rattle.dq_core.specs.Owners.{is_sound, owner_by, owner, is_of, live_of}
-use Rattle.dq_core.specs.Slots.{home_of, AreHeld, is_home, count_at, verdict_of, routed_first}
+use Rattle.dq_core.specs.Owners.{is_sound, owner_by, owner, is_of}
+use Rattle.dq_core.specs.Slots.{home_of, IsHeld, is_home, routed_first}
 
 -- the laws of the crates below
 abbrev pub Waits : Type 0
@@ -88,20 +88,16 @@ counted-at waits institutions name stream held.Waiting home f a u e =
 counted-at waits institutions name stream (held.Open agreement assembly) home f a u e = rw e (home-named name (owner institutions stream) agreement)
 counted-at waits institutions name stream (held.Closed b) home f a u e = cc
 
-counts : Waits → (institutions : List Institution) (name : List ℕ) (slots : List Slot) (cs : List Connection) → AreHeld institutions slots cs
-    → count_at name slots ≡ live_of institutions name cs
-counts waits institutions name [] [] h = refl
-counts waits institutions name [] (c ∷ cs) h = absurd h
-counts waits institutions name (slot ∷ slots) [] h = absurd h
-counts waits institutions name (slot ∷ slots) (c ∷ cs) h =
-    let s = h.0.stands in
-    let counted = counted-at waits institutions name c.stream slot.association slot.home h.0.faultless s.association s.not_closed s.home in
-    grind (arith, counted, counts waits institutions name slots cs h.1)
-
--- the verdict is that of the count of the institution's own
-pub same-verdict : Waits → (institutions : List Institution) (i : Institution) (slots : List Slot) (cs : List Connection) → AreHeld institutions slots cs
-    → verdict_at i.associations (live_of institutions i.name cs) ≡ verdict_of i slots
-same-verdict waits institutions i slots cs h = let e = counts waits institutions i.name slots cs h in grind (arith, nat_tests, e)
+-- the home of a slot is that of its connection's owner
+pub counted-held : Waits → (institutions : List Institution) (name : List ℕ) (slot : Slot) (c : Connection) → IsHeld institutions slot c
+    → is_home name slot.home ≡ is_of name (owner institutions c.stream)
+counted-held waits institutions name slot c h =
+    let s = h.stands in
+    let first = association_from held.Waiting (pdus_in c.stream).list in
+    let stands = s.association.stands in
+    counted-at waits institutions name c.stream first slot.home h.faultless (record { stands = refl })
+    (ap is_closed (sym (stands_state slot.association first stands)) ∙ s.not_closed)
+    (s.home ∙ ap (home_of (owner institutions c.stream)) (stands_agreement slot.association first stands))
 
 -- ---- owners
 

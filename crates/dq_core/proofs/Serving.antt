@@ -1,11 +1,16 @@
 -- What a message is answered with and changes, by its service.
-use Rattle.std.proofs.Common.{◌≡◌, ℕ, true, false, ◌==◌, List, [], ◌∷◌, ◌++◌, Some, None, ◌⊎◌, inl, refl, sym}
+use Rattle.std.proofs.Common.{◌≡◌, ℕ, Bool, true, false, ◌==◌, List, [], ◌∷◌, ◌++◌, map, find, Option, Some, None, option_map, ◌⊎◌, inl, refl, sym, ap, subst, ◌∙◌, if◌then◌else◌}
 use Rattle.std.specs.List.{flat_map}
 use Rattle.std.proofs.lemmas.List.{append-nil}
-use Rattle.dq_dimse.specs.declared.command.Message.{Message}
+use Rattle.dq_dimse.specs.declared.assembler.Accepted.{Accepted}
+use Rattle.dq_dimse.specs.declared.command.Command.{Command}
+use Rattle.dq_dimse.specs.declared.command.Message.{Message as HeldMessage}
+use Rattle.dq_dimse.specs.Holding.{StandsFor, StandsOn, accepted_with}
+use Rattle.dq_dimse.specs.Received.{Message}
 use Rattle.dq_dimse.specs.CommandFields.{c_cancel}
 use Rattle.dq_assoc.specs.declared.agreement.AgreedContext.{AgreedContext}
 use Rattle.dq_assoc.specs.declared.agreement.Agreement.{Agreement}
+use Rattle.dq_assoc.specs.Holding.{accepted_by, accepted_context}
 use Rattle.dq_assoc.specs.Negotiation.{context_of}
 use Rattle.dq_config.specs.declared.config.Institution.{Institution}
 use Rattle.dq_config.specs.Limits.{limits_of}
@@ -61,6 +66,42 @@ module _ (i : Institution) (a : Agreement) (m : Message) where
       made = refl;
       crash = crash;
     })
+
+-- ---- messages that are held
+
+accepted_step : (id : ℕ) (c : AgreedContext) (found : Option Accepted) (other : Option AgreedContext) (same : Bool)
+    → found ≡ option_map accepted_context other
+    → (if same then Some (accepted_context c) else found) ≡ option_map accepted_context (if same then Some c else other)
+accepted_step id c found other true e = refl
+accepted_step id c found other false e = e
+
+accepted_is : (id : ℕ) (contexts : List AgreedContext)
+    → accepted_with id (map accepted_context contexts) ≡ option_map accepted_context (find (λ (c : AgreedContext). c.id == id) contexts)
+accepted_is id [] = refl
+accepted_is id (c ∷ cs) =
+    accepted_step id c (accepted_with id (map accepted_context cs)) (find (λ (c : AgreedContext). c.id == id) cs) (c.id == id) (accepted_is id cs)
+
+module _ (a : Agreement) (held : HeldMessage) (m : Message) (on : StandsOn (accepted_by a) held m) where
+  pub context_stands : (found : Option AgreedContext) → context_of a held.context ≡ found → context_of a m.context ≡ found
+  context_stands found e = ap (context_of a) (sym on.stands.context) ∙ e
+
+  -- the context that the message is on
+  pub stands_there : (c : AgreedContext) → context_of a held.context ≡ Some c → StandsFor c.syntax held m
+  stands_there c e =
+      let there : Some on.context ≡ Some (accepted_context c) =
+      sym on.found ∙ accepted_is m.context a.contexts ∙ ap (option_map accepted_context) (context_stands (Some c) e) in
+      let same : on.context ≡ accepted_context c = cc in
+      subst (λ (x : Accepted). StandsFor x.syntax held m) same on.stands
+
+  pub code_stands : (b : Bool) → (held.command.code == c_cancel) ≡ b → (m.command.code == c_cancel) ≡ b
+  code_stands b e = ap (λ (k : Command). k.code == c_cancel) (sym on.stands.command) ∙ e
+
+  pub responses_stand : (c : AgreedContext) (found : Found) (x0 x1 : List ℕ)
+      → x1 ≡ x0 ++ flat_map (response_octets held.context a.limit) (responses c held.command found)
+      → x1 ≡ x0 ++ flat_map (response_octets m.context a.limit) (responses c m.command found)
+  responses_stand c found x0 x1 e =
+      e ∙ ap (λ (n : ℕ). x0 ++ flat_map (response_octets n a.limit) (responses c held.command found)) on.stands.context
+      ∙ ap (λ (k : Command). x0 ++ flat_map (response_octets m.context a.limit) (responses c k found)) on.stands.command
 
 -- an answer whose operations were all made
 pub part-whole : {operations : List Operation} {before after : List Row} {IsLeft : List Row → Type 0} → after ≡ after_all operations before

@@ -1,22 +1,35 @@
 -- What the first PDU of a connection leads to.
-use Rattle.std.proofs.Common.{◌≡◌, ◌<◌, true, false, List, [], ◌∷◌, length, get_or, Option, Some, None, refl, sym, ap, ◌∙◌, arith}
+use Rattle.std.proofs.Common.{◌≡◌, ◌<◌, ℕ, subst, ◌++◌, Bool, true, false, List, [], ◌∷◌, length, get_or, map, Option, Some, None, refl, sym, ap, ◌∙◌, arith}
 use Rattle.std.specs.Option.{IsSome}
 use Rattle.std.proofs.lemmas.Bool.{false≢true}
 use Rattle.dq_pdu.specs.declared.pdu.Pdu.{Pdu}
 use Rattle.dq_pdu.specs.declared.pdu.Pdu.TheVariants.{Request as request_pdu}
 use Rattle.dq_pdu.specs.declared.pdu.Request.{Request}
 use Rattle.dq_pdu.specs.declared.fault.PduFault.{PduFault}
-use Rattle.dq_assoc.specs.declared.association.Held.{Held}
-use Rattle.dq_assoc.specs.declared.association.Held.TheVariants as held
-use Rattle.dq_assoc.specs.declared.association.State.TheVariants.{Waiting}
-use Rattle.dq_assoc.specs.declared.association.Step.{Step}
+use Rattle.dq_pdu.specs.Roles.{role_of}
+use Rattle.dq_dimse.specs.declared.assembler.Accepted.{Accepted}
+use Rattle.dq_dimse.specs.declared.command.Message.{Message as HeldMessage}
+use Rattle.dq_dimse.specs.Holding.{StandForAll}
+use Rattle.dq_dimse.proofs.Assemblies.{assembly_from-nil}
+use Rattle.dq_assoc.specs.Associations.{Held}
+use Rattle.dq_assoc.specs.Associations as held
+use Rattle.dq_assoc.specs.declared.association.State.TheVariants.{Waiting, Open}
+use Rattle.dq_assoc.specs.Steps.{Step}
 use Rattle.dq_assoc.specs.declared.association.Verdict.{Verdict}
 use Rattle.dq_assoc.specs.declared.association.Verdict.TheVariants.{Nowhere}
-use Rattle.dq_assoc.specs.Table.{Requested, line}
-use Rattle.dq_assoc.specs.After.{state_of, is_closed, inputs_from}
-use Rattle.dq_assoc.specs.Steps.{outcome}
+use Rattle.dq_assoc.specs.Table.{Input, Requested, Line, line, answer_octets}
+use Rattle.dq_assoc.specs.declared.agreement.Agreement.{Agreement}
+use Rattle.dq_assoc.specs.declared.association.Held.{Held as HeldAssociation}
+use Rattle.dq_assoc.specs.declared.association.Held.TheVariants as code
+use Rattle.dq_assoc.specs.declared.association.Step.{Step as HeldStep}
+use Rattle.dq_assoc.specs.After.{state_of, is_closed, assembly_for, association_from, inputs_from}
+use Rattle.dq_assoc.specs.Holding.{IsStep, Stands, WasGiven, accepted_in, held_state}
+use Rattle.dq_assoc.specs.Inputs.{inputs_after}
+use Rattle.dq_assoc.specs.Negotiation.{agreement_of, ids_of}
+use Rattle.dq_assoc.specs.Steps.{step_of, open_outcome, outcome}
 use Rattle.dq_config.specs.declared.config.Institution.{Institution}
-use Rattle.dq_core.specs.Doing.{taken}
+use Rattle.dq_core.specs.Doing.{Taken, opened, taken}
+use Rattle.dq_core.specs.Slots.{IsTaken}
 use Rattle.dq_core.proofs.isolation.Requests.{nowhere-closes}
 
 -- a request that is accepted has an owner
@@ -43,3 +56,92 @@ pub misplaced : (verdict : Verdict) (a : Held) (pdus : List Pdu) (p : Pdu) (faul
 misplaced verdict held.Waiting (q ∷ qs) p fault step w l e n s = rw (s, e) (at-first verdict q qs fault (rw e at n))
 misplaced verdict held.Waiting [] p fault step w l e n s = absurd (omega arith)
 misplaced verdict a pdus p fault step w l e n s = absurd (cc)
+
+-- ---- what is held of an association
+
+abbrev pub InParts : Type 0
+InParts = (pdus more : List Pdu) (association : Held)
+    → association_from association (pdus ++ more) ≡ association_from (association_from association pdus) more
+
+pub given_more : InParts → (before more pdus : List Pdu) (h : HeldAssociation) → more ≡ pdus
+    → Stands h (association_from (association_from held.Waiting before) more) → WasGiven (before ++ pdus) h
+given_more law before more pdus h e s = record {
+  stands = subst (Stands h) (ap (association_from (association_from held.Waiting before)) e ∙ sym (law before pdus held.Waiting)) s;
+}
+
+pub waiting_stands : (h : HeldAssociation) → held_state h ≡ Waiting → Stands h held.Waiting
+waiting_stands code.Waiting e = refl
+waiting_stands (code.Open agreement holding) e = absurd cc
+waiting_stands (code.Closed agreement) e = absurd cc
+
+-- nothing came, or what came stands in a request's place
+pub taken_alone : (accepted : Option Agreement) (verdict : Verdict) (association : Held) (pdus : List Pdu) (fault : Option PduFault) (opening : List ℕ)
+    (held_step : HeldStep) (step : Step) → opening ≡ []
+    → taken verdict Waiting (inputs_from association pdus fault) ≡ record { opening = []; step = step } → IsStep (accepted_in accepted) held_step step
+    → IsTaken accepted (record { opening = opening; step = held_step }) (taken verdict Waiting (inputs_from association pdus fault))
+taken_alone accepted verdict association pdus fault opening held_step step e is stands =
+    subst (IsTaken accepted (record { opening = opening; step = held_step })) (sym is) (record { opening = e; step = stands })
+
+-- ---- a request
+
+-- what stands for no message is none
+pub none_held : (accepted : List Accepted) (helds : List HeldMessage) → StandForAll accepted helds [] → helds ≡ []
+none_held accepted [] stand = refl
+none_held accepted (held ∷ helds) stand = absurd stand
+
+refused-line : (l : Line) (later : List Input) → is_closed l.next ≡ true → opened l later ≡ record { opening = []; step = step_of l }
+refused-line l later e = rw e refl
+
+opened-line : (l : Line) (later : List Input) → is_closed l.next ≡ false
+    → opened l later ≡ record { opening = answer_octets l.answer; step = open_outcome later }
+opened-line l later e = rw e refl
+
+-- the association whose request was accepted
+opened-first : (request : Request)
+    → association_from held.Waiting (request_pdu request ∷ []) ≡ held.Open (agreement_of request) (assembly_for request)
+opened-first request = rw (assembly_from-nil (assembly_for request)) refl
+
+module _ (verdict : Verdict) (request : Request) (pdus : List Pdu) (fault : Option PduFault) where
+  abbrev first_line : Line
+  first_line = line Waiting verdict (Requested request)
+
+  abbrev later_inputs : List Input
+  later_inputs = inputs_after (ids_of (agreement_of request)) (map role_of pdus) fault
+
+  abbrev all_taken : Taken
+  all_taken = taken verdict Waiting (inputs_from held.Waiting (request_pdu request ∷ pdus) fault)
+
+  -- one that is refused closes, and nothing comes after it
+  pub taken_refused : (agreement : Option Agreement) (opening : List ℕ) (first : HeldStep) → opening ≡ []
+      → ((accepted : List Accepted) → IsStep accepted first (step_of first_line)) → first.close ≡ true
+      → IsTaken agreement (record { opening = opening; step = first }) all_taken
+  taken_refused agreement opening first e is closes =
+      subst (IsTaken agreement (record { opening = opening; step = first })) (sym (refused-line first_line later_inputs (sym (is []).close ∙ closes)))
+      (record { opening = e; step = is (accepted_in agreement) })
+
+  -- one that is accepted, and what comes after it
+  pub taken_accepted : (old new : Option Agreement) (first later : HeldStep) (items : List Pdu) → new ≡ old → items ≡ pdus
+      → IsStep [] first (step_of first_line) → first.close ≡ false
+      → IsStep (accepted_in old) later (outcome Open (inputs_from (association_from held.Waiting (request_pdu request ∷ [])) items fault))
+      → IsTaken new (record { opening = first.octets; step = later }) all_taken
+  taken_accepted old new first later items same e is opens goes_on =
+      let opened_on = subst (λ (h : Held). IsStep (accepted_in old) later (outcome Open (inputs_from h items fault))) (opened-first request) goes_on in
+      let all_of = subst (λ (ps : List Pdu). IsStep (accepted_in old) later
+      (outcome Open (inputs_from (held.Open (agreement_of request) (assembly_for request)) ps fault))) e opened_on in
+      subst (IsTaken new (record { opening = first.octets; step = later })) (sym (opened-line first_line later_inputs (sym is.close ∙ opens)))
+      (record {
+        opening = is.octets;
+        step = subst (λ (a : Option Agreement). IsStep (accepted_in a) later (open_outcome later_inputs)) (sym same) all_of;
+      })
+
+-- ---- no PDU
+
+pub nothing_stands : (accepted : List Accepted) (close : Bool) (first : HeldStep) → first ≡ record { messages = []; octets = []; close = close }
+    → IsStep accepted first (record { messages = []; octets = []; close = close })
+nothing_stands accepted close first e = rw e (record { messages = tt; octets = refl; close = refl })
+
+pub taken_none : (agreement : Option Agreement) (verdict : Verdict) (pdus : List Pdu) (fault : Option PduFault) (opening : List ℕ) (first : HeldStep)
+    → pdus ≡ [] → opening ≡ [] → IsStep (accepted_in agreement) first (outcome Waiting (inputs_from held.Waiting [] fault))
+    → IsTaken agreement (record { opening = opening; step = first }) (taken verdict Waiting (inputs_from held.Waiting pdus fault))
+taken_none agreement verdict pdus None opening first none e is = rw none (record { opening = e; step = is })
+taken_none agreement verdict pdus (Some fault) opening first none e is = rw none (record { opening = e; step = is })

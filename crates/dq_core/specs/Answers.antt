@@ -3,7 +3,7 @@
 use Rattle.std.specs.Prelude.{ℕ, Bool, false, nat_le, if◌then◌else◌, List, [], ◌∷◌, ◌++◌, length, drop, Option, Some, None, option_map}
 use Rattle.std.specs.List.{flat_map}
 use Rattle.dq_pdu.specs.declared.pdu.Request.{Request}
-use Rattle.dq_dimse.specs.declared.command.Message.{Message}
+use Rattle.dq_dimse.specs.Received.{Message}
 use Rattle.dq_dimse.specs.Sending.{sent}
 use Rattle.dq_assoc.specs.declared.association.State.TheVariants.{Waiting, Open}
 use Rattle.dq_assoc.specs.declared.association.Verdict.{Verdict}

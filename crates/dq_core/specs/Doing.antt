@@ -1,14 +1,14 @@
 -- What the parts of the server do with tables, and what they leave at a fault. This is there for
 -- the prover.
 use Rattle.std.specs.Prelude.{◌≡◌, ℕ, ◌⊎◌, if◌then◌else◌, List, [], ◌∷◌, ◌++◌, Result, IfOk, OnOk, OnErr, Option, None, Some}
-use Rattle.dq_dimse.specs.declared.command.Message.{Message}
+use Rattle.dq_dimse.specs.Received.{Message}
 use Rattle.dq_assoc.specs.declared.agreement.Agreement.{Agreement}
 use Rattle.dq_assoc.specs.declared.association.Verdict.{Verdict}
 use Rattle.dq_assoc.specs.declared.association.State.{State}
 use Rattle.dq_assoc.specs.declared.association.State.TheVariants.{Waiting}
 use Rattle.dq_assoc.specs.Table.{Input, Requested, Line, line, answer_octets}
 use Rattle.dq_assoc.specs.After.{is_closed}
-use Rattle.dq_assoc.specs.Steps.{step_of, open_outcome, outcome}
+use Rattle.dq_assoc.specs.Steps.{Step, step_of, open_outcome, outcome}
 use Rattle.dq_config.specs.declared.config.Institution.{Institution}
 use Rattle.dq_config.specs.Limits.{Limits}
 use Rattle.dq_match.specs.declared.responses.Found.{Found}
@@ -18,7 +18,6 @@ use Rattle.dq_tables.specs.declared.row.Row.{Row}
 use Rattle.dq_tables.specs.Rows.{Record, Edit, of, by, after, after_all}
 use Rattle.dq_tables.specs.Keeping.{State as Kept}
 use Rattle.dq_core.specs.declared.event.Reply.{Reply}
-use Rattle.dq_core.specs.declared.slot.Taken.{Taken}
 use Rattle.dq_core.specs.declared.fault.Fault.{Fault}
 use Rattle.dq_core.specs.declared.fault.Fault.TheVariants.{NoMemory, Store}
 use Rattle.dq_core.specs.Services.{Order, served}
@@ -89,6 +88,10 @@ messages_answer limits agreement records (message ∷ messages) =
 
 -- What inputs of a connection lead to: the acceptance of a request, and the step of what comes
 -- after it.
+pub record Taken : Type 0 where
+  pub opening : List ℕ
+  pub step : Step
+
 abbrev pub opened : Line → List Input → Taken
 opened l inputs =
     if is_closed l.next then record { opening = []; step = step_of l }

@@ -14,6 +14,7 @@ pub mod Histories
 pub mod Faults
 pub mod Stepping
 pub mod Doing
+pub mod Tallies
 pub mod Slots
 pub mod Standing
 pub mod Looking

@@ -3,7 +3,7 @@ use Rattle.std.specs.Prelude.{◌≡◌, ℕ, Bool, false, List, [], ◌∷◌, 
 use Rattle.std.specs.List.{flat_map}
 use Rattle.dq_dataset.specs.Tree.{ElementList}
 use Rattle.dq_dimse.specs.declared.command.Command.{Command}
-use Rattle.dq_dimse.specs.declared.command.Message.{Message}
+use Rattle.dq_dimse.specs.Received.{Message}
 use Rattle.dq_dimse.specs.Statuses as status
 use Rattle.dq_assoc.specs.declared.agreement.AgreedContext.{AgreedContext}
 use Rattle.dq_assoc.specs.declared.agreement.Agreement.{Agreement}

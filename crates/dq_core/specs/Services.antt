@@ -6,7 +6,7 @@ use Rattle.dq_dataset.specs.declared.header.Syntax.{Syntax}
 use Rattle.dq_dataset.specs.Tree.{ElementList}
 use Rattle.dq_dataset.specs.Canonical.{canonical}
 use Rattle.dq_dimse.specs.declared.command.Command.{Command}
-use Rattle.dq_dimse.specs.declared.command.Message.{Message}
+use Rattle.dq_dimse.specs.Received.{Message}
 use Rattle.dq_dimse.specs.CommandFields.{c_cancel, c_echo, c_find, c_store, n_create, n_set, response_bit}
 use Rattle.dq_dimse.specs.Statuses.{success, pending, pending_without_optional_keys, sop_class_not_supported, unrecognized_operation}
 use Rattle.std.specs.Str.{bytes_eq}

@@ -1,24 +1,32 @@
 -- What a slot of the server stands for: a connection that is held. This is there for the prover.
 use Rattle.std.specs.Str.{bytes_eq}
-use Rattle.std.specs.Prelude.{◌≡◌, ℕ, Bool, false, nat_lt, if◌then◌else◌, length, filter, get_or, remove, IsSome, List, [], ◌∷◌, ◌++◌, Option, Some, None}
+use Rattle.std.specs.Prelude.{◌≡◌, ℕ, Bool, false, length, IsSome, List, [], ◌∷◌, ◌++◌, Option, Some, None, Contains}
+use Rattle.std.specs.List.{AllByRecursion}
+use Rattle.std.specs.Ordering.{nat_cmp}
+use Rattle.std.specs.BTreeMap.{IsOrdered}
+use Rattle.slab.specs.Slab.{Slab, get}
 use Rattle.dq_pdu.specs.declared.pdu.Pdu.{Pdu}
 use Rattle.dq_pdu.specs.declared.pdu.Pdu.TheVariants.{Request as request_pdu}
 use Rattle.dq_pdu.specs.Stream.{pdus_in}
 use Rattle.dq_pdu.specs.Inboxes.{InboxAfter}
 use Rattle.dq_assoc.specs.declared.agreement.Agreement.{Agreement}
 use Rattle.dq_assoc.specs.declared.association.Verdict.{Verdict}
-use Rattle.dq_assoc.specs.declared.association.Verdict.TheVariants.{Accept, Nowhere, Busy}
-use Rattle.dq_assoc.specs.After.{AssociationAfter, state_of, is_closed, agreement_in}
+use Rattle.dq_assoc.specs.declared.association.Verdict.TheVariants.{Nowhere}
+use Rattle.dq_assoc.specs.After.{is_closed}
+use Rattle.dq_assoc.specs.Holding.{IsStep, WasGiven, accepted_in, held_agreement, held_state}
 use Rattle.dq_config.specs.declared.config.Institution.{Institution}
 use Rattle.dq_config.specs.Limits.{limits_of}
 use Rattle.dq_config.specs.Routing.{routed, named}
 use Rattle.dq_tables.specs.declared.row.Row.{Row}
 use Rattle.dq_tables.specs.Rows.{of, after_all}
+use Rattle.dq_core.specs.declared.connections.Connections.{Connections}
 use Rattle.dq_core.specs.declared.slot.Slot.{Slot}
-use Rattle.dq_core.specs.declared.slot.Taken.{Taken}
-use Rattle.dq_core.specs.Answers.{Answer}
-use Rattle.dq_core.specs.Connections.{Connection, with_piece, without, with_connection}
-use Rattle.dq_core.specs.Doing.{taken_answer}
+use Rattle.dq_core.specs.declared.slot.Taken.{Taken as HeldTaken}
+use Rattle.dq_core.specs.Answers.{Answer, verdict_at}
+use Rattle.dq_core.specs.Connections.{Connection, with_piece}
+use Rattle.dq_core.specs.Histories.{is_above}
+use Rattle.dq_core.specs.Tallies.{IsTallied, place_in, one_less}
+use Rattle.dq_core.specs.Doing.{Taken, taken_answer}
 use Rattle.dq_core.specs.Owners.{owner}
 use Rattle.dq_core.specs.Shared.{World, Turn, answer_by, operations_by}
 use Rattle.dq_core.specs.declared.event.Reply.{Reply}
@@ -31,10 +39,10 @@ home_of None agreement = None
 
 -- a slot that was given PDUs of which none closed, on a connection of an owner
 pub record StandsAt (owner : Option Institution) (slot : Slot) (pdus : List Pdu) : Type 0 where
-  pub association : AssociationAfter pdus slot.association
-  pub not_closed : is_closed (state_of slot.association) ≡ false
-  pub home : slot.home ≡ home_of owner (agreement_in slot.association)
-  pub owned : (agreement : Agreement) → agreement_in slot.association ≡ Some agreement
+  pub association : WasGiven pdus slot.association
+  pub not_closed : is_closed (held_state slot.association) ≡ false
+  pub home : slot.home ≡ home_of owner (held_agreement slot.association)
+  pub owned : (agreement : Agreement) → held_agreement slot.association ≡ Some agreement
       → IsSome owner
 
 -- the slot of a connection that is held
@@ -44,37 +52,58 @@ pub record IsHeld (institutions : List Institution) (slot : Slot) (c : Connectio
   pub faultless : (pdus_in c.stream).fault ≡ None
   pub stands : StandsAt (owner institutions c.stream) slot (pdus_in c.stream).list
 
--- slots of the connections that are held
-abbrev pub AreHeld : List Institution → List Slot → List Connection → Type 0
-AreHeld institutions [] [] = Unit {0}
-AreHeld institutions (slot ∷ slots) (c ∷ cs) =
-    IsHeld institutions slot c × AreHeld institutions slots cs
-AreHeld institutions [] (c ∷ cs) = ⊥
-AreHeld institutions (slot ∷ slots) [] = ⊥
+-- the place of a connection, and the slot there
+pub record IsAt (institutions : List Institution) (slots : Slab Slot) (number place : ℕ)
+    (c : Connection) : Type 0 where
+  pub slot : Slot
+  pub there : get slots place ≡ Some slot
+  pub numbered : number ≡ c.number
+  pub held : IsHeld institutions slot c
+
+-- numbers with their places, of the connections that are held
+abbrev pub AreAt : List Institution → Slab Slot → List (ℕ × ℕ) → List Connection → Type 0
+AreAt institutions slots [] [] = Unit {0}
+AreAt institutions slots (e ∷ es) (c ∷ cs) =
+    IsAt institutions slots e.0 e.1 c × AreAt institutions slots es cs
+AreAt institutions slots [] (c ∷ cs) = ⊥
+AreAt institutions slots (e ∷ es) [] = ⊥
+
+-- The connections that the server holds: in the order of their numbers, none above the newest, and
+-- with the counts of the associations that are open among them.
+pub record AreHeld (institutions : List Institution) (held : Connections) (cs : List Connection)
+    : Type 0 where
+  pub at : AreAt institutions held.slots held.places.entries cs
+  pub ordered : IsOrdered nat_cmp held.places
+  pub below : AllByRecursion (λ (e : ℕ × ℕ). is_above held.newest e.0 ≡ false) held.places.entries
+  pub tallied : IsTallied institutions held.tally.counts.items cs
+  pub counted : length held.tally.counts.items ≡ length institutions
 
 -- An event was answered by the plain server's turn: the reply is its reply, its operations were
--- made, and the slots are of the connections that are then held.
+-- made, and what is held are the connections that are then held.
 pub record Turned (institutions : List Institution) (t : Turn) (reply : Reply)
-    (before after : List Row) (slots : List Slot) : Type 0 where
+    (before after : List Row) (held : Connections) : Type 0 where
   pub replied : reply ≡ t.reply
   pub rows : after ≡ after_all t.operations before
-  pub holds : AreHeld institutions slots t.connections
+  pub holds : AreHeld institutions held t.connections
 
 -- whether a slot has its home at the institution with a name
 abbrev pub is_home : List ℕ → Option (List ℕ) → Bool
 is_home name None = false
 is_home name (Some home) = bytes_eq home name
 
--- how many slots have it there
-abbrev pub count_at : List ℕ → List Slot → ℕ
-count_at name slots = length (filter (λ (slot : Slot). is_home name slot.home) slots)
+-- the counts after the connection of a slot ended, where it has one
+abbrev pub less_home : List Institution → List ℕ → Option (List ℕ) → List ℕ
+less_home institutions counts None = counts
+less_home institutions counts (Some home) = one_less counts (place_in institutions home)
 
-abbrev pub verdict_of : Institution → List Slot → Verdict
-verdict_of i slots = if nat_lt (count_at i.name slots) i.associations then Accept else Busy
+abbrev pub without_home : List Institution → List ℕ → Option Slot → List ℕ
+without_home institutions counts None = counts
+without_home institutions counts (Some slot) = less_home institutions counts slot.home
 
-abbrev pub verdict_for : Option Institution → List Slot → Verdict
-verdict_for None slots = Nowhere
-verdict_for (Some i) slots = verdict_of i slots
+-- the verdict by the counts of the institutions' open associations
+abbrev pub verdict_for : (List ℕ → ℕ) → Option Institution → Verdict
+verdict_for count None = Nowhere
+verdict_for count (Some i) = verdict_at i.associations (count i.name)
 
 -- the institution to which the titles of a request are routed, where a request stands first
 abbrev pub routed_first : List Institution → List Pdu → Option Institution
@@ -108,14 +137,23 @@ pub record AreAlike (one : Option Institution) (x : Answer) (other : Option Inst
   pub close : x.close ≡ y.close
   pub operations : operations_by one x.changes ≡ operations_by other y.changes
 
--- A piece was taken on a connection that is held, at the index of its slot: the answer is the plain
--- server's, and the slots are of the connections that are then held.
+-- What is held of what was taken stands for what the definitions take, on a connection with an
+-- agreement.
+pub record IsTaken (agreement : Option Agreement) (held : HeldTaken) (t : Taken) : Type 0 where
+  pub opening : held.opening ≡ t.opening
+  pub step : IsStep (accepted_in agreement) held.step t.step
+
+-- A piece was taken on a connection that is held, by its slot: the answer is the plain server's,
+-- and the slot is of the connection with the piece, unless it closes. Where a slot has a home, it is
+-- that of the institution that answers.
 pub record Took (institutions : List Institution) (world : World) (c : Connection) (piece : List ℕ)
-    (index : ℕ) (institution : Option Institution) (t : Taken) (slots : List Slot) : Type 0 where
-  pub answer : (d : Slot) → let o = owner institutions (c.stream ++ piece) in
+    (institution : Option Institution) (held_taken : HeldTaken) (old new : Slot) : Type 0 where
+  pub taken : Taken
+  pub stands : IsTaken (held_agreement new.association) held_taken taken
+  pub answer : let o = owner institutions (c.stream ++ piece) in
       AreAlike o (answer_by o institutions world c piece)
-      institution (answer_of institution world.rows
-      (agreement_in (get_or slots index d).association) t)
-  pub held : t.step.close ≡ false
-      → AreHeld institutions slots (with_connection (with_piece c piece) world.connections)
-  pub left : AreHeld institutions (remove slots index) (without c.number world.connections)
+      institution (answer_of institution world.rows (held_agreement new.association) taken)
+  pub home : old.home ≡ home_of institution (held_agreement old.association)
+  pub held : taken.step.close ≡ false → IsHeld institutions new (with_piece c piece)
+      × (new.home ≡ home_of institution (held_agreement new.association))
+  pub listed : (i : Institution) → institution ≡ Some i → Contains institutions i

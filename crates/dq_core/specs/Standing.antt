@@ -4,7 +4,7 @@ use Rattle.dq_config.specs.declared.config.Institution.{Institution}
 use Rattle.dq_tables.specs.declared.row.Row.{Row}
 use Rattle.dq_tables.specs.Keeping.{State}
 use Rattle.dq_core.specs.declared.event.Event.{Event}
-use Rattle.dq_core.specs.declared.slot.Slot.{Slot}
+use Rattle.dq_core.specs.declared.connections.Connections.{Connections}
 use Rattle.dq_core.specs.Shared.{world_after}
 use Rattle.dq_core.specs.Histories.{newest_after}
 use Rattle.dq_core.specs.Slots.{AreHeld}
@@ -13,7 +13,7 @@ use Rattle.dq_core.specs.Slots.{AreHeld}
 pub record Standing (Tables : Type 0) : Type 0 where
   pub institutions : List Institution
   pub tables : Tables
-  pub slots : List Slot
+  pub slots : Connections
   pub newest : Option ℕ
   pub spent : Bool
 

@@ -1,20 +1,29 @@
 //! The connections that are held.
 
-ghost use Rattle.std.specs.Prelude.{◌≡◌, ◌≢◌, ◌<◌, ◌==◌, ◌⊎◌, ℕ, List, [], None, Some, IfOk, IfErr, OnErr, IsOk, is_some, remove, vec_len};
-ghost use Rattle.std.specs.List.{position};
+ghost use Rattle.std.specs.Prelude.{◌≡◌, ◌≢◌, ◌<◌, ◌^◌, ◌⊎◌, ℕ, List, [], Option, None, IfOk, IfErr, OnErr, IsOk, IsTrue, is_some, length, ◌&&◌, not};
 ghost use Rattle.std.specs.Option.{option_copied};
+ghost use Rattle.std.specs.Ordering.{nat_cmp};
+ghost use Rattle.std.specs.Map.{remove_entry};
+ghost use Rattle.std.specs.BTreeMap.{IsOrdered, is_at};
+ghost use Rattle.std.specs.BTreeMap as map;
+ghost use Rattle.slab.specs.Slab.{get, Updates};
+ghost use Rattle.dq_pdu.specs.Inboxes.{InboxAfter};
+ghost use Rattle.dq_config.specs.declared.config.Institution.{Institution};
 ghost use Rattle.dq_core.specs.declared.event.Event.{Event};
 ghost use Rattle.dq_core.specs.declared.event.Reply.{Reply};
 ghost use Rattle.dq_core.specs.Connections.{Connection, connection_in};
+ghost use Rattle.dq_core.specs.Histories.{is_above};
 ghost use Rattle.dq_core.specs.Shared.{World, turn};
 ghost use Rattle.dq_core.specs.Stepping.{Goes, MayLeave, IsPartOf};
-ghost use Rattle.dq_core.specs.Doing.{Did, DidPart};
-ghost use Rattle.dq_core.specs.Slots.{AreHeld, Turned, Took, answer_of, count_at, owner_at, verdict_of, verdict_for};
+ghost use Rattle.dq_core.specs.Doing.{Did, DidPart, Taken as Pure};
+ghost use Rattle.dq_core.specs.Tallies.{IsTallied, tallied, retallied_by};
+ghost use Rattle.dq_core.specs.Slots.{AreHeld, IsHeld, IsTaken, StandsAt, Turned, Took, answer_of, owner_at, verdict_for, without_home};
 
 use crate::event::Reply;
 use crate::fault::Fault;
 use crate::service::{Provider, answer_unserved};
 use crate::slot::{Called, Slot, Taken};
+use crate::tally::Tally;
 use dq_assoc::laws::{a_longer_stream_adds_inputs, an_association_after_pdus};
 use dq_assoc::{Agreement, Verdict};
 use dq_config::laws::{a_name_is_of_one, a_pair_is_of_one};
@@ -22,62 +31,108 @@ use dq_config::{Config, Institution};
 use dq_list::Listed;
 use dq_pdu::Pdu;
 use dq_tables::Tables;
+use slab::Slab;
 use std::alloc::{AllocError, Global};
+use std::collections::BTreeMap;
 
-/// The connections that are held, and the configuration that says whose they are.
+/// How many slots of connections that ended are kept for those that are opened.
+const MOST_SPARES: usize = 16;
+
+/// The connections that are held, and the configuration that says whose they are. The slot of each
+/// stands at a place that does not change, which is found by its number. A few slots of connections
+/// that ended are used again.
 #[derive(Debug, Drop)]
 pub(crate) struct Connections {
     pub config: Config,
-    pub slots: Vec<Slot>,
+    pub slots: Slab<Slot>,
+    pub places: BTreeMap<u64, usize>,
+    pub spares: Vec<Slot>,
+    pub tally: Tally,
+    pub newest: Option<u64>,
 }
 
 impl Connections {
-    /// None is held. It takes no memory.
-    pub(crate) fn new(alloc: Global, config: Config) -> Self
-        ensures config { result.config ≡ config }
-        ensures none { result.slots.items ≡ [] }
+    /// None is held.
+    pub(crate) fn new(alloc: Global, config: Config) -> Result<Self, AllocError>
+        ensures config { IfOk result (λ held. held.config ≡ config) }
+        ensures none { IfOk result (λ held. AreHeld config held []) }
+        ensures newest { IfOk result (λ held. held.newest ≡ None) }
     {
-        Connections {
+        let tally = Tally::new(alloc, &config)?;
+        Ok(Connections {
             config,
-            slots: Vec::new(alloc),
-        }
+            slots: Slab::new(alloc),
+            places: BTreeMap::new(alloc),
+            spares: Vec::with_capacity(alloc, MOST_SPARES)?,
+            tally,
+            newest: None,
+        })
     }
 
-    /// Where the slot with the number stands.
-    fn index_of(&self, number: u64) -> Option<usize>
-        ensures { result ≡ position (λ slot. slot.number == number) self.now.slots.items }
+    /// Lets the connections go.
+    pub(crate) fn clear(&mut self)
+        ensures config { self.new.config ≡ self.old.config }
+        ensures newest { self.new.newest ≡ self.old.newest }
     {
-        self.slots.iter().position(|slot| slot.number == number)
+        self.places.clear();
+        self.slots.clear();
+        self.spares.clear();
+    }
+
+    /// The numbers rise from place to place, and there are not too many to be counted.
+    fn is_sound(&self)
+        ensures { length self.now.places.entries < 2 ^ 63 }
+    {
+        let _count = self.places.len();
+    }
+
+    /// The place of the slot with a number.
+    fn place_of(&self, number: u64) -> Option<usize>
+        ensures { result ≡ map.get nat_cmp self.now.places number }
+    {
+        self.places.get(&number).copied()
     }
 
     /// Whether a connection is held under a number.
     pub(crate) fn is_held(&self, number: u64) -> bool
         ensures { (connections : List Connection) →
-            AreHeld self.now.config self.now.slots.items connections →
+            AreHeld self.now.config self.now connections →
             result ≡ is_some (connection_in number connections) }
     {
-        self.index_of(number).is_some()
+        self.place_of(number).is_some()
     }
 
-    /// Takes the slot at an index out.
-    fn remove_at(&mut self, index: usize)
-        requires { index < vec_len self.old.slots }
-        ensures slots { self.new.slots.items ≡ remove self.old.slots.items index }
+    /// Takes the slot with a number out of its place.
+    fn remove(&mut self, number: u64, place: usize)
+        ensures slots { Updates self.old.slots self.new.slots place None }
+        ensures places { self.new.places.entries
+            ≡ remove_entry (is_at (nat_cmp number)) self.old.places.entries }
+        ensures ordered { IsOrdered nat_cmp self.new.places }
         ensures config { self.new.config ≡ self.old.config }
+        ensures tally { self.new.tally ≡ self.old.tally }
+        ensures newest { self.new.newest ≡ self.old.newest }
     {
-        self.slots.remove(index);
+        self.places.remove(&number);
+        if let Some(slot) = self.slots.try_remove(place) {
+            keep_spare(&mut self.spares, slot);
+        }
     }
 
     /// Opens a connection.
     pub(crate) fn open(&mut self, alloc: Global, number: u64) -> Result<Reply, AllocError>
+        requires { IsTrue (is_above self.old.newest number) }
         ensures turned { (world : World) →
-            AreHeld self.old.config self.old.slots.items world.connections →
+            AreHeld self.old.config self.old world.connections →
             IfOk result (λ reply.
             Turned self.old.config (turn self.old.config world (Event.Open number)) reply
-            world.rows world.rows self.new.slots.items) }
+            world.rows world.rows self.new) }
+        ensures newest { IfOk result (λ _. self.new.newest ≡ Some number) }
         ensures config { self.new.config ≡ self.old.config }
     {
-        self.slots.push(Slot::new(alloc, number))?;
+        let slot = slot_for(alloc, &mut self.spares, number);
+        let place = self.slots.insert(slot)?;
+        self.places.insert(number, place)?;
+        self.newest = Some(number);
         Ok(Reply::Done)
     }
 
@@ -91,13 +146,13 @@ impl Connections {
     ) -> Result<Reply, Fault>
         ensures goes { Goes (T.state tables.old) (T.state tables.new) result }
         ensures turned { (world : World) →
-            AreHeld self.old.config self.old.slots.items world.connections →
+            AreHeld self.old.config self.old world.connections →
             (T.state tables.old).rows ≡ world.rows → (T.state tables.new).honest →
             IfOk result (λ reply. Turned self.old.config
             (turn self.old.config world (Event.Piece number piece.now)) reply
-            world.rows (T.state tables.new).rows self.new.slots.items) }
+            world.rows (T.state tables.new).rows self.new) }
         ensures part { (world : World) →
-            AreHeld self.old.config self.old.slots.items world.connections →
+            AreHeld self.old.config self.old world.connections →
             (T.state tables.old).rows ≡ world.rows → (T.state tables.new).honest →
             OnErr result (
             IsPartOf (turn self.old.config world (Event.Piece number piece.now)).operations
@@ -105,22 +160,37 @@ impl Connections {
             (MayLeave (T.state tables.old) (T.state tables.new))) }
         ensures fault { IfErr result (λ fault. fault ≢ Fault.Stopped) }
         ensures quiet { (connections : List Connection) →
-            AreHeld self.old.config self.old.slots.items connections →
+            AreHeld self.old.config self.old connections →
             (piece.now ≡ []) ⊎ (connection_in number connections ≡ None) → IsOk result }
         ensures config { self.new.config ≡ self.old.config }
+        ensures newest { self.new.newest ≡ self.old.newest }
     {
-        let Some(index) = self.index_of(number) else {
+        an_association_after_pdus();
+        self.is_sound();
+        let Some(place) = self.place_of(number) else {
             return Ok(Reply::Ignored);
         };
         if piece.is_empty() {
             return Ok(octets_reply(number, Vec::new(alloc), false));
         }
-        let (institution, taken) = take_piece(alloc, &self.config, &mut self.slots, index, piece)?;
+        let Some(slot) = self.slots.get_mut(place) else {
+            return Ok(Reply::Ignored);
+        };
+        let was_open = slot.home.is_some();
+        let (institution, taken) = take_piece(alloc, &self.config, &self.tally, slot, piece)?;
         let close = taken.step.close;
-        let agreement = self.slots[index].association.agreement();
+        let is_open = stays_open(slot, close);
+        let agreement = slot.association.agreement();
         let octets = answer_taken(alloc, institution, agreement, taken, tables)?;
+        retally(
+            &self.config,
+            &mut self.tally,
+            institution,
+            was_open,
+            is_open,
+        );
         if close {
-            self.remove_at(index);
+            self.remove(number, place);
         }
         Ok(octets_reply(number, octets, close))
     }
@@ -128,26 +198,45 @@ impl Connections {
     /// Ends a connection.
     pub(crate) fn end(&mut self, number: u64) -> Reply
         ensures turned { (world : World) →
-            AreHeld self.old.config self.old.slots.items world.connections →
+            AreHeld self.old.config self.old world.connections →
             Turned self.old.config (turn self.old.config world (Event.End number)) result
-            world.rows world.rows self.new.slots.items }
+            world.rows world.rows self.new }
         ensures config { self.new.config ≡ self.old.config }
+        ensures newest { self.new.newest ≡ self.old.newest }
     {
-        match self.index_of(number) {
-            None => Reply::Ignored,
-            Some(index) => {
-                self.remove_at(index);
-                Reply::Done
-            }
-        }
+        an_association_after_pdus();
+        let Some(place) = self.place_of(number) else {
+            return Reply::Ignored;
+        };
+        end_home(&self.config, &mut self.tally, self.slots.get(place));
+        self.remove(number, place);
+        Reply::Done
     }
 }
 
-/// How many connections an institution has open.
-fn open_count(slots: &[Slot], name: &[u8]) -> usize
-    ensures { result ≡ count_at name.now slots.now }
+/// A slot of a connection that is opened: a spare one, if there is one. It takes no memory.
+fn slot_for(alloc: Global, spares: &mut Vec<Slot>, number: u64) -> Slot
+    ensures number { result.number ≡ number }
+    ensures inbox { InboxAfter [] result.inbox }
+    ensures stands { (owner : Option Institution) → StandsAt owner result [] }
 {
-    slots.iter().filter(|slot| slot.is_at(name)).count()
+    match spares.pop() {
+        Some(mut slot) => {
+            slot.reset(number);
+            slot
+        }
+        None => Slot::new(alloc, number),
+    }
+}
+
+/// Keeps a slot for another connection, where there is room. It is reset before it waits, so that a
+/// spare holds neither a message that was coming nor more room than an inbox keeps.
+fn keep_spare(spares: &mut Vec<Slot>, mut slot: Slot) {
+    if spares.len() < spares.capacity() {
+        let number = slot.number;
+        slot.reset(number);
+        spares.push_reserved(slot);
+    }
 }
 
 /// The institution that has a slot after PDUs more: that of its home, and before it has one that of
@@ -164,59 +253,91 @@ fn owner_of<'a>(config: &'a Config, slot: &Slot, pdus: &[Pdu]) -> Option<&'a Ins
     }
 }
 
-/// Whether an institution takes one more association.
-fn verdict_of(institution: &Institution, slots: &[Slot]) -> Verdict
-    ensures { result ≡ verdict_of institution.now slots.now }
+/// What is known of the titles of a connection: an institution that has it, and whether it takes
+/// one more association, or none.
+fn verdict_for(config: &Config, tally: &Tally, institution: Option<&Institution>) -> Verdict
+    ensures { result ≡ verdict_for (tallied config.now tally.now.counts.items)
+        (option_copied institution.entry) }
 {
-    if open_count(slots, institution.name.as_slice()) < institution.associations as usize {
+    let Some(institution) = institution else {
+        return Verdict::Nowhere;
+    };
+    if tally.count(config, institution.name.as_slice()) < institution.associations as usize {
         Verdict::Accept
     } else {
         Verdict::Busy
     }
 }
 
-/// What is known of the titles of a connection: an institution that has it, or none.
-fn verdict_for(institution: Option<&Institution>, slots: &[Slot]) -> Verdict
-    ensures { result ≡ verdict_for (option_copied institution.entry) slots.now }
+/// Counts an association that was opened at an institution, or that ended.
+fn retally(
+    config: &Config,
+    tally: &mut Tally,
+    institution: Option<&Institution>,
+    was_open: bool,
+    is_open: bool,
+)
+    ensures { tally.new.counts.items ≡ retallied_by config.now tally.old.counts.items
+        (option_copied institution.entry) was_open is_open }
 {
-    match institution {
-        None => Verdict::Nowhere,
-        Some(institution) => verdict_of(institution, slots),
+    let Some(institution) = institution else {
+        return;
+    };
+    let name = institution.name.as_slice();
+    match (was_open, is_open) {
+        (false, true) => tally.opened(config, name),
+        (true, false) => tally.ended(config, name),
+        _ => {}
     }
 }
 
-/// Takes a piece on the connection that has the slot at an index: gives the institution that has
-/// the connection, and what is to be answered.
+/// Whether a connection has an association after what was taken.
+fn stays_open(slot: &Slot, close: bool) -> bool
+    ensures { result ≡ (is_some slot.now.home && not close) }
+{
+    slot.home.is_some() && !close
+}
+
+/// Counts the association of a connection that ends, where it has one.
+fn end_home(config: &Config, tally: &mut Tally, slot: Option<&Slot>)
+    ensures { tally.new.counts.items
+        ≡ without_home config.now tally.old.counts.items (option_copied slot.entry) }
+{
+    let Some(slot) = slot else {
+        return;
+    };
+    if let Some(home) = &slot.home {
+        tally.ended(config, home.as_slice());
+    }
+}
+
+/// Takes a piece on the connection that has a slot: gives the institution that has the connection,
+/// and what is to be answered.
 fn take_piece<'a>(
     alloc: Global,
     config: &'a Config,
-    slots: &mut Vec<Slot>,
-    index: usize,
+    tally: &Tally,
+    slot: &mut Slot,
     piece: &[u8],
 ) -> Result<(Option<&'a Institution>, Taken), AllocError>
-    requires { index < vec_len slots.old }
-    ensures len { vec_len slots.new ≡ vec_len slots.old }
-    ensures took { (number : ℕ) (world : World) (c : Connection) →
-        AreHeld config.now slots.old.items world.connections →
-        position (λ slot. slot.number == number) slots.old.items ≡ Some index →
-        connection_in number world.connections ≡ Some c → IfOk result (λ x.
-        Took config.now world c piece.now index (option_copied x.0) x.1 slots.new.items) }
+    ensures { (world : World) (c : Connection) → IsHeld config.now slot.old c →
+        IsTallied config.now tally.now.counts.items world.connections → IfOk result (λ x.
+        Took config.now world c piece.now (option_copied x.0) x.1 slot.old slot.new) }
 {
     a_longer_stream_adds_inputs();
     an_association_after_pdus();
     a_name_is_of_one();
     a_pair_is_of_one();
     config.is_sound();
-    let Ok(fed) = slots[index].inbox.feed(piece) else {
+    let Ok(fed) = slot.inbox.feed(piece) else {
         return Err(AllocError);
     };
-    let institution = owner_of(config, &slots[index], fed.pdus.as_slice());
-    let verdict = verdict_for(institution, slots);
+    let institution = owner_of(config, slot, fed.pdus.as_slice());
     let called = Called {
         institution,
-        verdict,
+        verdict: verdict_for(config, tally, institution),
     };
-    let taken = slots[index].take(alloc, called, fed)?;
+    let taken = slot.take(alloc, called, fed)?;
     Ok((institution, taken))
 }
 
@@ -230,13 +351,15 @@ fn answer_taken<T: Tables>(
     tables: &mut T,
 ) -> Result<Vec<u8>, Fault>
     ensures goes { Goes (T.state tables.old) (T.state tables.new) result }
-    ensures does { (T.state tables.new).honest → IfOk result (λ octets.
+    ensures does { (T.state tables.new).honest → (t : Pure) →
+        IsTaken (option_copied agreement.entry) taken t → IfOk result (λ octets.
         Did (option_copied institution.entry) (answer_of (option_copied institution.entry)
-        (T.state tables.old).rows (option_copied agreement.entry) taken)
+        (T.state tables.old).rows (option_copied agreement.entry) t)
         (T.state tables.old).rows (T.state tables.new).rows [] octets.items) }
-    ensures stops { (T.state tables.new).honest → OnErr result (
+    ensures stops { (T.state tables.new).honest → (t : Pure) →
+        IsTaken (option_copied agreement.entry) taken t → OnErr result (
         DidPart (option_copied institution.entry) (answer_of (option_copied institution.entry)
-        (T.state tables.old).rows (option_copied agreement.entry) taken)
+        (T.state tables.old).rows (option_copied agreement.entry) t)
         (T.state tables.old).rows (T.state tables.new).rows
         (MayLeave (T.state tables.old) (T.state tables.new))) }
     ensures fault { IfErr result (λ fault. fault ≢ Fault.Stopped) }

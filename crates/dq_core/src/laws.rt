@@ -26,7 +26,7 @@ ghost use Rattle.dq_assoc.specs.Table.{Requested, line};
 ghost use Rattle.dq_core.specs.Isolation.{own_replies, stranger_replies, Begins, Agree, IsPrefix};
 ghost use Rattle.dq_core.specs.Renumbering.{KeepsOrder, renumbered, renumbered_reply, AgreeButForNumbers};
 ghost use Rattle.dq_dataset.specs.Tree.{ElementList};
-ghost use Rattle.dq_dimse.specs.declared.command.Message.{Message};
+ghost use Rattle.dq_dimse.specs.Received.{Message};
 ghost use Rattle.dq_dimse.specs.Statuses.{success};
 ghost use Rattle.dq_assoc.specs.declared.agreement.AgreedContext.{AgreedContext};
 ghost use Rattle.dq_assoc.specs.declared.agreement.Agreement.{Agreement};

@@ -10,6 +10,7 @@ mod responses;
 mod server;
 mod service;
 mod slot;
+mod tally;
 
 pub use event::{Event, Reply};
 pub use fault::Fault;

@@ -35,20 +35,25 @@ pub struct Server<T> {
     alloc: Global,
     connections: Connections,
     tables: T,
-    newest: Option<u64>,
     spent: bool,
 }
 
 impl<T> Model for Server<T> {
+    ghost use Rattle.std.specs.Coded.{codes};
+    ghost use Rattle.dq_dataset.specs.contracts.data_set.DataSet as data_set;
+    ghost use Rattle.slab.specs.Slab.{slab_code};
+    ghost use Rattle.std_collections.specs.Layout.BTreeMap.{btree_map_code};
     ghost use Rattle.dq_core.specs.Standing.{Standing};
 
     ghost Value = { Standing T };
 
+    ghost coded = { Prim.hlevel (codes, data_set.the_row.coded, T.code, slab_code, btree_map_code) };
+
     ghost view = { λ a. record {
       institutions = a.connections.config;
       tables = a.tables;
-      slots = a.connections.slots.items;
-      newest = a.newest;
+      slots = a.connections;
+      newest = a.connections.newest;
       spent = a.spent;
     } };
 }
@@ -65,17 +70,19 @@ impl<T: Tables> Server<T> {
     /// A server that holds no connection, over the rows that are there. The only fault is want of
     /// memory.
     pub fn new(alloc: Global, config: Config, tables: T) -> Result<Self, Fault>
+    where
+        T: Drop,
         requires { (T.state tables).failed ≡ false }
         ensures stands { IfOk result (λ server. StandsFor T.state (T.state tables).rows server []) }
         ensures institutions { IfOk result (λ server. server.institutions ≡ config) }
         ensures tables { IfOk result (λ server. server.tables ≡ tables) }
         ensures fault { IfErr result (λ fault. fault ≡ Fault.NoMemory) }
     {
+        let connections = Connections::new(alloc, config)?;
         Ok(Server {
             alloc,
-            connections: Connections::new(alloc, config),
+            connections,
             tables,
-            newest: None,
             spent: false,
         })
     }
@@ -84,7 +91,7 @@ impl<T: Tables> Server<T> {
     pub fn can_open(&self, number: u64) -> bool
         ensures { result ≡ is_above self.now.newest number }
     {
-        is_above(self.newest, number)
+        is_above(self.connections.newest, number)
     }
 
     /// Whether a connection is held under a number: it was opened, and neither ended nor closed.
@@ -118,7 +125,6 @@ impl<T: Tables> Server<T> {
             alloc: _,
             connections: _,
             tables,
-            newest: _,
             spent: _,
         } = self;
         tables
@@ -201,12 +207,13 @@ impl<T: Tables> Server<T> {
         ensures keeps { (self.new.institutions ≡ self.old.institutions)
             × (self.new.tables ≡ self.old.tables) × (self.new.newest ≡ self.old.newest) }
     {
-        self.connections.slots.clear();
+        self.connections.clear();
         self.spent = true;
     }
 
     /// Does what an event asks for.
     fn turn(&mut self, event: Event) -> Result<Reply, Fault>
+        requires { Opens self.old.newest event }
         ensures goes { Goes (T.state self.old.tables) (T.state self.new.tables) result }
         ensures turned { (world : World) →
             AreHeld self.old.institutions self.old.slots world.connections →
@@ -229,11 +236,7 @@ impl<T: Tables> Server<T> {
         ensures fault { IfErr result (λ fault. fault ≢ Fault.Stopped) }
     {
         match event {
-            Event::Open(number) => {
-                let reply = self.connections.open(self.alloc, number)?;
-                self.newest = Some(number);
-                Ok(reply)
-            }
+            Event::Open(number) => Ok(self.connections.open(self.alloc, number)?),
             Event::Piece(number, piece) => {
                 let piece = piece.as_slice();
                 self.connections

@@ -1,13 +1,17 @@
 //! What messages are answered with, by the service of their context.
 
-ghost use Rattle.std.specs.Prelude.{◌≡◌, ◌≢◌, ◌++◌, [], IfOk, OnOk, IfErr, OnErr, Some};
+ghost use Rattle.std.specs.Prelude.{◌≡◌, ◌≢◌, ◌++◌, [], List, true, IfOk, OnOk, IfErr, OnErr, Some};
+ghost use Rattle.dq_dimse.specs.Holding.{StandForAll, StandsFor, StandsOn, plain_message};
+ghost use Rattle.dq_dimse.specs.Received.{Message as Received};
 ghost use Rattle.dq_assoc.specs.Classes.{service_of};
+ghost use Rattle.dq_assoc.specs.Holding.{accepted_by};
 ghost use Rattle.dq_config.specs.Limits.{limits_of};
 ghost use Rattle.dq_tables.specs.Rows.{of};
 ghost use Rattle.dq_tables.specs.Serving.{Serves};
 ghost use Rattle.dq_core.specs.Services.{has_operation, refusal_for, status_alone, performed, operation, outcome_on};
 ghost use Rattle.dq_core.specs.Stepping.{Goes, MayLeave};
-ghost use Rattle.dq_core.specs.Doing.{Operates, Did, DidPart, served_answer, messages_answer, taken_answer};
+ghost use Rattle.dq_core.specs.Doing.{Operates, Did, DidPart, Taken as Pure, served_answer, messages_answer, taken_answer};
+ghost use Rattle.dq_core.specs.Slots.{IsTaken};
 
 use crate::fault::Fault;
 use crate::slot::Taken;
@@ -85,7 +89,7 @@ impl Asked<'_> {
         ensures { Serves (T.state tables.old) (T.state tables.new)
             self.entry.provider.institution.now.name
             (λ records. performed (limits_of self.entry.provider.institution.now) records
-            self.entry.message.now self.entry.context.syntax) result }
+            (plain_message self.entry.message.now) self.entry.context.syntax) result }
     {
         let Provider {
             alloc,
@@ -104,11 +108,16 @@ impl Asked<'_> {
     /// Makes the edits of an operation of the context's service, and answers it. Each service has
     /// its place here.
     fn operate<T: Tables>(self, tables: &mut T) -> Result<Found, Fault>
-        ensures serves { Operates (T.state tables.old) (T.state tables.new)
+        requires { has_operation (service_of self.context.class) self.message.now.command.code
+            ≡ true }
+        ensures serves { (sent : Received) →
+            StandsFor self.entry.context.syntax self.entry.message.now sent →
+            Operates (T.state tables.old) (T.state tables.new)
             self.entry.provider.institution.now.name
             (operation (service_of self.entry.context.class)
             self.entry.provider.agreement.now.called self.entry.context.syntax
-            (limits_of self.entry.provider.institution.now) self.entry.message.now) result }
+            (limits_of self.entry.provider.institution.now) sent) result }
+        ensures goes { Goes (T.state tables.old) (T.state tables.new) result }
         ensures fault { IfErr result (λ fault. fault ≢ Fault.Stopped) }
     {
         let Provider {
@@ -138,10 +147,13 @@ impl Asked<'_> {
 
     /// The outcome of a command that has a response: its refusal, or else that of its operation.
     fn outcome<T: Tables>(self, tables: &mut T) -> Result<Found, Fault>
-        ensures serves { Operates (T.state tables.old) (T.state tables.new)
+        ensures serves { (sent : Received) →
+            StandsFor self.entry.context.syntax self.entry.message.now sent →
+            Operates (T.state tables.old) (T.state tables.new)
             self.entry.provider.institution.now.name
             (outcome_on self.entry.provider.agreement.now self.entry.context
-            (limits_of self.entry.provider.institution.now) self.entry.message.now) result }
+            (limits_of self.entry.provider.institution.now) sent) result }
+        ensures goes { Goes (T.state tables.old) (T.state tables.new) result }
         ensures fault { IfErr result (λ fault. fault ≢ Fault.Stopped) }
     {
         match refusal_for(self.context.class, &self.message.command) {
@@ -161,15 +173,17 @@ impl Provider<'_> {
         out: &mut Vec<u8>,
     ) -> Result<(), Fault>
         ensures goes { Goes (T.state tables.old) (T.state tables.new) result }
-        ensures does { (T.state tables.new).honest → OnOk result (
+        ensures does { (T.state tables.new).honest → (sent : Received) →
+            StandsOn (accepted_by self.entry.agreement.now) message.now sent → OnOk result (
             Did (Some self.entry.institution.now)
             (served_answer (limits_of self.entry.institution.now) self.entry.agreement.now
-            (of self.entry.institution.now.name (T.state tables.old).rows) message.now)
+            (of self.entry.institution.now.name (T.state tables.old).rows) sent)
             (T.state tables.old).rows (T.state tables.new).rows out.old.items out.new.items) }
-        ensures stops { (T.state tables.new).honest → OnErr result (
+        ensures stops { (T.state tables.new).honest → (sent : Received) →
+            StandsOn (accepted_by self.entry.agreement.now) message.now sent → OnErr result (
             DidPart (Some self.entry.institution.now)
             (served_answer (limits_of self.entry.institution.now) self.entry.agreement.now
-            (of self.entry.institution.now.name (T.state tables.old).rows) message.now)
+            (of self.entry.institution.now.name (T.state tables.old).rows) sent)
             (T.state tables.old).rows (T.state tables.new).rows
             (MayLeave (T.state tables.old) (T.state tables.new))) }
         ensures fault { IfErr result (λ fault. fault ≢ Fault.Stopped) }
@@ -198,15 +212,17 @@ impl Provider<'_> {
         out: &mut Vec<u8>,
     ) -> Result<(), Fault>
         ensures goes { Goes (T.state tables.old) (T.state tables.new) result }
-        ensures does { (T.state tables.new).honest → OnOk result (
+        ensures does { (T.state tables.new).honest → (sent : List Received) →
+            StandForAll (accepted_by self.entry.agreement.now) messages.items sent → OnOk result (
             Did (Some self.entry.institution.now)
             (messages_answer (limits_of self.entry.institution.now) self.entry.agreement.now
-            (of self.entry.institution.now.name (T.state tables.old).rows) messages.items)
+            (of self.entry.institution.now.name (T.state tables.old).rows) sent)
             (T.state tables.old).rows (T.state tables.new).rows out.old.items out.new.items) }
-        ensures stops { (T.state tables.new).honest → OnErr result (
+        ensures stops { (T.state tables.new).honest → (sent : List Received) →
+            StandForAll (accepted_by self.entry.agreement.now) messages.items sent → OnErr result (
             DidPart (Some self.entry.institution.now)
             (messages_answer (limits_of self.entry.institution.now) self.entry.agreement.now
-            (of self.entry.institution.now.name (T.state tables.old).rows) messages.items)
+            (of self.entry.institution.now.name (T.state tables.old).rows) sent)
             (T.state tables.old).rows (T.state tables.new).rows
             (MayLeave (T.state tables.old) (T.state tables.new))) }
         ensures fault { IfErr result (λ fault. fault ≢ Fault.Stopped) }
@@ -222,17 +238,19 @@ impl Provider<'_> {
     /// octets of what came last.
     pub(crate) fn answer<T: Tables>(self, taken: Taken, tables: &mut T) -> Result<Vec<u8>, Fault>
         ensures goes { Goes (T.state tables.old) (T.state tables.new) result }
-        ensures does { (T.state tables.new).honest → IfOk result (λ octets.
+        ensures does { (T.state tables.new).honest → (t : Pure) →
+            IsTaken (Some self.entry.agreement.now) taken t → IfOk result (λ octets.
             Did (Some self.entry.institution.now)
             (taken_answer (limits_of self.entry.institution.now)
             (of self.entry.institution.now.name (T.state tables.old).rows)
-            (Some self.entry.agreement.now) taken)
+            (Some self.entry.agreement.now) t)
             (T.state tables.old).rows (T.state tables.new).rows [] octets.items) }
-        ensures stops { (T.state tables.new).honest → OnErr result (
+        ensures stops { (T.state tables.new).honest → (t : Pure) →
+            IsTaken (Some self.entry.agreement.now) taken t → OnErr result (
             DidPart (Some self.entry.institution.now)
             (taken_answer (limits_of self.entry.institution.now)
             (of self.entry.institution.now.name (T.state tables.old).rows)
-            (Some self.entry.agreement.now) taken)
+            (Some self.entry.agreement.now) t)
             (T.state tables.old).rows (T.state tables.new).rows
             (MayLeave (T.state tables.old) (T.state tables.new))) }
         ensures fault { IfErr result (λ fault. fault ≢ Fault.Stopped) }

@@ -6,9 +6,12 @@ ghost use Rattle.dq_pdu.specs.Inboxes.{InboxAfter};
 ghost use Rattle.dq_assoc.specs.declared.association.State.TheVariants.{Waiting};
 ghost use Rattle.dq_assoc.specs.declared.association.Verdict.TheVariants.{Nowhere};
 ghost use Rattle.dq_assoc.specs.After.{state_of, agreement_in, inputs_from};
+ghost use Rattle.dq_assoc.specs.Associations as pure;
+ghost use Rattle.dq_assoc.specs.Associations.{Held};
+ghost use Rattle.dq_assoc.specs.Holding.{Stands, held_agreement, held_state};
 ghost use Rattle.dq_config.specs.declared.config.Institution.{Institution};
 ghost use Rattle.dq_core.specs.Doing.{agreement_after, taken};
-ghost use Rattle.dq_core.specs.Slots.{StandsAt, home_of, is_home};
+ghost use Rattle.dq_core.specs.Slots.{IsTaken, StandsAt, home_of};
 
 use dq_assoc::laws::{an_association_after_pdus, pdus_in_parts};
 use dq_assoc::{Agreement, Association, State, Step, Verdict};
@@ -57,14 +60,17 @@ impl Slot {
         }
     }
 
-    /// Whether its home is the institution with a name.
-    pub(crate) fn is_at(&self, name: &[u8]) -> bool
-        ensures { result ≡ is_home name.now self.now.home }
+    /// Makes it one that is opened under another number. It takes no memory, and nothing of the
+    /// connection that had it is left.
+    pub(crate) fn reset(&mut self, number: u64)
+        ensures number { self.new.number ≡ number }
+        ensures inbox { InboxAfter [] self.new.inbox }
+        ensures stands { (owner : Option Institution) → StandsAt owner self.new [] }
     {
-        match &self.home {
-            None => false,
-            Some(home) => home.as_slice() == name,
-        }
+        self.number = number;
+        self.inbox.reset();
+        self.association.reset();
+        self.home = None;
     }
 
     /// Takes PDUs in order, up to one that closes, and then a fault of the stream (PS3.8 section
@@ -75,14 +81,16 @@ impl Slot {
         called: Called,
         fed: Fed,
     ) -> Result<Taken, AllocError>
-        ensures taken { IfOk result (λ t.
-            t ≡ taken called.entry.verdict (state_of self.old.association)
-            (inputs_from self.old.association fed.pdus fed.fault)) }
-        ensures agreement { (before : List Pdu) →
+        ensures taken { (association : Held) → Stands self.old.association association →
+            IfOk result (λ t. IsTaken (held_agreement self.new.association) t
+            (taken called.entry.verdict (state_of association)
+            (inputs_from association fed.pdus fed.fault))) }
+        ensures agreement { (association : Held) → Stands self.old.association association →
+            (before : List Pdu) →
             StandsAt (option_copied called.entry.institution) self.old before →
-            IfOk result (λ t. (t.step.messages ≡ []) ⊎ (agreement_in self.new.association
-            ≡ agreement_after (agreement_in self.old.association)
-            (inputs_from self.old.association fed.pdus fed.fault))) }
+            IfOk result (λ t. (t.step.messages ≡ []) ⊎ (held_agreement self.new.association
+            ≡ agreement_after (agreement_in association)
+            (inputs_from association fed.pdus fed.fault))) }
         ensures stands { (before : List Pdu) →
             StandsAt (option_copied called.entry.institution) self.old before →
             (option_copied called.entry.institution ≡ None → called.entry.verdict ≡ Nowhere) →
@@ -92,6 +100,7 @@ impl Slot {
         ensures keeps { (self.new.number ≡ self.old.number) × (self.new.inbox ≡ self.old.inbox) }
     {
         an_association_after_pdus();
+        pdus_in_parts();
         match self.association.state() {
             State::Waiting => self.begin(alloc, called, fed),
             State::Open => Ok(Taken {
@@ -107,13 +116,13 @@ impl Slot {
 
     /// Takes the first PDUs.
     fn begin(&mut self, alloc: Global, called: Called, fed: Fed) -> Result<Taken, AllocError>
-        requires { state_of self.old.association ≡ Waiting }
-        ensures taken { IfOk result (λ t.
-            t ≡ taken called.entry.verdict Waiting
-            (inputs_from self.old.association fed.pdus fed.fault)) }
+        requires { held_state self.old.association ≡ Waiting }
+        ensures taken { IfOk result (λ t. IsTaken (held_agreement self.new.association) t
+            (taken called.entry.verdict Waiting
+            (inputs_from pure.Waiting fed.pdus fed.fault))) }
         ensures agreement { IfOk result (λ t. (t.step.messages ≡ [])
-            ⊎ (agreement_in self.new.association
-            ≡ agreement_after None (inputs_from self.old.association fed.pdus fed.fault))) }
+            ⊎ (held_agreement self.new.association
+            ≡ agreement_after None (inputs_from pure.Waiting fed.pdus fed.fault))) }
         ensures stands { StandsAt (option_copied called.entry.institution) self.old [] →
             (option_copied called.entry.institution ≡ None → called.entry.verdict ≡ Nowhere) →
             IfOk result (λ t. t.step.close ≡ false →
@@ -155,12 +164,13 @@ impl Slot {
         request: Request,
         rest: Fed,
     ) -> Result<Taken, AllocError>
-        requires { state_of self.old.association ≡ Waiting }
-        ensures taken { IfOk result (λ t. t ≡ taken called.entry.verdict Waiting
-            (inputs_from self.old.association (pdu.Request request ∷ rest.pdus) rest.fault)) }
+        requires { held_state self.old.association ≡ Waiting }
+        ensures taken { IfOk result (λ t. IsTaken (held_agreement self.new.association) t
+            (taken called.entry.verdict Waiting
+            (inputs_from pure.Waiting (pdu.Request request ∷ rest.pdus) rest.fault))) }
         ensures agreement { IfOk result (λ t. (t.step.messages ≡ [])
-            ⊎ (agreement_in self.new.association ≡ agreement_after None
-            (inputs_from self.old.association (pdu.Request request ∷ rest.pdus) rest.fault))) }
+            ⊎ (held_agreement self.new.association ≡ agreement_after None
+            (inputs_from pure.Waiting (pdu.Request request ∷ rest.pdus) rest.fault))) }
         ensures stands { StandsAt (option_copied called.entry.institution) self.old [] →
             (option_copied called.entry.institution ≡ None → called.entry.verdict ≡ Nowhere) →
             IfOk result (λ t. t.step.close ≡ false → (rest.fault ≡ None)

@@ -1,5 +1,5 @@
 //! Reading data sets (PS3.5 section 7).
-ghost use Rattle.std.specs.Prelude.{◌≡◌, ℕ, ◌+◌, ◌<◌, ◌≤◌, ◌^◌, true, None, length, option_map, IfOk, IfErr, OnSome, ◌⊎◌};
+ghost use Rattle.std.specs.Prelude.{◌≡◌, ℕ, ◌+◌, ◌<◌, ◌≤◌, ◌^◌, ◌++◌, ◌∷◌, [], true, None, length, option_map, IfOk, IfErr, OnOk, OnSome, ◌⊎◌};
 ghost use Rattle.dq_dataset.specs.Reading.{Gives, readers, reading, may_nest, length_of, fits, value_by, element_by, content_by, item_by};
 ghost use Rattle.dq_dataset.specs.Rules.{padded};
 ghost use Rattle.dq_dataset.specs.Tree.{ElementList};
@@ -21,7 +21,8 @@ use std::alloc::{AllocError, Global};
 fn padded(alloc: Global, vr: Vr, octets: &[u8]) -> Result<Vec<u8>, AllocError>
     ensures { IfOk result (λ v. v.items ≡ padded vr octets.now) }
 {
-    let mut value = Vec::from_slice(alloc, octets)?;
+    let mut value = Vec::with_capacity(alloc, octets.len() + octets.len() % 2)?;
+    value.extend_from_slice(octets)?;
     if octets.len() % 2 != 0 {
         value.push(if vr.is_text() { b' ' } else { 0 })?;
     }
@@ -72,6 +73,17 @@ fn value_of<'a>(
     }
 }
 
+/// Pushes one more. Where it is the first, it takes room for it alone: most sequences have one item,
+/// and many items have one element.
+fn push_alone<T: Drop>(list: &mut Vec<T>, next: T) -> Result<(), AllocError>
+    ensures { OnOk result (list.new.items ≡ list.old.items ++ (next ∷ [])) }
+{
+    if list.is_empty() {
+        list.reserve_exact(1)?;
+    }
+    Ok(list.push(next)?)
+}
+
 #[cycle(reading)]
 #[tactic(auto, unfolding(crate::specs::Reading::element_by))]
 fn element_of<'a>(
@@ -113,11 +125,12 @@ fn elements_of<'a>(
     loop {
         let (found, after) = element_of(alloc, level, last, rest)?;
         let Some((header, value)) = found else {
+            elements.shrink_to_fit();
             return Ok((elements, after));
         };
         let Header { tag, vr, .. } = header;
         if tag.element != 0 {
-            elements.push(Element { tag, vr, value })?;
+            push_alone(&mut elements, Element { tag, vr, value })?;
         }
         last = Some(tag);
         rest = after;
@@ -193,9 +206,10 @@ fn items_of<'a>(
     loop {
         let (found, after) = item_of(alloc, level, rest)?;
         let Some(item) = found else {
+            items.shrink_to_fit();
             return Ok((items, after));
         };
-        items.push(item)?;
+        push_alone(&mut items, item)?;
         rest = after;
     }
 }

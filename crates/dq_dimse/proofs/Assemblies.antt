@@ -1,20 +1,17 @@
 -- Assemblers, and the messages of PDVs that come in parts: what upper layers prove with.
-use Rattle.std.proofs.Common.{◌≡◌, ℕ, List, [], ◌∷◌, ◌++◌, Option, Some, None, Result, Ok, Err, OnOk, IfErr, MatchResult, ◌⊎◌, inl, inr, refl, sym, ap, subst}
+use Rattle.std.proofs.Common.{◌≡◌, ℕ, List, [], ◌++◌, Option, Some, refl, sym, ap}
 use Rattle.std.proofs.Common.{◌∙◌}
-use Rattle.std.specs.Option.{option_to_list}
 use Rattle.std.proofs.lemmas.List.{append-nil}
 use Rattle.dq_pdu.specs.declared.pdu.Pdv.{Pdv}
-use Rattle.dq_dimse.specs.declared.command.Message.{Message}
+use Rattle.dq_dimse.specs.Received.{Message}
 use Rattle.dq_dimse.specs.declared.fault.DimseFault.{DimseFault}
-use Rattle.dq_dimse.specs.declared.fault.DimseFault.TheVariants.{NoMemory}
-use Rattle.dq_dimse.specs.declared.assembler.Gathered.{Gathered}
-use Rattle.dq_dimse.specs.declared.assembler.Gathered.TheVariants.{Spent}
-use Rattle.dq_dimse.specs.Assembling.{Gathering, stops_at, gather, gather_all, fault_in, Messages, Assembly, messages_from, assembly_from, new_assembly}
-use Rattle.dq_dimse.specs.Assembling.{messages, followed_by, spent_by, AssemblerAfter, Adds}
-use Rattle.dq_dimse.proofs.Gatherings.{gather_all-append, gather_one, fault_stays, spent_is, unspent_is}
+use Rattle.dq_dimse.specs.Assembling.{Gathered, Spent}
+use Rattle.dq_dimse.specs.Assembling.{Gathering, gather_all, fault_in, Messages, Assembly, messages_from, assembly_from, new_assembly}
+use Rattle.dq_dimse.specs.Assembling.{messages, followed_by, spent_by, AssemblerAfter}
+use Rattle.dq_dimse.proofs.Gatherings.{gather_all-append, fault_stays, spent_is}
 
 -- how messages are read off what was gathered
-abbrev read_off : Gathering → Messages
+abbrev pub read_off : Gathering → Messages
 read_off all = record { list = all.list; fault = fault_in all.gathered }
 
 -- ---- PDVs after those that an assembler was given
@@ -89,54 +86,3 @@ messages_stay ids xs ys fault e =
     messages_from-append a xs ys ∙ ap (followed_by (messages ids xs).list) (messages_from-spent (assembly_from a xs) ys fault spent)
     ∙ ap (λ (list : List Message). record { list = list; fault = Some fault }) (append-nil (messages ids xs).list)
     ∙ ap (λ (f : Option DimseFault). record { list = (messages ids xs).list; fault = f }) (sym e)
-
--- ---- one PDV
-
--- what a step says of one PDV, whatever was gathered
-abbrev pub Steps : Assembly → Pdv → Result (Option Message) DimseFault → Assembly → Type 0
-Steps old pdv result new = MatchResult result
-    (λ message. gather old.ids old.gathered pdv ≡ record { list = option_to_list message; gathered = new.gathered })
-    (λ fault. (fault ≡ NoMemory) ⊎ (gather old.ids old.gathered pdv ≡ stops_at fault))
-
-pub one_adds : (old new : Assembly) (pdv : Pdv) (result : Result (Option Message) DimseFault) → Steps old pdv result new
-    → OnOk result ((fault : DimseFault) → new.gathered ≡ Spent fault → ⊥) → Adds result [] (messages_from old (pdv ∷ []))
-unfolding messages_from
-one_adds old new pdv (Ok message) step unspent =
-    ap read_off (gather_one old.ids old.gathered pdv ∙ step)
-    ∙ ap (λ (f : Option DimseFault). record { list = option_to_list message; fault = f }) (unspent_is new.gathered unspent)
-one_adds old new pdv (Err fault) (inl e) unspent = inl e
-one_adds old new pdv (Err fault) (inr step) unspent = inr (ap read_off (gather_one old.ids old.gathered pdv ∙ step))
-
-pub one_next : (old new : Assembly) (pdv : Pdv) (result : Result (Option Message) DimseFault) → Steps old pdv result new → new.ids ≡ old.ids
-    → OnOk result (new ≡ assembly_from old (pdv ∷ []))
-unfolding assembly_from
-one_next old new pdv (Ok message) step keeps =
-    let made : new.gathered ≡ (gather_all old.ids old.gathered (pdv ∷ [])).gathered =
-    sym (ap (λ (g : Gathering). g.gathered) (gather_one old.ids old.gathered pdv ∙ step)) in
-    ap (λ (ids : List ℕ). record { ids = ids; gathered = new.gathered }) keeps ∙ ap (λ (g : Gathered). record { ids = old.ids; gathered = g }) made
-one_next old new pdv (Err fault) step keeps = tt
-
--- what one PDV adds to those before
-pub one_more_adds : (ids : List ℕ) (pdvs : List Pdv) (pdv : Pdv) (old : Assembly) (result : Result (Option Message) DimseFault) → AssemblerAfter ids pdvs old
-    → Adds result [] (messages_from old (pdv ∷ [])) → Adds result (messages ids pdvs).list (messages ids (pdvs ++ pdv ∷ []))
-one_more_adds ids pdvs pdv old (Ok message) h e = messages_on ids pdvs (pdv ∷ []) old h ∙ ap (followed_by (messages ids pdvs).list) e
-one_more_adds ids pdvs pdv old (Err fault) h (inl e) = inl e
-one_more_adds ids pdvs pdv old (Err fault) h (inr e) =
-    inr (messages_on ids pdvs (pdv ∷ []) old h ∙ ap (followed_by (messages ids pdvs).list) e
-    ∙ ap (λ (list : List Message). record { list = list; fault = Some fault }) (append-nil (messages ids pdvs).list))
-
-pub one_more_stands : (ids : List ℕ) (pdvs : List Pdv) (pdv : Pdv) (old new : Assembly) (result : Result (Option Message) DimseFault)
-    → AssemblerAfter ids pdvs old
-    → OnOk result (new ≡ assembly_from old (pdv ∷ [])) → OnOk result (AssemblerAfter ids (pdvs ++ pdv ∷ []) new)
-one_more_stands ids pdvs pdv old new (Ok message) h e = subst (AssemblerAfter ids (pdvs ++ pdv ∷ [])) (sym e) (assembler_on ids pdvs (pdv ∷ []) old h)
-one_more_stands ids pdvs pdv old new (Err fault) h e = tt
-
-pub err_spent : (gathered : Gathered) (result : Result (Option Message) DimseFault) → IfErr result (λ fault. gathered ≡ Spent fault)
-    → IfErr result (λ fault. fault_in gathered ≡ Some fault)
-err_spent gathered (Ok message) h = tt
-err_spent gathered (Err fault) h = ap fault_in h
-
-pub ok_unspent : (gathered : Gathered) (result : Result (Option Message) DimseFault) → OnOk result ((fault : DimseFault) → gathered ≡ Spent fault → ⊥)
-    → OnOk result (fault_in gathered ≡ None)
-ok_unspent gathered (Ok message) h = unspent_is gathered h
-ok_unspent gathered (Err fault) h = tt

@@ -14,7 +14,7 @@ use Rattle.dq_pdu.specs.Numbers.{pdv_header, longest_body}
 use Rattle.dq_pdu.specs.Writing.{spelling, p_data, IsWritable, AreWritable}
 use Rattle.dq_pdu.specs.Stream.{pdus_in}
 use Rattle.dq_dimse.specs.declared.command.Command.{Command}
-use Rattle.dq_dimse.specs.declared.command.Message.{Message}
+use Rattle.dq_dimse.specs.Received.{Message}
 use Rattle.dq_dimse.specs.Commands.{command_of}
 use Rattle.dq_dimse.specs.Messages.{command_limit, joined, AreFragments, AreAllFragments, IsCommand, HasOctets, IsDataPart, IsMessage}
 use Rattle.dq_dimse.specs.Assembling.{messages}

@@ -1,11 +1,10 @@
 -- PDVs one after the other, as an assembler gathers them.
-use Rattle.std.proofs.Common.{◌≡◌, ℕ, List, [], ◌∷◌, ◌++◌, Some, None, refl, sym, ap, ◌∙◌, append_assoc}
+use Rattle.std.proofs.Common.{◌≡◌, ℕ, List, [], ◌∷◌, ◌++◌, Some, refl, sym, ap, ◌∙◌, append_assoc}
 use Rattle.std.proofs.lemmas.List.{append-nil}
 use Rattle.dq_pdu.specs.declared.pdu.Pdv.{Pdv}
-use Rattle.dq_dimse.specs.declared.command.Message.{Message}
+use Rattle.dq_dimse.specs.Received.{Message}
 use Rattle.dq_dimse.specs.declared.fault.DimseFault.{DimseFault}
-use Rattle.dq_dimse.specs.declared.assembler.Gathered.{Gathered}
-use Rattle.dq_dimse.specs.declared.assembler.Gathered.TheVariants.{Nothing, CommandPart, DataPart, Spent}
+use Rattle.dq_dimse.specs.Assembling.{Gathered, Nothing, CommandPart, DataPart, Spent}
 use Rattle.dq_dimse.specs.Assembling.{Gathering, stops_at, after_others, gather, gather_all, fault_in}
 
 after_both : (xs ys : List Message) (later : Gathering) → after_others xs (after_others ys later) ≡ after_others (xs ++ ys) later
@@ -34,9 +33,3 @@ spent_is Nothing fault e = absurd cc
 spent_is (CommandPart context octets) fault e = absurd cc
 spent_is (DataPart message) fault e = absurd cc
 spent_is (Spent other) fault e = cc
-
-pub unspent_is : (gathered : Gathered) → ((fault : DimseFault) → gathered ≡ Spent fault → ⊥) → fault_in gathered ≡ None
-unspent_is Nothing h = refl
-unspent_is (CommandPart context octets) h = refl
-unspent_is (DataPart message) h = refl
-unspent_is (Spent fault) h = absurd (h fault refl)

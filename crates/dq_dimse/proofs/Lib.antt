@@ -4,8 +4,8 @@ pub mod CommandSets
 pub mod Cuts
 pub mod DataParts
 pub mod Fragments
+pub mod Holdings
 pub mod Gatherings
-pub mod Octets
 pub mod Parsing
 pub mod Refusing
 pub mod Responses

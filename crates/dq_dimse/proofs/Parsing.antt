@@ -6,11 +6,10 @@ use Rattle.std.proofs.lemmas.List.{append-nil}
 use Rattle.dq_pdu.specs.declared.pdu.Pdv.{Pdv}
 use Rattle.dq_pdu.specs.Octets.{is_among}
 use Rattle.dq_dimse.specs.declared.command.Command.{Command}
-use Rattle.dq_dimse.specs.declared.command.Message.{Message}
+use Rattle.dq_dimse.specs.Received.{Message}
 use Rattle.dq_dimse.specs.declared.fault.DimseFault.{DimseFault}
 use Rattle.dq_dimse.specs.declared.fault.DimseFault.TheVariants.{WrongContext, WrongKind, BadCommand}
-use Rattle.dq_dimse.specs.declared.assembler.Gathered.{Gathered}
-use Rattle.dq_dimse.specs.declared.assembler.Gathered.TheVariants.{Nothing, CommandPart, DataPart, Spent}
+use Rattle.dq_dimse.specs.Assembling.{Gathered, Nothing, CommandPart, DataPart, Spent}
 use Rattle.dq_dimse.specs.Commands.{command_of}
 use Rattle.dq_dimse.specs.Messages.{command_limit, joined, IsCommand, HasOctets, IsDataSet, IsDataPart, IsMessage, AreMessages, AwaitsCommand, AwaitsData}
 use Rattle.dq_dimse.specs.Messages.{Begins, IsExpected, FitsNot, AreLeft}

@@ -6,7 +6,7 @@ use Rattle.dq_dataset.specs.Reading.{reading}
 use Rattle.dq_dataset.specs.Tree.{ElementList}
 use Rattle.dq_dimse.specs.Receiving.{is_over, identifier_limit, unless_unread, identifier_in}
 use Rattle.dq_dimse.specs.Statuses.{success, out_of_resources, cannot_understand}
-use Rattle.dq_dimse.specs.declared.command.Message.{Message}
+use Rattle.dq_dimse.specs.Received.{Message}
 
 refused_by : (over : Bool) (read : Option ElementList) (status : ℕ) → (if over then Err out_of_resources else unless_unread read) ≡ Err status
     → status ≢ success

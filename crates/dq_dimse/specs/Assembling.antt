@@ -1,23 +1,28 @@
--- The messages of presentation data values, computed one PDV after the other, and what an assembler
--- says of itself. That they are the messages, and the only ones, is said in Messages.
+-- The messages of presentation data values, computed one PDV after the other. That they are the
+-- messages, and the only ones, is said in Messages. What an assembler holds of them is said in
+-- Holding.
 use Rattle.std.specs.Prelude.{◌≡◌, ◌≤◌, ℕ, Bool, true, false, ◌||◌, ◌==◌, nat_lt, if◌then◌else◌}
 use Rattle.std.specs.Prelude.{List, [], ◌∷◌, ◌++◌, length, Option, Some, None, IsTrue}
-use Rattle.std.specs.Prelude.{◌⊎◌, Result, Ok, Err}
-use Rattle.std.specs.Option.{option_to_list}
 use Rattle.dq_pdu.specs.declared.pdu.Pdv.{Pdv}
 use Rattle.dq_pdu.specs.Octets.{is_among}
 use Rattle.dq_dimse.specs.declared.command.Command.{Command}
-use Rattle.dq_dimse.specs.declared.command.Message.{Message}
+use Rattle.dq_dimse.specs.Received.{Message}
 use Rattle.dq_dimse.specs.declared.fault.DimseFault.{DimseFault}
 use Rattle.dq_dimse.specs.declared.fault.DimseFault.TheVariants.{WrongContext, WrongKind}
 use Rattle.dq_dimse.specs.declared.fault.DimseFault.TheVariants.{BadCommand, NoMemory}
-use Rattle.dq_dimse.specs.declared.assembler.Gathered.{Gathered}
-use Rattle.dq_dimse.specs.declared.assembler.Gathered.TheVariants.{Nothing, CommandPart, DataPart}
-use Rattle.dq_dimse.specs.declared.assembler.Gathered.TheVariants.{Spent}
 use Rattle.dq_dimse.specs.Commands.{command_of}
 use Rattle.dq_dimse.specs.Messages.{command_limit, data_limit}
 
 -- ---- one PDV
+
+-- What is gathered between two PDVs: nothing; the fragments of a command set so far, and their
+-- context; a message whose command set is whole, with the fragments of its data set so far; or no
+-- message any more, because of a fault.
+pub data Gathered : Type 0 where
+  Nothing : Gathered
+  CommandPart : ℕ → List ℕ → Gathered
+  DataPart : Message → Gathered
+  Spent : DimseFault → Gathered
 
 -- what a PDV does to what was gathered: the messages that it completes, and what is gathered then
 pub record Gathering : Type 0 where
@@ -142,14 +147,7 @@ pub record AssemblerAfter (ids : List ℕ) (pdvs : List Pdv) (assembly : Assembl
 abbrev pub followed_by : List Message → Messages → Messages
 followed_by list later = record { list = list ++ later.list; fault = later.fault }
 
--- ---- what taking a PDV answers
-
--- the message that a PDV adds to those before, or the fault; or memory ran out
-abbrev pub Adds : Result (Option Message) DimseFault → List Message → Messages → Type 0
-Adds (Ok message) before after =
-    after ≡ record { list = before ++ option_to_list message; fault = None }
-Adds (Err fault) before after =
-    (fault ≡ NoMemory) ⊎ (after ≡ record { list = before; fault = Some fault })
+-- ---- memory
 
 -- a command fragment, or a data fragment, that is kept or read
 abbrev pub IsKeptCommand : List ℕ → Pdv → Type 0

@@ -4,7 +4,7 @@ use Rattle.std.specs.Prelude.{◌≡◌, ℕ, true, false, List, [], ◌∷◌, 
 use Rattle.dq_pdu.specs.declared.pdu.Pdu.{Pdu}
 use Rattle.dq_pdu.specs.declared.pdu.Pdu.TheVariants.{PData}
 use Rattle.dq_pdu.specs.declared.pdu.Pdv.{Pdv}
-use Rattle.dq_dimse.specs.declared.command.Message.{Message}
+use Rattle.dq_dimse.specs.Received.{Message}
 use Rattle.dq_dimse.specs.Messages.{joined, AreAllFragments, HasOctets}
 
 -- the fragments of a data set, if there is one

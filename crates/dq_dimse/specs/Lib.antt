@@ -1,12 +1,14 @@
 pub mod Faults
-pub mod Answering
+pub mod Attributes
 pub mod Assembling
 pub mod Carrying
 pub mod CommandElements
 pub mod CommandFields
 pub mod CommandSets
 pub mod Commands
+pub mod Holding
 pub mod Messages
+pub mod Received
 pub mod Reading
 pub mod Receiving
 pub mod Sending

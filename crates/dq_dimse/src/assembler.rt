@@ -1,21 +1,22 @@
-ghost use Rattle.std.specs.Prelude.{◌≡◌, ◌≤◌, ◌⊎◌, ℕ, true, false, List, [], ◌∷◌, ◌++◌, length};
-ghost use Rattle.std.specs.Prelude.{Some, None};
-ghost use Rattle.std.specs.Prelude.{MatchResult, IfOk, OnOk, IfErr, OnErr};
-ghost use Rattle.std.specs.Option.{option_to_list};
-ghost use Rattle.dq_pdu.specs.Octets.{is_among};
-ghost use Rattle.dq_dimse.specs.declared.fault.DimseFault.{DimseFault};
-ghost use Rattle.dq_dimse.specs.Answering.{Makes};
-ghost use Rattle.dq_dimse.specs.Assembling.{after_command, after_data, command_completed, gather};
-ghost use Rattle.dq_dimse.specs.Assembling.{messages, messages_from, assembly_from, new_assembly};
-ghost use Rattle.dq_dimse.specs.Assembling.{spent_by, stops_at, with_fragment};
-ghost use Rattle.dq_dimse.specs.Assembling.{AssemblerAfter, Adds};
+ghost use Rattle.std.specs.Prelude.{◌≡◌, ◌≤◌, ℕ, false, not, ◌&&◌, List, [], ◌∷◌, ◌++◌, length};
+ghost use Rattle.std.specs.Prelude.{Some, None, IfOk, OnOk, IfErr, OnErr};
+ghost use Rattle.dq_dimse.specs.Received.{Message as Received};
+ghost use Rattle.dq_dimse.specs.Assembling.{Assembly, Gathered as Pure};
+ghost use Rattle.dq_dimse.specs.Assembling.{after_command, after_data, begun_with};
+ghost use Rattle.dq_dimse.specs.Assembling.{command_completed, gather, with_fragment};
+ghost use Rattle.dq_dimse.specs.Assembling.{messages, messages_from, assembly_from};
 ghost use Rattle.dq_dimse.specs.Assembling.{IsKept, IsKeptCommand, IsKeptData, NeedsMemory};
 ghost use Rattle.dq_dimse.specs.Commands.{command_of};
+ghost use Rattle.dq_dimse.specs.Holding.{Adds, Assembles, HasBegun, HasGathered, Makes};
+ghost use Rattle.dq_dimse.specs.Holding.{BodyStandsFor, PartStandsFor, StandsFor, WasGiven};
+ghost use Rattle.dq_dimse.specs.Holding.{accepted_with, fault_held, ids_of, is_sifted, is_stored, spent_with};
 ghost use Rattle.dq_dimse.specs.Messages.{data_limit};
 
-use crate::command::{Command, Message};
+use crate::attributes::KEPT_ATTRIBUTES;
+use crate::command::{Body, Command, Message};
 use crate::fault::DimseFault;
 use crate::{command_field, reading};
+use dq_dataset::{Sieve, Syntax};
 use dq_list::Listed;
 use dq_pdu::Pdv;
 use std::alloc::{AllocError, Global};
@@ -29,14 +30,40 @@ const STORE_LIMIT: usize = 67_108_864;
 /// The data set of any other command is at most so many octets.
 const OTHER_LIMIT: usize = 1_048_576;
 
+/// A presentation context that was accepted (PS3.8 section 7.1.1).
+#[derive(Clone, Copy, Debug, PartialEq, Eq)]
+pub struct Accepted {
+    pub id: u8,
+    /// The transfer syntax of its data sets.
+    pub syntax: Syntax,
+}
+
+/// What came of a data set.
+#[derive(Debug, Drop)]
+pub(crate) enum Part {
+    /// Its fragments so far.
+    Octets(Listed<u8>),
+    /// Those of a C-STORE in a sieve, and the number of octets for which there is room.
+    Sifting(Sieve, usize),
+    /// It passed its limit, and is discarded.
+    Over,
+}
+
+/// A message whose command set is whole, and whose data set is still to come.
+#[derive(Debug, Drop)]
+pub(crate) struct Begun {
+    pub context: Accepted,
+    pub command: Command,
+    pub data_set: Part,
+}
+
 /// What an assembler holds between two PDVs.
 #[derive(Debug, Drop)]
 pub(crate) enum Gathered {
     Nothing,
     /// The fragments of a command set so far, and their context.
-    CommandPart(u8, Listed<u8>),
-    /// A message whose command set is whole, with the fragments of its data set so far.
-    DataPart(Message),
+    CommandPart(Accepted, Listed<u8>),
+    DataPart(Begun),
     Spent(DimseFault),
 }
 
@@ -44,23 +71,27 @@ pub(crate) enum Gathered {
 #[derive(Debug, Drop)]
 pub struct Assembler {
     alloc: Global,
-    ids: Listed<u8>,
+    accepted: Listed<Accepted>,
     gathered: Gathered,
 }
 
 impl Model for Assembler {
-    ghost use Rattle.dq_dimse.specs.Assembling.{Assembly};
+    ghost use Rattle.std.specs.Coded.{codes};
+    ghost use Rattle.dq_dimse.specs.Holding.{Holding};
+    ghost use Rattle.dq_dataset.specs.contracts.data_set.DataSet as data_set;
 
-    ghost Value = { Assembly };
+    ghost Value = { Holding };
 
-    ghost view = { λ a. record { ids = a.ids; gathered = a.gathered } };
+    ghost coded = { Prim.hlevel (codes, data_set.the_row.coded) };
+
+    ghost view = { λ a. record { accepted = a.accepted; gathered = a.gathered } };
 }
 
-/// Whether the id is among the ids.
-fn is_among(id: u8, ids: &[u8]) -> bool
-    ensures { result ≡ is_among id ids.now }
+/// The accepted context with an id.
+fn accepted_with(id: u8, accepted: &[Accepted]) -> Option<Accepted>
+    ensures { result ≡ accepted_with id accepted.now }
 {
-    ids.contains(&id)
+    accepted.iter().find(|context| context.id == id).copied()
 }
 
 /// The limit of a command's data set.
@@ -74,35 +105,161 @@ fn data_limit(command: &Command) -> usize
     }
 }
 
+impl Part {
+    /// What came of the data set of a command before its first fragment.
+    fn of(alloc: Global, command: &Command, syntax: Syntax) -> Part
+        ensures { (context : ℕ) → PartStandsFor syntax result (begun_with context command.now) }
+    {
+        if command.code == command_field::C_STORE {
+            let sieve = Sieve::new(alloc, syntax, &KEPT_ATTRIBUTES);
+            Part::Sifting(sieve, STORE_LIMIT)
+        } else {
+            Part::Octets(Listed::empty(alloc))
+        }
+    }
+
+    /// That with one more fragment. What passes the limit is discarded.
+    fn with_fragment(self, limit: usize, fragment: &[u8]) -> Result<Part, AllocError>
+        ensures value { (syntax : Syntax) (message : Received) →
+            PartStandsFor syntax self message → limit ≡ data_limit message.command → IfOk result
+            (λ part. PartStandsFor syntax part (with_fragment message fragment.now)) }
+        ensures memory { (syntax : Syntax) (message : Received) →
+            PartStandsFor syntax self message → limit ≡ data_limit message.command →
+            OnErr result ((message.over ≡ false)
+            × (length (message.octets ++ fragment.now) ≤ data_limit message.command)) }
+    {
+        match self {
+            Part::Octets(octets) => {
+                let mut octets = octets.into_inner();
+                if octets.len() + fragment.len() > limit {
+                    return Ok(Part::Over);
+                }
+                octets.extend_from_slice(fragment)?;
+                Ok(Part::Octets(Listed::from_inner(octets)))
+            }
+            Part::Sifting(mut sieve, room) => {
+                if fragment.len() > room {
+                    return Ok(Part::Over);
+                }
+                sieve.feed(fragment)?;
+                Ok(Part::Sifting(sieve, room - fragment.len()))
+            }
+            Part::Over => Ok(Part::Over),
+        }
+    }
+
+    /// Whether the data set passed its limit.
+    fn is_over(&self) -> bool
+        ensures { (syntax : Syntax) (message : Received) → PartStandsFor syntax self.now message →
+            result ≡ message.over }
+    {
+        match self {
+            Part::Octets(_) | Part::Sifting(..) => false,
+            Part::Over => true,
+        }
+    }
+
+    /// What is held of the data set, when it is whole.
+    fn into_body(self, alloc: Global) -> Body
+        ensures body { (syntax : Syntax) (message : Received) → PartStandsFor syntax self message →
+            BodyStandsFor syntax result message.octets }
+        ensures sifted { (syntax : Syntax) (message : Received) →
+            PartStandsFor syntax self message →
+            is_sifted result ≡ (is_stored message.command && not message.over) }
+    {
+        match self {
+            Part::Octets(octets) => Body::Octets(octets),
+            Part::Sifting(sieve, _) => Body::Sifted(sieve.finish()),
+            Part::Over => Body::Octets(Listed::empty(alloc)),
+        }
+    }
+}
+
+impl Begun {
+    /// A message of whose data set nothing came yet.
+    fn new(alloc: Global, context: Accepted, command: Command) -> Begun
+        ensures begun { HasBegun result (begun_with context.id command) }
+        ensures context { result.context ≡ context }
+    {
+        let data_set = Part::of(alloc, &command, context.syntax);
+        Begun {
+            context,
+            command,
+            data_set,
+        }
+    }
+
+    /// The message with one more fragment of its data set.
+    fn with_fragment(self, fragment: &[u8]) -> Result<Begun, AllocError>
+        ensures value { (message : Received) → HasBegun self message →
+            IfOk result (λ grown. HasBegun grown (with_fragment message fragment.now)) }
+        ensures context { IfOk result (λ grown. grown.context ≡ self.context) }
+        ensures memory { (message : Received) → HasBegun self message →
+            OnErr result ((message.over ≡ false)
+            × (length (message.octets ++ fragment.now) ≤ data_limit message.command)) }
+    {
+        let Begun {
+            context,
+            command,
+            data_set,
+        } = self;
+        let data_set = data_set.with_fragment(data_limit(&command), fragment)?;
+        Ok(Begun {
+            context,
+            command,
+            data_set,
+        })
+    }
+
+    /// The message, when its data set is whole.
+    fn into_message(self, alloc: Global) -> Message
+        ensures { (message : Received) → HasBegun self message →
+            StandsFor self.context.syntax result message }
+    {
+        let Begun {
+            context,
+            command,
+            data_set,
+        } = self;
+        let over = data_set.is_over();
+        let body = data_set.into_body(alloc);
+        Message {
+            context: context.id,
+            command,
+            body,
+            over,
+        }
+    }
+}
+
 /// What the octets of a whole command set make: a message, or one whose data set follows.
 fn command_completed(
     alloc: Global,
-    context: u8,
+    context: Accepted,
     octets: &[u8],
 ) -> Result<(Option<Message>, Gathered), DimseFault>
-    ensures { Makes result (command_completed context (command_of octets.now)) }
+    ensures made { (accepted : List Accepted) → accepted_with context.id accepted ≡ Some context →
+        Makes accepted result (command_completed context.id (command_of octets.now)) }
+    ensures unspent { IfOk result (λ x. fault_held x.1 ≡ None) }
 {
-    let message = Message {
-        context,
-        command: reading::command_of(alloc, octets)?,
-        octets: Listed::empty(alloc),
-        over: false,
-    };
-    if message.command.with_data {
-        Ok((None, Gathered::DataPart(message)))
+    let begun = Begun::new(alloc, context, reading::command_of(alloc, octets)?);
+    if begun.command.with_data {
+        Ok((None, Gathered::DataPart(begun)))
     } else {
-        Ok((Some(message), Gathered::Nothing))
+        Ok((Some(begun.into_message(alloc)), Gathered::Nothing))
     }
 }
 
 /// A PDV of the right context after the fragments of a command set so far.
 fn after_command(
     alloc: Global,
-    context: u8,
+    context: Accepted,
     mut octets: Vec<u8>,
     pdv: &Pdv,
 ) -> Result<(Option<Message>, Gathered), DimseFault>
-    ensures made { Makes result (after_command context octets.items pdv.now) }
+    ensures made { (accepted : List Accepted) → accepted_with context.id accepted ≡ Some context →
+        Makes accepted result (after_command context.id octets.items pdv.now) }
+    ensures unspent { IfOk result (λ x. fault_held x.1 ≡ None) }
     ensures memory { result ≡ Err DimseFault.NoMemory → IsKeptCommand octets.items pdv.now }
 {
     if !pdv.command {
@@ -121,117 +278,95 @@ fn after_command(
     }
 }
 
-/// The message with one more fragment of its data set. What passes the limit is discarded.
-fn with_fragment(alloc: Global, message: Message, fragment: &[u8]) -> Result<Message, AllocError>
-    ensures value { IfOk result (λ grown. grown ≡ with_fragment message fragment.now) }
-    ensures memory { OnErr result ((message.over ≡ false)
-        × (length (message.octets ++ fragment.now) ≤ data_limit message.command)) }
-{
-    let Message {
-        context,
-        command,
-        octets,
-        over,
-    } = message;
-    let mut octets = octets.into_inner();
-    let over = over || octets.len() + fragment.len() > data_limit(&command);
-    if over {
-        octets = Vec::new(alloc);
-    } else {
-        octets.extend_from_slice(fragment)?;
-    }
-    Ok(Message {
-        context,
-        command,
-        octets: Listed::from_inner(octets),
-        over,
-    })
-}
-
 /// A PDV of the right context after a command set and the fragments of a data set so far.
 fn after_data(
     alloc: Global,
-    message: Message,
+    begun: Begun,
     pdv: &Pdv,
 ) -> Result<(Option<Message>, Gathered), DimseFault>
-    ensures made { Makes result (after_data message pdv.now) }
-    ensures memory { result ≡ Err DimseFault.NoMemory → IsKeptData message pdv.now }
+    ensures made { (accepted : List Accepted) (message : Received) →
+        accepted_with begun.context.id accepted ≡ Some begun.context → HasBegun begun message →
+        Makes accepted result (after_data message pdv.now) }
+    ensures unspent { IfOk result (λ x. fault_held x.1 ≡ None) }
+    ensures memory { (message : Received) → HasBegun begun message →
+        result ≡ Err DimseFault.NoMemory → IsKeptData message pdv.now }
 {
     if pdv.command {
         return Err(DimseFault::WrongKind);
     }
-    let message = with_fragment(alloc, message, pdv.octets.inner())?;
+    let begun = begun.with_fragment(pdv.octets.as_slice())?;
     if pdv.last {
-        Ok((Some(message), Gathered::Nothing))
+        Ok((Some(begun.into_message(alloc)), Gathered::Nothing))
     } else {
-        Ok((None, Gathered::DataPart(message)))
+        Ok((None, Gathered::DataPart(begun)))
     }
 }
 
 /// What one more PDV does to what was gathered.
 fn gather(
     alloc: Global,
-    ids: &[u8],
+    accepted: &[Accepted],
     gathered: Gathered,
     pdv: &Pdv,
 ) -> Result<(Option<Message>, Gathered), DimseFault>
-    ensures made { Makes result (gather ids.now gathered pdv.now) }
+    ensures made { (before : Pure) → HasGathered accepted.now gathered before →
+        Makes accepted.now result (gather (ids_of accepted.now) before pdv.now) }
+    ensures unspent { IfOk result (λ x. fault_held x.1 ≡ None) }
     ensures stays { (fault : DimseFault) → gathered ≡ Gathered.Spent fault → result ≡ Err fault }
-    ensures memory { result ≡ Err DimseFault.NoMemory → IsKept ids.now gathered pdv.now }
+    ensures memory { (before : Pure) → HasGathered accepted.now gathered before →
+        result ≡ Err DimseFault.NoMemory → IsKept (ids_of accepted.now) before pdv.now }
 {
     match gathered {
         Gathered::Nothing => {
-            if !is_among(pdv.context, ids) {
+            let Some(context) = accepted_with(pdv.context, accepted) else {
                 return Err(DimseFault::WrongContext);
-            }
-            after_command(alloc, pdv.context, Vec::new(alloc), pdv)
+            };
+            after_command(alloc, context, Vec::new(alloc), pdv)
         }
         Gathered::CommandPart(context, octets) => {
-            if pdv.context != context {
+            if pdv.context != context.id {
                 return Err(DimseFault::WrongContext);
             }
             after_command(alloc, context, octets.into_inner(), pdv)
         }
-        Gathered::DataPart(message) => {
-            if pdv.context != message.context {
+        Gathered::DataPart(begun) => {
+            if pdv.context != begun.context.id {
                 return Err(DimseFault::WrongContext);
             }
-            after_data(alloc, message, pdv)
+            after_data(alloc, begun, pdv)
         }
         Gathered::Spent(fault) => Err(fault),
     }
 }
 
 impl Assembler {
-    /// An assembler for the accepted contexts' ids, which was given no PDV. It takes no memory.
-    pub fn new(alloc: Global, ids: Listed<u8>) -> Self
-        ensures value { result ≡ new_assembly ids }
-        ensures stands { AssemblerAfter ids [] result }
+    /// An assembler for the accepted contexts, which was given no PDV. It takes no memory.
+    pub fn new(alloc: Global, accepted: Listed<Accepted>) -> Self
+        ensures { WasGiven accepted [] result }
     {
         Assembler {
             alloc,
-            ids,
+            accepted,
             gathered: Gathered::Nothing,
         }
     }
 
     /// Takes the next PDV, by what was gathered alone.
     fn take_next(&mut self, pdv: &Pdv) -> Result<Option<Message>, DimseFault>
-        ensures exact { MatchResult result
-            (λ message. gather self.old.ids self.old.gathered pdv.now
-            ≡ record { list = option_to_list message; gathered = self.new.gathered })
-            (λ fault. (fault ≡ DimseFault.NoMemory)
-            ⊎ (gather self.old.ids self.old.gathered pdv.now ≡ stops_at fault)) }
-        ensures spent { IfErr result (λ fault. self.new.gathered ≡ Gathered.Spent fault) }
-        ensures unspent { OnOk result ((fault : DimseFault) →
-            self.new.gathered ≡ Gathered.Spent fault → ⊥) }
+        ensures exact { (assembly : Assembly) → Assembles self.old assembly →
+            Adds self.old.accepted result [] (messages_from assembly (pdv.now ∷ [])) }
+        ensures next { (assembly : Assembly) → Assembles self.old assembly →
+            OnOk result (Assembles self.new (assembly_from assembly (pdv.now ∷ []))) }
+        ensures spent { IfErr result (λ fault. spent_with self.new ≡ Some fault) }
+        ensures unspent { OnOk result (spent_with self.new ≡ None) }
         ensures stays { (fault : DimseFault) →
-            self.old.gathered ≡ Gathered.Spent fault → result ≡ Err fault }
-        ensures keeps { self.new.ids ≡ self.old.ids }
-        ensures memory { result ≡ Err DimseFault.NoMemory → NeedsMemory self.old pdv.now }
+            spent_with self.old ≡ Some fault → result ≡ Err fault }
+        ensures keeps { self.new.accepted ≡ self.old.accepted }
+        ensures memory { (assembly : Assembly) → Assembles self.old assembly →
+            result ≡ Err DimseFault.NoMemory → NeedsMemory assembly pdv.now }
     {
         let before = mem::replace(&mut self.gathered, Gathered::Spent(DimseFault::NoMemory));
-        match gather(self.alloc, self.ids.inner(), before, pdv) {
+        match gather(self.alloc, self.accepted.as_slice(), before, pdv) {
             Ok((message, gathered)) => {
                 self.gathered = gathered;
                 Ok(message)
@@ -252,19 +387,26 @@ impl Assembler {
     /// 6.3.1, PS3.8 annex E).
     pub fn take(&mut self, pdv: &Pdv) -> Result<Option<Message>, DimseFault>
         // Whatever PDVs the assembler was given: the message, or the fault, that one more adds.
-        ensures adds { (ids : List ℕ) (pdvs : List Pdv) → AssemblerAfter ids pdvs self.old →
-            Adds result (messages ids pdvs).list (messages ids (pdvs ++ pdv.now ∷ [])) }
-        ensures stands { (ids : List ℕ) (pdvs : List Pdv) → AssemblerAfter ids pdvs self.old →
-            OnOk result (AssemblerAfter ids (pdvs ++ pdv.now ∷ []) self.new) }
-        // What one PDV adds, by the assembler alone.
-        ensures exact { Adds result [] (messages_from self.old (pdv.now ∷ [])) }
-        ensures next { OnOk result (self.new ≡ assembly_from self.old (pdv.now ∷ [])) }
-        ensures spent { IfErr result (λ fault. spent_by self.new ≡ Some fault) }
-        ensures unspent { OnOk result (spent_by self.new ≡ None) }
+        ensures adds { (accepted : List Accepted) (pdvs : List Pdv) →
+            WasGiven accepted pdvs self.old →
+            Adds accepted result (messages (ids_of accepted) pdvs).list
+            (messages (ids_of accepted) (pdvs ++ pdv.now ∷ [])) }
+        ensures stands { (accepted : List Accepted) (pdvs : List Pdv) →
+            WasGiven accepted pdvs self.old →
+            OnOk result (WasGiven accepted (pdvs ++ pdv.now ∷ []) self.new) }
+        // What one PDV adds to whatever the assembler stands for.
+        ensures exact { (assembly : Assembly) → Assembles self.old assembly →
+            Adds self.old.accepted result [] (messages_from assembly (pdv.now ∷ [])) }
+        ensures next { (assembly : Assembly) → Assembles self.old assembly →
+            OnOk result (Assembles self.new (assembly_from assembly (pdv.now ∷ []))) }
+        ensures spent { IfErr result (λ fault. spent_with self.new ≡ Some fault) }
+        ensures unspent { OnOk result (spent_with self.new ≡ None) }
         ensures stays { (fault : DimseFault) →
-            spent_by self.old ≡ Some fault → result ≡ Err fault }
+            spent_with self.old ≡ Some fault → result ≡ Err fault }
+        ensures keeps { self.new.accepted ≡ self.old.accepted }
         // Memory runs out only where octets are kept or read.
-        ensures memory { result ≡ Err DimseFault.NoMemory → NeedsMemory self.old pdv.now }
+        ensures memory { (assembly : Assembly) → Assembles self.old assembly →
+            result ≡ Err DimseFault.NoMemory → NeedsMemory assembly pdv.now }
     {
         self.take_next(pdv)
     }

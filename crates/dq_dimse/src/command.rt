@@ -1,3 +1,6 @@
+ghost use Rattle.std.specs.Prelude.{◌≡◌};
+
+use dq_dataset::Sifted;
 use dq_list::Listed;
 
 /// What a command set says (PS3.7 annex E).
@@ -18,13 +21,37 @@ pub struct Command {
     pub status: u16,
 }
 
-/// A message: its presentation context, its command, and the octets of its data set.
+/// The data set of a message.
+#[derive(Debug, Drop)]
+pub enum Body {
+    Octets(Listed<u8>),
+    /// What the kept attributes leave of it. Its octets were sifted as they came.
+    Sifted(Sifted),
+}
+
+impl Body {
+    ghost use Rattle.dq_dimse.specs.Holding.{octets_held};
+
+    /// Its octets. One that is sifted has none.
+    pub(crate) fn octets(&self) -> &[u8]
+        ensures { result.now ≡ octets_held self.now }
+    {
+        match self {
+            Body::Octets(octets) => octets.as_slice(),
+            Body::Sifted(_) => &[],
+        }
+    }
+}
+
+/// A message: its presentation context, its command, and its data set.
 #[derive(Debug, Drop)]
 pub struct Message {
     pub context: u8,
     pub command: Command,
-    pub octets: Listed<u8>,
+    /// Sifted for a C-STORE that is not `over`, and octets for any other. A message without a data
+    /// set has an empty one.
+    pub body: Body,
     /// Whether the data set passed its limit: 67,108,864 octets of a C-STORE, 1,048,576 of any
-    /// other command. Its octets were then discarded.
+    /// other command. It was then discarded.
     pub over: bool,
 }

@@ -1,18 +1,21 @@
 //! What the definitions mean: laws that hold of them, each proved as the contract of a function
 //! that does nothing.
-ghost use Rattle.std.specs.Prelude.{◌≡◌, ◌≤◌, ◌<◌, ◌⊎◌, ℕ, Bool, IsTrue, List, [], ◌∷◌, ◌++◌};
-ghost use Rattle.std.specs.Prelude.{length, map, Option, Some, None};
+ghost use Rattle.std.specs.Prelude.{◌≡◌, ◌≤◌, ◌<◌, ◌⊎◌, ℕ, Bool, true, false, IsTrue, List, [], ◌∷◌};
+ghost use Rattle.std.specs.Prelude.{◌++◌, length, map, Option, Some, None};
 ghost use Rattle.dq_pdu.specs.declared.pdu.Pdv.{Pdv};
 ghost use Rattle.dq_pdu.specs.Writing.{body, is_writable, p_data};
+ghost use Rattle.dq_dataset.specs.declared.header.Syntax.{Syntax};
 ghost use Rattle.dq_dataset.specs.Grammar.{AreOctets};
 ghost use Rattle.dq_dimse.specs.declared.command.Command.{Command};
-ghost use Rattle.dq_dimse.specs.declared.command.Message.{Message};
+ghost use Rattle.dq_dimse.specs.declared.command.Message.{Message as HeldMessage};
+ghost use Rattle.dq_dimse.specs.Received.{Message};
 ghost use Rattle.dq_dimse.specs.declared.fault.DimseFault.{DimseFault};
 ghost use Rattle.dq_pdu.specs.Octets.{is_among};
 ghost use Rattle.dq_pdu.specs.Stream.{pdus_in};
 ghost use Rattle.dq_dimse.specs.Carrying.{Carries, IsDataOf, pdu_with};
 ghost use Rattle.dq_dimse.specs.Commands.{command_of};
 ghost use Rattle.dq_dimse.specs.CommandSets.{IsCommandSet, HasFields, SaysResponse};
+ghost use Rattle.dq_dimse.specs.Holding.{StandsFor, is_stored, plain_message};
 ghost use Rattle.dq_dimse.specs.Messages.{AreMessages, AreLeft, command_limit};
 ghost use Rattle.dq_dimse.specs.Assembling.{Assembly, AssemblerAfter, messages, messages_from};
 ghost use Rattle.dq_dimse.specs.Assembling.{assembly_from, followed_by, spent_by};
@@ -92,6 +95,14 @@ pub fn assemblers_go_on()
         spent_by assembly ≡ Some fault →
         (messages_from assembly pdvs ≡ record { list = []; fault = Some fault })
         × (assembly_from assembly pdvs ≡ assembly) }
+{}
+
+/// A message that is no C-STORE is held with its octets, and so is one that passed its limit.
+pub fn plain_messages_are_held()
+    ensures { (syntax : Syntax) (held : HeldMessage) (message : Message) →
+        StandsFor syntax held message →
+        (is_stored message.command ≡ false) ⊎ (message.over ≡ true) →
+        plain_message held ≡ message }
 {}
 
 /// The length of a fragment is the largest that a PDU for the peer has room for (PS3.8 annex D.1).

@@ -3,6 +3,7 @@
 #![tactic(auto)]
 
 mod assembler;
+mod attributes;
 mod command;
 pub mod command_field;
 mod fault;
@@ -13,7 +14,8 @@ mod receiving;
 mod sending;
 pub mod status;
 
-pub use assembler::Assembler;
-pub use command::{Command, Message};
+pub use assembler::{Accepted, Assembler};
+pub use attributes::KEPT_ATTRIBUTES;
+pub use command::{Body, Command, Message};
 pub use fault::DimseFault;
 pub use sending::write_message;

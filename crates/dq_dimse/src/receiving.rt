@@ -4,6 +4,7 @@ ghost use Rattle.std.specs.Result.{result_ok};
 ghost use Rattle.dq_dataset.specs.declared.header.Syntax.TheVariants.{Explicit};
 ghost use Rattle.dq_dataset.specs.Reading.{reading};
 ghost use Rattle.dq_dataset.specs.Canonical.{HasLengths};
+ghost use Rattle.dq_dimse.specs.Holding.{plain_message};
 ghost use Rattle.dq_dimse.specs.Receiving.{is_over, identifier_in};
 
 use crate::command::Message;
@@ -19,21 +20,21 @@ impl Message {
     /// Whether the data set has more octets than the limit, or was discarded because it had too
     /// many.
     pub fn is_over(&self, limit: usize) -> bool
-        ensures { result ≡ is_over limit self.now }
+        ensures { result ≡ is_over limit (plain_message self.now) }
     {
-        self.over || self.octets.len() > limit
+        self.over || self.body.octets().len() > limit
     }
 
     /// The data set, where its octets spell one in that transfer syntax (PS3.5 section 7). One of
     /// fewer than 2^31 octets can be written in Explicit.
     pub fn data_set(&self, alloc: Global, syntax: Syntax) -> Result<Option<DataSet>, AllocError>
         ensures read { IfOk result (λ data_set.
-            data_set ≡ result_ok (reading syntax self.now.octets)) }
-        ensures lengths { length self.now.octets < 2 ^ 31
+            data_set ≡ result_ok (reading syntax (plain_message self.now).octets)) }
+        ensures lengths { length (plain_message self.now).octets < 2 ^ 31
             → IfOk result (λ data_set. IfSome data_set (λ d. HasLengths Explicit d)) }
     {
         spelling_law();
-        match read(alloc, self.octets.as_slice(), syntax) {
+        match read(alloc, self.body.octets(), syntax) {
             Ok(data_set) => Ok(Some(data_set)),
             Err(ReadFault::NoMemory) => Err(AllocError),
             Err(_) => Ok(None),
@@ -49,7 +50,7 @@ impl Message {
         alloc: Global,
         syntax: Syntax,
     ) -> Result<Result<DataSet, u16>, AllocError>
-        ensures { IfOk result (λ identifier. identifier ≡ identifier_in self.now syntax) }
+        ensures { IfOk result (λ identifier. identifier ≡ identifier_in (plain_message self.now) syntax) }
     {
         if self.is_over(IDENTIFIER_LIMIT) {
             return Ok(Err(OUT_OF_RESOURCES));

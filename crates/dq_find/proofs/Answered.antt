@@ -16,7 +16,7 @@ use Rattle.dq_dataset.specs.declared.header.Syntax.{Syntax}
 use Rattle.dq_dataset.specs.Tree.{ElementList}
 use Rattle.dq_dataset.specs.Values.{octets_in}
 use Rattle.dq_dimse.specs.Statuses.{success}
-use Rattle.dq_dimse.specs.declared.command.Message.{Message}
+use Rattle.dq_dimse.specs.Received.{Message}
 use Rattle.dq_match.specs.Answers.{answer}
 use Rattle.dq_tables.specs.declared.row.Kind.{Kind}
 use Rattle.dq_tables.specs.declared.row.Kind.TheVariants as kind

@@ -13,7 +13,7 @@ use Rattle.dq_dataset.specs.Editing.{merged}
 use Rattle.dq_dataset.specs.Values.{element_at}
 use Rattle.dq_match.specs.Keys.{is_tag}
 use Rattle.dq_match.specs.Answers.{refused}
-use Rattle.dq_dimse.specs.declared.command.Message.{Message}
+use Rattle.dq_dimse.specs.Received.{Message}
 use Rattle.dq_dimse.specs.Statuses.{success}
 use Rattle.dq_tables.specs.Rows.{Record}
 use Rattle.dq_find.specs.declared.level.Level.{Level}

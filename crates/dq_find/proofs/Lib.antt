@@ -3,6 +3,7 @@ mod Answered
 mod Answering
 mod Asking
 mod Naming
+mod Chosen
 mod LookedUp
 mod Completing
 mod Counting

@@ -17,6 +17,7 @@ use Rattle.dq_list.specs.Among.{IsAmong}
 use Rattle.dq_list.proofs.Among.{among_filter, filtered_from}
 use Rattle.dq_vr.specs.Dictionary.{dictionary, vr_in, known_vr}
 use Rattle.dq_vr.specs.Tags as tags
+use Rattle.dq_vr.specs.declared.Vr.TheVariants.{UI}
 use Rattle.dq_dataset.specs.declared.fault.ReadFault.{ReadFault}
 use Rattle.dq_dataset.specs.declared.header.Syntax.TheVariants.{Explicit}
 use Rattle.dq_dataset.specs.Tree.{ElementList}
@@ -33,6 +34,7 @@ use Rattle.dq_match.specs.Fitting.{EachIsMet}
 use Rattle.dq_match.specs.Responses.{shown}
 use Rattle.dq_match.proofs.Answering.{given_of_each}
 use Rattle.dq_tables.specs.declared.row.Kind.{Kind}
+use Rattle.dq_tables.specs.declared.row.Kind.TheVariants as kind
 use Rattle.dq_tables.specs.declared.row.Row.{Row}
 use Rattle.dq_tables.specs.Rows.{Record, IsRising, octet_order, record_of, row_of, of}
 use Rattle.dq_tables.specs.Finding.{same_kind, record_at, row_at, records_of}
@@ -46,13 +48,15 @@ use Rattle.dq_find.specs.declared.level.Level.{Level}
 use Rattle.dq_find.specs.declared.level.Level.TheVariants.{Study, Series, Image}
 use Rattle.dq_find.specs.declared.query.Query.{Query}
 use Rattle.dq_find.specs.Levels.{kind_of, unique_key}
+use Rattle.dq_find.specs.Choosing.{is_asked}
 use Rattle.dq_find.specs.Computed.{completed, computed, placed, put_in_order, all_in_order}
 use Rattle.dq_find.specs.Queries.{key_above, told, answer_of, answers, asked_records}
-use Rattle.dq_find.specs.Candidates.{own_values, names_records, has_one_of, is_named, candidates, is_under, under, looked_up, named_record, named_rows, octets_of}
+use Rattle.dq_find.specs.Candidates.{own_values, names_records, looks_up, has_one_of, is_looked_at, candidates, is_under, under, looked_up, named_record, named_rows, octets_of}
 use Rattle.dq_find.proofs.Answered.{IsUnder, asked_from, asked_to, asked_in_order}
 use Rattle.dq_find.proofs.Answering.{stays}
 use Rattle.dq_find.proofs.Asked.{value_from}
-use Rattle.dq_find.proofs.Naming.{IsUidTag, named_among}
+use Rattle.dq_find.proofs.Naming.{IsKeyOf, sole_of_uid, named_among}
+use Rattle.dq_find.proofs.Chosen.{DaysAreInOrder, Stay, fit_is_chosen}
 use Rattle.dq_find.proofs.Modalities.{IsInOrder, IsBefore, all_stays, all_from, all_to}
 
 -- ---- what is given by those that pass alone
@@ -276,7 +280,8 @@ module _ (institution : List ℕ) (rows : List Row) (query : Query) (rising : Is
   from_named r (uid ∷ uids) h =
       by_step (among_step r (named_record own query uid) (all_named uids) h) (λ k. from_named r uids k)
     where
-      by_step : (named_record own query uid ≡ Some r) ⊎ IsAmong r (all_named uids) → (IsAmong r (all_named uids) → IsAmong r asked × IsAmong r.key uids)
+      by_step : (named_record own query uid ≡ Some r) ⊎ IsAmong r (all_named uids)
+          → (IsAmong r (all_named uids) → IsAmong r asked × IsAmong r.key uids)
           → IsAmong r asked × IsAmong r.key (uid ∷ uids)
       by_step (inl is) rest = (let gives = named_gives uid r is in (gives.0, inl (sym gives.1)))
       by_step (inr k) rest = (let found = rest k in (found.0, inr found.1))
@@ -337,19 +342,22 @@ rows_are institution records query (uid ∷ uids) =
     ap (cons_option (option_map (row_of institution) (named_record records query uid))) (rows_are institution records query uids)
     ∙ rows_step institution (named_record records query uid) (filter_map (named_record records query) uids)
 
-filtered_alike : (values : List (List ℕ)) (b : Bool) → names_records values ≡ b → b ≡ true → (records : List Record)
-    → filter (has_one_of values) records ≡ filter (is_named values) records
-filtered_alike values b is named records =
-    ap (λ (t : Bool). filter (λ (r : Record). if t then has_one_of values r else true) records) (sym (is ∙ named))
+looks_named : (level : Level) (values : List (List ℕ)) → looks_up level values ≡ true → names_records values ≡ true
+looks_named Study [] h = absurd cc
+looks_named Study (uid ∷ []) h = absurd cc
+looks_named Study (uid ∷ (next ∷ others)) h = h
+looks_named Series values h = h
+looks_named Image values h = h
 
 pub named_candidates : (institution : List ℕ) (rows : List Row) (query : Query) (uids : List (List ℕ)) → IsRising rows
-    → uids ≡ all_in_order (own_values query) [] → names_records (own_values query) ≡ true
+    → uids ≡ all_in_order (own_values query) [] → looks_up query.level (own_values query) ≡ true
     → named_rows institution (of institution rows) query uids ≡ map (row_of institution) (candidates (of institution rows) query)
-named_candidates institution rows query uids rising is named =
+named_candidates institution rows query uids rising is looked =
     rows_are institution (of institution rows) query uids
     ∙ ap (map (row_of institution)) (ap (filter_map (named_record (of institution rows) query)) is
     ∙ named_have_one institution rows query rising (own_values query)
-    ∙ filtered_alike (own_values query) (names_records (own_values query)) refl named (asked_records (of institution rows) query))
+    ∙ ap (λ (b : Bool). filter (λ (r : Record). if b then has_one_of (own_values query) r else is_asked query.level query.keys r)
+    (asked_records (of institution rows) query)) (sym looked))
 
 -- a row that was looked up
 under_by : (institution : List ℕ) (r : Record) (b : Bool) → (if b then Some (row_of institution r) else None) ≡ option_map (row_of institution) (if b then Some r else None)
@@ -420,7 +428,8 @@ module _ (P : Record → Type 0) (own_has : (row : Row) → is_own row ≡ true 
   own_step row true kept its_own rest (inr h) = rest h
   own_step row false kept its_own rest h = rest h
 
-  own_filtered : (p : Row → Bool) (rows : List Row) → AllByRecursion (λ (row : Row). is_own row ≡ true) rows → IsAmong r (map record_of (filter p rows)) → P r
+  own_filtered : (p : Row → Bool) (rows : List Row) → AllByRecursion (λ (row : Row). is_own row ≡ true) rows
+      → IsAmong r (map record_of (filter p rows)) → P r
   own_filtered p [] its_own h = absurd h
   own_filtered p (row ∷ rows) its_own h = own_step row (p row) (filter p rows) its_own.0 (own_filtered p rows its_own.1) h
 
@@ -436,7 +445,7 @@ key_is Study r is own = value_from _ r.key (ap (λ (k : Kind). has_key k r.key (
 key_is Series r is own = value_from _ r.key (ap (λ (k : Kind). has_key k r.key (data_set_of r.octets)) (sym is) ∙ own)
 key_is Image r is own = value_from _ r.key (ap (λ (k : Kind). has_key k r.key (data_set_of r.octets)) (sym is) ∙ own)
 
-unique_keys_are_uids : (level : Level) → IsUidTag (unique_key level)
+unique_keys_are_uids : (level : Level) → IsKeyOf UI (unique_key level)
 unfolding known_vr vr_in dictionary
 unique_keys_are_uids Study = (refl, refl, refl)
 unique_keys_are_uids Series = (refl, refl, refl)
@@ -453,7 +462,7 @@ abbrev pub EachAlone : ElementList → Type 0
 EachAlone keys = (held : ElementList) → fits keys held ≡ true → EachIsMet Outer keys held
 
 module _ (institution : List ℕ) (rows : List Row) (called : List ℕ) (query : Query) (sound : IsSound rows)
-    (known : AllByRecursion HasKnownVr (elements_of query.keys)) (alone : EachAlone query.keys) where
+    (known : AllByRecursion HasKnownVr (elements_of query.keys)) (alone : EachAlone query.keys) (days : DaysAreInOrder) where
   not_named_by : (r : Record) (b : Bool) → IsAmong r (asked_records (of institution rows) query) → names_records (own_values query) ≡ true
       → has_one_of (own_values query) r ≡ false → fits query.keys (completed (of institution rows) query.level r) ≡ b
       → option_map (told called query) (if b then Some (shown query.keys (completed (of institution rows) query.level r)) else None) ≡ None
@@ -467,37 +476,57 @@ module _ (institution : List ℕ) (rows : List Row) (called : List ℕ) (query :
       absurd (cc (sym other ∙ one_of_to institution rows query sound.rising r.key (own_values query) among))
   not_named_by r false h named other is = refl
 
-  not_named : (r : Record) (b : Bool) → names_records (own_values query) ≡ b → IsAmong r (asked_records (of institution rows) query)
-      → (if b then has_one_of (own_values query) r else true) ≡ false → answer_of (of institution rows) called query r ≡ None
-  not_named r false is h other = absurd cc
-  not_named r true is h other = not_named_by r (fits query.keys (completed (of institution rows) query.level r)) h is other refl
+  not_chosen_by : (r : Record) (level : Level) (b : Bool) → query.level ≡ level → IsAmong r (asked_records (of institution rows) query)
+      → is_asked level query.keys r ≡ false → fits query.keys (completed (of institution rows) query.level r) ≡ b
+      → option_map (told called query) (if b then Some (shown query.keys (completed (of institution rows) query.level r)) else None) ≡ None
+  not_chosen_by r Study true level h other is =
+      let from = asked_from query.level query.keys r (of institution rows) h in
+      let own = own_key institution rows r sound from.0 in
+      let held = data_set_of r.octets in
+      let whole = completed (of institution rows) query.level r in
+      let kind : r.kind ≡ kind.Study = from.1 ∙ ap kind_of level in
+      let key = sole_of_uid tags.study_instance_uid held r.key (key_is Study r kind own.1) in
+      let at : merged held (computed (of institution rows) Study r.key) ≡ whole =
+      ap (λ (l : Level). merged held (computed (of institution rows) l r.key)) (sym level) in
+      let stay = subst (Stay held) at (record {
+        uid = stays (of institution rows) Study r.key held tags.study_instance_uid refl;
+        patient = stays (of institution rows) Study r.key held tags.patient_id refl;
+        date = stays (of institution rows) Study r.key held tags.study_date refl;
+      }) in
+      absurd (cc (sym other ∙ fit_is_chosen days query.keys whole r kind known own.0 stay key (alone whole is)))
+  not_chosen_by r Study false level h other is = refl
+  not_chosen_by r Series b level h other is = absurd cc
+  not_chosen_by r Image b level h other is = absurd cc
+
+  not_looked_at : (r : Record) (b : Bool) → looks_up query.level (own_values query) ≡ b → IsAmong r (asked_records (of institution rows) query)
+      → (if b then has_one_of (own_values query) r else is_asked query.level query.keys r) ≡ false → answer_of (of institution rows) called query r ≡ None
+  not_looked_at r false is h other = not_chosen_by r query.level (fits query.keys (completed (of institution rows) query.level r)) refl h other refl
+  not_looked_at r true is h other =
+      not_named_by r (fits query.keys (completed (of institution rows) query.level r)) h (looks_named query.level (own_values query) is) other refl
 
   skipped : answers (of institution rows) called query ≡ filter_map (answer_of (of institution rows) called query) (candidates (of institution rows) query)
   unfolding answers
   skipped =
-      sym (given_skipped (answer_of (of institution rows) called query) (is_named (own_values query)) (asked_records (of institution rows) query)
-      (λ (r : Record) h other. not_named r (names_records (own_values query)) refl h other))
+      sym (given_skipped (answer_of (of institution rows) called query) (is_looked_at query) (asked_records (of institution rows) query)
+      (λ (r : Record) h other. not_looked_at r (looks_up query.level (own_values query)) refl h other))
 
 -- what is answered of the rows that are looked at
 pub answered_of_candidates : (old mid : List Row) (name given called : List ℕ) (query : Query) (found seen : List Row) (answered : List ElementList)
-    → IsSound old → IsDataSet query.keys → EachAlone query.keys → given ≡ name → mid ≡ old
+    → IsSound old → IsDataSet query.keys → EachAlone query.keys → DaysAreInOrder → given ≡ name → mid ≡ old
     → found ≡ map (row_of given) (candidates (of given old) query) → seen ≡ found
     → answered ≡ filter_map (λ (row : Row). answer_of (of given mid) called query (record_of row)) seen
     → answered ≡ answers (of name old) called query
-answered_of_candidates old mid name given called query found seen answered sound facts alone same_name same_rows found_is seen_is answered_is =
+answered_of_candidates old mid name given called query found seen answered sound facts alone days same_name same_rows found_is seen_is answered_is =
     let looked : seen ≡ map (row_of name) (candidates (of name old) query) =
     seen_is ∙ found_is ∙ ap (λ (n : List ℕ). map (row_of n) (candidates (of n old) query)) same_name in
     answered_is ∙ (λ i. filter_map (λ (row : Row). answer_of (of (same_name i) (same_rows i)) called query (record_of row)) (looked i))
     ∙ given_of_each (λ (row : Row). answer_of (of name old) called query (record_of row)) (row_of name) (candidates (of name old) query)
-    ∙ sym (skipped name old called query sound (facts_give_known_vrs 16 None query.keys facts) alone)
+    ∙ sym (skipped name old called query sound (facts_give_known_vrs 16 None query.keys facts) alone days)
 
--- where none are named, all are looked at
-kept_all : (xs : List Record) → filter (λ (r : Record). true) xs ≡ xs
-kept_all [] = refl
-kept_all (x ∷ xs) = ap (λ (others : List Record). x ∷ others) (kept_all xs)
-
-pub all_candidates : (institution : List ℕ) (rows : List Row) (query : Query) → names_records (own_values query) ≡ false
-    → map (row_of institution) (asked_records (of institution rows) query) ≡ map (row_of institution) (candidates (of institution rows) query)
+-- where none are looked up, all that are asked for are looked at
+pub all_candidates : (institution : List ℕ) (rows : List Row) (query : Query) → looks_up query.level (own_values query) ≡ false
+    → map (row_of institution) (filter (is_asked query.level query.keys) (asked_records (of institution rows) query))
+    ≡ map (row_of institution) (candidates (of institution rows) query)
 all_candidates institution rows query none =
-    ap (map (row_of institution)) (sym (kept_all (asked_records (of institution rows) query))
-    ∙ ap (λ (b : Bool). filter (λ (r : Record). if b then has_one_of (own_values query) r else true) (asked_records (of institution rows) query)) (sym none))
+    ap (λ (b : Bool). map (row_of institution) (filter (λ (r : Record). if b then has_one_of (own_values query) r else is_asked query.level query.keys r)
+    (asked_records (of institution rows) query))) (sym none)

@@ -21,7 +21,7 @@ use Rattle.dq_dataset.specs.Values.{element_at, octets_in, values_of, values_in,
 use Rattle.dq_dataset.proofs.KnownVrs.{HasKnownVr}
 use Rattle.dq_match.specs.declared.keys.Place.TheVariants.{Outer}
 use Rattle.dq_match.specs.Keys.{is_key}
-use Rattle.dq_match.specs.Values.{is_asterisk, is_universal, octets_meet, some_meet, matching_of}
+use Rattle.dq_match.specs.Values.{is_same, is_asterisk, is_universal, octets_meet, some_meet, value_meets, matching_of}
 use Rattle.dq_match.specs.Wildcards.{any_run}
 use Rattle.dq_match.specs.Matching.{period, is_passed, is_start, meets}
 use Rattle.dq_match.specs.Fitting.{EachIsMet}
@@ -29,55 +29,23 @@ use Rattle.dq_tables.specs.Keys.{passing, uid_at}
 use Rattle.dq_find.specs.Candidates.{names_records}
 use Rattle.dq_find.proofs.Completing.{same_tag}
 
--- ---- an element that is one UID
+-- ---- an element with one value
 
--- the element with a tag, whose octets hold exactly one UID
-pub record IsUid (tag : Tag) (found : Option Element) (uid : List ℕ) : Type 0 where
+-- the element with a tag has a VR, and octets that hold exactly one value
+pub record HasOne (vr : Vr) (tag : Tag) (d : ElementList) (value : List ℕ) : Type 0 where
   pub element : Element
   pub octets : List ℕ
-  pub there : found ≡ Some element
+  pub there : element_at tag d ≡ Some element
+  pub among : IsAmong element (elements_of d)
+  pub tagged : element.tag ≡ tag
+  pub vr_is : element.vr ≡ vr
   pub holds : element.value ≡ Octets octets
-  pub one : parts element.vr octets ≡ uid ∷ []
-  pub well : is_uid uid ≡ true
+  pub one : parts vr octets ≡ value ∷ []
 
 sole_is : (values : List (List ℕ)) (uid : List ℕ) → sole values ≡ Some uid → values ≡ uid ∷ []
 sole_is [] uid h = absurd cc
 sole_is (x ∷ []) uid h = cc
 sole_is (x ∷ (y ∷ others)) uid h = absurd cc
-
-passed_by : (value uid : List ℕ) (b : Bool) → is_uid value ≡ b → (if b then Some value else None) ≡ Some uid → (value ≡ uid) × (is_uid value ≡ true)
-passed_by value uid true e h = (cc, e)
-passed_by value uid false e h = absurd cc
-
-passed : (value : Option (List ℕ)) (uid : List ℕ) → passing is_uid value ≡ Some uid → (value ≡ Some uid) × (is_uid uid ≡ true)
-passed None uid h = absurd cc
-passed (Some value) uid h =
-    let parts = passed_by value uid (is_uid value) refl h in
-    (ap (λ (o : List ℕ). Some o) parts.0, ap is_uid (sym parts.0) ∙ parts.1)
-
-uid_by : (tag : Tag) (e : Element) (v : Value) (uid : List ℕ) → e.value ≡ v → is_uid uid ≡ true
-    → sole (values_of e.vr v) ≡ Some uid → IsUid tag (Some e) uid
-uid_by tag e (Octets octets) uid is well h = record {
-  element = e;
-  octets = octets;
-  there = refl;
-  holds = is;
-  one = sole_is (parts e.vr octets) uid h;
-  well = well;
-}
-uid_by tag e (Items items) uid is well h = absurd cc
-
-uid_in : (tag : Tag) (found : Option Element) (uid : List ℕ) → is_uid uid ≡ true → sole (values_in found) ≡ Some uid → IsUid tag found uid
-uid_in tag None uid well h = absurd cc
-uid_in tag (Some e) uid well h = uid_by tag e e.value uid refl well h
-
-pub uid_of : (tag : Tag) (d : ElementList) (uid : List ℕ) → uid_at tag d ≡ Some uid → IsUid tag (element_at tag d) uid
-unfolding uid_at sole_at
-uid_of tag d uid h =
-    let given = passed (sole (values_in (element_at tag d))) uid h in
-    uid_in tag (element_at tag d) uid given.1 given.0
-
--- ---- its VR
 
 found_by : (P : Element → Type 0) (p : Element → Bool) (x e : Element) (xs : List Element) (b : Bool) → p x ≡ b → P x
     → (find p xs ≡ Some e → IsAmong e xs × P e × (p e ≡ true)) → cond b (Some x) (find p xs) ≡ Some e → IsAmong e (x ∷ xs) × P e × (p e ≡ true)
@@ -89,31 +57,53 @@ found_has : (P : Element → Type 0) (p : Element → Bool) (e : Element) (xs : 
 found_has P p e [] all h = absurd cc
 found_has P p e (x ∷ xs) all h = found_by P p x e xs (p x) refl all.0 (found_has P p e xs all.1) h
 
--- a UID's tag
-abbrev pub IsUidTag : Tag → Type 0
-IsUidTag tag = (known_vr tag ≡ Some UI) × (is_key Outer tag ≡ true) × (is_start tag ≡ false)
+module _ (vr : Vr) (tag : Tag) (known : known_vr tag ≡ Some vr) (d : ElementList) (all : AllByRecursion HasKnownVr (elements_of d)) (value : List ℕ) where
+  one_by : (e : Element) (v : Value) → element_at tag d ≡ Some e → e.value ≡ v → sole (values_of e.vr v) ≡ Some value → HasOne vr tag d value
+  one_by e (Octets octets) there holds is =
+      let facts = found_has HasKnownVr (has_tag tag) e (elements_of d) all there in
+      let tagged = same_tag e.tag tag facts.2 in
+      let vr_is : e.vr ≡ vr = facts.1 octets holds ∙ ap (λ (t : Tag). unwrap_or (known_vr t) UN) tagged ∙ ap (λ (v : Option Vr). unwrap_or v UN) known in
+      record {
+        element = e;
+        octets = octets;
+        there = there;
+        among = facts.0;
+        tagged = tagged;
+        vr_is = vr_is;
+        holds = holds;
+        one = ap (λ (v : Vr). parts v octets) (sym vr_is) ∙ sole_is (parts e.vr octets) value is;
+      }
+  one_by e (Items items) there holds is = absurd cc
 
-module _ (tag : Tag) (known : known_vr tag ≡ Some UI) (d : ElementList) (uid : List ℕ) (all : AllByRecursion HasKnownVr (elements_of d))
-    (is : IsUid tag (element_at tag d) uid) where
-  its_facts : IsAmong is.element (elements_of d) × HasKnownVr is.element × (has_tag tag is.element ≡ true)
-  its_facts = found_has HasKnownVr (has_tag tag) is.element (elements_of d) all is.there
+  one_in : (found : Option Element) → element_at tag d ≡ found → sole (values_in found) ≡ Some value → HasOne vr tag d value
+  one_in None there is = absurd cc
+  one_in (Some e) there is = one_by e e.value there refl is
 
-  its_tag : is.element.tag ≡ tag
-  its_tag = same_tag is.element.tag tag its_facts.2
+  pub one_at : sole_at tag d ≡ Some value → HasOne vr tag d value
+  unfolding sole_at
+  one_at = one_in (element_at tag d) refl
 
-  its_vr : is.element.vr ≡ UI
-  its_vr = its_facts.1 is.octets is.holds ∙ ap (λ (t : Tag). unwrap_or (known_vr t) UN) its_tag ∙ ap (λ (v : Option Vr). unwrap_or v UN) known
+-- one UID is the only value
+passed_by : (value uid : List ℕ) (b : Bool) → (if b then Some value else None) ≡ Some uid → value ≡ uid
+passed_by value uid true h = cc
+passed_by value uid false h = absurd cc
 
-  its_value : parts UI is.octets ≡ uid ∷ []
-  its_value = ap (λ (v : Vr). parts v is.octets) (sym its_vr) ∙ is.one
+passed : (value : Option (List ℕ)) (uid : List ℕ) → passing is_uid value ≡ Some uid → value ≡ Some uid
+passed None uid h = absurd cc
+passed (Some value) uid h = ap (λ (o : List ℕ). Some o) (passed_by value uid (is_uid value) h)
+
+pub sole_of_uid : (tag : Tag) (d : ElementList) (uid : List ℕ) → uid_at tag d ≡ Some uid → sole_at tag d ≡ Some uid
+unfolding uid_at
+sole_of_uid tag d = passed (sole_at tag d)
+
+-- a tag whose elements have a VR, and are met each for itself
+abbrev pub IsKeyOf : Vr → Tag → Type 0
+IsKeyOf vr tag = (known_vr tag ≡ Some vr) × (is_key Outer tag ≡ true) × (is_start tag ≡ false)
 
 -- ---- it is met by a value that is it
 
-or_none : (b : Bool) → (b || false) ≡ true → b ≡ true
-or_none true h = refl
-or_none false h = h
-
-among_by : (b : Bool) (first other : List ℕ) (others : List (List ℕ)) → bytes_eq first other ≡ b → (list_any (λ key. bytes_eq key other || false) others ≡ true → IsAmong other others)
+among_by : (b : Bool) (first other : List ℕ) (others : List (List ℕ)) → bytes_eq first other ≡ b
+    → (list_any (λ key. bytes_eq key other || false) others ≡ true → IsAmong other others)
     → ((b || false) || list_any (λ key. bytes_eq key other || false) others) ≡ true → IsAmong other (first ∷ others)
 among_by true first other others is rest h = inl ((bytes_eq-Decides first other).0 is)
 among_by false first other others is rest h = inr (rest h)
@@ -141,7 +131,8 @@ met_among key held other (first ∷ others) one two named h =
     among_met values other
     (ap (λ (b : Bool). ((false || (true && b)) || false) || list_any (λ key. bytes_eq key other || false) values) (sym (no_asterisk first others named)) ∙ reduced)
 
-meets_octets : (key : Element) (held : Option Element) (octets : List ℕ) → key.value ≡ Octets octets → meets key held ≡ octets_meet key.vr octets (octets_in held)
+meets_octets : (key : Element) (held : Option Element) (octets : List ℕ) → key.value ≡ Octets octets
+    → meets key held ≡ octets_meet key.vr octets (octets_in held)
 meets_octets key held octets is = rw is refl
 
 not_passed : (joined : Bool) (tag : Tag) → is_key Outer tag ≡ true → is_start tag ≡ false → is_passed Outer joined tag ≡ false
@@ -177,13 +168,13 @@ values_in_element tag keys values None there is named = absurd (none_named [] va
 values_in_element tag keys values (Some e) there is named = values_by tag keys values e e.value there refl is named
 
 -- a record that is met has one of the UIDs that are asked for
-pub named_among : (tag : Tag) (keys d held : ElementList) (values : List (List ℕ)) (other : List ℕ) → IsUidTag tag
+pub named_among : (tag : Tag) (keys d held : ElementList) (values : List (List ℕ)) (other : List ℕ) → IsKeyOf UI tag
     → AllByRecursion HasKnownVr (elements_of keys) → AllByRecursion HasKnownVr (elements_of d) → element_at tag held ≡ element_at tag d
     → parts UI (octets_in (element_at tag keys)) ≡ values → names_records values ≡ true → uid_at tag d ≡ Some other
     → EachIsMet Outer keys held → IsAmong other values
 named_among tag keys d held values other of_uid known_keys known_held same asked named there each =
     let key = values_in_element tag keys values (element_at tag keys) refl asked named in
-    let one = uid_of tag d other there in
+    let one = one_at UI tag of_uid.0 d known_held other (sole_of_uid tag d other there) in
     let facts = found_has HasKnownVr (has_tag tag) key.element (elements_of keys) known_keys key.there in
     let key_tag = same_tag key.element.tag tag facts.2 in
     let key_vr : key.element.vr ≡ UI =
@@ -193,6 +184,39 @@ named_among tag keys d held values other of_uid known_keys known_held same asked
     let met = each key.element facts.0 alone in
     let at : element_at key.element.tag held ≡ Some one.element = ap (λ (t : Tag). element_at t held) key_tag ∙ same ∙ one.there in
     let octets : octets_in (Some one.element) ≡ one.octets = rw one.holds refl in
-    met_among key.octets one.octets other values key.parted (its_value tag of_uid.0 d other known_held one) named
+    met_among key.octets one.octets other values key.parted one.one named
     (sym (ap (λ (o : Option Element). meets key.element o) at ∙ meets_octets key.element (Some one.element) key.octets key.holds
     ∙ (λ i. octets_meet (key_vr i) key.octets (octets i))) ∙ met)
+
+-- ---- one value that is asked for, against one value
+
+abbrev pub is_met_by : Vr → List ℕ → List ℕ → Bool
+is_met_by vr key value = (is_padded vr && is_same key (any_run ∷ [])) || value_meets (matching_of vr) key value
+
+met_alike : (vr : Vr) (asked said key value : List ℕ) → parts vr asked ≡ key ∷ [] → parts vr said ≡ value ∷ []
+    → octets_meet vr asked said ≡ is_met_by vr key value
+unfolding octets_meet is_universal
+met_alike vr asked said key value one two =
+    (λ i. ((is_empty (one i) || (is_padded vr && is_asterisk (one i))) || is_empty (two i)) || some_meet (matching_of vr) (one i) (two i))
+    ∙ alone (is_padded vr && is_same key (any_run ∷ [])) (value_meets (matching_of vr) key value)
+  where
+    alone : (a b : Bool) → (((false || a) || false) || ((b || false) || false)) ≡ (a || b)
+    alone true b = refl
+    alone false true = refl
+    alone false false = refl
+
+pub one_met : (vr : Vr) (tag : Tag) → IsKeyOf vr tag → (keys d held : ElementList)
+    → AllByRecursion HasKnownVr (elements_of keys) → AllByRecursion HasKnownVr (elements_of d) → element_at tag held ≡ element_at tag d
+    → EachIsMet Outer keys held → (asked said : List ℕ) → sole_at tag keys ≡ Some asked → sole_at tag d ≡ Some said
+    → is_met_by vr asked said ≡ true
+one_met vr tag is keys d held known_keys known_held same each asked said wanted there =
+    let key = one_at vr tag is.0 keys known_keys asked wanted in
+    let one = one_at vr tag is.0 d known_held said there in
+    let alone : is_passed Outer (is_some (period keys held)) key.element.tag ≡ false =
+    ap (is_passed Outer (is_some (period keys held))) key.tagged ∙ not_passed (is_some (period keys held)) tag is.1 is.2 in
+    let met = each key.element key.among alone in
+    let at : element_at key.element.tag held ≡ Some one.element = ap (λ (t : Tag). element_at t held) key.tagged ∙ same ∙ one.there in
+    let octets : octets_in (Some one.element) ≡ one.octets = rw one.holds refl in
+    sym (met_alike vr key.octets one.octets asked said key.one one.one)
+    ∙ sym (ap (λ (o : Option Element). meets key.element o) at ∙ meets_octets key.element (Some one.element) key.octets key.holds
+    ∙ (λ i. octets_meet (key.vr_is i) key.octets (octets i))) ∙ met

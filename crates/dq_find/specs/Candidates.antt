@@ -18,6 +18,7 @@ use Rattle.dq_find.specs.declared.level.Level.TheVariants.{Study, Series, Image}
 use Rattle.dq_find.specs.declared.query.Query.{Query}
 use Rattle.dq_find.specs.Levels.{kind_of, unique_key}
 use Rattle.dq_find.specs.Queries.{key_above, asked_records}
+use Rattle.dq_find.specs.Choosing.{is_asked}
 
 -- the values that a query gives its level's own unique key
 abbrev pub own_values : Query → List (List ℕ)
@@ -31,13 +32,19 @@ names_records (first ∷ others) = not (bytes_eq first (any_run ∷ []))
 abbrev pub has_one_of : List (List ℕ) → Record → Bool
 has_one_of uids r = list_any (λ uid. bytes_eq r.key uid) uids
 
--- a record has one of the keys that are named, where some are
-abbrev pub is_named : List (List ℕ) → Record → Bool
-is_named values r = if names_records values then has_one_of values r else true
+-- such records are looked up one by one; one study is a part of the choice of studies
+abbrev pub looks_up : Level → List (List ℕ) → Bool
+looks_up Study (uid ∷ []) = false
+looks_up level values = names_records values
 
--- of the records that are asked for, those that have one
+-- a record has one of the keys that are looked up, or is asked for where none are
+abbrev pub is_looked_at : Query → Record → Bool
+is_looked_at query r =
+    if looks_up query.level (own_values query) then has_one_of (own_values query) r
+    else is_asked query.level query.keys r
+
 abbrev pub candidates : List Record → Query → List Record
-candidates records query = filter (is_named (own_values query)) (asked_records records query)
+candidates records query = filter (is_looked_at query) (asked_records records query)
 
 -- a record is under the unique keys above it
 abbrev pub is_under : Level → ElementList → Record → Bool

@@ -5,7 +5,7 @@ use Rattle.dq_vr.specs.Tags as tags
 use Rattle.dq_dataset.specs.declared.header.Syntax.TheVariants.{Explicit}
 use Rattle.dq_dataset.specs.Canonical.{canonical}
 use Rattle.dq_dataset.specs.Tree.{ElementList, no_elements, element}
-use Rattle.dq_dimse.specs.declared.command.Message.{Message}
+use Rattle.dq_dimse.specs.Received.{Message}
 use Rattle.dq_match.specs.declared.responses.Found.{Found}
 use Rattle.dq_dimse.specs.Statuses.{success}
 use Rattle.dq_tables.specs.declared.row.Kind.TheVariants as kind

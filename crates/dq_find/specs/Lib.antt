@@ -3,6 +3,7 @@ pub mod Texts
 pub mod Modalities
 pub mod Computed
 pub mod Queries
+pub mod Choosing
 pub mod Candidates
 pub mod Kept
 pub mod Looking

@@ -9,7 +9,7 @@ use Rattle.dq_dataset.specs.declared.header.Syntax.{Syntax}
 use Rattle.dq_dataset.specs.Tree.{ElementList, no_elements}
 use Rattle.dq_dataset.specs.Editing.{merged}
 use Rattle.dq_dataset.specs.Values.{element_at}
-use Rattle.dq_dimse.specs.declared.command.Message.{Message}
+use Rattle.dq_dimse.specs.Received.{Message}
 use Rattle.dq_dimse.specs.Receiving.{identifier_in}
 use Rattle.dq_dimse.specs.Statuses.{success, does_not_match_sop_class}
 use Rattle.dq_match.specs.declared.responses.Found.{Found}

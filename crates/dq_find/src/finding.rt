@@ -1,10 +1,12 @@
 //! The answers to a query (PS3.4 sections C.4.1.3 and C.6.2).
-ghost use Rattle.std.specs.Prelude.{◌≡◌, [], IfOk, map, option_map};
+ghost use Rattle.std.specs.Prelude.{◌≡◌, [], IfOk, Some, map, filter, option_map};
 ghost use Rattle.std.specs.List.{filter_map, list_all};
+ghost use Rattle.dq_dimse.specs.Holding.{plain_message};
 ghost use Rattle.dq_match.specs.Identifiers.{HasKnownTags};
 ghost use Rattle.dq_tables.specs.Rows.{record_of, row_of};
 ghost use Rattle.dq_tables.specs.Serving.{Serves};
-ghost use Rattle.dq_find.specs.Candidates.{names_records, candidates, is_under, named_record, named_rows, octets_of, looked_up};
+ghost use Rattle.dq_find.specs.Choosing.{is_asked};
+ghost use Rattle.dq_find.specs.Candidates.{looks_up, candidates, is_under, named_record, named_rows, octets_of, looked_up};
 ghost use Rattle.dq_find.specs.Kept.{is_met_later, is_met};
 ghost use Rattle.dq_find.specs.Computed.{computed, all_in_order};
 ghost use Rattle.dq_value.specs.Parts.{parts};
@@ -13,6 +15,7 @@ ghost use Rattle.dq_find.specs.Queries.{about_answers, key_above, asks_computed,
 ghost use Rattle.dq_tables.specs.declared.row.Row.{Row as TheRow};
 ghost use Rattle.dq_find.specs.Looking.{Looks};
 
+use crate::choosing::choice_in;
 use crate::computed::{octets_at, series_computed, study_computed};
 use crate::level::Level;
 use crate::query::{Query, query_of};
@@ -24,7 +27,7 @@ use dq_dimse::status::SUCCESS;
 use dq_list::Listed;
 use dq_match::laws::keys_are_met_alone_and_as_a_period;
 use dq_match::{Found, answer, meets};
-use dq_tables::laws::honest_rows_are_sound;
+use dq_tables::laws::{day_numbers_are_in_order, honest_rows_are_sound};
 use dq_tables::{Row, TableFault, Tables, uid_at};
 use dq_value::{stripped, values};
 use dq_vr::{Tag, Vr, tags};
@@ -97,7 +100,8 @@ struct Search<'a> {
 }
 
 impl Search<'_> {
-    /// The records of the level under the unique keys above it.
+    /// The records of the level under the unique keys above it. Of studies, only those that can fit
+    /// what is asked of their key, their patient and their day.
     fn asked_rows<T: Tables>(
         &self,
         alloc: Global,
@@ -105,11 +109,15 @@ impl Search<'_> {
     ) -> Result<Listed<Row>, TableFault>
         ensures { Looks (T.state tables.old) (T.state tables.new)
             self.now.institution.now (λ records. map (row_of self.now.institution.now)
-            (asked_records records self.now.query.now)) result }
+            (filter (is_asked self.now.query.now.level self.now.query.now.keys)
+            (asked_records records self.now.query.now))) result }
     {
         let keys = &self.query.keys;
         match self.query.level {
-            Level::Study => tables.studies(alloc, self.institution),
+            Level::Study => {
+                let choice = choice_in(alloc, keys)?;
+                tables.studies_in(alloc, self.institution, &choice)
+            }
             Level::Series => {
                 let study = key_above(keys, tags::STUDY_INSTANCE_UID);
                 tables.series_of(alloc, self.institution, study)
@@ -180,7 +188,7 @@ impl Search<'_> {
     }
 
     /// The records that are looked at: where the query gives its level's own unique key values, no
-    /// record without one of them can match.
+    /// record without one of them can match, and no study that the choice does not take.
     fn rows<T: Tables>(&self, alloc: Global, tables: &mut T) -> Result<Listed<Row>, TableFault>
         ensures { Looks (T.state tables.old) (T.state tables.new)
             self.now.institution.now (λ records. map (row_of self.now.institution.now)
@@ -188,7 +196,7 @@ impl Search<'_> {
     {
         honest_rows_are_sound::<T>();
         let values = octets_at(&self.query.keys, self.query.level.unique_key());
-        if !names_records(values) {
+        if !looks_up(self.query.level, values) {
             return self.asked_rows(alloc, tables);
         }
         let uids = uids_in_order(alloc, values)?;
@@ -277,15 +285,19 @@ impl Search<'_> {
     }
 }
 
-/// Whether values of a unique key name records: there are some, and the first is no asterisk, which
-/// every record meets where it stands alone.
-fn names_records(octets: &[u8]) -> bool
-    ensures { result ≡ names_records (parts UI octets.now) }
+/// Whether values of a level's own unique key are looked up: there are some, and the first is no
+/// asterisk, which every record meets where it stands alone. One study is chosen instead.
+fn looks_up(level: Level, octets: &[u8]) -> bool
+    ensures { result ≡ looks_up level (parts UI octets.now) }
 {
-    match values(Vr::UI, octets).next() {
-        Some(first) => first != b"*".as_slice(),
-        None => false,
+    let mut uids = values(Vr::UI, octets);
+    let Some(first) = uids.next() else {
+        return false;
+    };
+    if level == Level::Study && uids.next().is_none() {
+        return false;
     }
+    first != b"*".as_slice()
 }
 
 /// The values of a unique key in the order of their octets, each once.
@@ -339,7 +351,7 @@ pub fn find<T: Tables>(
     syntax: Syntax,
 ) -> Result<Found, TableFault>
     ensures { Serves (T.state tables.old) (T.state tables.new) institution.now.name
-        (λ records. (found records called.now message.now syntax, [])) result }
+        (λ records. (found records called.now (plain_message message.now) syntax, [])) result }
 {
     let query = match query_of(alloc, message, syntax)? {
         Ok(query) => query,
@@ -347,6 +359,7 @@ pub fn find<T: Tables>(
     };
     query.keys.has_facts();
     honest_rows_are_sound::<T>();
+    day_numbers_are_in_order();
     keys_are_met_alone_and_as_a_period();
     let search = Search {
         institution: institution.name.as_slice(),

@@ -2,6 +2,7 @@
 //! C.4.1 and C.6.2).
 #![tactic(auto)]
 
+mod choosing;
 mod computed;
 mod finding;
 pub mod laws;

@@ -1,5 +1,6 @@
 //! What a message asks for (PS3.4 section C.4.1.2).
 ghost use Rattle.std.specs.Prelude.{◌≡◌, IfOk};
+ghost use Rattle.dq_dimse.specs.Holding.{plain_message};
 ghost use Rattle.dq_match.specs.Identifiers.{HasKnownTags};
 ghost use Rattle.dq_find.specs.Levels.{level_of};
 ghost use Rattle.dq_find.specs.Queries.{query_at, query_of};
@@ -12,7 +13,7 @@ use dq_match::{is_query, strike};
 use std::alloc::{AllocError, Global};
 
 /// A query: its level, the keys that are supported there, and whether there were others.
-#[derive(Debug, Drop)]
+#[derive(Drop)]
 pub struct Query {
     pub level: Level,
     pub keys: DataSet,
@@ -27,7 +28,7 @@ pub(crate) fn query_of(
     message: &Message,
     syntax: Syntax,
 ) -> Result<Result<Query, u16>, AllocError>
-    ensures query { IfOk result (λ q. q ≡ query_of message.now syntax) }
+    ensures query { IfOk result (λ q. q ≡ query_of (plain_message message.now) syntax) }
     ensures known { IfOk result (λ q. IfOk q (λ query. HasKnownTags query.keys)) }
 {
     match message.identifier(alloc, syntax)? {

@@ -16,3 +16,4 @@ mod Universal
 mod WildFits
 mod WordsInText
 pub mod Answering
+pub mod SeveralValues

@@ -2,9 +2,6 @@
 use Rattle.std.proofs.Common.{◌≡◌, ◌⊎◌, inl, inr, ℕ, zero, suc, ◌+◌, ◌<◌, ◌≤◌, sym, ◌∙◌, ap, subst, arith, rules}
 use Rattle.dq_match.specs.Words.{IsLower, IsStretch}
 
-lt_or_le : (i j : ℕ) → (i < j) ⊎ (j ≤ i)
-lt_or_le i j = search (rules, arith)
-
 order : (i j : ℕ) → (i < j) ⊎ ((i ≡ j) ⊎ (j < i))
 order i j = search (rules, arith)
 
@@ -21,20 +18,6 @@ gap_of (suc i) (suc j) h = let less = gap_of i j (omega arith) in record { gap =
 -- ---- one octet more
 
 module _ (s : ℕ → ℕ) (matched period repeated : ℕ) (stretch : IsStretch s matched period) (some : period ≤ matched) (at : repeated + period ≡ matched) where
-  pub repeats_on : s matched ≡ s repeated → IsStretch s (matched + 1) period
-  repeats_on same = record {
-    positive = stretch.positive;
-    first = λ h. absurd (omega arith);
-    long = λ h. omega arith;
-    repeats = λ k h. by_place k h (order (k + period) matched);
-    no_sooner = stretch.no_sooner;
-  }
-    where
-      by_place : (k : ℕ) → k + period < matched + 1 → (k + period < matched) ⊎ ((k + period ≡ matched) ⊎ (matched < k + period)) → s (k + period) ≡ s k
-      by_place k h (inl less) = stretch.repeats k less
-      by_place k h (inr (inl is)) = (let here : k ≡ repeated = omega arith in ap s is ∙ same ∙ ap s (sym here))
-      by_place k h (inr (inr more)) = absurd (omega arith)
-
   module _ (falls : s matched < s repeated) where
     -- what is lower after a shift is lower after the period and that shift
     later_by : (shift : ℕ) → 0 < shift → shift + period < matched + 1 → IsLower s shift (matched + 1) → IsLower s (shift + period) (matched + 1)

@@ -103,7 +103,8 @@ or_left false b h e = h
 not_same : (a b : ℕ) → a ≢ b → nat_eq a b ≡ false
 not_same a b differ = grind (arith, nat_tests)
 
-stands : (casing : Casing) (wanted octet : ℕ) → wanted ≢ any_one → stands_for casing wanted octet ≡ true → compared casing wanted ≡ compared casing octet
+stands : (casing : Casing) (wanted octet : ℕ) → wanted ≢ any_one → stands_for casing wanted octet ≡ true
+    → compared casing wanted ≡ compared casing octet
 stands casing wanted octet differ h =
     same_number (compared casing wanted) (compared casing octet) (or_left (nat_eq wanted any_one) _ h (not_same wanted any_one differ))
 
@@ -155,7 +156,8 @@ module _ (casing : Casing) (pattern word text : List ℕ) (before matched period
   not_before here zero small = here
   not_before here (suc t) small = not_between (suc t) (omega arith) small
 
-  pub gone_on : wild casing pattern text ≡ false → period ≤ length text → after_run (wild casing pattern) text ≡ after_run (wild casing pattern) (drop period text)
+  pub gone_on : wild casing pattern text ≡ false → period ≤ length text
+      → after_run (wild casing pattern) text ≡ after_run (wild casing pattern) (drop period text)
   gone_on here enough = passed_over (wild casing pattern) text period enough (not_before here)
 
   -- what is still there after the period

@@ -4,6 +4,7 @@ pub mod Words
 pub mod Ranges
 pub mod DateBounds
 pub mod Values
+pub mod Several
 pub mod Keys
 pub mod Matching
 pub mod Fitting

@@ -97,12 +97,16 @@ fn each_met(place: Place, joined: bool, keys: &[Element], held: &DataSet) -> boo
 
 /// Whether the element of a record, absent where it is `None`, meets one key of an identifier
 /// (PS3.4 section C.2.2.2). An element that is absent or has no values or items meets every key.
+/// Several values against several take memory, as the key's own, and do without where it is wanting.
 #[cycle(matching)]
 pub fn meets(key: &Element, held: Option<&Element>) -> bool
     ensures { result ≡ meets key.now (option_copied held.entry) }
 {
     match &key.value {
-        Value::Octets(octets) => octets_meet(key.vr, octets.as_slice(), octets_in(held)),
+        Value::Octets(octets) => {
+            let alloc = *octets.inner().allocator();
+            octets_meet(alloc, key.vr, octets.as_slice(), octets_in(held))
+        }
         Value::Items(items) => items_meet(items.as_slice(), items_in(held)),
     }
 }

@@ -1,15 +1,18 @@
 //! Matching of one element without items, by its VR (PS3.4 sections C.2.2.2.1 to C.2.2.2.3).
-ghost use Rattle.std.specs.Prelude.{◌≡◌};
+ghost use Rattle.std.specs.Prelude.{◌≡◌, true};
 ghost use Rattle.std.specs.List.{list_any, list_all};
 ghost use Rattle.dq_list.specs.Lengths.{is_empty};
 ghost use Rattle.dq_value.specs.Parts.{parts};
 ghost use Rattle.dq_value.specs.Trimming.{is_padded, without_trailing};
 ghost use Rattle.dq_match.specs.Values.{matching_of, is_name_pad, name_of, value_meets, is_asterisk, is_universal, some_meet, octets_meet, is_well_formed, are_well_formed};
+ghost use Rattle.dq_match.specs.Several.{AreMetByEquality};
 
 use crate::ranges::{date_bounds, date_meets, time_bounds, time_meets};
+use crate::several::{all_plain, has_several, some_equal};
 use crate::wildcards::{Casing, wild_by};
 use dq_value::{Parts, sole_value, values};
 use dq_vr::Vr;
+use std::alloc::Global;
 
 /// How values of a VR are matched.
 #[derive(Clone, Copy, Debug, PartialEq, Eq)]
@@ -50,6 +53,17 @@ impl Matching {
             Matching::Date => date_meets(key, value),
             Matching::Time => time_meets(key, value),
             Matching::Equality => key == value,
+        }
+    }
+
+    /// Whether each value of the key is met by equality.
+    fn is_by_equality(self, vr: Vr, key: &[u8]) -> bool
+        ensures { result ≡ true → AreMetByEquality self (parts vr key.now) }
+    {
+        match self {
+            Matching::Equality => true,
+            Matching::WildCard => all_plain(vr, key),
+            _ => false,
         }
     }
 
@@ -126,11 +140,10 @@ fn some_value_meets(matching: Matching, key: &[u8], mut held: Parts) -> bool
     false
 }
 
-/// Whether some value of the record meets some value of the key.
-fn some_meet(vr: Vr, key: &[u8], held: &[u8]) -> bool
-    ensures { result ≡ some_meet (matching_of vr) (parts vr key.now) (parts vr held.now) }
+/// Whether some value of the record meets some value of the key, each compared with each.
+fn some_meets_some(matching: Matching, vr: Vr, key: &[u8], held: &[u8]) -> bool
+    ensures { result ≡ some_meet matching (parts vr key.now) (parts vr held.now) }
 {
-    let matching = Matching::of(vr);
     let mut keys = values(vr, key);
     while let Some(value) = keys.next() {
         if some_value_meets(matching, value, values(vr, held)) {
@@ -140,12 +153,28 @@ fn some_meet(vr: Vr, key: &[u8], held: &[u8]) -> bool
     false
 }
 
+/// Whether some value of the record meets some value of the key. Several values that are met by
+/// equality are looked up among those of the record, where memory suffices to put these in order.
+fn some_meet(alloc: Global, vr: Vr, key: &[u8], held: &[u8]) -> bool
+    ensures { result ≡ some_meet (matching_of vr) (parts vr key.now) (parts vr held.now) }
+{
+    let matching = Matching::of(vr);
+    if has_several(vr, key) && has_several(vr, held) {
+        if matching.is_by_equality(vr, key) {
+            if let Ok(met) = some_equal(alloc, vr, key, held) {
+                return met;
+            }
+        }
+    }
+    some_meets_some(matching, vr, key, held)
+}
+
 /// Whether the octets of a record's element meet a key of the VR.
 #[tactic(auto, unfolding(crate::specs::Values::octets_meet))]
-pub(crate) fn octets_meet(vr: Vr, key: &[u8], held: &[u8]) -> bool
+pub(crate) fn octets_meet(alloc: Global, vr: Vr, key: &[u8], held: &[u8]) -> bool
     ensures { result ≡ octets_meet vr key.now held.now }
 {
-    is_universal(vr, key) || has_no_values(vr, held) || some_meet(vr, key, held)
+    is_universal(vr, key) || has_no_values(vr, held) || some_meet(alloc, vr, key, held)
 }
 
 /// Whether each value of a date or time key is one date or time, or a range.

@@ -74,8 +74,8 @@ fn scanned<'a>(casing: Casing, pattern: &'a [u8], text: &'a [u8]) -> Scan<'a>
     }
 }
 
-/// What a start comes to: the text is gone along where the octet of the pattern's word after those
-/// that are there, and what is before the word, do not tell that the pattern does not fit.
+/// Goes along the text from one start, of which so many octets of the pattern's word are known to be
+/// there. It does not go along where the word's next octet is not there, or what is before the word.
 fn tried<'a>(
     casing: Casing,
     pattern: &'a [u8],

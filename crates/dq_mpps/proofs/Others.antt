@@ -1,7 +1,7 @@
 -- What other institutions keep does not enter.
 use Rattle.std.proofs.Common.{◌≡◌, ◌≢◌, ℕ, List, ap}
 use Rattle.dq_dataset.specs.declared.header.Syntax.{Syntax}
-use Rattle.dq_dimse.specs.declared.command.Message.{Message}
+use Rattle.dq_dimse.specs.Received.{Message}
 use Rattle.dq_config.specs.Limits.{Limits}
 use Rattle.dq_tables.specs.declared.row.Row.{Row}
 use Rattle.dq_tables.specs.Rows.{Record, Edit, IsRising, of, by, after}

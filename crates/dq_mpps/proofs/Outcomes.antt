@@ -6,7 +6,7 @@ use Rattle.dq_dataset.specs.declared.fault.ReadFault.{ReadFault}
 use Rattle.dq_dataset.specs.declared.header.Syntax.{Syntax}
 use Rattle.dq_dataset.specs.Tree.{ElementList}
 use Rattle.dq_dataset.specs.Reading.{reading}
-use Rattle.dq_dimse.specs.declared.command.Message.{Message}
+use Rattle.dq_dimse.specs.Received.{Message}
 use Rattle.dq_dimse.specs.Statuses.{success, processing_failure, invalid_sop_instance, resource_limitation}
 use Rattle.dq_config.specs.Limits.{Limits}
 use Rattle.dq_dataset.specs.declared.header.Syntax.TheVariants.{Explicit}

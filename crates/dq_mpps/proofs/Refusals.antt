@@ -7,7 +7,7 @@ use Rattle.dq_value.specs.Uid.{is_uid}
 use Rattle.dq_dataset.specs.declared.header.Syntax.{Syntax}
 use Rattle.dq_dataset.specs.Reading.{reading}
 use Rattle.dq_dataset.specs.Editing.{merged}
-use Rattle.dq_dimse.specs.declared.command.Message.{Message}
+use Rattle.dq_dimse.specs.Received.{Message}
 use Rattle.dq_dimse.specs.Statuses.{success, processing_failure, invalid_sop_instance, duplicate_sop_instance, no_such_sop_instance, invalid_attribute_value, resource_limitation}
 use Rattle.dq_config.specs.Limits.{Limits}
 use Rattle.dq_tables.specs.declared.row.Kind.TheVariants.{Step}

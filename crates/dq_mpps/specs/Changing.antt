@@ -15,7 +15,7 @@ use Rattle.dq_dataset.specs.Canonical.{canonical}
 use Rattle.dq_dataset.specs.Editing.{merged}
 use Rattle.dq_dataset.specs.Same.{has_element}
 use Rattle.dq_dataset.specs.Values.{element_at}
-use Rattle.dq_dimse.specs.declared.command.Message.{Message}
+use Rattle.dq_dimse.specs.Received.{Message}
 use Rattle.dq_dimse.specs.Receiving.{is_over}
 use Rattle.dq_dimse.specs.Statuses.{success, processing_failure, no_such_sop_instance, invalid_attribute_value, resource_limitation}
 use Rattle.dq_tables.specs.declared.row.Kind.TheVariants.{Step}

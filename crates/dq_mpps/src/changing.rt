@@ -5,6 +5,7 @@ ghost use Rattle.dq_dataset.specs.Tree.{ElementList};
 ghost use Rattle.dq_dataset.specs.Reading.{reading};
 ghost use Rattle.dq_dataset.specs.Canonical.{canonical, HasLengths};
 ghost use Rattle.dq_dataset.specs.Editing.{merged};
+ghost use Rattle.dq_dimse.specs.Holding.{plain_message};
 ghost use Rattle.dq_tables.specs.declared.row.Kind.TheVariants.{Step};
 ghost use Rattle.dq_tables.specs.Rows.{record_of, row_of};
 ghost use Rattle.dq_tables.specs.Finding.{record_at};
@@ -40,7 +41,7 @@ pub fn set<T: Tables>(
     syntax: Syntax,
 ) -> Result<u16, TableFault>
     ensures { Serves (T.state tables.old) (T.state tables.new) institution.now.name
-        (λ records. changed records message.now syntax) result }
+        (λ records. changed records (plain_message message.now) syntax) result }
 {
     if message.is_over(DATA_SET_LIMIT) {
         return Ok(status::RESOURCE_LIMITATION);

@@ -4,6 +4,7 @@ ghost use Rattle.dq_value.specs.Uid.{is_uid};
 ghost use Rattle.dq_dataset.specs.declared.header.Syntax.TheVariants.{Explicit};
 ghost use Rattle.dq_dataset.specs.Canonical.{HasLengths};
 ghost use Rattle.dq_config.specs.Limits.{limits_of};
+ghost use Rattle.dq_dimse.specs.Holding.{plain_message};
 ghost use Rattle.dq_tables.specs.declared.row.Kind.TheVariants.{Step};
 ghost use Rattle.dq_tables.specs.Rows.{of};
 ghost use Rattle.dq_tables.specs.Finding.{record_at, records_of};
@@ -33,7 +34,7 @@ pub fn create<T: Tables>(
     syntax: Syntax,
 ) -> Result<u16, TableFault>
     ensures { Serves (T.state tables.old) (T.state tables.new) institution.now.name
-        (λ records. created (limits_of institution.now) records message.now syntax) result }
+        (λ records. created (limits_of institution.now) records (plain_message message.now) syntax) result }
 {
     if message.is_over(DATA_SET_LIMIT) {
         return Ok(status::RESOURCE_LIMITATION);

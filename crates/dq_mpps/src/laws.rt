@@ -8,7 +8,7 @@ ghost use Rattle.dq_dataset.specs.Tree.{ElementList};
 ghost use Rattle.dq_dataset.specs.Facts.{IsDataSet};
 ghost use Rattle.dq_dataset.specs.Editing.{merged};
 ghost use Rattle.dq_dataset.specs.Values.{element_at};
-ghost use Rattle.dq_dimse.specs.declared.command.Message.{Message};
+ghost use Rattle.dq_dimse.specs.Received.{Message};
 ghost use Rattle.dq_dimse.specs.Statuses.{success};
 ghost use Rattle.dq_config.specs.Limits.{Limits};
 ghost use Rattle.dq_tables.specs.declared.row.Kind.TheVariants.{Step};

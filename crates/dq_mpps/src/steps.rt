@@ -13,7 +13,7 @@ use std::alloc::{AllocError, Global};
 pub(crate) const DATA_SET_LIMIT: usize = 0x10_0000;
 
 /// What an N-CREATE or an N-SET sends: the SOP Instance UID of a step, and a data set.
-#[derive(Debug, Clone, Copy)]
+#[derive(Clone, Copy)]
 pub(crate) struct Sent<'a> {
     pub(crate) uid: &'a [u8],
     pub(crate) data_set: &'a DataSet,

@@ -137,7 +137,7 @@ fn application_context_of(
 }
 
 /// What a request and an acceptance have in common (PS3.8 sections 9.3.2 and 9.3.3).
-#[derive(Debug, Drop)]
+#[derive(Drop)]
 pub(crate) struct Associate {
     pub version: u16,
     pub called: [u8; TITLE_LENGTH],

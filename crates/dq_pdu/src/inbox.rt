@@ -4,12 +4,16 @@ ghost use Rattle.dq_pdu.specs.Holding.{holding};
 ghost use Rattle.dq_pdu.specs.Inboxes.{InboxAfter};
 
 use crate::fault::{InboxError, PduFault};
+use crate::numbers::{LONGEST_BODY, PDU_HEADER};
 use crate::pdu::Pdu;
 use crate::stream::{cut_front, pdus_of};
 use dq_list::Listed;
 use std::alloc::{AllocError, Global};
 use std::marker::Model;
 use std::mem;
+
+/// The most room that is kept for another stream, in octets: that of two PDUs of the greatest length.
+const MOST_ROOM: usize = 2 * (PDU_HEADER + LONGEST_BODY);
 
 /// What an inbox holds between two pieces.
 #[derive(Debug, Drop)]
@@ -57,6 +61,19 @@ impl Inbox {
             alloc,
             held: Held::Reading(Listed::empty(alloc)),
         }
+    }
+
+    /// Makes it an inbox that has read nothing, for another stream. It takes no memory, and keeps its
+    /// room where that is for no more than two PDUs of the greatest length.
+    #[tactic(auto, unfolding(crate::specs::Stream::pdus_within, crate::specs::Reading::front))]
+    pub fn reset(&mut self)
+        ensures { InboxAfter [] self.new }
+    {
+        let rest = match mem::replace(&mut self.held, Held::Spent) {
+            Held::Reading(rest) => rest.into_inner(),
+            Held::Stopped(_) | Held::Spent => Vec::new(self.alloc),
+        };
+        self.held = Held::Reading(Listed::from_inner(emptied(self.alloc, rest)));
     }
 
     /// Takes the next piece of the stream. However a stream is cut into pieces, their PDUs are
@@ -109,6 +126,17 @@ impl Inbox {
             }
         }
     }
+}
+
+/// The room of octets with nothing in it, or none where it is more than is kept.
+fn emptied(alloc: Global, mut octets: Vec<u8>) -> Vec<u8>
+    ensures { result.items ≡ [] }
+{
+    if octets.capacity() > MOST_ROOM {
+        return Vec::new(alloc);
+    }
+    octets.clear();
+    octets
 }
 
 /// Reads a rest and the piece after it, and gives what is held from then on.

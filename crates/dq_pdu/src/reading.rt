@@ -10,14 +10,14 @@ use dq_list::Listed;
 use std::alloc::{AllocError, AllocFailed, Global};
 
 /// An item or sub-item: its type and its body (PS3.8 section 9.3.2).
-#[derive(Debug, Drop)]
+#[derive(Drop)]
 pub(crate) struct Item {
     pub kind: u8,
     pub octets: Listed<u8>,
 }
 
 /// Why a body could not be read.
-#[derive(Clone, Copy, Debug)]
+#[derive(Clone, Copy)]
 pub(crate) enum ReadError {
     Memory,
     Malformed,
@@ -40,7 +40,7 @@ impl<T: Drop> From<AllocFailed<T>> for ReadError {
 }
 
 /// What octets begin with.
-#[derive(Debug, Drop)]
+#[derive(Drop)]
 pub(crate) enum Front {
     /// Less than a PDU.
     Partial,

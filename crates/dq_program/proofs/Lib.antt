@@ -2,6 +2,7 @@ pub mod Numbers
 pub mod Lines
 pub mod OneSpelling
 pub mod Steps
+pub mod Counting
 pub mod Written
 pub mod Inputs
 pub mod Cutting

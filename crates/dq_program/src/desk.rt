@@ -30,7 +30,7 @@ const LINE_MOST: usize = 2_097_152 + 256;
 const BAD_LINE: &str = "bad line\n";
 
 /// What a line of the console tells.
-#[derive(Debug, Drop)]
+#[derive(Drop)]
 enum Line {
     Order(Event),
     Report,
@@ -171,7 +171,7 @@ fn answer<T: Tables>(
 }
 
 /// What comes next of a caller: a line, nothing yet, or that it is gone.
-#[derive(Debug, Drop)]
+#[derive(Drop)]
 enum Next {
     Line(Vec<u8>),
     Held,
@@ -187,7 +187,7 @@ impl Next {
 /// One who calls the console: its place among the wires, what came of a line that is not whole yet,
 /// how much of it was searched for its end, the answer, how much of it is written, and whether
 /// nothing more is taken.
-#[derive(Debug, Drop)]
+#[derive(Drop)]
 struct Caller {
     place: usize,
     came: Vec<u8>,

@@ -91,7 +91,7 @@ fn turn_once<N: Network, T: Tables>(
 }
 
 /// How many turns, and how long is rested after each at most.
-#[derive(Clone, Copy, Debug)]
+#[derive(Clone, Copy)]
 struct Pace {
     turns: u64,
     rest: Duration,

@@ -73,7 +73,7 @@ pub enum Job<'a> {
 }
 
 /// Why options are not taken.
-#[derive(Clone, Copy, Debug, PartialEq, Eq)]
+#[derive(Clone, Copy, PartialEq, Eq)]
 enum Misuse {
     /// They name two stores.
     TwoStores,

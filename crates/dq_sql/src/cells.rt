@@ -8,7 +8,7 @@ use dq_tables::{Labels, Row};
 use std::alloc::{AllocError, Global};
 
 /// A study's patient and day. Other rows have neither.
-#[derive(Debug, Drop)]
+#[derive(Drop)]
 pub(crate) struct Cells {
     pub(crate) patient: Option<Vec<u8>>,
     pub(crate) day: Option<i64>,

@@ -11,7 +11,7 @@ use dq_tables::{Change, Kind, Row};
 use std::alloc::{AllocError, Global};
 
 /// How many rows of a kind an institution has. A number that its type cannot hold is not known.
-#[derive(Debug, Drop)]
+#[derive(Drop)]
 struct Count {
     kind: Kind,
     inst: Listed<u8>,
@@ -50,7 +50,7 @@ impl Count {
 }
 
 /// How many rows of some kinds some institutions have.
-#[derive(Debug, Drop)]
+#[derive(Drop)]
 pub(crate) struct Counts {
     known: Vec<Count>,
 }

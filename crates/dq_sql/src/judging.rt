@@ -65,7 +65,7 @@ pub(crate) fn value_at(found: &sqlite::Row, at: usize) -> ValueRef<'_>
 }
 
 /// A row's record as columns hold it.
-#[derive(Debug, Clone, Copy)]
+#[derive(Clone, Copy)]
 struct Lent<'a> {
     kind: Kind,
     inst: &'a [u8],

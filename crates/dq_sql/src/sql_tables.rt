@@ -13,7 +13,7 @@ use crate::counts::Counts;
 use crate::history::History;
 use crate::{reading, writing};
 use dq_list::Listed;
-use dq_tables::{Change, Kind, Row, TableFault, Tables};
+use dq_tables::{Change, Choice, Kind, Row, TableFault, Tables};
 use sqlite::{Alter, Connection};
 use std::alloc::Global;
 
@@ -126,6 +126,16 @@ impl<S: Alter> Tables for SqlTables<S> {
         above: &[u8],
     ) -> Result<Listed<Row>, TableFault> {
         let answer = reading::rows_above(&mut self.conn, alloc, kind, institution, above);
+        noted(&mut self.failed, answer)
+    }
+
+    fn studies_in(
+        &mut self,
+        alloc: Global,
+        institution: &[u8],
+        choice: &Choice,
+    ) -> Result<Listed<Row>, TableFault> {
+        let answer = reading::studies_in(&mut self.conn, alloc, institution, choice);
         noted(&mut self.failed, answer)
     }
 

@@ -1,7 +1,6 @@
 -- Calls of tables that a store makes in turn.
-use Rattle.std.proofs.Common.{◌≡◌, ℕ, Bool, List, Result, Ok, Err, sym, ◌∙◌, ap, inl, inr}
+use Rattle.std.proofs.Common.{◌≡◌, ℕ, List, Result, Ok, Err, sym, ◌∙◌, ap, inl, inr}
 use Rattle.dq_tables.specs.declared.fault.TableFault.{TableFault}
-use Rattle.dq_tables.specs.declared.row.Row.{Row}
 use Rattle.dq_tables.specs.Rows.{Record, Edit, of, by, after}
 use Rattle.dq_tables.specs.Keeping.{State, Reads}
 use Rattle.dq_tables.specs.Serving.{Serves}

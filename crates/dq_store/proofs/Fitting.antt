@@ -96,13 +96,13 @@ any_later f (suc n) [] h = h
 any_later f zero (x ∷ xs) h = h
 any_later f (suc n) (x ∷ xs) h = any_step (f x) (list_any f xs) (any_later f n xs h)
 
-uid_of_cut : (tag : Tag) (tags : List Tag) (d : ElementList) → ((e : Element) → has_tag tag e ≡ true → is_listed tags e ≡ true)
+pub uid_of_cut : (tag : Tag) (tags : List Tag) (d : ElementList) → ((e : Element) → has_tag tag e ≡ true → is_listed tags e ≡ true)
     → uid_at tag (cut_out tags d) ≡ uid_at tag d
 unfolding uid_at sole_at
 uid_of_cut tag tags d listed =
     rw (elements_of-as_elements (filter (is_listed tags) (elements_of d)), found_filtered (has_tag tag) (is_listed tags) listed (elements_of d)) refl
 
-listed_at : (n : ℕ) (tags : List Tag) (tag : Tag) → drop n tags ≡ tag ∷ drop (suc n) tags → (e : Element) → has_tag tag e ≡ true → is_listed tags e ≡ true
+pub listed_at : (n : ℕ) (tags : List Tag) (tag : Tag) → drop n tags ≡ tag ∷ drop (suc n) tags → (e : Element) → has_tag tag e ≡ true → is_listed tags e ≡ true
 listed_at n tags tag at e here =
     any_later (λ (t : Tag). has_tag t e) n tags (rw at (ap (λ (b : Bool). b || list_any (λ (t : Tag). has_tag t e) (drop (suc n) tags)) here))
 

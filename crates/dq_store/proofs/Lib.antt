@@ -1,4 +1,7 @@
 pub mod Records
+mod Sieved
+mod Sifted
+mod Standing
 pub mod Fitting
 pub mod Outcomes
 pub mod Calls

@@ -2,12 +2,11 @@
 use Rattle.std.proofs.Common.{◌≡◌, ℕ, Bool, true, false, List, [], Option, Some, None, Result, Ok, Err, refl, sym, ◌∙◌, ap, subst, if◌then◌else◌, ◌⊎◌, inl, inr}
 use Rattle.std.specs.Result.{result_ok, result_unwrap_or}
 use Rattle.dq_list.specs.Readers.{provided}
-use Rattle.dq_list.proofs.Readers.{provided_some}
 use Rattle.dq_dataset.specs.declared.fault.ReadFault.{ReadFault}
 use Rattle.dq_dataset.specs.declared.header.Syntax.{Syntax}
 use Rattle.dq_dataset.specs.Tree.{ElementList, no_elements}
 use Rattle.dq_dataset.specs.Reading.{reading}
-use Rattle.dq_dimse.specs.declared.command.Message.{Message}
+use Rattle.dq_dimse.specs.Received.{Message}
 use Rattle.dq_dimse.specs.Receiving.{is_over}
 use Rattle.dq_dimse.specs.Statuses.{out_of_resources, does_not_match_sop_class, cannot_understand, success, elements_discarded}
 use Rattle.dq_config.specs.Limits.{Limits}
@@ -15,33 +14,33 @@ use Rattle.dq_tables.specs.Rows.{Record, Edit}
 use Rattle.dq_tables.specs.Serving.{first_refusal, outcome}
 use Rattle.dq_tables.proofs.Refusing.{first_in, first_past}
 use Rattle.dq_store.specs.Storing.{Instance, Kept, kept_among, instance_in, is_named, data_set_limit, kept_refusals, limit_refusals, storage_refusals, stored_status, stored_edits, stored}
-use Rattle.dq_store.specs.Views.{instance_stored}
+use Rattle.dq_store.specs.Views.{instance_stored, kept_status}
 
-abbrev kept_by : Kept → Instance → ℕ × List Edit
-kept_by kept sent = (stored_status kept sent, stored_edits kept sent)
+abbrev kept_by : Bool → Kept → Instance → ℕ × List Edit
+kept_by other kept sent = (kept_status other kept sent, stored_edits kept sent)
 
-module _ (limits : Limits) (records : List Record) (sent : Instance) (kept : Kept) (found : kept ≡ kept_among records sent) where
-  pub kept_refused : (status : ℕ) → first_refusal (kept_refusals kept sent) ≡ Some status → instance_stored limits records sent ≡ (status, [])
+module _ (limits : Limits) (records : List Record) (other : Bool) (sent : Instance) (kept : Kept) (found : kept ≡ kept_among records sent) where
+  pub kept_refused : (status : ℕ) → first_refusal (kept_refusals kept sent) ≡ Some status → instance_stored limits records other sent ≡ (status, [])
   unfolding instance_stored
   kept_refused status refused =
       let there = subst (λ (k : Kept). first_refusal (kept_refusals k sent) ≡ Some status) found refused in
-      ap (λ (o : Option ℕ). outcome o (kept_by (kept_among records sent) sent))
+      ap (λ (o : Option ℕ). outcome o (kept_by other (kept_among records sent) sent))
       (first_in (kept_refusals (kept_among records sent) sent) (limit_refusals limits records (kept_among records sent)) status there)
 
   -- what follows where nothing that is kept refuses it
   pub by_limits : (refusal : Option ℕ) → first_refusal (kept_refusals kept sent) ≡ None → first_refusal (limit_refusals limits records kept) ≡ refusal
-      → instance_stored limits records sent ≡ outcome refusal (kept_by kept sent)
+      → instance_stored limits records other sent ≡ outcome refusal (kept_by other kept sent)
   unfolding instance_stored
   by_limits refusal clear first =
       let there = subst (λ (k : Kept). first_refusal (kept_refusals k sent) ≡ None) found clear in
-      ap (λ (o : Option ℕ). outcome o (kept_by (kept_among records sent) sent))
+      ap (λ (o : Option ℕ). outcome o (kept_by other (kept_among records sent) sent))
       (first_past (kept_refusals (kept_among records sent) sent) (limit_refusals limits records (kept_among records sent)) there)
-      ∙ sym (ap (λ (k : Kept). outcome (first_refusal (limit_refusals limits records k)) (kept_by k sent)) found)
-      ∙ ap (λ (o : Option ℕ). outcome o (kept_by kept sent)) first
+      ∙ sym (ap (λ (k : Kept). outcome (first_refusal (limit_refusals limits records k)) (kept_by other k sent)) found)
+      ∙ ap (λ (o : Option ℕ). outcome o (kept_by other kept sent)) first
 
 -- ---- what is answered before what is kept is asked
 
-not_provided : {A : Type 0} (b : Bool) (x : A) → None ≡ provided b x → b ≡ false
+pub not_provided : {A : Type 0} (b : Bool) (x : A) → None ≡ provided b x → b ≡ false
 not_provided true x none = cc
 not_provided false x none = refl
 
@@ -62,20 +61,13 @@ module _ (limits : Limits) (records : List Record) (message : Message) (syntax :
   unread h none = not_read limits records message syntax (reading syntax message.octets) h refl none
 
   module _ (d : ElementList) (h : is_over data_set_limit message ≡ false) (read : reading syntax message.octets ≡ Ok d) where
-    pub unnamed : None ≡ provided (is_named message.command d) (instance_in d) → stored limits records message syntax ≡ (does_not_match_sop_class, [])
+    pub unnamed : is_named message.command d ≡ false → stored limits records message syntax ≡ (does_not_match_sop_class, [])
     unfolding stored
-    unnamed none = rw (h, read, not_provided (is_named message.command d) (instance_in d) none) refl
+    unnamed none = rw (h, read, none) refl
 
-    pub handed_on : (sent : Instance) → Some sent ≡ provided (is_named message.command d) (instance_in d)
-        → stored limits records message syntax ≡ instance_stored limits records sent
+    pub handed_on : is_named message.command d ≡ true → stored limits records message syntax ≡ instance_stored limits records false (instance_in d)
     unfolding stored instance_stored
-    handed_on sent some =
-        let named = provided_some (is_named message.command d) (instance_in d) sent (sym some) in
-        rw (h, read, named.0) (ap (instance_stored limits records) named.1)
-
-pub read_is : (r : Result ElementList ReadFault) (d : ElementList) → result_ok r ≡ Some d → r ≡ Ok d
-read_is (Ok d') d some = cc
-read_is (Err fault) d some = cc
+    handed_on named = rw (h, read, named) refl
 
 -- ---- what is refused
 
@@ -88,8 +80,8 @@ unfolding stored_status
 status_kept kept sent = whole_or_not _
 
 outcome_refused : (refusal : Option ℕ) (kept : Kept) (sent : Instance)
-    → ((outcome refusal (kept_by kept sent)).1 ≡ [])
-    ⊎ (((outcome refusal (kept_by kept sent)).0 ≡ success) ⊎ ((outcome refusal (kept_by kept sent)).0 ≡ elements_discarded))
+    → ((outcome refusal (kept_by false kept sent)).1 ≡ [])
+    ⊎ (((outcome refusal (kept_by false kept sent)).0 ≡ success) ⊎ ((outcome refusal (kept_by false kept sent)).0 ≡ elements_discarded))
 outcome_refused (Some status) kept sent = inl refl
 outcome_refused None kept sent = inr (status_kept kept sent)
 

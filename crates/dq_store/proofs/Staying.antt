@@ -11,7 +11,7 @@ use Rattle.dq_dataset.specs.declared.header.Syntax.{Syntax}
 use Rattle.std.specs.Result.{result_unwrap_or}
 use Rattle.dq_dataset.specs.Reading.{reading}
 use Rattle.dq_dataset.specs.Tree.{no_elements}
-use Rattle.dq_dimse.specs.declared.command.Message.{Message}
+use Rattle.dq_dimse.specs.Received.{Message}
 use Rattle.dq_config.specs.Limits.{Limits}
 use Rattle.dq_tables.specs.declared.row.Kind.{Kind}
 use Rattle.dq_tables.specs.declared.row.Kind.TheVariants.{Study, Series, Image}

@@ -16,7 +16,7 @@ use Rattle.dq_dataset.specs.Canonical.{canonical}
 use Rattle.dq_dataset.specs.Editing.{cut_out}
 use Rattle.dq_dataset.specs.Same.{has_element}
 use Rattle.dq_dimse.specs.declared.command.Command.{Command}
-use Rattle.dq_dimse.specs.declared.command.Message.{Message}
+use Rattle.dq_dimse.specs.Received.{Message}
 use Rattle.dq_dimse.specs.Receiving.{is_over}
 use Rattle.dq_dimse.specs.Statuses.{success, out_of_resources, does_not_match_sop_class, cannot_understand, instance_kept_elsewhere, series_kept_elsewhere, elements_discarded}
 use Rattle.dq_config.specs.Limits.{Limits}
@@ -156,14 +156,14 @@ stored_edits kept sent =
     else put_new kept.study (study_record sent)
     ++ (put_new kept.series (series_record sent) ++ Put (image_record sent) ∷ [])
 
--- the data set of the record that is there afterwards: the kept one, or what is cut out of what was
+-- the attributes of a level in the record that is there afterwards: in the kept one, or in what was
 -- sent
 abbrev pub standing : Option Record → List Tag → ElementList → ElementList
-standing (Some kept) tags sent = data_set_of kept.octets
+standing (Some kept) tags sent = cut_out tags (data_set_of kept.octets)
 standing None tags sent = cut_out tags sent
 
--- Each element that was sent stands, with equal octets, in the record of the study, the series or
--- the image.
+-- Each element that was sent is one of the attributes that are kept of a study, a series or an
+-- image, and stands there with equal octets.
 unfoldable pub is_kept_whole : ElementList → ElementList → ElementList → ElementList → Bool
 is_kept_whole study series image sent =
     list_all (λ (e : Element). has_element study e || (has_element series e || has_element image e))

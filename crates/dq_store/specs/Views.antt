@@ -1,6 +1,7 @@
 -- Between what the code holds and the definitions.
-use Rattle.std.specs.Prelude.{◌≡◌, ℕ, List, Option, Some, None, option_map}
+use Rattle.std.specs.Prelude.{◌≡◌, ℕ, Bool, if◌then◌else◌, List, Option, Some, None, option_map}
 use Rattle.dq_vr.specs.Tags.{sop_instance_uid, study_instance_uid, series_instance_uid}
+use Rattle.dq_dimse.specs.Statuses.{elements_discarded}
 use Rattle.dq_config.specs.Limits.{Limits}
 use Rattle.dq_tables.specs.declared.change.Change.{Change}
 use Rattle.dq_tables.specs.declared.change.Change.TheVariants.{Stored}
@@ -33,11 +34,15 @@ pub record HasUids (sent : SentInstance) : Type 0 where
   pub series : uid_at series_instance_uid sent.data_set.now ≡ Some sent.series.now
   pub image : uid_at sop_instance_uid sent.data_set.now ≡ Some sent.image.now
 
--- what is left to answer of an instance that was read
-unfoldable pub instance_stored : Limits → List Record → Instance → ℕ × List Edit
-instance_stored limits records sent =
+-- the status of what is kept of an instance, by whether another element was sent
+abbrev pub kept_status : Bool → Kept → Instance → ℕ
+kept_status other kept sent = if other then elements_discarded else stored_status kept sent
+
+-- what is left to answer of what is kept of an instance
+unfoldable pub instance_stored : Limits → List Record → Bool → Instance → ℕ × List Edit
+instance_stored limits records other sent =
     outcome (first_refusal (instance_refusals limits records sent))
-    (stored_status (kept_among records sent) sent, stored_edits (kept_among records sent) sent)
+    (kept_status other (kept_among records sent) sent, stored_edits (kept_among records sent) sent)
 
 -- a row of its own where none is kept
 abbrev pub new_if : List ℕ → Option Record → Record → Option Row

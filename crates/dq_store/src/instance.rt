@@ -1,4 +1,4 @@
-//! What a C-STORE sends.
+//! What is kept of what a C-STORE sends.
 ghost use Rattle.std.specs.Prelude.{◌≡◌, IfOk, IfSome, option_map};
 ghost use Rattle.dq_list.specs.Readers.{provided};
 ghost use Rattle.dq_dataset.specs.declared.header.Syntax.TheVariants.{Explicit};
@@ -15,10 +15,12 @@ use dq_tables::{Kind, RecordKeys, Row, uid_at};
 use dq_vr::{Tag, tags};
 use std::alloc::{AllocError, Global};
 
-/// A data set, with the UIDs of its study, its series and its image.
-#[derive(Debug, Clone, Copy)]
+/// The attributes that are kept of a data set, with the UIDs of its study, its series and its image.
+#[derive(Clone, Copy)]
 pub(crate) struct Instance<'a> {
     pub(crate) data_set: &'a DataSet,
+    /// Whether another element was sent.
+    pub(crate) other: bool,
     pub(crate) study: &'a [u8],
     pub(crate) series: &'a [u8],
     pub(crate) image: &'a [u8],
@@ -27,10 +29,12 @@ pub(crate) struct Instance<'a> {
 impl<'a> Instance<'a> {
     /// That of a data set that has each UID exactly once, and that is what the command says.
     #[tactic(auto, unfolding(crate::specs::Storing::is_named))]
-    pub(crate) fn of(command: &Command, data_set: &'a DataSet) -> Option<Instance<'a>>
+    pub(crate) fn of(command: &Command, data_set: &'a DataSet, other: bool) -> Option<Instance<'a>>
         ensures named { option_map instance_of result
             ≡ provided (is_named command.now data_set.now) (instance_in data_set.now) }
         ensures uids { IfSome result (λ sent. HasUids sent) }
+        ensures other { IfSome result (λ sent. sent.other ≡ other) }
+        ensures data_set { IfSome result (λ sent. sent.data_set.now ≡ data_set.now) }
     {
         let class = uid_at(data_set, tags::SOP_CLASS_UID)?;
         let image = uid_at(data_set, tags::SOP_INSTANCE_UID)?;
@@ -41,6 +45,7 @@ impl<'a> Instance<'a> {
         let series = uid_at(data_set, tags::SERIES_INSTANCE_UID)?;
         Some(Instance {
             data_set,
+            other,
             study,
             series,
             image,

@@ -3,7 +3,7 @@
 use dq_tables::{Kind, Row};
 
 /// The rows that are kept already of a study, a series and an image.
-#[derive(Debug, Drop)]
+#[derive(Drop)]
 pub(crate) struct KeptRows {
     pub(crate) study: Option<Row>,
     pub(crate) series: Option<Row>,
@@ -12,7 +12,7 @@ pub(crate) struct KeptRows {
 
 /// A level at which an instance may be new: the kind of its rows, the row that is kept already, and
 /// how many rows there may be.
-#[derive(Debug, Clone, Copy)]
+#[derive(Clone, Copy)]
 pub(crate) struct Level<'a> {
     pub(crate) kind: Kind,
     pub(crate) kept: &'a Option<Row>,

@@ -1,17 +1,21 @@
 //! What is kept already, and what is kept of an instance.
-ghost use Rattle.std.specs.Prelude.{◌≡◌, IfOk, option_map};
+ghost use Rattle.std.specs.Prelude.{◌≡◌, IfOk, option_map, unwrap_or};
 ghost use Rattle.dq_config.specs.Limits.{limits_of};
 ghost use Rattle.dq_tables.specs.Rows.{of, record_of};
 ghost use Rattle.dq_tables.specs.Keeping.{Reads};
 ghost use Rattle.dq_tables.specs.Serving.{first_refusal};
-ghost use Rattle.dq_store.specs.Storing.{is_under_another, kept_among, kept_refusals, finds_no_room, count_of, limit_refusals, standing, is_kept_whole, stored_status};
-ghost use Rattle.dq_store.specs.Views.{instance_of, kept_of};
+ghost use Rattle.dq_dataset.specs.Editing.{cut_out, is_listed};
+ghost use Rattle.dq_dataset.specs.Same.{has_element};
+ghost use Rattle.dq_tables.specs.Records.{data_set_of};
+ghost use Rattle.dq_store.specs.Attributes.{study_attributes, series_attributes, image_attributes};
+ghost use Rattle.dq_store.specs.Storing.{is_under_another, kept_among, kept_refusals, finds_no_room, count_of, limit_refusals, is_kept_whole};
+ghost use Rattle.dq_store.specs.Views.{instance_of, kept_of, kept_status};
 
 use crate::attributes;
 use crate::instance::Instance;
 use crate::keeping::{KeptRows, Level};
 use dq_config::Institution;
-use dq_dataset::DataSet;
+use dq_dataset::{DataSet, Element};
 use dq_dimse::status;
 use dq_tables::{Kind, Row, TableFault, Tables};
 use dq_vr::Tag;
@@ -116,47 +120,73 @@ pub(crate) fn limit_refusal<T: Tables>(
     Ok(None)
 }
 
-/// The data set that stands at a level afterwards: that of the row that is kept, or what is cut out
-/// of what is sent.
-fn standing(
-    alloc: Global,
-    row: &Option<Row>,
-    tags: &[Tag],
-    sent: &DataSet,
-) -> Result<DataSet, AllocError>
-    ensures { IfOk result (λ d. d ≡ standing (option_map record_of row.now) tags.now sent.now) }
+/// The data set of a row that is kept, if there is one.
+fn kept_data_set(alloc: Global, row: &Option<Row>) -> Result<Option<DataSet>, AllocError>
+    ensures { IfOk result (λ d. d ≡ option_map (λ row. data_set_of row.octets) row.now) }
 {
     match row {
-        Some(row) => row.data_set(alloc),
-        None => sent.cut_out(alloc, tags),
+        Some(row) => Ok(Some(row.data_set(alloc)?)),
+        None => Ok(None),
     }
 }
 
-/// Whether each element that is sent stands, with equal octets, in one of the three data sets.
+/// The data set that is kept, or else the one that is sent.
+fn kept_or_sent<'a>(kept: &'a Option<DataSet>, sent: &'a DataSet) -> &'a DataSet
+    ensures { result.now ≡ unwrap_or kept.now sent.now }
+{
+    match kept {
+        Some(kept) => kept,
+        None => sent,
+    }
+}
+
+/// Whether an element is one of some attributes.
+fn is_listed(tags: &[Tag], element: &Element) -> bool
+    ensures { result ≡ is_listed tags.now element.now }
+{
+    tags.iter().any(|tag| *tag == element.tag)
+}
+
+/// Whether an element is one of the attributes of a level, and stands in a data set.
+fn has_attribute(data_set: &DataSet, tags: &[Tag], element: &Element) -> bool
+    ensures { result ≡ has_element (cut_out tags.now data_set.now) element.now }
+{
+    is_listed(tags, element) && data_set.has(element)
+}
+
+/// Whether each element that is sent is one of the attributes that are kept at a level, and stands
+/// there with equal octets.
 #[tactic(auto, unfolding(crate::specs::Storing::is_kept_whole))]
 fn is_kept_whole(study: &DataSet, series: &DataSet, image: &DataSet, sent: &DataSet) -> bool
-    ensures { result ≡ is_kept_whole study.now series.now image.now sent.now }
+    ensures { result ≡ is_kept_whole (cut_out study_attributes study.now)
+        (cut_out series_attributes series.now) (cut_out image_attributes image.now) sent.now }
 {
-    sent.elements().iter().all(|element| study.has(element)
-        || series.has(element)
-        || image.has(element))
+    sent.elements().iter().all(|element| has_attribute(study, &attributes::STUDY, element)
+        || has_attribute(series, &attributes::SERIES, element)
+        || has_attribute(image, &attributes::IMAGE, element))
 }
 
 /// The status of an instance that is not refused: whether elements of it are discarded (PS3.4
 /// section B.2.3).
-#[tactic(auto, unfolding(crate::specs::Storing::stored_status))]
+#[tactic(auto, unfolding(crate::specs::Storing::stored_status), using(crate::proofs::Standing::stands_in))]
 pub(crate) fn stored_status(
     alloc: Global,
     kept: &KeptRows,
     sent: &Instance<'_>,
 ) -> Result<u16, AllocError>
     ensures { IfOk result (λ status.
-        status ≡ stored_status (kept_of kept.now) (instance_of sent.now)) }
+        status ≡ kept_status sent.now.other (kept_of kept.now) (instance_of sent.now)) }
 {
-    let study = standing(alloc, &kept.study, &attributes::STUDY, sent.data_set)?;
-    let series = standing(alloc, &kept.series, &attributes::SERIES, sent.data_set)?;
-    let image = standing(alloc, &kept.image, &attributes::IMAGE, sent.data_set)?;
-    if is_kept_whole(&study, &series, &image, sent.data_set) {
+    if sent.other {
+        return Ok(status::ELEMENTS_DISCARDED);
+    }
+    let study = kept_data_set(alloc, &kept.study)?;
+    let series = kept_data_set(alloc, &kept.series)?;
+    let image = kept_data_set(alloc, &kept.image)?;
+    let study = kept_or_sent(&study, sent.data_set);
+    let series = kept_or_sent(&series, sent.data_set);
+    let image = kept_or_sent(&image, sent.data_set);
+    if is_kept_whole(study, series, image, sent.data_set) {
         Ok(status::SUCCESS)
     } else {
         Ok(status::ELEMENTS_DISCARDED)

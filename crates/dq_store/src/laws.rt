@@ -1,7 +1,7 @@
 //! Laws of C-STORE. Each function's contract is a law; its body does nothing.
 ghost use Rattle.std.specs.Prelude.{◌≡◌, ◌≢◌, ◌⊎◌, ℕ, List, [], Some};
 ghost use Rattle.dq_dataset.specs.declared.header.Syntax.{Syntax};
-ghost use Rattle.dq_dimse.specs.declared.command.Message.{Message};
+ghost use Rattle.dq_dimse.specs.Received.{Message};
 ghost use Rattle.dq_dimse.specs.Statuses.{success, elements_discarded};
 ghost use Rattle.dq_config.specs.Limits.{Limits};
 ghost use Rattle.dq_tables.specs.declared.row.Kind.{Kind};

@@ -1,30 +1,31 @@
 //! C-STORE (PS3.4 section B.2.3).
-ghost use Rattle.std.specs.Prelude.{◌≡◌, IfOk, None};
+ghost use Rattle.std.specs.Prelude.{◌≡◌, true, IfOk, OnOk, None};
 ghost use Rattle.dq_dataset.specs.declared.header.Syntax.TheVariants.{Explicit};
 ghost use Rattle.dq_dataset.specs.Canonical.{HasLengths};
+ghost use Rattle.dq_dimse.specs.Holding.{StandsFor, is_stored};
+ghost use Rattle.dq_dimse.specs.Received.{Message as Received};
 ghost use Rattle.dq_config.specs.Limits.{limits_of};
 ghost use Rattle.dq_tables.specs.Rows.{of, by, after};
-ghost use Rattle.dq_tables.specs.Keeping.{Writes};
+ghost use Rattle.dq_tables.specs.Keeping.{Goes, IsSettled, Writes};
 ghost use Rattle.dq_tables.specs.Serving.{Serves};
-ghost use Rattle.dq_store.specs.Storing.{stored, stored_status, stored_edits, kept_among};
+ghost use Rattle.dq_store.specs.Storing.{stored, stored_edits, kept_among};
 ghost use Rattle.dq_store.specs.Storing.{study_record, series_record};
-ghost use Rattle.dq_store.specs.Views.{instance_of, instance_stored, kept_of, HasUids, new_if, new_rows};
+ghost use Rattle.dq_store.specs.Views.{instance_of, instance_stored, kept_of, kept_status, HasUids, new_if, new_rows};
 
 use crate::instance::Instance;
 use crate::keeping::KeptRows;
 use crate::kept::{kept_refusal, kept_rows, limit_refusal, stored_status};
 use dq_config::Institution;
-use dq_dataset::Syntax;
-use dq_dataset::laws::{editing_law, written_law};
-use dq_dimse::{Message, status};
+use dq_dataset::laws::{editing_law, fault_law, spelling_law, written_law};
+use dq_dataset::{Sifted, Syntax};
+use dq_dimse::{Body, Message, status};
+use dq_match::can_be_written;
 use dq_tables::{Change, Row, TableFault, Tables};
 use std::alloc::{AllocError, Global};
 
-/// The data set of a C-STORE is at most so many octets.
-const DATA_SET_LIMIT: usize = 0x400_0000;
-
 /// Stores an instance among the institution's rows, and answers the status (PS3.4 section B.2.3). A
-/// refusal, and a fault of the tables or want of memory, change nothing.
+/// refusal, and a fault of the tables or want of memory, change nothing. The message is a C-STORE:
+/// its data set was sifted as it came, unless it passed its limit.
 pub fn store<T: Tables>(
     alloc: Global,
     tables: &mut T,
@@ -32,18 +33,31 @@ pub fn store<T: Tables>(
     message: &Message,
     syntax: Syntax,
 ) -> Result<u16, TableFault>
-    ensures { Serves (T.state tables.old) (T.state tables.new) institution.now.name
-        (λ records. stored (limits_of institution.now) records message.now syntax) result }
+    requires { is_stored message.now.command ≡ true }
+    // Whatever message this one stands for.
+    ensures serves { (sent : Received) → StandsFor syntax message.now sent →
+        Serves (T.state tables.old) (T.state tables.new) institution.now.name
+        (λ records. stored (limits_of institution.now) records sent syntax) result }
+    ensures goes { Goes (T.state tables.old) (T.state tables.new) result }
+    ensures settles { (T.state tables.new).honest →
+        OnOk result (IsSettled (T.state tables.old) → IsSettled (T.state tables.new)) }
 {
-    if message.is_over(DATA_SET_LIMIT) {
+    spelling_law();
+    fault_law();
+    editing_law();
+    let Body::Sifted(sifted) = &message.body else {
         return Ok(status::OUT_OF_RESOURCES);
-    }
-    let Some(data_set) = message.data_set(alloc, syntax)? else {
+    };
+    let Sifted::Kept(data_set, other) = sifted else {
         return Ok(status::CANNOT_UNDERSTAND);
     };
-    let Some(sent) = Instance::of(&message.command, &data_set) else {
+    let Some(sent) = Instance::of(&message.command, data_set, *other) else {
         return Ok(status::DOES_NOT_MATCH_SOP_CLASS);
     };
+    // A data set within its limit can be written.
+    if !can_be_written(data_set, Syntax::Explicit) {
+        return Ok(status::OUT_OF_RESOURCES);
+    }
     store_instance(alloc, tables, institution, &sent)
 }
 
@@ -57,8 +71,8 @@ fn store_instance<T: Tables>(
     requires lengths { HasLengths Explicit sent.now.data_set.now }
     requires own { HasUids sent.now }
     ensures { Serves (T.state tables.old) (T.state tables.new) institution.now.name
-        (λ records. instance_stored (limits_of institution.now) records (instance_of sent.now))
-        result }
+        (λ records. instance_stored (limits_of institution.now) records sent.now.other
+        (instance_of sent.now)) result }
 {
     let name = institution.name.as_slice();
     let kept = kept_rows(alloc, tables, name, sent)?;
@@ -86,7 +100,7 @@ fn keep<T: Tables>(
         ≡ kept_among (of name.now (T.state tables.old).rows) (instance_of sent.now) }
     ensures { Serves (T.state tables.old) (T.state tables.new) name.now
         (λ _. (
-          stored_status (kept_of kept.now) (instance_of sent.now),
+          kept_status sent.now.other (kept_of kept.now) (instance_of sent.now),
           stored_edits (kept_of kept.now) (instance_of sent.now),
         )) result }
 {

@@ -67,7 +67,7 @@ pub is_eq_nat : (a b : ℕ) → is_eq (nat_cmp a b) ≡ nat_eq a b
 is_eq_nat a b = grind (arith, nat_tests)
 
 -- a row is found at a place where it stands there in the order
-at_is_found : (p : RowPlace) (row : Row) → (is_of p.kind p.institution row && bytes_eq row.key p.key) ≡ is_at p row
+pub at_is_found : (p : RowPlace) (row : Row) → (is_of p.kind p.institution row && bytes_eq row.key p.key) ≡ is_at p row
 at_is_found p row =
     sym (is_eq_then (ordering_then (kind_order row.kind p.kind) (octet_order row.inst p.institution)) (octet_order row.key p.key)
     ∙ ap (λ (b : Bool). b && is_eq (octet_order row.key p.key)) (is_eq_then (kind_order row.kind p.kind) (octet_order row.inst p.institution))

@@ -11,3 +11,5 @@ pub mod Calling
 pub mod Members
 pub mod OneOrder
 pub mod Rising
+pub mod Days
+pub mod Keyed

@@ -5,9 +5,12 @@ use Rattle.std.specs.Option.{option_map}
 use Rattle.std.specs.Str.{bytes_eq}
 use Rattle.std.proofs.lemmas.Slice.Eq.{bytes_eq-Decides}
 use Rattle.std.proofs.lemmas.List.{length-map}
+use Rattle.dq_tables.specs.declared.choice.Choice.{Choice}
 use Rattle.dq_tables.specs.declared.row.Kind.{Kind}
+use Rattle.dq_tables.specs.declared.row.Kind.TheVariants.{Study}
 use Rattle.dq_tables.specs.declared.row.Row.{Row}
 use Rattle.dq_tables.specs.Rows.{Record, of, row_of, record_of}
+use Rattle.dq_tables.specs.Choosing.{is_chosen, studies_in, studies_among}
 use Rattle.dq_tables.specs.Finding.{record_at, records_of, records_above, row_at, rows_of, rows_above, same_kind}
 
 own_row : (h : List ℕ) (row : Row) → bytes_eq row.inst h ≡ true → row ≡ row_of h (record_of row)
@@ -54,21 +57,25 @@ unfolding rows_of records_of of
 listed_own kind h [] = refl
 listed_own kind h (row ∷ rows) = listed_step kind h row rows (listed_own kind h rows) (bytes_eq row.inst h) (same_kind row.kind kind) refl refl
 
-filter_map_row : (h above : List ℕ) (rs : List Record)
-    → filter (λ (row : Row). bytes_eq row.above above) (map (row_of h) rs) ≡ map (row_of h) (filter (λ (r : Record). bytes_eq r.above above) rs)
-filter_map_row h above [] = refl
-filter_map_row h above (r ∷ rs) =
-    elim (bytes_eq r.above above) as (λ b. (if b then row_of h r ∷ filter (λ (row : Row). bytes_eq row.above above) (map (row_of h) rs)
-    else filter (λ (row : Row). bytes_eq row.above above) (map (row_of h) rs))
-    ≡ map (row_of h) (if b then r ∷ filter (λ (r : Record). bytes_eq r.above above) rs else filter (λ (r : Record). bytes_eq r.above above) rs)) [
-      | true ↦ ap (λ (rows : List Row). row_of h r ∷ rows) (filter_map_row h above rs)
-      | false ↦ filter_map_row h above rs
+pub filter_map_row : (h : List ℕ) (p : Row → Bool) (rs : List Record)
+    → filter p (map (row_of h) rs) ≡ map (row_of h) (filter (λ (r : Record). p (row_of h r)) rs)
+filter_map_row h p [] = refl
+filter_map_row h p (r ∷ rs) =
+    elim (p (row_of h r)) as (λ b. (if b then row_of h r ∷ filter p (map (row_of h) rs) else filter p (map (row_of h) rs))
+    ≡ map (row_of h) (if b then r ∷ filter (λ (r : Record). p (row_of h r)) rs else filter (λ (r : Record). p (row_of h r)) rs)) [
+      | true ↦ ap (λ (rows : List Row). row_of h r ∷ rows) (filter_map_row h p rs)
+      | false ↦ filter_map_row h p rs
     ]
 
 pub above_own : (kind : Kind) (h above : List ℕ) (rows : List Row) → rows_above kind h above rows ≡ map (row_of h) (records_above kind above (of h rows))
 unfolding rows_above records_above
 above_own kind h above rows = ap (filter (λ (row : Row). bytes_eq row.above above)) (listed_own kind h rows)
-    ∙ filter_map_row h above (records_of kind (of h rows))
+    ∙ filter_map_row h (λ (row : Row). bytes_eq row.above above) (records_of kind (of h rows))
+
+pub chosen_own : (choice : Choice) (h : List ℕ) (rows : List Row) → studies_in choice h rows ≡ map (row_of h) (studies_among choice (of h rows))
+unfolding studies_in studies_among
+chosen_own choice h rows = ap (filter (λ (row : Row). is_chosen choice (record_of row))) (listed_own Study h rows)
+    ∙ filter_map_row h (λ (row : Row). is_chosen choice (record_of row)) (records_of Study (of h rows))
 
 pub counted_own : (kind : Kind) (h : List ℕ) (rows : List Row) → length (rows_of kind h rows) ≡ length (records_of kind (of h rows))
 counted_own kind h rows = ap length (listed_own kind h rows) ∙ length-map (records_of kind (of h rows)) (row_of h)

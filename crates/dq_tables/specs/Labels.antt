@@ -1,5 +1,5 @@
 -- What a study's data set says of its patient and its day.
-use Rattle.std.specs.Prelude.{ℕ, ℤ, pos, ◌+ℤ◌, ◌*ℤ◌, List, Option, None, option_and_then, option_map}
+use Rattle.std.specs.Prelude.{ℕ, ℤ, pos, ◌+ℤ◌, ◌*ℤ◌, unsigned_abs, List, Option, None, option_and_then, option_map}
 use Rattle.dq_vr.specs.Tags.{patient_id, study_date}
 use Rattle.dq_value.specs.Day.{Ymd, date_in}
 use Rattle.dq_dataset.specs.Tree.{ElementList}
@@ -12,6 +12,10 @@ use Rattle.dq_tables.specs.Records.{data_set_of}
 -- the number that the digits YYYYMMDD of a date are
 abbrev pub date_number : Ymd → ℤ
 date_number date = pos 10_000 *ℤ date.0 +ℤ (pos 100 *ℤ pos date.1 +ℤ pos date.2)
+
+-- the same of octets that spell a date
+unfoldable pub day_named : List ℕ → Option ℕ
+day_named octets = option_map (λ date. unsigned_abs (date_number date)) (date_in octets)
 
 -- the only value of a study's Patient ID
 abbrev pub patient_in : Kind → ElementList → Option (List ℕ)

@@ -4,6 +4,7 @@ pub mod Records
 pub mod Keys
 pub mod Faults
 pub mod Labels
+pub mod Choosing
 pub mod Sound
 pub mod Keeping
 pub mod Serving

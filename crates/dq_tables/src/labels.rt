@@ -1,9 +1,9 @@
 //! What a study's data set says of its patient and its day.
-ghost use Rattle.std.specs.Prelude.{◌≡◌, ◌+ℤ◌, ◌*ℤ◌, pos, IfOk, option_and_then, option_map};
+ghost use Rattle.std.specs.Prelude.{◌≡◌, ◌+ℤ◌, ◌*ℤ◌, pos, unsigned_abs, IfOk, option_and_then, option_map};
 ghost use Rattle.dq_vr.specs.Tags.{patient_id, study_date};
 ghost use Rattle.dq_value.specs.Day.{date_in, ymd_of};
 ghost use Rattle.dq_dataset.specs.Values.{sole_at};
-ghost use Rattle.dq_tables.specs.Labels.{date_number, patient_of, day_of};
+ghost use Rattle.dq_tables.specs.Labels.{date_number, day_named, patient_of, day_of};
 
 use crate::row::{Kind, Row};
 use dq_dataset::DataSet;
@@ -61,6 +61,15 @@ fn day_in(data_set: &DataSet) -> Option<i64>
 {
     let date = date_of(data_set.sole_value(tags::STUDY_DATE)?)?;
     Some(date_number(date))
+}
+
+/// The day that a value of VR DA names (PS3.5 section 6.2): YYYYMMDD as a number.
+#[tactic(auto, unfolding(crate::specs::Labels::day_named))]
+pub fn day_number(octets: &[u8]) -> Option<u32>
+    ensures { result ≡ day_named octets.now }
+{
+    let date = date_of(octets)?;
+    Some(date_number(date).unsigned_abs() as u32)
 }
 
 /// The date as the number that its digits YYYYMMDD are.

@@ -1,16 +1,21 @@
 //! Laws of rows and of their changes. Each function's contract is a law; its body does nothing.
 
-ghost use Rattle.std.specs.Prelude.{◌≡◌, ◌≢◌, ℕ, List, ◌∷◌, map, length, option_map, false, None, IsPermutation};
+ghost use Rattle.std.specs.Prelude.{◌≡◌, ◌≢◌, ◌≤◌, ◌≤ℤ◌, ℕ, ℤ, pos, List, ◌∷◌, map, length, option_map, false, Some, None, IsPermutation};
+ghost use Rattle.dq_value.specs.Day.{date_in, day};
+ghost use Rattle.dq_tables.specs.declared.choice.Choice.{Choice};
 ghost use Rattle.dq_tables.specs.declared.row.Kind.{Kind};
 ghost use Rattle.dq_tables.specs.declared.row.Row.{Row};
 ghost use Rattle.dq_tables.specs.declared.change.Change.{Change};
 ghost use Rattle.dq_tables.specs.Rows.{Record, Edit, Put, Remove, record_of, row_place_of, place, rows_elsewhere, after_edit, edited, edited_all, of, IsRising, Operation, by, after, after_all, own_edits, operation_of, row_of};
 ghost use Rattle.dq_tables.specs.Finding.{row_at, rows_of, rows_above, record_at, records_of, records_above};
+ghost use Rattle.dq_tables.specs.Choosing.{studies_in, studies_among};
+ghost use Rattle.dq_tables.specs.Labels.{date_number, day_named};
 ghost use Rattle.dq_tables.specs.Records.{AreInOrder};
 ghost use Rattle.dq_tables.specs.Sound.{IsSound, Fits};
 
 use crate::plain::PlainTables;
 use crate::tables::Tables;
+use dq_value::date_law;
 
 /// The records of an institution after its operations are its records edited, whatever else is
 /// kept.
@@ -55,7 +60,7 @@ pub fn sound_rows_stay_sound()
 {}
 
 /// What is found among the rows by an institution's name is what is found among its records.
-#[tactic(auto, using(crate::proofs::Seen::found_own, crate::proofs::Seen::listed_own, crate::proofs::Seen::above_own, crate::proofs::Seen::counted_own))]
+#[tactic(auto, using(crate::proofs::Seen::found_own, crate::proofs::Seen::listed_own, crate::proofs::Seen::above_own, crate::proofs::Seen::chosen_own, crate::proofs::Seen::counted_own))]
 pub fn rows_are_found_among_records()
     ensures found { (kind : Kind) (h key : List ℕ) (rows : List Row)
         → row_at kind h key rows ≡ option_map (row_of h) (record_at kind key (of h rows)) }
@@ -63,6 +68,8 @@ pub fn rows_are_found_among_records()
         → rows_of kind h rows ≡ map (row_of h) (records_of kind (of h rows)) }
     ensures above { (kind : Kind) (h above : List ℕ) (rows : List Row)
         → rows_above kind h above rows ≡ map (row_of h) (records_above kind above (of h rows)) }
+    ensures chosen { (choice : Choice) (h : List ℕ) (rows : List Row)
+        → studies_in choice h rows ≡ map (row_of h) (studies_among choice (of h rows)) }
     ensures counted { (kind : Kind) (h : List ℕ) (rows : List Row)
         → length (rows_of kind h rows) ≡ length (records_of kind (of h rows)) }
 {}
@@ -117,3 +124,14 @@ pub fn other_rows_are_left()
         → after_edit institution (Remove kind key) rows
         ≡ rows_elsewhere (place kind institution key) rows }
 {}
+
+/// The number YYYYMMDD of a day is that of its date, and a day that is not after another is no
+/// greater number.
+pub fn day_numbers_are_in_order()
+    ensures named { (octets : List ℕ)
+        → option_map pos (day_named octets) ≡ option_map date_number (date_in octets) }
+    ensures ordered { (a b : List ℕ) (x y : ℤ) (m n : ℕ) → day a ≡ Some x → day b ≡ Some y
+        → day_named a ≡ Some m → day_named b ≡ Some n → x ≤ℤ y → m ≤ n }
+{
+    date_law();
+}

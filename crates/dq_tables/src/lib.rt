@@ -2,6 +2,7 @@
 #![tactic(auto)]
 
 mod change;
+mod choice;
 mod fault;
 mod fuse;
 mod fused;
@@ -17,11 +18,12 @@ mod search;
 mod tables;
 
 pub use change::Change;
+pub use choice::Choice;
 pub use fault::TableFault;
 pub use fuse::Fuse;
 pub use fused::Fused;
 pub use keys::{entry_id, sole_item_at, uid_at};
-pub use labels::Labels;
+pub use labels::{Labels, day_number};
 pub use plain::PlainTables;
 pub use put::put as put_row;
 pub use row::{Kind, RecordKeys, Row};

@@ -1,9 +1,10 @@
 //! Rows in memory are kept as every keeper keeps them.
 use crate::change::Change;
+use crate::choice::Choice;
 use crate::fault::TableFault;
 use crate::plain::PlainTables;
 use crate::row::{Kind, Row};
-use crate::search::{copies, copies_under, count_under, found, group};
+use crate::search::{copies, copies_chosen, copies_under, count_under, found, group, studies_near};
 use crate::tables::Tables;
 use dq_list::Listed;
 use std::alloc::Global;
@@ -50,6 +51,16 @@ impl Tables for PlainTables {
         above: &[u8],
     ) -> Result<Listed<Row>, TableFault> {
         Ok(copies_under(alloc, group(self.kept(), kind, institution), above)?)
+    }
+
+    fn studies_in(
+        &mut self,
+        alloc: Global,
+        institution: &[u8],
+        choice: &Choice,
+    ) -> Result<Listed<Row>, TableFault> {
+        let studies = studies_near(self.kept(), institution, choice);
+        Ok(copies_chosen(alloc, studies, choice)?)
     }
 
     fn count(&mut self, _alloc: Global, kind: Kind, institution: &[u8]) -> Result<u64, TableFault> {

@@ -1,9 +1,12 @@
 //! Rows in order, searched.
 ghost use Rattle.std.specs.Prelude.{◌≡◌, ◌+◌, ◌<◌, ◌≤◌, None, Some, IfOk, MatchResult, length, take, drop, filter, slice_get};
 ghost use Rattle.std.specs.Str.{bytes_eq};
-ghost use Rattle.dq_tables.specs.Rows.{number_of, IsRising, row_place_of, row_place_order, place, group_order, rows_before, rows_past};
+ghost use Rattle.dq_tables.specs.Rows.{number_of, IsRising, row_place_of, row_place_order, place, group_order, record_of, rows_before, rows_past};
 ghost use Rattle.dq_tables.specs.Finding.{rows_of, row_at, IsThere, IsFree};
+ghost use Rattle.dq_tables.specs.Choosing.{is_chosen, studies_in};
+ghost use Rattle.dq_tables.specs.declared.row.Kind.TheVariants.{Study};
 
+use crate::choice::Choice;
 use crate::row::{Kind, Row};
 use dq_list::Listed;
 use std::alloc::{AllocError, Global};
@@ -75,6 +78,48 @@ pub(crate) fn copies_under(
     let mut copies = Listed::empty(alloc);
     for row in rows {
         if row.above.as_slice() == above {
+            copies.push(row.copied(alloc)?)?;
+        }
+    }
+    Ok(copies)
+}
+
+/// The study with a key, in rows of its own.
+fn study_with<'a>(rows: &'a [Row], institution: &[u8], uid: &[u8]) -> &'a [Row]
+    requires { IsRising rows.now }
+    ensures { result.now
+        ≡ filter (λ row. bytes_eq row.key uid.now) (rows_of Study institution.now rows.now) }
+{
+    match search(rows, Kind::Study, institution, uid) {
+        Ok(at) => rows.split_at(at).1.split_at(1).0,
+        Err(_) => &[],
+    }
+}
+
+/// Studies among which are those that a choice takes. A key that it asks is looked up.
+pub(crate) fn studies_near<'a>(rows: &'a [Row], institution: &[u8], choice: &Choice) -> &'a [Row]
+    requires { IsRising rows.now }
+    ensures { filter (λ row. is_chosen choice.now (record_of row)) result.now
+        ≡ studies_in choice.now institution.now rows.now }
+{
+    match &choice.uid {
+        Some(uid) => study_with(rows, institution, uid.as_slice()),
+        None => group(rows, Kind::Study, institution),
+    }
+}
+
+/// Copies of the rows that a choice takes.
+pub(crate) fn copies_chosen(
+    alloc: Global,
+    rows: &[Row],
+    choice: &Choice,
+) -> Result<Listed<Row>, AllocError>
+    ensures { IfOk result (λ copies.
+        copies ≡ filter (λ row. is_chosen choice.now (record_of row)) rows.now) }
+{
+    let mut copies = Listed::empty(alloc);
+    for row in rows {
+        if choice.takes(alloc, row)? {
             copies.push(row.copied(alloc)?)?;
         }
     }

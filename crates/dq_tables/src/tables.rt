@@ -4,10 +4,12 @@ ghost use Rattle.dq_tables.specs.declared.row.Kind.TheVariants.{Study, Series, I
 ghost use Rattle.dq_tables.specs.declared.row.Row.{Row};
 ghost use Rattle.dq_tables.specs.Rows.{after, operation_of};
 ghost use Rattle.dq_tables.specs.Finding.{row_at, rows_of, rows_above};
+ghost use Rattle.dq_tables.specs.Choosing.{studies_in};
 ghost use Rattle.dq_tables.specs.Sound.{IsSound, Fits};
 ghost use Rattle.dq_tables.specs.Keeping.{State, Reads, Writes};
 
 use crate::change::Change;
+use crate::choice::Choice;
 use crate::fault::TableFault;
 use crate::row::{Kind, Row};
 use dq_list::Listed;
@@ -54,6 +56,17 @@ pub trait Tables {
     ) -> Result<Listed<Row>, TableFault>
         ensures found { (state self.new).honest → IfOk result
             (λ list. list ≡ rows_above kind institution.now above.now (state self.old).rows) }
+        ensures reads { Reads (state self.old) (state self.new) result };
+
+    /// The institution's studies that a choice takes.
+    fn studies_in(
+        &mut self,
+        alloc: Global,
+        institution: &[u8],
+        choice: &Choice,
+    ) -> Result<Listed<Row>, TableFault>
+        ensures found { (state self.new).honest → IfOk result
+            (λ list. list ≡ studies_in choice.now institution.now (state self.old).rows) }
         ensures reads { Reads (state self.old) (state self.new) result };
 
     /// How many rows of a kind the institution has.

@@ -1,8 +1,9 @@
 //! A bench of trials for data sets, for the suites: it reads octets that lines give, and answers
-//! the first fault or the canonical spellings.
+//! the first fault or the canonical spellings, or what a list of tags leaves of them.
 #![tactic(auto)]
 
 mod cost;
+mod sift;
 mod stop;
 mod trial;
 
@@ -15,7 +16,7 @@ use stop::Stop;
 use trial::run_trials;
 
 /// What the words ask for, with a number of calls.
-#[derive(Clone, Copy, Debug, PartialEq, Eq)]
+#[derive(Clone, Copy, PartialEq, Eq)]
 enum Request {
     Cost {
         shape: Shape,

@@ -3,6 +3,7 @@ ghost use Rattle.std.specs.Prelude.{◌≡◌, ◌<◌, ◌^◌, length, string_
 ghost use Rattle.dq_dataset.specs.Reading.{reading};
 ghost use Rattle.dq_trials.specs.Answers.{answer_of, octets_text, answer_text};
 
+use crate::sift::{Sifting, sifted_text, tags_of};
 use crate::stop::Stop;
 use dq_dataset::{ReadFault, Syntax, laws, read, write};
 use dq_list::Listed;
@@ -20,7 +21,7 @@ pub enum Answer {
     },
 }
 
-fn octets_text(alloc: Global, octets: &[u8]) -> Result<String, AllocError>
+pub(crate) fn octets_text(alloc: Global, octets: &[u8]) -> Result<String, AllocError>
     ensures { IfOk result (λ text. string_bytes text ≡ octets_text octets.now) }
 {
     if octets.is_empty() {
@@ -82,23 +83,57 @@ fn octets_of(alloc: Global, text: &str) -> Result<Option<Vec<u8>>, AllocError> {
     }
 }
 
-/// A line is `implicit HEX` or `explicit HEX`, with a hyphen for no octets. None is answered for
-/// any other line.
-fn answered_line(alloc: Global, line: &str) -> Result<Option<String>, AllocError> {
-    let (syntax, text) = if let Some(text) = line.strip_prefix("implicit ") {
-        (Syntax::Implicit, text)
-    } else if let Some(text) = line.strip_prefix("explicit ") {
-        (Syntax::Explicit, text)
-    } else {
-        return Ok(None);
-    };
-    let Some(octets) = octets_of(alloc, text)? else {
-        return Ok(None);
-    };
-    if octets.len() >= 1 << 31 {
-        return Ok(None);
+fn syntax_of(name: &str) -> Option<Syntax> {
+    match name {
+        "implicit" => Some(Syntax::Implicit),
+        "explicit" => Some(Syntax::Explicit),
+        _ => None,
     }
-    Ok(Some(answered(alloc, octets.as_slice(), syntax)?))
+}
+
+/// What the words `LIST FIRST EACH` ask for: a list of tags, the octets of the first piece, and those of
+/// each further one.
+fn sifting_of(words: &str, syntax: Syntax) -> Option<Sifting> {
+    let (name, lengths) = words.split_once(' ')?;
+    let (first, each) = lengths.split_once(' ')?;
+    Some(Sifting {
+        syntax,
+        tags: tags_of(name)?,
+        first: first.parse::<u32>().ok()? as usize,
+        each: each.parse::<u32>().ok()? as usize,
+    })
+}
+
+/// What octets are answered with that stand behind words: `implicit` or `explicit`, and before it
+/// `sift LIST FIRST EACH` where they are to be sifted.
+fn answer_by(alloc: Global, words: &str, octets: &[u8]) -> Result<Option<String>, AllocError>
+    requires { length octets.now < 2 ^ 31 }
+{
+    if let Some(syntax) = syntax_of(words) {
+        return Ok(Some(answered(alloc, octets, syntax)?));
+    }
+    let Some((words, name)) = words.rsplit_once(' ') else {
+        return Ok(None);
+    };
+    let (Some(words), Some(syntax)) = (words.strip_prefix("sift "), syntax_of(name)) else {
+        return Ok(None);
+    };
+    match sifting_of(words, syntax) {
+        Some(by) => Ok(Some(sifted_text(alloc, octets, by)?)),
+        None => Ok(None),
+    }
+}
+
+/// Octets stand last in a line, in hexadecimal digits, with a hyphen for none. None is answered for any
+/// other line.
+fn answered_line(alloc: Global, line: &str) -> Result<Option<String>, AllocError> {
+    let Some((words, text)) = line.rsplit_once(' ') else {
+        return Ok(None);
+    };
+    match octets_of(alloc, text)? {
+        Some(octets) if octets.len() < 1 << 31 => answer_by(alloc, words, octets.as_slice()),
+        _ => Ok(None),
+    }
 }
 
 fn read_input<R: Read + Drop>(alloc: Global, input: R) -> Result<Vec<u8>, Stop> {

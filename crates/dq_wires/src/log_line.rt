@@ -4,7 +4,7 @@ use dq_value::stripped;
 use std::fmt;
 
 /// What is told of an association.
-#[derive(Clone, Copy, Debug, PartialEq, Eq)]
+#[derive(Clone, Copy, PartialEq, Eq)]
 pub(crate) enum Told {
     /// It was accepted, with so many presentation contexts.
     Accepted {
@@ -30,7 +30,7 @@ pub(crate) enum Told {
 
 /// A line: the number of a connection, and what is told of its association. The institution is that
 /// of its titles, or empty.
-#[derive(Clone, Copy, Debug)]
+#[derive(Clone, Copy)]
 pub(crate) struct LogLine<'a> {
     pub number: u64,
     pub institution: &'a [u8],
@@ -39,7 +39,7 @@ pub(crate) struct LogLine<'a> {
 
 /// Octets as one word: `-` where there are none, and `?` for each that is no graphic character of
 /// ASCII.
-#[derive(Clone, Copy, Debug)]
+#[derive(Clone, Copy)]
 struct Word<'a>(&'a [u8]);
 
 impl fmt::Display for Word<'_> {

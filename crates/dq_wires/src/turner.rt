@@ -30,9 +30,15 @@ pub struct Turner<T> {
 
 impl<T> Model for Turner<T> {
     ghost use Rattle.std.specs.Prelude.{◌≡◌, None};
+    ghost use Rattle.std.specs.Coded.{codes};
+    ghost use Rattle.dq_dataset.specs.contracts.data_set.DataSet as data_set;
+    ghost use Rattle.slab.specs.Slab.{slab_code};
+    ghost use Rattle.std_collections.specs.Layout.BTreeMap.{btree_map_code};
     ghost use Rattle.dq_wires.specs.Turners.{Turning, NextOpens};
 
     ghost Value = { Turning T };
+
+    ghost coded = { Prim.hlevel (codes, data_set.the_row.coded, T.code, slab_code, btree_map_code) };
 
     ghost view = { λ t. record {
       server = t.server;

@@ -16,7 +16,7 @@ use Rattle.dq_dataset.specs.declared.header.Syntax.TheVariants.{Explicit}
 use Rattle.dq_dataset.specs.Tree.{ElementList}
 use Rattle.dq_dataset.specs.Reading.{reading}
 use Rattle.dq_dataset.specs.Canonical.{canonical}
-use Rattle.dq_dimse.specs.declared.command.Message.{Message}
+use Rattle.dq_dimse.specs.Received.{Message}
 use Rattle.dq_config.specs.Limits.{Limits}
 use Rattle.dq_match.specs.Matching.{fits}
 use Rattle.dq_match.specs.Responses.{shown}

@@ -1,6 +1,6 @@
 -- Where a query asks for one step's id, no entry with another id matches, and the entry that is
 -- looked up gives the answers of all.
-use Rattle.std.proofs.Common.{◌≡◌, ◌≢◌, ◌↔◌, ℕ, Bool, true, false, not, nat_eq, ◌&&◌, ◌||◌, List, [], ◌∷◌, map, find, filter, Option, Some, None, is_some, unwrap_or, option_map, Result, Ok, Err, inl, inr, refl, sym, ap, subst, ◌∙◌, cond, arith, if◌then◌else◌}
+use Rattle.std.proofs.Common.{◌≡◌, ◌≢◌, ◌↔◌, ℕ, Bool, true, false, ◌&&◌, ◌||◌, List, [], ◌∷◌, map, find, filter, Option, Some, None, is_some, unwrap_or, option_map, Result, Ok, Err, inl, inr, refl, sym, ap, subst, ◌∙◌, cond, arith, if◌then◌else◌}
 use Rattle.std.specs.List.{AllByRecursion, filter_map, cons_option}
 use Rattle.std.specs.Option.{option_to_list}
 use Rattle.std.specs.Str.{bytes_eq}
@@ -35,13 +35,15 @@ use Rattle.dq_match.specs.declared.keys.Place.TheVariants.{Outer, Inner}
 use Rattle.dq_match.specs.declared.values.Matching.TheVariants.{WildCard}
 use Rattle.dq_match.specs.declared.wildcards.Casing.TheVariants.{Exact}
 use Rattle.dq_match.specs.Keys.{is_tag, is_key, items_in}
-use Rattle.dq_match.specs.Wildcards.{wild, after_run, after_one, stands_for, any_run, any_one}
+use Rattle.dq_match.specs.Wildcards.{wild, any_run}
 use Rattle.dq_match.specs.Values.{is_asterisk, is_universal, octets_meet, some_meet, matching_of, value_meets}
 use Rattle.dq_match.specs.Matching.{period, is_passed, is_start, items_meet, all_met, fits, meets}
 use Rattle.dq_match.specs.Fitting.{EachIsMet, PeriodIsMet, SomeItemFits}
 use Rattle.dq_match.specs.Responses.{shown}
 use Rattle.dq_match.specs.Answers.{answer}
+use Rattle.dq_match.specs.Several.{is_plain}
 use Rattle.dq_match.proofs.Answering.{given_of_each}
+use Rattle.dq_match.proofs.SeveralValues.{plain_meets}
 use Rattle.dq_tables.specs.declared.row.Kind.{Kind}
 use Rattle.dq_tables.specs.declared.row.Kind.TheVariants.{Entry}
 use Rattle.dq_tables.specs.declared.row.Row.{Row}
@@ -53,41 +55,9 @@ use Rattle.dq_tables.specs.Sound.{IsSound, is_own, is_record_of, is_value, has_k
 use Rattle.dq_tables.proofs.Listing.{of_kind_from, listed_in_order}
 use Rattle.dq_tables.proofs.Rising.{each_among}
 use Rattle.dq_tables.proofs.Seen.{found_own, listed_own}
-use Rattle.dq_worklist.specs.Candidates.{is_plain, id_asked_in, id_asked, entries_with, candidates}
+use Rattle.dq_worklist.specs.Candidates.{id_asked_in, id_asked, entries_with, candidates}
 use Rattle.dq_worklist.specs.Queries.{answers}
 use Rattle.dq_worklist.proofs.Queries.{row_answers}
-
--- ---- a pattern without wild cards fits itself alone
-
-plain_parts : (a b c : Bool) → (not (a || b) && c) ≡ true → (a ≡ false) × (b ≡ false) × (c ≡ true)
-plain_parts true b c h = absurd cc
-plain_parts false true c h = absurd cc
-plain_parts false false c h = (refl, refl, h)
-
-same_number : (a b : ℕ) → nat_eq a b ≡ true → a ≡ b
-same_number a b h = grind (arith, nat_tests)
-
-plain_fits : (value text : List ℕ) → is_plain value ≡ true → wild Exact value text ≡ true → value ≡ text
-plain_fits [] [] plain h = refl
-plain_fits [] (octet ∷ others) plain h = absurd cc
-plain_fits (wanted ∷ value) text plain h = by_text text rest (no_run ∙ h) (λ left k. plain_fits value left kept.2 k)
-  where
-    kept : (nat_eq wanted any_run ≡ false) × (nat_eq wanted any_one ≡ false) × (is_plain value ≡ true)
-    kept = plain_parts (nat_eq wanted any_run) (nat_eq wanted any_one) _ plain
-
-    rest : nat_eq wanted any_one ≡ false
-    rest = kept.1
-
-    no_run : after_one (stands_for Exact wanted) (wild Exact value) text ≡ wild Exact (wanted ∷ value) text
-    no_run = sym (ap (λ (b : Bool). cond b (after_run (wild Exact value) text) (after_one (stands_for Exact wanted) (wild Exact value) text)) kept.0)
-
-    by_text : (t : List ℕ) → nat_eq wanted any_one ≡ false → after_one (stands_for Exact wanted) (wild Exact value) t ≡ true
-        → ((left : List ℕ) → wild Exact value left ≡ true → value ≡ left) → wanted ∷ value ≡ t
-    by_text [] one k later = absurd cc
-    by_text (octet ∷ others) one k later =
-        let both = and_parts (stands_for Exact wanted octet) (wild Exact value others) k in
-        let same : nat_eq wanted octet ≡ true = (λ i. sym one i || nat_eq wanted octet) ∙ both.0 in
-        (λ i. same_number wanted octet same i ∷ later others both.1 i)
 
 -- ---- one value is met by itself alone
 
@@ -97,7 +67,8 @@ asterisk_by id true plain e =
     absurd (cc (sym (ap is_plain same) ∙ plain))
 asterisk_by id false plain e = refl
 
-left_alone : (padded asterisk met : Bool) → asterisk ≡ false → ((false || (padded && asterisk)) || false) || ((met || false) || false) ≡ true → met ≡ true
+left_alone : (padded asterisk met : Bool) → asterisk ≡ false → ((false || (padded && asterisk)) || false) || ((met || false) || false) ≡ true
+    → met ≡ true
 left_alone padded asterisk true is h = refl
 left_alone true asterisk false is h = absurd (cc (sym (λ i. ((false || is i) || false) || false) ∙ h))
 left_alone false asterisk false is h = absurd cc
@@ -108,8 +79,8 @@ unfolding octets_meet is_universal matching_of
 met_alone key held id other one two plain h =
     let reduced : ((false || (is_padded SH && is_asterisk (id ∷ []))) || false) || ((value_meets WildCard id other || false) || false) ≡ true =
     (λ i. ((is_empty (sym one i) || (is_padded SH && is_asterisk (sym one i))) || is_empty (sym two i)) || some_meet WildCard (sym one i) (sym two i)) ∙ h in
-    plain_fits id other plain
-    (left_alone (is_padded SH) (is_asterisk (id ∷ [])) (wild Exact id other) (asterisk_by id (is_asterisk (id ∷ [])) plain refl) reduced)
+    (bytes_eq-Decides id other).0 (sym (plain_meets id other plain)
+    ∙ left_alone (is_padded SH) (is_asterisk (id ∷ [])) (wild Exact id other) (asterisk_by id (is_asterisk (id ∷ [])) plain refl) reduced)
 
 -- ---- elements by their tags
 
@@ -175,7 +146,8 @@ not_passed : (joined : Bool) (place : Place) (tag : Tag) → is_key place tag �
 not_passed true place tag is none = rw (is, none) refl
 not_passed false place tag is none = rw (is) refl
 
-meets_octets : (key : Element) (held : Option Element) (octets : List ℕ) → key.value ≡ Octets octets → meets key held ≡ octets_meet key.vr octets (octets_in held)
+meets_octets : (key : Element) (held : Option Element) (octets : List ℕ) → key.value ≡ Octets octets
+    → meets key held ≡ octets_meet key.vr octets (octets_in held)
 meets_octets key held octets is = rw is refl
 
 meets_item : (key : Element) (held : Option Element) (asked : ElementList) → key.value ≡ Items (asked ∷ [])
@@ -183,7 +155,8 @@ meets_item : (key : Element) (held : Option Element) (asked : ElementList) → k
 meets_item key held asked is = rw is refl
 
 -- a step that is met has the id that is asked for
-id_alone : (asked step : ElementList) (id other : List ℕ) → HaveKnownVrs asked → HaveKnownVrs step → sole_at scheduled_procedure_step_id asked ≡ Some id
+id_alone : (asked step : ElementList) (id other : List ℕ) → HaveKnownVrs asked → HaveKnownVrs step
+    → sole_at scheduled_procedure_step_id asked ≡ Some id
     → sole_at scheduled_procedure_step_id step ≡ Some other → is_plain id ≡ true → EachIsMet Inner asked step → id ≡ other
 id_alone asked step id other known_asked known_step is_asked is_held plain each =
     let key = sole_of scheduled_procedure_step_id asked id is_asked in
@@ -191,7 +164,8 @@ id_alone asked step id other known_asked known_step is_asked is_held plain each 
     let facts = id_facts asked id known_asked key in
     let key_tag = id_tag asked id known_asked key in
     let alone : is_passed Inner (is_some (period asked step)) key.element.tag ≡ false =
-    ap (is_passed Inner (is_some (period asked step))) key_tag ∙ not_passed (is_some (period asked step)) Inner scheduled_procedure_step_id refl refl in
+    ap (is_passed Inner (is_some (period asked step))) key_tag
+    ∙ not_passed (is_some (period asked step)) Inner scheduled_procedure_step_id refl refl in
     let at : element_at key.element.tag step ≡ Some one.element = ap (λ (t : Tag). element_at t step) key_tag ∙ one.there in
     let octets : octets_in (Some one.element) ≡ one.octets = rw one.holds refl in
     met_alone key.octets one.octets id other (id_value asked id known_asked key) (id_value step other known_step one) plain
@@ -240,7 +214,8 @@ abbrev pub EachAlone : Type 0
 EachAlone = (place : Place) (keys held : ElementList) → (all_met place keys held ≡ true) ↔ (EachIsMet place keys held × PeriodIsMet keys held)
 
 abbrev pub ItemsMet : Type 0
-ItemsMet = (keys : ElementList) (others : ItemList) (items : List ElementList) → (items_meet (item keys others) items ≡ true) ↔ SomeItemFits keys items
+ItemsMet = (keys : ElementList) (others : ItemList) (items : List ElementList)
+    → (items_meet (item keys others) items ≡ true) ↔ SomeItemFits keys items
 
 some_fit : (asked step : ElementList) → SomeItemFits asked (step ∷ []) → all_met Inner asked step ≡ true
 some_fit asked step (inl none) = absurd cc
@@ -269,7 +244,8 @@ module _ (each_alone : EachAlone) (items_met : ItemsMet) where
 
 -- ---- what an entry's own key is
 
-passed_by : (test : List ℕ → Bool) (value id : List ℕ) (b : Bool) → test value ≡ b → (if b then Some value else None) ≡ Some id → (value ≡ id) × (test id ≡ true)
+passed_by : (test : List ℕ → Bool) (value id : List ℕ) (b : Bool) → test value ≡ b → (if b then Some value else None) ≡ Some id
+    → (value ≡ id) × (test id ≡ true)
 passed_by test value id true e h = (let same : value ≡ id = cc in (same, ap test (sym same) ∙ e))
 passed_by test value id false e h = absurd cc
 
@@ -296,7 +272,8 @@ step_asked : (keys : ElementList) (id : List ℕ) → id_asked keys ≡ Some id 
 unfolding id_asked
 step_asked keys id h = asked_by keys id (sole_item_at scheduled_procedure_step_sequence keys) refl h
 
-held_by : (d : ElementList) (id : List ℕ) (o : Option ElementList) → sole_item_at scheduled_procedure_step_sequence d ≡ o → id_in o ≡ Some id → HasStep d id
+held_by : (d : ElementList) (id : List ℕ) (o : Option ElementList) → sole_item_at scheduled_procedure_step_sequence d ≡ o → id_in o ≡ Some id
+    → HasStep d id
 held_by d id None is h = absurd cc
 held_by d id (Some step) is h =
     record { step = step; there = is; has = (passed is_id (sole_at scheduled_procedure_step_id step) id h).0 }
@@ -308,7 +285,8 @@ value_from (Some v) key h = ap (λ (o : List ℕ). Some o) ((bytes_eq-Decides v 
 abbrev HasOwnId : Record → Type 0
 HasOwnId r = AllKnownInside (data_set_of r.octets) × (has_key r.kind r.key (data_set_of r.octets) ≡ true)
 
-own_by : (read : Result ElementList ReadFault) (row : Row) → reading Explicit row.octets ≡ read → is_record_of read row ≡ true → HasOwnId (record_of row)
+own_by : (read : Result ElementList ReadFault) (row : Row) → reading Explicit row.octets ≡ read → is_record_of read row ≡ true
+    → HasOwnId (record_of row)
 unfolding data_set_of
 own_by (Err fault) row is own = absurd cc
 own_by (Ok d) row is own =
@@ -328,7 +306,8 @@ module _ (r : Record) where
   own_step row true kept own rest (inr h) = rest h
   own_step row false kept own rest h = rest h
 
-  own_filtered : (p : Row → Bool) (rows : List Row) → AllByRecursion (λ (row : Row). is_own row ≡ true) rows → IsAmong r (map record_of (filter p rows)) → HasOwnId r
+  own_filtered : (p : Row → Bool) (rows : List Row) → AllByRecursion (λ (row : Row). is_own row ≡ true) rows
+      → IsAmong r (map record_of (filter p rows)) → HasOwnId r
   own_filtered p [] own h = absurd h
   own_filtered p (row ∷ rows) own h = own_step row (p row) (filter p rows) own.0 (own_filtered p rows own.1) h
 
@@ -355,10 +334,6 @@ module _ (Given : Type 0) (f : Record → Option Given) (id : List ℕ) where
   nothing : (xs : List Record) → ((r : Record) → IsAmong r xs → f r ≡ None) → filter_map f xs ≡ []
   nothing [] none = refl
   nothing (x ∷ xs) none = ap (λ (o : Option Given). cons_option o (filter_map f xs)) (none x (inl refl)) ∙ nothing xs (λ r h. none r (inr h))
-
-  alone : (o : Option Given) → cons_option o [] ≡ filter_map (λ (g : Given). Some g) (option_to_list o)
-  alone None = refl
-  alone (Some g) = refl
 
   one_step : (x : Record) (xs : List Record) (kind named : Bool) → same_kind x.kind Entry ≡ kind → bytes_eq x.key id ≡ named
       → AreInOrder (if kind then x ∷ filter (λ (r : Record). same_kind r.kind Entry) xs else filter (λ (r : Record). same_kind r.kind Entry) xs)
@@ -431,7 +406,8 @@ module _ (each_alone : EachAlone) (items_met : ItemsMet) (institution : List ℕ
 
   -- the answers of the entries that are looked at
   pub answered_of_candidates : (name : List ℕ) (listed_rows : List Row) (found : List ElementList) → name ≡ institution
-      → listed_rows ≡ map (row_of name) (candidates (of name rows) keys) → found ≡ row_answers keys listed_rows → found ≡ answers (of institution rows) keys
+      → listed_rows ≡ map (row_of name) (candidates (of name rows) keys) → found ≡ row_answers keys listed_rows
+      → found ≡ answers (of institution rows) keys
   unfolding answers
   answered_of_candidates name listed_rows found named is_listed is_found =
       is_found ∙ ap (row_answers keys) (is_listed ∙ ap (λ (n : List ℕ). map (row_of n) (candidates (of n rows) keys)) named)

@@ -1,21 +1,15 @@
 -- The entries that are looked at for a query. This is there for the prover: what is answered is
 -- `answers` of Queries, of all entries.
-use Rattle.std.specs.Prelude.{ℕ, Bool, not, nat_eq, ◌||◌, List, Option, Some, None}
-use Rattle.std.specs.List.{list_all}
+use Rattle.std.specs.Prelude.{ℕ, List, Option, Some, None}
 use Rattle.std.specs.Option.{option_to_list}
 use Rattle.dq_vr.specs.Tags.{scheduled_procedure_step_sequence, scheduled_procedure_step_id}
 use Rattle.dq_dataset.specs.Tree.{ElementList}
 use Rattle.dq_dataset.specs.Values.{sole_at}
-use Rattle.dq_match.specs.Wildcards.{any_run, any_one}
+use Rattle.dq_match.specs.Several.{is_plain}
 use Rattle.dq_tables.specs.declared.row.Kind.TheVariants.{Entry}
 use Rattle.dq_tables.specs.Keys.{passing, sole_item_at}
 use Rattle.dq_tables.specs.Rows.{Record}
 use Rattle.dq_tables.specs.Finding.{records_of, record_at}
-
--- a value has no wild card
-abbrev pub is_plain : List ℕ → Bool
-is_plain value =
-    list_all (λ octet. not (nat_eq octet any_run || nat_eq octet any_one)) value
 
 abbrev pub id_asked_in : Option ElementList → Option (List ℕ)
 id_asked_in None = None

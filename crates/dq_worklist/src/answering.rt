@@ -1,13 +1,13 @@
 //! The answers to a worklist query (PS3.4 section K.4.1.3).
-ghost use Rattle.std.specs.Prelude.{◌≡◌, nat_eq, ◌||◌, List, [], map, IfOk};
+ghost use Rattle.std.specs.Prelude.{◌≡◌, List, [], map, IfOk};
 ghost use Rattle.std.specs.Option.{option_copied, option_to_list};
 ghost use Rattle.std.specs.List.{filter_map};
+ghost use Rattle.dq_dimse.specs.Holding.{plain_message};
 ghost use Rattle.dq_match.specs.Identifiers.{HasKnownTags};
 ghost use Rattle.dq_tables.specs.declared.row.Row.{Row as TheRow};
 ghost use Rattle.dq_tables.specs.Rows.{Record, of, row_of};
 ghost use Rattle.dq_tables.specs.Keeping.{Reads};
-ghost use Rattle.dq_match.specs.Wildcards.{any_run, any_one};
-ghost use Rattle.dq_worklist.specs.Candidates.{is_plain, id_asked, candidates};
+ghost use Rattle.dq_worklist.specs.Candidates.{id_asked, candidates};
 ghost use Rattle.dq_tables.specs.Serving.{Serves};
 ghost use Rattle.dq_match.specs.Answers.{answer};
 ghost use Rattle.dq_tables.specs.Records.{data_set_of};
@@ -20,28 +20,11 @@ use dq_dimse::Message;
 use dq_dimse::status::SUCCESS;
 use dq_list::Listed;
 use dq_match::laws::keys_are_met_alone_and_as_a_period;
-use dq_match::{Found, answer};
+use dq_match::{Found, answer, is_plain};
 use dq_tables::laws::honest_rows_are_sound;
 use dq_tables::{Row, TableFault, Tables, sole_item_at};
 use dq_vr::tags::{SCHEDULED_PROCEDURE_STEP_ID, SCHEDULED_PROCEDURE_STEP_SEQUENCE};
 use std::alloc::{AllocError, Global};
-
-fn is_wild(octet: u8) -> bool
-    ensures { result ≡ (nat_eq octet any_run || nat_eq octet any_one) }
-{
-    octet == b'*' || octet == b'?'
-}
-
-fn is_plain(value: &[u8]) -> bool
-    ensures { result ≡ is_plain value.now }
-{
-    for octet in value {
-        if is_wild(*octet) {
-            return false;
-        }
-    }
-    true
-}
 
 /// The id of the step that the keys ask for, where it is one value without wild cards.
 #[tactic(auto, unfolding(crate::specs::Candidates::id_asked))]
@@ -111,7 +94,7 @@ pub fn query<T: Tables>(
     syntax: Syntax,
 ) -> Result<Found, TableFault>
     ensures { Serves (T.state tables.old) (T.state tables.new) institution.now.name
-        (λ (records : List Record). (listed records message.now syntax, [])) result }
+        (λ (records : List Record). (listed records (plain_message message.now) syntax, [])) result }
 {
     let query = match query_of(alloc, message, syntax)? {
         Ok(query) => query,

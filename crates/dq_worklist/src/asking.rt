@@ -1,5 +1,6 @@
 //! What a message asks for (PS3.4 section K.4.1.2).
 ghost use Rattle.std.specs.Prelude.{◌≡◌, IfOk};
+ghost use Rattle.dq_dimse.specs.Holding.{plain_message};
 ghost use Rattle.dq_match.specs.Identifiers.{HasKnownTags};
 ghost use Rattle.dq_worklist.specs.Queries.{query_at, query_of};
 
@@ -10,7 +11,7 @@ use dq_match::{KeyList, is_query, strike};
 use std::alloc::{AllocError, Global};
 
 /// A query: the keys that are supported, and whether there were others.
-#[derive(Debug, Drop)]
+#[derive(Drop)]
 pub(crate) struct Query {
     pub(crate) keys: DataSet,
     pub(crate) optional: bool,
@@ -24,7 +25,7 @@ pub(crate) fn query_of(
     message: &Message,
     syntax: Syntax,
 ) -> Result<Result<Query, u16>, AllocError>
-    ensures query { IfOk result (λ q. q ≡ query_of message.now syntax) }
+    ensures query { IfOk result (λ q. q ≡ query_of (plain_message message.now) syntax) }
     ensures known { IfOk result (λ q. IfOk q (λ query. HasKnownTags query.keys)) }
 {
     match message.identifier(alloc, syntax)? {

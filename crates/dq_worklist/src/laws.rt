@@ -7,7 +7,7 @@ ghost use Rattle.dq_dataset.specs.Reading.{reading};
 ghost use Rattle.dq_dataset.specs.Grammar.{AreOctets};
 ghost use Rattle.dq_list.specs.Among.{IsAmong};
 ghost use Rattle.dq_dimse.specs.Statuses.{success};
-ghost use Rattle.dq_dimse.specs.declared.command.Message.{Message};
+ghost use Rattle.dq_dimse.specs.Received.{Message};
 ghost use Rattle.dq_config.specs.Limits.{Limits};
 ghost use Rattle.dq_match.specs.Matching.{fits};
 ghost use Rattle.dq_match.specs.Responses.{shown};

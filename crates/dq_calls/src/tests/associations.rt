@@ -1,6 +1,6 @@
 //! Associations from the request to the release.
 ghost use Rattle.std.specs.Prelude.{◌≡◌, IfOk};
-ghost use Rattle.dq_assoc.specs.After.{state_of};
+ghost use Rattle.dq_assoc.specs.Holding.{held_state};
 
 use super::messages::{ECHO_REQUEST, command};
 use dq_assoc::{
@@ -38,7 +38,7 @@ fn request(alloc: Global) -> Result<Request, AllocError> {
 
 /// An association that is open.
 fn opened(alloc: Global) -> Result<Association, Fail>
-    ensures { IfOk result (λ association. state_of association ≡ State.Open) }
+    ensures { IfOk result (λ association. held_state association ≡ State.Open) }
 {
     let mut association = Association::new(alloc);
     association.accept(request(alloc)?, Verdict::Accept)?;

@@ -26,7 +26,7 @@ fn meets_alone(alloc: Global, tag: Tag, key: &[u8], held: &[u8]) -> Result<bool,
 // PS3.4 section C.2.2.2.4.
 #[test]
 fn wild_cards(rt: HostRuntime) {
-    let rows: [(&[u8], &[u8], bool); 12] = [
+    let rows: [(&[u8], &[u8], bool); 16] = [
         (b"S*H", b"SMITH", true),
         (b"??", b"AB", true),
         (b"??", b"ABC", false),
@@ -39,6 +39,11 @@ fn wild_cards(rt: HostRuntime) {
         (b"*?*", b"", false),
         (b"a", b"A", false),
         (b"**?", b"x", true),
+        // Words that repeat themselves.
+        (b"*AAB*", b"AAAAB", true),
+        (b"*ABAB*", b"ABAABAB", true),
+        (b"*BAAB*C", b"ABABAABAC", true),
+        (b"*?BA*", b"BABBC", false),
     ];
     for (pattern, text, expected) in rows {
         assert_eq!(rt; wild(pattern, text), expected, "{pattern:?} {text:?}");
@@ -47,7 +52,7 @@ fn wild_cards(rt: HostRuntime) {
 
 #[test]
 fn keys_of_each_kind(rt: HostRuntime) -> Result<(), Fail> {
-    let rows: [(Tag, &[u8], &[u8], bool); 30] = [
+    let rows: [(Tag, &[u8], &[u8], bool); 32] = [
         (tags::PATIENT_NAME, b"s*h ", b"Smith^", true),
         (tags::PATIENT_NAME, b"smith^=", b"SMITH ", true),
         (tags::PATIENT_NAME, b"smith", b" SMITH", false),
@@ -56,6 +61,8 @@ fn keys_of_each_kind(rt: HostRuntime) -> Result<(), Fail> {
         (tags::PATIENT_ID, b"S*H", b"", true),
         (tags::PATIENT_ID, b"A\\B*", b"X\\BC", true),
         (tags::PATIENT_ID, b" A ", b"A", true),
+        (tags::PATIENT_ID, b"A\\B", b"C\\ B", true),
+        (tags::PATIENT_ID, b"A\\B", b"C\\AB", false),
         (tags::STUDY_INSTANCE_UID, b"1.2.3\\1.2.4", b"1.2.3\0", true),
         (tags::STUDY_INSTANCE_UID, b"1.2.*", b"1.2.3", false),
         (tags::STUDY_INSTANCE_UID, b"*", b"1.2.3", true),

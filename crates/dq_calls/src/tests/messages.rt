@@ -1,5 +1,11 @@
 //! Messages in P-DATA.
-use dq_dimse::{Assembler, Command, DimseFault, Message, write_message};
+ghost use Rattle.std.specs.Prelude.{◌≡◌, IfOk};
+
+use dq_dataset::{Sieve, Syntax};
+use dq_dimse::{
+    Accepted, Assembler, Body, Command, DimseFault, KEPT_ATTRIBUTES, Message, command_field,
+    write_message,
+};
 use dq_list::Listed;
 use dq_pdu::Pdv;
 use std::alloc::{AllocError, Global};
@@ -27,6 +33,16 @@ pub(super) fn command(alloc: Global, octets: &[u8]) -> Result<Pdv, AllocError> {
     })
 }
 
+/// The octets of a data set in Explicit, as a message of a Command Field holds them.
+fn body(alloc: Global, code: u16, octets: &[u8]) -> Result<Body, AllocError> {
+    if code != command_field::C_STORE {
+        return Ok(Body::Octets(Listed::copy_of(alloc, octets)?));
+    }
+    let mut sieve = Sieve::new(alloc, Syntax::Explicit, &KEPT_ATTRIBUTES);
+    sieve.feed(octets)?;
+    Ok(Body::Sifted(sieve.finish()))
+}
+
 /// A request with a data set of these octets.
 pub(super) fn request(
     alloc: Global,
@@ -34,7 +50,9 @@ pub(super) fn request(
     sop_class: &[u8],
     sop_instance: &[u8],
     octets: &[u8],
-) -> Result<Message, AllocError> {
+) -> Result<Message, AllocError>
+    ensures { IfOk result (λ message. message.command.code ≡ code) }
+{
     Ok(Message {
         context: 1,
         command: Command {
@@ -45,16 +63,20 @@ pub(super) fn request(
             with_data: true,
             status: 0,
         },
-        octets: Listed::copy_of(alloc, octets)?,
+        body: body(alloc, code, octets)?,
         over: false,
     })
 }
 
 /// What an assembler of context 1 answers to a command set in one fragment.
 fn taken(alloc: Global, octets: &[u8]) -> Result<Option<Message>, DimseFault> {
-    let ids = Listed::copy_of(alloc, &[1])?;
+    let context = Accepted {
+        id: 1,
+        syntax: Syntax::Explicit,
+    };
+    let accepted = Listed::copy_of(alloc, &[context])?;
     let value = command(alloc, octets)?;
-    Assembler::new(alloc, ids).take(&value)
+    Assembler::new(alloc, accepted).take(&value)
 }
 
 #[test]

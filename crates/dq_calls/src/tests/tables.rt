@@ -94,25 +94,33 @@ fn begun(alloc: Global) -> Result<Change, Fail>
     Ok(Change::StepAdded(own(alloc, Kind::Step, b"1.5", b"", b"")?))
 }
 
+/// Tables in which nothing was kept but what a change adds.
+fn after(alloc: Global, change: &Change) -> Result<PlainTables, TableFault>
+    requires { Fits [] change.now }
+{
+    let mut tables = PlainTables::new(alloc);
+    match tables.apply(alloc, change) {
+        Ok(()) => Ok(tables),
+        Err(fault) => Err(fault),
+    }
+}
+
 /// Tables with a study, a series and an image of NORTH.
 pub(super) fn with_image(alloc: Global) -> Result<PlainTables, Fail> {
-    let mut tables = PlainTables::new(alloc);
-    tables.apply(alloc, &stored(alloc)?)?;
-    Ok(tables)
+    let change = stored(alloc)?;
+    Ok(after(alloc, &change)?)
 }
 
 /// Tables with an entry of NORTH.
 fn with_entry(alloc: Global) -> Result<PlainTables, Fail> {
-    let mut tables = PlainTables::new(alloc);
-    tables.apply(alloc, &added(alloc)?)?;
-    Ok(tables)
+    let change = added(alloc)?;
+    Ok(after(alloc, &change)?)
 }
 
 /// Tables with a step of NORTH.
 fn with_step(alloc: Global) -> Result<PlainTables, Fail> {
-    let mut tables = PlainTables::new(alloc);
-    tables.apply(alloc, &begun(alloc)?)?;
-    Ok(tables)
+    let change = begun(alloc)?;
+    Ok(after(alloc, &change)?)
 }
 
 #[test]

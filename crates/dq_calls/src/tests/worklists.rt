@@ -95,3 +95,24 @@ fn what_is_scheduled_is_listed(rt: HostRuntime) -> Result<(), Fail> {
     assert!(rt; matches!(found.answers.as_slice(), [answer] if is_name_alone(answer)));
     Ok(())
 }
+
+/// A query for the step with an id, in Explicit.
+const ONE_STEP: [u8; 32] =
+    *b"\x40\0\0\x01SQ\0\0\x14\0\0\0\xfe\xff\0\xe0\x0c\0\0\0\x40\0\x09\0SH\x04\0S-1 ";
+
+#[test]
+fn a_step_is_listed_by_its_id(rt: HostRuntime) -> Result<(), Fail> {
+    let alloc = rt.alloc();
+    let config = Config::read(alloc, CONFIG)?;
+    let north = config.institution(b"NORTH").ok_or("NORTH")?;
+    let mut tables = PlainTables::new(alloc);
+    assert_eq!(rt; ordered(alloc, &mut tables, north, *b"P21")?, None);
+    for (id, wanted) in [(*b"S-1 ", 1), (*b"S-2 ", 0), (*b"S?1 ", 1)] {
+        let mut octets = ONE_STEP;
+        octets[28..].copy_from_slice(&id);
+        let message = request(alloc, command_field::C_FIND, WORKLIST, b"", &octets)?;
+        let found = query(alloc, &mut tables, north, &message, Syntax::Explicit)?;
+        assert_eq!(rt; found.answers.len(), wanted);
+    }
+    Ok(())
+}

@@ -1,7 +1,7 @@
 -- What queries are answered with.
 use Rattle.std.proofs.Common.{◌≡◌, Bool, List, [], None, Ok, refl}
 use Rattle.dq_dataset.specs.Tree.{ElementList}
-use Rattle.dq_dimse.specs.declared.command.Message.{Message}
+use Rattle.dq_dimse.specs.Received.{Message}
 use Rattle.dq_dimse.specs.Statuses.{success}
 use Rattle.dq_assoc.specs.declared.agreement.AgreedContext.{AgreedContext}
 use Rattle.dq_assoc.specs.declared.agreement.Agreement.{Agreement}

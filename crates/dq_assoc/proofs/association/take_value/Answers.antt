@@ -1,8 +1,7 @@
-use Rattle.std.proofs.Common.{◌≡◌, false, true}
-use Rattle.dq_assoc.proofs.Values.{is-faulty}
+use Rattle.dq_assoc.proofs.Standing.{took_message}
 use Rattle.dq_assoc.proofs.association.take_value.Goals as goal
 
-pub returns-else-eq : goal.returns-else-eq
-returns-else-eq c =
-    let faulty = is-faulty c.args.messages.now _ c.in-Err.fault (λ e. let same : false ≡ true = rw e at c.if-eq.ensures in cc) c.in-Err.ensures.exact in
-    record { messages = faulty.messages_are; fault = faulty.fault_is; next = λ e. absurd cc }
+pub returns-in_ok-push-in-Ok-Some-clause-messages : goal.returns-in_ok-push-in-Ok-Some-clause-messages
+returns-in_ok-push-in-Ok-Some-clause-messages c = λ assembly before h stand.
+    took_message c.args.assembler.now.accepted c.args.messages.now c.push.new.self before c.in-Ok-Some.field-0 c.in-Ok-Some.message _
+    c.in-Ok-Some.field-0-is (c.in-Ok-Some.ensures.exact assembly h) stand c.in_ok-push-in-Ok-Some.ensures.ok

@@ -26,13 +26,14 @@ items_of-returns-in_err-found-clause-value t c =
 
 pub elements_of-returns-in_default-clause-value : goal.elements_of-returns-in_default-clause-value
 elements_of-returns-in_default-clause-value t c =
-    elements_end _ _ _ _ _ _ _ c.loop-elements.invariant c.in_ok-found.after.now (rw c.in_default.is at c.in_ok-found.ensures.value)
+    rw c.shrink_to_fit.ensures.items
+    (elements_end _ _ _ _ _ _ _ c.loop-elements.invariant c.in_ok-found.after.now (rw c.in_default.is at c.in_ok-found.ensures.value))
 
-pub elements_of-loop-elements-preserved-in_ok-push : goal.elements_of-loop-elements-preserved-in_ok-push
-elements_of-loop-elements-preserved-in_ok-push t c =
+pub elements_of-loop-elements-preserved-in_ok-push_alone : goal.elements_of-loop-elements-preserved-in_ok-push_alone
+elements_of-loop-elements-preserved-in_ok-push_alone t c =
     let found = rw c.in-Some.is at c.in_ok-found.ensures in
     let more = elements_more _ _ _ _ _ _ _ c.loop-elements.invariant c.in-Some.header c.in-Some.value c.in_ok-found.after.now found.value found.goes_on in
-    rw (c.in_ok-push.ensures.items, ← kept_one c.in-Some.header c.in-Some.value c.if-tag-ne0.true) more
+    rw (c.in_ok-push_alone.ensures, ← kept_one c.in-Some.header c.in-Some.value c.if-tag-ne0.true) more
 
 pub elements_of-loop-elements-preserved : goal.elements_of-loop-elements-preserved
 elements_of-loop-elements-preserved t c =
@@ -45,12 +46,13 @@ elements_of-loop-elements-preserved t c =
 
 pub items_of-returns-in_default-clause-value : goal.items_of-returns-in_default-clause-value
 items_of-returns-in_default-clause-value t c =
-    items_end _ _ _ _ _ _ c.loop-items.invariant c.in_ok-found.after.now (rw c.in_default.is at c.in_ok-found.ensures.value)
+    rw c.shrink_to_fit.ensures.items
+    (items_end _ _ _ _ _ _ c.loop-items.invariant c.in_ok-found.after.now (rw c.in_default.is at c.in_ok-found.ensures.value))
 
 pub items_of-loop-items-preserved : goal.items_of-loop-items-preserved
 items_of-loop-items-preserved t c =
     let found = rw c.in-Some.is at c.in_ok-found.ensures in
-    rw c.in_ok-push.ensures.items (items_more _ _ _ _ _ _ c.loop-items.invariant c.in-Some.item c.in_ok-found.after.now found.value found.goes_on)
+    rw c.in_ok-push_alone.ensures (items_more _ _ _ _ _ _ c.loop-items.invariant c.in-Some.item c.in_ok-found.after.now found.value found.goes_on)
 
 pub value_of-items_of-requires : goal.value_of-items_of-requires
 value_of-items_of-requires t c =

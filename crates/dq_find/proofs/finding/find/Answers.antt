@@ -1,4 +1,5 @@
 use Rattle.std.proofs.Common.{◌∙◌, List, [], Ok, sym, ap}
+use Rattle.dq_dimse.specs.Holding.{plain_message}
 use Rattle.dq_tables.specs.Rows.{Record, Edit, of}
 use Rattle.dq_tables.proofs.Calling.{reads_nothing, reads_then, reads_right, serves_read}
 use Rattle.dq_match.specs.declared.keys.Place.TheVariants.{Outer}
@@ -15,9 +16,9 @@ pub returns-in-Err : goal.returns-in-Err
 returns-in-Err g c =
     let it = g.T.Tables.state c.args.tables.now in
     let name = c.args.institution.now.name in
-    let does : List Record → Found × List Edit = λ records. (found records c.args.called.now c.args.message.now c.args.syntax, []) in
+    let does : List Record → Found × List Edit = λ records. (found records c.args.called.now (plain_message c.args.message.now) c.args.syntax, []) in
     serves_read name does it it c.refused.result (reads_nothing it c.refused.result)
-    (λ h. ap alone (found_none (of name it.rows) c.args.called.now c.args.message.now c.args.syntax c.in-Err.status
+    (λ h. ap alone (found_none (of name it.rows) c.args.called.now (plain_message c.args.message.now) c.args.syntax c.in-Err.status
     (sym c.in_ok-query.ensures.query ∙ c.in-Err.is) ∙ sym c.refused.ensures))
 
 pub returns : goal.returns
@@ -30,7 +31,7 @@ returns g c =
     let answers = c.in_ok-answers.answers in
     let first = c.in_ok-rows.ensures.reads in
     let second = c.in_ok-answers.ensures.reads in
-    let does : List Record → Found × List Edit = λ records. (found records c.args.called.now c.args.message.now c.args.syntax, []) in
+    let does : List Record → Found × List Edit = λ records. (found records c.args.called.now (plain_message c.args.message.now) c.args.syntax, []) in
     let answer : Found = record { status = 0; optional = query.optional; answers = answers } in
     serves_read name does old new answer
     (reads_right old new answers answer
@@ -40,6 +41,7 @@ returns g c =
     let sound = c.honest_rows_are_sound.ensures.sound c.args.tables.now (first.goes.was_honest was) in
     let is = answered_of_candidates old.rows mid.rows name c.as_slice.result.now c.args.called.now query c.in_ok-rows.rows c.as_slice-2.result.now answers
     sound c.has_facts.ensures (λ held fit. ((c.keys_are_met_alone_and_as_a_period.ensures.each Outer query.keys held).0 fit).0)
+    (record { named = c.day_numbers_are_in_order.ensures.named; ordered = c.day_numbers_are_in_order.ensures.ordered })
     c.as_slice.ensures (first.same was) (c.in_ok-rows.ensures.answered was) c.as_slice-2.ensures (c.in_ok-answers.ensures.answered h) in
-    ap alone (found_some (of name old.rows) c.args.called.now c.args.message.now c.args.syntax query answers
+    ap alone (found_some (of name old.rows) c.args.called.now (plain_message c.args.message.now) c.args.syntax query answers
     (sym c.in_ok-query.ensures.query ∙ c.in-Ok.is) is))

@@ -1,54 +1,67 @@
-use Rattle.std.proofs.Common.{◌∙◌, ℕ, List, sym, ap, subst}
+use Rattle.std.proofs.Common.{◌≡◌, ◌∙◌, ℕ, Bool, true, List, [], sym, ap, subst, arith}
 use Rattle.std.specs.Option.{option_map}
-use Rattle.dq_dataset.specs.Reading.{reading}
 use Rattle.dq_config.specs.Limits.{limits_of}
+use Rattle.dq_dataset.specs.declared.header.Syntax.TheVariants.{Explicit}
+use Rattle.dq_dataset.specs.Canonical.{HasLengths}
+use Rattle.dq_dimse.specs.Attributes.{kept_attributes}
 use Rattle.dq_tables.specs.Rows.{Record, Edit, of}
 use Rattle.dq_tables.specs.Serving.{Serves}
 use Rattle.dq_tables.proofs.Calling.{reads_nothing, serves_read}
 use Rattle.dq_store.specs.Storing.{stored}
-use Rattle.dq_store.specs.Views.{instance_of}
-use Rattle.dq_store.proofs.Outcomes.{over, unread, read_is, unnamed, handed_on}
+use Rattle.dq_store.specs.Views.{instance_of, instance_stored}
+use Rattle.dq_store.proofs.Outcomes.{over}
+use Rattle.dq_store.proofs.Sifted.{octets_over, short, kept_of_it, stored_unread, stored_unnamed, stored_kept}
 use Rattle.dq_store.proofs.storing.store.Goals as goal
 
-pub returns-then-is_over : goal.returns-then-is_over
-returns-then-is_over g c =
+pub returns-in_default-clause-serves : goal.returns-in_default-clause-serves
+returns-in_default-clause-serves g c = λ sent h.
     let it = g.T.Tables.state c.args.tables.now in
     let name = c.args.institution.now.name in
     let limits = limits_of c.args.institution.now in
-    let does = λ (records : List Record). stored limits records c.args.message.now c.args.syntax in
+    let does = λ (records : List Record). stored limits records sent c.args.syntax in
     serves_read name does it it 0xA700 (reads_nothing it 0xA700)
-    (λ h. over limits (of name it.rows) c.args.message.now c.args.syntax (sym c.is_over.ensures ∙ c.if-is_over.true))
+    (λ honest. over limits (of name it.rows) sent c.args.syntax
+    (octets_over c.args.syntax c.args.message.now sent h c.in_default.field-0 c.requires c.in_default.is))
 
-pub returns-in_default : goal.returns-in_default
-returns-in_default g c =
+pub returns-in_default-sifted-clause-serves : goal.returns-in_default-sifted-clause-serves
+returns-in_default-sifted-clause-serves g c = λ sent h.
     let it = g.T.Tables.state c.args.tables.now in
     let name = c.args.institution.now.name in
     let limits = limits_of c.args.institution.now in
-    let does = λ (records : List Record). stored limits records c.args.message.now c.args.syntax in
+    let does = λ (records : List Record). stored limits records sent c.args.syntax in
     serves_read name does it it 0xC000 (reads_nothing it 0xC000)
-    (λ h. unread limits (of name it.rows) c.args.message.now c.args.syntax (sym c.is_over.ensures ∙ c.if-is_over.false)
-    (sym c.in_ok-data_set.ensures.read ∙ c.in_default.is))
+    (λ honest. stored_unread limits (of name it.rows) c.args.syntax c.args.message.now sent h c.in-Sifted.sifted c.in_default-sifted.field-0
+    c.in-Sifted.is c.in_default-sifted.is (c.fault_law.ensures.read c.args.syntax sent.octets))
 
-pub returns-in_default-of : goal.returns-in_default-of
-returns-in_default-of g c =
+pub returns-in_default-of-clause-serves : goal.returns-in_default-of-clause-serves
+returns-in_default-of-clause-serves g c = λ sent h.
     let it = g.T.Tables.state c.args.tables.now in
     let name = c.args.institution.now.name in
     let limits = limits_of c.args.institution.now in
-    let does = λ (records : List Record). stored limits records c.args.message.now c.args.syntax in
-    let d = c.in-Some.data_set in
-    let read = read_is (reading c.args.syntax c.args.message.now.octets) d (sym c.in_ok-data_set.ensures.read ∙ c.in-Some.is) in
+    let does = λ (records : List Record). stored limits records sent c.args.syntax in
     let none = sym (ap (option_map instance_of) c.in_default-of.is) ∙ c.of.ensures.named in
     serves_read name does it it 0xA900 (reads_nothing it 0xA900)
-    (λ h. unnamed limits (of name it.rows) c.args.message.now c.args.syntax d (sym c.is_over.ensures ∙ c.if-is_over.false) read none)
+    (λ honest. stored_unnamed limits (of name it.rows) c.args.syntax c.args.message.now sent h c.in-Sifted.sifted c.in-Kept.data_set c.in-Kept.other
+    c.in-Sifted.is c.in-Kept.is (c.spelling_law.ensures.read c.args.syntax sent.octets) none)
 
-pub returns : goal.returns
-returns g c =
+pub returns-then-not-can_be_written-clause-serves : goal.returns-then-not-can_be_written-clause-serves
+returns-then-not-can_be_written-clause-serves g c = λ sent h.
+    let w = kept_of_it (limits_of c.args.institution.now) [] c.args.syntax c.args.message.now sent h c.in-Sifted.sifted c.in-Kept.data_set c.in-Kept.other
+    c.in-Sifted.is c.in-Kept.is in
+    let within = short c.args.syntax c.args.message.now sent h c.in-Sifted.sifted c.in-Sifted.is in
+    let whole = c.spelling_law.ensures.lengths c.args.syntax Explicit sent.octets w.whole w.spelled (omega (arith, within)) in
+    let lengths = subst (HasLengths Explicit) (sym w.kept_is) (c.editing_law.ensures.cut_lengths Explicit kept_attributes w.whole whole) in
+    let written : c.can_be_written.result ≡ true = c.can_be_written.ensures.1 lengths in
+    absurd (let no = c.if-not-can_be_written.true in cc)
+
+pub returns-clause-serves : goal.returns-clause-serves
+returns-clause-serves g c = λ sent h.
     let limits = limits_of c.args.institution.now in
-    let d = c.in-Some.data_set in
-    let read = read_is (reading c.args.syntax c.args.message.now.octets) d (sym c.in_ok-data_set.ensures.read ∙ c.in-Some.is) in
-    let some = sym (ap (option_map instance_of) c.in-Some-of.is) ∙ c.of.ensures.named in
-    let same = λ (records : List Record). sym (handed_on limits records c.args.message.now c.args.syntax d
-    (sym c.is_over.ensures ∙ c.if-is_over.false) read (instance_of c.in-Some-of.sent) some) in
+    let some = sym (ap (option_map instance_of) c.in-Some.is) ∙ c.of.ensures.named in
+    let same = λ (records : List Record).
+    ap (λ (b : Bool). instance_stored limits records b (instance_of c.in-Some.sent)) c.in-Some.ensures.other
+    ∙ stored_kept limits records c.args.syntax c.args.message.now sent h c.in-Sifted.sifted c.in-Kept.data_set c.in-Kept.other
+    c.in-Sifted.is c.in-Kept.is (c.spelling_law.ensures.read c.args.syntax sent.octets) (instance_of c.in-Some.sent) some in
     subst (λ (does : List Record → ℕ × List Edit). Serves (g.T.Tables.state c.args.tables.now)
     (g.T.Tables.state c.store_instance.new.tables) c.args.institution.now.name does
     c.store_instance.result) (λ i. λ records. same records i) c.store_instance.ensures

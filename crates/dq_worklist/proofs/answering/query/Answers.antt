@@ -1,4 +1,5 @@
 use Rattle.std.proofs.Common.{List, [], ◌∙◌, sym, ap}
+use Rattle.dq_dimse.specs.Holding.{plain_message}
 use Rattle.dq_match.specs.declared.responses.Found.{Found}
 use Rattle.dq_tables.specs.Rows.{Record, of}
 use Rattle.dq_tables.proofs.Calling.{reads_nothing, reads_right, serves_read}
@@ -11,7 +12,7 @@ pub returns-in-Err : goal.returns-in-Err
 returns-in-Err g c =
     let it = g.T.Tables.state c.args.tables.now in
     let name = c.args.institution.now.name in
-    let message = c.args.message.now in
+    let message = plain_message c.args.message.now in
     let syntax = c.args.syntax in
     let answer : Found = c.refused.result in
     serves_read name (λ (records : List Record). (listed records message syntax, [])) it it answer
@@ -24,7 +25,7 @@ returns g c =
     let old = g.T.Tables.state c.args.tables.now in
     let new = g.T.Tables.state c.candidates.new.tables in
     let name = c.args.institution.now.name in
-    let message = c.args.message.now in
+    let message = plain_message c.args.message.now in
     let syntax = c.args.syntax in
     let query = c.in-Ok.query in
     let found = c.in_ok-answers.answers in

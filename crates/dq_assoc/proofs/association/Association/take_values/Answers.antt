@@ -1,21 +1,23 @@
-use Rattle.std.proofs.Common.{IsTrue, sym, ap, subst, ◌∙◌}
-use Rattle.std.specs.Prelude.{is_none}
-use Rattle.dq_dimse.specs.Assembling.{Assembly, spent_by}
-use Rattle.dq_assoc.specs.declared.association.Held.TheVariants as held
-use Rattle.dq_assoc.proofs.Sound.{on-ok, values-closed, values-open, values-sound}
+use Rattle.std.proofs.Common.{sym, ◌∙◌}
+use Rattle.dq_dimse.specs.Assembling.{messages_from, assembly_from}
+use Rattle.dq_assoc.proofs.Sound.{values-closed, values-open}
+use Rattle.dq_assoc.proofs.Standing.{on_ok, values_read}
 use Rattle.dq_assoc.proofs.association.Association.take_values.Goals as goal
 
 pub returns-then-read-clause-exact : goal.returns-then-read-clause-exact
-returns-then-read-clause-exact c =
-    on-ok c.closing_step.result _ _
-    (values-closed c.args.agreement c.args.assembler c.args.values.now (sym c.in_ok-read.ensures.fault ∙ c.if-read.true))
+returns-then-read-clause-exact c = λ a h e.
+    on_ok c.closing_step.result _ _
+    (sym (values-closed c.args.agreement a c.args.values.now (sym (c.in_ok-read.ensures.fault a h) ∙ c.if-read.true)))
 
-pub invariant_of-self-2 : goal.invariant_of-self-2
-invariant_of-self-2 c =
-    subst (λ (s : Assembly). IsTrue (is_none (spent_by s))) (sym (c.in_ok-read.ensures.next c.if-read.false))
-    (values-sound c.args.assembler c.args.values.now (sym c.in_ok-read.ensures.fault ∙ c.if-read.false))
+pub returns-clause-step : goal.returns-clause-step
+returns-clause-step c = λ a h.
+    values_read c.args.assembler.accepted c.in_ok-read.read.messages c.empty.result (messages_from a c.args.values.now) (c.in_ok-read.ensures.messages a h)
+    c.empty.ensures (sym (c.in_ok-read.ensures.fault a h) ∙ c.if-read.false)
 
 pub returns-clause-exact : goal.returns-clause-exact
-returns-clause-exact c =
-    ap (held.Open c.args.agreement) (c.in_ok-read.ensures.next c.if-read.false)
-    ∙ values-open c.args.agreement c.args.assembler c.args.values.now (sym c.in_ok-read.ensures.fault ∙ c.if-read.false)
+returns-clause-exact c = λ a h e. (
+  assembly_from a c.args.values.now,
+  sym (values-open c.args.agreement a c.args.values.now (sym (c.in_ok-read.ensures.fault a h) ∙ c.if-read.false)),
+  c.in_ok-read.ensures.next a h c.if-read.false,
+  c.in_ok-read.ensures.keeps ∙ e,
+)

@@ -2,26 +2,44 @@ use Rattle.std.proofs.Common.{sym, ◌∙◌}
 use Rattle.std.proofs.lemmas.List.{nil_from_length}
 use Rattle.dq_core.specs.Stepping.{MayLeave}
 use Rattle.dq_core.proofs.Going.{goes-then, on-err, part-left, left-then}
-use Rattle.dq_core.proofs.Composing.{serves-next, serves-part, serves-all}
+use Rattle.dq_core.proofs.Composing.{held-next, held-part, held-all}
 use Rattle.dq_core.proofs.service.Provider.serve_all.Goals as goal
 
 pub returns-in_err-serve-clause-stops : goal.returns-in_err-serve-clause-stops
-returns-in_err-serve-clause-stops g c = λ h. on-err c.from_residual.result
-    (serves-part (c.loop-message.invariant.3 (c.in_err-serve.ensures.goes.was_honest h)) c.in-Some.ensures.steps.0
+returns-in_err-serve-clause-stops g c = λ h sent stand. on-err c.from_residual.result
+    (held-part (c.loop-message.invariant.3 (c.in_err-serve.ensures.goes.was_honest h) sent stand) c.in-Some.ensures.steps.0
     (MayLeave (g.T.Tables.state c.args.tables.now) (g.T.Tables.state c.serve.new.tables))
-    (part-left (MayLeave (g.T.Tables.state c.args.tables.now) (g.T.Tables.state c.serve.new.tables))
+    (λ m on. part-left (MayLeave (g.T.Tables.state c.args.tables.now) (g.T.Tables.state c.serve.new.tables))
     (left-then (g.T.Tables.state c.serve.new.tables) c.loop-message.invariant.2 (c.in_err-serve.ensures.goes.was_honest h))
-    (c.in_err-serve.ensures.stops h)))
+    (c.in_err-serve.ensures.stops h m on)))
 
 pub loop-message-preserved : goal.loop-message-preserved
 loop-message-preserved g c = (
   tt,
   tt,
   goes-then c.loop-message.invariant.2 c.in_ok-serve.ensures.goes,
-  λ h. serves-next (c.loop-message.invariant.3 (c.in_ok-serve.ensures.goes.was_honest h)) c.in-Some.ensures.steps.0
-      c.own_records_are_edited.ensures.all (c.in_ok-serve.ensures.does h),
+  λ h sent stand. held-next (c.loop-message.invariant.3 (c.in_ok-serve.ensures.goes.was_honest h) sent stand) c.in-Some.ensures.steps.0
+      c.own_records_are_edited.ensures.all (λ m on. c.in_ok-serve.ensures.does h m on),
+)
+
+pub loop-message-preserved-in_ok-serve : goal.loop-message-preserved-in_ok-serve
+loop-message-preserved-in_ok-serve g c = (
+  tt,
+  tt,
+  goes-then c.loop-message.invariant.2 c.in_ok-serve.ensures.goes,
+  λ h sent stand. held-next (c.loop-message.invariant.3 (c.in_ok-serve.ensures.goes.was_honest h) sent stand) c.in-Some.ensures.steps.0
+      c.own_records_are_edited.ensures.all (λ m on. c.in_ok-serve.ensures.does h m on),
+)
+
+pub loop-message-preserved-in_ok-serve-2 : goal.loop-message-preserved-in_ok-serve-2
+loop-message-preserved-in_ok-serve-2 g c = (
+  tt,
+  tt,
+  goes-then c.loop-message.invariant.2 c.in_ok-serve.ensures.goes,
+  λ h sent stand. held-next (c.loop-message.invariant.3 (c.in_ok-serve.ensures.goes.was_honest h) sent stand) c.in-Some.ensures.steps.0
+      c.own_records_are_edited.ensures.all (λ m on. c.in_ok-serve.ensures.does h m on),
 )
 
 pub returns-clause-does : goal.returns-clause-does
-returns-clause-does g c = λ h. serves-all (c.loop-message.invariant.3 h)
+returns-clause-does g c = λ h sent stand. held-all (c.loop-message.invariant.3 h sent stand)
     (nil_from_length _ (sym c.loop-message.message-iterator.rest.ok.0 ∙ c.in-None.ensures.steps.0))

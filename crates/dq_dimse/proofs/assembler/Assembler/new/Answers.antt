@@ -1,5 +1,10 @@
-use Rattle.dq_dimse.proofs.Assemblies.{assembler_new}
+use Rattle.std.proofs.Common.{refl, sym, subst}
+use Rattle.dq_dimse.specs.Assembling.{new_assembly}
+use Rattle.dq_dimse.specs.Holding.{Assembles, ids_of}
+use Rattle.dq_dimse.proofs.Assemblies.{assembly_from-nil}
 use Rattle.dq_dimse.proofs.assembler.Assembler.new.Goals as goal
 
-pub returns-clause-stands : goal.returns-clause-stands
-returns-clause-stands c = assembler_new c.args.ids
+pub returns : goal.returns
+returns c =
+    let none = assembly_from-nil (new_assembly (ids_of c.args.accepted)) in
+    record { accepted_are = refl; stands = subst (Assembles _) (sym none) (record { ids = refl; gathered = refl }) }

@@ -3,15 +3,15 @@ use Rattle.std.proofs.lemmas.Result.{IfOk-weaker}
 use Rattle.dq_find.proofs.Asking.{asked_studies, asked_series, asked_images}
 use Rattle.dq_find.proofs.finding.Search.asked_rows.Goals as goal
 
-pub returns-in-Study : goal.returns-in-Study
-returns-in-Study g c =
+pub returns-in_ok-choice-in-Study : goal.returns-in_ok-choice-in-Study
+returns-in_ok-choice-in-Study g c =
     let name = c.args.self.now.institution.now in
     let query = c.args.self.now.query.now in
     record {
-      reads = c.studies.ensures.reads;
-      answered = λ h. IfOk-weaker c.studies.result _ _
-          (λ v e. e ∙ asked_studies name _ query.level query.keys c.in-Study.is)
-          (c.studies.ensures.found h);
+      reads = c.studies_in.ensures.reads;
+      answered = λ h. IfOk-weaker c.studies_in.result _ _
+          (λ v e. e ∙ asked_studies name _ query.level query.keys c.in_ok-choice-in-Study.choice c.in-Study.is c.in_ok-choice-in-Study.ensures)
+          (c.studies_in.ensures.found h);
     }
 
 pub returns-in-Series : goal.returns-in-Series

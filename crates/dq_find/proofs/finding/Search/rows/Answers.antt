@@ -5,16 +5,16 @@ use Rattle.dq_vr.specs.declared.Vr.TheVariants.{UI}
 use Rattle.dq_value.specs.Parts.{parts}
 use Rattle.dq_dataset.specs.Values.{element_at, octets_in}
 use Rattle.dq_find.specs.Computed.{all_in_order}
-use Rattle.dq_find.specs.Candidates.{own_values, names_records, octets_of}
+use Rattle.dq_find.specs.Candidates.{own_values, looks_up, octets_of}
 use Rattle.dq_find.proofs.LookedUp.{all_candidates, named_candidates}
 use Rattle.dq_find.proofs.finding.Search.rows.Goals as goal
 
-pub returns-then-not-names_records : goal.returns-then-not-names_records
-returns-then-not-names_records g c =
+pub returns-then-not-looks_up : goal.returns-then-not-looks_up
+returns-then-not-looks_up g c =
     let query = c.args.self.now.query.now in
     let values : parts UI c.octets_at-values.result.now ≡ own_values query =
     ap (parts UI) (c.octets_at-values.ensures ∙ ap (λ (t : Tag). octets_in (element_at t query.keys)) c.unique_key.ensures) in
-    let none : names_records (own_values query) ≡ false = sym (ap names_records values) ∙ sym c.names_records.ensures ∙ c.if-not-names_records.true in
+    let none : looks_up query.level (own_values query) ≡ false = sym (ap (looks_up query.level) values) ∙ sym c.looks_up.ensures ∙ c.if-not-looks_up.true in
     record {
       reads = c.asked_rows.ensures.reads;
       answered = λ h. IfOk-weaker c.asked_rows.result _ _
@@ -26,7 +26,7 @@ returns g c =
     let query = c.args.self.now.query.now in
     let values : parts UI c.octets_at-values.result.now ≡ own_values query =
     ap (parts UI) (c.octets_at-values.ensures ∙ ap (λ (t : Tag). octets_in (element_at t query.keys)) c.unique_key.ensures) in
-    let some : names_records (own_values query) ≡ true = sym (ap names_records values) ∙ sym c.names_records.ensures ∙ c.if-not-names_records.false in
+    let some : looks_up query.level (own_values query) ≡ true = sym (ap (looks_up query.level) values) ∙ sym c.looks_up.ensures ∙ c.if-not-looks_up.false in
     let uids : octets_of c.in_ok-uids.uids.keys ≡ all_in_order (own_values query) [] =
     c.in_ok-uids.ensures ∙ ap (λ (vs : List (List ℕ)). all_in_order vs []) values in
     record {

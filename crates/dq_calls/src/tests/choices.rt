@@ -1,0 +1,205 @@
+//! Studies that are chosen by patient, day and UID, over rows in memory.
+use super::messages::request;
+use dq_config::{Config, Institution};
+use dq_dataset::{DataSet, Syntax};
+use dq_dimse::{command_field, status};
+use dq_find::find;
+use dq_list::Listed;
+use dq_store::store;
+use dq_tables::{Choice, PlainTables, Row, Tables};
+use dq_vr::tags;
+use std::alloc::Global;
+use std::process::Abort;
+use std::test::*;
+
+const CONFIG: &str = "[[institution]]
+name = \"NORTH\"
+routes = [{ called = \"ARCHIVE\", calling = \"CT1\" }]
+studies = 3
+images = 3
+entries = 1
+steps = 1
+associations = 1
+
+[[institution]]
+name = \"SOUTH\"
+routes = [{ called = \"ARCHIVE\", calling = \"CT2\" }]
+studies = 1
+images = 1
+entries = 1
+steps = 1
+associations = 1
+";
+
+const CT: &[u8] = b"1.2.840.10008.5.1.4.1.1.2";
+
+const STUDY_ROOT: &[u8] = b"1.2.840.10008.5.1.4.1.2.2.1";
+
+/// Instances of NORTH's three studies: one of a patient and a day, one of two patients and of no
+/// day, and one of a day that no calendar has.
+const NORTH: [(&[u8], &[u8]); 3] = [
+    (
+        b"1.2.9.1",
+        b"\x08\0\x16\0UI\x1a\x001.2.840.10008.5.1.4.1.1.2\0\x08\0\x18\0UI\x08\x001.2.9.1\0\
+\x08\0\x20\0DA\x08\x0020240101\x10\0\x20\0LO\x02\0P1\
+\x20\0\x0d\0UI\x06\x001.2.1\0\x20\0\x0e\0UI\x08\x001.2.1.1\0",
+    ),
+    (
+        b"1.2.9.2",
+        b"\x08\0\x16\0UI\x1a\x001.2.840.10008.5.1.4.1.1.2\0\x08\0\x18\0UI\x08\x001.2.9.2\0\
+\x10\0\x20\0LO\x06\0P1\\P2 \
+\x20\0\x0d\0UI\x06\x001.2.2\0\x20\0\x0e\0UI\x08\x001.2.2.1\0",
+    ),
+    (
+        b"1.2.9.3",
+        b"\x08\0\x16\0UI\x1a\x001.2.840.10008.5.1.4.1.1.2\0\x08\0\x18\0UI\x08\x001.2.9.3\0\
+\x08\0\x20\0DA\x08\x0020240230\x10\0\x20\0LO\x02\0P3\
+\x20\0\x0d\0UI\x06\x001.2.3\0\x20\0\x0e\0UI\x08\x001.2.3.1\0",
+    ),
+];
+
+/// An instance of SOUTH's study 1.2.8.
+const SOUTH: (&[u8], &[u8]) = (
+    b"1.2.9.8",
+    b"\x08\0\x16\0UI\x1a\x001.2.840.10008.5.1.4.1.1.2\0\x08\0\x18\0UI\x08\x001.2.9.8\0\
+\x10\0\x20\0LO\x02\0P1\
+\x20\0\x0d\0UI\x06\x001.2.8\0\x20\0\x0e\0UI\x08\x001.2.8.1\0",
+);
+
+/// Queries, and the studies of NORTH that are found.
+const SEARCHES: [(&[u8], &[&[u8]]); 5] = [
+    // The patient P1, and patients whose ID begins with P.
+    (
+        b"\x08\0\x52\0CS\x06\0STUDY \x10\0\x20\0LO\x02\0P1\x20\0\x0d\0UI\0\0",
+        &[b"1.2.1", b"1.2.2"],
+    ),
+    (
+        b"\x08\0\x52\0CS\x06\0STUDY \x10\0\x20\0LO\x02\0P*\x20\0\x0d\0UI\0\0",
+        &[b"1.2.1", b"1.2.2", b"1.2.3"],
+    ),
+    // From 1 January 2024 on, and no later than the day before.
+    (
+        b"\x08\0\x20\0DA\x0a\x0020240101- \x08\0\x52\0CS\x06\0STUDY \x20\0\x0d\0UI\0\0",
+        &[b"1.2.1", b"1.2.2"],
+    ),
+    (
+        b"\x08\0\x20\0DA\x0a\0-20231231 \x08\0\x52\0CS\x06\0STUDY \x20\0\x0d\0UI\0\0",
+        &[b"1.2.2"],
+    ),
+    // SOUTH's study.
+    (
+        b"\x08\0\x52\0CS\x06\0STUDY \x20\0\x0d\0UI\x06\x001.2.8\0",
+        &[],
+    ),
+];
+
+fn keep<T: Tables>(
+    alloc: Global,
+    tables: &mut T,
+    institution: &Institution,
+    (uid, octets): (&[u8], &[u8]),
+) -> Result<(), Fail> {
+    let message = request(alloc, command_field::C_STORE, CT, uid, octets)?;
+    let kept = store(alloc, tables, institution, &message, Syntax::Explicit)?;
+    if kept == status::SUCCESS {
+        Ok(())
+    } else {
+        Err("an instance is refused".into())
+    }
+}
+
+/// Whether these studies are found, and no others, in this order.
+fn is_found<T: Tables>(
+    alloc: Global,
+    tables: &mut T,
+    institution: &Institution,
+    identifier: &[u8],
+    wanted: &[&[u8]],
+) -> Result<bool, Fail> {
+    let message = request(alloc, command_field::C_FIND, STUDY_ROOT, b"", identifier)?;
+    let syntax = Syntax::Explicit;
+    let found = find(alloc, tables, institution, b"ARCHIVE", &message, syntax)?;
+    let answers = found.answers.as_slice();
+    Ok(
+        answers.len() == wanted.len()
+            && answers
+                .iter()
+                .zip(wanted)
+                .all(|(answer, uid)| is_study(answer, uid)),
+    )
+}
+
+fn is_study(answer: &DataSet, uid: &[u8]) -> bool {
+    answer.sole_value(tags::STUDY_INSTANCE_UID) == Some(uid)
+}
+
+/// Whether these are the rows with the keys.
+fn are_rows(rows: &[Row], keys: &[&[u8]]) -> bool {
+    rows.len() == keys.len()
+        && rows
+            .iter()
+            .zip(keys)
+            .all(|(row, key)| row.key.as_slice() == *key)
+}
+
+/// What a choice from the first day on takes, and one of a UID.
+fn choices(alloc: Global) -> Result<[(Choice, &'static [&'static [u8]]); 3], Fail> {
+    Ok([
+        (
+            Choice {
+                uid: None,
+                patient: None,
+                first_day: Some(20_240_101),
+                last_day: None,
+            },
+            &[b"1.2.1", b"1.2.2", b"1.2.3"],
+        ),
+        (
+            Choice {
+                uid: None,
+                patient: Some(Listed::copy_of(alloc, b"P1")?),
+                first_day: None,
+                last_day: Some(20_231_231),
+            },
+            &[b"1.2.2"],
+        ),
+        (
+            Choice {
+                uid: Some(Listed::copy_of(alloc, b"1.2.8")?),
+                patient: None,
+                first_day: None,
+                last_day: None,
+            },
+            &[],
+        ),
+    ])
+}
+
+fn studies_are_chosen<T: Tables>(
+    rt: &impl Abort,
+    alloc: Global,
+    tables: &mut T,
+) -> Result<(), Fail> {
+    let config = Config::read(alloc, CONFIG)?;
+    let north = config.institution(b"NORTH").ok_or("NORTH")?;
+    let south = config.institution(b"SOUTH").ok_or("SOUTH")?;
+    for instance in NORTH {
+        keep(alloc, tables, north, instance)?;
+    }
+    keep(alloc, tables, south, SOUTH)?;
+    for (identifier, wanted) in SEARCHES {
+        assert!(rt; is_found(alloc, tables, north, identifier, wanted)?);
+    }
+    for (choice, wanted) in choices(alloc)? {
+        let rows = tables.studies_in(alloc, b"NORTH", &choice)?;
+        assert!(rt; are_rows(rows.as_slice(), wanted));
+    }
+    Ok(())
+}
+
+#[test]
+fn studies_are_chosen_over_vectors(rt: HostRuntime) -> Result<(), Fail> {
+    let alloc = rt.alloc();
+    let mut tables = PlainTables::new(alloc);
+    studies_are_chosen(&rt, alloc, &mut tables)
+}

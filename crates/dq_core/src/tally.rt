@@ -1,0 +1,68 @@
+//! How many associations each institution has open.
+
+ghost use Rattle.std.specs.Prelude.{◌≡◌, IfOk, length, replicate};
+ghost use Rattle.dq_core.specs.Tallies.{place_in, tallied, one_more, one_less};
+
+use dq_config::Config;
+use std::alloc::{AllocError, Global};
+
+/// How many associations each institution has open, in the order of the configuration, so that no
+/// piece has to count them anew.
+#[derive(Debug, Drop)]
+pub(crate) struct Tally {
+    pub counts: Vec<usize>,
+}
+
+impl Tally {
+    /// None is open.
+    pub(crate) fn new(alloc: Global, config: &Config) -> Result<Self, AllocError>
+        ensures { IfOk result (λ tally. tally.counts.items ≡ replicate (length config.now) 0) }
+    {
+        let counts = vec![in alloc; 0; config.institutions().len()]?;
+        Ok(Tally { counts })
+    }
+
+    /// How many the institution of a name has open.
+    pub(crate) fn count(&self, config: &Config, name: &[u8]) -> usize
+        ensures { result ≡ tallied config.now self.now.counts.items name.now }
+    {
+        match place_of(config, name) {
+            None => 0,
+            Some(place) => self.counts.get(place).copied().unwrap_or(0),
+        }
+    }
+
+    /// Counts an association that was opened at the institution of a name.
+    pub(crate) fn opened(&mut self, config: &Config, name: &[u8])
+        ensures { self.new.counts.items
+            ≡ one_more self.old.counts.items (place_in config.now name.now) }
+    {
+        if let Some(place) = place_of(config, name) {
+            if let Some(count) = self.counts.get_mut(place) {
+                *count = count.saturating_add(1);
+            }
+        }
+    }
+
+    /// Counts one that ended there.
+    pub(crate) fn ended(&mut self, config: &Config, name: &[u8])
+        ensures { self.new.counts.items
+            ≡ one_less self.old.counts.items (place_in config.now name.now) }
+    {
+        if let Some(place) = place_of(config, name) {
+            if let Some(count) = self.counts.get_mut(place) {
+                *count = count.saturating_sub(1);
+            }
+        }
+    }
+}
+
+/// Where the institution of a name stands.
+fn place_of(config: &Config, name: &[u8]) -> Option<usize>
+    ensures { result ≡ place_in config.now name.now }
+{
+    config
+        .institutions()
+        .iter()
+        .position(|institution| institution.name.as_slice() == name)
+}

@@ -1,0 +1,242 @@
+-- What an assembler holds, as one PDV after the other comes.
+use Rattle.std.proofs.Common.{◌≡◌, ◌≤◌, ℕ, ◌==◌, Bool, true, false, cond, ltb, eqb, List, [], ◌∷◌, ◌++◌}
+use Rattle.std.proofs.Common.{length, Option, Some, None, Result, Ok, Err, OnOk, refl, sym, ap, subst, ◌∙◌, ◌⊎◌, inl, inr, arith}
+use Rattle.std.specs.Prelude.{◌||◌, ◌&&◌, not, is_some}
+use Rattle.std.proofs.Math.Bool.{and-false}
+use Rattle.std.proofs.lemmas.Bool.{false≢true, le-ltb, eqb-true, eqb-false, eq-eqb, ne_eqb}
+use Rattle.std.proofs.lemmas.List.{append-nil}
+use Rattle.dq_pdu.specs.Octets.{is_among}
+use Rattle.dq_pdu.specs.declared.pdu.Pdv.{Pdv}
+use Rattle.dq_dataset.specs.declared.header.Syntax.{Syntax}
+use Rattle.dq_dimse.specs.declared.assembler.Accepted.{Accepted}
+use Rattle.dq_dimse.specs.declared.assembler.Gathered.{Gathered as HeldGathered}
+use Rattle.dq_dimse.specs.declared.assembler.Gathered.TheVariants as held
+use Rattle.dq_dimse.specs.declared.assembler.Part.{Part}
+use Rattle.dq_dimse.specs.declared.assembler.Part.TheVariants as part
+use Rattle.dq_dimse.specs.declared.command.Body.{Body}
+use Rattle.dq_dimse.specs.declared.command.Body.TheVariants as body
+use Rattle.dq_dimse.specs.declared.command.Command.{Command}
+use Rattle.dq_dimse.specs.declared.command.Message.{Message as HeldMessage}
+use Rattle.dq_dimse.specs.declared.fault.DimseFault.{DimseFault}
+use Rattle.dq_dimse.specs.declared.fault.DimseFault.TheVariants.{WrongContext}
+use Rattle.dq_dimse.specs.Assembling.{Gathered, Nothing, Gathering, stops_at, after_command, IsKept, IsKeptCommand, Assembly, with_fragment}
+use Rattle.dq_dimse.specs.Assembling.{gather, fault_in, messages, messages_from, assembly_from, new_assembly, followed_by, spent_by}
+use Rattle.dq_dimse.specs.Holding.{BodyStandsFor, StandsFor, StandForAll, is_sifted, is_stored, octets_held, plain_message, PartStandsFor}
+use Rattle.dq_dimse.specs.Holding.{HasGathered, Holding, Assembles, WasGiven, Makes, Adds, accepted_with, fault_held, ids_of, spent_with}
+use Rattle.dq_dimse.specs.Messages.{data_limit}
+use Rattle.dq_dimse.specs.Received.{Message}
+use Rattle.dq_dimse.proofs.Gatherings.{gather_one}
+use Rattle.dq_dimse.proofs.Assemblies.{read_off, messages_from-append, assembly_from-append}
+
+-- ---- a data set
+
+pub part_discarded : (syntax : Syntax) (held : Part) (m : Message) → PartStandsFor syntax held m → m.over ≡ true → m.octets ≡ []
+part_discarded syntax (part.Octets octets) m h e = absurd (false≢true (sym h.1 ∙ e))
+part_discarded syntax (part.Sifting sieve room) m h e = absurd (false≢true (sym h.1 ∙ e))
+part_discarded syntax part.Over m h e = h.1
+
+pub part_short : (syntax : Syntax) (held : Part) (m : Message) → PartStandsFor syntax held m → m.over ≡ false → length m.octets ≤ data_limit m.command
+part_short syntax (part.Octets octets) m h e = subst (λ (xs : List ℕ). length xs ≤ data_limit m.command) h.2 h.3
+part_short syntax (part.Sifting sieve room) m h e = (let is = h.2 in omega (arith, is))
+part_short syntax part.Over m h e = absurd (false≢true (sym e ∙ h.0))
+
+-- a fragment for which there is room
+abbrev grown : Message → List ℕ → Bool → Message
+grown m fragment over = record { context = m.context; command = m.command; octets = cond over [] (m.octets ++ fragment); over = over }
+
+with_room : (m : Message) (fragment : List ℕ) → m.over ≡ false → length (m.octets ++ fragment) ≤ data_limit m.command → with_fragment m fragment ≡ grown m fragment false
+with_room m fragment e short =
+    let long = ltb (data_limit m.command) (length (m.octets ++ fragment)) in
+    ap (λ (over : Bool). grown m fragment over)
+    (ap (λ (b : Bool). b || long) e ∙ le-ltb (data_limit m.command) (length (m.octets ++ fragment)) short)
+
+pub part_fed : (syntax : Syntax) (next : Part) (m : Message) (fragment : List ℕ) → m.over ≡ false
+    → length (m.octets ++ fragment) ≤ data_limit m.command → PartStandsFor syntax next (grown m fragment false)
+    → PartStandsFor syntax next (with_fragment m fragment)
+part_fed syntax next m fragment e short h = subst (PartStandsFor syntax next) (sym (with_room m fragment e short)) h
+
+-- ---- the context of a PDV
+
+abbrev is_with : ℕ → Accepted → Bool
+is_with id context = context.id == id
+
+has_id : (id : ℕ) (x : Accepted) (found : Option Accepted) (context : Accepted) (same : Bool) → is_with id x ≡ same → (found ≡ Some context → context.id ≡ id)
+    → cond same (Some x) found ≡ Some context → context.id ≡ id
+has_id id x found context true e later f =
+    let it : x ≡ context = cc in
+    ap (λ (c : Accepted). c.id) (sym it) ∙ eqb-true x.id id e
+has_id id x found context false e later f = later f
+
+pub id_is : (id : ℕ) (accepted : List Accepted) (context : Accepted) → accepted_with id accepted ≡ Some context → context.id ≡ id
+id_is id [] context e = absurd cc
+id_is id (x ∷ xs) context e = has_id id x (accepted_with id xs) context (is_with id x) refl (id_is id xs context) e
+
+among_at : (id : ℕ) (x : Accepted) (others : Bool) (found : Option Accepted) (same : Bool) → is_with id x ≡ same → others ≡ is_some found
+    → (eqb id x.id || others) ≡ is_some (cond same (Some x) found)
+among_at id x others found true e rest = ap (λ (b : Bool). b || others) (eq-eqb id x.id (sym (eqb-true x.id id e)))
+among_at id x others found false e rest = ap (λ (b : Bool). b || others) (ne_eqb id x.id (λ h. eqb-false x.id id e (sym h))) ∙ rest
+
+pub among_is : (id : ℕ) (accepted : List Accepted) → is_among id (ids_of accepted) ≡ is_some (accepted_with id accepted)
+among_is id [] = refl
+among_is id (x ∷ xs) = among_at id x (is_among id (ids_of xs)) (accepted_with id xs) (is_with id x) refl (among_is id xs)
+
+pub none_found : (found : Option Accepted) → ((context : Accepted) → found ≡ Some context → ⊥) → found ≡ None
+none_found None none = refl
+none_found (Some context) none = absurd (none context refl)
+
+-- ---- a PDV where nothing was gathered
+
+nothing_is : (accepted : List Accepted) (h : HeldGathered) (g : Gathered) → h ≡ held.Nothing → HasGathered accepted h g → g ≡ Nothing
+nothing_is accepted h g e has = subst (λ (x : HeldGathered). HasGathered accepted x g) e has
+
+gather_unknown : (ids : List ℕ) (pdv : Pdv) → is_among pdv.context ids ≡ false → gather ids Nothing pdv ≡ stops_at WrongContext
+gather_unknown ids pdv e = ap (λ (b : Bool). cond b (after_command pdv.context [] pdv) (stops_at WrongContext)) e
+
+gather_known : (ids : List ℕ) (pdv : Pdv) → is_among pdv.context ids ≡ true → gather ids Nothing pdv ≡ after_command pdv.context [] pdv
+gather_known ids pdv e = ap (λ (b : Bool). cond b (after_command pdv.context [] pdv) (stops_at WrongContext)) e
+
+pub nothing_unknown : (accepted : List Accepted) (h : HeldGathered) (g : Gathered) (pdv : Pdv) → h ≡ held.Nothing → HasGathered accepted h g
+    → accepted_with pdv.context accepted ≡ None → gather (ids_of accepted) g pdv ≡ stops_at WrongContext
+nothing_unknown accepted h g pdv e has none =
+    ap (λ (x : Gathered). gather (ids_of accepted) x pdv) (nothing_is accepted h g e has)
+    ∙ gather_unknown (ids_of accepted) pdv (among_is pdv.context accepted ∙ ap is_some none)
+
+pub nothing_known : (accepted : List Accepted) (h : HeldGathered) (g : Gathered) (pdv : Pdv) (context : Accepted)
+    (result : Result (Option HeldMessage × HeldGathered) DimseFault) (octets : List ℕ) → h ≡ held.Nothing → HasGathered accepted h g
+    → accepted_with pdv.context accepted ≡ Some context → octets ≡ [] → Makes accepted result (after_command context.id octets pdv)
+    → Makes accepted result (gather (ids_of accepted) g pdv)
+nothing_known accepted h g pdv context result octets e has found none made =
+    let is = ap (λ (x : Gathered). gather (ids_of accepted) x pdv) (nothing_is accepted h g e has)
+    ∙ gather_known (ids_of accepted) pdv (among_is pdv.context accepted ∙ ap is_some found) in
+    subst (Makes accepted result) (ap (λ (id : ℕ). after_command id octets pdv) (id_is pdv.context accepted context found)
+    ∙ ap (λ (xs : List ℕ). after_command pdv.context xs pdv) none ∙ sym is) made
+
+pub nothing_kept : (accepted : List Accepted) (h : HeldGathered) (g : Gathered) (pdv : Pdv) (context : Accepted) (octets : List ℕ) → h ≡ held.Nothing
+    → HasGathered accepted h g → accepted_with pdv.context accepted ≡ Some context → octets ≡ [] → IsKeptCommand octets pdv
+    → IsKept (ids_of accepted) g pdv
+nothing_kept accepted h g pdv context octets e has found none kept =
+    subst (λ (x : Gathered). IsKept (ids_of accepted) x pdv) (sym (nothing_is accepted h g e has))
+    (among_is pdv.context accepted ∙ ap is_some found, subst (λ (xs : List ℕ). IsKeptCommand xs pdv) none kept)
+
+-- ---- one PDV
+
+fault_same : (accepted : List Accepted) (h : HeldGathered) (g : Gathered) → HasGathered accepted h g → fault_in g ≡ fault_held h
+fault_same accepted held.Nothing g is = ap fault_in is
+fault_same accepted (held.CommandPart context octets) g is = ap fault_in is.1
+fault_same accepted (held.DataPart begun) g is = ap fault_in is.2
+fault_same accepted (held.Spent fault) g is = ap fault_in is
+
+pub assembles_fault : (holding : Holding) (a : Assembly) → Assembles holding a → spent_by a ≡ spent_with holding
+assembles_fault holding a h = fault_same holding.accepted holding.gathered a.gathered h.gathered
+
+pub one_adds : (accepted : List Accepted) (a : Assembly) (pdv : Pdv) (message : Option HeldMessage) (after : HeldGathered) → fault_held after ≡ None
+    → Makes accepted (Ok (message, after)) (gather a.ids a.gathered pdv) → Adds accepted (Ok message) [] (messages_from a (pdv ∷ []))
+unfolding messages_from
+one_adds accepted a pdv message after unspent made =
+    let now = gather a.ids a.gathered pdv in (
+      now.list,
+      made.0,
+      ap read_off (gather_one a.ids a.gathered pdv)
+          ∙ ap (λ (f : Option DimseFault). record { list = now.list; fault = f }) (fault_same accepted after now.gathered made.1 ∙ unspent),
+    )
+
+pub one_fails : (accepted : List Accepted) (a : Assembly) (pdv : Pdv) (fault : DimseFault)
+    → Makes accepted (Err fault) (gather a.ids a.gathered pdv) → Adds accepted (Err fault) [] (messages_from a (pdv ∷ []))
+unfolding messages_from
+one_fails accepted a pdv fault (inl e) = inl e
+one_fails accepted a pdv fault (inr e) = inr (ap read_off (gather_one a.ids a.gathered pdv ∙ e))
+
+pub step_made : (old : Holding) (slice : List Accepted) (before : HeldGathered) (a : Assembly) (pdv : Pdv)
+    (result : Result (Option HeldMessage × HeldGathered) DimseFault) → slice ≡ old.accepted → before ≡ old.gathered → Assembles old a
+    → ((g : Gathered) → HasGathered slice before g → Makes slice result (gather (ids_of slice) g pdv))
+    → Makes old.accepted result (gather a.ids a.gathered pdv)
+step_made old slice before a pdv result e f h made =
+    let has = subst (λ (xs : List Accepted). HasGathered xs before a.gathered) (sym e)
+    (subst (λ (b : HeldGathered). HasGathered old.accepted b a.gathered) (sym f) h.gathered) in
+    subst (λ (ids : List ℕ). Makes old.accepted result (gather ids a.gathered pdv)) (sym h.ids)
+    (subst (λ (xs : List Accepted). Makes xs result (gather (ids_of xs) a.gathered pdv)) e (made a.gathered has))
+
+pub one_next : (old new : Holding) (a : Assembly) (pdv : Pdv) → Assembles old a → new.accepted ≡ old.accepted
+    → HasGathered old.accepted new.gathered (gather a.ids a.gathered pdv).gathered → Assembles new (assembly_from a (pdv ∷ []))
+unfolding assembly_from
+one_next old new a pdv h e made = record {
+  ids = h.ids ∙ ap ids_of (sym e);
+  gathered = subst (HasGathered new.accepted new.gathered) (sym (ap (λ (g : Gathering). g.gathered) (gather_one a.ids a.gathered pdv)))
+      (subst (λ (xs : List Accepted). HasGathered xs new.gathered (gather a.ids a.gathered pdv).gathered) (sym e) made);
+}
+
+-- ---- one PDV after others
+
+one_more_adds : (accepted : List Accepted) (pdvs : List Pdv) (pdv : Pdv) (result : Result (Option HeldMessage) DimseFault)
+    → Adds accepted result [] (messages_from (assembly_from (new_assembly (ids_of accepted)) pdvs) (pdv ∷ []))
+    → Adds accepted result (messages (ids_of accepted) pdvs).list (messages (ids_of accepted) (pdvs ++ pdv ∷ []))
+one_more_adds accepted pdvs pdv (Ok message) h =
+    (h.0, h.1, messages_from-append (new_assembly (ids_of accepted)) pdvs (pdv ∷ []) ∙ ap (followed_by (messages (ids_of accepted) pdvs).list) h.2)
+one_more_adds accepted pdvs pdv (Err fault) (inl e) = inl e
+one_more_adds accepted pdvs pdv (Err fault) (inr e) =
+    let before = (messages (ids_of accepted) pdvs).list in
+    inr (messages_from-append (new_assembly (ids_of accepted)) pdvs (pdv ∷ []) ∙ ap (followed_by before) e
+    ∙ ap (λ (list : List Message). record { list = list; fault = Some fault }) (append-nil before))
+
+abbrev AddsOne : Holding → Pdv → Result (Option HeldMessage) DimseFault → Type 0
+AddsOne old pdv result = (a : Assembly) → Assembles old a → Adds old.accepted result [] (messages_from a (pdv ∷ []))
+
+pub more_adds : (accepted : List Accepted) (pdvs : List Pdv) (pdv : Pdv) (old : Holding) (result : Result (Option HeldMessage) DimseFault)
+    → WasGiven accepted pdvs old → AddsOne old pdv result
+    → Adds accepted result (messages (ids_of accepted) pdvs).list (messages (ids_of accepted) (pdvs ++ pdv ∷ []))
+more_adds accepted pdvs pdv old result h adds =
+    let before = assembly_from (new_assembly (ids_of accepted)) pdvs in
+    one_more_adds accepted pdvs pdv result
+    (subst (λ (xs : List Accepted). Adds xs result [] (messages_from before (pdv ∷ []))) h.accepted_are (adds before h.stands))
+
+pub more_stands : (accepted : List Accepted) (pdvs : List Pdv) (pdv : Pdv) (old new : Holding) (result : Result (Option HeldMessage) DimseFault)
+    → WasGiven accepted pdvs old → new.accepted ≡ old.accepted
+    → ((a : Assembly) → Assembles old a → OnOk result (Assembles new (assembly_from a (pdv ∷ []))))
+    → OnOk result (WasGiven accepted (pdvs ++ pdv ∷ []) new)
+more_stands accepted pdvs pdv old new (Ok message) h e next = record {
+  accepted_are = e ∙ h.accepted_are;
+  stands = subst (Assembles new) (sym (assembly_from-append (new_assembly (ids_of accepted)) pdvs (pdv ∷ [])))
+      (next (assembly_from (new_assembly (ids_of accepted)) pdvs) h.stands);
+}
+more_stands accepted pdvs pdv old new (Err fault) h e next = tt
+
+-- ---- messages whose octets are held
+
+with_octets : (held : HeldMessage) (m : Message) (octets : List ℕ) → held.context ≡ m.context → held.command ≡ m.command → held.over ≡ m.over
+    → octets ≡ m.octets → record { context = held.context; command = held.command; octets = octets; over = held.over } ≡ m
+with_octets held m octets c k o e =
+    ap (λ (x : ℕ). record { context = x; command = held.command; octets = octets; over = held.over }) c
+    ∙ ap (λ (x : Command). record { context = m.context; command = x; octets = octets; over = held.over }) k
+    ∙ ap (λ (x : List ℕ). record { context = m.context; command = m.command; octets = x; over = held.over }) e
+    ∙ ap (λ (x : Bool). record { context = m.context; command = m.command; octets = m.octets; over = x }) o
+
+octets_are : (syntax : Syntax) (body : Body) (octets : List ℕ) → is_sifted body ≡ false → BodyStandsFor syntax body octets → octets_held body ≡ octets
+octets_are syntax (body.Octets held) octets e h = h
+octets_are syntax (body.Sifted answer) octets e h = absurd cc
+
+pub plain_is : (syntax : Syntax) (held : HeldMessage) (m : Message) → StandsFor syntax held m → is_sifted held.body ≡ false → plain_message held ≡ m
+plain_is syntax held m h e =
+    with_octets held m (octets_held held.body) h.context h.command h.over (octets_are syntax held.body m.octets e h.body)
+
+-- a message that is no C-STORE, and one that passed its limit
+pub plain_unless_stored : (syntax : Syntax) (held : HeldMessage) (m : Message) → StandsFor syntax held m → is_stored m.command ≡ false
+    → plain_message held ≡ m
+plain_unless_stored syntax held m h e = plain_is syntax held m h (h.sifted ∙ ap (λ (b : Bool). b && not m.over) e)
+
+pub plain_if_over : (syntax : Syntax) (held : HeldMessage) (m : Message) → StandsFor syntax held m → m.over ≡ true → plain_message held ≡ m
+plain_if_over syntax held m h e =
+    plain_is syntax held m h (h.sifted ∙ ap (λ (b : Bool). is_stored m.command && not b) e ∙ and-false (is_stored m.command))
+
+pub plain_held : (syntax : Syntax) (held : HeldMessage) (m : Message) → StandsFor syntax held m → (is_stored m.command ≡ false) ⊎ (m.over ≡ true)
+    → plain_message held ≡ m
+plain_held syntax held m h (inl e) = plain_unless_stored syntax held m h e
+plain_held syntax held m h (inr e) = plain_if_over syntax held m h e
+
+-- ---- messages, one by one
+
+pub stand_append : (accepted : List Accepted) (xs ys : List HeldMessage) (ms ns : List Message) → StandForAll accepted xs ms
+    → StandForAll accepted ys ns → StandForAll accepted (xs ++ ys) (ms ++ ns)
+stand_append accepted [] ys [] ns h k = k
+stand_append accepted (x ∷ xs) ys (m ∷ ms) ns h k = (h.0, stand_append accepted xs ys ms ns h.1 k)
+stand_append accepted [] ys (m ∷ ms) ns h k = absurd h
+stand_append accepted (x ∷ xs) ys [] ns h k = absurd h

@@ -1,0 +1,167 @@
+-- What the code holds of messages, and what that stands for. The data set of a C-STORE is sifted as
+-- it comes: of its octets no more is held than what the kept attributes leave of it.
+use Rattle.std.specs.Prelude.{◌≡◌, ◌≤◌, ◌⊎◌, ℕ, ◌+◌, Bool, true, false, ◌==◌, ◌&&◌, not, List, [], ◌∷◌, ◌++◌, length, map, find, Option, Some, None, Result, Ok, Err}
+use Rattle.dq_pdu.specs.declared.pdu.Pdv.{Pdv}
+use Rattle.dq_dataset.specs.declared.header.Syntax.{Syntax}
+use Rattle.dq_dataset.specs.Sieve.{IsSifted}
+use Rattle.dq_dataset.specs.Sieving.{SieveAfter}
+use Rattle.dq_dimse.specs.declared.assembler.Accepted.{Accepted}
+use Rattle.dq_dimse.specs.declared.assembler.Begun.{Begun}
+use Rattle.dq_dimse.specs.declared.assembler.Gathered.{Gathered as HeldGathered}
+use Rattle.dq_dimse.specs.declared.assembler.Gathered.TheVariants as held
+use Rattle.dq_dimse.specs.declared.assembler.Part.{Part}
+use Rattle.dq_dimse.specs.declared.assembler.Part.TheVariants as part
+use Rattle.dq_dimse.specs.declared.command.Body.{Body}
+use Rattle.dq_dimse.specs.declared.command.Body.TheVariants.{Octets, Sifted}
+use Rattle.dq_dimse.specs.declared.command.Command.{Command}
+use Rattle.dq_dimse.specs.declared.command.Message.{Message as HeldMessage}
+use Rattle.dq_dimse.specs.declared.fault.DimseFault.{DimseFault}
+use Rattle.dq_dimse.specs.declared.fault.DimseFault.TheVariants.{NoMemory}
+use Rattle.dq_dimse.specs.Assembling.{Gathered, Nothing, CommandPart, DataPart, Spent, Gathering, stops_at, Messages, Assembly, new_assembly, assembly_from}
+use Rattle.dq_dimse.specs.Attributes.{kept_attributes}
+use Rattle.dq_dimse.specs.CommandFields.{c_store}
+use Rattle.dq_dimse.specs.Messages.{data_limit}
+use Rattle.dq_dimse.specs.Received.{Message}
+
+-- ---- accepted contexts
+
+abbrev pub ids_of : List Accepted → List ℕ
+ids_of accepted = map (λ (c : Accepted). c.id) accepted
+
+-- the accepted context with an id
+abbrev pub accepted_with : ℕ → List Accepted → Option Accepted
+accepted_with id accepted = find (λ (c : Accepted). c.id == id) accepted
+
+-- ---- messages
+
+-- A body stands for the octets of a data set: it is these, or what the kept attributes leave of it.
+abbrev pub BodyStandsFor : Syntax → Body → List ℕ → Type 0
+BodyStandsFor syntax (Octets held) octets = held ≡ octets
+BodyStandsFor syntax (Sifted answer) octets = IsSifted syntax kept_attributes octets answer
+
+abbrev pub is_sifted : Body → Bool
+is_sifted (Octets held) = false
+is_sifted (Sifted answer) = true
+
+-- the data sets that are sifted: those of a C-STORE (PS3.7 section 9.3.1)
+abbrev pub is_stored : Command → Bool
+is_stored command = command.code == c_store
+
+-- What is held stands for a message, the transfer syntax of whose context this is.
+pub record StandsFor (syntax : Syntax) (held : HeldMessage) (message : Message) : Type 0 where
+  pub context : held.context ≡ message.context
+  pub command : held.command ≡ message.command
+  pub over : held.over ≡ message.over
+  pub body : BodyStandsFor syntax held.body message.octets
+  pub sifted : is_sifted held.body ≡ (is_stored message.command && not message.over)
+  pub discarded : message.over ≡ true → message.octets ≡ []
+  pub short : message.over ≡ false → length message.octets ≤ data_limit message.command
+
+-- It stands for a message on one of the accepted contexts.
+pub record StandsOn (accepted : List Accepted) (held : HeldMessage) (message : Message) : Type 0
+  where
+    pub context : Accepted
+    pub found : accepted_with message.context accepted ≡ Some context
+    pub stands : StandsFor context.syntax held message
+
+-- messages, one by one
+abbrev pub StandForAll : List Accepted → List HeldMessage → List Message → Type 0
+StandForAll accepted [] [] = Unit {0}
+StandForAll accepted (held ∷ helds) (message ∷ messages) =
+    StandsOn accepted held message × StandForAll accepted helds messages
+StandForAll accepted [] (message ∷ messages) = ⊥
+StandForAll accepted (held ∷ helds) [] = ⊥
+
+-- The message of what is held, where its octets are held. Where they are sifted it has none.
+abbrev pub octets_held : Body → List ℕ
+octets_held (Octets held) = held
+octets_held (Sifted answer) = []
+
+abbrev pub plain_message : HeldMessage → Message
+plain_message held = record {
+  context = held.context;
+  command = held.command;
+  octets = octets_held held.body;
+  over = held.over;
+}
+
+-- ---- what is gathered
+
+-- What came of a data set: its octets; those of a C-STORE in a sieve, and the number of those for
+-- which there is room; or nothing is held of it, since it passed its limit.
+abbrev pub PartStandsFor : Syntax → Part → Message → Type 0
+PartStandsFor syntax (part.Octets octets) message =
+    (is_stored message.command ≡ false) × (message.over ≡ false) × (octets ≡ message.octets)
+    × (length octets ≤ data_limit message.command)
+PartStandsFor syntax (part.Sifting sieve room) message =
+    (is_stored message.command ≡ true) × (message.over ≡ false)
+    × (room + length message.octets ≡ data_limit message.command)
+    × SieveAfter syntax kept_attributes message.octets sieve
+PartStandsFor syntax part.Over message = (message.over ≡ true) × (message.octets ≡ [])
+
+-- What is held stands for a message whose data set is still to come.
+pub record HasBegun (begun : Begun) (message : Message) : Type 0 where
+  pub context : begun.context.id ≡ message.context
+  pub command : begun.command ≡ message.command
+  pub data_set : PartStandsFor begun.context.syntax begun.data_set message
+
+-- what an assembler gathered
+abbrev pub HasGathered : List Accepted → HeldGathered → Gathered → Type 0
+HasGathered accepted held.Nothing gathered = gathered ≡ Nothing
+HasGathered accepted (held.CommandPart context octets) gathered =
+    (accepted_with context.id accepted ≡ Some context) × (gathered ≡ CommandPart context.id octets)
+HasGathered accepted (held.DataPart begun) gathered =
+    (accepted_with begun.context.id accepted ≡ Some begun.context)
+    × (message : Message) × (gathered ≡ DataPart message) × HasBegun begun message
+HasGathered accepted (held.Spent fault) gathered = gathered ≡ Spent fault
+
+-- ---- an assembler
+
+-- its accepted contexts, and what it gathered
+pub record Holding : Type 0 where
+  pub accepted : List Accepted
+  pub gathered : HeldGathered
+
+-- An assembler stands for one of the definitions.
+pub record Assembles (holding : Holding) (assembly : Assembly) : Type 0 where
+  pub ids : assembly.ids ≡ ids_of holding.accepted
+  pub gathered : HasGathered holding.accepted holding.gathered assembly.gathered
+
+-- the assembler, which has these accepted contexts, was given the PDVs
+pub record WasGiven (accepted : List Accepted) (pdvs : List Pdv) (holding : Holding) : Type 0 where
+  pub accepted_are : holding.accepted ≡ accepted
+  pub stands : Assembles holding (assembly_from (new_assembly (ids_of accepted)) pdvs)
+
+-- the fault that an assembler answers from now on, where it is spent
+abbrev pub fault_held : HeldGathered → Option DimseFault
+fault_held held.Nothing = None
+fault_held (held.CommandPart context octets) = None
+fault_held (held.DataPart begun) = None
+fault_held (held.Spent fault) = Some fault
+
+abbrev pub spent_with : Holding → Option DimseFault
+spent_with holding = fault_held holding.gathered
+
+-- ---- what taking a PDV answers
+
+-- a message, or none
+abbrev pub StandsForOne : List Accepted → Option HeldMessage → List Message → Type 0
+StandsForOne accepted None messages = messages ≡ []
+StandsForOne accepted (Some held) messages =
+    (message : Message) × (messages ≡ message ∷ []) × StandsOn accepted held message
+
+-- The message that a PDV adds to those before, or the fault; or memory ran out.
+abbrev pub Adds : List Accepted → Result (Option HeldMessage) DimseFault → List Message → Messages
+    → Type 0
+Adds accepted (Ok held) before after =
+    (added : List Message) × StandsForOne accepted held added
+    × (after ≡ record { list = before ++ added; fault = None })
+Adds accepted (Err fault) before after =
+    (fault ≡ NoMemory) ⊎ (after ≡ record { list = before; fault = Some fault })
+
+-- What a PDV makes of what was gathered. This is there for the prover.
+abbrev pub Makes : List Accepted → Result (Option HeldMessage × HeldGathered) DimseFault → Gathering
+    → Type 0
+Makes accepted (Ok x) made =
+    StandsForOne accepted x.0 made.list × HasGathered accepted x.1 made.gathered
+Makes accepted (Err fault) made = (fault ≡ NoMemory) ⊎ (made ≡ stops_at fault)

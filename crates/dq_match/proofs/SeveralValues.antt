@@ -1,0 +1,116 @@
+-- Values that are met by equality, and values that are looked up in a set.
+use Rattle.std.proofs.Common.{◌≡◌, ℕ, Bool, true, false, not, nat_eq, nat_cmp, cond, ◌&&◌, ◌||◌, List, [], ◌∷◌, refl, sym, ap, ◌∙◌}
+use Rattle.std.specs.Global.{Vec}
+use Rattle.std.specs.BTreeSet.{insert_key}
+use Rattle.std.specs.List.{list_any, list_all}
+use Rattle.std.specs.Cmp.Lexicographic.{slice_cmp}
+use Rattle.std.specs.Ordering.{match_ordering, is_eq}
+use Rattle.std.specs.declared.cmp.Ordering.{Ordering}
+use Rattle.std.specs.declared.cmp.Ordering.TheVariants.{Less, Equal, Greater}
+use Rattle.std.proofs.lemmas.Map.Text.{is_eq-slice_cmp}
+use Rattle.std.proofs.lemmas.Slice.Eq.{bytes_eq-Decides}
+use Rattle.dq_match.specs.declared.wildcards.Casing.TheVariants.{Exact}
+use Rattle.dq_match.specs.declared.values.Matching.TheVariants.{WildCard}
+use Rattle.dq_match.specs.Wildcards.{wild, after_run, after_one, stands_for, any_run, any_one}
+use Rattle.dq_match.specs.Values.{is_same}
+use Rattle.dq_match.specs.Several.{is_among, some_equal, AreMetByEquality, is_plain, octets_of}
+
+-- ---- a pattern without wild cards fits itself alone
+
+plain_parts : (a b c : Bool) → (not (a || b) && c) ≡ true → (a ≡ false) × (b ≡ false) × (c ≡ true)
+plain_parts true b c h = absurd cc
+plain_parts false true c h = absurd cc
+plain_parts false false c h = (refl, refl, h)
+
+pub plain_meets : (value text : List ℕ) → is_plain value ≡ true → wild Exact value text ≡ is_same value text
+plain_meets [] [] plain = refl
+plain_meets [] (octet ∷ others) plain = refl
+plain_meets (wanted ∷ value) [] plain =
+    let parts = plain_parts (nat_eq wanted any_run) (nat_eq wanted any_one) (is_plain value) plain in
+    ap (λ (b : Bool). cond b (after_run (wild Exact value) []) (after_one (stands_for Exact wanted) (wild Exact value) [])) parts.0
+plain_meets (wanted ∷ value) (octet ∷ others) plain =
+    let parts = plain_parts (nat_eq wanted any_run) (nat_eq wanted any_one) (is_plain value) plain in
+    ap (λ (b : Bool). cond b (after_run (wild Exact value) (octet ∷ others)) (after_one (stands_for Exact wanted) (wild Exact value) (octet ∷ others))) parts.0
+    ∙ (λ i. (parts.1 i || nat_eq wanted octet) && plain_meets value others parts.2 i)
+
+each_alike : (f g : List ℕ → Bool) (values : List (List ℕ)) → ((value : List ℕ) → f value ≡ g value) → list_any f values ≡ list_any g values
+each_alike f g [] same = refl
+each_alike f g (value ∷ values) same = (λ i. same value i || each_alike f g values same i)
+
+all_parts : (a b : Bool) → (a && b) ≡ true → (a ≡ true) × (b ≡ true)
+all_parts true b h = (refl, h)
+all_parts false b h = absurd cc
+
+pub plain_by_equality : (keys : List (List ℕ)) → list_all is_plain keys ≡ true → AreMetByEquality WildCard keys
+plain_by_equality [] plain values = refl
+plain_by_equality (key ∷ keys) plain values =
+    let parts = all_parts (is_plain key) (list_all is_plain keys) plain in
+    (λ i. each_alike (wild Exact key) (is_same key) values (λ value. plain_meets key value parts.0) i || plain_by_equality keys parts.1 values i)
+
+-- ---- a value that is put into a set
+
+or_same : (a b c d : Bool) → d ≡ (b || c) → (a || d) ≡ (b || (a || c))
+or_same true true c d h = refl
+or_same true false c d h = refl
+or_same false b c d h = h
+
+again : (a b : Bool) → (a || b) ≡ (a || (a || b))
+again true b = refl
+again false b = refl
+
+abbrev order : Vec ℕ → Vec ℕ → Ordering
+order a b = slice_cmp nat_cmp a.items b.items
+
+same_items : (a b : List ℕ) → slice_cmp nat_cmp a b ≡ Equal → a ≡ b
+same_items a b e = (bytes_eq-Decides a b).0 (sym (is_eq-slice_cmp a b) ∙ ap is_eq e)
+
+put_by : (o : Ordering) (value : List ℕ) (new first : Vec ℕ) (others put : List (Vec ℕ)) → order new first ≡ o
+    → is_among value (octets_of put) ≡ (is_same value new.items || is_among value (octets_of others))
+    → is_among value (octets_of (match_ordering o (new ∷ (first ∷ others)) (first ∷ others) (first ∷ put)))
+    ≡ (is_same value new.items || (is_same value first.items || is_among value (octets_of others)))
+put_by Less value new first others put is rest = refl
+put_by Equal value new first others put is rest =
+    again (is_same value first.items) (is_among value (octets_of others))
+    ∙ ap (λ (o : List ℕ). is_same value o || (is_same value first.items || is_among value (octets_of others))) (sym (same_items new.items first.items is))
+put_by Greater value new first others put is rest =
+    or_same (is_same value first.items) (is_same value new.items) (is_among value (octets_of others)) (is_among value (octets_of put)) rest
+
+put_among : (value : List ℕ) (new : Vec ℕ) (set : List (Vec ℕ))
+    → is_among value (octets_of (insert_key order set new)) ≡ (is_same value new.items || is_among value (octets_of set))
+put_among value new [] = refl
+put_among value new (first ∷ others) =
+    put_by (order new first) value new first others (insert_key order others new) refl (put_among value new others)
+
+-- what is in the set or still to come stays so
+pub one_more : (value octets : List ℕ) (new : Vec ℕ) (before after : List (Vec ℕ)) (left others : List (List ℕ)) (whole : Bool)
+    → after ≡ insert_key order before new → new.items ≡ octets → left ≡ octets ∷ others
+    → (is_among value (octets_of before) || is_among value left) ≡ whole → (is_among value (octets_of after) || is_among value others) ≡ whole
+one_more value octets new before after left others whole put is first so_far =
+    (λ i. (ap (λ (vs : List (Vec ℕ)). is_among value (octets_of vs)) put ∙ put_among value new before) i || is_among value others)
+    ∙ regroup (is_same value new.items) (is_among value (octets_of before)) (is_among value others)
+    ∙ (λ i. is_among value (octets_of before) || (is_same value (is i) || is_among value others))
+    ∙ ap (λ (vs : List (List ℕ)). is_among value (octets_of before) || is_among value vs) (sym first) ∙ so_far
+  where
+    regroup : (a b c : Bool) → ((a || b) || c) ≡ (b || (a || c))
+    regroup true true c = refl
+    regroup true false c = refl
+    regroup false b c = refl
+
+pub all_in : (inside : Bool) (left : List (List ℕ)) (value : List ℕ) (whole : Bool) → left ≡ [] → (inside || is_among value left) ≡ whole → inside ≡ whole
+all_in inside left value whole none h = or_none inside ∙ sym (ap (λ (vs : List (List ℕ)). inside || is_among value vs) none) ∙ h
+  where
+    or_none : (b : Bool) → b ≡ (b || false)
+    or_none true = refl
+    or_none false = refl
+
+-- a look-up in the set
+pub found_in : (value : List ℕ) (set : List (Vec ℕ)) → list_any (λ (v : Vec ℕ). is_eq (slice_cmp nat_cmp value v.items)) set ≡ is_among value (octets_of set)
+found_in value [] = refl
+found_in value (first ∷ others) = (λ i. is_eq-slice_cmp value first.items i || found_in value others i)
+
+pub one_looked_up : (b : Bool) (value : List ℕ) (set : List (Vec ℕ)) (rest keys : List (List ℕ)) (whole : Bool)
+    → list_any (λ (v : Vec ℕ). is_eq (slice_cmp nat_cmp value v.items)) set ≡ b → keys ≡ value ∷ rest → some_equal keys (octets_of set) ≡ whole
+    → (b || some_equal rest (octets_of set)) ≡ whole
+one_looked_up b value set rest keys whole is first so_far =
+    ap (λ (t : Bool). t || some_equal rest (octets_of set)) (sym is ∙ found_in value set)
+    ∙ ap (λ (vs : List (List ℕ)). some_equal vs (octets_of set)) (sym first) ∙ so_far

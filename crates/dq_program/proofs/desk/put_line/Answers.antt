@@ -1,0 +1,21 @@
+use Rattle.std.proofs.Common.{rules, ◌∙◌}
+use Rattle.dq_program.proofs.Counting.{another_count}
+use Rattle.dq_program.proofs.desk.put_line.Goals as goal
+
+-- src/desk.rt:102:5
+pub loop-kind-preserved : goal.loop-kind-preserved
+loop-kind-preserved g c =
+    let before = c.loop-kind.invariant in
+    let told = c.in_ok-put_count.ensures in
+    record {
+      text = λ honest.
+          let mid = told.looked.goes.was_honest honest in
+          another_count c.args.name.now (g.T.Tables.state c.args.turner.now.server.tables).rows (g.T.Tables.state c.loop-kind.turner.server.tables).rows
+          c.extend_from_slice.new.self.items c.loop-kind.text.items c.put_count.new.text.items c.loop-kind.kind-index
+          (search rules) (before.text mid) (before.same mid) (told.count honest);
+      same = λ honest. told.looked.same honest ∙ before.same (told.looked.goes.was_honest honest);
+      looked = c.looks_are_one_look.ensures.another c.args.turner.now.server c.loop-kind.turner.server c.put_count.new.turner.server
+          before.looked told.looked;
+      hold = told.hold ∙ before.hold;
+      fault = told.fault ∙ before.fault;
+    }

@@ -1,0 +1,3 @@
+mod logging;
+mod programs;
+mod wires;

@@ -1,0 +1,303 @@
+-- What is kept of a data set decides as the whole data set does.
+use Rattle.std.proofs.Common.{◌≡◌, ℕ, Bool, true, false, ◌||◌, ◌&&◌, not, List, [], ◌∷◌, Option, Some, None, filter, refl, sym, ap, subst, ◌∙◌, if◌then◌else◌}
+use Rattle.std.specs.List.{list_all, list_any}
+use Rattle.std.proofs.lemmas.Bool.{false≢true}
+use Rattle.dq_vr.specs.declared.Tag.{Tag}
+use Rattle.dq_vr.specs.Tags.{specific_character_set, image_type, sop_class_uid, sop_instance_uid, study_date, series_date, content_date, study_time, series_time, content_time, accession_number, modality, referring_physician_name, study_description, series_description, patient_name, patient_id, issuer_of_patient_id, patient_birth_date, patient_sex, body_part_examined, study_instance_uid, series_instance_uid, study_id, series_number, instance_number, rows, columns}
+use Rattle.dq_dataset.specs.declared.data_set.Element.{Element}
+use Rattle.dq_dataset.specs.Tree.{ElementList}
+use Rattle.dq_dataset.specs.View.{as_elements, elements_of, has_tag}
+use Rattle.dq_dataset.specs.Editing.{cut_out, is_listed}
+use Rattle.dq_dataset.specs.Same.{has_element, same_element}
+use Rattle.dq_dataset.specs.Sieve.{has_other}
+use Rattle.dq_dataset.proofs.Same.{same_is_equal}
+use Rattle.dq_dataset.proofs.Views.{elements_of-as_elements}
+use Rattle.dq_dimse.specs.declared.command.Command.{Command}
+use Rattle.dq_dimse.specs.Attributes.{kept_attributes}
+use Rattle.dq_dimse.specs.Statuses.{success, elements_discarded}
+use Rattle.dq_config.specs.Limits.{Limits}
+use Rattle.dq_tables.specs.Rows.{Record, Edit}
+use Rattle.dq_tables.specs.Keys.{uid_at}
+use Rattle.dq_tables.specs.Serving.{first_refusal, outcome}
+use Rattle.dq_store.specs.Attributes.{study_attributes, series_attributes, image_attributes}
+use Rattle.dq_store.specs.Storing.{Instance, Kept, kept_among, instance_in, is_named, standing, is_kept_whole, stored_status, stored_edits, instance_refusals, is_kept_elsewhere, has_series_elsewhere}
+use Rattle.dq_store.specs.Views.{kept_status, instance_stored}
+use Rattle.dq_store.proofs.Fitting.{listed_at, uid_of_cut}
+
+-- ---- the attributes of each level are kept
+
+abbrev AllListed : List Tag → List Tag → Type 0
+AllListed [] all = Unit {0}
+AllListed (tag ∷ tags) all = ((e : Element) → has_tag tag e ≡ true → is_listed all e ≡ true) × AllListed tags all
+
+either : (a b c : Bool) → (a ≡ true → c ≡ true) → (b ≡ true → c ≡ true) → (a || b) ≡ true → c ≡ true
+either true b c f g h = f refl
+either false b c f g h = g h
+
+listed_too : (tags all : List Tag) → AllListed tags all → (e : Element) → is_listed tags e ≡ true → is_listed all e ≡ true
+listed_too [] all h e l = absurd (false≢true l)
+listed_too (tag ∷ tags) all h e l = either (has_tag tag e) (is_listed tags e) (is_listed all e) (h.0 e) (listed_too tags all h.1 e) l
+
+study_kept : AllListed study_attributes kept_attributes
+study_kept = (
+  listed_at 0 kept_attributes specific_character_set refl,
+  (
+    listed_at 4 kept_attributes study_date refl,
+    (
+      listed_at 7 kept_attributes study_time refl,
+      (
+        listed_at 10 kept_attributes accession_number refl,
+        (
+          listed_at 12 kept_attributes referring_physician_name refl,
+          (
+            listed_at 13 kept_attributes study_description refl,
+            (
+              listed_at 15 kept_attributes patient_name refl,
+              (
+                listed_at 16 kept_attributes patient_id refl,
+                (
+                  listed_at 17 kept_attributes issuer_of_patient_id refl,
+                  (
+                    listed_at 18 kept_attributes patient_birth_date refl,
+                    (
+                      listed_at 19 kept_attributes patient_sex refl,
+                      (
+                        listed_at 21 kept_attributes study_instance_uid refl,
+                        (
+                          listed_at 23 kept_attributes study_id refl,
+                          tt,
+                        ),
+                      ),
+                    ),
+                  ),
+                ),
+              ),
+            ),
+          ),
+        ),
+      ),
+    ),
+  ),
+)
+
+series_kept : AllListed series_attributes kept_attributes
+series_kept = (
+  listed_at 0 kept_attributes specific_character_set refl,
+  (
+    listed_at 5 kept_attributes series_date refl,
+    (
+      listed_at 8 kept_attributes series_time refl,
+      (
+        listed_at 11 kept_attributes modality refl,
+        (
+          listed_at 14 kept_attributes series_description refl,
+          (
+            listed_at 20 kept_attributes body_part_examined refl,
+            (
+              listed_at 21 kept_attributes study_instance_uid refl,
+              (
+                listed_at 22 kept_attributes series_instance_uid refl,
+                (
+                  listed_at 24 kept_attributes series_number refl,
+                  tt,
+                ),
+              ),
+            ),
+          ),
+        ),
+      ),
+    ),
+  ),
+)
+
+image_kept : AllListed image_attributes kept_attributes
+image_kept = (
+  listed_at 0 kept_attributes specific_character_set refl,
+  (
+    listed_at 1 kept_attributes image_type refl,
+    (
+      listed_at 2 kept_attributes sop_class_uid refl,
+      (
+        listed_at 3 kept_attributes sop_instance_uid refl,
+        (
+          listed_at 6 kept_attributes content_date refl,
+          (
+            listed_at 9 kept_attributes content_time refl,
+            (
+              listed_at 21 kept_attributes study_instance_uid refl,
+              (
+                listed_at 22 kept_attributes series_instance_uid refl,
+                (
+                  listed_at 25 kept_attributes instance_number refl,
+                  (
+                    listed_at 26 kept_attributes rows refl,
+                    (
+                      listed_at 27 kept_attributes columns refl,
+                      tt,
+                    ),
+                  ),
+                ),
+              ),
+            ),
+          ),
+        ),
+      ),
+    ),
+  ),
+)
+
+-- ---- what is cut out of what is kept
+
+both_step : {X : Type 0} (p : X → Bool) (x : X) (kept others : List X) (a b : Bool) → p x ≡ a → (a ≡ true → b ≡ true) → filter p kept ≡ others
+    → filter p (if b then x ∷ kept else kept) ≡ (if a then x ∷ others else others)
+both_step p x kept others true true here both rest = rw here (ap (λ xs. x ∷ xs) rest)
+both_step p x kept others true false here both rest = (let no : false ≡ true = both refl in cc)
+both_step p x kept others false true here both rest = rw here rest
+both_step p x kept others false false here both rest = rest
+
+filter_both : {X : Type 0} (p q : X → Bool) → ((x : X) → p x ≡ true → q x ≡ true) → (xs : List X) → filter p (filter q xs) ≡ filter p xs
+filter_both p q both [] = refl
+filter_both p q both (x ∷ xs) = both_step p x (filter q xs) (filter p xs) (p x) (q x) refl (both x) (filter_both p q both xs)
+
+cut_twice : (tags : List Tag) (d : ElementList) → AllListed tags kept_attributes → cut_out tags (cut_out kept_attributes d) ≡ cut_out tags d
+cut_twice tags d listed =
+    ap (λ es. as_elements (filter (is_listed tags) es)) (elements_of-as_elements (filter (is_listed kept_attributes) (elements_of d)))
+    ∙ ap as_elements (filter_both (is_listed tags) (is_listed kept_attributes) (listed_too tags kept_attributes listed) (elements_of d))
+
+-- ---- whether what was sent is kept whole
+
+none_step : {X : Type 0} (f : X → Bool) (x : X) (kept : List X) (b : Bool) → (b ≡ true → f x ≡ false) → list_any f kept ≡ false
+    → list_any f (if b then x ∷ kept else kept) ≡ false
+none_step f x kept true none rest = rw (none refl) rest
+none_step f x kept false none rest = rest
+
+none_kept : {X : Type 0} (f q : X → Bool) → ((x : X) → q x ≡ true → f x ≡ false) → (xs : List X) → list_any f (filter q xs) ≡ false
+none_kept f q none [] = refl
+none_kept f q none (x ∷ xs) = none_step f x (filter q xs) (q x) (none x) (none_kept f q none xs)
+
+no_other : (tags : List Tag) (held e : Element) (same : Bool) → same_element held e ≡ same → AllListed tags kept_attributes
+    → is_listed kept_attributes e ≡ false → is_listed tags held ≡ true → same ≡ false
+no_other tags held e false s listed unlisted there = refl
+no_other tags held e true s listed unlisted there =
+    let is : held ≡ e = (same_is_equal held e).0 s in
+    absurd (false≢true (sym unlisted ∙ listed_too tags kept_attributes listed e (subst (λ (x : Element). is_listed tags x ≡ true) is there)))
+
+has_none : (tags : List Tag) (d : ElementList) (e : Element) → AllListed tags kept_attributes → is_listed kept_attributes e ≡ false
+    → has_element (cut_out tags d) e ≡ false
+has_none tags d e listed unlisted =
+    ap (list_any (λ (held : Element). same_element held e)) (elements_of-as_elements (filter (is_listed tags) (elements_of d)))
+    ∙ none_kept (λ (held : Element). same_element held e) (is_listed tags)
+    (λ held there. no_other tags held e (same_element held e) refl listed unlisted there) (elements_of d)
+
+stands_none : (o : Option Record) (tags : List Tag) (d : ElementList) (e : Element) → AllListed tags kept_attributes → is_listed kept_attributes e ≡ false
+    → has_element (standing o tags d) e ≡ false
+stands_none (Some kept) tags d e listed unlisted = has_none tags _ e listed unlisted
+stands_none None tags d e listed unlisted = has_none tags d e listed unlisted
+
+swapped : (f a b : Bool) → (f && (a && b)) ≡ (a && (f && b))
+swapped true a b = refl
+swapped false true b = refl
+swapped false false b = refl
+
+whole_step : {X : Type 0} (f q : X → Bool) (x : X) (xs : List X) (b : Bool) → q x ≡ b → (b ≡ false → f x ≡ false)
+    → list_all f xs ≡ (not (list_any (λ (y : X). not (q y)) xs) && list_all f (filter q xs))
+    → (f x && list_all f xs)
+    ≡ (not (not b || list_any (λ (y : X). not (q y)) xs) && list_all f (if b then x ∷ filter q xs else filter q xs))
+whole_step f q x xs true e none rest =
+    ap (λ (b : Bool). f x && b) rest ∙ swapped (f x) (not (list_any (λ y. not (q y)) xs)) (list_all f (filter q xs))
+whole_step f q x xs false e none rest = ap (λ (b : Bool). b && list_all f xs) (none refl)
+
+whole_split : {X : Type 0} (f q : X → Bool) → ((x : X) → q x ≡ false → f x ≡ false) → (xs : List X)
+    → list_all f xs ≡ (not (list_any (λ (y : X). not (q y)) xs) && list_all f (filter q xs))
+whole_split f q none [] = refl
+whole_split f q none (x ∷ xs) = whole_step f q x xs (q x) refl (none x) (whole_split f q none xs)
+
+standing_kept : (o : Option Record) (tags : List Tag) (d : ElementList) → AllListed tags kept_attributes
+    → standing o tags (cut_out kept_attributes d) ≡ standing o tags d
+standing_kept (Some kept) tags d listed = refl
+standing_kept None tags d listed = cut_twice tags d listed
+
+whole_kept : (study series image : Option Record) (d : ElementList) → let k = cut_out kept_attributes d in
+    is_kept_whole (standing study study_attributes d) (standing series series_attributes d) (standing image image_attributes d) d
+    ≡ (not (has_other kept_attributes d)
+    && is_kept_whole (standing study study_attributes k) (standing series series_attributes k) (standing image image_attributes k) k)
+unfolding is_kept_whole
+whole_kept study series image d =
+    let stands = λ (e : Element). has_element (standing study study_attributes d) e
+    || (has_element (standing series series_attributes d) e || has_element (standing image image_attributes d) e) in
+    whole_split stands (is_listed kept_attributes)
+    (λ e unlisted. rw (
+      stands_none study study_attributes d e study_kept unlisted,
+      stands_none series series_attributes d e series_kept unlisted,
+      stands_none image image_attributes d e image_kept unlisted,
+    ) refl) (elements_of d)
+    ∙ rw (
+      standing_kept study study_attributes d study_kept,
+      standing_kept series series_attributes d series_kept,
+      standing_kept image image_attributes d image_kept,
+      elements_of-as_elements (filter (is_listed kept_attributes) (elements_of d)),
+    ) refl
+
+abbrev of_parts : ElementList → List ℕ → List ℕ → List ℕ → Instance
+of_parts d study series image = record { elements = d; study = study; series = series; image = image }
+
+abbrev whole_status : Bool → ℕ
+whole_status whole = if whole then success else elements_discarded
+
+by_other : (other whole : Bool) → whole_status (not other && whole) ≡ (if other then elements_discarded else whole_status whole)
+by_other true whole = refl
+by_other false whole = refl
+
+status_kept : (kept : Kept) (d : ElementList) (study series image : List ℕ) → stored_status kept (of_parts d study series image)
+    ≡ kept_status (has_other kept_attributes d) kept (of_parts (cut_out kept_attributes d) study series image)
+unfolding stored_status
+status_kept kept d study series image =
+    ap whole_status (whole_kept kept.study kept.series kept.image d) ∙ by_other (has_other kept_attributes d) _
+
+edits_kept : (kept : Kept) (d : ElementList) (study series image : List ℕ)
+    → stored_edits kept (of_parts d study series image) ≡ stored_edits kept (of_parts (cut_out kept_attributes d) study series image)
+unfolding stored_edits
+edits_kept kept d study series image =
+    rw (cut_twice study_attributes d study_kept, cut_twice series_attributes d series_kept, cut_twice image_attributes d image_kept) refl
+
+parts_kept : (limits : Limits) (records : List Record) (d : ElementList) (study series image : List ℕ)
+    → instance_stored limits records false (of_parts d study series image)
+    ≡ instance_stored limits records (has_other kept_attributes d) (of_parts (cut_out kept_attributes d) study series image)
+unfolding instance_stored is_kept_elsewhere has_series_elsewhere
+parts_kept limits records d study series image =
+    let sent = of_parts d study series image in
+    let kept = kept_among records sent in
+    ap (λ (status : ℕ). outcome (first_refusal (instance_refusals limits records sent)) (status, stored_edits kept sent))
+    (status_kept kept d study series image)
+    ∙ ap (λ (edits : List Edit). outcome (first_refusal (instance_refusals limits records sent))
+    (kept_status (has_other kept_attributes d) kept (of_parts (cut_out kept_attributes d) study series image), edits))
+    (edits_kept kept d study series image)
+
+-- ---- the UIDs
+
+class_kept : (d : ElementList) → uid_at sop_class_uid (cut_out kept_attributes d) ≡ uid_at sop_class_uid d
+class_kept d = uid_of_cut sop_class_uid kept_attributes d (listed_at 2 kept_attributes sop_class_uid refl)
+
+image_uid_kept : (d : ElementList) → uid_at sop_instance_uid (cut_out kept_attributes d) ≡ uid_at sop_instance_uid d
+image_uid_kept d = uid_of_cut sop_instance_uid kept_attributes d (listed_at 3 kept_attributes sop_instance_uid refl)
+
+study_uid_kept : (d : ElementList) → uid_at study_instance_uid (cut_out kept_attributes d) ≡ uid_at study_instance_uid d
+study_uid_kept d = uid_of_cut study_instance_uid kept_attributes d (listed_at 21 kept_attributes study_instance_uid refl)
+
+series_uid_kept : (d : ElementList) → uid_at series_instance_uid (cut_out kept_attributes d) ≡ uid_at series_instance_uid d
+series_uid_kept d = uid_of_cut series_instance_uid kept_attributes d (listed_at 22 kept_attributes series_instance_uid refl)
+
+pub named_kept : (command : Command) (d : ElementList) → is_named command (cut_out kept_attributes d) ≡ is_named command d
+unfolding is_named
+named_kept command d = rw (class_kept d, image_uid_kept d, study_uid_kept d, series_uid_kept d) refl
+
+parts_are : (d : ElementList) → instance_in (cut_out kept_attributes d)
+    ≡ of_parts (cut_out kept_attributes d) (instance_in d).study (instance_in d).series (instance_in d).image
+parts_are d = rw (study_uid_kept d, series_uid_kept d, image_uid_kept d) refl
+
+-- what is kept is stored as the whole data set is
+pub kept_decides : (limits : Limits) (records : List Record) (d : ElementList) → instance_stored limits records false (instance_in d)
+    ≡ instance_stored limits records (has_other kept_attributes d) (instance_in (cut_out kept_attributes d))
+kept_decides limits records d =
+    parts_kept limits records d (instance_in d).study (instance_in d).series (instance_in d).image
+    ∙ ap (instance_stored limits records (has_other kept_attributes d)) (sym (parts_are d))

@@ -1,0 +1,122 @@
+-- What a message that is held stands for, by how its data set is held.
+use Rattle.std.proofs.Common.{◌≡◌, ◌≤◌, ℕ, Bool, true, false, ◌||◌, ◌&&◌, not, List, [], length, Some, None, Ok, Err, inl, inr, refl, sym, ap, subst, ◌∙◌, arith, if◌then◌else◌}
+use Rattle.std.specs.Prelude.{nat_lt}
+use Rattle.std.specs.Result.{result_ok}
+use Rattle.std.proofs.lemmas.Bool.{le-ltb}
+use Rattle.dq_list.specs.Readers.{provided}
+use Rattle.dq_list.proofs.Readers.{provided_some}
+use Rattle.dq_dataset.specs.declared.fault.ReadFault.{ReadFault}
+use Rattle.dq_dataset.specs.declared.header.Syntax.{Syntax}
+use Rattle.dq_dataset.specs.declared.sieve.Sifted.{Sifted as Answer}
+use Rattle.dq_dataset.specs.declared.sieve.Sifted.TheVariants.{Kept, Fault}
+use Rattle.dq_dataset.specs.Tree.{ElementList}
+use Rattle.dq_dataset.specs.Editing.{cut_out}
+use Rattle.dq_dataset.specs.Faults.{IsFaulty}
+use Rattle.dq_dataset.specs.Grammar.{IsSpelled}
+use Rattle.dq_dataset.specs.Reading.{reading}
+use Rattle.dq_dataset.specs.Sieve.{IsSifted, has_other}
+use Rattle.dq_dimse.specs.declared.command.Body.{Body}
+use Rattle.dq_dimse.specs.declared.command.Body.TheVariants.{Octets, Sifted}
+use Rattle.dq_dimse.specs.declared.command.Command.{Command}
+use Rattle.dq_dimse.specs.declared.command.Message.{Message as HeldMessage}
+use Rattle.dq_dimse.specs.Attributes.{kept_attributes}
+use Rattle.dq_dimse.specs.Holding.{BodyStandsFor, StandsFor, is_sifted, is_stored}
+use Rattle.dq_dimse.specs.Messages.{store_limit, other_limit}
+use Rattle.dq_dimse.specs.Received.{Message}
+use Rattle.dq_dimse.specs.Receiving.{is_over}
+use Rattle.dq_config.specs.Limits.{Limits}
+use Rattle.dq_tables.specs.Rows.{Record}
+use Rattle.dq_store.specs.Storing.{Instance, data_set_limit, instance_in, is_named, stored}
+use Rattle.dq_store.specs.Views.{instance_stored}
+use Rattle.dq_store.proofs.Outcomes.{unread, not_provided, unnamed, handed_on}
+use Rattle.dq_store.proofs.Sieved.{named_kept, kept_decides}
+
+not_false : (b : Bool) → not b ≡ false → b ≡ true
+not_false true e = refl
+not_false false e = absurd cc
+
+not_true : (a b : Bool) → true ≡ (a && not b) → b ≡ false
+not_true true true e = absurd cc
+not_true true false e = refl
+not_true false b e = absurd cc
+
+limit_most : (stored : Bool) → (if stored then store_limit else other_limit) ≤ data_set_limit
+limit_most true = omega arith
+limit_most false = omega arith
+
+module _ (syntax : Syntax) (held : HeldMessage) (m : Message) (h : StandsFor syntax held m) where
+  -- octets of a C-STORE that are held are none, since it passed its limit
+  pub octets_over : (octets : List ℕ) → is_stored held.command ≡ true → held.body ≡ Octets octets → is_over data_set_limit m ≡ true
+  octets_over octets stored is =
+      let sent : is_stored m.command ≡ true = ap is_stored (sym h.command) ∙ stored in
+      let here : not m.over ≡ false = ap (λ (b : Bool). b && not m.over) (sym sent) ∙ sym h.sifted ∙ ap is_sifted is in
+      ap (λ (b : Bool). b || nat_lt data_set_limit (length m.octets)) (not_false m.over here)
+
+  module _ (answer : Answer) (is : held.body ≡ Sifted answer) where
+    not_past : m.over ≡ false
+    not_past = not_true (is_stored m.command) m.over (sym (ap is_sifted is) ∙ h.sifted)
+
+    pub short : length m.octets ≤ data_set_limit
+    short = (let most = limit_most (is_stored m.command) in let less = h.short not_past in omega (arith, most, less))
+
+    pub not_over : is_over data_set_limit m ≡ false
+    not_over =
+        ap (λ (b : Bool). b || nat_lt data_set_limit (length m.octets)) not_past ∙ le-ltb data_set_limit (length m.octets) short
+
+    pub is_answer : IsSifted syntax kept_attributes m.octets answer
+    is_answer = subst (λ (b : Body). BodyStandsFor syntax b m.octets) is h.body
+
+faulty_in : (syntax : Syntax) (octets : List ℕ) (fault : ReadFault) → IsSifted syntax kept_attributes octets (Fault fault)
+    → (first : ReadFault) × IsFaulty syntax octets first
+faulty_in syntax octets fault (inl x) = (let no = x.2 in absurd cc)
+faulty_in syntax octets fault (inr x) = (x.0, x.1)
+
+-- a data set of which this was kept
+pub record WasKept (syntax : Syntax) (octets : List ℕ) (kept : ElementList) (other : Bool) : Type 0 where
+  pub whole : ElementList
+  pub spelled : IsSpelled syntax octets whole
+  pub kept_is : kept ≡ cut_out kept_attributes whole
+  pub other_is : other ≡ has_other kept_attributes whole
+
+kept_in : (syntax : Syntax) (octets : List ℕ) (kept : ElementList) (other : Bool) → IsSifted syntax kept_attributes octets (Kept kept other)
+    → WasKept syntax octets kept other
+kept_in syntax octets kept other (inl x) =
+    (let same = x.2 in record { whole = x.0; spelled = x.1; kept_is = cc; other_is = cc })
+kept_in syntax octets kept other (inr x) = (let no = x.2 in absurd cc)
+
+module _ (limits : Limits) (records : List Record) (syntax : Syntax) (held : HeldMessage) (m : Message) (h : StandsFor syntax held m) where
+  pub stored_unread : (answer : Answer) (fault : ReadFault) → held.body ≡ Sifted answer → answer ≡ Fault fault
+      → ((first : ReadFault) → IsFaulty syntax m.octets first → reading syntax m.octets ≡ Err first)
+      → stored limits records m syntax ≡ (0xC000, [])
+  stored_unread answer fault is e law =
+      let faulty = faulty_in syntax m.octets fault (subst (IsSifted syntax kept_attributes m.octets) e (is_answer syntax held m h answer is)) in
+      unread limits records m syntax (not_over syntax held m h answer is) (ap result_ok (law faulty.0 faulty.1))
+
+  pub kept_of_it : (answer : Answer) (kept : ElementList) (other : Bool) → held.body ≡ Sifted answer → answer ≡ Kept kept other
+      → WasKept syntax m.octets kept other
+  kept_of_it answer kept other is e =
+      kept_in syntax m.octets kept other (subst (IsSifted syntax kept_attributes m.octets) e (is_answer syntax held m h answer is))
+
+  module _ (answer : Answer) (kept : ElementList) (other : Bool) (is : held.body ≡ Sifted answer) (e : answer ≡ Kept kept other)
+      (law : (d : ElementList) → IsSpelled syntax m.octets d → reading syntax m.octets ≡ Ok d) where
+    named_is : let w = kept_of_it answer kept other is e in is_named held.command kept ≡ is_named m.command w.whole
+    named_is =
+        let w = kept_of_it answer kept other is e in
+        ap (is_named held.command) w.kept_is ∙ named_kept held.command w.whole ∙ ap (λ (c : Command). is_named c w.whole) h.command
+
+    pub stored_unnamed : None ≡ provided (is_named held.command kept) (instance_in kept) → stored limits records m syntax ≡ (0xA900, [])
+    stored_unnamed none =
+        let w = kept_of_it answer kept other is e in
+        unnamed limits records m syntax w.whole (not_over syntax held m h answer is) (law w.whole w.spelled)
+        (sym named_is ∙ not_provided (is_named held.command kept) (instance_in kept) none)
+
+    pub stored_kept : (sent : Instance) → Some sent ≡ provided (is_named held.command kept) (instance_in kept)
+        → instance_stored limits records other sent ≡ stored limits records m syntax
+    stored_kept sent some =
+        let w = kept_of_it answer kept other is e in
+        let named = provided_some (is_named held.command kept) (instance_in kept) sent (sym some) in
+        ap (instance_stored limits records other) (sym named.1)
+        ∙ ap (λ (k : ElementList). instance_stored limits records other (instance_in k)) w.kept_is
+        ∙ ap (λ (b : Bool). instance_stored limits records b (instance_in (cut_out kept_attributes w.whole))) w.other_is
+        ∙ sym (kept_decides limits records w.whole)
+        ∙ sym (handed_on limits records m syntax w.whole (not_over syntax held m h answer is) (law w.whole w.spelled) (sym named_is ∙ named.0))

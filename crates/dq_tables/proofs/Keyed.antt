@@ -1,0 +1,88 @@
+-- The one row at a place, among the rows of its kind and institution.
+use Rattle.std.proofs.Common.{◌≡◌, ℕ, zero, suc, Bool, true, false, ◌&&◌, List, [], ◌∷◌, take, drop, filter, find, slice_get, Option, Some, None, option_to_list, refl, sym, ap, ◌∙◌, if◌then◌else◌}
+use Rattle.std.specs.Str.{bytes_eq}
+use Rattle.std.proofs.lemmas.List.Elements.{filter_agree}
+use Rattle.dq_tables.specs.declared.choice.Choice.{Choice}
+use Rattle.dq_tables.specs.declared.row.Kind.TheVariants.{Study}
+use Rattle.dq_tables.specs.declared.row.Row.{Row}
+use Rattle.dq_tables.specs.Rows.{IsRising, RowPlace, place, record_of}
+use Rattle.dq_tables.specs.Records.{data_set_of}
+use Rattle.dq_tables.specs.Labels.{patient_in, day_in}
+use Rattle.dq_tables.specs.Finding.{row_at, rows_of, is_of}
+use Rattle.dq_tables.specs.Choosing.{is_none_or, has_labels, is_chosen, studies_in}
+use Rattle.dq_tables.proofs.Order.{is_at}
+use Rattle.dq_tables.proofs.InOrder.{row_at_is, at_is_found}
+use Rattle.dq_tables.proofs.Members.{one_at}
+
+pub both_tests : {X : Type 0} (p q : X → Bool) (xs : List X) → filter q (filter p xs) ≡ filter (λ x. p x && q x) xs
+both_tests p q [] = refl
+both_tests p q (x ∷ xs) =
+    elim (p x) as (λ b. filter q (if b then x ∷ filter p xs else filter p xs) ≡ (if b && q x then x ∷ filter (λ y. p y && q y) xs else filter (λ y. p y && q y) xs)) [
+      | true ↦ ap (λ l. if q x then x ∷ l else l) (both_tests p q xs)
+      | false ↦ both_tests p q xs
+    ]
+
+one_taken : {X : Type 0} (xs : List X) (i : ℕ) → take 1 (drop i xs) ≡ option_to_list (slice_get xs i)
+one_taken [] zero = refl
+one_taken [] (suc i) = refl
+one_taken (x ∷ xs) zero = refl
+one_taken (x ∷ xs) (suc i) = one_taken xs i
+
+none_step : {X : Type 0} (p : X → Bool) (x : X) (xs : List X) (b : Bool) → p x ≡ b → find p (x ∷ xs) ≡ None → (find p xs ≡ None → filter p xs ≡ [])
+    → filter p (x ∷ xs) ≡ []
+none_step p x xs true h e on = absurd (let f = rw h at e in cc)
+none_step p x xs false h e on = rw h (on (rw h at e))
+
+none_passes : {X : Type 0} (p : X → Bool) (xs : List X) → find p xs ≡ None → filter p xs ≡ []
+none_passes p [] e = refl
+none_passes p (x ∷ xs) e = none_step p x xs (p x) refl e (none_passes p xs)
+
+alone : (p : RowPlace) (rows : List Row) (found : Option Row) → IsRising rows → row_at p.kind p.institution p.key rows ≡ found
+    → filter (is_at p) rows ≡ option_to_list found
+alone p rows None rising found = none_passes (is_at p) rows (sym (row_at_is p rows) ∙ found)
+alone p rows (Some row) rising found = one_at p rows row rising found
+
+module _ (institution uid : List ℕ) (rows : List Row) (rising : IsRising rows) where
+  abbrev keyed : Row → Bool
+  keyed row = bytes_eq row.key uid
+
+  abbrev here : RowPlace
+  here = place Study institution uid
+
+  -- the studies with the key are the one that is found, if it is
+  keyed_is : filter keyed (rows_of Study institution rows) ≡ option_to_list (row_at Study institution uid rows)
+  unfolding rows_of
+  keyed_is =
+      both_tests (is_of Study institution) keyed rows
+      ∙ filter_agree (λ (row : Row). is_of Study institution row && keyed row) (is_at here) (at_is_found here) rows
+      ∙ alone here rows (row_at Study institution uid rows) rising refl
+
+  pub keyed_there : (i : ℕ) → row_at Study institution uid rows ≡ slice_get rows i → take 1 (drop i rows) ≡ filter keyed (rows_of Study institution rows)
+  keyed_there i found = one_taken rows i ∙ ap option_to_list (sym found) ∙ sym keyed_is
+
+  pub keyed_none : row_at Study institution uid rows ≡ None → [] ≡ filter keyed (rows_of Study institution rows)
+  keyed_none found = ap option_to_list (sym found) ∙ sym keyed_is
+
+abbrev takes : Choice → Row → Bool
+takes choice row = is_chosen choice (record_of row)
+
+twice : (a b : Bool) → (a && (a && b)) ≡ (a && b)
+twice true b = refl
+twice false b = refl
+
+abbrev labels_are : Choice → Row → Bool
+labels_are choice row = has_labels choice (patient_in row.kind (data_set_of row.octets)) (day_in row.kind (data_set_of row.octets))
+
+by_key : (choice : Choice) (uid : List ℕ) → choice.uid ≡ Some uid → (row : Row) → takes choice row ≡ (bytes_eq row.key uid && labels_are choice row)
+unfolding is_chosen
+by_key choice uid is row = ap (λ (u : Option (List ℕ)). is_none_or (bytes_eq row.key) u && labels_are choice row) is
+
+-- those that are chosen are among those with the key that is asked for
+pub chosen_keyed : (choice : Choice) (institution uid : List ℕ) (rows : List Row) → choice.uid ≡ Some uid
+    → filter (takes choice) (filter (λ (row : Row). bytes_eq row.key uid) (rows_of Study institution rows)) ≡ studies_in choice institution rows
+unfolding studies_in
+chosen_keyed choice institution uid rows is =
+    both_tests (λ (row : Row). bytes_eq row.key uid) (takes choice) (rows_of Study institution rows)
+    ∙ filter_agree (λ (row : Row). bytes_eq row.key uid && takes choice row) (takes choice)
+    (λ (row : Row). ap (λ (b : Bool). bytes_eq row.key uid && b) (by_key choice uid is row) ∙ twice (bytes_eq row.key uid) (labels_are choice row)
+    ∙ sym (by_key choice uid is row)) (rows_of Study institution rows)
