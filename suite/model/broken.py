@@ -140,24 +140,24 @@ def values_of(body):
         at += 4 + length
 
 
-def fragmented(octets, together):
-    """A whole stream with each fragment of more than one octet as fragments of one, so many in a PDU together."""
+def fragmented(octets, together, length=1):
+    """Whole PDUs with each fragment of more octets than that as fragments of so many, so many in a PDU together."""
     out, at = b"", 0
     while at < len(octets):
-        kind, length = octets[at], big(octets[at + 2:at + 6])
-        body = octets[at + 6:at + 6 + length]
-        out += in_ones(body, together) if kind == P_DATA else octets[at:at + 6 + length]
-        at += 6 + length
+        kind, end = octets[at], at + 6 + big(octets[at + 2:at + 6])
+        if end > len(octets):
+            raise ValueError("a PDU is not whole")
+        out += in_fragments(octets[at + 6:end], together, length) if kind == P_DATA else octets[at:end]
+        at = end
     return out
 
 
-def in_ones(body, together):
-    ones = []
+def in_fragments(body, together, length):
+    values = []
     for context, control, fragment in values_of(body):
-        last = len(fragment) - 1
-        ones += [value(context, control if at == last else control & 1, fragment[at:at + 1]) for at in range(len(fragment))]
-        ones += [] if fragment else [value(context, control, b"")]
-    return b"".join(pdu(P_DATA, b"".join(ones[at:at + together])) for at in range(0, len(ones), together))
+        parts = [fragment[at:at + length] for at in range(0, len(fragment), length)] or [b""]
+        values += [value(context, control & 1, part) for part in parts[:-1]] + [value(context, control, parts[-1])]
+    return b"".join(pdu(P_DATA, b"".join(values[at:at + together])) for at in range(0, len(values), together))
 
 
 def streams_of(lines):

@@ -7,7 +7,7 @@ crates' code. Where octets have several faults, the first in their order counts,
 `element` tests.
 
 Use: data_sets.py < NAME.in. It prints a line for each line: `fault N`, or the canonical spellings in Explicit and in
-Implicit. On a bad line it tells the line on standard error, and exits with 3.
+Implicit; where the line asks to sift, what is kept, in Explicit, and whether there was another element. On a bad line it tells the line on standard error, and exits with 3.
 """
 import re
 import sys
@@ -196,17 +196,47 @@ def answer(octets, syntax):
     return " ".join(canonical(data_set, to).hex() or "-" for to in (EXPLICIT, IMPLICIT))
 
 
+SEQUENCES = {(0x0008, 0x1110), (0x0008, 0x1115), (0x0010, 0x0020), (0x0040, 0x0270), (0x0040, 0x0275)}
+STORAGE_TEXT = """
+0008: 0005 0008 0016 0018 0020 0021 0023 0030 0031 0033 0050 0060 0090 1030 103E
+0010: 0010 0020 0021 0030 0040
+0018: 0015
+0020: 000D 000E 0010 0011 0013
+0028: 0010 0011
+"""
+LISTS = {
+    "none": set(),
+    "sequences": SEQUENCES,
+    "storage": {(int(group, 16), int(number, 16)) for group, rest in re.findall(r"(\w+):(.*)", STORAGE_TEXT)
+                for number in rest.split()},
+}
+
+
+def sifted(octets, syntax, tags):
+    """What a list of tags leaves, and whether there was another element; however the octets are cut."""
+    try:
+        data_set = elements(Octets(octets), False, syntax, 0)
+    except Fault as fault:
+        return f"fault {fault.args[0]}"
+    kept = [element for element in data_set if element[0] in tags]
+    return f"{canonical(kept, EXPLICIT).hex() or '-'} {'all' if len(kept) == len(data_set) else 'others'}"
+
+
+LINE = re.compile(rf"(?:sift ({'|'.join(LISTS)}) [0-9]+ [0-9]+ )?(implicit|explicit) (-|([0-9A-Fa-f]{{2}})+)")
+
+
 def main():
     for number, line in enumerate(sys.stdin, 1):
         line = line.removesuffix("\n")
         if not line or line.startswith("#"):
             continue
-        found = re.fullmatch(r"(implicit|explicit) (-|([0-9A-Fa-f]{2})+)", line)
+        found = LINE.fullmatch(line)
         if not found:
             print(f"line {number}", file=sys.stderr)
             return 3
-        octets = b"" if found[2] == "-" else bytes.fromhex(found[2])
-        print(answer(octets, found[1]))
+        name, syntax, digits = found[1], found[2], found[3]
+        octets = b"" if digits == "-" else bytes.fromhex(digits)
+        print(sifted(octets, syntax, LISTS[name]) if name else answer(octets, syntax))
     return 0
 
 

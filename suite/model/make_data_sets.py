@@ -4,8 +4,11 @@
     faults          one element with every two of its faults, alone and 1, 15 and 16 sequences deep, in both syntaxes
     representations each tag of the dictionary, and an unknown one, with each value representation
     cuts FILE       the data sets of a file of lines, cut at each octet
+    sifted FILE     all of these, each sifted by three lists: whole, octet by octet, and in pieces of any length
+    pieces FILE     the data sets of a file of lines, sifted by each list in pieces of 1, 2, 3 and 7 octets, and whole
 """
 import itertools
+import random
 import sys
 
 import data_sets
@@ -13,6 +16,7 @@ from data_sets import DICTIONARY, EXPLICIT, IMPLICIT, LONG, SHORT, little, spell
 
 SEQUENCE = (0x0040, 0x0275)
 BEFORE = (0x0008, 0x0050)
+NAMES = sorted(data_sets.LISTS)
 ITEM = spelled_tag((0xFFFE, 0xE000))
 
 
@@ -70,17 +74,38 @@ def representation_lines():
             yield EXPLICIT, header(tag, letters, len(value), EXPLICIT) + value
 
 
-def cut_lines(path):
+def whole_lines(path):
     for line in open(path):
         words = line.split()
         if words and not line.startswith("#") and words[1] != "-":
-            octets = bytes.fromhex(words[1])
-            for at in range(len(octets)):
-                yield words[0], octets[:at]
+            yield words[0], bytes.fromhex(words[1])
+
+
+def cut_lines(path):
+    for syntax, octets in whole_lines(path):
+        for at in range(len(octets)):
+            yield syntax, octets[:at]
+
+
+def sifted_lines(path):
+    chance = random.Random(1)
+    made = itertools.chain(fault_lines(), representation_lines(), cut_lines(path))
+    for number, (syntax, octets) in enumerate(made):
+        count = max(len(octets), 1)
+        cuts = [(count, 1), (1, 1), (chance.randint(1, count), chance.randint(1, count))]
+        for turn, (first, each) in enumerate(cuts):
+            yield f"sift {NAMES[(number + turn) % len(NAMES)]} {first} {each} {syntax}", octets
+
+
+def piece_lines(path):
+    for syntax, octets in whole_lines(path):
+        for name, each in itertools.product(NAMES, (1, 2, 3, 7, len(octets))):
+            yield f"sift {name} {each} {each} {syntax}", octets
 
 
 def main():
-    lines = {"faults": fault_lines, "representations": representation_lines, "cuts": cut_lines}[sys.argv[1]]
+    lines = {"faults": fault_lines, "representations": representation_lines, "cuts": cut_lines,
+             "sifted": sifted_lines, "pieces": piece_lines}[sys.argv[1]]
     for syntax, octets in lines(*sys.argv[2:]):
         print(syntax, octets.hex() or "-")
     return 0

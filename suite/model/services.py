@@ -82,10 +82,14 @@ def store(records, command, octets, syntax):
     parts = ((records.studies, study, b"", "STUDY"), (records.series, series, study, "SERIES"),
              (records.images, image, series, "IMAGE"))
     for place, key, above, level in parts:
-        kept = [e for e in sent if e[0] in matching.KEPT[level] or e[0] == matching.CHARACTER_SET]
-        place.setdefault(key, (above, kept))
-    kept = [place[key][1] for place, key, _, _ in parts]
+        place.setdefault(key, (above, attributes_at(level, sent)))
+    kept = [attributes_at(level, place[key][1]) for place, key, _, level in parts]
     return SUCCESS if all(any(element in one for one in kept) for element in sent) else B006
+
+
+def attributes_at(level, data_set):
+    """The attributes of a data set that are kept at a level."""
+    return [e for e in data_set if e[0] in matching.KEPT[level] or e[0] == matching.CHARACTER_SET]
 
 
 def with_element(data_set, element):

@@ -175,9 +175,9 @@ def fragments(context, is_command, octets, maximum):
     """One PDV a PDU, each as long as the peer takes (PS3.8 annex D.1 and annex E)."""
     longest = min(maximum or 16384, 16384) - 6
     longest -= longest % 2
-    out = b""
+    out = []
     for at in range(0, max(len(octets), 1), longest):
         part = octets[at:at + longest]
         control = (1 if is_command else 0) | (2 if at + longest >= len(octets) else 0)
-        out += pdu(P_DATA, (len(part) + 2).to_bytes(4, "big") + bytes([context, control]) + part)
-    return out
+        out.append(pdu(P_DATA, (len(part) + 2).to_bytes(4, "big") + bytes([context, control]) + part))
+    return b"".join(out)
