@@ -2,6 +2,7 @@ mod Acceptances
 mod Contexts
 mod Ends
 mod FromHere
+mod HeldOctets
 mod InTurn
 mod Loops
 mod OneByOne

@@ -55,7 +55,7 @@ stands_sound (code.Open agreement holding) a s unspent =
     subst (λ (x : Held). IsTrue (is_sound x)) (sym s.1) (subst (λ o. IsTrue (is_none o)) (sym (assembles_fault holding s.0 s.2)) unspent)
 stands_sound (code.Closed agreement) a s unspent = subst (λ (x : Held). IsTrue (is_sound x)) (sym s) refl
 
-ids_same : (contexts : List AgreedContext) → map (λ (c : AgreedContext). c.id) contexts ≡ ids_accepted (map accepted_context contexts)
+pub ids_same : (contexts : List AgreedContext) → map (λ (c : AgreedContext). c.id) contexts ≡ ids_accepted (map accepted_context contexts)
 ids_same [] = refl
 ids_same (c ∷ cs) = ap (λ (ids : List ℕ). c.id ∷ ids) (ids_same cs)
 

@@ -1,5 +1,6 @@
 //! Laws of the definitions, each as what a function ensures that does nothing.
-ghost use Rattle.std.specs.Prelude.{◌≡◌, ◌≢◌, ℕ, true, IsTrue, List, [], ◌∷◌, ◌++◌, map, filter, Contains, Option, Some, None, if◌then◌else◌};
+ghost use Rattle.std.specs.Prelude.{◌≡◌, ◌≢◌, ◌≤◌, ℕ, true, IsTrue, List, [], ◌∷◌, ◌++◌};
+ghost use Rattle.std.specs.Prelude.{length, map, filter, Contains, Option, Some, None, if◌then◌else◌};
 ghost use Rattle.dq_dataset.specs.declared.header.Syntax.{Syntax};
 ghost use Rattle.dq_dataset.specs.declared.header.Syntax.TheVariants.{Explicit};
 ghost use Rattle.dq_pdu.specs.declared.pdu.Pdu.{Pdu};
@@ -8,11 +9,16 @@ ghost use Rattle.dq_pdu.specs.declared.pdu.Request.{Request};
 ghost use Rattle.dq_pdu.specs.declared.pdu.ProposedContext.{ProposedContext};
 ghost use Rattle.dq_pdu.specs.declared.pdu.AnsweredContext.{AnsweredContext};
 ghost use Rattle.dq_pdu.specs.declared.fault.PduFault.{PduFault};
+ghost use Rattle.dq_pdu.specs.declared.pdu.Pdv.{Pdv};
 ghost use Rattle.dq_pdu.specs.Octets.{are_distinct};
 ghost use Rattle.dq_pdu.specs.Spelling.{Spells};
 ghost use Rattle.dq_pdu.specs.Writing.{IsWritable};
 ghost use Rattle.dq_pdu.specs.Acceptances.{AreOctets};
 ghost use Rattle.dq_pdu.specs.Stream.{pdus_in};
+ghost use Rattle.dq_dimse.specs.Holding.{Holding, WasGiven as WasGivenPdvs, octets_gathered, gathered_limit};
+ghost use Rattle.dq_assoc.specs.declared.agreement.Agreement.{Agreement};
+ghost use Rattle.dq_assoc.specs.declared.association.Held.TheVariants as code;
+ghost use Rattle.dq_assoc.specs.Holding.{WasGiven, accepted_by};
 ghost use Rattle.dq_assoc.specs.declared.classes.SopClass.{SopClass};
 ghost use Rattle.dq_assoc.specs.declared.agreement.AgreedContext.{AgreedContext};
 ghost use Rattle.dq_assoc.specs.Associations.{Held};
@@ -142,6 +148,18 @@ pub fn pdus_in_parts()
     ensures association { (pdus more : List Pdu) (association : Held) →
         association_from association (pdus ++ more)
         ≡ association_from (association_from association pdus) more }
+{}
+
+/// The assembler of an open association was given the values of its PDUs, on the contexts that are
+/// agreed on. So of an unfinished message it holds at most 16,384 octets of a command set, or
+/// 1,048,576 of a data set, besides the sieve of a C-STORE (`dq_dimse::laws`).
+pub fn unfinished_messages_are_short()
+    ensures values { (pdus : List Pdu) (agreement : Agreement) (holding : Holding) →
+        WasGiven pdus (code.Open agreement holding) →
+        (pdvs : List Pdv) × WasGivenPdvs (accepted_by agreement) pdvs holding }
+    ensures held { (pdus : List Pdu) (agreement : Agreement) (holding : Holding) →
+        WasGiven pdus (code.Open agreement holding) →
+        length (octets_gathered holding.gathered) ≤ gathered_limit holding.gathered }
 {}
 
 /// What PDUs after the first lead to that are taken one by one is read off the inputs that they add

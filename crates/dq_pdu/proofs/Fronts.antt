@@ -1,7 +1,7 @@
 -- What stands at the front of octets, by the tests on them.
 use Rattle.std.proofs.Common.{◌≡◌, ℕ, ◌+◌, ◌<◌, ◌≤◌, Bool, true, false, cond, ltb, List, ◌++◌, length, get_or, take, drop, Option, Some, None, refl, sym, ap, ◌∙◌, arith, length-append, length-drop, inl, inr}
 use Rattle.std.specs.Int.{w32, from_be_bytes}
-use Rattle.std.proofs.lemmas.Bool.{cases_lt, ltb-false, lt-ltb, le-ltb}
+use Rattle.std.proofs.lemmas.Bool.{cases_lt, ltb-true, ltb-false, lt-ltb, le-ltb}
 use Rattle.std.proofs.lemmas.List.{get_or_append_left, take-append-le, drop-append-le}
 use Rattle.dq_pdu.specs.declared.reading.Front.{Front}
 use Rattle.dq_pdu.specs.declared.reading.Front.TheVariants.{Partial, Faulty, Whole}
@@ -117,6 +117,25 @@ fault_of-partial s e =
     elim (cases_lt (length s) 6) [
       | inl few ↦ rw (lt-ltb (length s) 6 few) refl
       | inr six ↦ rw (le-ltb (length s) 6 six) (partial_fault (unknown s) (long s) (short s) (one_pdu s) (body_length s + 6) (sym (front-enough s six) ∙ e))
+    ]
+
+-- what is part of a PDU is less than the longest one
+partial_tests : (u l t : Bool) (read : Option Pdu) (n : ℕ) → chosen u l t read n ≡ Partial → (l ≡ false) × (t ≡ true)
+partial_tests true l t read n e = absurd cc
+partial_tests false true t read n e = absurd cc
+partial_tests false false true read n e = (refl, refl)
+partial_tests false false false None n e = absurd cc
+partial_tests false false false (Some p) n e = absurd cc
+
+pub partial_is_short : (s : List ℕ) → front s ≡ Partial → length s < 6 + 65536
+partial_is_short s e =
+    elim (cases_lt (length s) 6) [
+      | inl few ↦ omega arith
+      | inr six ↦
+          let t = partial_tests (unknown s) (long s) (short s) (one_pdu s) (body_length s + 6) (sym (front-enough s six) ∙ e) in
+          let fits : body_length s ≤ 65536 = ltb-false _ _ t.0 in
+          let few : length (drop 6 s) < body_length s = ltb-true _ _ t.1 in
+          omega (arith, fits, few, length-drop 6 s)
     ]
 
 -- ---- octets that go on

@@ -1,15 +1,16 @@
 -- What an inbox holds, and the stream that it stands for.
-use Rattle.std.proofs.Common.{◌≡◌, ℕ, List, [], ◌∷◌, ◌++◌, length, Option, Some, None, refl, sym, ap, ◌∙◌, arith}
+use Rattle.std.proofs.Common.{◌≡◌, ℕ, ◌+◌, ◌<◌, List, [], ◌∷◌, ◌++◌, length, Option, Some, None, refl, sym, ap, ◌∙◌, arith}
 use Rattle.std.proofs.lemmas.List.{append-nil}
 use Rattle.dq_pdu.specs.declared.fault.PduFault.{PduFault}
 use Rattle.dq_pdu.specs.declared.reading.Front.{Front}
 use Rattle.dq_pdu.specs.declared.reading.Front.TheVariants.{Partial, Faulty, Whole}
+use Rattle.dq_pdu.specs.declared.inbox.Held.{Held}
 use Rattle.dq_pdu.specs.declared.inbox.Held.TheVariants.{Reading, Stopped, Spent}
 use Rattle.dq_pdu.specs.Reading.{front}
 use Rattle.dq_pdu.specs.Stream.{pdus_in, with_list, continued, fault_of}
 use Rattle.dq_pdu.specs.Holding.{held_at, holding, HoldsPart}
-use Rattle.dq_pdu.specs.Inboxes.{fault_in}
-use Rattle.dq_pdu.proofs.Fronts.{fault_of-faulty}
+use Rattle.dq_pdu.specs.Inboxes.{fault_in, octets_in}
+use Rattle.dq_pdu.proofs.Fronts.{fault_of-faulty, partial_is_short}
 use Rattle.dq_pdu.proofs.PduLaws.{pdus_partial, pdus_in-append}
 use Rattle.dq_pdu.proofs.StreamLaws.{HasNoFront, known}
 
@@ -78,3 +79,18 @@ not_spent stream e = not_spent_at (pdus_in stream).fault (pdus_in stream).rest e
 
 pub fault_held : (stream : List ℕ) → fault_in (holding stream) ≡ (pdus_in stream).fault
 fault_held stream = fault_held_at (pdus_in stream).fault (pdus_in stream).rest
+
+-- ---- how much is held
+
+pub part_is_short : (held : Held) → HoldsPart held → length (octets_in held) < 6 + 65536
+part_is_short (Reading rest) part = partial_is_short rest part
+part_is_short (Stopped fault) part = omega arith
+part_is_short Spent part = omega arith
+
+pub held_is_short : (stream : List ℕ) → length (octets_in (holding stream)) < 6 + 65536
+held_is_short stream = part_is_short (holding stream) (holding-part stream)
+
+pub rest_is_short : (stream : List ℕ) → (pdus_in stream).fault ≡ None → length (pdus_in stream).rest < 6 + 65536
+rest_is_short stream e =
+    let k = known stream in
+    partial_is_short (pdus_in stream).rest (part_by (pdus_in stream).rest (front (pdus_in stream).rest) refl k.ends (sym k.fault ∙ e))

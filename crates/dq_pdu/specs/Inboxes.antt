@@ -1,6 +1,6 @@
 -- An inbox and the stream that it was fed, in pieces of any length. Contracts speak of `InboxAfter`
 -- and of its laws alone.
-use Rattle.std.specs.Prelude.{◌≡◌, ℕ, List, Option, Some, None}
+use Rattle.std.specs.Prelude.{◌≡◌, ℕ, List, [], Option, Some, None}
 use Rattle.dq_pdu.specs.declared.fault.PduFault.{PduFault}
 use Rattle.dq_pdu.specs.declared.inbox.Held.{Held}
 use Rattle.dq_pdu.specs.declared.inbox.Held.TheVariants.{Reading, Stopped, Spent}
@@ -15,3 +15,9 @@ abbrev pub fault_in : Held → Option PduFault
 fault_in (Reading rest) = None
 fault_in (Stopped fault) = Some fault
 fault_in Spent = None
+
+-- the octets that an inbox holds: a PDU of which the end is still to come
+abbrev pub octets_in : Held → List ℕ
+octets_in (Reading rest) = rest
+octets_in (Stopped fault) = []
+octets_in Spent = []

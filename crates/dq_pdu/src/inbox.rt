@@ -1,7 +1,8 @@
-ghost use Rattle.std.specs.Prelude.{◌≡◌, List, ℕ, ◌++◌, [], ◌↔◌, IfOk, IfErr, OnOk, OnErr, IsErrOf, IsOk, IsOkUnless};
+ghost use Rattle.std.specs.Prelude.{◌≡◌, List, ℕ, ◌++◌, [], ◌↔◌, IfOk, IfErr, OnOk, OnErr, IsErrOf, IsOk, IsOkUnless, ◌<◌, ◌+◌, length};
 ghost use Rattle.dq_pdu.specs.Stream.{pdus_in};
 ghost use Rattle.dq_pdu.specs.Holding.{holding};
-ghost use Rattle.dq_pdu.specs.Inboxes.{InboxAfter};
+ghost use Rattle.dq_pdu.specs.Inboxes.{InboxAfter, octets_in};
+ghost use Rattle.dq_pdu.specs.Numbers.{longest_body, pdu_header};
 
 use crate::fault::{InboxError, PduFault};
 use crate::numbers::{LONGEST_BODY, PDU_HEADER};
@@ -103,6 +104,8 @@ impl Inbox {
         ensures not_spent { (stream : List ℕ) → InboxAfter stream self.old
             → IfErr result (λ e. e ≡ InboxError.NoMemory) }
         ensures err { OnErr result (self.new ≡ Held.Spent) }
+        // Whatever it was fed, it holds less than a PDU of the greatest length.
+        ensures few { length (octets_in self.new) < pdu_header + longest_body }
     {
         match mem::replace(&mut self.held, Held::Spent) {
             Held::Spent => Err(InboxError::Spent),

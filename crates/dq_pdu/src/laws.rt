@@ -1,5 +1,5 @@
 //! What holds of all PDUs and of all streams. Each law is what a function with no body ensures.
-ghost use Rattle.std.specs.Prelude.{◌≡◌, ◌≤◌, ◌+◌, ℕ, Bool, List, [], ◌++◌, length, take, Some, None, IsTrue};
+ghost use Rattle.std.specs.Prelude.{◌≡◌, ◌≤◌, ◌<◌, ◌+◌, ℕ, Bool, List, [], ◌++◌, length, take, Some, None, IsTrue};
 ghost use Rattle.std.specs.List.{flat_map, list_all};
 ghost use Rattle.dq_pdu.specs.declared.fault.PduFault.{PduFault};
 ghost use Rattle.dq_pdu.specs.declared.inbox.Held.{Held};
@@ -9,13 +9,13 @@ ghost use Rattle.dq_pdu.specs.declared.pdu.Pdu.TheVariants.{Request as request_p
 ghost use Rattle.dq_pdu.specs.declared.pdu.Request.{Request};
 ghost use Rattle.dq_pdu.specs.declared.pdu.Accept.{Accept};
 ghost use Rattle.dq_pdu.specs.declared.reading.Front.TheVariants.{Whole};
-ghost use Rattle.dq_pdu.specs.Numbers.{longest_body, pdv_header};
+ghost use Rattle.dq_pdu.specs.Numbers.{longest_body, pdu_header, pdv_header};
 ghost use Rattle.dq_pdu.specs.Octets.{is_padding, unpadded};
 ghost use Rattle.dq_pdu.specs.Spelling.{Spells};
 ghost use Rattle.dq_pdu.specs.Reading.{front};
 ghost use Rattle.dq_pdu.specs.Writing.{spelling, p_data, is_bare, IsWritable, AreWritable};
 ghost use Rattle.dq_pdu.specs.Stream.{Splits, pdus_in, fault_of, with_list, continued};
-ghost use Rattle.dq_pdu.specs.Inboxes.{InboxAfter, fault_in};
+ghost use Rattle.dq_pdu.specs.Inboxes.{InboxAfter, fault_in, octets_in};
 ghost use Rattle.dq_pdu.specs.Acceptances.{AreOctets, AreContextIds, IsReceived, IsAnswer};
 
 /// Octets spell at most one PDU.
@@ -102,6 +102,15 @@ pub fn an_inbox_stands_for_its_stream()
     ensures not_spent { (stream : List ℕ) → InboxAfter stream Spent → ⊥ }
     ensures fault { (stream : List ℕ) (inbox : Held)
         → InboxAfter stream inbox → fault_in inbox ≡ (pdus_in stream).fault }
+{}
+
+/// What is left of a stream that has no fault is less than a PDU of the greatest length, and so is
+/// what an inbox holds, whatever it was fed: at most 65,541 octets (PS3.8 section 9.3.1).
+pub fn a_rest_is_less_than_a_pdu()
+    ensures rest { (stream : List ℕ) → (pdus_in stream).fault ≡ None
+        → length (pdus_in stream).rest < pdu_header + longest_body }
+    ensures held { (stream : List ℕ) (inbox : Held) → InboxAfter stream inbox
+        → length (octets_in inbox) < pdu_header + longest_body }
 {}
 
 /// There are at most 128 contexts: their ids are odd octets of their own (PS3.8 section 9.3.2.2).

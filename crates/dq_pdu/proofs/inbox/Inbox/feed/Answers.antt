@@ -1,9 +1,11 @@
-use Rattle.std.proofs.Common.{◌≡◌, ◌++◌, sym, ap, subst, ◌∙◌}
+use Rattle.std.proofs.Common.{◌≡◌, ◌++◌, ◌+◌, ◌<◌, length, sym, ap, subst, ◌∙◌}
 use Rattle.std.proofs.lemmas.List.{append-nil}
 use Rattle.std.proofs.lemmas.Bool.{eqb-true}
 use Rattle.dq_pdu.specs.Stream.{Pdus, pdus_in}
+use Rattle.dq_pdu.specs.Inboxes.{octets_in}
+use Rattle.dq_pdu.specs.declared.inbox.Held.TheVariants.{Reading}
 use Rattle.dq_pdu.specs.Holding.{held_at, HoldsPart}
-use Rattle.dq_pdu.proofs.InboxLaws.{reading_on, stopped_on, holding-part, idle_exact, none_by_length, reading_is}
+use Rattle.dq_pdu.proofs.InboxLaws.{reading_on, stopped_on, holding-part, idle_exact, none_by_length, reading_is, part_is_short, held_is_short}
 use Rattle.dq_pdu.proofs.inbox.Inbox.feed.Goals as goal
 
 pub returns-then-is_empty-clause-exact : goal.returns-then-is_empty-clause-exact
@@ -43,3 +45,11 @@ pub returns-in_ok-held-in-Reading-clause-stands : goal.returns-in_ok-held-in-Rea
 returns-in_ok-held-in-Reading-clause-stands c = λ stream a.
     let u = reading_on stream c.args.piece.now c.in-Reading.rest (c.in-Reading.ensures.value ∙ c.self.view_is ∙ a.holds) in
     record { holds = c.in_ok-held-in-Reading.ensures.held ∙ sym (ap (λ (found : Pdus). held_at found.fault found.rest) u) }
+
+pub returns-then-is_empty-clause-few : goal.returns-then-is_empty-clause-few
+returns-then-is_empty-clause-few c = part_is_short (Reading c.in-Reading.rest) (subst HoldsPart (sym c.in-Reading.ensures.value) c.self.invariant)
+
+pub returns-in_ok-held-in-Reading-clause-few : goal.returns-in_ok-held-in-Reading-clause-few
+returns-in_ok-held-in-Reading-clause-few c =
+    subst (λ h. length (octets_in h) < 6 + 65536) (sym c.in_ok-held-in-Reading.ensures.held) (held_is_short
+    (c.in-Reading.rest ++ c.args.piece.now))
