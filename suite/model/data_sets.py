@@ -51,6 +51,7 @@ IMPLICIT, EXPLICIT = "implicit", "explicit"
 UNDEFINED = 0xFFFFFFFF
 ITEM, ITEM_END, SEQUENCE_END = (0xFFFE, 0xE000), (0xFFFE, 0xE00D), (0xFFFE, 0xE0DD)
 DEEPEST = 16
+LONGEST_KEPT = 67108864
 TRUNCATED, BAD_VR, TAG_ORDER, BAD_ITEM, BAD_UNDEFINED, TOO_DEEP = 1, 2, 3, 4, 5, 6
 
 
@@ -219,7 +220,10 @@ def sifted(octets, syntax, tags):
     except Fault as fault:
         return f"fault {fault.args[0]}"
     kept = [element for element in data_set if element[0] in tags]
-    return f"{canonical(kept, EXPLICIT).hex() or '-'} {'all' if len(kept) == len(data_set) else 'others'}"
+    spelled = canonical(kept, EXPLICIT)
+    if len(spelled) > LONGEST_KEPT:
+        return "large"
+    return f"{spelled.hex() or '-'} {'all' if len(kept) == len(data_set) else 'others'}"
 
 
 LINE = re.compile(rf"(?:sift ({'|'.join(LISTS)}) [0-9]+ [0-9]+ )?(implicit|explicit) (-|([0-9A-Fa-f]{{2}})+)")

@@ -65,6 +65,8 @@ def store(records, command, octets, syntax):
     """C-STORE (PS3.4 annex B): the status; what is new is kept."""
     try:
         sent = read(octets, syntax, OUT_OF_RESOURCES, NOT_UNDERSTOOD)
+        if len(written([element for element in sent if is_kept(element)], EXPLICIT)) > data_sets.LONGEST_KEPT:
+            raise Refused(OUT_OF_RESOURCES)
         uids = [only_uid(sent, tag) for tag in (SOP_CLASS, SOP_INSTANCE, STUDY, SERIES)]
         if None in uids or uids[0] != command.sop_class or uids[1] != command.sop_instance:
             raise Refused(MISMATCH)
@@ -85,6 +87,10 @@ def store(records, command, octets, syntax):
         place.setdefault(key, (above, attributes_at(level, sent)))
     kept = [attributes_at(level, place[key][1]) for place, key, _, level in parts]
     return SUCCESS if all(any(element in one for one in kept) for element in sent) else B006
+
+
+def is_kept(element):
+    return element[0] == matching.CHARACTER_SET or any(element[0] in tags for tags in matching.KEPT.values())
 
 
 def attributes_at(level, data_set):

@@ -7,10 +7,10 @@ ghost use Rattle.dq_core.specs.Answers.{response_octets};
 
 use crate::service::Asked;
 use dq_assoc::SopClass;
-use dq_dataset::{DataSet, Syntax, write};
+use dq_dataset::{DataSet, Syntax, can_be_written, write};
 use dq_dimse::{Command, command_field, status, write_message};
 use dq_list::Listed;
-use dq_match::{Found, can_be_written};
+use dq_match::Found;
 use std::alloc::{AllocError, Global};
 
 /// Whether the response to an operation names an instance (PS3.7 sections 9.3.1.2, 10.3.3.2 and

@@ -14,6 +14,9 @@ pub mod Ends
 pub mod LentLemmas
 pub mod LentAgrees
 pub mod Copies
+pub mod Places
+mod Counted
+pub mod Large
 pub mod FaultStays
 pub mod Edits
 pub mod HeaderFaults

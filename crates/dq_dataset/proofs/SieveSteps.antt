@@ -1,11 +1,10 @@
 -- The steps of a sieve.
-use Rattle.std.proofs.Common.{◌≡◌, ℕ, ◌<◌, false, ◌||◌, List, [], ◌++◌, length, reverse, Some, refl, sym, subst, ◌∙◌, append_assoc, inl, inr, ◌⊎◌}
+use Rattle.std.proofs.Common.{◌≡◌, ℕ, ◌<◌, true, false, ◌||◌, List, [], ◌++◌, length, reverse, Some, refl, sym, subst, ◌∙◌, append_assoc, inl, inr, ◌⊎◌}
 use Rattle.std.specs.Global.{Vec}
-use Rattle.std.proofs.Math.Bool.{or-false}
 use Rattle.std.proofs.lemmas.List.{append-nil}
 use Rattle.dq_dataset.proofs.Types.{Tag, Truncated, Syntax, Filled, no_elements}
 use Rattle.dq_dataset.specs.declared.sieve.Sifted.{Sifted}
-use Rattle.dq_dataset.specs.declared.sieve.Sifted.TheVariants.{Kept, Fault}
+use Rattle.dq_dataset.specs.declared.sieve.Sifted.TheVariants.{Kept, Large, Fault}
 use Rattle.dq_dataset.specs.declared.sieve.Outer.{Outer}
 use Rattle.dq_dataset.specs.declared.sieve.Stage.{Stage}
 use Rattle.dq_dataset.specs.declared.sieve.Stage.TheVariants.{Between, Past, Into, Stopped}
@@ -15,17 +14,19 @@ use Rattle.dq_dataset.specs.Grammar.{no_more}
 use Rattle.dq_dataset.specs.Facts.{IsDataSet}
 use Rattle.dq_dataset.specs.Editing.{cut_out}
 use Rattle.dq_dataset.specs.Sifting.{WalkLeads, IsWalk}
-use Rattle.dq_dataset.specs.Sieve.{IsSifted}
-use Rattle.dq_dataset.specs.Sieving.{OuterSifts, StageSifts, IsStage, GoesOn, HasFed}
+use Rattle.dq_dataset.specs.Sieve.{has_other, IsSifted}
+use Rattle.dq_dataset.specs.Sieving.{judged, OuterSifts, StageSifts, IsStage, GoesOn, HasFed}
 use Rattle.dq_dataset.proofs.SpelledIsSound.{spelled_is_sound}
 use Rattle.dq_dataset.proofs.Edits.{cut_is}
 use Rattle.dq_dataset.proofs.Fronts.{truncated}
 use Rattle.dq_dataset.proofs.Walks.{unfinished}
+use Rattle.dq_dataset.proofs.Large.{judged_kept, sifted_kept}
 
 pub goes_then : (tags : List Tag) (a b c : Outer) (x y z : Stage) (first second : List ℕ) → GoesOn tags a x first b y → GoesOn tags b y second c z
     → GoesOn tags a x (first ++ second) c z
 goes_then tags a b c x y z first second p q = record {
   sound = q.sound;
+  within = λ w. q.within (p.within w);
   syntax = q.syntax ∙ p.syntax;
   sifts = λ octets answer m.
       subst (λ (o : List ℕ). StageSifts tags a x o answer) (sym (append_assoc first second octets))
@@ -33,13 +34,14 @@ goes_then tags a b c x y z first second p q = record {
 }
 
 pub goes_nowhere : (tags : List Tag) (a : Outer) (x : Stage) → IsStage a x → GoesOn tags a x [] a x
-goes_nowhere tags a x sound = record { sound = sound; syntax = refl; sifts = λ octets answer m. m }
+goes_nowhere tags a x sound = record { sound = sound; within = λ w. w; syntax = refl; sifts = λ octets answer m. m }
 
 pub fed_on : (syntax : Syntax) (tags : List Tag) (fed piece : List ℕ) (a b : Outer) (x y : Stage) → HasFed syntax tags fed a x → GoesOn tags a x piece b y
     → HasFed syntax tags (fed ++ piece) b y
 fed_on syntax tags fed piece a b x y f g = record {
   is = g.syntax ∙ f.is;
   sound = g.sound;
+  within = g.within f.within;
   sifts = λ rest answer m.
       subst (λ (o : List ℕ). IsSifted syntax tags o answer) (sym (append_assoc fed piece rest)) (f.sifts (piece ++ rest) answer (g.sifts rest answer m));
 }
@@ -56,23 +58,30 @@ module _ (syntax : Syntax) (tags : List Tag) (fed : List ℕ) (outer : Outer) wh
   kept_here = Kept (as_elements outer.kept.items) outer.other
 
   pub ends_kept : (stage : Stage) → ((octets : List ℕ) (answer : Sifted) → OuterSifts tags outer octets answer → StageSifts tags outer stage octets answer)
-      → HasFed syntax tags fed outer stage → IsSifted syntax tags fed kept_here
-  ends_kept stage between f =
-      let same : kept_here ≡ Kept (as_elements (outer.kept.items ++ [])) (outer.other || false) =
-      λ i. Kept (as_elements (sym (append-nil outer.kept.items) i)) (sym (or-false outer.other) i) in
+      → HasFed syntax tags fed outer stage → outer.large ≡ false → IsSifted syntax tags fed kept_here
+  ends_kept stage between f small =
+      let same = judged_kept outer.large outer.kept.items outer.other small (rw small at f.within) in
       ends syntax tags fed outer stage kept_here f
       (between [] kept_here (inl (no_elements, no_more Filled outer.syntax 16 outer.last [] refl, same)))
 
+  pub ends_large : (stage : Stage)
+      → ((octets : List ℕ) (answer : Sifted) → OuterSifts tags outer octets answer → StageSifts tags outer stage octets answer)
+      → HasFed syntax tags fed outer stage → outer.large ≡ true → IsSifted syntax tags fed Large
+  ends_large stage between f large =
+      let same : Large ≡ judged outer.large (outer.kept.items ++ []) (outer.other || false) = rw large refl in
+      ends syntax tags fed outer stage Large f
+      (between [] Large (inl (no_elements, no_more Filled outer.syntax 16 outer.last [] refl, same)))
+
   kept_is : IsSifted syntax tags fed kept_here → IsDataSet (as_elements outer.kept.items)
   kept_is (inl (d, spells, e)) =
-      let same : as_elements outer.kept.items ≡ cut_out tags d = cc in
-      subst IsDataSet (sym same) (cut_is tags d (spelled_is_sound syntax fed d spells))
+      let same = sifted_kept (as_elements outer.kept.items) (cut_out tags d) outer.other (has_other tags d) e in
+      subst IsDataSet (sym same.0) (cut_is tags d (spelled_is_sound syntax fed d spells))
   kept_is (inr (f, faulty, e)) = absurd cc
 
   pub kept_is_data_set : (stage : Stage)
       → ((octets : List ℕ) (answer : Sifted) → OuterSifts tags outer octets answer → StageSifts tags outer stage octets answer)
-      → HasFed syntax tags fed outer stage → IsDataSet (as_elements outer.kept.items)
-  kept_is_data_set stage between f = kept_is (ends_kept stage between f)
+      → HasFed syntax tags fed outer stage → outer.large ≡ false → IsDataSet (as_elements outer.kept.items)
+  kept_is_data_set stage between f small = kept_is (ends_kept stage between f small)
 
 walk_unfinished : (walk : Walk) → IsWalk walk → WalkLeads walk [] (Some Truncated)
 walk_unfinished walk w = rw append-nil (unfinished walk.place (reverse walk.around.items) walk.left walk.front.items w.nested w.part w.more)

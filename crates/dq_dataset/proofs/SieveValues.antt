@@ -1,9 +1,11 @@
 -- What the octets of a header and of a value make of a sieve.
-use Rattle.std.proofs.Common.{◌≡◌, ◌≢◌, ℕ, true, false, not, eqb, ◌||◌, List, [], ◌∷◌, ◌++◌, Option, Some, None, Result, Ok, Err, refl, sym, ap, subst, ◌∙◌, append_assoc, arith, inl, inr}
+use Rattle.std.proofs.Common.{◌≡◌, ◌≢◌, ℕ, Bool, true, false, not, eqb, ◌||◌, List, [], ◌∷◌, ◌++◌, Option, Some, None, Result, Ok, Err, refl, sym, ap, subst, ◌∙◌, append_assoc, arith, inl, inr}
 use Rattle.std.specs.Global.{Vec}
+use Rattle.std.specs.Prelude.{filter}
 use Rattle.std.specs.Result.{IfOk}
 use Rattle.std.proofs.lemmas.List.{append-nil}
-use Rattle.dq_dataset.proofs.Types.{Tag, ReadFault, Truncated, Syntax, Filled, Content, ElementList}
+use Rattle.dq_dataset.proofs.Types.{Tag, ReadFault, Truncated, Syntax, Filled, Content, Element, ElementList}
+use Rattle.dq_dataset.specs.declared.sieve.Sifted.{Sifted}
 use Rattle.dq_dataset.specs.declared.sieve.Sifted.TheVariants.{Fault}
 use Rattle.dq_dataset.specs.declared.sieve.Outer.{Outer}
 use Rattle.dq_dataset.specs.declared.sieve.Stage.{Stage}
@@ -15,15 +17,18 @@ use Rattle.dq_dataset.specs.declared.sieve.walk.Walked.{Walked}
 use Rattle.dq_dataset.specs.declared.sieve.walk.Walked.TheVariants.{Over}
 use Rattle.dq_dataset.specs.declared.sieve.walk.Reach.TheVariants.{Endless}
 use Rattle.dq_dataset.specs.declared.sieve.walk.Place.TheVariants.{InElements}
-use Rattle.dq_dataset.specs.View.{elements_of}
+use Rattle.dq_dataset.specs.Editing.{is_listed}
+use Rattle.dq_dataset.specs.Sieve.{has_other, is_large}
+use Rattle.dq_dataset.specs.View.{as_elements, elements_of}
 use Rattle.dq_dataset.specs.Reading.{end_at, may_nest}
 use Rattle.dq_dataset.specs.Fronts.{front_at}
 use Rattle.dq_dataset.specs.Grammar.{IsPlaced, IsHeader, IsSpelled}
 use Rattle.dq_dataset.specs.Sifting.{WalkedLeads, LeadsOn}
-use Rattle.dq_dataset.specs.Sieving.{tag_is_listed, SiftsFrom, OuterSifts, FollowsPast, FollowsInto, IsStage, GoesOn, HasFed, HeldAfter, SieveAfter, IsSieve, PastBy, IntoBy}
+use Rattle.dq_dataset.specs.Sieving.{tag_is_listed, is_too_long, held_of, Keeps, SiftsFrom, OuterSifts, FollowsPast, FollowsInto, IsStage, GoesOn, HasFed, HeldAfter, SieveAfter, IsSieve, PastBy, IntoBy}
 use Rattle.dq_dataset.proofs.Nesting.{none_is_part}
 use Rattle.dq_dataset.proofs.Fronts.{open_here, front_fault_stays}
-use Rattle.dq_dataset.proofs.Sieves.{Inside, past_header, into_header, sifted_step, sifts_more}
+use Rattle.dq_dataset.proofs.Large.{judged_on, within_on, within_by, starts_within}
+use Rattle.dq_dataset.proofs.Sieves.{Inside, past_header, drop_header, into_header, sifted_step, sifts_more}
 use Rattle.dq_dataset.proofs.SieveSteps.{fed_on}
 
 -- no octets are no header
@@ -37,6 +42,7 @@ pub adds_octet : (tags : List Tag) (outer next : Outer) (then : Stage) (before a
     → GoesOn tags outer (Between after) [] next then → GoesOn tags outer (Between before) (octet ∷ []) next then
 adds_octet tags outer next then before after octet is g = record {
   sound = g.sound;
+  within = g.within;
   syntax = g.syntax;
   sifts = λ octets answer m.
       let all : after.items ++ octets ≡ before.items ++ (octet ∷ octets) =
@@ -44,12 +50,19 @@ adds_octet tags outer next then before after octet is g = record {
       subst (λ (x : List ℕ). OuterSifts tags outer x answer) all (g.sifts octets answer m);
 }
 
+pub adds_octet_ok : {E : Type 0} → (tags : List Tag) (outer : Outer) (before after : Vec ℕ) (octet : ℕ) → after.items ≡ before.items ++ octet ∷ []
+    → (r : Result (Outer × Stage) E) → IfOk r (λ x. GoesOn tags outer (Between after) [] x.0 x.1)
+    → IfOk r (λ x. GoesOn tags outer (Between before) (octet ∷ []) x.0 x.1)
+adds_octet_ok tags outer before after octet is (Ok x) g = adds_octet tags outer x.0 x.1 before after octet is g
+adds_octet_ok tags outer before after octet is (Err e) g = tt
+
 -- a fault of a header is that of the data set
 pub stops_at_header : (tags : List Tag) (outer : Outer) (front : Vec ℕ) (fault : ReadFault)
     → ((rest : List ℕ) → end_at Filled 0xE00D front.items ≡ Ok (Some rest) → ⊥) → front_at outer.syntax 16 outer.last front.items ≡ Err fault
     → fault ≢ Truncated → GoesOn tags outer (Between front) [] outer (Stopped fault 0)
 stops_at_header tags outer front fault none is other = record {
   sound = tt;
+  within = λ w. w;
   syntax = refl;
   sifts = λ octets answer m.
       let same : fault ≡ m.0 = elim m.1 [ inl x ↦ absurd (omega arith) | inr x ↦ (let e = x.1 in cc) ] in
@@ -65,29 +78,47 @@ module _ (tags : List Tag) (outer : Outer) (front : Vec ℕ) (tag : Tag) (conten
     (leads : (octets : List ℕ) (end : Option ReadFault) → WalkedLeads walked octets end
     → Inside outer.syntax outer.last tag content front.items placed is_header nests octets end) where
   abbrev passed_by : Outer
-  passed_by = record { syntax = outer.syntax; last = Some tag; kept = outer.kept; other = outer.other || not (eqb tag.element 0) }
+  passed_by = record { syntax = outer.syntax; last = Some tag; large = outer.large; kept = outer.kept; other = outer.other || not (eqb tag.element 0) }
 
   pub goes_past : tag_is_listed tags tag ≡ false → (stage : Stage) → IsStage passed_by stage → PastBy walked stage
       → GoesOn tags outer (Between front) [] passed_by stage
   goes_past listed stage sound past = record {
     sound = sound;
+    within = λ w. w;
     syntax = refl;
     sifts = λ octets answer m.
-        past_header outer.syntax outer.last tag content front.items placed is_header nests tags outer.kept.items outer.other octets answer listed
+        past_header outer.syntax outer.last tag content front.items placed is_header nests tags outer.large outer.kept.items outer.other octets answer listed
         (sifts_more walked (Inside outer.syntax outer.last tag content front.items placed is_header nests) leads (FollowsPast tags passed_by answer) octets
         answer (past passed_by tags octets answer m));
   }
 
+  -- of what is too large nothing is held
+  pub goes_over : tag_is_listed tags tag ≡ true → (outer.large || is_too_long tag content) ≡ true → (next : Outer) → next.syntax ≡ outer.syntax
+      → next.last ≡ Some tag → next.large ≡ true → next.kept.items ≡ [] → (stage : Stage) → IsStage next stage
+      → PastBy walked stage → GoesOn tags outer (Between front) [] next stage
+  goes_over listed long next syntax_is last_is large_is none stage sound past = record {
+    sound = sound;
+    within = λ w. within_by next large_is none;
+    syntax = syntax_is;
+    sifts = λ octets answer m.
+        drop_header outer.syntax outer.last tag content front.items placed is_header nests tags outer.large outer.kept.items outer.other octets answer
+        listed long
+        (sifts_more walked (Inside outer.syntax outer.last tag content front.items placed is_header nests) leads
+        (λ v rest. SiftsFrom outer.syntax tags (Some tag) true [] outer.other rest answer) octets answer
+        (let after = past next tags octets answer m in rw (syntax_is, last_is, large_is) at after));
+  }
+
   abbrev begun : Outer
-  begun = record { syntax = outer.syntax; last = Some tag; kept = outer.kept; other = outer.other }
+  begun = record { syntax = outer.syntax; last = Some tag; large = outer.large; kept = outer.kept; other = outer.other }
 
   into_by : tag_is_listed tags tag ≡ true → (next : Outer) (then : Stage) → IntoBy begun walked front.items next then
       → GoesOn tags outer (Between front) [] next then
   into_by listed next then into = record {
     sound = into.sound;
+    within = into.within;
     syntax = into.syntax;
     sifts = λ octets answer m.
-        into_header outer.syntax outer.last tag content front.items placed is_header nests tags outer.kept.items outer.other octets answer listed
+        into_header outer.syntax outer.last tag content front.items placed is_header nests tags outer.large outer.kept.items outer.other octets answer listed
         (sifts_more walked (Inside outer.syntax outer.last tag content front.items placed is_header nests) leads (FollowsInto tags begun front.items answer)
         octets answer (into.sifts tags octets answer m));
   }
@@ -102,6 +133,7 @@ pub steps_past : (tags : List Tag) (outer : Outer) (walk : Walk) (taken : List �
     → IsStage outer stage → PastBy walked stage → GoesOn tags outer (Past walk) taken outer stage
 steps_past tags outer walk taken walked on stage sound past = record {
   sound = sound;
+  within = λ w. w;
   syntax = refl;
   sifts = λ octets answer m. sifted_step walk taken walked on (FollowsPast tags outer answer) (FollowsPast tags outer answer) (λ v rest n. n) octets answer
       (past outer tags octets answer m);
@@ -113,6 +145,7 @@ pub steps_into : (tags : List Tag) (outer : Outer) (walk : Walk) (taken : List �
     → GoesOn tags outer (Into walk came) taken next then
 steps_into tags outer walk taken walked on came now is next then into = record {
   sound = into.sound;
+  within = into.within;
   syntax = into.syntax;
   sifts = λ octets answer m. sifted_step walk taken walked on (FollowsInto tags outer came.items answer) (FollowsInto tags outer now answer)
       (λ v rest follows one spelled. follows one (subst (λ (x : List ℕ). IsSpelled outer.syntax x one)
@@ -120,13 +153,22 @@ steps_into tags outer walk taken walked on came now is next then into = record {
       (into.sifts tags octets answer m);
 }
 
+-- what is held no more adds as it did
+sifts_on : (syntax : Syntax) (tags : List Tag) (last : Option Tag) (large next : Bool) (ks held : List Element) (other : Bool) (octets : List ℕ)
+    (answer : Sifted) → next ≡ (large || is_large (as_elements ks)) → held ≡ held_of next ks
+    → SiftsFrom syntax tags last next held other octets answer → SiftsFrom syntax tags last large ks other octets answer
+sifts_on syntax tags last large next ks held other octets answer next_is held_is (inl (d, spells, is)) =
+    inl (d, spells, is ∙ judged_on large next ks held (filter (is_listed tags) (elements_of d)) (other || has_other tags d) next_is held_is)
+sifts_on syntax tags last large next ks held other octets answer next_is held_is (inr (f, faulty, is)) = inr (f, faulty, is)
+
 -- all of a value that is kept: the element is kept
 pub keeps_one : (outer next : Outer) (came : List ℕ) (front : Vec ℕ) (one : ElementList)
-    → ((d : ElementList) → IsSpelled outer.syntax came d → one ≡ d) → next.syntax ≡ outer.syntax → next.last ≡ outer.last → next.other ≡ outer.other
-    → next.kept.items ≡ outer.kept.items ++ elements_of one → front.items ≡ [] → IntoBy outer Over came next (Between front)
-keeps_one outer next came front one only syntax_is last_is other_is kept_is none = record {
+    → ((d : ElementList) → IsSpelled outer.syntax came d → one ≡ d) → Keeps outer (elements_of one) next → front.items ≡ []
+    → IntoBy outer Over came next (Between front)
+keeps_one outer next came front one only k none = record {
   sound = nothing_came next front.items none;
-  syntax = syntax_is;
+  within = λ w. within_on outer.large next.large (outer.kept.items ++ elements_of one) next.kept.items k.large k.kept;
+  syntax = k.syntax;
   sifts = λ tags octets answer m. inr (
     [],
     octets,
@@ -134,19 +176,22 @@ keeps_one outer next came front one only syntax_is last_is other_is kept_is none
     (refl, refl),
     λ d spelled.
         let same : one ≡ d = only d (rw append-nil at spelled) in
-        subst (λ (x : ElementList). SiftsFrom outer.syntax tags outer.last (outer.kept.items ++ elements_of x) outer.other octets answer) same
-        (rw (syntax_is, last_is, other_is, kept_is, none) at m),
+        subst (λ (x : ElementList). SiftsFrom outer.syntax tags outer.last outer.large (outer.kept.items ++ elements_of x) outer.other octets answer)
+        same
+        (sifts_on outer.syntax tags outer.last outer.large next.large (outer.kept.items ++ elements_of one) next.kept.items outer.other octets answer
+        k.large k.kept (rw (k.syntax, k.last, k.other, none) at m)),
   );
 }
 
 -- ---- the start, and pieces
 
-pub starts : (tags : List Tag) (outer : Outer) (front : Vec ℕ) → outer.last ≡ None → outer.kept.items ≡ [] → outer.other ≡ false → front.items ≡ []
+pub starts : (tags : List Tag) (outer : Outer) (front : Vec ℕ) → outer.last ≡ None → outer.large ≡ false → outer.kept.items ≡ [] → outer.other ≡ false → front.items ≡ []
     → HasFed outer.syntax tags [] outer (Between front)
-starts tags outer front last kept other none = record {
+starts tags outer front last small kept other none = record {
   is = refl;
   sound = nothing_came outer front.items none;
-  sifts = λ rest answer m. rw (last, kept, other, none) at m;
+  within = starts_within outer small kept;
+  sifts = λ rest answer m. rw (last, small, kept, other, none) at m;
 }
 
 pub is_fed_on : (tags : List Tag) (piece : List ℕ) (a b : Outer) (x y : Stage) → IsSieve tags (Sifting a x) → GoesOn tags a x piece b y

@@ -11,38 +11,43 @@ use Rattle.dq_dataset.proofs.Types.{Tag, Vr, ReadFault, Truncated, Syntax, Fille
 use Rattle.dq_vr.specs.Dictionary.{known_vr}
 use Rattle.dq_dataset.specs.declared.sieve.walk.Reach.TheVariants.{Endless}
 use Rattle.dq_dataset.specs.declared.sieve.Sifted.{Sifted}
-use Rattle.dq_dataset.specs.declared.sieve.Sifted.TheVariants.{Kept}
 use Rattle.dq_dataset.specs.Rules.{vr_of, fits}
 use Rattle.dq_dataset.specs.Reading.{may_nest, length_of}
-use Rattle.dq_dataset.specs.View.{as_elements, elements_of}
+use Rattle.dq_dataset.specs.View.{elements_of}
 use Rattle.dq_dataset.specs.Editing.{is_listed}
 use Rattle.dq_dataset.specs.Grammar.{IsPlaced, IsHeader, no_more, more, SpellsValue, kept_value, IsSpelled}
 use Rattle.dq_dataset.specs.Faults.{HasFault, after_element}
 use Rattle.dq_dataset.specs.Sifting.{Stops, WalkLeads, WalkedLeads, LeadsOn, LeadsTo, opened_left}
-use Rattle.dq_dataset.specs.Sieving.{tag_is_listed, SiftsFrom, SiftsOn}
+use Rattle.dq_dataset.specs.Sieving.{tag_is_listed, is_too_long, judged, SiftsFrom, SiftsOn}
 use Rattle.dq_dataset.proofs.SpelledIsRead.{kept_elements}
 use Rattle.dq_dataset.proofs.Fronts.{unfit}
+use Rattle.dq_dataset.proofs.Large.{judged_long}
 use Rattle.dq_dataset.proofs.Entering.{value_place, value_reach, value_spelled, value_stops, value_extent, reached, parts_behind}
 
 -- ---- what an element adds
 
 -- what is kept, and whether there is another
-abbrev kept_of : List Tag → List Element → Bool → List Element → Sifted
-kept_of tags kept other es = Kept (as_elements (kept ++ filter (is_listed tags) es)) (other || list_any (λ (e : Element). not (is_listed tags e)) es)
+abbrev kept_of : List Tag → Bool → List Element → Bool → List Element → Sifted
+kept_of tags large kept other es = judged large (kept ++ filter (is_listed tags) es) (other || list_any (λ (e : Element). not (is_listed tags e)) es)
 
 or_true : (other a : Bool) → (other || true) || a ≡ other || (true || a)
 or_true true a = refl
 or_true false a = refl
 
-module _ (tags : List Tag) (kept : List Element) (other : Bool) (e : Element) (es : List Element) where
-  past_by : (dropped : Bool) → is_listed tags e ≡ false → kept_of tags kept (other || not dropped) es ≡ kept_of tags kept other (cond dropped es (e ∷ es))
-  past_by true listed = ap (λ (b : Bool). kept_of tags kept b es) (or-false other)
-  past_by false listed = rw listed (ap (Kept (as_elements (kept ++ filter (is_listed tags) es))) (or_true other _))
+module _ (tags : List Tag) (large : Bool) (kept : List Element) (other : Bool) (e : Element) (es : List Element) where
+  past_by : (dropped : Bool) → is_listed tags e ≡ false → kept_of tags large kept (other || not dropped) es ≡ kept_of tags large kept other (cond dropped es (e ∷ es))
+  past_by true listed = ap (λ (b : Bool). kept_of tags large kept b es) (or-false other)
+  past_by false listed = rw listed (ap (judged large (kept ++ filter (is_listed tags) es)) (or_true other _))
 
   into_by : (dropped : Bool) → is_listed tags e ≡ true
-      → kept_of tags (kept ++ cond dropped [] (e ∷ [])) other es ≡ kept_of tags kept other (cond dropped es (e ∷ es))
-  into_by true listed = ap (λ (xs : List Element). kept_of tags xs other es) (append-nil kept)
+      → kept_of tags large (kept ++ cond dropped [] (e ∷ [])) other es ≡ kept_of tags large kept other (cond dropped es (e ∷ es))
+  into_by true listed = ap (λ (xs : List Element). kept_of tags large xs other es) (append-nil kept)
   into_by false listed = rw (listed, append_assoc kept (e ∷ []) (filter (is_listed tags) es)) refl
+
+filter_kept : (tags : List Tag) (e : Element) (es : List Element) (dropped : Bool) → is_listed tags e ≡ true
+    → cond dropped (filter (is_listed tags) es) (e ∷ filter (is_listed tags) es) ≡ filter (is_listed tags) (cond dropped es (e ∷ es))
+filter_kept tags e es true listed = refl
+filter_kept tags e es false listed = rw listed refl
 
 -- ---- the value of an outer element
 
@@ -99,11 +104,11 @@ module _ (syntax : Syntax) (last : Option Tag) (tag : Tag) (content : Content) (
   dropped = eqb tag.element 0
 
   -- a value that is not kept
-  pub past_header : (tags : List Tag) (kept : List Element) (other : Bool) (octets : List ℕ) (answer : Sifted) → tag_is_listed tags tag ≡ false
-      → SiftsOn Inside (λ v rest. SiftsFrom syntax tags (Some tag) kept (other || not dropped) rest answer) octets answer
-      → SiftsFrom syntax tags last kept other (header ++ octets) answer
-  past_header tags kept other octets answer listed (inl (f, leads, is)) = inr (f, inside_fault octets f leads, is)
-  past_header tags kept other octets answer listed (inr (v, rest, parts, leads, inl (d, spells, is))) =
+  pub past_header : (tags : List Tag) (large : Bool) (kept : List Element) (other : Bool) (octets : List ℕ) (answer : Sifted) → tag_is_listed tags tag ≡ false
+      → SiftsOn Inside (λ v rest. SiftsFrom syntax tags (Some tag) large kept (other || not dropped) rest answer) octets answer
+      → SiftsFrom syntax tags last large kept other (header ++ octets) answer
+  past_header tags large kept other octets answer listed (inl (f, leads, is)) = inr (f, inside_fault octets f leads, is)
+  past_header tags large kept other octets answer listed (inr (v, rest, parts, leads, inl (d, spells, is))) =
       let value = inside_value v leads in
       let all = kept_value tag vr value.0 d in
       let es = kept_elements tag vr value.0 d dropped in
@@ -111,9 +116,38 @@ module _ (syntax : Syntax) (last : Option Tag) (tag : Tag) (content : Content) (
         all,
         more Filled syntax 16 last (header ++ octets) all tag content header v rest value.0 d placed is_header value.1 spells
             (ap (λ (x : List ℕ). header ++ x) parts) refl,
-        is ∙ past_by tags kept other (held_as value.0) (elements_of d) dropped listed ∙ ap (kept_of tags kept other) es,
+        is ∙ past_by tags large kept other (held_as value.0) (elements_of d) dropped listed ∙ ap (kept_of tags large kept other) es,
       )
-  past_header tags kept other octets answer listed (inr (v, rest, parts, leads, inr (f, faulty, is))) =
+  past_header tags large kept other octets answer listed (inr (v, rest, parts, leads, inr (f, faulty, is))) =
+      let value = inside_value v leads in
+      inr (
+        f,
+        after_element Filled syntax 16 last (header ++ octets) f tag content header v rest value.0 placed is_header value.1 faulty
+            (ap (λ (x : List ℕ). header ++ x) parts),
+        is,
+      )
+
+  -- a value that is over the limit, or behind others that are
+  pub drop_header : (tags : List Tag) (large : Bool) (kept : List Element) (other : Bool) (octets : List ℕ) (answer : Sifted)
+      → tag_is_listed tags tag ≡ true → (large || is_too_long tag content) ≡ true
+      → SiftsOn Inside (λ v rest. SiftsFrom syntax tags (Some tag) true [] other rest answer) octets answer
+      → SiftsFrom syntax tags last large kept other (header ++ octets) answer
+  drop_header tags large kept other octets answer listed long (inl (f, leads, is)) = inr (f, inside_fault octets f leads, is)
+  drop_header tags large kept other octets answer listed long (inr (v, rest, parts, leads, inl (d, spells, is))) =
+      let value = inside_value v leads in
+      let all = kept_value tag vr value.0 d in
+      let es = kept_elements tag vr value.0 d dropped in
+      let others = filter (is_listed tags) (elements_of d) in
+      let o = other || list_any (λ (e : Element). not (is_listed tags e)) (cond dropped (elements_of d) (held_as value.0 ∷ elements_of d)) in
+      inl (
+        all,
+        more Filled syntax 16 last (header ++ octets) all tag content header v rest value.0 d placed is_header value.1 spells
+            (ap (λ (x : List ℕ). header ++ x) parts) refl,
+        is ∙ sym (judged_long 16 tag vr content v value.0 value.1 large dropped kept others o long)
+            ∙ ap (λ (xs : List Element). judged large (kept ++ xs) o) (filter_kept tags (held_as value.0) (elements_of d) dropped listed)
+            ∙ ap (kept_of tags large kept other) es,
+      )
+  drop_header tags large kept other octets answer listed long (inr (v, rest, parts, leads, inr (f, faulty, is))) =
       let value = inside_value v leads in
       inr (
         f,
@@ -126,12 +160,12 @@ module _ (syntax : Syntax) (last : Option Tag) (tag : Tag) (content : Content) (
   first_placed = record { rises = refl; no_delimiter = placed.no_delimiter; group = placed.group; number = placed.number }
 
   -- a value that is kept
-  pub into_header : (tags : List Tag) (kept : List Element) (other : Bool) (octets : List ℕ) (answer : Sifted) → tag_is_listed tags tag ≡ true
+  pub into_header : (tags : List Tag) (large : Bool) (kept : List Element) (other : Bool) (octets : List ℕ) (answer : Sifted) → tag_is_listed tags tag ≡ true
       → SiftsOn Inside (λ v rest. (one : ElementList) → IsSpelled syntax (header ++ v) one
-      → SiftsFrom syntax tags (Some tag) (kept ++ elements_of one) other rest answer) octets answer
-      → SiftsFrom syntax tags last kept other (header ++ octets) answer
-  into_header tags kept other octets answer listed (inl (f, leads, is)) = inr (f, inside_fault octets f leads, is)
-  into_header tags kept other octets answer listed (inr (v, rest, parts, leads, follows)) =
+      → SiftsFrom syntax tags (Some tag) large (kept ++ elements_of one) other rest answer) octets answer
+      → SiftsFrom syntax tags last large kept other (header ++ octets) answer
+  into_header tags large kept other octets answer listed (inl (f, leads, is)) = inr (f, inside_fault octets f leads, is)
+  into_header tags large kept other octets answer listed (inr (v, rest, parts, leads, follows)) =
       let value = inside_value v leads in
       let one = kept_value tag vr value.0 no_elements in
       let alone : IsSpelled syntax (header ++ v) one =
@@ -146,8 +180,8 @@ module _ (syntax : Syntax) (last : Option Tag) (tag : Tag) (content : Content) (
               all,
               more Filled syntax 16 last (header ++ octets) all tag content header v rest value.0 s.0 placed is_header value.1 s.1
                   (ap (λ (x : List ℕ). header ++ x) parts) refl,
-              s.2 ∙ ap (λ (xs : List Element). kept_of tags (kept ++ xs) other (elements_of s.0)) (sym first)
-                  ∙ into_by tags kept other (held_as value.0) (elements_of s.0) dropped listed ∙ ap (kept_of tags kept other) es,
+              s.2 ∙ ap (λ (xs : List Element). kept_of tags large (kept ++ xs) other (elements_of s.0)) (sym first)
+                  ∙ into_by tags large kept other (held_as value.0) (elements_of s.0) dropped listed ∙ ap (kept_of tags large kept other) es,
             )
         | inr s ↦
             inr (

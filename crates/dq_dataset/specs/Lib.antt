@@ -5,6 +5,7 @@ pub mod Falls
 pub mod Rules
 pub mod Reading
 pub mod Canonical
+pub mod Lengths
 pub mod Parts
 pub mod Grammar
 pub mod Facts

@@ -1,15 +1,17 @@
 -- What a list of tags leaves of a data set (PS3.5 section 7.1), said of all its octets, however
 -- they come.
-use Rattle.std.specs.Prelude.{◌≡◌, ℕ, Bool, not, List, ◌⊎◌}
+use Rattle.std.specs.Prelude.{◌≡◌, ℕ, Bool, not, List, length, nat_lt, if◌then◌else◌, ◌⊎◌}
 use Rattle.std.specs.List.{list_any}
 use Rattle.dq_vr.specs.declared.Tag.{Tag}
 use Rattle.dq_dataset.specs.declared.fault.ReadFault.{ReadFault}
 use Rattle.dq_dataset.specs.declared.header.Syntax.{Syntax}
+use Rattle.dq_dataset.specs.declared.header.Syntax.TheVariants.{Explicit}
 use Rattle.dq_dataset.specs.declared.data_set.Element.{Element}
 use Rattle.dq_dataset.specs.declared.sieve.Sifted.{Sifted}
-use Rattle.dq_dataset.specs.declared.sieve.Sifted.TheVariants.{Kept, Fault}
+use Rattle.dq_dataset.specs.declared.sieve.Sifted.TheVariants.{Kept, Large, Fault}
 use Rattle.dq_dataset.specs.Tree.{ElementList}
 use Rattle.dq_dataset.specs.View.{elements_of}
+use Rattle.dq_dataset.specs.Canonical.{canonical}
 use Rattle.dq_dataset.specs.Grammar.{IsSpelled}
 use Rattle.dq_dataset.specs.Faults.{IsFaulty}
 use Rattle.dq_dataset.specs.Editing.{is_listed, cut_out}
@@ -18,10 +20,21 @@ use Rattle.dq_dataset.specs.Editing.{is_listed, cut_out}
 abbrev pub has_other : List Tag → ElementList → Bool
 has_other tags d = list_any (λ (e : Element). not (is_listed tags e)) (elements_of d)
 
--- Of the data set that the octets spell: its listed elements, and whether it has another. Where
--- they spell none: the first fault of the octets.
+-- What is kept has at most so many octets, as the canonical Explicit spelling has them.
+abbrev pub kept_limit : ℕ
+kept_limit = 67108864
+
+unfoldable pub is_large : ElementList → Bool
+is_large kept = nat_lt kept_limit (length (canonical Explicit kept))
+
+-- what is answered of the listed elements, where there is another or not
+abbrev pub sifted_of : ElementList → Bool → Sifted
+sifted_of kept other = if is_large kept then Large else Kept kept other
+
+-- Of the data set that the octets spell: its listed elements, and whether it has another, unless
+-- the listed ones are too large. Where they spell none: the first fault of the octets.
 abbrev pub IsSifted : Syntax → List Tag → List ℕ → Sifted → Type 0
 IsSifted syntax tags octets answer =
     ((d : ElementList) × IsSpelled syntax octets d
-    × (answer ≡ Kept (cut_out tags d) (has_other tags d)))
+    × (answer ≡ sifted_of (cut_out tags d) (has_other tags d)))
     ⊎ ((fault : ReadFault) × IsFaulty syntax octets fault × (answer ≡ Fault fault))

@@ -1,15 +1,17 @@
 -- A device of the proofs: what octets that are still to come make of a sieve. What is to be
 -- believed stands in Sieve.
-use Rattle.std.specs.Prelude.{◌≡◌, ℕ, Bool, ◌||◌, ◌&&◌, ◌==◌, filter, List, [], ◌++◌, Option, Some, None, Err, ◌⊎◌}
+use Rattle.std.specs.Prelude.{◌≡◌, ℕ, Bool, true, false, not, nat_lt, ◌||◌, ◌&&◌, ◌==◌, filter, List, [], ◌++◌, Option, Some, None, Err, ◌⊎◌}
 use Rattle.std.specs.List.{list_any}
 use Rattle.dq_vr.specs.declared.Tag.{Tag}
 use Rattle.dq_dataset.specs.declared.fault.ReadFault.{ReadFault}
 use Rattle.dq_dataset.specs.declared.fault.ReadFault.TheVariants.{Truncated}
 use Rattle.dq_dataset.specs.declared.header.Syntax.{Syntax}
 use Rattle.dq_dataset.specs.declared.header.Bound.TheVariants.{Filled}
+use Rattle.dq_dataset.specs.declared.header.Content.{Content}
+use Rattle.dq_dataset.specs.declared.header.Content.TheVariants.{Plain, Sequence}
 use Rattle.dq_dataset.specs.declared.data_set.Element.{Element}
 use Rattle.dq_dataset.specs.declared.sieve.Sifted.{Sifted}
-use Rattle.dq_dataset.specs.declared.sieve.Sifted.TheVariants.{Kept, Fault}
+use Rattle.dq_dataset.specs.declared.sieve.Sifted.TheVariants.{Large, Fault}
 use Rattle.dq_dataset.specs.declared.sieve.Outer.{Outer}
 use Rattle.dq_dataset.specs.declared.sieve.Stage.{Stage}
 use Rattle.dq_dataset.specs.declared.sieve.Stage.TheVariants.{Between, Past, Into, Stopped}
@@ -23,24 +25,45 @@ use Rattle.dq_dataset.specs.Faults.{HasFault}
 use Rattle.dq_dataset.specs.Editing.{is_listed}
 use Rattle.dq_dataset.specs.Fronts.{front_at}
 use Rattle.dq_dataset.specs.Sifting.{FaultLeads, WalkLeads, WalkedLeads, IsWalk}
-use Rattle.dq_dataset.specs.Sieve.{has_other, IsSifted}
+use Rattle.dq_dataset.specs.Sieve.{has_other, kept_limit, is_large, sifted_of, IsSifted}
 
 abbrev pub tag_is_listed : List Tag → Tag → Bool
 tag_is_listed tags tag =
     list_any (λ (t : Tag). (tag.group == t.group) && (tag.element == t.element)) tags
 
+-- What is answered where the elements that were kept passed the limit, and where they did not.
+abbrev pub judged : Bool → List Element → Bool → Sifted
+judged true kept other = Large
+judged false kept other = sifted_of (as_elements kept) other
+
 -- What the octets after the tag last add to the elements that are kept.
-abbrev pub SiftsFrom : Syntax → List Tag → Option Tag → List Element → Bool → List ℕ → Sifted
+abbrev pub SiftsFrom : Syntax → List Tag → Option Tag → Bool → List Element → Bool → List ℕ → Sifted
     → Type 0
-SiftsFrom syntax tags last kept other octets answer =
+SiftsFrom syntax tags last large kept other octets answer =
     ((d : ElementList) × Spells Filled syntax 16 last octets d
-    × (answer ≡ Kept (as_elements (kept ++ filter (is_listed tags) (elements_of d)))
+    × (answer ≡ judged large (kept ++ filter (is_listed tags) (elements_of d))
     (other || has_other tags d)))
     ⊎ ((fault : ReadFault) × HasFault Filled syntax 16 last octets fault × (answer ≡ Fault fault))
 
 abbrev pub OuterSifts : List Tag → Outer → List ℕ → Sifted → Type 0
 OuterSifts tags outer octets answer =
-    SiftsFrom outer.syntax tags outer.last outer.kept.items outer.other octets answer
+    SiftsFrom outer.syntax tags outer.last outer.large outer.kept.items outer.other octets answer
+
+-- What is held is within the limit. Of elements that passed it nothing is held.
+abbrev pub HoldsWithin : Bool → List Element → Type 0
+HoldsWithin true held = held ≡ []
+HoldsWithin false held = is_large (as_elements held) ≡ false
+
+abbrev pub IsWithin : Outer → Type 0
+IsWithin outer = HoldsWithin outer.large outer.kept.items
+
+-- Whether a header alone says that its element is over the limit. A group length is none.
+abbrev pub is_long : Content → Bool
+is_long (Plain n) = nat_lt kept_limit n
+is_long (Sequence syntax extent) = false
+
+abbrev pub is_too_long : Tag → Content → Bool
+is_too_long tag content = not (tag.element == 0) && is_long content
 
 -- The octets lead to a fault of a value, or to its end, and what follows it sifts on.
 abbrev pub SiftsOn : (List ℕ → Option ReadFault → Type 0) → (List ℕ → List ℕ → Type 0) → List ℕ
@@ -57,8 +80,8 @@ FollowsPast tags outer answer value rest = OuterSifts tags outer rest answer
 abbrev pub FollowsInto : List Tag → Outer → List ℕ → Sifted → List ℕ → List ℕ → Type 0
 FollowsInto tags outer came answer value rest =
     (one : ElementList) → IsSpelled outer.syntax (came ++ value) one
-    → SiftsFrom outer.syntax tags outer.last (outer.kept.items ++ elements_of one) outer.other rest
-    answer
+    → SiftsFrom outer.syntax tags outer.last outer.large (outer.kept.items ++ elements_of one)
+    outer.other rest answer
 
 abbrev pub StageSifts : List Tag → Outer → Stage → List ℕ → Sifted → Type 0
 StageSifts tags outer (Between front) octets answer =
@@ -80,6 +103,7 @@ IsStage outer (Stopped fault missing) = Unit {0}
 pub record GoesOn (tags : List Tag) (outer : Outer) (stage : Stage) (taken : List ℕ)
     (next : Outer) (then : Stage) : Type 0 where
   pub sound : IsStage next then
+  pub within : IsWithin outer → IsWithin next
   pub syntax : next.syntax ≡ outer.syntax
   pub sifts : (octets : List ℕ) (answer : Sifted) → StageSifts tags next then octets answer
       → StageSifts tags outer stage (taken ++ octets) answer
@@ -89,6 +113,7 @@ pub record HasFed (syntax : Syntax) (tags : List Tag) (octets : List ℕ) (outer
     (stage : Stage) : Type 0 where
   pub is : outer.syntax ≡ syntax
   pub sound : IsStage outer stage
+  pub within : IsWithin outer
   pub sifts : (rest : List ℕ) (answer : Sifted) → StageSifts tags outer stage rest answer
       → IsSifted syntax tags (octets ++ rest) answer
 
@@ -119,10 +144,24 @@ PastBy walked stage =
 pub record IntoBy (outer : Outer) (walked : Walked) (came : List ℕ) (next : Outer) (then : Stage)
     : Type 0 where
   pub sound : IsStage next then
+  pub within : IsWithin outer → IsWithin next
   pub syntax : next.syntax ≡ outer.syntax
   pub sifts : (tags : List Tag) (octets : List ℕ) (answer : Sifted)
       → StageSifts tags next then octets answer
       → SiftsOn (WalkedLeads walked) (FollowsInto tags outer came answer) octets answer
+
+-- What is held of elements, by whether they passed the limit.
+abbrev pub held_of : Bool → List Element → List Element
+held_of true es = []
+held_of false es = es
+
+-- The elements join those that are kept. Once they pass the limit nothing is held.
+pub record Keeps (outer : Outer) (es : List Element) (next : Outer) : Type 0 where
+  pub syntax : next.syntax ≡ outer.syntax
+  pub last : next.last ≡ outer.last
+  pub other : next.other ≡ outer.other
+  pub large : next.large ≡ (outer.large || is_large (as_elements (outer.kept.items ++ es)))
+  pub kept : next.kept.items ≡ held_of next.large (outer.kept.items ++ es)
 
 -- What octets that end at a stage are: the data set that was kept, or faulty.
 abbrev pub EndsBy : Stage → Option ReadFault → Type 0

@@ -1,5 +1,5 @@
 //! Data sets sifted as they come (PS3.5 section 7).
-ghost use Rattle.std.specs.Prelude.{◌≡◌, ◌<◌, ◌≤◌, ◌++◌, List, ℕ, [], ◌∷◌, length, take, true, IfOk, OnOk};
+ghost use Rattle.std.specs.Prelude.{◌≡◌, ◌<◌, ◌≤◌, ◌||◌, ◌++◌, List, ℕ, [], ◌∷◌, length, take, true, IfOk, OnOk};
 ghost use Rattle.dq_vr.specs.declared.Tag.{Tag};
 ghost use Rattle.dq_dataset.specs.declared.header.Syntax.{Syntax};
 ghost use Rattle.dq_dataset.specs.declared.sieve.Sifted.{Sifted};
@@ -7,14 +7,16 @@ ghost use Rattle.dq_dataset.specs.declared.sieve.Outer.{Outer};
 ghost use Rattle.dq_dataset.specs.Reading.{may_nest};
 ghost use Rattle.dq_dataset.specs.Grammar.{IsPlaced, IsHeader};
 ghost use Rattle.dq_dataset.specs.Sifting.{IsWalked};
-ghost use Rattle.dq_dataset.specs.Sieve.{IsSifted};
-ghost use Rattle.dq_dataset.specs.Sieving.{GoesOn, SieveAfter, IsStage, PastBy, IntoBy, tag_is_listed, EndsBy};
+ghost use Rattle.dq_dataset.specs.View.{as_elements, elements_of};
+ghost use Rattle.dq_dataset.specs.Sieve.{is_large, IsSifted};
+ghost use Rattle.dq_dataset.specs.Sieving.{GoesOn, SieveAfter, IsStage, PastBy, IntoBy, Keeps, tag_is_listed, is_too_long, EndsBy};
 
 mod walk;
 
 use crate::data_set::{DataSet, Element};
 use crate::fault::ReadFault;
-use crate::header::{Bound, Header, Syntax};
+use crate::header::{Bound, Content, Header, Syntax};
+use crate::measuring::elements_length;
 use crate::reading::{DEPTH, read};
 use dq_vr::Tag;
 use std::alloc::{AllocError, Global};
@@ -22,12 +24,17 @@ use std::marker::Model;
 use std::mem;
 use walk::{Met, Walk, Walked, element_met};
 
+/// What a sieve keeps has at most so many octets, as the canonical Explicit spelling has them.
+pub const KEPT_LIMIT: u32 = 67_108_864;
+
 /// What a list of tags leaves of a data set.
 #[derive(Debug, Drop)]
 pub enum Sifted {
     /// The elements whose tags are listed, and whether there was another. A group length counts as
     /// none (PS3.5 section 7.2).
     Kept(DataSet, bool),
+    /// Those elements are over `KEPT_LIMIT` octets.
+    Large,
     /// The first fault of octets that spell no data set.
     Fault(ReadFault),
 }
@@ -39,7 +46,9 @@ pub(crate) struct Outer {
     pub syntax: Syntax,
     /// The tag of the last element.
     pub last: Option<Tag>,
-    /// The elements whose tags are listed.
+    /// Whether the elements whose tags are listed passed the limit.
+    pub large: bool,
+    /// Those elements, until they pass the limit.
     pub kept: Vec<Element>,
     /// Whether there was another.
     pub other: bool,
@@ -67,7 +76,8 @@ pub(crate) enum Held {
 }
 
 /// Takes a data set in pieces, and keeps the elements whose tags are listed (PS3.5 section 7.1). Of
-/// a value that is not kept nothing is collected.
+/// a value that is not kept nothing is collected, nor of one that passes the limit by its own
+/// length. Once the limit is passed nothing is held.
 #[derive(Debug, Drop)]
 pub struct Sieve {
     alloc: Global,
@@ -101,6 +111,7 @@ impl Sieve {
         let outer = Outer {
             syntax,
             last: None,
+            large: false,
             kept: Vec::new(alloc),
             other: false,
         };
@@ -144,6 +155,7 @@ impl Sieve {
         match held {
             Held::Sifting(outer, stage) => match fault_at_end(&stage) {
                 Some(fault) => Sifted::Fault(fault),
+                None if outer.large => Sifted::Large,
                 None => Sifted::Kept(DataSet::from_elements(outer.kept), outer.other),
             },
             Held::Spent => Sifted::Fault(ReadFault::NoMemory),
@@ -263,12 +275,50 @@ fn into(
             let Ok(one) = read(alloc, &came, outer.syntax) else {
                 return Err(AllocError);
             };
-            let mut kept = outer.kept;
-            kept.append(&mut one.into_elements())?;
-            let outer = Outer { kept, ..outer };
+            let outer = keep(alloc, outer, one)?;
             Ok((outer, Stage::Between(Vec::new(alloc))))
         }
         Walked::Failed(fault, missing) => Ok((outer, Stage::Stopped(fault, missing))),
+    }
+}
+
+/// Keeps what was read of an element, up to the limit.
+fn keep(alloc: Global, outer: Outer, one: DataSet) -> Result<Outer, AllocError>
+    ensures { IfOk result (λ next. Keeps outer (elements_of one) next) }
+{
+    let mut kept = outer.kept;
+    kept.append(&mut one.into_elements())?;
+    let large = outer.large | are_large(&kept);
+    if large {
+        let kept = Vec::new(alloc);
+        return Ok(Outer {
+            large,
+            kept,
+            ..outer
+        });
+    }
+    Ok(Outer {
+        large,
+        kept,
+        ..outer
+    })
+}
+
+/// Whether the elements are over the limit.
+fn are_large(elements: &[Element]) -> bool
+    ensures { result ≡ is_large (as_elements elements.now) }
+{
+    elements_length(elements, Syntax::Explicit) > KEPT_LIMIT
+}
+
+/// Whether nothing is to be held of an element that is listed: the limit was passed, or the header
+/// says that its element passes it. That of a group length says nothing, which is never kept.
+fn passes_limit(large: bool, tag: Tag, content: Content) -> bool
+    ensures { result ≡ (large || is_too_long tag content) }
+{
+    match content {
+        Content::Plain(length) => large || (tag.element != 0 && length > KEPT_LIMIT),
+        Content::Sequence(..) => large,
     }
 }
 
@@ -309,10 +359,14 @@ fn begun(
     let walked = Walk::of_value(alloc, content);
     let mut outer = outer;
     outer.last = Some(tag);
-    if is_listed(tags, tag) {
-        return into(alloc, outer, walked, front);
+    if !is_listed(tags, tag) {
+        outer.other |= tag.element != 0;
+        return Ok((outer, past(alloc, walked)));
     }
-    outer.other |= tag.element != 0;
-    let stage = past(alloc, walked);
-    Ok((outer, stage))
+    if passes_limit(outer.large, tag, content) {
+        outer.large = true;
+        outer.kept = Vec::new(alloc);
+        return Ok((outer, past(alloc, walked)));
+    }
+    into(alloc, outer, walked, front)
 }

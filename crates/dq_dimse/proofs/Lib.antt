@@ -6,6 +6,7 @@ pub mod DataParts
 pub mod Fragments
 pub mod Holdings
 pub mod Gatherings
+pub mod HeldOctets
 pub mod Parsing
 pub mod Refusing
 pub mod Responses

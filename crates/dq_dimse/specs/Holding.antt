@@ -20,7 +20,7 @@ use Rattle.dq_dimse.specs.declared.fault.DimseFault.TheVariants.{NoMemory}
 use Rattle.dq_dimse.specs.Assembling.{Gathered, Nothing, CommandPart, DataPart, Spent, Gathering, stops_at, Messages, Assembly, new_assembly, assembly_from}
 use Rattle.dq_dimse.specs.Attributes.{kept_attributes}
 use Rattle.dq_dimse.specs.CommandFields.{c_store}
-use Rattle.dq_dimse.specs.Messages.{data_limit}
+use Rattle.dq_dimse.specs.Messages.{command_limit, other_limit, data_limit}
 use Rattle.dq_dimse.specs.Received.{Message}
 
 -- ---- accepted contexts
@@ -141,6 +141,35 @@ fault_held (held.Spent fault) = Some fault
 
 abbrev pub spent_with : Holding → Option DimseFault
 spent_with holding = fault_held holding.gathered
+
+-- ---- how much is held of a message to come
+
+-- The octets that are held of a data set. Those of a C-STORE are in a sieve.
+abbrev pub octets_of_part : Part → List ℕ
+octets_of_part (part.Octets octets) = octets
+octets_of_part (part.Sifting sieve room) = []
+octets_of_part part.Over = []
+
+-- the fragments that are held: of a command set, or of a data set
+abbrev pub octets_gathered : HeldGathered → List ℕ
+octets_gathered held.Nothing = []
+octets_gathered (held.CommandPart context octets) = octets
+octets_gathered (held.DataPart begun) = octets_of_part begun.data_set
+octets_gathered (held.Spent fault) = []
+
+-- how many they may be
+abbrev pub gathered_limit : HeldGathered → ℕ
+gathered_limit held.Nothing = 0
+gathered_limit (held.CommandPart context octets) = command_limit
+gathered_limit (held.DataPart begun) = other_limit
+gathered_limit (held.Spent fault) = 0
+
+-- the sieve that a data set is in was fed so many octets at most
+abbrev pub SiftsWithin : Syntax → Part → ℕ → Type 0
+SiftsWithin syntax (part.Octets octets) limit = Unit {0}
+SiftsWithin syntax (part.Sifting sieve room) limit =
+    (octets : List ℕ) × SieveAfter syntax kept_attributes octets sieve × (length octets ≤ limit)
+SiftsWithin syntax part.Over limit = Unit {0}
 
 -- ---- what taking a PDV answers
 

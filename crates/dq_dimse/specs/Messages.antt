@@ -20,7 +20,7 @@ command_limit = 16384
 
 -- A data set is at most so many octets: that of a C-STORE, and that of any other command.
 abbrev pub store_limit : ℕ
-store_limit = 67108864
+store_limit = 4294967295
 
 abbrev pub other_limit : ℕ
 other_limit = 1048576

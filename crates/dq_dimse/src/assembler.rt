@@ -26,7 +26,7 @@ use std::mem;
 /// A command set is at most so many octets.
 const COMMAND_LIMIT: usize = 16_384;
 /// The data set of a C-STORE is at most so many octets.
-const STORE_LIMIT: usize = 67_108_864;
+const STORE_LIMIT: usize = 4_294_967_295;
 /// The data set of any other command is at most so many octets.
 const OTHER_LIMIT: usize = 1_048_576;
 

@@ -51,7 +51,7 @@ pub struct Message {
     /// Sifted for a C-STORE that is not `over`, and octets for any other. A message without a data
     /// set has an empty one.
     pub body: Body,
-    /// Whether the data set passed its limit: 67,108,864 octets of a C-STORE, 1,048,576 of any
+    /// Whether the data set passed its limit: 4,294,967,295 octets of a C-STORE, 1,048,576 of any
     /// other command. It was then discarded.
     pub over: bool,
 }

@@ -15,8 +15,12 @@ ghost use Rattle.dq_pdu.specs.Stream.{pdus_in};
 ghost use Rattle.dq_dimse.specs.Carrying.{Carries, IsDataOf, pdu_with};
 ghost use Rattle.dq_dimse.specs.Commands.{command_of};
 ghost use Rattle.dq_dimse.specs.CommandSets.{IsCommandSet, HasFields, SaysResponse};
-ghost use Rattle.dq_dimse.specs.Holding.{StandsFor, is_stored, plain_message};
-ghost use Rattle.dq_dimse.specs.Messages.{AreMessages, AreLeft, command_limit};
+ghost use Rattle.dq_dimse.specs.declared.assembler.Accepted.{Accepted};
+ghost use Rattle.dq_dimse.specs.declared.assembler.Begun.{Begun};
+ghost use Rattle.dq_dimse.specs.declared.assembler.Gathered.TheVariants as held;
+ghost use Rattle.dq_dimse.specs.Holding.{StandsFor, Holding, WasGiven, is_stored, plain_message};
+ghost use Rattle.dq_dimse.specs.Holding.{octets_gathered, gathered_limit, SiftsWithin};
+ghost use Rattle.dq_dimse.specs.Messages.{AreMessages, AreLeft, command_limit, store_limit};
 ghost use Rattle.dq_dimse.specs.Assembling.{Assembly, AssemblerAfter, messages, messages_from};
 ghost use Rattle.dq_dimse.specs.Assembling.{assembly_from, followed_by, spent_by};
 ghost use Rattle.dq_dimse.specs.Sending.{IsFragmentSize, AreFragmentsOf, command_set, pdu_limit};
@@ -103,6 +107,19 @@ pub fn plain_messages_are_held()
         StandsFor syntax held message →
         (is_stored message.command ≡ false) ⊎ (message.over ≡ true) →
         plain_message held ≡ message }
+{}
+
+/// Whatever PDVs an assembler was given, of an unfinished message it holds at most 16,384 octets of
+/// a command set, or 1,048,576 of a data set. The data set of a C-STORE is in a sieve, which was fed
+/// at most 4,294,967,295 octets (PS3.7 section 6.3.1).
+pub fn unfinished_messages_are_short()
+    ensures held { (accepted : List Accepted) (pdvs : List Pdv) (holding : Holding) →
+        WasGiven accepted pdvs holding →
+        length (octets_gathered holding.gathered) ≤ gathered_limit holding.gathered }
+    ensures sifted { (accepted : List Accepted) (pdvs : List Pdv) (holding : Holding)
+        (begun : Begun) → WasGiven accepted pdvs holding →
+        holding.gathered ≡ held.DataPart begun →
+        SiftsWithin begun.context.syntax begun.data_set store_limit }
 {}
 
 /// The length of a fragment is the largest that a PDU for the peer has room for (PS3.8 annex D.1).

@@ -2,11 +2,9 @@ mod DataSets
 mod Fitting
 mod Itself
 mod KnownKeys
-mod Counted
 mod Moments
 mod NamePads
 mod Names
-mod Places
 mod Scanning
 mod Showing
 mod ShownTags

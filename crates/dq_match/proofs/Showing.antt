@@ -25,7 +25,7 @@ use Rattle.dq_match.specs.Matching.{all_met}
 use Rattle.dq_match.specs.Responses.{put, or_empty, has_no_elements, cut_value, with_cut, shown_keys, shown_items, cut_keys, cut_by, shown_element, unless_empty, character_set, put_first}
 use Rattle.dq_match.proofs.KnownKeys.{same_tag, both}
 use Rattle.dq_match.proofs.DataSets.{after_earlier, elements_by}
-use Rattle.dq_match.proofs.Places.{from_place}
+use Rattle.dq_dataset.proofs.Places.{from_place}
 
 -- ---- the facts of one element
 

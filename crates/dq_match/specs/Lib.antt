@@ -13,5 +13,4 @@ pub mod Supported
 pub mod Responses
 pub mod Universal
 pub mod ShownTags
-pub mod Lengths
 pub mod Answers

@@ -13,7 +13,7 @@ use Rattle.dq_config.specs.Limits.{Limits}
 use Rattle.dq_tables.specs.Rows.{Record, Edit}
 use Rattle.dq_tables.specs.Serving.{first_refusal, outcome}
 use Rattle.dq_tables.proofs.Refusing.{first_in, first_past}
-use Rattle.dq_store.specs.Storing.{Instance, Kept, kept_among, instance_in, is_named, data_set_limit, kept_refusals, limit_refusals, storage_refusals, stored_status, stored_edits, stored}
+use Rattle.dq_store.specs.Storing.{Instance, Kept, kept_among, instance_in, is_named, data_set_limit, keeps_too_much, kept_refusals, limit_refusals, storage_refusals, stored_status, stored_edits, stored}
 use Rattle.dq_store.specs.Views.{instance_stored, kept_status}
 
 abbrev kept_by : Bool → Kept → Instance → ℕ × List Edit
@@ -60,14 +60,20 @@ module _ (limits : Limits) (records : List Record) (message : Message) (syntax :
       → stored limits records message syntax ≡ (cannot_understand, [])
   unread h none = not_read limits records message syntax (reading syntax message.octets) h refl none
 
-  module _ (d : ElementList) (h : is_over data_set_limit message ≡ false) (read : reading syntax message.octets ≡ Ok d) where
+  pub too_much : (d : ElementList) → is_over data_set_limit message ≡ false → reading syntax message.octets ≡ Ok d → keeps_too_much d ≡ true
+      → stored limits records message syntax ≡ (out_of_resources, [])
+  unfolding stored
+  too_much d h read large = rw (h, read, large) refl
+
+  module _ (d : ElementList) (h : is_over data_set_limit message ≡ false) (read : reading syntax message.octets ≡ Ok d)
+      (small : keeps_too_much d ≡ false) where
     pub unnamed : is_named message.command d ≡ false → stored limits records message syntax ≡ (does_not_match_sop_class, [])
     unfolding stored
-    unnamed none = rw (h, read, none) refl
+    unnamed none = rw (h, read, small, none) refl
 
     pub handed_on : is_named message.command d ≡ true → stored limits records message syntax ≡ instance_stored limits records false (instance_in d)
     unfolding stored instance_stored
-    handed_on named = rw (h, read, named) refl
+    handed_on named = rw (h, read, small, named) refl
 
 -- ---- what is refused
 

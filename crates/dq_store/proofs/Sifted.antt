@@ -8,13 +8,14 @@ use Rattle.dq_list.proofs.Readers.{provided_some}
 use Rattle.dq_dataset.specs.declared.fault.ReadFault.{ReadFault}
 use Rattle.dq_dataset.specs.declared.header.Syntax.{Syntax}
 use Rattle.dq_dataset.specs.declared.sieve.Sifted.{Sifted as Answer}
-use Rattle.dq_dataset.specs.declared.sieve.Sifted.TheVariants.{Kept, Fault}
+use Rattle.dq_dataset.specs.declared.sieve.Sifted.TheVariants.{Kept, Large, Fault}
 use Rattle.dq_dataset.specs.Tree.{ElementList}
 use Rattle.dq_dataset.specs.Editing.{cut_out}
 use Rattle.dq_dataset.specs.Faults.{IsFaulty}
 use Rattle.dq_dataset.specs.Grammar.{IsSpelled}
 use Rattle.dq_dataset.specs.Reading.{reading}
 use Rattle.dq_dataset.specs.Sieve.{IsSifted, has_other}
+use Rattle.dq_dataset.proofs.Large.{no_fault, sifted_kept, sifted_large, sifted_small}
 use Rattle.dq_dimse.specs.declared.command.Body.{Body}
 use Rattle.dq_dimse.specs.declared.command.Body.TheVariants.{Octets, Sifted}
 use Rattle.dq_dimse.specs.declared.command.Command.{Command}
@@ -26,9 +27,9 @@ use Rattle.dq_dimse.specs.Received.{Message}
 use Rattle.dq_dimse.specs.Receiving.{is_over}
 use Rattle.dq_config.specs.Limits.{Limits}
 use Rattle.dq_tables.specs.Rows.{Record}
-use Rattle.dq_store.specs.Storing.{Instance, data_set_limit, instance_in, is_named, stored}
+use Rattle.dq_store.specs.Storing.{Instance, data_set_limit, instance_in, is_named, keeps_too_much, stored}
 use Rattle.dq_store.specs.Views.{instance_stored}
-use Rattle.dq_store.proofs.Outcomes.{unread, not_provided, unnamed, handed_on}
+use Rattle.dq_store.proofs.Outcomes.{unread, too_much, not_provided, unnamed, handed_on}
 use Rattle.dq_store.proofs.Sieved.{named_kept, kept_decides}
 
 not_false : (b : Bool) → not b ≡ false → b ≡ true
@@ -68,20 +69,35 @@ module _ (syntax : Syntax) (held : HeldMessage) (m : Message) (h : StandsFor syn
 
 faulty_in : (syntax : Syntax) (octets : List ℕ) (fault : ReadFault) → IsSifted syntax kept_attributes octets (Fault fault)
     → (first : ReadFault) × IsFaulty syntax octets first
-faulty_in syntax octets fault (inl x) = (let no = x.2 in absurd cc)
+faulty_in syntax octets fault (inl x) = absurd (no_fault (cut_out kept_attributes x.0) (has_other kept_attributes x.0) fault x.2)
 faulty_in syntax octets fault (inr x) = (x.0, x.1)
+
+-- a data set of which too much would be kept
+large_in : (syntax : Syntax) (octets : List ℕ) → IsSifted syntax kept_attributes octets Large
+    → (d : ElementList) × IsSpelled syntax octets d × (keeps_too_much d ≡ true)
+large_in syntax octets (inl x) = (x.0, x.1, sifted_large (cut_out kept_attributes x.0) (has_other kept_attributes x.0) x.2)
+large_in syntax octets (inr x) = (let no = x.2 in absurd cc)
 
 -- a data set of which this was kept
 pub record WasKept (syntax : Syntax) (octets : List ℕ) (kept : ElementList) (other : Bool) : Type 0 where
   pub whole : ElementList
   pub spelled : IsSpelled syntax octets whole
   pub kept_is : kept ≡ cut_out kept_attributes whole
+  pub small : keeps_too_much whole ≡ false
   pub other_is : other ≡ has_other kept_attributes whole
 
 kept_in : (syntax : Syntax) (octets : List ℕ) (kept : ElementList) (other : Bool) → IsSifted syntax kept_attributes octets (Kept kept other)
     → WasKept syntax octets kept other
 kept_in syntax octets kept other (inl x) =
-    (let same = x.2 in record { whole = x.0; spelled = x.1; kept_is = cc; other_is = cc })
+    let cut = cut_out kept_attributes x.0 in
+    let same = sifted_kept kept cut other (has_other kept_attributes x.0) x.2 in
+    record {
+      whole = x.0;
+      spelled = x.1;
+      kept_is = same.0;
+      small = sifted_small kept cut other (has_other kept_attributes x.0) x.2;
+      other_is = same.1;
+    }
 kept_in syntax octets kept other (inr x) = (let no = x.2 in absurd cc)
 
 module _ (limits : Limits) (records : List Record) (syntax : Syntax) (held : HeldMessage) (m : Message) (h : StandsFor syntax held m) where
@@ -91,6 +107,13 @@ module _ (limits : Limits) (records : List Record) (syntax : Syntax) (held : Hel
   stored_unread answer fault is e law =
       let faulty = faulty_in syntax m.octets fault (subst (IsSifted syntax kept_attributes m.octets) e (is_answer syntax held m h answer is)) in
       unread limits records m syntax (not_over syntax held m h answer is) (ap result_ok (law faulty.0 faulty.1))
+
+  pub stored_large : (answer : Answer) → held.body ≡ Sifted answer → answer ≡ Large
+      → ((d : ElementList) → IsSpelled syntax m.octets d → reading syntax m.octets ≡ Ok d)
+      → stored limits records m syntax ≡ (0xA700, [])
+  stored_large answer is e law =
+      let large = large_in syntax m.octets (subst (IsSifted syntax kept_attributes m.octets) e (is_answer syntax held m h answer is)) in
+      too_much limits records m syntax large.0 (not_over syntax held m h answer is) (law large.0 large.1) large.2
 
   pub kept_of_it : (answer : Answer) (kept : ElementList) (other : Bool) → held.body ≡ Sifted answer → answer ≡ Kept kept other
       → WasKept syntax m.octets kept other
@@ -107,7 +130,7 @@ module _ (limits : Limits) (records : List Record) (syntax : Syntax) (held : Hel
     pub stored_unnamed : None ≡ provided (is_named held.command kept) (instance_in kept) → stored limits records m syntax ≡ (0xA900, [])
     stored_unnamed none =
         let w = kept_of_it answer kept other is e in
-        unnamed limits records m syntax w.whole (not_over syntax held m h answer is) (law w.whole w.spelled)
+        unnamed limits records m syntax w.whole (not_over syntax held m h answer is) (law w.whole w.spelled) w.small
         (sym named_is ∙ not_provided (is_named held.command kept) (instance_in kept) none)
 
     pub stored_kept : (sent : Instance) → Some sent ≡ provided (is_named held.command kept) (instance_in kept)
@@ -119,4 +142,5 @@ module _ (limits : Limits) (records : List Record) (syntax : Syntax) (held : Hel
         ∙ ap (λ (k : ElementList). instance_stored limits records other (instance_in k)) w.kept_is
         ∙ ap (λ (b : Bool). instance_stored limits records b (instance_in (cut_out kept_attributes w.whole))) w.other_is
         ∙ sym (kept_decides limits records w.whole)
-        ∙ sym (handed_on limits records m syntax w.whole (not_over syntax held m h answer is) (law w.whole w.spelled) (sym named_is ∙ named.0))
+        ∙ sym (handed_on limits records m syntax w.whole (not_over syntax held m h answer is) (law w.whole w.spelled) w.small
+        (sym named_is ∙ named.0))

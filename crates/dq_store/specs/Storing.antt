@@ -15,6 +15,8 @@ use Rattle.dq_dataset.specs.Reading.{reading}
 use Rattle.dq_dataset.specs.Canonical.{canonical}
 use Rattle.dq_dataset.specs.Editing.{cut_out}
 use Rattle.dq_dataset.specs.Same.{has_element}
+use Rattle.dq_dataset.specs.Sieve.{is_large}
+use Rattle.dq_dimse.specs.Attributes.{kept_attributes}
 use Rattle.dq_dimse.specs.declared.command.Command.{Command}
 use Rattle.dq_dimse.specs.Received.{Message}
 use Rattle.dq_dimse.specs.Receiving.{is_over}
@@ -59,7 +61,11 @@ is_named command d =
 
 -- the greatest number of octets of the data set of a message
 abbrev pub data_set_limit : ℕ
-data_set_limit = 0x4000000
+data_set_limit = 0xFFFFFFFF
+
+-- The canonical Explicit spelling of the elements kept of the data set is over the limit of a sieve.
+abbrev pub keeps_too_much : ElementList → Bool
+keeps_too_much d = is_large (cut_out kept_attributes d)
 
 -- ---- what is kept already
 
@@ -125,6 +131,7 @@ storage_refusals limits records message data_set =
     let sent = result_unwrap_or data_set no_elements in
     (is_over data_set_limit message, out_of_resources)
     ∷ (is_err data_set, cannot_understand)
+    ∷ (keeps_too_much sent, out_of_resources)
     ∷ (not (is_named message.command sent), does_not_match_sop_class)
     ∷ instance_refusals limits records (instance_in sent)
 

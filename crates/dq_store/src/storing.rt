@@ -17,9 +17,8 @@ use crate::keeping::KeptRows;
 use crate::kept::{kept_refusal, kept_rows, limit_refusal, stored_status};
 use dq_config::Institution;
 use dq_dataset::laws::{editing_law, fault_law, spelling_law, written_law};
-use dq_dataset::{Sifted, Syntax};
+use dq_dataset::{Sifted, Syntax, can_be_written};
 use dq_dimse::{Body, Message, status};
-use dq_match::can_be_written;
 use dq_tables::{Change, Row, TableFault, Tables};
 use std::alloc::{AllocError, Global};
 
@@ -44,17 +43,18 @@ pub fn store<T: Tables>(
 {
     spelling_law();
     fault_law();
-    editing_law();
     let Body::Sifted(sifted) = &message.body else {
         return Ok(status::OUT_OF_RESOURCES);
     };
-    let Sifted::Kept(data_set, other) = sifted else {
-        return Ok(status::CANNOT_UNDERSTAND);
+    let (data_set, other) = match sifted {
+        Sifted::Kept(data_set, other) => (data_set, *other),
+        Sifted::Large => return Ok(status::OUT_OF_RESOURCES),
+        Sifted::Fault(_) => return Ok(status::CANNOT_UNDERSTAND),
     };
-    let Some(sent) = Instance::of(&message.command, data_set, *other) else {
+    let Some(sent) = Instance::of(&message.command, data_set, other) else {
         return Ok(status::DOES_NOT_MATCH_SOP_CLASS);
     };
-    // A data set within its limit can be written.
+    // What a sieve keeps can be written.
     if !can_be_written(data_set, Syntax::Explicit) {
         return Ok(status::OUT_OF_RESOURCES);
     }

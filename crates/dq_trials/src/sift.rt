@@ -54,8 +54,8 @@ fn sifted(alloc: Global, octets: &[u8], by: Sifting) -> Result<Sifted, AllocErro
     Ok(sieve.finish())
 }
 
-/// The text of what the tags leave: `fault N`, or the canonical spelling in Explicit, with `all` where
-/// no other element was sent, and else `others`.
+/// The text of what the tags leave: `fault N`, `large`, or the canonical spelling in Explicit, with
+/// `all` where no other element was sent, and else `others`.
 pub(crate) fn sifted_text(alloc: Global, octets: &[u8], by: Sifting) -> Result<String, AllocError>
     requires { length octets.now < 2 ^ 31 }
 {
@@ -66,6 +66,7 @@ pub(crate) fn sifted_text(alloc: Global, octets: &[u8], by: Sifting) -> Result<S
             let spelled = octets_text(alloc, write(alloc, &kept, Syntax::Explicit)?.as_slice())?;
             format!(in alloc; "{spelled} {}", if other { "others" } else { "all" })
         }
+        Sifted::Large => format!(in alloc; "large"),
         Sifted::Fault(ReadFault::NoMemory) => Err(AllocError),
         Sifted::Fault(fault) => format!(in alloc; "fault {}", fault.number()),
     }

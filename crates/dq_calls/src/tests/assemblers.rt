@@ -4,17 +4,17 @@ use dq_dataset::{ReadFault, Sifted, Syntax};
 use dq_dimse::{Accepted, Assembler, Body, Message, command_field};
 use dq_list::Listed;
 use dq_pdu::Pdv;
-use std::alloc::Global;
+use std::alloc::{AllocError, Global};
 use std::test::*;
 
-/// A data fragment of context 1, of zero octets.
-fn data(alloc: Global, length: usize, last: bool) -> Result<Pdv, Fail> {
-    Ok(Pdv {
+/// A data fragment of context 1.
+fn data(octets: Listed<u8>, last: bool) -> Pdv {
+    Pdv {
         context: 1,
         command: false,
         last,
-        octets: Listed::from_inner(vec![in alloc; 0; length]?),
-    })
+        octets,
+    }
 }
 
 /// An assembler that was given a request of a Command Field, with a data set to follow.
@@ -33,16 +33,29 @@ fn begun(alloc: Global, code: u16) -> Result<Assembler, Fail> {
     Ok(assembler)
 }
 
-/// A message whose data set has so many octets, in fragments.
-fn with_data_of(alloc: Global, code: u16, length: usize) -> Result<Message, Fail> {
+fn zeros(alloc: Global, length: usize) -> Result<Listed<u8>, AllocError> {
+    Ok(Listed::from_inner(vec![in alloc; 0; length]?))
+}
+
+/// A message whose data set has these octets, and so many of zero behind them, in fragments.
+pub(super) fn with_zeros(
+    alloc: Global,
+    code: u16,
+    front: &[u8],
+    length: usize,
+) -> Result<Message, Fail> {
     let mut assembler = begun(alloc, code)?;
-    let fragment = data(alloc, 0x1_0000, false)?;
+    let mut unfinished = assembler
+        .take(&data(Listed::copy_of(alloc, front)?, false))?
+        .is_none();
+    let fragment = data(zeros(alloc, 0x1_0000)?, false);
     for _ in 0..length / 0x1_0000 {
-        if assembler.take(&fragment)?.is_some() {
-            return Err("the data set is still to come".into());
-        }
+        unfinished &= assembler.take(&fragment)?.is_none();
     }
-    let last = data(alloc, length % 0x1_0000, true)?;
+    if !unfinished {
+        return Err("the data set is still to come".into());
+    }
+    let last = data(zeros(alloc, length % 0x1_0000)?, true);
     Ok(assembler.take(&last)?.ok_or("the message is whole")?)
 }
 
@@ -60,18 +73,18 @@ fn is_discarded(message: &Message) -> bool {
     message.over && matches!(&message.body, Body::Octets(octets) if octets.is_empty())
 }
 
-/// A C-FIND's data set may have 1,048,576 octets, and a C-STORE's 67,108,864.
+/// A C-FIND's data set may have 1,048,576 octets, and a C-STORE's 4,294,967,295.
 #[test]
 fn data_sets_at_their_limits(rt: HostRuntime) -> Result<(), Fail> {
     let alloc = rt.alloc();
     for (code, limit) in [
         (command_field::C_FIND, 0x10_0000),
-        (command_field::C_STORE, 0x400_0000),
+        (command_field::C_STORE, 0xFFFF_FFFF),
     ] {
-        assert!(rt; !with_data_of(alloc, code, limit - 2)?.over);
-        let at = with_data_of(alloc, code, limit)?;
+        assert!(rt; !with_zeros(alloc, code, &[], limit - 2)?.over);
+        let at = with_zeros(alloc, code, &[], limit)?;
         assert!(rt; is_held(&at, limit));
-        let above = with_data_of(alloc, code, limit + 2)?;
+        let above = with_zeros(alloc, code, &[], limit + 2)?;
         assert!(rt; is_discarded(&above));
     }
     Ok(())

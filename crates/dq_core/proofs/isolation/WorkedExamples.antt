@@ -14,6 +14,7 @@ use Rattle.dq_dimse.specs.Receiving.{identifier_in}
 use Rattle.dq_dataset.specs.Rules.{content_of, agrees}
 use Rattle.dq_dataset.specs.Reading.{tag_at, vr_at, vr_or_fault, length_at, long_length_at, spelling_at, header_at, end_at, value_by, element_by, elements_after, elements_by, item_by, items_after, items_by, readers, reading}
 use Rattle.dq_dataset.specs.Canonical.{header_of, vr_and_length}
+use Rattle.dq_dataset.specs.Sieve.{is_large}
 use Rattle.dq_dataset.specs.Values.{sole_at}
 use Rattle.dq_dimse.specs.Commands.{command_from, command_of}
 use Rattle.dq_assoc.specs.Classes.{class_of}
@@ -435,7 +436,7 @@ stores :
 unfolding pdus_within front pdu_of associate_of request_of item_at pdv_at proposed_of user_information_of values_of parts routed has_route joins built_in class_of
     stripped without_leading without_trailing kept_before messages_from command_from command_of reading readers elements_by element_by elements_after value_by
     items_by item_by items_after header_at end_at is_below tag_at spelling_at long_length_at content_of known_vr vr_in dictionary trimmed unpadded is_padded
-    ignores_leading_spaces served stored is_named uid_at sole_at
+    ignores_leading_spaces served stored is_large is_named uid_at sole_at
 stores = (refl, refl)
 
 -- the server of one institution alone, which has no routes: a pair of titles that nobody has, a search and an order
@@ -448,7 +449,7 @@ alone : alone_replies limits [] (Open 1 ∷ Piece 1 (request_of_title ct9) ∷ P
 unfolding pdus_within front pdu_of associate_of request_of item_at pdv_at proposed_of user_information_of values_of parts
     stripped without_leading without_trailing kept_before messages_from command_from command_of reading readers elements_by element_by elements_after value_by
     items_by item_by items_after header_at end_at is_below tag_at spelling_at long_length_at content_of known_vr vr_in dictionary trimmed unpadded is_padded
-    ignores_leading_spaces served found query_of identifier_in level_named has_keys_above is_supported keys_of leaves answers records_asked records_of stored
+    ignores_leading_spaces served found query_of identifier_in level_named has_keys_above is_supported keys_of leaves answers records_asked records_of stored is_large
     is_named ordered withdrawn record_at class_of
     vr_at vr_or_fault vr_with_letters vr_among every_vr letters_of agrees length_at length_form_of is_text are_well_formed is_universal matching_of value.parts
     value.pieces_of value.has_separator value.pieces value.joined uid_at sole_at

@@ -5,7 +5,7 @@ use Rattle.dq_dataset.specs.Fronts.{front_at}
 use Rattle.dq_dataset.specs.declared.sieve.Stage.TheVariants.{Between}
 use Rattle.dq_dataset.proofs.WalkHeaders.{whole_header, filled_has_no_end}
 use Rattle.dq_dataset.proofs.SieveSteps.{goes_nowhere}
-use Rattle.dq_dataset.proofs.SieveValues.{adds_octet, stops_at_header}
+use Rattle.dq_dataset.proofs.SieveValues.{adds_octet, adds_octet_ok, stops_at_header}
 use Rattle.dq_dataset.proofs.sieve.came.Goals as goal
 
 pub begun-requires-clause-placed : goal.begun-requires-clause-placed
@@ -52,3 +52,7 @@ returns-in-Bad c =
     let met = rw c.deref.ensures.value at c.in-Bad.ensures.met in
     adds_octet c.args.tags.now outer outer _ c.args.front c.push.new.self c.args.octet c.in_ok-push.ensures.items
     (stops_at_header c.args.tags.now outer c.push.new.self c.in-Bad.fault met.0 met.1 met.2)
+
+pub returns-in-Whole : goal.returns-in-Whole
+returns-in-Whole c =
+    adds_octet_ok c.args.tags.now c.args.outer c.args.front c.push.new.self c.args.octet c.in_ok-push.ensures.items c.begun.result c.begun.ensures

@@ -1,8 +1,10 @@
-use Rattle.std.proofs.Common.{◌≡◌, ◌∙◌, ℕ, Bool, true, List, [], sym, ap, subst, arith}
+use Rattle.std.proofs.Common.{◌≡◌, ◌∙◌, ℕ, Bool, true, List, [], sym, ap, subst}
 use Rattle.std.specs.Option.{option_map}
 use Rattle.dq_config.specs.Limits.{limits_of}
 use Rattle.dq_dataset.specs.declared.header.Syntax.TheVariants.{Explicit}
 use Rattle.dq_dataset.specs.Canonical.{HasLengths}
+use Rattle.dq_dataset.specs.Editing.{cut_out}
+use Rattle.dq_dataset.proofs.Large.{small_has_lengths}
 use Rattle.dq_dimse.specs.Attributes.{kept_attributes}
 use Rattle.dq_tables.specs.Rows.{Record, Edit, of}
 use Rattle.dq_tables.specs.Serving.{Serves}
@@ -10,7 +12,7 @@ use Rattle.dq_tables.proofs.Calling.{reads_nothing, serves_read}
 use Rattle.dq_store.specs.Storing.{stored}
 use Rattle.dq_store.specs.Views.{instance_of, instance_stored}
 use Rattle.dq_store.proofs.Outcomes.{over}
-use Rattle.dq_store.proofs.Sifted.{octets_over, short, kept_of_it, stored_unread, stored_unnamed, stored_kept}
+use Rattle.dq_store.proofs.Sifted.{octets_over, kept_of_it, stored_large, stored_unread, stored_unnamed, stored_kept}
 use Rattle.dq_store.proofs.storing.store.Goals as goal
 
 pub returns-in_default-clause-serves : goal.returns-in_default-clause-serves
@@ -23,15 +25,25 @@ returns-in_default-clause-serves g c = λ sent h.
     (λ honest. over limits (of name it.rows) sent c.args.syntax
     (octets_over c.args.syntax c.args.message.now sent h c.in_default.field-0 c.requires c.in_default.is))
 
-pub returns-in_default-sifted-clause-serves : goal.returns-in_default-sifted-clause-serves
-returns-in_default-sifted-clause-serves g c = λ sent h.
+pub returns-in-Large-clause-serves : goal.returns-in-Large-clause-serves
+returns-in-Large-clause-serves g c = λ sent h.
+    let it = g.T.Tables.state c.args.tables.now in
+    let name = c.args.institution.now.name in
+    let limits = limits_of c.args.institution.now in
+    let does = λ (records : List Record). stored limits records sent c.args.syntax in
+    serves_read name does it it 0xA700 (reads_nothing it 0xA700)
+    (λ honest. stored_large limits (of name it.rows) c.args.syntax c.args.message.now sent h c.in-Sifted.sifted c.in-Sifted.is c.in-Large.is
+    (c.spelling_law.ensures.read c.args.syntax sent.octets))
+
+pub returns-in-Fault-clause-serves : goal.returns-in-Fault-clause-serves
+returns-in-Fault-clause-serves g c = λ sent h.
     let it = g.T.Tables.state c.args.tables.now in
     let name = c.args.institution.now.name in
     let limits = limits_of c.args.institution.now in
     let does = λ (records : List Record). stored limits records sent c.args.syntax in
     serves_read name does it it 0xC000 (reads_nothing it 0xC000)
-    (λ honest. stored_unread limits (of name it.rows) c.args.syntax c.args.message.now sent h c.in-Sifted.sifted c.in_default-sifted.field-0
-    c.in-Sifted.is c.in_default-sifted.is (c.fault_law.ensures.read c.args.syntax sent.octets))
+    (λ honest. stored_unread limits (of name it.rows) c.args.syntax c.args.message.now sent h c.in-Sifted.sifted c.in-Fault.field-0
+    c.in-Sifted.is c.in-Fault.is (c.fault_law.ensures.read c.args.syntax sent.octets))
 
 pub returns-in_default-of-clause-serves : goal.returns-in_default-of-clause-serves
 returns-in_default-of-clause-serves g c = λ sent h.
@@ -48,9 +60,7 @@ pub returns-then-not-can_be_written-clause-serves : goal.returns-then-not-can_be
 returns-then-not-can_be_written-clause-serves g c = λ sent h.
     let w = kept_of_it (limits_of c.args.institution.now) [] c.args.syntax c.args.message.now sent h c.in-Sifted.sifted c.in-Kept.data_set c.in-Kept.other
     c.in-Sifted.is c.in-Kept.is in
-    let within = short c.args.syntax c.args.message.now sent h c.in-Sifted.sifted c.in-Sifted.is in
-    let whole = c.spelling_law.ensures.lengths c.args.syntax Explicit sent.octets w.whole w.spelled (omega (arith, within)) in
-    let lengths = subst (HasLengths Explicit) (sym w.kept_is) (c.editing_law.ensures.cut_lengths Explicit kept_attributes w.whole whole) in
+    let lengths = subst (HasLengths Explicit) (sym w.kept_is) (small_has_lengths (cut_out kept_attributes w.whole) w.small) in
     let written : c.can_be_written.result ≡ true = c.can_be_written.ensures.1 lengths in
     absurd (let no = c.if-not-can_be_written.true in cc)
 

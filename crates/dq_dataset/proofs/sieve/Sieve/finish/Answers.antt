@@ -1,5 +1,5 @@
 use Rattle.dq_dataset.specs.declared.sieve.Sifted.TheVariants.{Fault}
-use Rattle.dq_dataset.proofs.SieveSteps.{ends, ends_kept, kept_is_data_set}
+use Rattle.dq_dataset.proofs.SieveSteps.{ends, ends_large, ends_kept, kept_is_data_set}
 use Rattle.dq_dataset.proofs.SieveValues.{held_is}
 use Rattle.dq_dataset.proofs.sieve.Sieve.finish.Goals as goal
 
@@ -8,7 +8,7 @@ from_elements-requires c =
     let held = c.in-Sifting in
     let tags = c.self.inside.tags.now in
     let s = rw held.is at c.self.invariant in
-    kept_is_data_set held.outer.syntax tags s.0 held.outer held.stage (λ octets answer m. c.in-None.ensures tags held.outer octets answer m) s.1
+    kept_is_data_set held.outer.syntax tags s.0 held.outer held.stage (λ octets answer m. c.in-None.ensures tags held.outer octets answer m) s.1 c.if-outer.false
 
 pub returns-in-Some : goal.returns-in-Some
 returns-in-Some c = λ syntax tags fed after.
@@ -20,5 +20,11 @@ pub returns-in-None : goal.returns-in-None
 returns-in-None c = λ syntax tags fed after.
     let held = c.in-Sifting in
     let f = held_is syntax tags c.self.inside.tags.now fed c.self.inside.held c.args.self held.outer held.stage c.self.view_is held.is after in
+    ends_large syntax tags fed held.outer held.stage (λ octets answer m. c.in-None.ensures tags held.outer octets answer m) f c.if-outer.true
+
+pub returns-in-None-2 : goal.returns-in-None-2
+returns-in-None-2 c = λ syntax tags fed after.
+    let held = c.in-Sifting in
+    let f = held_is syntax tags c.self.inside.tags.now fed c.self.inside.held c.args.self held.outer held.stage c.self.view_is held.is after in
     rw c.from_elements.ensures
-    (ends_kept syntax tags fed held.outer held.stage (λ octets answer m. c.in-None.ensures tags held.outer octets answer m) f)
+    (ends_kept syntax tags fed held.outer held.stage (λ octets answer m. c.in-None.ensures tags held.outer octets answer m) f c.if-outer.false)

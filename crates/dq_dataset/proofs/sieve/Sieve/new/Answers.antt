@@ -5,10 +5,10 @@ use Rattle.dq_dataset.proofs.sieve.Sieve.new.Goals as goal
 
 pub invariant_of-result : goal.invariant_of-result
 invariant_of-result c =
-    let outer : Outer = record { syntax = c.args.syntax; last = None; kept = c.new.result; other = false } in
-    ([], starts c.args.tags.now outer c.new-2.result refl c.new.ensures.items refl c.new-2.ensures.items)
+    let outer : Outer = record { syntax = c.args.syntax; last = None; large = false; kept = c.new.result; other = false } in
+    ([], starts c.args.tags.now outer c.new-2.result refl refl c.new.ensures.items refl c.new-2.ensures.items)
 
 pub returns : goal.returns
 returns c =
-    let outer : Outer = record { syntax = c.args.syntax; last = None; kept = c.new.result; other = false } in
-    record { tags_are = refl; after = starts c.args.tags.now outer c.new-2.result refl c.new.ensures.items refl c.new-2.ensures.items }
+    let outer : Outer = record { syntax = c.args.syntax; last = None; large = false; kept = c.new.result; other = false } in
+    record { tags_are = refl; after = starts c.args.tags.now outer c.new-2.result refl refl c.new.ensures.items refl c.new-2.ensures.items }

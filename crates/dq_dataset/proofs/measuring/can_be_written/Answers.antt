@@ -4,7 +4,7 @@ use Rattle.dq_dataset.specs.Tree.{ElementList}
 use Rattle.dq_dataset.specs.View.{as_elements}
 use Rattle.dq_dataset.specs.Canonical.{HasLengths}
 use Rattle.dq_dataset.proofs.Views.{as_elements-elements_of}
-use Rattle.dq_match.proofs.lengths.can_be_written.Goals as goal
+use Rattle.dq_dataset.proofs.measuring.can_be_written.Goals as goal
 
 pub returns : goal.returns
 returns c =

@@ -1,6 +1,6 @@
 use Rattle.std.proofs.Common.{arith}
-use Rattle.dq_match.proofs.Counted.{lengths_from}
-use Rattle.dq_match.proofs.lengths.have_lengths.Goals as goal
+use Rattle.dq_dataset.proofs.Counted.{lengths_from}
+use Rattle.dq_dataset.proofs.measuring.have_lengths.Goals as goal
 
 pub loop-element-preserved : goal.loop-element-preserved
 loop-element-preserved c =

@@ -1,6 +1,6 @@
 use Rattle.std.proofs.Common.{sym, arith}
-use Rattle.dq_match.proofs.Counted.{implicit_header, short_header, un_header, long_header}
-use Rattle.dq_match.proofs.lengths.header_length.Goals as goal
+use Rattle.dq_dataset.proofs.Counted.{implicit_header, short_header, un_header, long_header}
+use Rattle.dq_dataset.proofs.measuring.header_length.Goals as goal
 
 pub returns-in-Implicit : goal.returns-in-Implicit
 returns-in-Implicit c tag = rw c.in-Implicit.is (sym (implicit_header tag c.args.vr c.args.octets))

@@ -18,8 +18,8 @@ use Rattle.dq_dataset.specs.Tree.{ElementList, no_elements, element, sequence, I
 use Rattle.dq_dataset.specs.View.{as_elements, items_of, with_value}
 use Rattle.dq_dataset.specs.Canonical.{tag_octets, long_length, vr_and_length, header_of, item_header_of, canonical, canonical_items, HasLengths, ItemsHaveLengths}
 use Rattle.dq_dataset.proofs.WrittenIsSpelled.{two_letters}
-use Rattle.dq_match.specs.Lengths.{value_octets}
-use Rattle.dq_match.proofs.Places.{from_place}
+use Rattle.dq_dataset.specs.Lengths.{value_octets}
+use Rattle.dq_dataset.proofs.Places.{from_place}
 
 -- ---- headers
 
@@ -81,7 +81,7 @@ header_cut Explicit tag vr n =
 abbrev one : Tag → Vr → Value → Element
 one tag vr value = record { tag = tag; vr = vr; value = value }
 
-value_length : (s : Syntax) (t : Tag) (v : Vr) (x : Value) (rest : ElementList)
+pub value_length : (s : Syntax) (t : Tag) (v : Vr) (x : Value) (rest : ElementList)
     → length (canonical s (with_value (one t v x) x rest)) ≡ length (header_of s t v (value_octets s x)) + value_octets s x + length (canonical s rest)
 value_length s t v (Octets o) rest =
     omega (arith, length-append (header_of s t v (length o) ++ o) (canonical s rest), length-append (header_of s t v (length o)) o)
@@ -119,7 +119,7 @@ item_counted s all i total d octets lt is cut so_far =
 -- ---- what is short as a whole is short in its parts
 
 mutual
-  short_elements : (s : Syntax) (d : ElementList) → length (canonical s d) < 0xFFFFFFFF → HasLengths s d
+  pub short_elements : (s : Syntax) (d : ElementList) → length (canonical s d) < 0xFFFFFFFF → HasLengths s d
   short_elements s no_elements lt = tt
   short_elements s (element t v o rest) lt =
       let whole = length-append (header_of s t v (length o) ++ o) (canonical s rest) in

@@ -6,8 +6,8 @@ use Rattle.dq_dataset.specs.declared.data_set.Element.{Element}
 use Rattle.dq_dataset.specs.Canonical.{canonical, canonical_items}
 use Rattle.dq_dataset.proofs.Views.{as_elements-elements_of}
 use Rattle.dq_dataset.proofs.Copies.{value_count-element, item_count-item}
-use Rattle.dq_match.proofs.Counted.{element_counted, item_counted}
-use Rattle.dq_match.proofs.lengths.+lengths.Goals as goal
+use Rattle.dq_dataset.proofs.Counted.{element_counted, item_counted}
+use Rattle.dq_dataset.proofs.measuring.+measuring.Goals as goal
 
 pub elements_length-value_length-octets-requires : goal.elements_length-value_length-octets-requires
 elements_length-value_length-octets-requires t c =

@@ -3,7 +3,7 @@ use Rattle.dq_dataset.specs.Tree.{item_count, items_count}
 use Rattle.dq_dataset.specs.View.{as_elements, items_of}
 use Rattle.dq_dataset.specs.Canonical.{canonical, canonical_items}
 use Rattle.dq_dataset.proofs.Copies.{value_count}
-use Rattle.dq_match.proofs.lengths.+lengths.Given as goal
+use Rattle.dq_dataset.proofs.measuring.+measuring.Given as goal
 
 abbrev pub decreases-value_length : goal.decreases-value_length
 decreases-value_length l = 3 * value_count l.value.now + 1

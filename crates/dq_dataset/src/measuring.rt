@@ -1,12 +1,13 @@
-//! Whether a data set can be written: whether the length of each value and of each item is below
-//! FFFFFFFFH (PS3.5 section 7.1).
+//! How long the canonical spelling of a data set is, and whether it can be written: whether the
+//! length of each value and of each item is below FFFFFFFFH (PS3.5 section 7.1).
 ghost use Rattle.std.specs.Prelude.{◌≡◌, ◌↔◌, IsTrue, min, length};
 ghost use Rattle.dq_vr.specs.declared.Tag.{Tag};
 ghost use Rattle.dq_dataset.specs.View.{as_elements, items_of};
 ghost use Rattle.dq_dataset.specs.Canonical.{header_of, canonical, canonical_items, HasLengths};
-ghost use Rattle.dq_match.specs.Lengths.{value_octets};
+ghost use Rattle.dq_dataset.specs.Lengths.{value_octets};
 
-use dq_dataset::{DataSet, Element, Syntax, Value};
+use crate::data_set::{DataSet, Element, Value};
+use crate::header::Syntax;
 use dq_vr::{LengthForm, Vr, length_form};
 
 /// The greatest even length of 2 octets.
@@ -26,7 +27,7 @@ fn header_length(syntax: Syntax, vr: Vr, octets: u32) -> u32
 }
 
 /// The octets of a value, but no more than FFFFFFFFH.
-#[cycle(lengths)]
+#[cycle(measuring)]
 fn value_length(value: &Value, syntax: Syntax) -> u32
     ensures { result ≡ min (value_octets syntax value.now) 0xFFFFFFFF }
 {
@@ -37,8 +38,8 @@ fn value_length(value: &Value, syntax: Syntax) -> u32
 }
 
 /// The octets of the canonical spelling of elements, but no more than FFFFFFFFH.
-#[cycle(lengths)]
-fn elements_length(elements: &[Element], syntax: Syntax) -> u32
+#[cycle(measuring)]
+pub fn elements_length(elements: &[Element], syntax: Syntax) -> u32
     ensures { result ≡ min (length (canonical syntax (as_elements elements.now))) 0xFFFFFFFF }
 {
     let mut total: u32 = 0;
@@ -51,7 +52,7 @@ fn elements_length(elements: &[Element], syntax: Syntax) -> u32
 }
 
 /// The octets of the canonical spelling of items, but no more than FFFFFFFFH.
-#[cycle(lengths)]
+#[cycle(measuring)]
 fn items_length(items: &[DataSet], syntax: Syntax) -> u32
     ensures { result ≡ min (length (canonical_items syntax (items_of items.now))) 0xFFFFFFFF }
 {
