@@ -222,16 +222,21 @@ impl Search<'_> {
     }
 
     /// The answer that a completed record gives, where it fits.
-    fn answer(&self, alloc: Global, held: &DataSet) -> Result<Option<DataSet>, AllocError>
-        requires { HasKnownTags self.now.query.now.keys }
+    fn answer(
+        &self,
+        alloc: Global,
+        about: &DataSet,
+        held: &DataSet,
+    ) -> Result<Option<DataSet>, AllocError>
+        requires known { HasKnownTags self.now.query.now.keys }
+        requires about { about.now ≡ about_answers self.now.called.now self.now.query.now.level }
         ensures { IfOk result (λ given. given
             ≡ answer_if self.now.called.now self.now.query.now held.now) }
     {
         let Some(part) = answer(alloc, &self.query.keys, held)? else {
             return Ok(None);
         };
-        let about = about_answers(alloc, self.called, self.query.level)?;
-        Ok(Some(part.merged(alloc, &about)?))
+        Ok(Some(part.merged(alloc, about)?))
     }
 
     /// The answer that a row gives. What no key asks for is not computed, nor what is asked of a
@@ -240,9 +245,11 @@ impl Search<'_> {
         &self,
         alloc: Global,
         tables: &mut T,
+        about: &DataSet,
         row: &Row,
     ) -> Result<Option<DataSet>, TableFault>
-        requires { HasKnownTags self.now.query.now.keys }
+        requires known { HasKnownTags self.now.query.now.keys }
+        requires about { about.now ≡ about_answers self.now.called.now self.now.query.now.level }
         ensures { Looks (T.state tables.old) (T.state tables.new)
             self.now.institution.now
             (λ records. answer_of records self.now.called.now self.now.query.now
@@ -251,14 +258,14 @@ impl Search<'_> {
         keys_are_met_alone_and_as_a_period();
         let held = row.data_set(alloc)?;
         if !asks_computed(self.query) {
-            return Ok(self.answer(alloc, &held)?);
+            return Ok(self.answer(alloc, about, &held)?);
         }
         if !kept_keys_are_met(self.query.keys.elements(), &held) {
             return Ok(None);
         }
         let values = self.computed(alloc, tables, row.key.as_slice())?;
         let held = held.merged(alloc, &values)?;
-        Ok(self.answer(alloc, &held)?)
+        Ok(self.answer(alloc, about, &held)?)
     }
 
     /// The answers that some rows give, in their order.
@@ -274,9 +281,10 @@ impl Search<'_> {
             answer_of records self.now.called.now self.now.query.now (record_of row)) rows.now)
             result }
     {
+        let about = about_answers(alloc, self.called, self.query.level)?;
         let mut answers = Listed::empty(alloc);
         for row in rows {
-            let answer = self.answer_of(alloc, tables, row)?;
+            let answer = self.answer_of(alloc, tables, &about, row)?;
             if let Some(answer) = answer {
                 answers.push(answer)?;
             }

@@ -13,3 +13,5 @@ pub mod OneOrder
 pub mod Rising
 pub mod Days
 pub mod Keyed
+pub mod Indexed
+pub mod ByKeys

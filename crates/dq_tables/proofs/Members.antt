@@ -1,5 +1,5 @@
 -- Which rows there are after an edit, in any order.
-use Rattle.std.proofs.Common.{◌≡◌, ℕ, Bool, true, false, not, List, [], ◌∷◌, ◌++◌, Option, Some, None, refl, sym, ◌∙◌, ap, subst, append-nil, append_assoc, filter, if◌then◌else◌}
+use Rattle.std.proofs.Common.{◌≡◌, ℕ, Bool, true, false, not, List, [], ◌∷◌, ◌++◌, Option, Some, None, refl, sym, ◌∙◌, ap, subst, append-nil, append_assoc, filter}
 use Rattle.std.specs.List.{AllByRecursion, find}
 use Rattle.std.specs.Ordering.{is_lt, is_eq, is_gt}
 use Rattle.std.specs.declared.cmp.Ordering.{Ordering}
@@ -11,7 +11,7 @@ use Rattle.dq_tables.specs.declared.row.Kind.{Kind}
 use Rattle.dq_tables.specs.declared.row.Row.{Row}
 use Rattle.dq_tables.specs.Rows.{IsRising, RowPlace, place, row_place_of, row_place_order, rows_before, rows_past, rows_elsewhere, after_edit, Put, Remove, record_of}
 use Rattle.dq_tables.specs.Finding.{row_at}
-use Rattle.dq_tables.proofs.Order.{is_at, is_past, all_past, later_past, IsRising-split, filter_all, filter_none, each_passed, each_weaker}
+use Rattle.dq_tables.proofs.Order.{is_at, is_past, all_past, later_past, IsRising-split, filter_all, filter_none, each_passed}
 use Rattle.dq_tables.proofs.InOrder.{row_at_is}
 
 before_apart : (p : RowPlace) (row : Row) (o : Ordering) → row_place_order (row_place_of row) p ≡ o → is_lt o ≡ true → not (is_at p row) ≡ true

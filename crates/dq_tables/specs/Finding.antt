@@ -1,5 +1,5 @@
 -- What is found among rows, and among the records of one institution.
-use Rattle.std.specs.Prelude.{◌≡◌, ℕ, ◌+◌, ◌<◌, ◌≤◌, take, drop, slice_get, None, Bool, ◌==◌, ◌&&◌, List, filter, find, length, Option}
+use Rattle.std.specs.Prelude.{◌≡◌, ℕ, ◌+◌, ◌<◌, ◌≤◌, take, drop, slice_get, None, Bool, ◌&&◌, List, filter, find, length, Option}
 use Rattle.std.specs.Str.{bytes_eq}
 use Rattle.dq_tables.specs.declared.row.Kind.{Kind}
 use Rattle.dq_tables.specs.declared.row.Row.{Row}

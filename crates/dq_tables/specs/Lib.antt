@@ -6,5 +6,6 @@ pub mod Faults
 pub mod Labels
 pub mod Choosing
 pub mod Sound
+pub mod Indexed
 pub mod Keeping
 pub mod Serving

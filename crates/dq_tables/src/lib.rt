@@ -16,6 +16,7 @@ mod put;
 mod row;
 mod search;
 mod tables;
+mod under;
 
 pub use change::Change;
 pub use choice::Choice;

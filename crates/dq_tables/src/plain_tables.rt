@@ -4,7 +4,7 @@ use crate::choice::Choice;
 use crate::fault::TableFault;
 use crate::plain::PlainTables;
 use crate::row::{Kind, Row};
-use crate::search::{copies, copies_chosen, copies_under, count_under, found, group, studies_near};
+use crate::search::{copies, found, group};
 use crate::tables::Tables;
 use dq_list::Listed;
 use std::alloc::Global;
@@ -42,7 +42,6 @@ impl Tables for PlainTables {
         Ok(copies(alloc, group(self.kept(), kind, institution))?)
     }
 
-    #[tactic(auto, unfolding(crate::specs::Finding::rows_above))]
     fn rows_above(
         &mut self,
         alloc: Global,
@@ -50,7 +49,7 @@ impl Tables for PlainTables {
         institution: &[u8],
         above: &[u8],
     ) -> Result<Listed<Row>, TableFault> {
-        Ok(copies_under(alloc, group(self.kept(), kind, institution), above)?)
+        Ok(self.kept_above(alloc, kind, institution, above)?)
     }
 
     fn studies_in(
@@ -59,23 +58,21 @@ impl Tables for PlainTables {
         institution: &[u8],
         choice: &Choice,
     ) -> Result<Listed<Row>, TableFault> {
-        let studies = studies_near(self.kept(), institution, choice);
-        Ok(copies_chosen(alloc, studies, choice)?)
+        Ok(self.chosen(alloc, institution, choice)?)
     }
 
     fn count(&mut self, _alloc: Global, kind: Kind, institution: &[u8]) -> Result<u64, TableFault> {
         Ok(group(self.kept(), kind, institution).len() as u64)
     }
 
-    #[tactic(auto, unfolding(crate::specs::Finding::rows_above))]
     fn count_above(
         &mut self,
-        _alloc: Global,
+        alloc: Global,
         kind: Kind,
         institution: &[u8],
         above: &[u8],
     ) -> Result<u64, TableFault> {
-        Ok(count_under(group(self.kept(), kind, institution), above) as u64)
+        Ok(self.counted_above(alloc, kind, institution, above)? as u64)
     }
 
     fn failed(&self) -> bool {
