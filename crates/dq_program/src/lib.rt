@@ -5,6 +5,7 @@
 mod answering;
 mod capture;
 mod desk;
+mod help;
 mod looping;
 mod network;
 mod printing;

@@ -7,6 +7,7 @@ ghost use Rattle.clap.specs.Words.{app_of, rule_of, kind_of, subcommand_rows_of}
 ghost use Rattle.dq_program.specs.Words.{line_of, place_named, place_in, port_told, turns_told, seconds_told, told_if_given, loopback_address, request_in, request_of, serving_in, serving_of, errand_in, errand_of, asked};
 ghost use Rattle.dq_program.specs.Clap.{value_rule, required_rule, task_app, listening_app, serve_app, loopback_app, command, value_in, is_given, is_named, task_in};
 
+use crate::help::{CAPTURES, STATUSES};
 use clap::error::ErrorKind;
 use clap::{Arg, ArgAction, ArgMatches, Command};
 use std::alloc::{AllocError, Global};
@@ -321,6 +322,7 @@ fn task_command<'a>(alloc: Global, name: &'a str, about: &'a str) -> Result<Comm
     );
     let command = Command::new(alloc, name)
         .about(about)
+        .after_help(STATUSES)
         .arg(config_option(alloc))?
         .arg(new)?
         .arg(store)?;
@@ -393,6 +395,7 @@ fn loopback_command<'a>(alloc: Global) -> Result<Command<'a>, AllocError>
 {
     let command = Command::new(alloc, "loopback")
         .about("Plays a capture from standard input over sockets, and prints what each was sent")
+        .after_help(STATUSES)
         .arg(config_option(alloc))?;
     Ok(command)
 }
@@ -415,6 +418,7 @@ fn command<'a>(alloc: Global) -> Result<Command<'a>, AllocError>
     let loopback = loopback_command(alloc)?;
     let command = Command::new(alloc, PROGRAM_NAME)
         .about("A DICOM server")
+        .after_help(CAPTURES)
         .subcommand(replay)?
         .subcommand(report)?
         .subcommand(serve)?

@@ -6,7 +6,7 @@ use Rattle.dq_program.proofs.words.command.Goals as goal
 
 pub returns : goal.returns
 returns c =
-    let top : app_of c.about.result ≡ new_app (codes "dq_server") = ap app_of_fields c.about.ensures ∙ c.new.ensures.app in
+    let top : app_of c.after_help.result ≡ new_app (codes "dq_server") = ap app_of_fields c.after_help.ensures ∙ ap app_of_fields c.about.ensures ∙ c.new.ensures.app in
     let one : app_of c.in_ok-subcommand.field-0 ≡ with_subcommand (new_app (codes "dq_server")) (task_app (codes "replay")).top =
     c.in_ok-subcommand.ensures.shape (search rules) ∙ ap₂ with_subcommand top (ap (λ (a : App). a.top) c.in_ok-replay.ensures.app) in
     let two : app_of c.in_ok-subcommand-2.field-0

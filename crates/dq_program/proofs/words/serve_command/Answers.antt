@@ -1,4 +1,4 @@
-use Rattle.std.proofs.Common.{◌≡◌, codes, ap, ap₂, ◌∙◌, rules}
+use Rattle.std.proofs.Common.{◌≡◌, codes, ap₂, ◌∙◌, rules}
 use Rattle.clap.specs.Words.{rule_of, with_rule}
 use Rattle.dq_program.specs.Clap.{flag_rule}
 use Rattle.dq_program.proofs.words.serve_command.Goals as goal

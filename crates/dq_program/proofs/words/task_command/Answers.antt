@@ -5,7 +5,7 @@ use Rattle.dq_program.proofs.words.task_command.Goals as goal
 
 pub returns-clause-app : goal.returns-clause-app
 returns-clause-app c =
-    let about = ap app_of_fields c.about.ensures ∙ c.new.ensures.app in
+    let about = ap app_of_fields c.after_help.ensures ∙ ap app_of_fields c.about.ensures ∙ c.new.ensures.app in
     let config = c.in_ok-arg.ensures.shape (search rules) ∙ ap₂ with_rule about c.config_option.ensures.rule in
     let new = c.in_ok-arg-2.ensures.shape (search rules) ∙ ap₂ with_rule config c.value_option-new.ensures.rule in
     c.in_ok-command.ensures.shape (search rules) ∙ ap₂ with_rule new c.value_option-store.ensures.rule
