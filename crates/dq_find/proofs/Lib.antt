@@ -8,6 +8,7 @@ mod LookedUp
 mod Completing
 mod Counting
 mod InOrder
+mod InTurn
 mod Looking
 mod MetFirst
 mod Matching

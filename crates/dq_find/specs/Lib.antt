@@ -8,4 +8,5 @@ pub mod Candidates
 pub mod Kept
 pub mod Looking
 pub mod Answers
+pub mod Pages
 pub mod Examples

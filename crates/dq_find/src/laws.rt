@@ -1,11 +1,12 @@
 //! Laws of queries. Each function's contract is a law; its body does nothing.
-ghost use Rattle.std.specs.Prelude.{◌≡◌, ◌≢◌, ℕ, List, [], ◌∷◌, Ok, codes};
-ghost use Rattle.std.specs.List.{AllByRecursion};
+ghost use Rattle.std.specs.Prelude.{◌≡◌, ◌≢◌, ◌≤◌, ◌*◌, ℕ, List, [], ◌∷◌, length, take, drop, Ok, codes};
+ghost use Rattle.std.specs.List.{AllByRecursion, flat_map};
 ghost use Rattle.dq_dataset.specs.declared.header.Syntax.{Syntax};
 ghost use Rattle.dq_dataset.specs.declared.header.Syntax.TheVariants.{Explicit};
 ghost use Rattle.dq_dataset.specs.Tree.{ElementList};
 ghost use Rattle.dq_dimse.specs.Statuses.{success};
 ghost use Rattle.dq_dimse.specs.Received.{Message};
+ghost use Rattle.dq_match.specs.declared.responses.Found.{Found};
 ghost use Rattle.dq_tables.specs.declared.row.Row.{Row};
 ghost use Rattle.dq_tables.specs.Rows.{Record, Edit, IsRising, of, by, after};
 ghost use Rattle.dq_tables.specs.Sound.{IsSound};
@@ -14,6 +15,7 @@ ghost use Rattle.dq_find.specs.Queries.{query_of, answers, found};
 ghost use Rattle.dq_find.specs.Computed.{modalities_in};
 ghost use Rattle.dq_find.specs.Answers.{AreAnswers, Tells};
 ghost use Rattle.dq_find.specs.Modalities.{AreModalities};
+ghost use Rattle.dq_find.specs.Pages.{HasGiven, GivesInTurn, IsPage, ArePages};
 ghost use Rattle.dq_find.specs.Examples.{request, identifier, kept, answer, found_with};
 
 /// A query is answered with what is told of the records that match it, each once, in the order of
@@ -65,6 +67,24 @@ pub fn modalities_are_those_of_the_series()
     ensures told { (series : List Record) → AreModalities series (modalities_in series) }
     ensures alone { (series : List Record) (told : List (List ℕ))
         → AreModalities series told → told ≡ modalities_in series }
+{}
+
+/// What `Pages` gives, one answer after the other or in pages, are the answers that stood first, each
+/// once, in their order, with the others left; they are all where none is left. A page of at most so
+/// many takes the first so many, and none is left after as many pages as that takes.
+pub fn answers_are_given_once_in_order()
+    ensures in_turn { (before left : Found) (given : List ElementList)
+        → GivesInTurn before given left → HasGiven before given left }
+    ensures in_pages { (most : ℕ) (before left : Found) (pages : List (List ElementList))
+        → ArePages most before pages left → HasGiven before (flat_map (λ page. page) pages) left }
+    ensures all { (before left : Found) (given : List ElementList) → HasGiven before given left
+        → left.answers ≡ [] → given ≡ before.answers }
+    ensures page { (most : ℕ) (before left : Found) (page : List ElementList)
+        → IsPage most before page left
+        → (page ≡ take most before.answers) × (left.answers ≡ drop most before.answers) }
+    ensures ended { (most : ℕ) (before left : Found) (pages : List (List ElementList))
+        → ArePages most before pages left → length before.answers ≤ most * length pages
+        → left.answers ≡ [] }
 {}
 
 /// On a worked example: of no records nothing is found, with status 0000, and of the studies of two

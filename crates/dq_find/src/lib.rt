@@ -7,9 +7,11 @@ mod computed;
 mod finding;
 pub mod laws;
 mod level;
+mod pages;
 mod query;
 mod texts;
 
 pub use finding::find;
 pub use level::Level;
+pub use pages::Pages;
 pub use query::Query;
