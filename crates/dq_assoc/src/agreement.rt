@@ -14,7 +14,7 @@ use std::marker::Model;
 
 /// The longest PDU that a peer takes, in octets: 0 is no limit, and any other leaves room for the
 /// header of a value and a fragment of two octets (PS3.8 annex D.1).
-#[derive(Debug, Drop)]
+#[derive(Clone, Copy, Debug)]
 pub struct PeerLimit {
     octets: u32,
 }
@@ -28,6 +28,8 @@ impl Model for PeerLimit {
     ghost view = { λ a. a.octets };
 
     ghost invariant = { λ a. has_room (Some a.octets) ≡ true };
+
+    ghost inverse = { λ octets. record { octets = octets } };
 }
 
 /// The shortest PDU that carries data.

@@ -11,6 +11,7 @@ use Rattle.dq_config.specs.declared.config.Institution.{Institution}
 use Rattle.dq_config.specs.Limits.{limits_of}
 use Rattle.dq_tables.specs.declared.row.Row.{Row}
 use Rattle.dq_tables.specs.Rows.{Record, Edit, edited_all, of, Operation, by, after, after_all}
+use Rattle.dq_core.specs.Pages.{OpenQuery}
 use Rattle.dq_core.specs.Answers.{Answer, then_answer}
 use Rattle.dq_core.specs.Shared.{operations_by}
 use Rattle.dq_core.specs.Stepping.{IsPartOf}
@@ -41,11 +42,12 @@ module _ (owner : Option Institution) (a b : Answer) where
   joined : operations_by owner (a.changes ++ b.changes) ≡ first_operations ++ operations_by owner b.changes
   joined = operations-append owner a.changes b.changes
 
-  did-then : (r0 r1 r2 : List Row) (x0 x1 x2 : List ℕ) → a.close ≡ false → Did owner a r0 r1 x0 x1 → Did owner b r1 r2 x1 x2
-      → Did owner (then_answer a b) r0 r2 x0 x2
-  did-then r0 r1 r2 x0 x1 x2 h first later = rw h (record {
+  did-then : (r0 r1 r2 : List Row) (x0 x1 x2 : List ℕ) (q1 q2 : Option OpenQuery) → a.close ≡ false → Did owner a r0 r1 x0 x1 q1
+      → Did owner b r1 r2 x1 x2 q2 → Did owner (then_answer a b) r0 r2 x0 x2 q2
+  did-then r0 r1 r2 x0 x1 x2 q1 q2 h first later = rw h (record {
     octets = rw (later.octets, first.octets) (append_assoc x0 a.octets b.octets);
     rows = rw (joined, after-append first_operations (operations_by owner b.changes) r0, later.rows, first.rows) refl;
+    query = later.query;
   })
 
   part-first : (r0 r1 : List Row) (IsLeft : List Row → Type 0) (p : Bool) → a.close ≡ p → DidPart owner a r0 r1 IsLeft
@@ -60,9 +62,9 @@ module _ (owner : Option Institution) (a b : Answer) where
     crash = λ r left. next-first part.later (operations_by owner b.changes) r1 r (part.crash r left);
   })
 
-  part-then : (r0 r1 r2 : List Row) (x0 x1 : List ℕ) (IsLeft : List Row → Type 0) → a.close ≡ false → Did owner a r0 r1 x0 x1
+  part-then : (r0 r1 r2 : List Row) (x0 x1 : List ℕ) (q1 : Option OpenQuery) (IsLeft : List Row → Type 0) → a.close ≡ false → Did owner a r0 r1 x0 x1 q1
       → DidPart owner b r1 r2 IsLeft → DidPart owner (then_answer a b) r0 r2 IsLeft
-  part-then r0 r1 r2 x0 x1 IsLeft h first part = rw (h, joined) (record {
+  part-then r0 r1 r2 x0 x1 q1 IsLeft h first part = rw (h, joined) (record {
     done = first_operations ++ part.done;
     later = part.later;
     whole = append_assoc first_operations part.done part.later ∙ ap (λ (os : List Operation). first_operations ++ os) part.whole;
@@ -87,7 +89,7 @@ widest part = record { done = part.done; later = part.later; whole = part.whole;
 
 -- What is left of an answer: where it is given or begun from here, the whole is given or begun.
 pub record From (owner : Option Institution) (whole rest : Answer) (r0 r1 : List Row) (x0 x1 : List ℕ) : Type 0 where
-  pub did : (r2 : List Row) (x2 : List ℕ) → Did owner rest r1 r2 x1 x2 → Did owner whole r0 r2 x0 x2
+  pub did : (r2 : List Row) (x2 : List ℕ) (q2 : Option OpenQuery) → Did owner rest r1 r2 x1 x2 q2 → Did owner whole r0 r2 x0 x2 q2
   pub part : (r2 : List Row) (begun : DidPart owner rest r1 r2 Unleft) → DidPart owner whole r0 r2 (Left r2 begun.later)
 
 from-part : {owner : Option Institution} {whole rest : Answer} {r0 r1 : List Row} {x0 x1 : List ℕ} → From owner whole rest r0 r1 x0 x1
@@ -99,51 +101,58 @@ abbrev pub Lens : Type 0
 Lens = (h : List ℕ) (changes : List (List Edit)) (rows : List Row) → of h (after_all (map (by h) changes) rows) ≡ edited_all changes (of h rows)
 
 -- Messages are left of those that are served for an institution.
-pub record Serves (i : Institution) (a : Agreement) (all left : List Message) (r0 r1 : List Row) (x0 x1 : List ℕ) : Type 0 where
-  pub rest : From (Some i) (messages_answer (limits_of i) a (of i.name r0) all) (messages_answer (limits_of i) a (of i.name r1) left) r0 r1 x0 x1
+pub record Serves (i : Institution) (a : Agreement) (all left : List Message) (r0 r1 : List Row) (x0 x1 : List ℕ) (q0 q1 : Option OpenQuery)
+    : Type 0 where
+  pub rest : From (Some i) (messages_answer (limits_of i) a (of i.name r0) q0 all) (messages_answer (limits_of i) a (of i.name r1) q1 left) r0 r1 x0 x1
 
--- a part of the answers to messages, from the records that there are
+-- a part of the answers to messages, from the records that there are and the C-FIND that is open
 part-of : (i : Institution) (a : Agreement) (ms : List Message) (r0 r1 : List Row) (IsLeft : List Row → Type 0) (records : List Record)
-    → of i.name r0 ≡ records → DidPart (Some i) (messages_answer (limits_of i) a (of i.name r0) ms) r0 r1 IsLeft
-    → DidPart (Some i) (messages_answer (limits_of i) a records ms) r0 r1 IsLeft
-part-of i a ms r0 r1 IsLeft records same part = rw same at part
+    (q0 q1 : Option OpenQuery)
+    → of i.name r0 ≡ records → q0 ≡ q1 → DidPart (Some i) (messages_answer (limits_of i) a (of i.name r0) q0 ms) r0 r1 IsLeft
+    → DidPart (Some i) (messages_answer (limits_of i) a records q1 ms) r0 r1 IsLeft
+part-of i a ms r0 r1 IsLeft records q0 q1 same same_query part = rw (same, same_query) at part
 
-module _ {i : Institution} {a : Agreement} {all left : List Message} {r0 r1 : List Row} {x0 x1 : List ℕ} (serves : Serves i a all left r0 r1 x0 x1) where
+module _ {i : Institution} {a : Agreement} {all left : List Message} {r0 r1 : List Row} {x0 x1 : List ℕ} {q0 q1 : Option OpenQuery}
+    (serves : Serves i a all left r0 r1 x0 x1 q0 q1) where
   abbrev served : Message → Answer
-  served m = served_answer (limits_of i) a (of i.name r1) m
+  served m = served_answer (limits_of i) a (of i.name r1) q1 m
 
   -- none is left
-  pub serves-all : left ≡ [] → Did (Some i) (messages_answer (limits_of i) a (of i.name r0) all) r0 r1 x0 x1
-  serves-all e = serves.rest.did r1 x1 (rw e (record { octets = sym (append-nil x1); rows = refl }))
+  pub serves-all : left ≡ [] → Did (Some i) (messages_answer (limits_of i) a (of i.name r0) q0 all) r0 r1 x0 x1 q1
+  serves-all e = serves.rest.did r1 x1 q1 (rw e (record { octets = sym (append-nil x1); rows = refl; query = refl }))
 
   module _ {m : Message} {ms : List Message} (e : left ≡ m ∷ ms) where
     -- a message was served, and those after it are left
-    pub serves-next : {r2 : List Row} {x2 : List ℕ} → Lens → Did (Some i) (served m) r1 r2 x1 x2 → Serves i a all ms r0 r2 x0 x2
-    serves-next {r2 = r2} {x2 = x2} lens d =
-        let rest = messages_answer (limits_of i) a (served m).next.records ms in
+    pub serves-next : {r2 : List Row} {x2 : List ℕ} {q2 : Option OpenQuery} → Lens → Did (Some i) (served m) r1 r2 x1 x2 q2
+        → Serves i a all ms r0 r2 x0 x2 q0 q2
+    serves-next {r2 = r2} {x2 = x2} {q2 = q2} lens d =
+        let rest = messages_answer (limits_of i) a (served m).next.records (served m).next.query ms in
         let same : of i.name r2 ≡ (served m).next.records = ap (of i.name) d.rows ∙ lens i.name (served m).changes r1 in record {
           rest = record {
-            did = λ r3 x3 later. serves.rest.did r3 x3 (rw e (did-then (Some i) (served m) rest r1 r2 r3 x1 x2 x3 refl d (rw same at later)));
+            did = λ r3 x3 q3 later. serves.rest.did r3 x3 q3
+                (rw e (did-then (Some i) (served m) rest r1 r2 r3 x1 x2 x3 q2 q3 refl d (rw (same, d.query) at later)));
             part = λ r3 begun.
                 from-part serves.rest r3 (Left r3 begun.later)
-                (rw e (part-then (Some i) (served m) rest r1 r2 r3 x1 x2 (Left r3 begun.later) refl d
-                (part-of i a ms r2 r3 (Left r3 begun.later) (served m).next.records same (widest begun))));
+                (rw e (part-then (Some i) (served m) rest r1 r2 r3 x1 x2 q2 (Left r3 begun.later) refl d
+                (part-of i a ms r2 r3 (Left r3 begun.later) (served m).next.records q2 (served m).next.query same d.query (widest begun))));
           };
         }
 
     -- a message was served in part
     pub serves-part : {r2 : List Row} (IsLeft : List Row → Type 0) → DidPart (Some i) (served m) r1 r2 IsLeft
-        → DidPart (Some i) (messages_answer (limits_of i) a (of i.name r0) all) r0 r2 IsLeft
+        → DidPart (Some i) (messages_answer (limits_of i) a (of i.name r0) q0 all) r0 r2 IsLeft
     serves-part {r2 = r2} IsLeft part = from-part serves.rest r2 IsLeft
-        (rw e (part-first (Some i) (served m) (messages_answer (limits_of i) a (served m).next.records ms) r1 r2 IsLeft false refl part))
+        (rw e (part-first (Some i) (served m) (messages_answer (limits_of i) a (served m).next.records (served m).next.query ms) r1 r2 IsLeft false refl
+        part))
 
 -- ---- messages that are held
 
 -- what is left of the messages that are held stands for what is left of those that are served
-pub record HasServed (i : Institution) (a : Agreement) (helds : List HeldMessage) (all : List Message) (r0 r1 : List Row) (x0 x1 : List ℕ) : Type 0 where
+pub record HasServed (i : Institution) (a : Agreement) (helds : List HeldMessage) (all : List Message) (r0 r1 : List Row) (x0 x1 : List ℕ)
+    (q0 q1 : Option OpenQuery) : Type 0 where
   pub left : List Message
   pub stand : StandForAll (accepted_by a) helds left
-  pub serves : Serves i a all left r0 r1 x0 x1
+  pub serves : Serves i a all left r0 r1 x0 x1 q0 q1
 
 pub record Unconsed (accepted : List Accepted) (held : HeldMessage) (helds : List HeldMessage) (left : List Message) : Type 0 where
   pub message : Message
@@ -162,8 +171,8 @@ none_stands accepted [] stand = refl
 none_stands accepted (m ∷ ms) stand = absurd stand
 
 module _ {i : Institution} {a : Agreement} {helds : List HeldMessage} {all : List Message} {r0 r1 : List Row} {x0 x1 : List ℕ}
-    (has : HasServed i a helds all r0 r1 x0 x1) where
-  pub held-all : helds ≡ [] → Did (Some i) (messages_answer (limits_of i) a (of i.name r0) all) r0 r1 x0 x1
+    {q0 q1 : Option OpenQuery} (has : HasServed i a helds all r0 r1 x0 x1 q0 q1) where
+  pub held-all : helds ≡ [] → Did (Some i) (messages_answer (limits_of i) a (of i.name r0) q0 all) r0 r1 x0 x1 q1
   held-all e =
       serves-all has.serves (none_stands (accepted_by a) has.left (subst (λ (hs : List HeldMessage). StandForAll (accepted_by a) hs has.left) e has.stand))
 
@@ -171,9 +180,9 @@ module _ {i : Institution} {a : Agreement} {helds : List HeldMessage} {all : Lis
     next-held : Unconsed (accepted_by a) held others has.left
     next-held = unconsed (accepted_by a) held others has.left (subst (λ (hs : List HeldMessage). StandForAll (accepted_by a) hs has.left) e has.stand)
 
-    pub held-next : {r2 : List Row} {x2 : List ℕ} → Lens
-        → ((m : Message) → StandsOn (accepted_by a) held m → Did (Some i) (served_answer (limits_of i) a (of i.name r1) m) r1 r2 x1 x2)
-        → HasServed i a others all r0 r2 x0 x2
+    pub held-next : {r2 : List Row} {x2 : List ℕ} {q2 : Option OpenQuery} → Lens
+        → ((m : Message) → StandsOn (accepted_by a) held m → Did (Some i) (served_answer (limits_of i) a (of i.name r1) q1 m) r1 r2 x1 x2 q2)
+        → HasServed i a others all r0 r2 x0 x2 q0 q2
     held-next lens d = record {
       left = next-held.messages;
       stand = next-held.stand;
@@ -181,29 +190,31 @@ module _ {i : Institution} {a : Agreement} {helds : List HeldMessage} {all : Lis
     }
 
     pub held-part : {r2 : List Row} (IsLeft : List Row → Type 0)
-        → ((m : Message) → StandsOn (accepted_by a) held m → DidPart (Some i) (served_answer (limits_of i) a (of i.name r1) m) r1 r2 IsLeft)
-        → DidPart (Some i) (messages_answer (limits_of i) a (of i.name r0) all) r0 r2 IsLeft
+        → ((m : Message) → StandsOn (accepted_by a) held m → DidPart (Some i) (served_answer (limits_of i) a (of i.name r1) q1 m) r1 r2 IsLeft)
+        → DidPart (Some i) (messages_answer (limits_of i) a (of i.name r0) q0 all) r0 r2 IsLeft
     held-part IsLeft part = serves-part has.serves next-held.parts IsLeft (part next-held.message next-held.on)
 
 pub none_served : (i : Institution) (a : Agreement) (helds : List HeldMessage) (all : List Message) (r0 : List Row) (x0 : List ℕ)
-    → StandForAll (accepted_by a) helds all → HasServed i a helds all r0 r0 x0 x0
-none_served i a helds all r0 x0 stand = record {
+    (q0 : Option OpenQuery) → StandForAll (accepted_by a) helds all → HasServed i a helds all r0 r0 x0 x0 q0 q0
+none_served i a helds all r0 x0 q0 stand = record {
   left = all;
   stand = stand;
-  serves = record { rest = record { did = λ r2 x2 did. did; part = λ r2 begun. widest begun } };
+  serves = record { rest = record { did = λ r2 x2 q2 did. did; part = λ r2 begun. widest begun } };
 }
 
 -- ---- what was taken
 
 -- the answer to messages, with what comes before it and after it
 pub answer_between : (i : Institution) (a : Agreement) (held : HeldTaken) (t : Taken) (r0 r1 : List Row) (start out octets : List ℕ)
+    (q0 q1 : Option OpenQuery)
     → IsTaken (Some a) held t → start ≡ held.opening
-    → Did (Some i) (messages_answer (limits_of i) a (of i.name r0) t.step.messages) r0 r1 start out → octets ≡ out ++ held.step.octets
-    → Did (Some i) (taken_answer (limits_of i) (of i.name r0) (Some a) t) r0 r1 [] octets
-answer_between i a held t r0 r1 start out octets is s did e =
-    let served = messages_answer (limits_of i) a (of i.name r0) t.step.messages in
+    → Did (Some i) (messages_answer (limits_of i) a (of i.name r0) q0 t.step.messages) r0 r1 start out q1 → octets ≡ out ++ held.step.octets
+    → Did (Some i) (taken_answer (limits_of i) (of i.name r0) (Some a) q0 t) r0 r1 [] octets q1
+answer_between i a held t r0 r1 start out octets q0 q1 is s did e =
+    let served = messages_answer (limits_of i) a (of i.name r0) q0 t.step.messages in
     record {
       octets = e ∙ ap (λ (x : List ℕ). out ++ x) is.step.octets ∙ ap (λ (x : List ℕ). x ++ t.step.octets) did.octets
           ∙ ap (λ (x : List ℕ). (x ++ served.octets) ++ t.step.octets) (s ∙ is.opening) ∙ append_assoc t.opening served.octets t.step.octets;
       rows = did.rows;
+      query = did.query;
     }

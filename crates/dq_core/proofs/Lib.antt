@@ -3,6 +3,8 @@ pub mod Standing
 pub mod Running
 pub mod Composing
 pub mod Responding
+pub mod Paging
+pub mod Sending
 pub mod Serving
 pub mod Going
 pub mod Slotted

@@ -32,6 +32,7 @@ use Rattle.dq_core.specs.Connections.{Connection, with_piece}
 use Rattle.dq_core.specs.Owners.{owner, live_of}
 use Rattle.dq_core.specs.Shared.{World, answer_by}
 use Rattle.dq_core.specs.Doing.{agreement_after, taken}
+use Rattle.dq_core.specs.Queries.{query_in}
 use Rattle.dq_core.specs.Slots.{home_of, StandsAt, IsHeld, IsTaken, Took, verdict_for, owner_with, routed_first, answer_of, AreAlike}
 use Rattle.dq_core.proofs.Composing.{none_stands}
 use Rattle.dq_core.proofs.isolation.Streams.{AddsInputs, owner-stays}
@@ -74,22 +75,22 @@ module _ (institutions : List Institution) (world : World) (c : Connection) (pie
   abbrev Told : State → Option Agreement → List Input → Option Agreement → Option Institution → Option Institution → Type 0
   Told state agreement xs agreed_on o q =
       ((taken (verdict_for count q) state xs).step.messages ≡ []) ⊎ (agreed_on ≡ agreement_after agreement xs)
-      → AreAlike o (answer_by o institutions world c piece) q (answer_of q world.rows agreed_on (taken (verdict_for count q) state xs))
+      → AreAlike o (answer_by o institutions world c piece) q (answer_of q world.rows agreed_on c.query (taken (verdict_for count q) state xs))
 
   told-same : (q : Option Institution) (xs : List Input) (agreed_on : Option Agreement) → option_map agreement_of (request_in (inputs c.stream)) ≡ None
       → inputs_added c.stream piece ≡ xs → Told Waiting None xs agreed_on q q
-  told-same None xs agreed_on e f = λ k. rw f (alike-stranger world.rows xs (progress_of c.stream []) agreed_on)
-  told-same (Some i) xs agreed_on e f = λ k. rw (← counts i.name, e, f) (alike-waiting i (verdict_at i.associations (count i.name)) world.rows xs agreed_on k)
+  told-same None xs agreed_on e f = λ k. rw f (alike-stranger world.rows xs (progress_of c []) agreed_on)
+  told-same (Some i) xs agreed_on e f = λ k. rw (← counts i.name, e, f) (alike-waiting i (verdict_at i.associations (count i.name)) world.rows c.query xs agreed_on k)
 
   told-first : (o q : Option Institution) (xs : List Input) (agreed_on : Option Agreement) → option_map agreement_of (request_in (inputs c.stream)) ≡ None
       → inputs_added c.stream piece ≡ xs → (o ≡ q) ⊎ IsUnsound o xs → Told Waiting None xs agreed_on o q
   told-first o q xs agreed_on e f (inl same) = rw same (told-same q xs agreed_on e f)
   told-first o q xs agreed_on e f (inr (none, request, later, is, unsound)) = rw (none, is) (λ k.
-      rw (f ∙ is) (alike-unsound q (verdict_for count q) world.rows request later (progress_of c.stream []) agreed_on unsound))
+      rw (f ∙ is) (alike-unsound q (verdict_for count q) world.rows request later (progress_of c []) agreed_on unsound))
 
   told-open : (i : Institution) (a : Agreement) (xs : List Input) (agreed_on : Option Agreement)
       → option_map agreement_of (request_in (inputs c.stream)) ≡ Some a → inputs_added c.stream piece ≡ xs → Told Open (Some a) xs agreed_on (Some i) (Some i)
-  told-open i a xs agreed_on e f = λ k. rw (← counts i.name, e, f) (alike-open i (verdict_at i.associations (count i.name)) world.rows a xs agreed_on k)
+  told-open i a xs agreed_on e f = λ k. rw (← counts i.name, e, f) (alike-open i (verdict_at i.associations (count i.name)) world.rows c.query a xs agreed_on k)
 
 module _ (institutions : List Institution) (laws : Laws institutions) (c : Connection) (piece : List ℕ) (pdus : List Pdu) (fault : Option PduFault) where
   abbrev owner_after : Option Institution
@@ -169,6 +170,7 @@ pub record TookBy (q : Option Institution) (verdict : Verdict) (pdus : List Pdu)
       → (fault ≡ None) × StandsAt q new (earlier ++ pdus)
   pub number : new.number ≡ old.number
   pub inbox : new.inbox ≡ old.inbox
+  pub query : new.query ≡ old.query
 
 -- the inbox of the connection was fed the piece
 pub record FedBy (stream piece : List ℕ) (pdus : List Pdu) (fault : Option PduFault) (inbox : Inbox) : Type 0 where
@@ -240,12 +242,13 @@ module _ (institutions : List Institution) (laws : Laws institutions) (world : W
       no_messages (inr agreed) = inr agreed
 
       alike-answer : Counts institutions world count → let o = owner institutions (c.stream ++ piece) in
-          AreAlike o (answer_by o institutions world c piece) owner_now (answer_of owner_now world.rows (held_agreement new.association) given)
+          AreAlike o (answer_by o institutions world c piece) owner_now
+          (answer_of owner_now world.rows (held_agreement new.association) c.query given)
       alike-answer counts =
           told-at institutions laws c piece pdus fault world count counts first old.home (held_agreement new.association) at-first whole
           (no_messages (took.agrees first stands (pdus_in c.stream).list mid-stands))
 
-      still-held : t.step.close ≡ false → IsHeld institutions new (with_piece c piece) × (new.home ≡ home_of owner_now (held_agreement new.association))
+      still-held : t.step.close ≡ false → IsHeld institutions new (with_piece c piece c.query) × (new.home ≡ home_of owner_now (held_agreement new.association))
       still-held close =
           let s = took.stands (pdus_in c.stream).list mid-stands (nowhere-none owner_now count) close in
           let same = same-owner institutions laws c piece pdus fault (verdict_for count owner_now) first old.home at-first whole
@@ -255,6 +258,7 @@ module _ (institutions : List Institution) (laws : Laws institutions) (world : W
               inbox = rw took.inbox fed.stands;
               faultless = fed.fault_is ∙ s.0;
               stands = rw (← same, fed.list) s.1;
+              query = ap query_in took.query ∙ is_held.query;
             },
             s.1.home,
           )
@@ -270,6 +274,7 @@ module _ (institutions : List Institution) (laws : Laws institutions) (world : W
         stands = is_given is_held fed new t now;
         answer = alike-answer is_held fed new t now counts;
         home = (mid-stands is_held fed).home;
+        query = ap query_in by.query;
         held = λ close. still-held is_held fed new t now ((is_given is_held fed new t now).step.close ∙ close);
         listed = owner-listed old.home;
       })

@@ -1,17 +1,21 @@
 -- Responses that are added one after the other.
 use Rattle.std.proofs.Common.{◌≡◌, ℕ, ◌+◌, ◌<◌, Bool, Option, Some, None, List, [], ◌∷◌, ◌++◌, length, map, take, get_or, is_some, option_map, refl, sym, ap, ◌∙◌}
 use Rattle.std.specs.List.{flat_map}
-use Rattle.std.proofs.lemmas.List.{flat_map_more, map-append, take_more}
+use Rattle.std.proofs.lemmas.List.{append-nil, flat_map_more, map-append, take_more}
 use Rattle.dq_dataset.specs.Tree.{ElementList}
 use Rattle.dq_dataset.specs.Canonical.{canonical}
 use Rattle.dq_dimse.specs.declared.command.Command.{Command}
 use Rattle.dq_assoc.specs.declared.agreement.AgreedContext.{AgreedContext}
 use Rattle.dq_core.specs.Services.{Response, response, pending_status, pending_response}
-use Rattle.dq_core.specs.Answers.{response_octets}
+use Rattle.dq_core.specs.Pages.{response_octets}
 
 pub is_some-mapped : {A : Type 0} {B : Type 0} (f : A → B) (o : Option A) → is_some o ≡ is_some (option_map f o)
 is_some-mapped f None = refl
 is_some-mapped f (Some a) = refl
+
+-- one response was added
+pub one-added : (f : Response → List ℕ) (x0 x1 : List ℕ) (r s : Response) → x1 ≡ x0 ++ f r → r ≡ s → x1 ≡ x0 ++ flat_map f (s ∷ [])
+one-added f x0 x1 r s added same = added ∙ ap (λ (o : Response). x0 ++ f o) same ∙ ap (λ (o : List ℕ). x0 ++ o) (sym (append-nil (f s)))
 
 -- the response with one more answer was added
 pub pending-next : (context limit : ℕ) (c : AgreedContext) (command : Command) (optional : Bool) (answers : List ElementList) (i : ℕ) (answer : ElementList)

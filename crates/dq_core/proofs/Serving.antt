@@ -1,7 +1,7 @@
 -- What a message is answered with and changes, by its service.
-use Rattle.std.proofs.Common.{◌≡◌, ℕ, Bool, true, false, ◌==◌, List, [], ◌∷◌, ◌++◌, map, find, Option, Some, None, option_map, ◌⊎◌, inl, refl, sym, ap, subst, ◌∙◌, if◌then◌else◌}
-use Rattle.std.specs.List.{flat_map}
+use Rattle.std.proofs.Common.{◌≡◌, ℕ, Bool, true, false, ◌==◌, List, [], ◌∷◌, ◌++◌, map, find, Option, Some, None, option_map, ◌⊎◌, inl, refl, sym, ap, subst, ◌∙◌, if◌then◌else◌, append_assoc, arith}
 use Rattle.std.proofs.lemmas.List.{append-nil}
+use Rattle.std.proofs.lemmas.Bool.Decides.{nat_tests}
 use Rattle.dq_dimse.specs.declared.assembler.Accepted.{Accepted}
 use Rattle.dq_dimse.specs.declared.command.Command.{Command}
 use Rattle.dq_dimse.specs.declared.command.Message.{Message as HeldMessage}
@@ -18,34 +18,61 @@ use Rattle.dq_match.specs.declared.responses.Found.{Found}
 use Rattle.dq_tables.specs.declared.row.Row.{Row}
 use Rattle.dq_tables.specs.Rows.{of, by, after, Operation, after_all}
 use Rattle.dq_core.specs.Services.{responses, outcome_on, served}
-use Rattle.dq_core.specs.Answers.{response_octets}
+use Rattle.dq_core.specs.Pages.{OpenQuery, message_id, rest, page, cancel_reaction, reaction}
 use Rattle.dq_core.specs.Stepping.{IsPartOf}
 use Rattle.dq_core.specs.Doing.{Did, DidPart, served_answer}
 
+-- the context that is found under an id has it
+found_id : (id : ℕ) (cs : List AgreedContext) (c : AgreedContext) → find (λ (x : AgreedContext). x.id == id) cs ≡ Some c → c.id ≡ id
+found_id id [] c e = cc
+found_id id (d ∷ cs) c e = grind (arith, nat_tests, found_id id cs c)
+
 module _ (i : Institution) (a : Agreement) (m : Message) where
+  -- what is done for the message while a C-FIND is open, or none
+  abbrev Does : Option OpenQuery → List Row → List Row → List ℕ → List ℕ → Option OpenQuery → Type 0
+  Does query r0 r1 x0 x1 next = Did (Some i) (served_answer (limits_of i) a (of i.name r0) query m) r0 r1 x0 x1 next
+
+  abbrev DoesPart : Option OpenQuery → List Row → List Row → (List Row → Type 0) → Type 0
+  DoesPart query r0 r1 IsLeft = DidPart (Some i) (served_answer (limits_of i) a (of i.name r0) query m) r0 r1 IsLeft
+
   -- a message that has no response
-  pub did-stray : (r : List Row) (x : List ℕ) → context_of a m.context ≡ None → Did (Some i) (served_answer (limits_of i) a (of i.name r) m) r r x x
-  unfolding served
-  did-stray r x e = rw e (record { octets = sym (append-nil x); rows = refl })
+  pub did-stray : (r : List Row) (x : List ℕ) → context_of a m.context ≡ None → Does None r r x x None
+  unfolding served reaction
+  did-stray r x e = rw e (record { octets = sym (append-nil x); rows = refl; query = refl })
 
   module _ (c : AgreedContext) (e : context_of a m.context ≡ Some c) where
-    pub did-cancel : (r : List Row) (x : List ℕ) → (m.command.code == c_cancel) ≡ true → Did (Some i) (served_answer (limits_of i) a (of i.name r) m) r r x x
-    unfolding served
-    did-cancel r x h = rw (e, h) (record { octets = sym (append-nil x); rows = refl })
+    pub did-cancel : (r : List Row) (x : List ℕ) → (m.command.code == c_cancel) ≡ true → Does None r r x x None
+    unfolding served reaction
+    did-cancel r x h = rw (e, h) (record { octets = sym (append-nil x); rows = refl; query = refl })
 
-    -- a message was served: its edits were made, and its responses were added
-    pub did-served : (r0 r1 : List Row) (x0 x1 : List ℕ) (found : Found) → (m.command.code == c_cancel) ≡ false
+    -- the responses to the message, of which none was sent
+    abbrev unsent : Command → Found → OpenQuery
+    unsent command found = record { context = c.id; limit = a.limit; left = responses c command found }
+
+    -- a message was served: its edits were made, and the first page of its responses was sent
+    pub did-served : (r0 r1 : List Row) (x0 x1 : List ℕ) (found : Found) (query : OpenQuery) (next : Option OpenQuery)
+        → (m.command.code == c_cancel) ≡ false
         → found ≡ (outcome_on a c (limits_of i) m (of i.name r0)).0 → r1 ≡ after (by i.name (outcome_on a c (limits_of i) m (of i.name r0)).1) r0
-        → x1 ≡ x0 ++ flat_map (response_octets m.context a.limit) (responses c m.command found)
-        → Did (Some i) (served_answer (limits_of i) a (of i.name r0) m) r0 r1 x0 x1
-    unfolding served
-    did-served r0 r1 x0 x1 found h answered done added = rw (e, h) (record { octets = rw (added, answered) refl; rows = done })
+        → query ≡ unsent m.command found → x1 ≡ x0 ++ (page query).octets → next ≡ (page query).query → Does None r0 r1 x0 x1 next
+    unfolding served reaction
+    did-served r0 r1 x0 x1 found query next h answered done sent added left =
+        let there = found_id m.context a.contexts c e in
+        let of_message : OpenQuery =
+        record { context = m.context; limit = a.limit; left = responses c m.command (outcome_on a c (limits_of i) m (of i.name r0)).0 } in
+        let same : query ≡ of_message =
+        sent ∙ ap (λ (n : ℕ). record { context = n; limit = a.limit; left = responses c m.command found }) there
+        ∙ ap (λ (f : Found). record { context = m.context; limit = a.limit; left = responses c m.command f }) answered in
+        rw (e, h) (record {
+          octets = added ∙ ap (λ (q : OpenQuery). x0 ++ (page q).octets) same;
+          rows = done;
+          query = left ∙ ap (λ (q : OpenQuery). (page q).query) same;
+        })
 
-    -- its edits were made, and not all responses could be added
+    -- its edits were made, and not all of the page could be sent
     pub part-served : (r0 r1 : List Row) (IsLeft : List Row → Type 0) → (m.command.code == c_cancel) ≡ false
         → r1 ≡ after (by i.name (outcome_on a c (limits_of i) m (of i.name r0)).1) r0 → ((r : List Row) → IsLeft r → r ≡ r1)
-        → DidPart (Some i) (served_answer (limits_of i) a (of i.name r0) m) r0 r1 IsLeft
-    unfolding served
+        → DoesPart None r0 r1 IsLeft
+    unfolding served reaction
     part-served r0 r1 IsLeft h done only = rw (e, h) (record {
       done = by i.name (outcome_on a c (limits_of i) m (of i.name r0)).1 ∷ [];
       later = [];
@@ -57,8 +84,8 @@ module _ (i : Institution) (a : Agreement) (m : Message) where
     -- its edits were not made
     pub part-unserved : (r0 r1 : List Row) (IsLeft : List Row → Type 0) → (m.command.code == c_cancel) ≡ false → r1 ≡ r0
         → ((r : List Row) → IsLeft r → (r ≡ r0) ⊎ (r ≡ after (by i.name (outcome_on a c (limits_of i) m (of i.name r0)).1) r0))
-        → DidPart (Some i) (served_answer (limits_of i) a (of i.name r0) m) r0 r1 IsLeft
-    unfolding served
+        → DoesPart None r0 r1 IsLeft
+    unfolding served reaction
     part-unserved r0 r1 IsLeft h same crash = rw (e, h, same) (record {
       done = [];
       later = by i.name (outcome_on a c (limits_of i) m (of i.name r0)).1 ∷ [];
@@ -66,6 +93,35 @@ module _ (i : Institution) (a : Agreement) (m : Message) where
       made = refl;
       crash = crash;
     })
+
+  -- ---- while a C-FIND is open
+
+  module _ (q : OpenQuery) where
+    -- a C-CANCEL changes no row
+    no-edits : (id : ℕ) (b : Bool) → (id == message_id q) ≡ b → (cancel_reaction id q).edits ≡ []
+    no-edits id true h = rw h refl
+    no-edits id false h = rw h refl
+
+    pub did-cancelled : (r : List Row) (x x1 : List ℕ) (next : Option OpenQuery) → (m.command.code == c_cancel) ≡ true
+        → x1 ≡ x ++ (cancel_reaction m.command.id q).octets → next ≡ (cancel_reaction m.command.id q).query → Does (Some q) r r x x1 next
+    unfolding reaction
+    did-cancelled r x x1 next h added left = rw h (record { octets = added; rows = rw (no-edits m.command.id _ refl) refl; query = left })
+
+    -- all that was left was sent, and the message was then served
+    pub did-after : (r0 r1 : List Row) (x0 x1 x2 : List ℕ) (next : Option OpenQuery) → (m.command.code == c_cancel) ≡ false → x1 ≡ x0 ++ rest q
+        → Does None r0 r1 x1 x2 next → Does (Some q) r0 r1 x0 x2 next
+    unfolding reaction
+    did-after r0 r1 x0 x1 x2 next h sent d = rw h (record {
+      octets = d.octets ∙ ap (λ (x : List ℕ). x ++ (reaction None (limits_of i) (of i.name r0) a m).octets) sent
+          ∙ append_assoc x0 (rest q) (reaction None (limits_of i) (of i.name r0) a m).octets;
+      rows = d.rows;
+      query = d.query;
+    })
+
+    pub part-after : (r0 r1 : List Row) (IsLeft : List Row → Type 0) → (m.command.code == c_cancel) ≡ false → DoesPart None r0 r1 IsLeft
+        → DoesPart (Some q) r0 r1 IsLeft
+    unfolding reaction
+    part-after r0 r1 IsLeft h part = rw h part
 
 -- ---- messages that are held
 
@@ -96,12 +152,15 @@ module _ (a : Agreement) (held : HeldMessage) (m : Message) (on : StandsOn (acce
   pub code_stands : (b : Bool) → (held.command.code == c_cancel) ≡ b → (m.command.code == c_cancel) ≡ b
   code_stands b e = ap (λ (k : Command). k.code == c_cancel) (sym on.stands.command) ∙ e
 
-  pub responses_stand : (c : AgreedContext) (found : Found) (x0 x1 : List ℕ)
-      → x1 ≡ x0 ++ flat_map (response_octets held.context a.limit) (responses c held.command found)
-      → x1 ≡ x0 ++ flat_map (response_octets m.context a.limit) (responses c m.command found)
-  responses_stand c found x0 x1 e =
-      e ∙ ap (λ (n : ℕ). x0 ++ flat_map (response_octets n a.limit) (responses c held.command found)) on.stands.context
-      ∙ ap (λ (k : Command). x0 ++ flat_map (response_octets m.context a.limit) (responses c k found)) on.stands.command
+  -- the responses to it are those to the message
+  pub unsent_stands : (c : AgreedContext) (found : Found) (query : OpenQuery)
+      → query ≡ record { context = c.id; limit = a.limit; left = responses c held.command found }
+      → query ≡ record { context = c.id; limit = a.limit; left = responses c m.command found }
+  unsent_stands c found query e =
+      e ∙ ap (λ (k : Command). record { context = c.id; limit = a.limit; left = responses c k found }) on.stands.command
+
+  pub id_stands : m.command.id ≡ held.command.id
+  id_stands = sym (ap (λ (k : Command). k.id) on.stands.command)
 
 -- an answer whose operations were all made
 pub part-whole : {operations : List Operation} {before after : List Row} {IsLeft : List Row → Type 0} → after ≡ after_all operations before

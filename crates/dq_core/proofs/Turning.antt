@@ -26,8 +26,11 @@ use Rattle.dq_core.specs.declared.slot.Slot.{Slot}
 use Rattle.dq_core.specs.declared.tally.Tally.{Tally}
 use Rattle.dq_core.specs.declared.slot.Taken.{Taken as HeldTaken}
 use Rattle.dq_core.specs.Doing.{Taken}
-use Rattle.dq_core.specs.Answers.{Answer, inputs_added}
-use Rattle.dq_core.specs.Connections.{Connection, new_connection, with_piece, connection_in, without, with_connection, after_piece}
+use Rattle.dq_core.specs.declared.pages.OpenQuery.{OpenQuery as HeldQuery}
+use Rattle.dq_core.specs.Pages.{OpenQuery, Page, next_page}
+use Rattle.dq_core.specs.Queries.{query_in}
+use Rattle.dq_core.specs.Answers.{Answer, inputs_added, after_piece}
+use Rattle.dq_core.specs.Connections.{Connection, new_connection, with_piece, with_query, is_pending, connection_in, without, with_connection}
 use Rattle.dq_core.specs.Stepping.{IsPartOf}
 use Rattle.dq_core.specs.Doing.{Did, DidPart}
 use Rattle.dq_core.specs.Owners.{owner, live_of}
@@ -41,9 +44,10 @@ use Rattle.dq_core.proofs.Tallying.{bit, live-left, live-changed, live-opened, l
 
 -- a slot of a connection that was just opened
 new-held : (institutions : List Institution) (slot : Slot) (number : ℕ) → slot.number ≡ number → InboxAfter [] slot.inbox
-    → ((owner : Option Institution) → StandsAt owner slot []) → IsHeld institutions slot (new_connection number)
+    → ((owner : Option Institution) → StandsAt owner slot []) → slot.query ≡ None → IsHeld institutions slot (new_connection number)
 unfolding pdus_within
-new-held institutions slot number n i s = record { number = n; inbox = i; faultless = refl; stands = s (owner institutions []) }
+new-held institutions slot number n i s q =
+    record { number = n; inbox = i; faultless = refl; stands = s (owner institutions []); query = ap query_in q }
 
 -- no octets add no input
 nothing-added : (stream : List ℕ) → inputs_added stream [] ≡ []
@@ -54,13 +58,14 @@ with-same : (c : Connection) (cs : List Connection) → connection_in c.number c
 with-same c [] e = cc
 with-same c (d ∷ cs) e = grind (arith, nat_tests, with-same c cs)
 
-close-of : (q : Option Institution) (rows : List Row) (agreed : Option Agreement) (t : Taken) → (answer_of q rows agreed t).close ≡ t.step.close
-close-of None rows agreed t = refl
-close-of (Some i) rows agreed t = refl
+close-of : (q : Option Institution) (rows : List Row) (agreed : Option Agreement) (query : Option OpenQuery) (t : Taken)
+    → (answer_of q rows agreed query t).close ≡ t.step.close
+close-of None rows agreed query t = refl
+close-of (Some i) rows agreed query t = refl
 
 holds-after : (institutions : List Institution) (held : Connections) (c : Connection) (piece : List ℕ) (x : Answer) (cs : List Connection) (close : Bool)
     → x.close ≡ close → (close ≡ true → AreHeld institutions held (without c.number cs))
-    → (close ≡ false → AreHeld institutions held (with_connection (with_piece c piece) cs)) → AreHeld institutions held (after_piece c piece x cs)
+    → (close ≡ false → AreHeld institutions held (with_connection (with_piece c piece x.next.query) cs)) → AreHeld institutions held (after_piece c piece x cs)
 holds-after institutions held c piece x cs true e closed open_on = rw e (closed refl)
 holds-after institutions held c piece x cs false e closed open_on = rw e (open_on refl)
 
@@ -134,10 +139,10 @@ none-held institutions held e o t = record {
 module _ (institutions : List Institution) (world : World) (number : ℕ) where
   pub opens : (before after : Connections) (place : ℕ) (slot : Slot) → AreHeld institutions before world.connections
       → is_above before.newest number ≡ true → slot.number ≡ number → InboxAfter [] slot.inbox
-      → ((owner : Option Institution) → StandsAt owner slot []) → get before.slots place ≡ None → Updates before.slots after.slots place (Some slot)
+      → ((owner : Option Institution) → StandsAt owner slot []) → slot.query ≡ None → get before.slots place ≡ None → Updates before.slots after.slots place (Some slot)
       → after.places.entries ≡ insert_entry nat_cmp before.places.entries number place → IsOrdered nat_cmp after.places → after.newest ≡ Some number
       → after.tally ≡ before.tally → Turned institutions (turn institutions world (event.Open number)) reply.Done world.rows world.rows after
-  opens before after place slot h a n i s v u e o w t =
+  opens before after place slot h a n i s q v u e o w t =
       let below = all-below before.newest number before.places.entries a h.below in
       let entries : after.places.entries ≡ before.places.entries ++ (number, place) ∷ [] = e ∙ inserts-last institutions number place before.places.entries below in
       record {
@@ -145,7 +150,7 @@ module _ (institutions : List Institution) (world : World) (number : ℕ) where
         rows = refl;
         holds = record {
           at = rw entries (opened institutions number place before.slots after.slots before.places.entries world.connections slot (new_connection number)
-              u.others v u.changed (new-held institutions slot number n i s) refl h.at);
+              u.others v u.changed (new-held institutions slot number n i s q) refl h.at);
           ordered = o;
           below = rw (entries, w) (none-above number place before.places.entries below);
           tallied = rw t (opened-tallied institutions before.tally.counts.items world.connections number h.tallied);
@@ -225,7 +230,7 @@ module _ (institutions : List Institution) (world : World) (number : ℕ) where
 
     -- an empty piece is answered by nothing
     empty-turn : (o : Option Institution) (c : Connection) (held : Connections) → c.number ≡ number
-        → AreHeld institutions held (with_connection (with_piece c []) world.connections)
+        → AreHeld institutions held (with_connection (with_piece c [] c.query) world.connections)
         → Turned institutions (owner_turn o institutions world c []) (reply.Octets number [] false) world.rows world.rows held
     empty-turn None c held e h = rw (nothing-added c.stream) (record { replied = rw e refl; rows = refl; holds = h })
     empty-turn (Some i) c held e h = rw (nothing-added c.stream) (record { replied = rw e refl; rows = refl; holds = h })
@@ -236,7 +241,7 @@ module _ (institutions : List Institution) (world : World) (number : ℕ) where
     piece-empty held place rows r h e p f g =
         let at = found-at held place h e in
         let c = at.connection in
-        let same : with_connection (with_piece c []) world.connections ≡ world.connections =
+        let same : with_connection (with_piece c [] c.query) world.connections ≡ world.connections =
         rw append-nil (with-same c world.connections (rw at.same at.is_in)) in
         rw (p, at.is_in, f, g) (empty-turn (owner institutions (c.stream ++ [])) c held at.same (rw same h))
 
@@ -281,16 +286,31 @@ module _ (institutions : List Institution) (world : World) (number : ℕ) where
           (λ name. rw r (omega (arith, counts-now small waits None None (sym (no-home q)) name, lefts name)))
           (ap length r ∙ retally-length institutions before.tally.counts.items q (is_some old.home) false)
 
+      -- the slot with what is left of a query
+      abbrev kept : Option HeldQuery → Slot
+      kept left = record new { query = left }
+
+      kept-held : (left : Option HeldQuery) (c : Connection) → IsHeld institutions new c → IsHeld institutions (kept left) (with_query (query_in left) c)
+      kept-held left c h = record {
+        number = h.number;
+        inbox = h.inbox;
+        faultless = h.faultless;
+        stands = record { association = h.stands.association; not_closed = h.stands.not_closed; home = h.stands.home; owned = h.stands.owned };
+        query = refl;
+      }
+
       -- where it does not
-      pub open-held : length before.places.entries < 2 ^ 63 → Waits → (after : Connections) → t.step.close ≡ false
-          → ((other : ℕ) → other ≢ place → get after.slots other ≡ get before.slots other) → get after.slots place ≡ Some new
+      pub open-held : length before.places.entries < 2 ^ 63 → Waits → (after : Connections) (left : Option HeldQuery) → t.step.close ≡ false
+          → ((other : ℕ) → other ≢ place → get after.slots other ≡ get before.slots other) → get after.slots place ≡ Some (kept left)
           → after.places ≡ before.places → after.newest ≡ before.newest
           → after.tally.counts.items ≡ retallied_by institutions before.tally.counts.items q (is_some old.home) (is_some new.home)
-          → AreHeld institutions after (with_connection (with_piece at.connection piece) world.connections)
-      open-held small waits after close u written p w r =
+          → AreHeld institutions after (with_connection (with_piece at.connection piece (query_in left)) world.connections)
+      open-held small waits after left close u written p w r =
           let now = told.held (sym told.stands.step.close ∙ close) in
-          let c = with_piece at.connection piece in record {
-            at = rw p (changed institutions number place before.slots after.slots old u there (is-held-now.number ∙ at.same) new c written at.same now.0
+          let c = with_piece at.connection piece (query_in left) in
+          let is_kept = kept-held left (with_piece at.connection piece at.connection.query) now.0 in record {
+            at = rw p (changed institutions number place before.slots after.slots old u there (is-held-now.number ∙ at.same) (kept left) c written at.same
+                is_kept
                 before.places.entries world.connections h.ordered h.at e);
             ordered = rw p h.ordered;
             below = rw (p, w) h.below;
@@ -299,7 +319,7 @@ module _ (institutions : List Institution) (world : World) (number : ℕ) where
               counts-now small waits new.home (held_agreement new.association) now.1 name,
               live-changed institutions name c world.connections at.connection (rw at.same at.is_in),
               ap bit (counted-held waits institutions name old at.connection is-held-now),
-              ap bit (counted-held waits institutions name new c now.0),
+              ap bit (counted-held waits institutions name (kept left) c is_kept),
               h.tallied name,
             ));
             counted = ap length r ∙ retally-length institutions before.tally.counts.items q (is_some old.home) (is_some new.home) ∙ h.counted;
@@ -308,61 +328,65 @@ module _ (institutions : List Institution) (world : World) (number : ℕ) where
       present : ContainsKey before.slots place
       present = rw there refl
 
-      abbrev IsMiddle : Connections → Bool → Type 0
-      IsMiddle mid is =
-          (is ≡ (is_some new.home && not t.step.close)) × (mid.slots ≡ with_value before.slots place new) × (mid.places ≡ before.places)
+      abbrev IsMiddle : Connections → Option HeldQuery → Bool → Type 0
+      IsMiddle mid left is =
+          (is ≡ (is_some new.home && not t.step.close)) × (mid.slots ≡ with_value before.slots place (kept left)) × (mid.places ≡ before.places)
           × (mid.newest ≡ before.newest) × (mid.tally.counts.items ≡ retallied_by institutions before.tally.counts.items q (is_some old.home) is)
 
-      pub closes : length before.places.entries < 2 ^ 63 → Waits → (mid after : Connections) (is : Bool) → IsMiddle mid is → t.step.close ≡ true
+      pub closes : length before.places.entries < 2 ^ 63 → Waits → (mid after : Connections) (left : Option HeldQuery) (is : Bool) → IsMiddle mid left is → t.step.close ≡ true
           → Updates mid.slots after.slots place None → after.places.entries ≡ remove_entry (has_number number) mid.places.entries
           → IsOrdered nat_cmp after.places → after.newest ≡ mid.newest → after.tally ≡ mid.tally
           → AreHeld institutions after (without number world.connections)
-      closes small waits mid after is m close u p o w y =
+      closes small waits mid after left is m close u p o w y =
           let ended : is ≡ false = m.0 ∙ ap (λ (b : Bool). is_some new.home && not b) close ∙ and-false (is_some new.home) in
           closed-held small waits after
-          (λ other d. u.others other d ∙ ap (λ (s : Slab Slot). get s other) m.1 ∙ (Updates-with_value before.slots place new present).others other d)
+          (λ other d. u.others other d ∙ ap (λ (s : Slab Slot). get s other) m.1 ∙ (Updates-with_value before.slots place (kept left) present).others other d)
           (p ∙ ap (λ (ps : BTreeMap ℕ ℕ). remove_entry (has_number number) ps.entries) m.2) o (w ∙ m.3)
           (ap (λ (y : Tally). y.counts.items) y ∙ m.4 ∙ ap (retallied_by institutions before.tally.counts.items q (is_some old.home)) ended)
 
-      pub stays-open : length before.places.entries < 2 ^ 63 → Waits → (mid : Connections) (is : Bool) → IsMiddle mid is → t.step.close ≡ false
-          → AreHeld institutions mid (with_connection (with_piece at.connection piece) world.connections)
-      stays-open small waits mid is m close =
+      pub stays-open : length before.places.entries < 2 ^ 63 → Waits → (mid : Connections) (left : Option HeldQuery) (is : Bool) → IsMiddle mid left is
+          → t.step.close ≡ false → AreHeld institutions mid (with_connection (with_piece at.connection piece (query_in left)) world.connections)
+      stays-open small waits mid left is m close =
           let on : is ≡ is_some new.home = m.0 ∙ ap (λ (b : Bool). is_some new.home && not b) close ∙ and-true (is_some new.home) in
-          open-held small waits mid close
-          (λ other d. ap (λ (s : Slab Slot). get s other) m.1 ∙ (Updates-with_value before.slots place new present).others other d)
-          (ap (λ (s : Slab Slot). get s place) m.1 ∙ (Updates-with_value before.slots place new present).changed) m.2 m.3
+          open-held small waits mid left close
+          (λ other d. ap (λ (s : Slab Slot). get s other) m.1 ∙ (Updates-with_value before.slots place (kept left) present).others other d)
+          (ap (λ (s : Slab Slot). get s place) m.1 ∙ (Updates-with_value before.slots place (kept left) present).changed) m.2 m.3
           (m.4 ∙ ap (retallied_by institutions before.tally.counts.items q (is_some old.home)) on)
 
       -- a piece was taken, and answered
       pub piece-taken : (agreed : Option Agreement) (was rows : List Row) → agreed ≡ held_agreement new.association → was ≡ world.rows
-          → (after : Connections) (octets : List ℕ) (r : Reply) → ((x : Taken) → IsTaken agreed t x → Did q (answer_of q was agreed x) was rows [] octets)
+          → (query : Option OpenQuery) → query_in new.query ≡ query → (after : Connections) (octets : List ℕ) (left : Option HeldQuery) (r : Reply)
+          → ((x : Taken) → IsTaken agreed t x → Did q (answer_of q was agreed query x) was rows [] octets (query_in left))
           → (t.step.close ≡ true → AreHeld institutions after (without number world.connections))
-          → (t.step.close ≡ false → AreHeld institutions after (with_connection (with_piece at.connection piece) world.connections))
+          → (t.step.close ≡ false → AreHeld institutions after (with_connection (with_piece at.connection piece (query_in left)) world.connections))
           → r ≡ reply.Octets number octets t.step.close
           → Turned institutions (turn institutions world (event.Piece number piece)) r world.rows rows after
-      piece-taken agreed was rows agreed_is was_is after octets r did closed open_on g =
+      piece-taken agreed was rows agreed_is was_is query query_is after octets left r did closed open_on g =
           let c = at.connection in
+          let same_query : query ≡ c.query = sym query_is ∙ told.query ∙ is-held-now.query in
           let x = answer_by (owner institutions (c.stream ++ piece)) institutions world c piece in
           let alike = rw (← agreed_is) at told.answer in
           let given = told.taken in
           let is_given : IsTaken agreed t given = rw agreed_is told.stands in
-          let now = rw was_is at (did given is_given) in
-          let close : x.close ≡ t.step.close = alike.close ∙ close-of q world.rows agreed given ∙ sym is_given.step.close in
+          let now = rw (was_is, same_query) at (did given is_given) in
+          let close : x.close ≡ t.step.close = alike.close ∙ close-of q world.rows agreed c.query given ∙ sym is_given.step.close in
+          let left_is : query_in left ≡ x.next.query = now.query ∙ sym alike.query in
           rw at.is_in (record {
             replied = cc (at.same, now.octets, alike.octets);
             rows = rw alike.operations now.rows;
-            holds = holds-after institutions after c piece x world.connections t.step.close close (λ k. rw at.same (closed k)) open_on;
+            holds = holds-after institutions after c piece x world.connections t.step.close close (λ k. rw at.same (closed k)) (λ k. rw (← left_is) (open_on k));
           })
 
       -- a piece was taken, and answered in part
       pub piece-part : (agreed : Option Agreement) (was rows : List Row) → agreed ≡ held_agreement new.association → was ≡ world.rows
-          → (IsLeft : List Row → Type 0)
-          → ((x : Taken) → IsTaken agreed t x → DidPart q (answer_of q was agreed x) was rows IsLeft)
+          → (query : Option OpenQuery) → query_in new.query ≡ query → (IsLeft : List Row → Type 0)
+          → ((x : Taken) → IsTaken agreed t x → DidPart q (answer_of q was agreed query x) was rows IsLeft)
           → IsPartOf (turn institutions world (event.Piece number piece)).operations world.rows rows IsLeft
-      piece-part agreed was rows agreed_is was_is IsLeft did =
+      piece-part agreed was rows agreed_is was_is query query_is IsLeft did =
+          let same_query : query ≡ at.connection.query = sym query_is ∙ told.query ∙ is-held-now.query in
           let alike = rw (← agreed_is) at told.answer in
           let is_given : IsTaken agreed t told.taken = rw agreed_is told.stands in
-          rw (at.is_in, alike.operations) (rw was_is at (did told.taken is_given))
+          rw (at.is_in, alike.operations) (rw (was_is, same_query) at (did told.taken is_given))
 
 -- ---- empty pieces
 
@@ -377,3 +401,97 @@ pub not-quiet : (institutions : List Institution) (number : ℕ) (piece : List �
 not-quiet institutions number piece held cs place h e f (inl none) = false≢true (f ∙ ap (λ (octets : List ℕ). length octets == 0) none)
 not-quiet institutions number piece held cs place h e f (inr none) =
     let at = (found institutions number place held.slots held.places.entries cs h.at e).is_in in cc
+
+-- ---- pulls
+
+module _ (institutions : List Institution) (world : World) (number : ℕ) where
+  pub pull-none : (held : Connections) → AreHeld institutions held world.connections → lookup (has_number number) held.places.entries ≡ None
+      → Turned institutions (turn institutions world (event.Pull number)) reply.Ignored world.rows world.rows held
+  pull-none held h e =
+      rw (found-none institutions number held.slots held.places.entries world.connections h.at e) (record { replied = refl; rows = refl; holds = h })
+
+  module _ (before : Connections) (place : ℕ) (old new : Slot) (h : AreHeld institutions before world.connections)
+      (e : lookup (has_number number) before.places.entries ≡ Some place) (there : get before.slots place ≡ Some old)
+      (same_slot : new ≡ record old { query = new.query }) where
+    abbrev pulled : Found institutions number place before.slots world.connections
+    pulled = found-at institutions world number before place h e
+
+    pulled-old : IsHeld institutions old pulled.connection
+    pulled-old = let both : Some pulled.slot ≡ Some old = sym pulled.there ∙ there in let is : pulled.slot ≡ old = cc in rw is at pulled.held
+
+    -- the slot is of the connection with what is left of its query
+    pulled-new : IsHeld institutions new (with_query (query_in new.query) pulled.connection)
+    pulled-new = rw same_slot (record {
+      number = pulled-old.number;
+      inbox = pulled-old.inbox;
+      faultless = pulled-old.faultless;
+      stands = record {
+        association = pulled-old.stands.association;
+        not_closed = pulled-old.stands.not_closed;
+        home = pulled-old.stands.home;
+        owned = pulled-old.stands.owned;
+      };
+      query = refl;
+    })
+
+    pulled-held : AreHeld institutions (record before { slots = with_value before.slots place new })
+        (with_connection (with_query (query_in new.query) pulled.connection) world.connections)
+    pulled-held =
+        let c = with_query (query_in new.query) pulled.connection in
+        let present : ContainsKey before.slots place = rw there refl in
+        let updates = Updates-with_value before.slots place new present in record {
+          at = changed institutions number place before.slots (with_value before.slots place new) old updates.others there (pulled-old.number ∙ pulled.same) new c
+              updates.changed pulled.same pulled-new before.places.entries world.connections h.ordered h.at e;
+          ordered = h.ordered;
+          below = h.below;
+          tallied = λ name.
+              let was = live-changed institutions name c world.connections pulled.connection (rw pulled.same pulled.is_in) in
+              h.tallied name ∙ omega (arith, was);
+          counted = h.counted;
+        }
+
+    pub pull-answered : (p : Page) → p ≡ next_page (query_in old.query) → query_in new.query ≡ p.query → (r : Reply) → r ≡ reply.Octets number p.octets false
+        → Turned institutions (turn institutions world (event.Pull number)) r world.rows world.rows
+        (record before { slots = with_value before.slots place new })
+    pull-answered p page left r is =
+        let c = pulled.connection in
+        let same : p ≡ next_page c.query = page ∙ ap next_page pulled-old.query in
+        rw pulled.is_in (record {
+          replied = is ∙ cc (same, pulled.same);
+          rows = refl;
+          holds = rw (ap (λ (x : Page). x.query) (sym same) ∙ sym left) pulled-held;
+        })
+
+-- a slot is at the place of a number
+pub vacant : (institutions : List Institution) (number place : ℕ) (held : Connections) (cs : List Connection) → AreHeld institutions held cs
+    → lookup (has_number number) held.places.entries ≡ Some place → get held.slots place ≡ None → ⊥
+vacant institutions number place held cs h e n =
+    let at = found institutions number place held.slots held.places.entries cs h.at e in
+    let both : Some at.slot ≡ None = sym at.there ∙ n in cc
+
+-- whether a query is open, by the slot
+pub pending-none : (institutions : List Institution) (number : ℕ) (held : Connections) (cs : List Connection) → AreHeld institutions held cs
+    → lookup (has_number number) held.places.entries ≡ None → false ≡ is_pending number cs
+pending-none institutions number held cs h e = rw (found-none institutions number held.slots held.places.entries cs h.at e) refl
+
+some-query : (o : Option HeldQuery) → is_some o ≡ is_some (query_in o)
+some-query None = refl
+some-query (Some query) = refl
+
+pub pending-some : (institutions : List Institution) (number place : ℕ) (held : Connections) (slot : Slot) (cs : List Connection) → AreHeld institutions held cs
+    → lookup (has_number number) held.places.entries ≡ Some place → get held.slots place ≡ Some slot → is_some slot.query ≡ is_pending number cs
+pending-some institutions number place held slot cs h e there =
+    let at = found institutions number place held.slots held.places.entries cs h.at e in
+    let both : Some at.slot ≡ Some slot = sym at.there ∙ there in
+    let is : at.slot ≡ slot = cc in
+    let same : query_in slot.query ≡ at.connection.query = rw is at at.held.query in
+    rw at.is_in (some-query slot.query ∙ ap is_some same)
+
+no-query : (o : Option HeldQuery) → is_some o ≡ false → o ≡ None
+no-query None e = refl
+no-query (Some query) e = cc
+
+pub not-pending : (institutions : List Institution) (number place : ℕ) (held : Connections) (slot : Slot) (cs : List Connection) → AreHeld institutions held cs
+    → lookup (has_number number) held.places.entries ≡ Some place → get held.slots place ≡ Some slot → is_pending number cs ≡ false → slot.query ≡ None
+not-pending institutions number place held slot cs h e there none =
+    no-query slot.query (pending-some institutions number place held slot cs h e there ∙ none)

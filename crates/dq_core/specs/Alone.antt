@@ -1,7 +1,7 @@
 -- The plain server of one institution that has it to itself: there are no names and no routes, no
 -- other limits, and all records are its own. A request that passes the checks of its version,
 -- application context and maximum length is accepted, unless the associations are at their limit.
-use Rattle.std.specs.Prelude.{ℕ, Bool, if◌then◌else◌, List, [], ◌∷◌, ◌++◌, length, take, drop, filter, is_some, Option, Some, None}
+use Rattle.std.specs.Prelude.{ℕ, Bool, false, if◌then◌else◌, List, [], ◌∷◌, ◌++◌, length, take, drop, filter, is_some, Option, Some, None}
 use Rattle.dq_assoc.specs.Inputs.{inputs}
 use Rattle.dq_core.specs.declared.event.Event.{Event}
 use Rattle.dq_core.specs.declared.event.Event.TheVariants as event
@@ -10,8 +10,9 @@ use Rattle.dq_core.specs.declared.event.Reply.TheVariants as reply
 use Rattle.dq_config.specs.Limits.{Limits}
 use Rattle.dq_tables.specs.Rows.{Record, Edit, edited_all}
 use Rattle.dq_core.specs.Services.{Scheduling, Withdrawal, Ordered, ordered, order_reply}
-use Rattle.dq_core.specs.Answers.{Answer, piece_answer, request_in, verdict_at}
-use Rattle.dq_core.specs.Connections.{Connection, new_connection, connection_in, without, after_piece}
+use Rattle.dq_core.specs.Pages.{Page, next_page}
+use Rattle.dq_core.specs.Answers.{Answer, piece_answer, request_in, verdict_at, after_piece}
+use Rattle.dq_core.specs.Connections.{Connection, new_connection, connection_in, without, with_connection, with_query}
 
 -- between two events: the connections that are held, and the records
 pub record AloneWorld : Type 0 where
@@ -37,7 +38,7 @@ alone_live connections =
 abbrev pub alone_answer : Limits → AloneWorld → Connection → List ℕ → Answer
 alone_answer limits world c piece =
     let verdict = verdict_at limits.associations (alone_live world.connections) in
-    piece_answer limits verdict world.records c.stream piece
+    piece_answer limits verdict world.records c piece
 
 abbrev pub alone_answer_turn : AloneWorld → Connection → List ℕ → Answer → AloneTurn
 alone_answer_turn world c piece answer = record {
@@ -55,6 +56,14 @@ abbrev pub alone_end : AloneWorld → Option Connection → AloneTurn
 alone_end world None = alone_quiet reply.Ignored world.connections
 alone_end world (Some c) = alone_quiet reply.Done (without c.number world.connections)
 
+abbrev pub alone_page : AloneWorld → Connection → Page → AloneTurn
+alone_page world c p = alone_quiet (reply.Octets c.number p.octets false)
+    (with_connection (with_query p.query c) world.connections)
+
+abbrev pub alone_pull : AloneWorld → Option Connection → AloneTurn
+alone_pull world None = alone_quiet reply.Ignored world.connections
+alone_pull world (Some c) = alone_page world c (next_page c.query)
+
 abbrev pub alone_order : AloneWorld → Ordered → AloneTurn
 alone_order world o = record {
   reply = order_reply o.refusal;
@@ -70,6 +79,8 @@ alone_turn limits world (event.Piece number piece) =
     alone_piece limits world piece (connection_in number world.connections)
 alone_turn limits world (event.End number) =
     alone_end world (connection_in number world.connections)
+alone_turn limits world (event.Pull number) =
+    alone_pull world (connection_in number world.connections)
 alone_turn limits world (event.Schedule inst octets) =
     alone_order world (ordered limits world.records (Scheduling octets))
 alone_turn limits world (event.Withdraw inst id) =

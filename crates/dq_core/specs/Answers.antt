@@ -1,10 +1,7 @@
 -- What the inputs of an association are answered with and change, for one institution: the same
 -- for the server that institutions share and for one that an institution has alone.
 use Rattle.std.specs.Prelude.{ℕ, Bool, false, nat_le, if◌then◌else◌, List, [], ◌∷◌, ◌++◌, length, drop, Option, Some, None, option_map}
-use Rattle.std.specs.List.{flat_map}
 use Rattle.dq_pdu.specs.declared.pdu.Request.{Request}
-use Rattle.dq_dimse.specs.Received.{Message}
-use Rattle.dq_dimse.specs.Sending.{sent}
 use Rattle.dq_assoc.specs.declared.association.State.TheVariants.{Waiting, Open}
 use Rattle.dq_assoc.specs.declared.association.Verdict.{Verdict}
 use Rattle.dq_assoc.specs.declared.association.Verdict.TheVariants.{Accept, Nowhere, Busy}
@@ -15,13 +12,15 @@ use Rattle.dq_assoc.specs.declared.agreement.Agreement.{Agreement}
 use Rattle.dq_config.specs.Limits.{Limits}
 use Rattle.dq_assoc.specs.Negotiation.{agreement_of}
 use Rattle.dq_tables.specs.Rows.{Record, Edit, edited}
-use Rattle.dq_core.specs.Services.{Response, Served, served}
+use Rattle.dq_core.specs.Pages.{OpenQuery, Reaction, reaction}
+use Rattle.dq_core.specs.Connections.{Connection, with_piece, with_connection, without}
 
--- What the answers to inputs go on from: what was agreed, once a request came, and the
--- institution's records.
+-- What the answers to inputs go on from: what was agreed, once a request came, the institution's
+-- records, and the C-FIND that is open, if one is.
 pub record Progress : Type 0 where
   pub agreement : Option Agreement
   pub records : List Record
+  pub query : Option OpenQuery
 
 -- The octets that inputs are answered with, whether the connection is closed after them, the edits
 -- that each message made, in order, and what the answers to later inputs go on from.
@@ -43,23 +42,31 @@ line_answer l progress = record {
   next = progress;
 }
 
--- a response as it is sent to a peer that takes PDUs up to a limit
-abbrev pub response_octets : ℕ → ℕ → Response → List ℕ
-response_octets context limit response = sent context response.0 response.1 limit
-
--- the answer of a service to a message
-abbrev pub message_answer : Served → Agreement → Progress → Message → Answer
-message_answer service agreement progress message = record {
-  octets = flat_map (response_octets message.context agreement.limit) service.responses;
+-- the answer to a message
+abbrev pub message_answer : Reaction → Progress → Answer
+message_answer reaction progress = record {
+  octets = reaction.octets;
   close = false;
-  changes = service.edits ∷ [];
-  next = record progress { records = edited service.edits progress.records };
+  changes = reaction.edits ∷ [];
+  next = record progress {
+    records = edited reaction.edits progress.records;
+    query = reaction.query;
+  };
+}
+
+-- two answers as one: nothing comes after one that closes
+abbrev pub then_answer : Answer → Answer → Answer
+then_answer first later = if first.close then first else record {
+  octets = first.octets ++ later.octets;
+  close = later.close;
+  changes = first.changes ++ later.changes;
+  next = later.next;
 }
 
 -- an input after the request
 abbrev pub open_answer : Limits → Agreement → Progress → Input → Answer
 open_answer limits agreement progress (Sent message) =
-    message_answer (served limits progress.records agreement message) agreement progress message
+    message_answer (reaction progress.query limits progress.records agreement message) progress
 open_answer limits agreement progress input = line_answer (line Open Accept input) progress
 
 -- what is agreed after an input in the request's place
@@ -80,15 +87,6 @@ answer_after (Some agreement) limits verdict progress input =
 abbrev pub answer : Limits → Verdict → Progress → Input → Answer
 answer limits verdict progress input = answer_after progress.agreement limits verdict progress input
 
--- two answers as one: nothing comes after one that closes
-abbrev pub then_answer : Answer → Answer → Answer
-then_answer first later = if first.close then first else record {
-  octets = first.octets ++ later.octets;
-  close = later.close;
-  changes = first.changes ++ later.changes;
-  next = later.next;
-}
-
 -- inputs in order, up to the first that closes
 abbrev pub answers : Limits → Verdict → Progress → List Input → Answer
 answers limits verdict progress [] = no_answer progress
@@ -102,19 +100,22 @@ request_in [] = None
 request_in (Requested request ∷ inputs) = Some request
 request_in (input ∷ inputs) = None
 
--- where the answers stand after a stream, for an institution that has the records
-abbrev pub progress_of : List ℕ → List Record → Progress
-progress_of stream records =
-    record { agreement = option_map agreement_of (request_in (inputs stream)); records = records }
+-- where the answers stand on a connection, for an institution that has the records
+abbrev pub progress_of : Connection → List Record → Progress
+progress_of c records = record {
+  agreement = option_map agreement_of (request_in (inputs c.stream));
+  records = records;
+  query = c.query;
+}
 
 -- the inputs that a piece adds to those of a stream
 abbrev pub inputs_added : List ℕ → List ℕ → List Input
 inputs_added stream piece = drop (length (inputs stream)) (inputs (stream ++ piece))
 
--- what an institution answers to a piece after a stream
-abbrev pub piece_answer : Limits → Verdict → List Record → List ℕ → List ℕ → Answer
-piece_answer limits verdict records stream piece =
-    answers limits verdict (progress_of stream records) (inputs_added stream piece)
+-- what an institution answers to a piece on a connection
+abbrev pub piece_answer : Limits → Verdict → List Record → Connection → List ℕ → Answer
+piece_answer limits verdict records c piece =
+    answers limits verdict (progress_of c records) (inputs_added c.stream piece)
 
 -- A request is accepted unless the open associations are at their limit.
 abbrev pub verdict_at : ℕ → ℕ → Verdict
@@ -125,3 +126,9 @@ verdict_at limit live = if nat_le limit live then Busy else Accept
 abbrev pub stranger_answer : Progress → List Input → Answer
 stranger_answer progress [] = no_answer progress
 stranger_answer progress (input ∷ inputs) = line_answer (line Waiting Nowhere input) progress
+
+-- the connections after a piece on one of them
+abbrev pub after_piece : Connection → List ℕ → Answer → List Connection → List Connection
+after_piece c piece answer connections =
+    if answer.close then without c.number connections
+    else with_connection (with_piece c piece answer.next.query) connections

@@ -20,16 +20,19 @@ use Rattle.dq_tables.specs.Keeping.{State as Kept}
 use Rattle.dq_core.specs.declared.event.Reply.{Reply}
 use Rattle.dq_core.specs.declared.fault.Fault.{Fault}
 use Rattle.dq_core.specs.declared.fault.Fault.TheVariants.{NoMemory, Store}
-use Rattle.dq_core.specs.Services.{Order, served}
-use Rattle.dq_core.specs.Answers.{Answer, agreement_by, no_answer, message_answer, then_answer}
+use Rattle.dq_core.specs.Services.{Order}
+use Rattle.dq_core.specs.Pages.{OpenQuery, reaction}
+use Rattle.dq_core.specs.Answers.{Progress, Answer, agreement_by, no_answer, message_answer, then_answer}
 use Rattle.dq_core.specs.Shared.{operations_by, opening, order_turn}
 use Rattle.dq_core.specs.Stepping.{Goes, MayLeave, IsPartOf}
 
--- An owner's answer was given: its octets were added, and its operations were made.
+-- An owner's answer was given: its octets were added, its operations were made, and the C-FIND that
+-- it leaves open is open.
 pub record Did (owner : Option Institution) (answer : Answer) (before after : List Row)
-    (out added : List ℕ) : Type 0 where
+    (out added : List ℕ) (left : Option OpenQuery) : Type 0 where
   pub octets : added ≡ out ++ answer.octets
   pub rows : after ≡ after_all (operations_by owner answer.changes) before
+  pub query : left ≡ answer.next.query
 
 -- the operations of an owner's answer were made in part
 abbrev pub DidPart : Option Institution → Answer → List Row → List Row → (List Row → Type 0)
@@ -72,19 +75,26 @@ agreement_after (Some agreement) inputs = Some agreement
 agreement_after None [] = None
 agreement_after None (input ∷ inputs) = agreement_by input
 
--- the answer to a message, from the records
-abbrev pub served_answer : Limits → Agreement → List Record → Message → Answer
-served_answer limits agreement records message =
-    message_answer (served limits records agreement message) agreement
-    (record { agreement = Some agreement; records = records }) message
+-- where an association that is open goes on from
+abbrev pub agreed_on : Agreement → List Record → Option OpenQuery → Progress
+agreed_on agreement records query =
+    record { agreement = Some agreement; records = records; query = query }
 
--- the answers to messages in order, from the records
-abbrev pub messages_answer : Limits → Agreement → List Record → List Message → Answer
-messages_answer limits agreement records [] =
-    no_answer (record { agreement = Some agreement; records = records })
-messages_answer limits agreement records (message ∷ messages) =
-    let first = served_answer limits agreement records message in
-    then_answer first (messages_answer limits agreement first.next.records messages)
+-- the answer to a message, from the records, while a C-FIND is open or none
+abbrev pub served_answer : Limits → Agreement → List Record → Option OpenQuery → Message → Answer
+served_answer limits agreement records query message =
+    message_answer (reaction query limits records agreement message)
+    (agreed_on agreement records query)
+
+-- the answers to messages in order
+abbrev pub messages_answer : Limits → Agreement → List Record → Option OpenQuery → List Message
+    → Answer
+messages_answer limits agreement records query [] =
+    no_answer (agreed_on agreement records query)
+messages_answer limits agreement records query (message ∷ messages) =
+    let first = served_answer limits agreement records query message in
+    then_answer first
+    (messages_answer limits agreement first.next.records first.next.query messages)
 
 -- What inputs of a connection lead to: the acceptance of a request, and the step of what comes
 -- after it.
@@ -103,18 +113,20 @@ taken verdict Waiting (Requested request ∷ inputs) =
 taken verdict state inputs = record { opening = []; step = outcome state inputs }
 
 -- The answer to what was taken: where something is agreed on, messages are served.
-abbrev pub agreed_answer : Limits → List Record → Option Agreement → List Message → Answer
-agreed_answer limits records None messages =
-    no_answer (record { agreement = None; records = records })
-agreed_answer limits records (Some agreement) messages =
-    messages_answer limits agreement records messages
+abbrev pub agreed_answer : Limits → List Record → Option Agreement → Option OpenQuery
+    → List Message → Answer
+agreed_answer limits records None query messages =
+    no_answer (record { agreement = None; records = records; query = query })
+agreed_answer limits records (Some agreement) query messages =
+    messages_answer limits agreement records query messages
 
 abbrev pub between : List ℕ → List ℕ → List ℕ → List ℕ
 between opening octets closing = opening ++ (octets ++ closing)
 
-abbrev pub taken_answer : Limits → List Record → Option Agreement → Taken → Answer
-taken_answer limits records agreement t =
-    let served = agreed_answer limits records agreement t.step.messages in
+abbrev pub taken_answer : Limits → List Record → Option Agreement → Option OpenQuery → Taken
+    → Answer
+taken_answer limits records agreement query t =
+    let served = agreed_answer limits records agreement query t.step.messages in
     record served {
       octets = between t.opening served.octets t.step.octets;
       close = t.step.close;

@@ -1,4 +1,6 @@
 pub mod Services
+pub mod Pages
+pub mod Queries
 pub mod Answers
 pub mod Connections
 pub mod Owners

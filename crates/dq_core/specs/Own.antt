@@ -3,7 +3,7 @@ use Rattle.std.specs.Prelude.{ℕ, Bool, false, ◌==◌, if◌then◌else◌, L
 use Rattle.std.specs.Str.{bytes_eq}
 use Rattle.dq_config.specs.declared.config.Institution.{Institution}
 use Rattle.dq_core.specs.declared.event.Event.{Event}
-use Rattle.dq_core.specs.declared.event.Event.TheVariants.{Open, Piece, End, Schedule, Withdraw}
+use Rattle.dq_core.specs.declared.event.Event.TheVariants.{Open, Piece, End, Pull, Schedule, Withdraw}
 use Rattle.dq_core.specs.declared.event.Reply.{Reply}
 use Rattle.dq_core.specs.Owners.{owner, is_of}
 
@@ -32,6 +32,7 @@ abbrev pub is_on : (ℕ → Bool) → (List ℕ → Bool) → Event → Bool
 is_on numbers names (Open number) = numbers number
 is_on numbers names (Piece number piece) = numbers number
 is_on numbers names (End number) = numbers number
+is_on numbers names (Pull number) = numbers number
 is_on numbers names (Schedule inst octets) = names inst
 is_on numbers names (Withdraw inst id) = names inst
 

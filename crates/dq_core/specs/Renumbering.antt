@@ -5,7 +5,7 @@ use Rattle.dq_config.specs.Limits.{limits_of}
 use Rattle.dq_tables.specs.declared.row.Row.{Row}
 use Rattle.dq_tables.specs.Rows.{of}
 use Rattle.dq_core.specs.declared.event.Event.{Event}
-use Rattle.dq_core.specs.declared.event.Event.TheVariants.{Open, Piece, End, Schedule, Withdraw}
+use Rattle.dq_core.specs.declared.event.Event.TheVariants.{Open, Piece, End, Pull, Schedule, Withdraw}
 use Rattle.dq_core.specs.declared.event.Reply.{Reply}
 use Rattle.dq_core.specs.declared.event.Reply.TheVariants.{Octets, Done, Refused, Ignored}
 use Rattle.dq_core.specs.Own.{own}
@@ -19,6 +19,7 @@ abbrev pub renumbered : (ℕ → ℕ) → Event → Event
 renumbered another (Open number) = Open (another number)
 renumbered another (Piece number piece) = Piece (another number) piece
 renumbered another (End number) = End (another number)
+renumbered another (Pull number) = Pull (another number)
 renumbered another (Schedule inst octets) = Schedule inst octets
 renumbered another (Withdraw inst id) = Withdraw inst id
 

@@ -1,6 +1,5 @@
 -- What is said of a C-FIND over what the plain server answers (PS3.4 sections C.4.1 and K.4.1).
-use Rattle.std.specs.Prelude.{◌≡◌, ℕ, Bool, false, List, [], ◌∷◌, ◌++◌, map, Some}
-use Rattle.std.specs.List.{flat_map}
+use Rattle.std.specs.Prelude.{◌≡◌, ℕ, Bool, false, List, ◌∷◌, ◌++◌, map, None, Some}
 use Rattle.dq_dataset.specs.Tree.{ElementList}
 use Rattle.dq_dimse.specs.declared.command.Command.{Command}
 use Rattle.dq_dimse.specs.Received.{Message}
@@ -15,18 +14,20 @@ use Rattle.dq_tables.specs.Rows.{Record, of}
 use Rattle.dq_core.specs.declared.event.Reply.{Reply}
 use Rattle.dq_core.specs.declared.event.Reply.TheVariants.{Octets}
 use Rattle.dq_core.specs.Services.{Response, pending_response, served}
-use Rattle.dq_core.specs.Answers.{Answer, response_octets, answers, progress_of, inputs_added, verdict_at}
+use Rattle.dq_core.specs.Answers.{Answer, answers, progress_of, inputs_added, verdict_at}
 use Rattle.dq_core.specs.Connections.{Connection}
 use Rattle.dq_core.specs.Owners.{owner, live_of}
 use Rattle.dq_core.specs.Shared.{World}
 
--- A message on an accepted context is answered with some responses, and then with one that has the
--- status 0000.
+-- A message on an accepted context is answered with some pending responses, and then with one that
+-- has the status 0000.
 pub record Succeeds (limits : Limits) (records : List Record) (agreement : Agreement)
     (message : Message) (context : AgreedContext) (pendings : List Response) : Type 0 where
   pub on_context : context_of agreement message.context ≡ Some context
   pub final : Response
-  pub responses : (served limits records agreement message).responses ≡ pendings ++ final ∷ []
+  pub cancelled : Response
+  pub responses : (served limits records agreement message).responses
+      ≡ Some (record { pending = pendings; final = final; cancelled = cancelled })
   pub success : final.0.status ≡ status.success
 
 -- these responses are pending ones, each with one of the answers, in their order
@@ -39,10 +40,10 @@ abbrev pub first_answer_by : Institution → List Institution → World → Conn
     → Answer
 first_answer_by i institutions world c inputs =
     let verdict = verdict_at i.associations (live_of institutions i.name world.connections) in
-    answers (limits_of i) verdict (progress_of c.stream (of i.name world.rows)) inputs
+    answers (limits_of i) verdict (progress_of c (of i.name world.rows)) inputs
 
 -- A piece on a connection brings a message to the institution that owns it. By then this was
--- agreed, and the institution has these records.
+-- agreed, the institution has these records, and no C-FIND is open.
 pub record Brings (institutions : List Institution) (world : World) (c : Connection)
     (piece : List ℕ) (i : Institution) (agreement : Agreement) (records : List Record)
     (message : Message) : Type 0 where
@@ -53,10 +54,9 @@ pub record Brings (institutions : List Institution) (world : World) (c : Connect
   pub goes_on : (first_answer_by i institutions world c before).close ≡ false
   pub agreed : (first_answer_by i institutions world c before).next.agreement ≡ Some agreement
   pub has : (first_answer_by i institutions world c before).next.records ≡ records
+  pub none_open : (first_answer_by i institutions world c before).next.query ≡ None
 
--- the octets of responses stand, one after the other, in a reply on a connection
-abbrev pub HasResponses : ℕ → ℕ → ℕ → List Response → Reply → Type 0
-HasResponses number context limit responses reply =
-    (front : List ℕ) × (back : List ℕ) × (close : Bool)
-    × (reply ≡ Octets number
-    (front ++ flat_map (response_octets context limit) responses ++ back) close)
+-- octets stand in a reply on a connection
+abbrev pub HasOctets : ℕ → List ℕ → Reply → Type 0
+HasOctets number octets reply = (front : List ℕ) × (back : List ℕ) × (close : Bool)
+    × (reply ≡ Octets number (front ++ octets ++ back) close)

@@ -1,13 +1,14 @@
 -- What a message is answered with and what it changes, and what the console's orders change. A
 -- service sees the limits and the records of one institution, what was agreed, and the message: no
 -- name, no route, no other's record.
-use Rattle.std.specs.Prelude.{ℕ, Bool, false, not, ◌==◌, ◌||◌, if◌then◌else◌, bit_or, List, [], ◌∷◌, ◌++◌, map, Option, Some, None, is_some}
+use Rattle.std.specs.Prelude.{ℕ, Bool, false, not, ◌==◌, ◌||◌, if◌then◌else◌, bit_or, List, [], map, Option, Some, None, is_some}
 use Rattle.dq_dataset.specs.declared.header.Syntax.{Syntax}
 use Rattle.dq_dataset.specs.Tree.{ElementList}
 use Rattle.dq_dataset.specs.Canonical.{canonical}
 use Rattle.dq_dimse.specs.declared.command.Command.{Command}
 use Rattle.dq_dimse.specs.Received.{Message}
 use Rattle.dq_dimse.specs.CommandFields.{c_cancel, c_echo, c_find, c_store, n_create, n_set, response_bit}
+use Rattle.dq_dimse.specs.declared.status.TheConstants.{CANCEL}
 use Rattle.dq_dimse.specs.Statuses.{success, pending, pending_without_optional_keys, sop_class_not_supported, unrecognized_operation}
 use Rattle.std.specs.Str.{bytes_eq}
 use Rattle.dq_assoc.specs.declared.agreement.AgreedContext.{AgreedContext}
@@ -33,9 +34,16 @@ use Rattle.dq_tables.specs.Rows.{Record, Edit}
 abbrev pub Response : Type 0
 Response = Command × Option (List ℕ)
 
--- the responses to a message, in order, and the edits of the records, which are made together
+-- The responses to a message: the pending ones, in order, the final one, and the one that is final
+-- where a C-CANCEL ends the operation before.
+pub record Responses : Type 0 where
+  pub pending : List Response
+  pub final : Response
+  pub cancelled : Response
+
+-- the responses to a message, if it has any, and the edits of the records, which are made together
 pub record Served : Type 0 where
-  pub responses : List Response
+  pub responses : Option Responses
   pub edits : List Edit
 
 -- What the console orders: an entry's data set to be scheduled, or the entry with an id to be
@@ -51,7 +59,7 @@ pub record Ordered : Type 0 where
 
 -- a message that has no response, and changes nothing
 abbrev pub no_response : Served
-no_response = record { responses = []; edits = [] }
+no_response = record { responses = None; edits = [] }
 
 -- The operations whose responses name an instance (PS3.7 sections 9.3.1.2, 10.3.3.2 and 10.3.5.2).
 abbrev pub is_of_instance : ℕ → Bool
@@ -95,11 +103,14 @@ abbrev pub pending_responses : AgreedContext → Command → Found → List Resp
 pending_responses context command found =
     map (pending_response context command found.optional) found.answers
 
--- the responses with the answers, and then the one with the status, which has no data set
-abbrev pub responses : AgreedContext → Command → Found → List Response
-responses context command found =
-    pending_responses context command found
-    ++ response context.class command found.status None ∷ []
+-- The responses with the answers, and the one with the status, which has no data set. After a
+-- C-CANCEL that is FE00 (PS3.4 section C.4.1.1.4).
+abbrev pub responses : AgreedContext → Command → Found → Responses
+responses context command found = record {
+  pending = pending_responses context command found;
+  final = response context.class command found.status None;
+  cancelled = response context.class command CANCEL None;
+}
 
 -- the operations of each service (PS3.4 sections A.2, B.2, C.4.1, K.4.1 and F.7.2)
 abbrev pub has_operation : Service → ℕ → Bool
@@ -159,7 +170,7 @@ outcome_on agreement context limits message =
 -- the responses of an outcome, and its edits
 abbrev pub served_by : AgreedContext → Command → Found × List Edit → Served
 served_by context command outcome =
-    record { responses = responses context command outcome.0; edits = outcome.1 }
+    record { responses = Some (responses context command outcome.0); edits = outcome.1 }
 
 -- A C-CANCEL has no response.
 abbrev pub context_answer : Limits → List Record → Agreement → Message → AgreedContext → Served

@@ -1,6 +1,7 @@
 -- The plain server that institutions share: one reply for each event, read off the whole stream of
--- the event's connection and off the rows. It remembers no states, no rests and no buffers.
-use Rattle.std.specs.Prelude.{ℕ, List, [], ◌∷◌, ◌++◌, map, take, drop, Option, Some, None}
+-- the event's connection, off the C-FIND that is open on it, and off the rows. It remembers no
+-- states, no rests and no buffers.
+use Rattle.std.specs.Prelude.{ℕ, false, List, [], ◌∷◌, ◌++◌, map, take, drop, Option, Some, None}
 use Rattle.dq_config.specs.declared.config.Institution.{Institution}
 use Rattle.dq_core.specs.declared.event.Event.{Event}
 use Rattle.dq_core.specs.declared.event.Event.TheVariants as event
@@ -11,8 +12,9 @@ use Rattle.dq_config.specs.Limits.{limits_of}
 use Rattle.dq_config.specs.Routing.{named}
 use Rattle.dq_tables.specs.Rows.{Edit, Operation, by, of, after_all}
 use Rattle.dq_core.specs.Services.{Order, Scheduling, Withdrawal, Ordered, ordered, order_reply}
-use Rattle.dq_core.specs.Answers.{Answer, piece_answer, stranger_answer, progress_of, inputs_added, verdict_at}
-use Rattle.dq_core.specs.Connections.{Connection, new_connection, connection_in, without, after_piece}
+use Rattle.dq_core.specs.Pages.{Page, next_page}
+use Rattle.dq_core.specs.Answers.{Answer, piece_answer, stranger_answer, progress_of, inputs_added, verdict_at, after_piece}
+use Rattle.dq_core.specs.Connections.{Connection, new_connection, connection_in, without, with_connection, with_query}
 use Rattle.dq_core.specs.Owners.{owner, live_of}
 
 -- between two events: the connections that are held, and the rows of all institutions
@@ -35,10 +37,10 @@ quiet_turn r connections = record { reply = r; operations = []; connections = co
 -- limits and the count of its own associations.
 abbrev pub answer_by : Option Institution → List Institution → World → Connection → List ℕ → Answer
 answer_by None institutions world c piece =
-    stranger_answer (progress_of c.stream []) (inputs_added c.stream piece)
+    stranger_answer (progress_of c []) (inputs_added c.stream piece)
 answer_by (Some i) institutions world c piece =
     let verdict = verdict_at i.associations (live_of institutions i.name world.connections) in
-    piece_answer (limits_of i) verdict (of i.name world.rows) c.stream piece
+    piece_answer (limits_of i) verdict (of i.name world.rows) c piece
 
 -- changes of the owner's records as operations on the rows
 abbrev pub operations_by : Option Institution → List (List Edit) → List Operation
@@ -65,6 +67,15 @@ abbrev pub end_turn : World → Option Connection → Turn
 end_turn world None = quiet_turn reply.Ignored world.connections
 end_turn world (Some c) = quiet_turn reply.Done (without c.number world.connections)
 
+-- A pull is answered with the next page of the C-FIND that is open.
+abbrev pub page_turn : World → Connection → Page → Turn
+page_turn world c p = quiet_turn (reply.Octets c.number p.octets false)
+    (with_connection (with_query p.query c) world.connections)
+
+abbrev pub pull_turn : World → Option Connection → Turn
+pull_turn world None = quiet_turn reply.Ignored world.connections
+pull_turn world (Some c) = page_turn world c (next_page c.query)
+
 -- the refusal of an order for an institution that is not configured
 abbrev pub no_such_institution : ℕ
 no_such_institution = 6
@@ -90,6 +101,8 @@ turn institutions world (event.Piece number piece) =
     piece_turn institutions world piece (connection_in number world.connections)
 turn institutions world (event.End number) =
     end_turn world (connection_in number world.connections)
+turn institutions world (event.Pull number) =
+    pull_turn world (connection_in number world.connections)
 turn institutions world (event.Schedule inst octets) =
     order_turn world (Scheduling octets) (named institutions inst)
 turn institutions world (event.Withdraw inst id) =

@@ -22,6 +22,8 @@ use Rattle.dq_tables.specs.Rows.{of, after_all}
 use Rattle.dq_core.specs.declared.connections.Connections.{Connections}
 use Rattle.dq_core.specs.declared.slot.Slot.{Slot}
 use Rattle.dq_core.specs.declared.slot.Taken.{Taken as HeldTaken}
+use Rattle.dq_core.specs.Pages.{OpenQuery}
+use Rattle.dq_core.specs.Queries.{query_in}
 use Rattle.dq_core.specs.Answers.{Answer, verdict_at}
 use Rattle.dq_core.specs.Connections.{Connection, with_piece}
 use Rattle.dq_core.specs.Histories.{is_above}
@@ -51,6 +53,7 @@ pub record IsHeld (institutions : List Institution) (slot : Slot) (c : Connectio
   pub inbox : InboxAfter c.stream slot.inbox
   pub faultless : (pdus_in c.stream).fault ≡ None
   pub stands : StandsAt (owner institutions c.stream) slot (pdus_in c.stream).list
+  pub query : query_in slot.query ≡ c.query
 
 -- the place of a connection, and the slot there
 pub record IsAt (institutions : List Institution) (slots : Slab Slot) (number place : ℕ)
@@ -119,15 +122,16 @@ abbrev pub owner_at : List Institution → Slot → List Pdu → Option Institut
 owner_at institutions slot pdus = owner_with institutions slot.home pdus
 
 -- what was taken on a connection is answered by the institution that has it, if one has
-abbrev pub answer_of : Option Institution → List Row → Option Agreement → Taken → Answer
-answer_of None rows agreement t = record {
+abbrev pub answer_of : Option Institution → List Row → Option Agreement → Option OpenQuery → Taken
+    → Answer
+answer_of None rows agreement query t = record {
   octets = t.opening ++ t.step.octets;
   close = t.step.close;
   changes = [];
-  next = record { agreement = None; records = [] };
+  next = record { agreement = None; records = []; query = query };
 }
-answer_of (Some i) rows agreement t =
-    taken_answer (limits_of i) (of i.name rows) agreement t
+answer_of (Some i) rows agreement query t =
+    taken_answer (limits_of i) (of i.name rows) agreement query t
 
 -- Two answers, each of an institution or of none, that are the same to the peer and to the tables.
 pub record AreAlike (one : Option Institution) (x : Answer) (other : Option Institution)
@@ -135,6 +139,7 @@ pub record AreAlike (one : Option Institution) (x : Answer) (other : Option Inst
     : Type 0 where
   pub octets : x.octets ≡ y.octets
   pub close : x.close ≡ y.close
+  pub query : x.next.query ≡ y.next.query
   pub operations : operations_by one x.changes ≡ operations_by other y.changes
 
 -- What is held of what was taken stands for what the definitions take, on a connection with an
@@ -152,8 +157,9 @@ pub record Took (institutions : List Institution) (world : World) (c : Connectio
   pub stands : IsTaken (held_agreement new.association) held_taken taken
   pub answer : let o = owner institutions (c.stream ++ piece) in
       AreAlike o (answer_by o institutions world c piece)
-      institution (answer_of institution world.rows (held_agreement new.association) taken)
+      institution (answer_of institution world.rows (held_agreement new.association) c.query taken)
   pub home : old.home ≡ home_of institution (held_agreement old.association)
-  pub held : taken.step.close ≡ false → IsHeld institutions new (with_piece c piece)
+  pub query : query_in new.query ≡ query_in old.query
+  pub held : taken.step.close ≡ false → IsHeld institutions new (with_piece c piece c.query)
       × (new.home ≡ home_of institution (held_agreement new.association))
   pub listed : (i : Institution) → institution ≡ Some i → Contains institutions i

@@ -1,13 +1,13 @@
 -- What a step of the server asks of its event, and what it leaves at a fault.
-use Rattle.std.specs.Prelude.{◌≡◌, ℕ, true, ◌⊎◌, IsTrue, List, [], ◌++◌, take, Result, Err, OnOk, Option, None}
+use Rattle.std.specs.Prelude.{◌≡◌, ℕ, true, false, ◌⊎◌, IsTrue, List, [], ◌++◌, take, Result, Err, OnOk, Option, None}
 use Rattle.dq_tables.specs.declared.row.Row.{Row}
 use Rattle.dq_tables.specs.Rows.{Operation, after_all}
 use Rattle.dq_tables.specs.Keeping.{State as Kept, IsSettled}
 use Rattle.dq_core.specs.declared.event.Event.{Event}
-use Rattle.dq_core.specs.declared.event.Event.TheVariants.{Open, Piece, End, Schedule, Withdraw}
+use Rattle.dq_core.specs.declared.event.Event.TheVariants.{Open, Piece, End, Pull, Schedule, Withdraw}
 use Rattle.dq_core.specs.declared.fault.Fault.{Fault}
 use Rattle.dq_core.specs.declared.fault.Fault.TheVariants.{Store}
-use Rattle.dq_core.specs.Connections.{Connection, connection_in}
+use Rattle.dq_core.specs.Connections.{Connection, connection_in, is_pending}
 use Rattle.dq_core.specs.Histories.{is_above}
 
 -- an opened number has to be above the numbers opened before
@@ -15,14 +15,17 @@ abbrev pub Opens : Option ℕ → Event → Type 0
 Opens newest (Open number) = IsTrue (is_above newest number)
 Opens newest (Piece number piece) = Unit {0}
 Opens newest (End number) = Unit {0}
+Opens newest (Pull number) = Unit {0}
 Opens newest (Schedule inst octets) = Unit {0}
 Opens newest (Withdraw inst id) = Unit {0}
 
--- the end of a connection, a piece for a number that is not held, and an empty piece
+-- the end of a connection, a piece or a pull for a number that is not held, an empty piece, and a
+-- pull where no C-FIND is open
 abbrev pub TakesNoMemory : List Connection → Event → Type 0
 TakesNoMemory connections (End number) = Unit {0}
 TakesNoMemory connections (Piece number []) = Unit {0}
 TakesNoMemory connections (Piece number piece) = connection_in number connections ≡ None
+TakesNoMemory connections (Pull number) = is_pending number connections ≡ false
 TakesNoMemory connections (Open number) = ⊥
 TakesNoMemory connections (Schedule inst octets) = ⊥
 TakesNoMemory connections (Withdraw inst id) = ⊥

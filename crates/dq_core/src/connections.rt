@@ -1,6 +1,6 @@
 //! The connections that are held.
 
-ghost use Rattle.std.specs.Prelude.{◌≡◌, ◌≢◌, ◌<◌, ◌^◌, ◌⊎◌, ℕ, List, [], Option, None, IfOk, IfErr, OnErr, IsOk, IsTrue, is_some, length, ◌&&◌, not};
+ghost use Rattle.std.specs.Prelude.{◌≡◌, ◌≢◌, ◌<◌, ◌^◌, ◌⊎◌, ℕ, List, [], Option, None, false, IfOk, IfErr, OnErr, IsOk, IsTrue, is_some, length, ◌&&◌, not};
 ghost use Rattle.std.specs.Option.{option_copied};
 ghost use Rattle.std.specs.Ordering.{nat_cmp};
 ghost use Rattle.std.specs.Map.{remove_entry};
@@ -11,17 +11,19 @@ ghost use Rattle.dq_pdu.specs.Inboxes.{InboxAfter};
 ghost use Rattle.dq_config.specs.declared.config.Institution.{Institution};
 ghost use Rattle.dq_core.specs.declared.event.Event.{Event};
 ghost use Rattle.dq_core.specs.declared.event.Reply.{Reply};
-ghost use Rattle.dq_core.specs.Connections.{Connection, connection_in};
+ghost use Rattle.dq_core.specs.Connections.{Connection, connection_in, is_pending};
 ghost use Rattle.dq_core.specs.Histories.{is_above};
 ghost use Rattle.dq_core.specs.Shared.{World, turn};
 ghost use Rattle.dq_core.specs.Stepping.{Goes, MayLeave, IsPartOf};
 ghost use Rattle.dq_core.specs.Doing.{Did, DidPart, Taken as Pure};
 ghost use Rattle.dq_core.specs.Tallies.{IsTallied, tallied, retallied_by};
+ghost use Rattle.dq_core.specs.Queries.{query_in};
 ghost use Rattle.dq_core.specs.Slots.{AreHeld, IsHeld, IsTaken, StandsAt, Turned, Took, answer_of, owner_at, verdict_for, without_home};
 
 use crate::event::Reply;
 use crate::fault::Fault;
-use crate::service::{Provider, answer_unserved};
+use crate::pages::OpenQuery;
+use crate::service::{Answered, Provider, answer_unserved};
 use crate::slot::{Called, Slot, Taken};
 use crate::tally::Tally;
 use dq_assoc::laws::{a_longer_stream_adds_inputs, an_association_after_pdus};
@@ -100,6 +102,21 @@ impl Connections {
             result ≡ is_some (connection_in number connections) }
     {
         self.place_of(number).is_some()
+    }
+
+    /// Whether a C-FIND is open on the connection that is held under a number.
+    pub(crate) fn is_pending(&self, number: u64) -> bool
+        ensures { (connections : List Connection) →
+            AreHeld self.now.config self.now connections →
+            result ≡ is_pending number connections }
+    {
+        let Some(place) = self.place_of(number) else {
+            return false;
+        };
+        match self.slots.get(place) {
+            Some(slot) => slot.query.is_some(),
+            None => false,
+        }
     }
 
     /// Takes the slot with a number out of its place.
@@ -181,7 +198,9 @@ impl Connections {
         let close = taken.step.close;
         let is_open = stays_open(slot, close);
         let agreement = slot.association.agreement();
-        let octets = answer_taken(alloc, institution, agreement, taken, tables)?;
+        let query = slot.query.take();
+        let answered = answer_taken(alloc, institution, agreement, query, taken, tables)?;
+        slot.query = answered.query;
         retally(
             &self.config,
             &mut self.tally,
@@ -192,7 +211,30 @@ impl Connections {
         if close {
             self.remove(number, place);
         }
-        Ok(octets_reply(number, octets, close))
+        Ok(octets_reply(number, answered.octets, close))
+    }
+
+    /// Answers a pull with the next page of the C-FIND that is open. Where none is, it takes no
+    /// memory.
+    pub(crate) fn answer_pull(&mut self, alloc: Global, number: u64) -> Result<Reply, AllocError>
+        ensures turned { (world : World) →
+            AreHeld self.old.config self.old world.connections → IfOk result (λ reply.
+            Turned self.old.config (turn self.old.config world (Event.Pull number)) reply
+            world.rows world.rows self.new) }
+        ensures quiet { (connections : List Connection) →
+            AreHeld self.old.config self.old connections →
+            is_pending number connections ≡ false → IsOk result }
+        ensures config { self.new.config ≡ self.old.config }
+        ensures newest { self.new.newest ≡ self.old.newest }
+    {
+        let Some(place) = self.place_of(number) else {
+            return Ok(Reply::Ignored);
+        };
+        let Some(slot) = self.slots.get_mut(place) else {
+            return Ok(Reply::Ignored);
+        };
+        let octets = slot.send_page(alloc)?;
+        Ok(octets_reply(number, octets, false))
     }
 
     /// Ends a connection.
@@ -219,6 +261,7 @@ fn slot_for(alloc: Global, spares: &mut Vec<Slot>, number: u64) -> Slot
     ensures number { result.number ≡ number }
     ensures inbox { InboxAfter [] result.inbox }
     ensures stands { (owner : Option Institution) → StandsAt owner result [] }
+    ensures query { result.query ≡ None }
 {
     match spares.pop() {
         Some(mut slot) => {
@@ -347,32 +390,34 @@ fn answer_taken<T: Tables>(
     alloc: Global,
     institution: Option<&Institution>,
     agreement: Option<&Agreement>,
+    query: Option<OpenQuery>,
     taken: Taken,
     tables: &mut T,
-) -> Result<Vec<u8>, Fault>
+) -> Result<Answered, Fault>
     ensures goes { Goes (T.state tables.old) (T.state tables.new) result }
     ensures does { (T.state tables.new).honest → (t : Pure) →
-        IsTaken (option_copied agreement.entry) taken t → IfOk result (λ octets.
+        IsTaken (option_copied agreement.entry) taken t → IfOk result (λ given.
         Did (option_copied institution.entry) (answer_of (option_copied institution.entry)
-        (T.state tables.old).rows (option_copied agreement.entry) t)
-        (T.state tables.old).rows (T.state tables.new).rows [] octets.items) }
+        (T.state tables.old).rows (option_copied agreement.entry) (query_in query) t)
+        (T.state tables.old).rows (T.state tables.new).rows [] given.octets.items
+        (query_in given.query)) }
     ensures stops { (T.state tables.new).honest → (t : Pure) →
         IsTaken (option_copied agreement.entry) taken t → OnErr result (
         DidPart (option_copied institution.entry) (answer_of (option_copied institution.entry)
-        (T.state tables.old).rows (option_copied agreement.entry) t)
+        (T.state tables.old).rows (option_copied agreement.entry) (query_in query) t)
         (T.state tables.old).rows (T.state tables.new).rows
         (MayLeave (T.state tables.old) (T.state tables.new))) }
     ensures fault { IfErr result (λ fault. fault ≢ Fault.Stopped) }
 {
     let (Some(institution), Some(agreement)) = (institution, agreement) else {
-        return Ok(answer_unserved(taken)?);
+        return Ok(answer_unserved(query, taken)?);
     };
     let provider = Provider {
         alloc,
         institution,
         agreement,
     };
-    provider.answer(taken, tables)
+    provider.answer(query, taken, tables)
 }
 
 fn octets_reply(number: u64, octets: Vec<u8>, close: bool) -> Reply

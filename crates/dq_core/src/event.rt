@@ -9,6 +9,8 @@ pub enum Event {
     Piece(u64, Listed<u8>),
     /// The peer ended a connection.
     End(u64),
+    /// The next page of the answers to the C-FIND that is open on a connection is to be sent.
+    Pull(u64),
     /// The console schedules an entry of an institution's worklist.
     Schedule {
         inst: Listed<u8>,

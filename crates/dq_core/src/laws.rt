@@ -1,6 +1,6 @@
 //! Laws of the plain server. Each function's contract is a law; its body does nothing.
 
-ghost use Rattle.std.specs.Prelude.{◌≡◌, ◌≤◌, ◌⊎◌, ◌↔◌, ℕ, Bool, false, IsTrue, Ok, List, [], ◌∷◌, ◌++◌, length, take, filter, map, Contains, Option, Some, None};
+ghost use Rattle.std.specs.Prelude.{◌≡◌, ◌≤◌, ◌+◌, ◌*◌, ◌⊎◌, ◌↔◌, ℕ, suc, Bool, false, IsTrue, Ok, List, [], ◌∷◌, ◌++◌, length, take, filter, map, Contains, Option, Some, None};
 ghost use Rattle.dq_pdu.specs.declared.pdu.Request.{Request};
 ghost use Rattle.dq_assoc.specs.declared.association.Verdict.{Verdict};
 ghost use Rattle.dq_assoc.specs.Inputs.{inputs};
@@ -19,7 +19,7 @@ ghost use Rattle.dq_core.specs.Histories.{is_well_formed, opened_numbers};
 ghost use Rattle.dq_core.specs.Runs.{IsRun, IsLeftOf, IsOwnRun};
 ghost use Rattle.dq_core.specs.declared.event.Reply.{Reply};
 ghost use Rattle.dq_core.specs.Accepted.{AreOpen};
-ghost use Rattle.dq_core.specs.Connections.{Connection, connection_in};
+ghost use Rattle.dq_core.specs.Connections.{Connection, connection_in, with_piece};
 ghost use Rattle.std.specs.List.Sorted.{IsStrictlyIncreasing};
 ghost use Rattle.dq_assoc.specs.declared.association.State.TheVariants.{Waiting, Open};
 ghost use Rattle.dq_assoc.specs.Table.{Requested, line};
@@ -36,7 +36,9 @@ ghost use Rattle.dq_find.specs.declared.query.Query.{Query};
 ghost use Rattle.dq_find.specs.Queries as study;
 ghost use Rattle.dq_worklist.specs.Queries as worklist;
 ghost use Rattle.dq_core.specs.Services.{Response, refusal_for, outcome_on, served};
-ghost use Rattle.dq_core.specs.Searches.{Succeeds, ArePending, Brings, HasResponses};
+ghost use Rattle.dq_core.specs.Searches.{Succeeds, ArePending, Brings, HasOctets};
+ghost use Rattle.dq_core.specs.declared.event.Reply.TheVariants.{Octets};
+ghost use Rattle.dq_core.specs.Pages.{OpenQuery, page_length, octets_of, rest, without_first, page, next_page, pages, after_pages, query_by};
 ghost use Rattle.dq_find.specs.Answers as study_answers;
 ghost use Rattle.dq_worklist.specs.Answers as worklist_answers;
 ghost use Rattle.dq_tables.specs.Sound.{IsSound};
@@ -64,14 +66,14 @@ pub fn replies_in_turn()
 
 /// However a stream is cut, it is answered alike: a piece that comes in two parts is answered as
 /// the first part and then, unless that closed the connection, as the second, from the records that
-/// are there by then.
+/// are there and the C-FIND that is open by then.
 pub fn pieces_join()
     ensures { (limits : Limits) (verdict : Verdict) (records : List Record)
-        (stream first second : List ℕ) →
-        let front = piece_answer limits verdict records stream first in
-        piece_answer limits verdict records stream (first ++ second)
-        ≡ then_answer front
-        (piece_answer limits verdict front.next.records (stream ++ first) second) }
+        (c : Connection) (first second : List ℕ) →
+        let front = piece_answer limits verdict records c first in
+        piece_answer limits verdict records c (first ++ second)
+        ≡ then_answer front (piece_answer limits verdict front.next.records
+        (with_piece c first front.next.query) second) }
 {
     a_longer_stream_adds_inputs();
     the_last_input_closes();
@@ -80,10 +82,10 @@ pub fn pieces_join()
 /// Whether an institution is busy is asked for the request alone.
 pub fn verdict_is_of_the_request()
     ensures { (limits : Limits) (verdict other : Verdict) (records : List Record)
-        (stream piece : List ℕ) (request : Request) →
-        request_in (inputs stream) ≡ Some request →
-        piece_answer limits verdict records stream piece
-        ≡ piece_answer limits other records stream piece }
+        (c : Connection) (piece : List ℕ) (request : Request) →
+        request_in (inputs c.stream) ≡ Some request →
+        piece_answer limits verdict records c piece
+        ≡ piece_answer limits other records c piece }
 {}
 
 /// Once a stream has an owner, it stays.
@@ -117,10 +119,10 @@ pub fn held_connections_were_accepted()
         AreOpen institutions (inputs c.stream) }
     // By the verdict at the piece that brought the request.
     ensures verdict { (limits : Limits) (verdict : Verdict) (records : List Record)
-        (stream piece : List ℕ) (request : Request) →
-        request_in (inputs stream) ≡ None →
-        request_in (inputs (stream ++ piece)) ≡ Some request →
-        (piece_answer limits verdict records stream piece).close ≡ false →
+        (c : Connection) (piece : List ℕ) (request : Request) →
+        request_in (inputs c.stream) ≡ None →
+        request_in (inputs (c.stream ++ piece)) ≡ Some request →
+        (piece_answer limits verdict records c piece).close ≡ false →
         (line Waiting verdict (Requested request)).next ≡ Open }
 {
     a_longer_stream_adds_inputs();
@@ -400,7 +402,7 @@ pub fn what_a_crash_leaves()
 /// The pending responses of a C-FIND that ends with 0000 are the answers to its query, each in its
 /// own response, in the order of the records' keys: what is told of the records that match, over
 /// the rows that there are as the message is served. In the reply to the piece that brings the
-/// message, the octets of its responses stand one after the other.
+/// message, the octets of the first page of its responses stand.
 pub fn searches_end_with_their_answers()
     ensures studies { (institution : List ℕ) (rows : List Row) (limits : Limits)
         (agreement : Agreement) (message : Message) (context : AgreedContext)
@@ -423,13 +425,37 @@ pub fn searches_end_with_their_answers()
         (piece : List ℕ) (i : Institution) (agreement : Agreement) (records : List Record)
         (message : Message) → connection_in c.number world.connections ≡ Some c →
         Brings institutions world c piece i agreement records message →
-        HasResponses c.number message.context agreement.limit
-        (served (limits_of i) records agreement message).responses
+        HasOctets c.number (next_page (query_by agreement message
+        (served (limits_of i) records agreement message).responses)).octets
         (turn institutions world (Event.Piece c.number piece)).reply }
 {
     study_answers_in_order();
     worklist_answers_in_order();
 }
+
+/// Pages, one after the other, are the responses to a C-FIND: each once, in order, and the final
+/// one last. As long as some are left, so many pages are so many times 64 pending responses; nothing
+/// comes after the last. No page has more than 64 of them.
+pub fn pages_are_the_responses()
+    ensures begun { (query left : OpenQuery) (count : ℕ) →
+        after_pages count (Some query) ≡ Some left →
+        (pages count (Some query)
+        ≡ octets_of query (take (count * page_length) query.left.pending))
+        × (left ≡ without_first (count * page_length) query) }
+    ensures whole { (query : OpenQuery) (count : ℕ) →
+        length query.left.pending ≤ suc count * page_length →
+        (pages (suc count) (Some query) ≡ rest query)
+        × (after_pages (suc count) (Some query) ≡ None) }
+    ensures nothing { (count : ℕ) → (pages count None ≡ []) × (after_pages count None ≡ None) }
+    ensures most { (query : OpenQuery) → (responses : List Response)
+        × ((page query).octets ≡ octets_of query responses)
+        × (length responses ≤ page_length + 1) }
+    // A pull brings the next page of the connection that it names.
+    ensures pulled { (institutions : List Institution) (world : World) (c : Connection) →
+        connection_in c.number world.connections ≡ Some c →
+        (turn institutions world (Event.Pull c.number)).reply
+        ≡ Octets c.number (next_page c.query).octets false }
+{}
 
 /// Two looks at a server are as one, and no look is as one.
 pub fn looks_are_one_look<T: Tables>()

@@ -6,7 +6,7 @@ mod event;
 mod fault;
 pub mod laws;
 mod orders;
-mod responses;
+mod pages;
 mod server;
 mod service;
 mod slot;

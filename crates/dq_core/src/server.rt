@@ -4,7 +4,7 @@ ghost use Rattle.dq_tables.specs.declared.row.Row.{Row};
 ghost use Rattle.dq_config.specs.Limits.{limits_of};
 ghost use Rattle.dq_tables.specs.Keeping.{IsSettled};
 ghost use Rattle.dq_tables.specs.Rows.{of};
-ghost use Rattle.dq_core.specs.Connections.{connection_in};
+ghost use Rattle.dq_core.specs.Connections.{connection_in, is_pending};
 ghost use Rattle.dq_core.specs.Shared.{World, turn, world_after, replies};
 ghost use Rattle.dq_core.specs.Alone.{alone_replies, alone_after};
 ghost use Rattle.dq_core.specs.Owners.{owner};
@@ -103,6 +103,16 @@ impl<T: Tables> Server<T> {
         self.connections.is_held(number)
     }
 
+    /// Whether a C-FIND is open on the connection that is held under a number: there are answers
+    /// that a pull brings.
+    pub fn pending(&self, number: u64) -> bool
+        ensures { (rows : List Row) (events : List Event) → StandsFor T.state rows self.now events →
+            let world = world_after self.now.institutions rows events in
+            result ≡ is_pending number world.connections }
+    {
+        self.connections.is_pending(number)
+    }
+
     /// The institutions that share the server, in the order of the configuration.
     pub fn institutions(&self) -> &[Institution]
         ensures { result.now ≡ self.now.institutions }
@@ -149,8 +159,8 @@ impl<T: Tables> Server<T> {
             IsPartOf (turn self.old.institutions world event).operations world.rows
             (T.state self.new.tables).rows
             (MayLeave (T.state self.old.tables) (T.state self.new.tables))) }
-        // An end, a piece for a number that is not held, and an empty piece take no memory, and
-        // leave the tables alone.
+        // An end, a piece or a pull for a number that is not held, an empty piece, and a pull where
+        // no C-FIND is open take no memory, and leave the tables alone.
         ensures quiet { (rows : List Row) (events : List Event) →
             StandsFor T.state rows self.old events →
             TakesNoMemory (world_after self.old.institutions rows events).connections event →
@@ -243,6 +253,7 @@ impl<T: Tables> Server<T> {
                     .answer_piece(self.alloc, &mut self.tables, number, piece)
             }
             Event::End(number) => Ok(self.connections.end(number)),
+            Event::Pull(number) => Ok(self.connections.answer_pull(self.alloc, number)?),
             Event::Schedule { inst, octets } => schedule_entry(
                 self.alloc,
                 &self.connections.config,

@@ -1,6 +1,6 @@
 //! What messages are answered with, by the service of their context.
 
-ghost use Rattle.std.specs.Prelude.{◌≡◌, ◌≢◌, ◌++◌, [], List, true, IfOk, OnOk, IfErr, OnErr, Some};
+ghost use Rattle.std.specs.Prelude.{◌≡◌, ◌≢◌, ◌++◌, [], List, true, IfOk, OnOk, IfErr, OnErr, None, Some};
 ghost use Rattle.dq_dimse.specs.Holding.{StandForAll, StandsFor, StandsOn, plain_message};
 ghost use Rattle.dq_dimse.specs.Received.{Message as Received};
 ghost use Rattle.dq_assoc.specs.Classes.{service_of};
@@ -11,9 +11,11 @@ ghost use Rattle.dq_tables.specs.Serving.{Serves};
 ghost use Rattle.dq_core.specs.Services.{has_operation, refusal_for, status_alone, performed, operation, outcome_on};
 ghost use Rattle.dq_core.specs.Stepping.{Goes, MayLeave};
 ghost use Rattle.dq_core.specs.Doing.{Operates, Did, DidPart, Taken as Pure, served_answer, messages_answer, taken_answer};
+ghost use Rattle.dq_core.specs.Queries.{query_in};
 ghost use Rattle.dq_core.specs.Slots.{IsTaken};
 
 use crate::fault::Fault;
+use crate::pages::OpenQuery;
 use crate::slot::Taken;
 use dq_assoc::{AgreedContext, Agreement, Service, SopClass};
 use dq_config::Institution;
@@ -34,6 +36,13 @@ pub(crate) struct Provider<'a> {
     pub alloc: Global,
     pub institution: &'a Institution,
     pub agreement: &'a Agreement,
+}
+
+/// What a connection is answered: octets, and the C-FIND that is open on it afterwards.
+#[derive(Debug, Drop)]
+pub(crate) struct Answered {
+    pub octets: Vec<u8>,
+    pub query: Option<OpenQuery>,
 }
 
 /// A message that is served: by whom, and on which context.
@@ -164,93 +173,140 @@ impl Asked<'_> {
 }
 
 impl Provider<'_> {
-    /// Serves a message: makes its edits, and adds its responses. None comes on a context that was
-    /// not accepted, and none to a C-CANCEL.
+    /// Serves a message while no C-FIND is open: makes its edits, and sends the first page of its
+    /// responses. None comes on a context that was not accepted, and none to a C-CANCEL. Gives back
+    /// what is left of the responses.
     fn serve<T: Tables>(
         self,
-        message: &Message,
+        message: Message,
         tables: &mut T,
         out: &mut Vec<u8>,
-    ) -> Result<(), Fault>
+    ) -> Result<Option<OpenQuery>, Fault>
         ensures goes { Goes (T.state tables.old) (T.state tables.new) result }
         ensures does { (T.state tables.new).honest → (sent : Received) →
-            StandsOn (accepted_by self.entry.agreement.now) message.now sent → OnOk result (
+            StandsOn (accepted_by self.entry.agreement.now) message sent → IfOk result (λ query.
             Did (Some self.entry.institution.now)
             (served_answer (limits_of self.entry.institution.now) self.entry.agreement.now
-            (of self.entry.institution.now.name (T.state tables.old).rows) sent)
-            (T.state tables.old).rows (T.state tables.new).rows out.old.items out.new.items) }
+            (of self.entry.institution.now.name (T.state tables.old).rows) None sent)
+            (T.state tables.old).rows (T.state tables.new).rows out.old.items out.new.items
+            (query_in query)) }
         ensures stops { (T.state tables.new).honest → (sent : Received) →
-            StandsOn (accepted_by self.entry.agreement.now) message.now sent → OnErr result (
+            StandsOn (accepted_by self.entry.agreement.now) message sent → OnErr result (
             DidPart (Some self.entry.institution.now)
             (served_answer (limits_of self.entry.institution.now) self.entry.agreement.now
-            (of self.entry.institution.now.name (T.state tables.old).rows) sent)
+            (of self.entry.institution.now.name (T.state tables.old).rows) None sent)
             (T.state tables.old).rows (T.state tables.new).rows
             (MayLeave (T.state tables.old) (T.state tables.new))) }
         ensures fault { IfErr result (λ fault. fault ≢ Fault.Stopped) }
     {
         let Some(context) = self.agreement.context(message.context) else {
-            return Ok(());
+            return Ok(None);
         };
         if message.command.code == command_field::C_CANCEL {
-            return Ok(());
+            return Ok(None);
         }
         let asked = Asked {
             provider: self,
             context,
-            message,
+            message: &message,
         };
         let found = asked.outcome(tables)?;
-        asked.respond_all(&found, out)?;
-        Ok(())
+        let query = OpenQuery::new(self.agreement, context, message.command, found);
+        Ok(query.send_page(self.alloc, out)?)
     }
 
-    /// Serves messages, in order.
-    fn serve_all<T: Tables>(
+    /// Answers a message: a C-CANCEL ends the C-FIND that is open, where it is of that, and any
+    /// other message is served after all that is left of it.
+    fn respond<T: Tables>(
         self,
+        query: Option<OpenQuery>,
+        message: Message,
+        tables: &mut T,
+        out: &mut Vec<u8>,
+    ) -> Result<Option<OpenQuery>, Fault>
+        ensures goes { Goes (T.state tables.old) (T.state tables.new) result }
+        ensures does { (T.state tables.new).honest → (sent : Received) →
+            StandsOn (accepted_by self.entry.agreement.now) message sent → IfOk result (λ next.
+            Did (Some self.entry.institution.now)
+            (served_answer (limits_of self.entry.institution.now) self.entry.agreement.now
+            (of self.entry.institution.now.name (T.state tables.old).rows) (query_in query) sent)
+            (T.state tables.old).rows (T.state tables.new).rows out.old.items out.new.items
+            (query_in next)) }
+        ensures stops { (T.state tables.new).honest → (sent : Received) →
+            StandsOn (accepted_by self.entry.agreement.now) message sent → OnErr result (
+            DidPart (Some self.entry.institution.now)
+            (served_answer (limits_of self.entry.institution.now) self.entry.agreement.now
+            (of self.entry.institution.now.name (T.state tables.old).rows) (query_in query) sent)
+            (T.state tables.old).rows (T.state tables.new).rows
+            (MayLeave (T.state tables.old) (T.state tables.new))) }
+        ensures fault { IfErr result (λ fault. fault ≢ Fault.Stopped) }
+    {
+        let Some(open) = query else {
+            return self.serve(message, tables, out);
+        };
+        if message.command.code == command_field::C_CANCEL {
+            return Ok(open.cancel(self.alloc, message.command.id, out)?);
+        }
+        open.send_rest(self.alloc, out)?;
+        self.serve(message, tables, out)
+    }
+
+    /// Answers messages, in order.
+    fn respond_all<T: Tables>(
+        self,
+        query: Option<OpenQuery>,
         messages: Vec<Message>,
         tables: &mut T,
         out: &mut Vec<u8>,
-    ) -> Result<(), Fault>
+    ) -> Result<Option<OpenQuery>, Fault>
         ensures goes { Goes (T.state tables.old) (T.state tables.new) result }
         ensures does { (T.state tables.new).honest → (sent : List Received) →
-            StandForAll (accepted_by self.entry.agreement.now) messages.items sent → OnOk result (
-            Did (Some self.entry.institution.now)
+            StandForAll (accepted_by self.entry.agreement.now) messages.items sent →
+            IfOk result (λ next. Did (Some self.entry.institution.now)
             (messages_answer (limits_of self.entry.institution.now) self.entry.agreement.now
-            (of self.entry.institution.now.name (T.state tables.old).rows) sent)
-            (T.state tables.old).rows (T.state tables.new).rows out.old.items out.new.items) }
+            (of self.entry.institution.now.name (T.state tables.old).rows) (query_in query) sent)
+            (T.state tables.old).rows (T.state tables.new).rows out.old.items out.new.items
+            (query_in next)) }
         ensures stops { (T.state tables.new).honest → (sent : List Received) →
             StandForAll (accepted_by self.entry.agreement.now) messages.items sent → OnErr result (
             DidPart (Some self.entry.institution.now)
             (messages_answer (limits_of self.entry.institution.now) self.entry.agreement.now
-            (of self.entry.institution.now.name (T.state tables.old).rows) sent)
+            (of self.entry.institution.now.name (T.state tables.old).rows) (query_in query) sent)
             (T.state tables.old).rows (T.state tables.new).rows
             (MayLeave (T.state tables.old) (T.state tables.new))) }
         ensures fault { IfErr result (λ fault. fault ≢ Fault.Stopped) }
     {
         own_records_are_edited();
+        let mut query = query;
         for message in messages {
-            self.serve(&message, tables, out)?;
+            query = self.respond(query, message, tables, out)?;
         }
-        Ok(())
+        Ok(query)
     }
 
     /// Answers what was taken: the acceptance, then the responses of the services, and then the
     /// octets of what came last.
-    pub(crate) fn answer<T: Tables>(self, taken: Taken, tables: &mut T) -> Result<Vec<u8>, Fault>
+    pub(crate) fn answer<T: Tables>(
+        self,
+        query: Option<OpenQuery>,
+        taken: Taken,
+        tables: &mut T,
+    ) -> Result<Answered, Fault>
         ensures goes { Goes (T.state tables.old) (T.state tables.new) result }
         ensures does { (T.state tables.new).honest → (t : Pure) →
-            IsTaken (Some self.entry.agreement.now) taken t → IfOk result (λ octets.
+            IsTaken (Some self.entry.agreement.now) taken t → IfOk result (λ given.
             Did (Some self.entry.institution.now)
             (taken_answer (limits_of self.entry.institution.now)
             (of self.entry.institution.now.name (T.state tables.old).rows)
-            (Some self.entry.agreement.now) t)
-            (T.state tables.old).rows (T.state tables.new).rows [] octets.items) }
+            (Some self.entry.agreement.now) (query_in query) t)
+            (T.state tables.old).rows (T.state tables.new).rows [] given.octets.items
+            (query_in given.query)) }
         ensures stops { (T.state tables.new).honest → (t : Pure) →
             IsTaken (Some self.entry.agreement.now) taken t → OnErr result (
             DidPart (Some self.entry.institution.now)
             (taken_answer (limits_of self.entry.institution.now)
             (of self.entry.institution.now.name (T.state tables.old).rows)
-            (Some self.entry.agreement.now) t)
+            (Some self.entry.agreement.now) (query_in query) t)
             (T.state tables.old).rows (T.state tables.new).rows
             (MayLeave (T.state tables.old) (T.state tables.new))) }
         ensures fault { IfErr result (λ fault. fault ≢ Fault.Stopped) }
@@ -258,19 +314,23 @@ impl Provider<'_> {
         let Taken { opening, step } = taken;
         let mut octets = opening.into_inner();
         let messages = step.messages.into_inner();
-        self.serve_all(messages, tables, &mut octets)?;
+        let query = self.respond_all(query, messages, tables, &mut octets)?;
         octets.extend_from_slice(step.octets.as_slice())?;
-        Ok(octets)
+        Ok(Answered { octets, query })
     }
 }
 
 /// Answers what was taken on a connection that no institution has, or on which nothing is agreed:
 /// no service is reached.
-pub(crate) fn answer_unserved(taken: Taken) -> Result<Vec<u8>, AllocError>
-    ensures { IfOk result (λ octets. octets.items ≡ taken.opening ++ taken.step.octets) }
+pub(crate) fn answer_unserved(
+    query: Option<OpenQuery>,
+    taken: Taken,
+) -> Result<Answered, AllocError>
+    ensures { IfOk result (λ given.
+        (given.octets.items ≡ taken.opening ++ taken.step.octets) × (given.query ≡ query)) }
 {
     let Taken { opening, step } = taken;
     let mut octets = opening.into_inner();
     octets.extend_from_slice(step.octets.as_slice())?;
-    Ok(octets)
+    Ok(Answered { octets, query })
 }

@@ -1,4 +1,4 @@
-ghost use Rattle.std.specs.Prelude.{◌≡◌, ◌⊎◌, List, [], ◌∷◌, ◌++◌, Option, None, false, IfOk};
+ghost use Rattle.std.specs.Prelude.{◌≡◌, ◌⊎◌, List, [], ◌∷◌, ◌++◌, Option, None, false, IfOk, OnOk, IsOk};
 ghost use Rattle.std.specs.Option.{option_copied};
 ghost use Rattle.dq_pdu.specs.declared.pdu.Pdu.{Pdu};
 ghost use Rattle.dq_pdu.specs.declared.pdu.Pdu.TheVariants as pdu;
@@ -11,8 +11,11 @@ ghost use Rattle.dq_assoc.specs.Associations.{Held};
 ghost use Rattle.dq_assoc.specs.Holding.{Stands, held_agreement, held_state};
 ghost use Rattle.dq_config.specs.declared.config.Institution.{Institution};
 ghost use Rattle.dq_core.specs.Doing.{agreement_after, taken};
+ghost use Rattle.dq_core.specs.Pages.{next_page};
+ghost use Rattle.dq_core.specs.Queries.{query_in};
 ghost use Rattle.dq_core.specs.Slots.{IsTaken, StandsAt, home_of};
 
+use crate::pages::OpenQuery;
 use dq_assoc::laws::{an_association_after_pdus, pdus_in_parts};
 use dq_assoc::{Agreement, Association, State, Step, Verdict};
 use dq_config::Institution;
@@ -20,14 +23,16 @@ use dq_list::Listed;
 use dq_pdu::{Fed, Inbox, Pdu, Request};
 use std::alloc::{AllocError, Global};
 
-/// A connection that is held: its number, what came on it so far, its association, and the name of
-/// the institution that has it once its request was accepted.
+/// A connection that is held: its number, what came on it so far, its association, the name of the
+/// institution that has it once its request was accepted, and the C-FIND whose responses were not
+/// all sent, if there is one.
 #[derive(Debug, Drop)]
 pub(crate) struct Slot {
     pub number: u64,
     pub inbox: Inbox,
     pub association: Association,
     pub home: Option<Listed<u8>>,
+    pub query: Option<OpenQuery>,
 }
 
 /// Who is called on a connection: the institution that has its titles, if one has, and whether it
@@ -51,12 +56,14 @@ impl Slot {
         ensures number { result.number ≡ number }
         ensures inbox { InboxAfter [] result.inbox }
         ensures stands { (owner : Option Institution) → StandsAt owner result [] }
+        ensures query { result.query ≡ None }
     {
         Slot {
             number,
             inbox: Inbox::new(alloc),
             association: Association::new(alloc),
             home: None,
+            query: None,
         }
     }
 
@@ -66,11 +73,29 @@ impl Slot {
         ensures number { self.new.number ≡ number }
         ensures inbox { InboxAfter [] self.new.inbox }
         ensures stands { (owner : Option Institution) → StandsAt owner self.new [] }
+        ensures query { self.new.query ≡ None }
     {
         self.number = number;
         self.inbox.reset();
         self.association.reset();
         self.home = None;
+        self.query = None;
+    }
+
+    /// Sends the next page of the responses that are left. Where none are, it takes no memory.
+    pub(crate) fn send_page(&mut self, alloc: Global) -> Result<Vec<u8>, AllocError>
+        ensures page { IfOk result (λ octets.
+            octets.items ≡ (next_page (query_in self.old.query)).octets) }
+        ensures left { OnOk result
+            (query_in self.new.query ≡ (next_page (query_in self.old.query)).query) }
+        ensures keeps { self.new ≡ record self.old { query = self.new.query } }
+        ensures quiet { self.old.query ≡ None → IsOk result }
+    {
+        let mut octets = Vec::new(alloc);
+        if let Some(query) = self.query.take() {
+            self.query = query.send_page(alloc, &mut octets)?;
+        }
+        Ok(octets)
     }
 
     /// Takes PDUs in order, up to one that closes, and then a fault of the stream (PS3.8 section
@@ -97,7 +122,8 @@ impl Slot {
             IfOk result (λ t. t.step.close ≡ false →
             (fed.fault ≡ None)
             × StandsAt (option_copied called.entry.institution) self.new (before ++ fed.pdus)) }
-        ensures keeps { (self.new.number ≡ self.old.number) × (self.new.inbox ≡ self.old.inbox) }
+        ensures keeps { (self.new.number ≡ self.old.number) × (self.new.inbox ≡ self.old.inbox)
+            × (self.new.query ≡ self.old.query) }
     {
         an_association_after_pdus();
         pdus_in_parts();
@@ -128,7 +154,8 @@ impl Slot {
             IfOk result (λ t. t.step.close ≡ false →
             (fed.fault ≡ None)
             × StandsAt (option_copied called.entry.institution) self.new fed.pdus) }
-        ensures keeps { (self.new.number ≡ self.old.number) × (self.new.inbox ≡ self.old.inbox) }
+        ensures keeps { (self.new.number ≡ self.old.number) × (self.new.inbox ≡ self.old.inbox)
+            × (self.new.query ≡ self.old.query) }
     {
         let mut pdus = fed.pdus.into_inner();
         if pdus.is_empty() {
@@ -176,7 +203,8 @@ impl Slot {
             IfOk result (λ t. t.step.close ≡ false → (rest.fault ≡ None)
             × StandsAt (option_copied called.entry.institution) self.new
             (pdu.Request request ∷ rest.pdus)) }
-        ensures keeps { (self.new.number ≡ self.old.number) × (self.new.inbox ≡ self.old.inbox) }
+        ensures keeps { (self.new.number ≡ self.old.number) × (self.new.inbox ≡ self.old.inbox)
+            × (self.new.query ≡ self.old.query) }
     {
         pdus_in_parts();
         let answer = self.association.accept(request, called.verdict)?;

@@ -5,7 +5,7 @@ use Rattle.dq_assoc.specs.Table.{Input, Requested, Sent}
 use Rattle.dq_assoc.specs.declared.agreement.Agreement.{Agreement}
 use Rattle.dq_config.specs.Limits.{Limits}
 use Rattle.dq_tables.specs.Rows.{Record, edited}
-use Rattle.dq_core.specs.Services.{served}
+use Rattle.dq_core.specs.Pages.{OpenQuery, reaction}
 use Rattle.dq_core.specs.Doing.{agreement_after}
 use Rattle.dq_core.specs.Answers.{Progress, Answer, answer, agreement_by, message_answer, then_answer, answers}
 
@@ -33,41 +33,42 @@ module _ (limits : Limits) (verdict : Verdict) where
       ∙ next_later first more first.close refl (λ next. answers limits verdict next ys)
 
   -- what was agreed stays
-  open-agreement : (records : List Record) (agreement : Agreement) (xs : List Input)
-      → (answers limits verdict (record { agreement = Some agreement; records = records }) xs).next.agreement ≡ Some agreement
-  open-agreement records agreement [] = refl
-  open-agreement records agreement (Sent message ∷ xs) = open-agreement (edited (served limits records agreement message).edits records) agreement xs
-  open-agreement records agreement (x ∷ xs) = refl
+  open-agreement : (records : List Record) (query : Option OpenQuery) (agreement : Agreement) (xs : List Input)
+      → (answers limits verdict (record { agreement = Some agreement; records = records; query = query }) xs).next.agreement ≡ Some agreement
+  open-agreement records query agreement [] = refl
+  open-agreement records query agreement (Sent message ∷ xs) =
+      let r = reaction query limits records agreement message in open-agreement (edited r.edits records) r.query agreement xs
+  open-agreement records query agreement (x ∷ xs) = refl
 
   then-agreement : (a b : Answer) (o : Option Agreement) (p : Bool) → a.close ≡ p → a.next.agreement ≡ o → b.next.agreement ≡ o
       → (then_answer a b).next.agreement ≡ o
   then-agreement a b o true h k l = rw h k
   then-agreement a b o false h k l = rw h l
 
-  next-at : (records : List Record) (o : Option Agreement) (xs : List Input)
-      → (answers limits verdict (record { agreement = o; records = records }) xs).next.agreement ≡ agreement_after o xs
-  next-at records (Some agreement) xs = open-agreement records agreement xs
-  next-at records None [] = refl
-  next-at records None (Requested request ∷ xs) =
-      let first = answer limits verdict (record { agreement = None; records = records }) (Requested request) in
-      then-agreement first (answers limits verdict first.next xs) (agreement_by (Requested request)) first.close refl refl (open-agreement records _ xs)
-  next-at records None (x ∷ xs) = refl
+  next-at : (records : List Record) (query : Option OpenQuery) (o : Option Agreement) (xs : List Input)
+      → (answers limits verdict (record { agreement = o; records = records; query = query }) xs).next.agreement ≡ agreement_after o xs
+  next-at records query (Some agreement) xs = open-agreement records query agreement xs
+  next-at records query None [] = refl
+  next-at records query None (Requested request ∷ xs) =
+      let first = answer limits verdict (record { agreement = None; records = records; query = query }) (Requested request) in
+      then-agreement first (answers limits verdict first.next xs) (agreement_by (Requested request)) first.close refl refl (open-agreement records query _ xs)
+  next-at records query None (x ∷ xs) = refl
 
   pub next-agreement : (progress : Progress) (xs : List Input) → (answers limits verdict progress xs).next.agreement ≡ agreement_after progress.agreement xs
-  next-agreement progress xs = next-at progress.records progress.agreement xs
+  next-agreement progress xs = next-at progress.records progress.query progress.agreement xs
 
   -- the verdict is not read after a request
-  open-verdict : (other : Verdict) (records : List Record) (agreement : Agreement) (xs : List Input) →
-      let progress : Progress = record { agreement = Some agreement; records = records } in
+  open-verdict : (other : Verdict) (records : List Record) (query : Option OpenQuery) (agreement : Agreement) (xs : List Input) →
+      let progress : Progress = record { agreement = Some agreement; records = records; query = query } in
       answers limits verdict progress xs ≡ answers limits other progress xs
-  open-verdict other records agreement [] = refl
-  open-verdict other records agreement (Sent message ∷ xs) =
-      let service = served limits records agreement message in
-      ap (then_answer (message_answer service agreement (record { agreement = Some agreement; records = records }) message))
-      (open-verdict other (edited service.edits records) agreement xs)
-  open-verdict other records agreement (x ∷ xs) = refl
+  open-verdict other records query agreement [] = refl
+  open-verdict other records query agreement (Sent message ∷ xs) =
+      let r = reaction query limits records agreement message in
+      ap (then_answer (message_answer r (record { agreement = Some agreement; records = records; query = query })))
+      (open-verdict other (edited r.edits records) r.query agreement xs)
+  open-verdict other records query agreement (x ∷ xs) = refl
 
-  pub verdict-unread : (other : Verdict) (records : List Record) (o : Option Agreement) (agreement : Agreement) (xs : List Input) → o ≡ Some agreement →
-      let progress : Progress = record { agreement = o; records = records } in
+  pub verdict-unread : (other : Verdict) (records : List Record) (query : Option OpenQuery) (o : Option Agreement) (agreement : Agreement) (xs : List Input) → o ≡ Some agreement →
+      let progress : Progress = record { agreement = o; records = records; query = query } in
       answers limits verdict progress xs ≡ answers limits other progress xs
-  verdict-unread other records o agreement xs e = rw e (open-verdict other records agreement xs)
+  verdict-unread other records query o agreement xs e = rw e (open-verdict other records query agreement xs)

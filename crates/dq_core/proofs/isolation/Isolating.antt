@@ -16,12 +16,13 @@ use Rattle.dq_config.specs.Routing.{named}
 use Rattle.dq_tables.specs.Rows.{Edit, edited, Operation, by, of, after, IsRising}
 use Rattle.dq_core.specs.Services.{Order, Scheduling, Withdrawal, ordered}
 use Rattle.dq_core.specs.Answers.{no_answer, request_in, progress_of, inputs_added}
-use Rattle.dq_core.specs.Connections.{Connection, connection_in}
+use Rattle.dq_core.specs.Pages.{next_page}
+use Rattle.dq_core.specs.Connections.{Connection, with_query, connection_in}
 use Rattle.dq_core.specs.Owners.{owner, owner_by, is_of, live_of}
-use Rattle.dq_core.specs.Shared.{World, Turn, turn, answer_by, owner_turn, piece_turn, end_turn, order_turn}
-use Rattle.dq_core.specs.Alone.{AloneWorld, AloneTurn, alone_live, alone_piece, alone_answer, alone_answer_turn, alone_end, alone_order, alone_turn}
+use Rattle.dq_core.specs.Shared.{World, Turn, turn, answer_by, owner_turn, piece_turn, end_turn, pull_turn, order_turn}
+use Rattle.dq_core.specs.Alone.{AloneWorld, AloneTurn, alone_live, alone_piece, alone_answer, alone_answer_turn, alone_end, alone_pull, alone_order, alone_turn}
 use Rattle.dq_core.specs.Own.{pieces_of, is_on}
-use Rattle.dq_core.proofs.isolation.Lists.{among, among-opened, in-among, without-among, piece-among, found-number, each-weaker}
+use Rattle.dq_core.proofs.isolation.Lists.{among, among-opened, in-among, without-among, with-among, piece-among, found-number, each-weaker}
 use Rattle.dq_core.proofs.isolation.Streams.{AddsInputs, owner-stays, no_input_yet, front_without}
 use Rattle.dq_core.proofs.isolation.Sound.{Owned, Sound, owned-piece}
 
@@ -107,7 +108,7 @@ module _ (adds : AddsInputs) (institutions : List Institution) (name : List ℕ)
       rw (no-added c.stream piece (front_without adds c.stream piece none) none, b.connections) (record {
         reply = refl;
         operations = refl;
-        connections = sym (piece-among mine c piece (no_answer (progress_of c.stream [])) world.connections m);
+        connections = sym (piece-among mine c piece (no_answer (progress_of c [])) world.connections m);
       })
 
   alike-piece : (n : ℕ) (piece : List ℕ) (rest : List Event) → AllByRecursion (Owned institutions (IsMine name mine) (event.Piece n piece ∷ rest))
@@ -126,6 +127,16 @@ module _ (adds : AddsInputs) (institutions : List Institution) (name : List ℕ)
   alike-end n m (Some c) e =
       let mine_c : mine c.number ≡ true = ap mine (found-number n world.connections c e) ∙ m in
       record { reply = refl; operations = refl; connections = rw b.connections (sym (without-among mine c.number world.connections mine_c)) }
+
+  alike-pull : (n : ℕ) → mine n ≡ true → (o : Option Connection) → connection_in n world.connections ≡ o
+      → IsAlike name mine (pull_turn world o) (alone_pull alone o)
+  alike-pull n m None e = record { reply = refl; operations = refl; connections = b.connections }
+  alike-pull n m (Some c) e =
+      let mine_c : mine c.number ≡ true = ap mine (found-number n world.connections c e) ∙ m in record {
+        reply = refl;
+        operations = refl;
+        connections = rw b.connections (sym (with-among mine (with_query (next_page c.query).query c) world.connections mine_c));
+      }
 
   alike-order : (inst : List ℕ) (order : Order) → bytes_eq inst name ≡ true
       → IsAlike name mine (order_turn world order (named institutions inst)) (alone_order alone (ordered limits alone.records order))
@@ -150,6 +161,9 @@ module _ (adds : AddsInputs) (institutions : List Institution) (name : List ℕ)
   alike newest (event.End n) rest s m =
       let same : connection_in n alone.connections ≡ connection_in n world.connections = rw b.connections (in-among mine n world.connections m) in
       rw same (alike-end n m (connection_in n world.connections) refl)
+  alike newest (event.Pull n) rest s m =
+      let same : connection_in n alone.connections ≡ connection_in n world.connections = rw b.connections (in-among mine n world.connections m) in
+      rw same (alike-pull n m (connection_in n world.connections) refl)
   alike newest (event.Schedule inst octets) rest s m = alike-order inst (Scheduling octets) m
   alike newest (event.Withdraw inst id) rest s m = alike-order inst (Withdrawal id) m
 

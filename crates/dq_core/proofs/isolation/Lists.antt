@@ -3,8 +3,8 @@ use Rattle.std.proofs.Common.{◌≡◌, ℕ, ◌==◌, Bool, true, false, List,
 use Rattle.std.specs.Prelude.{filter}
 use Rattle.std.specs.List.{AllByRecursion}
 use Rattle.std.proofs.lemmas.Bool.Decides.{nat_tests}
-use Rattle.dq_core.specs.Answers.{Answer}
-use Rattle.dq_core.specs.Connections.{Connection, new_connection, with_piece, connection_in, without, with_connection, after_piece}
+use Rattle.dq_core.specs.Answers.{Answer, after_piece}
+use Rattle.dq_core.specs.Connections.{Connection, new_connection, with_piece, connection_in, without, with_connection}
 
 -- the connections whose numbers pass a test
 abbrev pub among : (ℕ → Bool) → List Connection → List Connection
@@ -36,28 +36,28 @@ module _ (mine : ℕ → Bool) where
   without-among number [] m = refl
   without-among number (c ∷ cs) m = grind (arith, nat_tests, without-among number cs m)
 
-  with-among : (changed : Connection) (cs : List Connection) → mine changed.number ≡ true
+  pub with-among : (changed : Connection) (cs : List Connection) → mine changed.number ≡ true
       → among mine (with_connection changed cs) ≡ with_connection changed (among mine cs)
   with-among changed [] m = refl
   with-among changed (c ∷ cs) m = grind (arith, nat_tests, with-among changed cs m)
 
   pub piece-among : (c : Connection) (piece : List ℕ) (answer : Answer) (cs : List Connection) → mine c.number ≡ true
       → among mine (after_piece c piece answer cs) ≡ after_piece c piece answer (among mine cs)
-  piece-among c piece answer cs m = grind (arith, without-among c.number cs m, with-among (with_piece c piece) cs m)
+  piece-among c piece answer cs m = grind (arith, without-among c.number cs m, with-among (with_piece c piece answer.next.query) cs m)
 
   -- a number that is not among them changes nothing
   pub without-other : (number : ℕ) (cs : List Connection) → mine number ≡ false → among mine (without number cs) ≡ among mine cs
   without-other number [] m = refl
   without-other number (c ∷ cs) m = grind (arith, nat_tests, without-other number cs m)
 
-  with-other : (changed : Connection) (cs : List Connection) → mine changed.number ≡ false
+  pub with-other : (changed : Connection) (cs : List Connection) → mine changed.number ≡ false
       → among mine (with_connection changed cs) ≡ among mine cs
   with-other changed [] m = refl
   with-other changed (c ∷ cs) m = grind (arith, nat_tests, with-other changed cs m)
 
   pub piece-other : (c : Connection) (piece : List ℕ) (answer : Answer) (cs : List Connection) → mine c.number ≡ false
       → among mine (after_piece c piece answer cs) ≡ among mine cs
-  piece-other c piece answer cs m = grind (arith, without-other c.number cs m, with-other (with_piece c piece) cs m)
+  piece-other c piece answer cs m = grind (arith, without-other c.number cs m, with-other (with_piece c piece answer.next.query) cs m)
 
 -- each number once
 abbrev pub NotNumbered : ℕ → Connection → Type 0

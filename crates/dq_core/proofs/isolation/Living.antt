@@ -20,10 +20,11 @@ use Rattle.dq_assoc.specs.After.{is_closed}
 use Rattle.dq_core.specs.declared.event.Event.{Event}
 use Rattle.dq_core.specs.declared.event.Event.TheVariants as event
 use Rattle.dq_core.specs.Services.{Order, Scheduling, Withdrawal}
-use Rattle.dq_core.specs.Answers.{request_in, verdict_at}
-use Rattle.dq_core.specs.Connections.{Connection, new_connection, with_piece, connection_in, without, with_connection, after_piece}
+use Rattle.dq_core.specs.Answers.{request_in, verdict_at, after_piece}
+use Rattle.dq_core.specs.Pages.{OpenQuery}
+use Rattle.dq_core.specs.Connections.{Connection, new_connection, with_piece, with_query, connection_in, without, with_connection}
 use Rattle.dq_core.specs.Owners.{HaveOwnNames, owner, owner_by, is_of, live_of}
-use Rattle.dq_core.specs.Shared.{World, turn, answer_by, piece_turn, end_turn, order_turn, world_after_turn, world_from, opening, world_after}
+use Rattle.dq_core.specs.Shared.{World, turn, answer_by, piece_turn, end_turn, pull_turn, order_turn, world_after_turn, world_from, opening, world_after}
 use Rattle.dq_core.proofs.isolation.Lists.{found-number}
 use Rattle.dq_core.proofs.isolation.Requests.{busy-closes}
 use Rattle.dq_core.proofs.isolation.Streams.{AddsInputs, owner-stays, no_input_yet}
@@ -83,23 +84,24 @@ module _ (adds : AddsInputs) (institutions : List Institution) (name : List ℕ)
         let nothing = no_input_yet adds institutions c.stream piece i none e in
         let request = request-of institutions (request_in (inputs (c.stream ++ piece))) i e in
         let live = live_of institutions i.name world.connections in
-        let opens = request-accepted adds (limits_of i) (verdict_at i.associations live) (of i.name world.rows) c.stream piece request.0
+        let opens = request-accepted adds (limits_of i) (verdict_at i.associations live) (of i.name world.rows) c piece request.0
         (ap request_in nothing) request.1 h in
         let below : live_of institutions i.name world.connections < i.associations = room-by i.associations live _ request.0 refl opens in
         rw (← known.owner_limits (c.stream ++ piece) i e n, ← n) below
 
     within-joined : (c : Connection) (piece : List ℕ) (o q : Option Institution) (a b : Bool) → connection_in c.number world.connections ≡ Some c
         → owner institutions (c.stream ++ piece) ≡ o → owner institutions c.stream ≡ q → is_of name o ≡ a → is_of name q ≡ b
-        → (answer_by o institutions world c piece).close ≡ false → IsWithin (with_connection (with_piece c piece) world.connections)
-    within-joined c piece o q false b f e g h k close =
-        let more = count-with_other is_its (with_piece c piece) world.connections (ap (is_of name) e ∙ h) in omega arith
-    within-joined c piece o q true true f e g h k close =
-        let more = count-with_same is_its (with_piece c piece) c world.connections f (ap (is_of name) g ∙ k) in omega arith
-    within-joined c piece None q true false f e g h k close = absurd (false≢true h)
-    within-joined c piece (Some i) None true false f e g h k close =
+        → (answer_by o institutions world c piece).close ≡ false → (left : Option OpenQuery)
+        → IsWithin (with_connection (with_piece c piece left) world.connections)
+    within-joined c piece o q false b f e g h k close left =
+        let more = count-with_other is_its (with_piece c piece left) world.connections (ap (is_of name) e ∙ h) in omega arith
+    within-joined c piece o q true true f e g h k close left =
+        let more = count-with_same is_its (with_piece c piece left) c world.connections f (ap (is_of name) g ∙ k) in omega arith
+    within-joined c piece None q true false f e g h k close left = absurd (false≢true h)
+    within-joined c piece (Some i) None true false f e g h k close left =
         let room = has-room c piece i ((bytes_eq-Decides i.name name).0 h) g e close in
-        let more = count-with is_its (with_piece c piece) world.connections in omega arith
-    within-joined c piece (Some i) (Some j) true false f e g h k close =
+        let more = count-with is_its (with_piece c piece left) world.connections in omega arith
+    within-joined c piece (Some i) (Some j) true false f e g h k close left =
         let same : Some j ≡ Some i = sym (owner-stays adds institutions c.stream piece j g) ∙ e in
         absurd (false≢true (sym k ∙ ap (is_of name) same ∙ h))
 
@@ -108,7 +110,7 @@ module _ (adds : AddsInputs) (institutions : List Institution) (name : List ℕ)
         x.close ≡ p → IsWithin (after_piece c piece x world.connections)
     within-piece c piece true f h = let less = count-without is_its c.number world.connections in rw h (omega arith)
     within-piece c piece false f h = rw h (within-joined c piece (owner institutions (c.stream ++ piece)) (owner institutions c.stream) _ _
-        f refl refl refl refl h)
+        f refl refl refl refl h _)
 
     piece-within : (n : ℕ) (piece : List ℕ) (o : Option Connection) → connection_in n world.connections ≡ o
         → IsWithin (piece_turn institutions world piece o).connections
@@ -119,6 +121,17 @@ module _ (adds : AddsInputs) (institutions : List Institution) (name : List ℕ)
     end-within : (o : Option Connection) → IsWithin (end_turn world o).connections
     end-within None = within
     end-within (Some c) = let less = count-without is_its c.number world.connections in omega arith
+
+    -- a pull changes no stream
+    page-within : (c : Connection) (left : Option OpenQuery) (b : Bool) → connection_in c.number world.connections ≡ Some c → is_its c ≡ b
+        → IsWithin (with_connection (with_query left c) world.connections)
+    page-within c left true f h = let more = count-with_same is_its (with_query left c) c world.connections f h in omega arith
+    page-within c left false f h = let more = count-with_other is_its (with_query left c) world.connections h in omega arith
+
+    pull-within : (n : ℕ) (o : Option Connection) → connection_in n world.connections ≡ o → IsWithin (pull_turn world o).connections
+    pull-within n None f = within
+    pull-within n (Some c) f =
+        let same : n ≡ c.number = sym (found-number n world.connections c f) in page-within c _ _ (rw same at f) refl
 
     order-within : (order : Order) (o : Option Institution) → IsWithin (order_turn world order o).connections
     order-within order None = within
@@ -134,6 +147,7 @@ module _ (adds : AddsInputs) (institutions : List Institution) (name : List ℕ)
     turn-within (event.Open n) = opened-within n
     turn-within (event.Piece n piece) = piece-within n piece (connection_in n world.connections) refl
     turn-within (event.End n) = end-within (connection_in n world.connections)
+    turn-within (event.Pull n) = pull-within n (connection_in n world.connections) refl
     turn-within (event.Schedule inst octets) = order-within (Scheduling octets) (named institutions inst)
     turn-within (event.Withdraw inst id) = order-within (Withdrawal id) (named institutions inst)
 

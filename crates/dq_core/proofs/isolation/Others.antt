@@ -11,11 +11,12 @@ use Rattle.dq_tables.specs.declared.row.Row.{Row}
 use Rattle.dq_config.specs.Routing.{named}
 use Rattle.dq_tables.specs.Rows.{Edit, edited_all, Operation, by, of, after, after_all, IsRising}
 use Rattle.dq_core.specs.Services.{Order, Scheduling, Withdrawal}
-use Rattle.dq_core.specs.Connections.{Connection, connection_in}
+use Rattle.dq_core.specs.Pages.{next_page}
+use Rattle.dq_core.specs.Connections.{Connection, with_query, connection_in}
 use Rattle.dq_core.specs.Owners.{owner, is_of}
-use Rattle.dq_core.specs.Shared.{World, Turn, turn, answer_by, owner_turn, piece_turn, end_turn, order_turn}
+use Rattle.dq_core.specs.Shared.{World, Turn, turn, answer_by, owner_turn, piece_turn, end_turn, pull_turn, order_turn}
 use Rattle.dq_core.specs.Own.{pieces_of, is_on}
-use Rattle.dq_core.proofs.isolation.Lists.{among, among-other_opened, without-other, piece-other, found-number}
+use Rattle.dq_core.proofs.isolation.Lists.{among, among-other_opened, without-other, with-other, piece-other, found-number}
 use Rattle.dq_core.proofs.isolation.Streams.{AddsInputs, owner-stays}
 use Rattle.dq_core.proofs.isolation.Sound.{Owned, Sound, owned-piece}
 use Rattle.dq_core.proofs.isolation.Isolating.{Lenses, IsMine}
@@ -68,6 +69,13 @@ module _ (adds : AddsInputs) (institutions : List Institution) (name : List ℕ)
   other-end n m (Some c) e =
       record { operations = tt; connections = without-other mine c.number world.connections (ap mine (found-number n world.connections c e) ∙ m) }
 
+  other-pull : (n : ℕ) → mine n ≡ false → (o : Option Connection) → connection_in n world.connections ≡ o → IsOther name mine world (pull_turn world o)
+  other-pull n m None e = record { operations = tt; connections = refl }
+  other-pull n m (Some c) e = record {
+    operations = tt;
+    connections = with-other mine (with_query (next_page c.query).query c) world.connections (ap mine (found-number n world.connections c e) ∙ m);
+  }
+
   other-order : (inst : List ℕ) (order : Order) → bytes_eq inst name ≡ false → (o : Option Institution) → named institutions inst ≡ o
       → IsOther name mine world (order_turn world order o)
   other-order inst order h None e = record { operations = tt; connections = refl }
@@ -80,6 +88,7 @@ module _ (adds : AddsInputs) (institutions : List Institution) (name : List ℕ)
   other newest (event.Open n) rest s m = record { operations = tt; connections = among-other_opened mine n world.connections m }
   other newest (event.Piece n piece) rest s m = other-piece n piece rest s.owned m (connection_in n world.connections) refl
   other newest (event.End n) rest s m = other-end n m (connection_in n world.connections) refl
+  other newest (event.Pull n) rest s m = other-pull n m (connection_in n world.connections) refl
   other newest (event.Schedule inst octets) rest s m = other-order inst (Scheduling octets) m (named institutions inst) refl
   other newest (event.Withdraw inst id) rest s m = other-order inst (Withdrawal id) m (named institutions inst) refl
 

@@ -14,11 +14,12 @@ use Rattle.dq_core.specs.declared.event.Event.TheVariants as event
 use Rattle.dq_core.specs.declared.event.Reply.{Reply}
 use Rattle.dq_core.specs.declared.event.Reply.TheVariants as reply
 use Rattle.dq_core.specs.Services.{Order, Scheduling, Withdrawal, Ordered, ordered, order_reply}
-use Rattle.dq_core.specs.Answers.{Answer, request_in}
-use Rattle.dq_core.specs.Connections.{Connection, new_connection, with_piece, connection_in, without, with_connection, after_piece}
+use Rattle.dq_core.specs.Pages.{next_page}
+use Rattle.dq_core.specs.Answers.{Answer, request_in, after_piece}
+use Rattle.dq_core.specs.Connections.{Connection, new_connection, with_piece, with_query, connection_in, without, with_connection}
 use Rattle.dq_core.specs.Owners.{owner, is_of}
-use Rattle.dq_core.specs.Shared.{World, Turn, quiet_turn, answer_by, owner_turn, piece_turn, end_turn, ordered_turn, order_turn, turn, world_after_turn, replies_from, world_from, opening, replies, world_after}
-use Rattle.dq_core.specs.Alone.{AloneWorld, AloneTurn, alone_quiet, alone_answer, alone_piece, alone_end, alone_order, alone_turn, alone_after_turn, alone_replies_from, alone_world_from, alone_opening, alone_replies, alone_after}
+use Rattle.dq_core.specs.Shared.{World, Turn, quiet_turn, answer_by, owner_turn, piece_turn, end_turn, pull_turn, ordered_turn, order_turn, turn, world_after_turn, replies_from, world_from, opening, replies, world_after}
+use Rattle.dq_core.specs.Alone.{AloneWorld, AloneTurn, alone_quiet, alone_answer, alone_piece, alone_end, alone_pull, alone_order, alone_turn, alone_after_turn, alone_replies_from, alone_world_from, alone_opening, alone_replies, alone_after}
 use Rattle.dq_core.specs.Own.{pieces_of, stream_of, owns, is_own, own, replies_at}
 use Rattle.dq_core.specs.Histories.{is_above, rises_from, is_well_formed}
 use Rattle.dq_core.specs.Renumbering.{KeepsOrder, renumbered, renumbered_reply}
@@ -84,8 +85,8 @@ module _ (another : ℕ → ℕ) (keeps : KeepsOrder another) where
   piece-anew : (c : Connection) (piece : List ℕ) (answer : Answer) (cs : List Connection)
       → after_piece (anew c) piece answer (map anew cs) ≡ map anew (after_piece c piece answer cs)
   piece-anew c piece answer cs =
-      rw (without-anew c.number cs, with-anew (with_piece c piece) cs)
-      (chosen (map anew) answer.close (without c.number cs) (with_connection (with_piece c piece) cs))
+      let left = with_piece c piece answer.next.query in
+      rw (without-anew c.number cs, with-anew left cs) (chosen (map anew) answer.close (without c.number cs) (with_connection left cs))
 
   -- of their streams as many pass a test
   count-anew : (p : List ℕ → Bool) (cs : List Connection)
@@ -124,6 +125,11 @@ module _ (another : ℕ → ℕ) (keeps : KeepsOrder another) where
     end-turn_anew world None = refl
     end-turn_anew world (Some c) = ap (quiet_turn reply.Done) (without-anew c.number world.connections)
 
+    pull-turn_anew : (world : World) (o : Option Connection) → pull_turn (world_anew world) (option_map anew o) ≡ turn_anew (pull_turn world o)
+    pull-turn_anew world None = refl
+    pull-turn_anew world (Some c) =
+        ap (quiet_turn (reply.Octets (another c.number) (next_page c.query).octets false)) (with-anew (with_query (next_page c.query).query c) world.connections)
+
     order-turn_anew : (world : World) (order : Order) (o : Option Institution)
         → order_turn (world_anew world) order o ≡ turn_anew (order_turn world order o)
     order-turn_anew world order None = refl
@@ -136,6 +142,7 @@ module _ (another : ℕ → ℕ) (keeps : KeepsOrder another) where
     turn-alike world (event.Piece n piece) =
         rw (in-anew n world.connections) (piece-turn_anew world piece (connection_in n world.connections))
     turn-alike world (event.End n) = rw (in-anew n world.connections) (end-turn_anew world (connection_in n world.connections))
+    turn-alike world (event.Pull n) = rw (in-anew n world.connections) (pull-turn_anew world (connection_in n world.connections))
     turn-alike world (event.Schedule inst octets) = order-turn_anew world (Scheduling octets) (named institutions inst)
     turn-alike world (event.Withdraw inst id) = order-turn_anew world (Withdrawal id) (named institutions inst)
 
@@ -184,6 +191,11 @@ module _ (another : ℕ → ℕ) (keeps : KeepsOrder another) where
     alone-end_anew world None = refl
     alone-end_anew world (Some c) = ap (alone_quiet reply.Done) (without-anew c.number world.connections)
 
+    alone-pull_anew : (world : AloneWorld) (o : Option Connection) → alone_pull (alone_anew world) (option_map anew o) ≡ alone_turn_anew (alone_pull world o)
+    alone-pull_anew world None = refl
+    alone-pull_anew world (Some c) =
+        ap (alone_quiet (reply.Octets (another c.number) (next_page c.query).octets false)) (with-anew (with_query (next_page c.query).query c) world.connections)
+
     alone-order_anew : (world : AloneWorld) (o : Ordered) → alone_order (alone_anew world) o ≡ alone_turn_anew (alone_order world o)
     alone-order_anew world o = ap (λ (r : Reply). record (alone_order (alone_anew world) o) { reply = r }) (order-anew o.refusal)
 
@@ -192,6 +204,7 @@ module _ (another : ℕ → ℕ) (keeps : KeepsOrder another) where
     alone-alike world (event.Piece n piece) =
         rw (in-anew n world.connections) (alone-piece_anew world piece (connection_in n world.connections))
     alone-alike world (event.End n) = rw (in-anew n world.connections) (alone-end_anew world (connection_in n world.connections))
+    alone-alike world (event.Pull n) = rw (in-anew n world.connections) (alone-pull_anew world (connection_in n world.connections))
     alone-alike world (event.Schedule inst octets) = alone-order_anew world (ordered limits world.records (Scheduling octets))
     alone-alike world (event.Withdraw inst id) = alone-order_anew world (ordered limits world.records (Withdrawal id))
 
@@ -224,6 +237,7 @@ module _ (another : ℕ → ℕ) (keeps : KeepsOrder another) where
   pieces-anew n (event.Open m ∷ events) = pieces-anew n events
   pieces-anew n (event.Piece m piece ∷ events) = rw (equal n m, pieces-anew n events) refl
   pieces-anew n (event.End m ∷ events) = rw (equal n m, pieces-anew n events) refl
+  pieces-anew n (event.Pull m ∷ events) = pieces-anew n events
   pieces-anew n (event.Schedule inst octets ∷ events) = pieces-anew n events
   pieces-anew n (event.Withdraw inst id ∷ events) = pieces-anew n events
 
@@ -232,6 +246,7 @@ module _ (another : ℕ → ℕ) (keeps : KeepsOrder another) where
   stream-anew n (event.Open m ∷ events) = rw (equal n m, pieces-anew n events, stream-anew n events) refl
   stream-anew n (event.Piece m piece ∷ events) = stream-anew n events
   stream-anew n (event.End m ∷ events) = stream-anew n events
+  stream-anew n (event.Pull m ∷ events) = stream-anew n events
   stream-anew n (event.Schedule inst octets ∷ events) = stream-anew n events
   stream-anew n (event.Withdraw inst id ∷ events) = stream-anew n events
 
@@ -243,6 +258,7 @@ module _ (another : ℕ → ℕ) (keeps : KeepsOrder another) where
     is-own_anew (event.Open n) = owned-anew n
     is-own_anew (event.Piece n piece) = owned-anew n
     is-own_anew (event.End n) = owned-anew n
+    is-own_anew (event.Pull n) = owned-anew n
     is-own_anew (event.Schedule inst octets) = refl
     is-own_anew (event.Withdraw inst id) = refl
 
@@ -267,6 +283,7 @@ module _ (another : ℕ → ℕ) (keeps : KeepsOrder another) where
   rises-anew newest (event.Open n ∷ events) = rw (above-anew newest n, rises-anew (Some n) events) refl
   rises-anew newest (event.Piece n piece ∷ events) = rises-anew newest events
   rises-anew newest (event.End n ∷ events) = rises-anew newest events
+  rises-anew newest (event.Pull n ∷ events) = rises-anew newest events
   rises-anew newest (event.Schedule inst octets ∷ events) = rises-anew newest events
   rises-anew newest (event.Withdraw inst id ∷ events) = rises-anew newest events
 

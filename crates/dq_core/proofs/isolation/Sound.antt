@@ -5,14 +5,15 @@ use Rattle.std.proofs.lemmas.Bool.Decides.{nat_tests}
 use Rattle.dq_config.specs.declared.config.Institution.{Institution}
 use Rattle.dq_core.specs.declared.event.Event.{Event}
 use Rattle.dq_core.specs.declared.event.Event.TheVariants as event
-use Rattle.dq_core.specs.Answers.{Answer}
-use Rattle.dq_core.specs.Connections.{Connection, new_connection, with_piece, connection_in, without, after_piece}
+use Rattle.dq_core.specs.Answers.{Answer, after_piece}
+use Rattle.dq_core.specs.Pages.{next_page}
+use Rattle.dq_core.specs.Connections.{Connection, new_connection, with_piece, with_query, connection_in, without}
 use Rattle.dq_core.specs.Services.{Order, Scheduling, Withdrawal}
 use Rattle.dq_core.specs.Owners.{owner}
 use Rattle.dq_config.specs.Routing.{named}
 use Rattle.dq_core.specs.Own.{pieces_of, stream_of}
 use Rattle.dq_core.specs.Histories.{is_above, newest_after, rises_from}
-use Rattle.dq_core.specs.Shared.{World, turn, piece_turn, answer_by, end_turn, order_turn}
+use Rattle.dq_core.specs.Shared.{World, turn, piece_turn, answer_by, end_turn, pull_turn, order_turn}
 use Rattle.dq_core.proofs.isolation.Lists.{differ, NotNumbered, AreApart, found-has, found-number, none-has, each-both, each-weaker, each-append, each-without, each-with, apart-without, apart-opened, apart-with, others-with, others-without}
 use Rattle.dq_core.proofs.isolation.Rising.{both-true}
 
@@ -108,10 +109,10 @@ module _ (institutions : List Institution) (Final : ℕ → Option Institution �
     rises = s.rises;
   })
   sound-taken newest cs c piece rest answer false h e s = rw h (record {
-    owned = others-with (Owned (event.Piece c.number piece ∷ rest)) (Owned rest) (with_piece c piece)
+    owned = others-with (Owned (event.Piece c.number piece ∷ rest)) (Owned rest) (with_piece c piece answer.next.query)
         (owned-piece c.number piece rest cs c e s.owned) (λ d o h. rw h at o) cs s.apart s.owned;
-    apart = apart-with (with_piece c piece) cs s.apart;
-    before = each-with (IsBefore newest) (with_piece c piece) cs (found-has (IsBefore newest) c.number cs c e s.before) s.before;
+    apart = apart-with (with_piece c piece answer.next.query) cs s.apart;
+    before = each-with (IsBefore newest) (with_piece c piece answer.next.query) cs (found-has (IsBefore newest) c.number cs c e s.before) s.before;
     later = s.later;
     rises = s.rises;
   })
@@ -124,6 +125,20 @@ module _ (institutions : List Institution) (Final : ℕ → Option Institution �
       let same : n ≡ c.number = sym (found-number n world.connections c e) in
       let answer = answer_by (owner institutions (c.stream ++ piece)) institutions world c piece in
       sound-taken newest world.connections c piece rest answer answer.close refl (rw same at e) (rw same at s)
+
+  -- a pull changes no stream
+  sound-pull : (newest : Option ℕ) (world : World) (n : ℕ) (rest : List Event) (o : Option Connection) → connection_in n world.connections ≡ o
+      → Sound newest world.connections (event.Pull n ∷ rest) → Sound newest (pull_turn world o).connections rest
+  sound-pull newest world n rest None e s = record { owned = s.owned; apart = s.apart; before = s.before; later = s.later; rises = s.rises }
+  sound-pull newest world n rest (Some c) e s =
+      let cs = world.connections in
+      let left = with_query (next_page c.query).query c in record {
+        owned = others-with (Owned rest) (Owned rest) left (found-has (Owned rest) n cs c e s.owned) (λ d o h. o) cs s.apart s.owned;
+        apart = apart-with left cs s.apart;
+        before = each-with (IsBefore newest) left cs (found-has (IsBefore newest) n cs c e s.before) s.before;
+        later = s.later;
+        rises = s.rises;
+      }
 
   sound-end : (newest : Option ℕ) (world : World) (n : ℕ) (rest : List Event) (o : Option Connection) → connection_in n world.connections ≡ o
       → Sound newest world.connections (event.End n ∷ rest) → Sound newest (end_turn world o).connections rest
@@ -141,6 +156,7 @@ module _ (institutions : List Institution) (Final : ℕ → Option Institution �
   sound-next newest world (event.Open n) rest s = sound-opened newest world.connections n rest s
   sound-next newest world (event.Piece n piece) rest s = sound-piece newest world n piece rest (connection_in n world.connections) refl s
   sound-next newest world (event.End n) rest s = sound-end newest world n rest (connection_in n world.connections) refl s
+  sound-next newest world (event.Pull n) rest s = sound-pull newest world n rest (connection_in n world.connections) refl s
   sound-next newest world (event.Schedule inst octets) rest s = sound-order newest world (Scheduling octets) rest (named institutions inst)
       (record { owned = s.owned; apart = s.apart; before = s.before; later = s.later; rises = s.rises })
   sound-next newest world (event.Withdraw inst id) rest s = sound-order newest world (Withdrawal id) rest (named institutions inst)

@@ -13,13 +13,14 @@ use Rattle.dq_tables.specs.declared.row.Row.{Row}
 use Rattle.dq_config.specs.Routing.{routed, named}
 use Rattle.dq_core.specs.Services.{Order, Scheduling, Withdrawal}
 use Rattle.dq_core.specs.Answers.{request_in}
-use Rattle.dq_core.specs.Connections.{Connection, connection_in}
+use Rattle.dq_core.specs.Pages.{next_page}
+use Rattle.dq_core.specs.Connections.{Connection, with_query, connection_in}
 use Rattle.dq_core.specs.Owners.{owner, owner_by}
-use Rattle.dq_core.specs.Shared.{World, Turn, turn, answer_by, owner_turn, piece_turn, end_turn, order_turn, world_after_turn, replies_from, opening, replies}
+use Rattle.dq_core.specs.Shared.{World, Turn, turn, answer_by, owner_turn, piece_turn, end_turn, pull_turn, order_turn, world_after_turn, replies_from, opening, replies}
 use Rattle.dq_core.specs.Own.{pieces_of, stream_of, is_on, is_on_connection, replies_at}
 use Rattle.dq_core.specs.Histories.{newest_after, is_well_formed}
 use Rattle.dq_core.specs.Isolation.{stranger_replies}
-use Rattle.dq_core.proofs.isolation.Lists.{at-number, among, among-opened, among-other_opened, in-among, without-among, without-other, piece-among, piece-other, found-number}
+use Rattle.dq_core.proofs.isolation.Lists.{at-number, among, among-opened, among-other_opened, in-among, without-among, without-other, with-among, with-other, piece-among, piece-other, found-number}
 use Rattle.dq_core.proofs.isolation.Streams.{AddsInputs, owner-stays}
 use Rattle.dq_core.proofs.isolation.Sound.{Owned, Sound, owned-piece, sound-next}
 use Rattle.dq_core.proofs.isolation.Promise.{replies-front}
@@ -74,6 +75,13 @@ module _ (institutions : List Institution) (mine : ℕ → Bool) (world : World)
         let mine_c : mine c.number ≡ true = ap mine (found-number n world.connections c e) ∙ m in
         record { reply = refl; connections = rw b (sym (without-among mine c.number world.connections mine_c)) }
 
+    alike-pull : (n : ℕ) → mine n ≡ true → (o : Option Connection) → connection_in n world.connections ≡ o
+        → IsAlike mine (pull_turn world o) (pull_turn other o)
+    alike-pull n m None e = record { reply = refl; connections = b }
+    alike-pull n m (Some c) e =
+        let mine_c : mine c.number ≡ true = ap mine (found-number n world.connections c e) ∙ m in
+        record { reply = refl; connections = rw b (sym (with-among mine (with_query (next_page c.query).query c) world.connections mine_c)) }
+
     alike : (newest : Option ℕ) (e : Event) (rest : List Event) → Sound institutions (IsNobodys mine) newest world.connections (e ∷ rest)
         → is_theirs mine e ≡ true → IsAlike mine (turn institutions world e) (turn [] other e)
     alike newest (event.Open n) rest s m = rw b (record { reply = refl; connections = sym (among-opened mine n world.connections m) })
@@ -83,6 +91,9 @@ module _ (institutions : List Institution) (mine : ℕ → Bool) (world : World)
     alike newest (event.End n) rest s m =
         let same : connection_in n other.connections ≡ connection_in n world.connections = rw b (in-among mine n world.connections m) in
         rw same (alike-end n m (connection_in n world.connections) refl)
+    alike newest (event.Pull n) rest s m =
+        let same : connection_in n other.connections ≡ connection_in n world.connections = rw b (in-among mine n world.connections m) in
+        rw same (alike-pull n m (connection_in n world.connections) refl)
     alike newest (event.Schedule inst octets) rest s m = absurd (false≢true m)
     alike newest (event.Withdraw inst id) rest s m = absurd (false≢true m)
 
@@ -99,6 +110,12 @@ module _ (institutions : List Institution) (mine : ℕ → Bool) (world : World)
   kept-end n m None e = refl
   kept-end n m (Some c) e = without-other mine c.number world.connections (ap mine (found-number n world.connections c e) ∙ m)
 
+  kept-pull : (n : ℕ) → mine n ≡ false → (o : Option Connection) → connection_in n world.connections ≡ o
+      → among mine (pull_turn world o).connections ≡ among mine world.connections
+  kept-pull n m None e = refl
+  kept-pull n m (Some c) e =
+      with-other mine (with_query (next_page c.query).query c) world.connections (ap mine (found-number n world.connections c e) ∙ m)
+
   kept-order : (order : Order) (o : Option Institution) → among mine (order_turn world order o).connections ≡ among mine world.connections
   kept-order order None = refl
   kept-order order (Some i) = refl
@@ -107,6 +124,7 @@ module _ (institutions : List Institution) (mine : ℕ → Bool) (world : World)
   kept (event.Open n) m = among-other_opened mine n world.connections m
   kept (event.Piece n piece) m = kept-piece n piece m (connection_in n world.connections) refl
   kept (event.End n) m = kept-end n m (connection_in n world.connections) refl
+  kept (event.Pull n) m = kept-pull n m (connection_in n world.connections) refl
   kept (event.Schedule inst octets) m = kept-order (Scheduling octets) (named institutions inst)
   kept (event.Withdraw inst id) m = kept-order (Withdrawal id) (named institutions inst)
 

@@ -11,6 +11,8 @@ use Rattle.dq_config.specs.declared.config.Institution.{Institution}
 use Rattle.dq_config.specs.Limits.{Limits}
 use Rattle.dq_assoc.specs.Negotiation.{agreement_of}
 use Rattle.dq_tables.specs.Rows.{Record}
+use Rattle.dq_core.specs.Pages.{OpenQuery}
+use Rattle.dq_core.specs.Connections.{Connection, with_piece}
 use Rattle.dq_core.specs.Answers.{then_answer, answers, request_in, progress_of, inputs_added, piece_answer}
 use Rattle.dq_core.specs.Doing.{agreement_after}
 use Rattle.dq_core.specs.Owners.{owner, owner_by}
@@ -53,31 +55,36 @@ agreement-longer (x ∷ xs) [] h = refl
 agreement-longer (x ∷ []) (y ∷ ys) h = cc
 agreement-longer (x ∷ z ∷ xs) (y ∷ ys) h = cc
 
-progress-longer : AddsInputs → HasInputs → (limits : Limits) (verdict : Verdict) (records : List Record) (stream first : List ℕ)
-    → (piece_answer limits verdict records stream first).next.agreement ≡ (progress_of (stream ++ first) records).agreement
-progress-longer adds has limits verdict records stream first =
+progress-longer : AddsInputs → HasInputs → (limits : Limits) (verdict : Verdict) (records : List Record) (c : Connection) (first : List ℕ)
+    (query : Option OpenQuery)
+    → (piece_answer limits verdict records c first).next.agreement ≡ (progress_of (with_piece c first query) records).agreement
+progress-longer adds has limits verdict records c first query =
+    let stream = c.stream in
     let whole : AreInputs (inputs stream ++ inputs_added stream first) = rw (sym (added-are adds stream first)) (has (stream ++ first)) in
-    next-agreement limits verdict (progress_of stream records) (inputs_added stream first)
+    next-agreement limits verdict (progress_of c records) (inputs_added stream first)
     ∙ sym (agreement-longer (inputs stream) (inputs_added stream first) whole)
     ∙ ap (λ xs. option_map agreement_of (request_in xs)) (sym (added-are adds stream first))
 
--- a piece in two parts: the second part is answered from the records that the first part left
-pub piece-in_two : AddsInputs → HasInputs → (limits : Limits) (verdict : Verdict) (records : List Record) (stream first second : List ℕ)
-    → let a = piece_answer limits verdict records stream first in
-    piece_answer limits verdict records stream (first ++ second) ≡ then_answer a (piece_answer limits verdict a.next.records (stream ++ first) second)
-piece-in_two adds has limits verdict records stream first second =
-    let a = piece_answer limits verdict records stream first in
-    ap (answers limits verdict (progress_of stream records)) (added-append adds stream first second)
-    ∙ answers-append limits verdict (progress_of stream records) (inputs_added stream first) (inputs_added (stream ++ first) second)
-    ∙ ap (λ (o : Option Agreement). then_answer a (answers limits verdict (record { agreement = o; records = a.next.records }) (inputs_added
-    (stream ++ first) second))) (progress-longer adds has limits verdict records stream first)
+-- a piece in two parts: the second part is answered from what the first part left
+pub piece-in_two : AddsInputs → HasInputs → (limits : Limits) (verdict : Verdict) (records : List Record) (c : Connection) (first second : List ℕ)
+    → let a = piece_answer limits verdict records c first in
+    piece_answer limits verdict records c (first ++ second)
+    ≡ then_answer a (piece_answer limits verdict a.next.records (with_piece c first a.next.query) second)
+piece-in_two adds has limits verdict records c first second =
+    let stream = c.stream in
+    let a = piece_answer limits verdict records c first in
+    ap (answers limits verdict (progress_of c records)) (added-append adds stream first second)
+    ∙ answers-append limits verdict (progress_of c records) (inputs_added stream first) (inputs_added (stream ++ first) second)
+    ∙ ap (λ (o : Option Agreement). then_answer a (answers limits verdict (record { agreement = o; records = a.next.records; query = a.next.query })
+    (inputs_added (stream ++ first) second))) (progress-longer adds has limits verdict records c first a.next.query)
 
 -- the verdict is not read after a request
-pub piece-verdict : (limits : Limits) (verdict other : Verdict) (records : List Record) (stream piece : List ℕ) (request : Request)
-    → request_in (inputs stream) ≡ Some request
-    → piece_answer limits verdict records stream piece ≡ piece_answer limits other records stream piece
-piece-verdict limits verdict other records stream piece request e =
-    verdict-unread limits verdict other records (option_map agreement_of (request_in (inputs stream))) (agreement_of request) (inputs_added stream piece)
+pub piece-verdict : (limits : Limits) (verdict other : Verdict) (records : List Record) (c : Connection) (piece : List ℕ) (request : Request)
+    → request_in (inputs c.stream) ≡ Some request
+    → piece_answer limits verdict records c piece ≡ piece_answer limits other records c piece
+piece-verdict limits verdict other records c piece request e =
+    verdict-unread limits verdict other records c.query (option_map agreement_of (request_in (inputs c.stream))) (agreement_of request)
+    (inputs_added c.stream piece)
     (ap (option_map agreement_of) e)
 
 pub request_in-first : (x : Input) (xs ys : List Input) → request_in (x ∷ xs) ≡ request_in (x ∷ ys)

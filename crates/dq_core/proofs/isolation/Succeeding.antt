@@ -1,6 +1,5 @@
--- Queries that end with 0000, and where the responses to a message stand in a reply.
-use Rattle.std.proofs.Common.{◌≡◌, ℕ, ◌==◌, Bool, true, false, not, if◌then◌else◌, List, [], ◌∷◌, ◌++◌, Option, Some, None, Ok, refl, sym, ap, ◌∙◌, append_assoc, arith}
-use Rattle.std.specs.List.{flat_map}
+-- Queries that end with 0000, and where the first page of the responses to a message stands in a reply.
+use Rattle.std.proofs.Common.{◌≡◌, ℕ, ◌==◌, Bool, true, false, not, if◌then◌else◌, List, ◌∷◌, ◌++◌, Option, Some, None, Ok, refl, sym, ap, ◌∙◌, append_assoc, arith}
 use Rattle.std.specs.Str.{bytes_eq}
 use Rattle.dq_dataset.specs.Tree.{ElementList}
 use Rattle.dq_dimse.specs.CommandFields.{c_cancel}
@@ -22,27 +21,14 @@ use Rattle.dq_worklist.specs.Queries as worklist
 use Rattle.dq_tables.specs.Rows.{Record, of}
 use Rattle.dq_core.specs.declared.event.Event.TheVariants as event
 use Rattle.dq_core.specs.declared.event.Reply.TheVariants as reply
-use Rattle.dq_core.specs.Services.{Response, response, pending_responses, has_operation, refusal_for, operation, outcome_on, outcome_unless, served}
-use Rattle.dq_core.specs.Answers.{Answer, response_octets, answer, answers, then_answer, progress_of, verdict_at}
+use Rattle.dq_core.specs.Pages.{OpenQuery, next_page, query_by, reaction}
+use Rattle.dq_core.specs.Services.{Response, Responses, pending_responses, responses, has_operation, refusal_for, operation, outcome_on, outcome_unless, served}
+use Rattle.dq_core.specs.Answers.{Answer, answer, answers, then_answer, progress_of, verdict_at}
 use Rattle.dq_core.specs.Connections.{Connection, connection_in}
 use Rattle.dq_core.specs.Owners.{live_of}
 use Rattle.dq_core.specs.Shared.{World, answer_by, turn}
-use Rattle.dq_core.specs.Searches.{Succeeds, Brings, first_answer_by, HasResponses}
+use Rattle.dq_core.specs.Searches.{Succeeds, Brings, first_answer_by, HasOctets}
 use Rattle.dq_core.proofs.isolation.AnswerLaws.{answers-append}
-
--- lists that end with one element
-not-nil : {A : Type 0} (xs : List A) (x : A) → xs ++ x ∷ [] ≡ [] → ⊥
-not-nil [] x e = cc
-not-nil (y ∷ xs) x e = cc
-
-same-front : {A : Type 0} (xs ys : List A) (x y : A) → xs ++ x ∷ [] ≡ ys ++ y ∷ [] → (xs ≡ ys) × (x ≡ y)
-same-front [] [] x y e = (refl, cc)
-same-front [] (z ∷ ys) x y e = absurd (not-nil ys y (sym (let rest : [] ≡ ys ++ y ∷ [] = cc in rest)))
-same-front (z ∷ xs) [] x y e = absurd (not-nil xs x (let rest : xs ++ x ∷ [] ≡ [] = cc in rest))
-same-front (z ∷ xs) (w ∷ ys) x y e =
-    let head : z ≡ w = cc in
-    let tail : xs ++ x ∷ [] ≡ ys ++ y ∷ [] = cc in
-    let rest = same-front xs ys x y tail in (cc rest.0, rest.1)
 
 -- a refusal is no success
 refused-by : (has is : Bool) (status : ℕ)
@@ -60,14 +46,15 @@ module _ (limits : Limits) (records : List Record) (a : Agreement) (message : Me
       → (pendings ≡ pending_responses context message.command outcome_found) × (outcome_found.status ≡ success)
   unfolding served
   pendings-are pendings true h s =
-      let computed : (served limits records a message).responses ≡ [] = rw (s.on_context, h) refl in
-      absurd (not-nil pendings s.final (sym s.responses ∙ computed))
+      let computed : (served limits records a message).responses ≡ None = rw (s.on_context, h) refl in
+      let both : Some _ ≡ None = sym s.responses ∙ computed in cc
   pendings-are pendings false h s =
-      let last : Response = response context.class message.command outcome_found.status None in
-      let computed : (served limits records a message).responses ≡ pending_responses context message.command outcome_found ++ last ∷ [] =
-      rw (s.on_context, h) refl in
-      let both = same-front pendings (pending_responses context message.command outcome_found) s.final last (sym s.responses ∙ computed) in
-      (both.0, sym (ap (λ (r : Response). r.0.status) both.1) ∙ s.success)
+      let computed : (served limits records a message).responses ≡ Some (responses context message.command outcome_found) = rw (s.on_context, h) refl in
+      let both : Some _ ≡ Some (responses context message.command outcome_found) = sym s.responses ∙ computed in
+      let same : record { pending = pendings; final = s.final; cancelled = s.cancelled } ≡ responses context message.command outcome_found = cc in (
+        ap (λ (r : Responses). r.pending) same,
+        sym (ap (λ (r : Responses). r.final.0.status) same) ∙ s.success,
+      )
 
   study-found : (p : Option ℕ) → refusal_for context.class message.command ≡ p → service_of context.class ≡ StudyRootFind → outcome_found.status ≡ success
       → outcome_found ≡ study.found records a.called message context.syntax
@@ -120,33 +107,35 @@ entries-optional records message context keys optional e = rw e refl
 then-octets : (x y : Answer) → x.close ≡ false → (then_answer x y).octets ≡ x.octets ++ y.octets
 then-octets x y h = rw h refl
 
+-- the first page of the responses to a message
+abbrev page_for : Limits → List Record → Agreement → Message → List ℕ
+page_for limits records a message = (next_page (query_by a message (served limits records a message).responses)).octets
+
 sent-octets : (limits : Limits) (verdict : Verdict) (a : Agreement) (message : Message) (later : List Input) (records : List Record) (o : Option Agreement)
-    → o ≡ Some a → (back : List ℕ)
-    × ((answers limits verdict (record { agreement = o; records = records }) (Sent message ∷ later)).octets
-    ≡ flat_map (response_octets message.context a.limit) (served limits records a message).responses ++ back)
-sent-octets limits verdict a message later records o e =
-    let next = answer limits verdict (record { agreement = Some a; records = records }) (Sent message) in
-    rw e ((answers limits verdict next.next later).octets, refl)
+    (query : Option OpenQuery) → o ≡ Some a → query ≡ None → (back : List ℕ)
+    × ((answers limits verdict (record { agreement = o; records = records; query = query }) (Sent message ∷ later)).octets
+    ≡ page_for limits records a message ++ back)
+unfolding reaction
+sent-octets limits verdict a message later records o query e none =
+    let next = answer limits verdict (record { agreement = Some a; records = records; query = None }) (Sent message) in
+    rw (e, none) ((answers limits verdict next.next later).octets, refl)
 
 pub reply-has : (institutions : List Institution) (world : World) (c : Connection) (piece : List ℕ) (i : Institution) (a : Agreement) (records : List Record)
     (message : Message) → connection_in c.number world.connections ≡ Some c → Brings institutions world c piece i a records message
-    → HasResponses c.number message.context a.limit (served (limits_of i) records a message).responses
-    (turn institutions world (event.Piece c.number piece)).reply
+    → HasOctets c.number (page_for (limits_of i) records a message) (turn institutions world (event.Piece c.number piece)).reply
 reply-has institutions world c piece i a records message held b =
     let limits = limits_of i in
     let verdict = verdict_at i.associations (live_of institutions i.name world.connections) in
-    let progress = progress_of c.stream (of i.name world.rows) in
+    let progress = progress_of c (of i.name world.rows) in
     let first = first_answer_by i institutions world c b.before in
     let whole = answer_by (Some i) institutions world c piece in
-    let sent = sent-octets limits verdict a message b.later first.next.records first.next.agreement b.agreed in
+    let sent = sent-octets limits verdict a message b.later first.next.records first.next.agreement first.next.query b.agreed b.none_open in
     let joined : whole ≡ then_answer first (answers limits verdict first.next (Sent message ∷ b.later)) =
     ap (answers limits verdict progress) b.inputs ∙ answers-append limits verdict progress b.before (Sent message ∷ b.later) in
-    let octets : whole.octets ≡ first.octets ++ flat_map (response_octets message.context a.limit) (served limits first.next.records a message).responses
-    ++ sent.0 =
+    let octets : whole.octets ≡ first.octets ++ page_for limits first.next.records a message ++ sent.0 =
     ap (λ (x : Answer). x.octets) joined ∙ then-octets first (answers limits verdict first.next (Sent message ∷ b.later)) b.goes_on
     ∙ ap (λ (os : List ℕ). first.octets ++ os) sent.1
-    ∙ sym (append_assoc first.octets (flat_map (response_octets message.context a.limit) (served limits first.next.records a message).responses) sent.0)
+    ∙ sym (append_assoc first.octets (page_for limits first.next.records a message) sent.0)
     in
-    let with_records = ap (λ (rs : List Record).
-    first.octets ++ flat_map (response_octets message.context a.limit) (served limits rs a message).responses ++ sent.0) b.has in
+    let with_records = ap (λ (rs : List Record). first.octets ++ page_for limits rs a message ++ sent.0) b.has in
     (first.octets, sent.0, whole.close, rw (held, b.owned) (ap (λ (os : List ℕ). reply.Octets c.number os whole.close) (octets ∙ with_records)))

@@ -42,6 +42,7 @@ use Rattle.dq_tables.specs.declared.row.Row.{Row}
 use Rattle.dq_tables.specs.declared.row.Kind.TheVariants.{Study}
 use Rattle.dq_tables.specs.Keys.{uid_at}
 use Rattle.dq_core.specs.Services.{served, ordered}
+use Rattle.dq_core.specs.Pages.{reaction}
 use Rattle.dq_core.specs.Shared.{replies}
 use Rattle.dq_core.specs.Alone.{alone_replies}
 use Rattle.dq_core.specs.Own.{own}
@@ -236,7 +237,7 @@ an_association :
 unfolding pdus_within front pdu_of associate_of request_of item_at pdv_at proposed_of user_information_of values_of parts routed has_route joins built_in class_of
     stripped without_leading without_trailing kept_before messages_from command_from command_of reading readers elements_by element_by elements_after value_by
     items_by item_by items_after header_at end_at is_below tag_at spelling_at long_length_at content_of known_vr vr_in dictionary trimmed unpadded is_padded
-    ignores_leading_spaces served
+    ignores_leading_spaces served reaction
 an_association = (refl, refl)
 
 -- a sequence in a command set, an element of another group, and fragments of two octets for a peer that takes PDUs of 8
@@ -247,7 +248,7 @@ command_sets :
 unfolding pdus_within front pdu_of associate_of request_of item_at pdv_at proposed_of user_information_of values_of parts routed has_route joins built_in class_of
     stripped without_leading without_trailing kept_before messages_from command_from command_of reading readers elements_by element_by elements_after value_by
     items_by item_by items_after header_at end_at is_below tag_at spelling_at long_length_at content_of known_vr vr_in dictionary trimmed unpadded is_padded
-    ignores_leading_spaces served
+    ignores_leading_spaces served reaction
 command_sets = (refl, refl, refl)
 
 -- a C-ECHO of another class than the context has; a C-FIND on Verification, of whatever class; a C-CANCEL
@@ -260,7 +261,7 @@ statuses :
 unfolding pdus_within front pdu_of associate_of request_of item_at pdv_at proposed_of user_information_of values_of parts routed has_route joins built_in class_of
     stripped without_leading without_trailing kept_before messages_from command_from command_of reading readers elements_by element_by elements_after value_by
     items_by item_by items_after header_at end_at is_below tag_at spelling_at long_length_at content_of known_vr vr_in dictionary trimmed unpadded is_padded
-    ignores_leading_spaces served
+    ignores_leading_spaces served reaction
 statuses = (refl, refl, refl)
 
 -- a pair of titles that no institution has; a version without bit 0; a maximum length that leaves no room; a context with an even id
@@ -309,7 +310,7 @@ in_mid_message :
 unfolding pdus_within front pdu_of associate_of request_of item_at pdv_at proposed_of user_information_of values_of parts routed has_route joins built_in class_of
     stripped without_leading without_trailing kept_before messages_from command_from command_of reading readers elements_by element_by elements_after value_by
     items_by item_by items_after header_at end_at is_below tag_at spelling_at long_length_at content_of known_vr vr_in dictionary trimmed unpadded is_padded
-    ignores_leading_spaces served
+    ignores_leading_spaces served reaction
 in_mid_message = (refl, refl)
 
 -- two institutions, PDU by PDU; ends; a piece after the close, and one before the opening
@@ -319,7 +320,7 @@ two_institutions : replies (two 4) [] (Open 1 ∷ Open 2 ∷ Piece 2 (request_of
 unfolding pdus_within front pdu_of associate_of request_of item_at pdv_at proposed_of user_information_of values_of parts routed has_route joins built_in class_of
     stripped without_leading without_trailing kept_before messages_from command_from command_of reading readers elements_by element_by elements_after value_by
     items_by item_by items_after header_at end_at is_below tag_at spelling_at long_length_at content_of known_vr vr_in dictionary trimmed unpadded is_padded
-    ignores_leading_spaces served
+    ignores_leading_spaces served reaction
 two_institutions = refl
 
 -- an institution that may have one association open: a second is busy, another institution is not, and a release or an end gives the place back
@@ -379,7 +380,7 @@ a_query : replies built_in [] (history (four_contexts ∷ find ∷ [])) ≡ Done
 unfolding pdus_within front pdu_of associate_of request_of item_at pdv_at proposed_of user_information_of values_of parts routed has_route joins built_in class_of
     stripped without_leading without_trailing kept_before messages_from command_from command_of reading readers elements_by element_by elements_after value_by
     items_by item_by items_after header_at end_at is_below tag_at spelling_at long_length_at content_of known_vr vr_in dictionary trimmed unpadded is_padded
-    ignores_leading_spaces served found query_of identifier_in
+    ignores_leading_spaces served reaction found query_of identifier_in
 a_query = refl
 
 -- an entry that can't be read, and one that is not there
@@ -404,7 +405,7 @@ a_query_over_no_rows :
 unfolding pdus_within front pdu_of associate_of request_of item_at pdv_at proposed_of user_information_of values_of parts routed has_route joins built_in class_of
     stripped without_leading without_trailing kept_before messages_from command_from command_of reading readers elements_by element_by elements_after value_by
     items_by item_by items_after header_at end_at is_below tag_at spelling_at long_length_at content_of known_vr vr_in dictionary trimmed unpadded is_padded
-    ignores_leading_spaces served found query_of identifier_in level_named has_keys_above is_supported keys_of leaves answers records_asked records_of of
+    ignores_leading_spaces served reaction found query_of identifier_in level_named has_keys_above is_supported keys_of leaves answers records_asked records_of of
     vr_at vr_or_fault vr_with_letters vr_among every_vr letters_of agrees length_at length_form_of is_text are_well_formed is_universal matching_of value.parts
     value.pieces_of value.has_separator value.pieces value.joined uid_at sole_at
 a_query_over_no_rows = (refl, refl)
@@ -436,7 +437,7 @@ stores :
 unfolding pdus_within front pdu_of associate_of request_of item_at pdv_at proposed_of user_information_of values_of parts routed has_route joins built_in class_of
     stripped without_leading without_trailing kept_before messages_from command_from command_of reading readers elements_by element_by elements_after value_by
     items_by item_by items_after header_at end_at is_below tag_at spelling_at long_length_at content_of known_vr vr_in dictionary trimmed unpadded is_padded
-    ignores_leading_spaces served stored is_large is_named uid_at sole_at
+    ignores_leading_spaces served reaction stored is_large is_named uid_at sole_at
 stores = (refl, refl)
 
 -- the server of one institution alone, which has no routes: a pair of titles that nobody has, a search and an order
@@ -449,7 +450,7 @@ alone : alone_replies limits [] (Open 1 ∷ Piece 1 (request_of_title ct9) ∷ P
 unfolding pdus_within front pdu_of associate_of request_of item_at pdv_at proposed_of user_information_of values_of parts
     stripped without_leading without_trailing kept_before messages_from command_from command_of reading readers elements_by element_by elements_after value_by
     items_by item_by items_after header_at end_at is_below tag_at spelling_at long_length_at content_of known_vr vr_in dictionary trimmed unpadded is_padded
-    ignores_leading_spaces served found query_of identifier_in level_named has_keys_above is_supported keys_of leaves answers records_asked records_of stored is_large
+    ignores_leading_spaces served reaction found query_of identifier_in level_named has_keys_above is_supported keys_of leaves answers records_asked records_of stored is_large
     is_named ordered withdrawn record_at class_of
     vr_at vr_or_fault vr_with_letters vr_among every_vr letters_of agrees length_at length_form_of is_text are_well_formed is_universal matching_of value.parts
     value.pieces_of value.has_separator value.pieces value.joined uid_at sole_at
@@ -491,7 +492,7 @@ a_kept_study :
 unfolding pdus_within front pdu_of associate_of request_of item_at pdv_at proposed_of user_information_of values_of parts routed has_route joins built_in class_of
     stripped without_leading without_trailing kept_before messages_from command_from command_of reading readers elements_by element_by elements_after value_by
     items_by item_by items_after header_at end_at is_below tag_at spelling_at long_length_at content_of known_vr vr_in dictionary trimmed unpadded is_padded
-    ignores_leading_spaces served found query_of identifier_in level_named has_keys_above is_supported keys_of leaves answers records_asked records_of of
+    ignores_leading_spaces served reaction found query_of identifier_in level_named has_keys_above is_supported keys_of leaves answers records_asked records_of of
     vr_at vr_or_fault vr_with_letters vr_among every_vr letters_of agrees length_at length_form_of is_text are_well_formed is_universal matching_of value.parts
     value.pieces_of value.has_separator value.pieces value.joined uid_at sole_at data_set_of about_answers shown octets_meet asked_days asked_times
     start_day start_time period computed study_values modalities_in all_in_order put_in_order records_above header_of vr_and_length

@@ -39,4 +39,5 @@ returns c = λ world x held counts.
       stands = c.in_ok-taken.ensures.stands;
       number = c.take.ensures.keeps.0;
       inbox = c.take.ensures.keeps.1;
+      query = c.take.ensures.keeps.2;
     })

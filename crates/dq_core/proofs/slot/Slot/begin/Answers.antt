@@ -51,5 +51,5 @@ returns-in_ok-take-in_default c =
       agreement = inl (none_held (accepted_in agreement) first.messages
           (subst (λ (ms : List Message). StandForAll (accepted_in agreement) first.messages ms) m.messages_are stands.messages));
       stands = λ s n e. absurd (false≢true (sym e ∙ stands.close ∙ m.closes));
-      keeps = (refl, refl);
+      keeps = (refl, refl, refl);
     }

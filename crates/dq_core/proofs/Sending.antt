@@ -1,0 +1,114 @@
+-- A query that is held, and what of it was sent.
+use Rattle.std.proofs.Common.{◌≡◌, ℕ, ◌+◌, ◌≤◌, Some, List, [], ◌∷◌, ◌++◌, length, map, take, drop, refl, sym, ap, ◌∙◌, arith, append_assoc, length-append, append-nil}
+use Rattle.std.specs.List.{flat_map}
+use Rattle.std.proofs.lemmas.List.{flat_map_more, map-append, take-map, drop-map, take_all, drop_all}
+use Rattle.std.proofs.lemmas.Grind.{flat_map-append}
+use Rattle.std.proofs.Math.Seq.{take-append_seam, drop-append_seam}
+use Rattle.dq_dataset.specs.Tree.{ElementList}
+use Rattle.dq_dataset.specs.Canonical.{canonical}
+use Rattle.dq_assoc.specs.declared.agreement.AgreedContext.{AgreedContext}
+use Rattle.dq_match.specs.declared.responses.Found.{Found}
+use Rattle.dq_find.specs.Pages.{HasGiven}
+use Rattle.dq_core.specs.declared.pages.OpenQuery.{OpenQuery as HeldQuery}
+use Rattle.dq_core.specs.Services.{Response, response, pending_status, pending_response}
+use Rattle.dq_core.specs.Pages.{OpenQuery, response_octets, octets_of, rest, without_first}
+use Rattle.dq_core.specs.Queries.{query_of}
+
+-- the pending responses that were left were sent, and the final one
+pub rest-sent : (query now : OpenQuery) (count : ℕ) (x0 x1 x2 : List ℕ) → count ≡ length query.left.pending
+    → x1 ≡ x0 ++ octets_of query (take count query.left.pending) → now ≡ without_first count query
+    → x2 ≡ x1 ++ octets_of now (now.left.final ∷ []) → x2 ≡ x0 ++ rest query
+rest-sent query now count x0 x1 x2 all sent left last =
+    let xs = query.left.pending in
+    let final = query.left.final ∷ [] in
+    let whole : take count xs ≡ xs = take_all count xs (omega (arith, all)) in
+    let f = response_octets query.context query.limit in
+    last ∙ ap (λ (q : OpenQuery). x1 ++ octets_of q (q.left.final ∷ [])) left ∙ ap (λ x. x ++ flat_map f final) (sent ∙ ap (λ rs. x0 ++ flat_map f rs) whole)
+    ∙ append_assoc x0 (flat_map f xs) (flat_map f final) ∙ ap (λ x. x0 ++ x) (sym (flat_map-append f xs final))
+
+-- the response with an answer of a query
+abbrev pending_of : HeldQuery → ElementList → Response
+pending_of q answer = pending_response q.context q.command q.pages.optional answer
+
+-- So many of its pending responses were sent.
+pub record HasSent (q now : HeldQuery) (count : ℕ) (x0 x1 : List ℕ) : Type 0 where
+  pub given : List ElementList
+  pub counted : length given ≡ count
+  pub left : HasGiven q.pages given now.pages
+  pub context : now.context ≡ q.context
+  pub command : now.command ≡ q.command
+  pub limit : now.limit ≡ q.limit
+  pub octets : x1 ≡ x0 ++ octets_of (query_of q) (map (pending_of q) given)
+
+pub none-sent : (q : HeldQuery) (x : List ℕ) → HasSent q q 0 x x
+none-sent q x = record {
+  given = [];
+  counted = refl;
+  left = record { answers = refl; status = refl; optional = refl };
+  context = refl;
+  command = refl;
+  limit = refl;
+  octets = sym (append-nil x);
+}
+
+module _ {q now : HeldQuery} {count : ℕ} {x0 x1 : List ℕ} (has : HasSent q now count x0 x1) where
+  -- one more was sent
+  pub one-sent : (pages : Found) (answer : ElementList) (status : ℕ) (octets x2 : List ℕ) → HasGiven now.pages (answer ∷ []) pages
+      → status ≡ pending_status q.pages.optional → octets ≡ canonical now.context.syntax answer
+      → x2 ≡ x1 ++ response_octets now.context.id now.limit (response now.context.class now.command status (Some octets))
+      → HasSent q (record now { pages = pages }) (count + 1) x0 x2
+  one-sent pages answer status octets x2 next status_is octets_are added =
+      let f = response_octets q.context.id q.limit in
+      let is_pending : response now.context.class now.command status (Some octets) ≡ pending_of q answer =
+      rw (octets_are, status_is, has.context, has.command) refl in
+      let sent : x2 ≡ x1 ++ f (pending_of q answer) =
+      added ∙ ap (λ (r : Response). x1 ++ response_octets now.context.id now.limit r) is_pending
+      ∙ ap (λ (k : AgreedContext). x1 ++ response_octets k.id now.limit (pending_of q answer)) has.context
+      ∙ ap (λ (n : ℕ). x1 ++ response_octets q.context.id n (pending_of q answer)) has.limit in
+      record {
+        given = has.given ++ answer ∷ [];
+        counted = length-append has.given (answer ∷ []) ∙ ap (λ n. n + 1) has.counted;
+        left = record {
+          answers = has.left.answers ∙ ap (λ xs. has.given ++ xs) next.answers ∙ sym (append_assoc has.given (answer ∷ []) pages.answers);
+          status = next.status ∙ has.left.status;
+          optional = next.optional ∙ has.left.optional;
+        };
+        context = has.context;
+        command = has.command;
+        limit = has.limit;
+        octets = sent ∙ ap (λ x. x ++ f (pending_of q answer)) has.octets ∙ flat_map_more f x0 (map (pending_of q) has.given) (pending_of q answer)
+            ∙ ap (λ (rs : List Response). x0 ++ flat_map f rs) (sym (map-append (pending_of q) has.given (answer ∷ [])));
+      }
+
+  -- what is left after the first of them
+  left-is : (n : ℕ) → now.pages.answers ≡ drop n q.pages.answers → query_of now ≡ without_first n (query_of q)
+  left-is n e =
+      let rest : map (pending_of q) now.pages.answers ≡ drop n (map (pending_of q) q.pages.answers) =
+      ap (map (pending_of q)) e ∙ sym (drop-map (pending_of q) n q.pages.answers) in
+      rw (has.context, has.command, has.limit, has.left.status, has.left.optional)
+      (ap (λ (rs : List Response). record (query_of q) { left = record (query_of q).left { pending = rs } }) rest)
+
+  abbrev IsSent : ℕ → Type 0
+  IsSent n = (x1 ≡ x0 ++ octets_of (query_of q) (take n (query_of q).left.pending)) × (query_of now ≡ without_first n (query_of q))
+
+  octets-are : (n : ℕ) → has.given ≡ take n q.pages.answers → x1 ≡ x0 ++ octets_of (query_of q) (take n (query_of q).left.pending)
+  octets-are n e =
+      has.octets
+      ∙ ap (λ (rs : List Response). x0 ++ octets_of (query_of q) rs) (ap (map (pending_of q)) e ∙ sym (take-map (pending_of q) n q.pages.answers))
+
+  -- as many were sent as were wanted
+  pub so-many : (n : ℕ) → count ≡ n → IsSent n
+  so-many n e =
+      let same : length has.given ≡ n = has.counted ∙ e in (
+        octets-are n (sym (ap (take n) has.left.answers ∙ ap (λ k. take k (has.given ++ now.pages.answers)) (sym same) ∙ take-append_seam has.given now.pages.answers)),
+        left-is n (sym (ap (drop n) has.left.answers ∙ ap (λ k. drop k (has.given ++ now.pages.answers)) (sym same) ∙ drop-append_seam has.given now.pages.answers)),
+      )
+
+  -- or all of them
+  pub all-sent : (n : ℕ) → now.pages.answers ≡ [] → count ≤ n → IsSent n
+  all-sent n none few =
+      let all : q.pages.answers ≡ has.given = has.left.answers ∙ ap (λ xs. has.given ++ xs) none ∙ append-nil has.given in
+      let within : length q.pages.answers ≤ n = rw all (omega (arith, has.counted, few)) in (
+        octets-are n (sym all ∙ sym (take_all n q.pages.answers within)),
+        left-is n (none ∙ sym (drop_all n q.pages.answers within)),
+      )

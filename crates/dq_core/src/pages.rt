@@ -1,0 +1,244 @@
+//! The responses to a message, a page at a time (PS3.4 sections C.4.1 and K.4.1).
+ghost use Rattle.std.specs.Prelude.{◌≡◌, ◌++◌, ◌∷◌, [], take, None, IfOk, OnOk, option_map};
+ghost use Rattle.dq_dataset.specs.Canonical.{canonical};
+ghost use Rattle.dq_core.specs.Services.{is_of_instance, named_instance, response_command, response, pending_status, responses};
+ghost use Rattle.dq_core.specs.Pages.{response_octets, octets_of, rest, without_first, page, cancel_reaction};
+ghost use Rattle.dq_core.specs.Queries.{query_of, query_in};
+
+use dq_assoc::{AgreedContext, Agreement, PeerLimit, SopClass};
+use dq_dataset::{DataSet, Syntax, can_be_written, write};
+use dq_dimse::{Command, command_field, status, write_message};
+use dq_find::Pages;
+use dq_list::Listed;
+use dq_match::Found;
+use std::alloc::{AllocError, Global};
+
+/// How many pending responses are sent at once.
+const PAGE_LENGTH: usize = 64;
+
+/// Responses that were not sent: the context and the command of the message that they answer, the
+/// longest PDU that the peer takes, and the answers that are left.
+#[derive(Debug, Drop)]
+pub(crate) struct OpenQuery {
+    pub context: AgreedContext,
+    pub command: Command,
+    pub limit: PeerLimit,
+    pub pages: Pages,
+}
+
+/// Whether the response to an operation names an instance (PS3.7 sections 9.3.1.2, 10.3.3.2 and
+/// 10.3.5.2).
+fn is_of_instance(code: u16) -> bool
+    ensures { result ≡ is_of_instance code }
+{
+    code == command_field::C_STORE
+        || code == command_field::N_CREATE
+        || code == command_field::N_SET
+}
+
+/// The instance that a response names: that of the command, or none.
+fn named_instance(alloc: Global, command: &Command, status: u16) -> Result<Listed<u8>, AllocError>
+    ensures { IfOk result (λ instance. instance ≡ named_instance command.now status) }
+{
+    if status == status::UNRECOGNIZED_OPERATION || !is_of_instance(command.code) {
+        return Ok(Listed::empty(alloc));
+    }
+    Listed::copy_of(alloc, command.sop_instance.as_slice())
+}
+
+/// The command of a response of a context's class (PS3.7 section 9.3).
+fn response_command(
+    alloc: Global,
+    class: SopClass,
+    command: &Command,
+    status: u16,
+    with_data: bool,
+) -> Result<Command, AllocError>
+    ensures { IfOk result (λ response.
+        response ≡ response_command class command.now status with_data) }
+{
+    Ok(Command {
+        code: command.code | command_field::RESPONSE_BIT,
+        id: command.id,
+        sop_class: Listed::copy_of(alloc, class.uid())?,
+        sop_instance: named_instance(alloc, command, status)?,
+        with_data,
+        status,
+    })
+}
+
+/// The status of the responses before the last (PS3.4 section C.4.1.1.4).
+fn pending_status(optional: bool) -> u16
+    ensures { result ≡ pending_status optional }
+{
+    if optional {
+        status::PENDING_WITHOUT_OPTIONAL_KEYS
+    } else {
+        status::PENDING
+    }
+}
+
+/// The octets of an answer. Those of one with a length that can't be written want memory.
+fn answer_octets(alloc: Global, answer: &DataSet, syntax: Syntax) -> Result<Vec<u8>, AllocError>
+    ensures { IfOk result (λ octets. octets.items ≡ canonical syntax answer.now) }
+{
+    if !can_be_written(answer, syntax) {
+        return Err(AllocError);
+    }
+    write(alloc, answer, syntax)
+}
+
+/// Where responses go: the context and the command of the message that they answer, and the longest
+/// PDU that the peer takes.
+#[derive(Clone, Copy)]
+struct Recipient<'a> {
+    alloc: Global,
+    context: AgreedContext,
+    command: &'a Command,
+    limit: PeerLimit,
+}
+
+impl Recipient<'_> {
+    /// Adds a response with a status, and with a data set where there is one.
+    fn respond(
+        self,
+        status: u16,
+        data_set: Option<&[u8]>,
+        out: &mut Vec<u8>,
+    ) -> Result<(), AllocError>
+        ensures { OnOk result (out.new.items ≡ out.old.items
+            ++ response_octets self.entry.context.id self.entry.limit
+            (response self.entry.context.class self.entry.command.now status
+            (option_map (λ o. o.now) data_set.entry))) }
+    {
+        let Recipient {
+            alloc,
+            context,
+            command,
+            limit,
+        } = self;
+        let with_data = data_set.is_some();
+        let response = response_command(alloc, context.class, command, status, with_data)?;
+        let octets = write_message(alloc, context.id, &response, data_set, limit.octets())?;
+        out.extend_from_slice(octets.as_slice())?;
+        Ok(())
+    }
+}
+
+impl OpenQuery {
+    /// The responses to a message on a context, of which none was sent.
+    pub(crate) fn new(
+        agreement: &Agreement,
+        context: AgreedContext,
+        command: Command,
+        found: Found,
+    ) -> Self
+        ensures { query_of result ≡ record {
+          context = context.id;
+          limit = agreement.now.limit;
+          left = responses context command found;
+        } }
+    {
+        OpenQuery {
+            context,
+            command,
+            limit: agreement.limit,
+            pages: Pages::new(found),
+        }
+    }
+
+    fn recipient(&self, alloc: Global) -> Recipient<'_>
+        ensures { (result.context ≡ self.now.context)
+            × (result.command.now ≡ self.now.command) × (result.limit ≡ self.now.limit) }
+    {
+        Recipient {
+            alloc,
+            context: self.context,
+            command: &self.command,
+            limit: self.limit,
+        }
+    }
+
+    /// Sends pending responses, so many or all that are left.
+    fn send_pending(
+        &mut self,
+        alloc: Global,
+        count: usize,
+        out: &mut Vec<u8>,
+    ) -> Result<(), AllocError>
+        ensures sent { OnOk result (out.new.items ≡ out.old.items
+            ++ octets_of (query_of self.old) (take count (query_of self.old).left.pending)) }
+        ensures left { OnOk result
+            (query_of self.new ≡ without_first count (query_of self.old)) }
+    {
+        let status = pending_status(self.pages.optional());
+        for _ in 0..count {
+            let Some(answer) = self.pages.next() else {
+                return Ok(());
+            };
+            let octets = answer_octets(alloc, &answer, self.context.syntax)?;
+            self.recipient(alloc)
+                .respond(status, Some(octets.as_slice()), out)?;
+        }
+        Ok(())
+    }
+
+    /// Sends the final response, with a status.
+    fn send_final(&self, alloc: Global, status: u16, out: &mut Vec<u8>) -> Result<(), AllocError>
+        ensures { OnOk result (out.new.items ≡ out.old.items
+            ++ octets_of (query_of self.now)
+            (response self.now.context.class self.now.command status None ∷ [])) }
+    {
+        self.recipient(alloc).respond(status, None, out)?;
+        Ok(())
+    }
+
+    /// Sends all that is left.
+    pub(crate) fn send_rest(mut self, alloc: Global, out: &mut Vec<u8>) -> Result<(), AllocError>
+        ensures { OnOk result (out.new.items ≡ out.old.items ++ rest (query_of self)) }
+    {
+        let count = self.pages.left();
+        self.send_pending(alloc, count, out)?;
+        self.send_final(alloc, self.pages.status(), out)?;
+        Ok(())
+    }
+
+    /// Sends a page: the next pending responses, and the final one where none of them is left.
+    /// Gives back what is left.
+    pub(crate) fn send_page(
+        mut self,
+        alloc: Global,
+        out: &mut Vec<u8>,
+    ) -> Result<Option<Self>, AllocError>
+        ensures { IfOk result (λ query.
+            (out.new.items ≡ out.old.items ++ (page (query_of self)).octets)
+            × (query_in query ≡ (page (query_of self)).query)) }
+    {
+        if self.pages.left() <= PAGE_LENGTH {
+            self.send_rest(alloc, out)?;
+            return Ok(None);
+        }
+        self.send_pending(alloc, PAGE_LENGTH, out)?;
+        Ok(Some(self))
+    }
+
+    /// Answers a C-CANCEL of the message with an id: where that is the one which is answered here,
+    /// the final response is sent, and nothing more. Gives back what is left.
+    pub(crate) fn cancel(
+        self,
+        alloc: Global,
+        id: u16,
+        out: &mut Vec<u8>,
+    ) -> Result<Option<Self>, AllocError>
+        ensures { IfOk result (λ query.
+            let reaction = cancel_reaction id (query_of self) in
+            (out.new.items ≡ out.old.items ++ reaction.octets)
+            × (query_in query ≡ reaction.query)) }
+    {
+        if id != self.command.id {
+            return Ok(Some(self));
+        }
+        self.send_final(alloc, status::CANCEL, out)?;
+        Ok(None)
+    }
+}
