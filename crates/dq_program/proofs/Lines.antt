@@ -6,7 +6,7 @@ use Rattle.std.proofs.lemmas.Bool.{false≢true}
 use Rattle.std.proofs.lemmas.List.Folds.{list_all_at}
 use Rattle.std.proofs.lemmas.Str.Pattern.{IsSplitOnceResult, split_after}
 use Rattle.dq_core.specs.declared.event.Event.{Event}
-use Rattle.dq_core.specs.declared.event.Event.TheVariants.{Open, Piece, End, Schedule, Withdraw}
+use Rattle.dq_core.specs.declared.event.Event.TheVariants.{Open, Piece, End, Pull, Schedule, Withdraw}
 use Rattle.dq_config.specs.Conditions.{is_between, is_name, is_name_octet}
 use Rattle.dq_program.specs.Captures.{IsNumber, AreOctets, SpellsPiece, SpellsOrder, Spells}
 use Rattle.dq_program.proofs.Numbers.{IsNumber-spaceless}
@@ -16,6 +16,7 @@ pub SpellsPiece-split : (text : List ℕ) (r : Option (Bor (List ℕ) × Bor (Li
     → MatchOption r ⊥ (λ x. (number : ℕ) × (octets : List ℕ) × IsNumber x.0.now number × AreOctets x.1.now octets)
 SpellsPiece-split text r split (Open number) spells = absurd spells
 SpellsPiece-split text r split (End number) spells = absurd spells
+SpellsPiece-split text r split (Pull number) spells = absurd spells
 SpellsPiece-split text r split (Schedule inst octets) spells = absurd spells
 SpellsPiece-split text r split (Withdraw inst id) spells = absurd spells
 SpellsPiece-split text None split (Piece number octets) spells =
@@ -33,11 +34,15 @@ SpellsPiece-unsplit text r split none event spells = rw none at (SpellsPiece-spl
 pub other_word : (m n : ℕ) (xs ys : List ℕ) → m ≢ n → m ∷ xs ≡ n ∷ ys → ⊥
 other_word m n xs ys apart same = apart (ap (λ l. get_or l 0 0) same)
 
+pub other_letter : (a b m n : ℕ) (xs ys : List ℕ) → m ≢ n → a ∷ m ∷ xs ≡ b ∷ n ∷ ys → ⊥
+other_letter a b m n xs ys apart same = apart (ap (λ l. get_or l 1 0) same)
+
 -- a line that begins with the word of a piece spells what stands after the word
 piece_line : (line rest : List ℕ) → line ≡ codes "piece " ++ rest → (event : Event) → Spells line event → SpellsPiece rest event
 piece_line line rest begins (Open number) spells = absurd (other_word 112 111 _ _ (omega arith) (sym begins ∙ spells.1))
 piece_line line rest begins (Piece number octets) spells = rw (ap (drop 6) (sym begins ∙ spells.1)) spells.2
 piece_line line rest begins (End number) spells = absurd (other_word 112 101 _ _ (omega arith) (sym begins ∙ spells.1))
+piece_line line rest begins (Pull number) spells = absurd (other_letter 112 112 105 117 _ _ (omega arith) (sym begins ∙ spells.1))
 piece_line line rest begins (Schedule inst octets) spells = absurd (other_word 112 115 _ _ (omega arith) (sym begins ∙ spells.1))
 piece_line line rest begins (Withdraw inst id) spells = absurd (other_word 112 119 _ _ (omega arith) (sym begins ∙ spells.1))
 
@@ -45,6 +50,7 @@ spelled_piece : (line rest : List ℕ) → line ≡ codes "piece " ++ rest → (
 spelled_piece line rest begins (Open number) spells = absurd spells
 spelled_piece line rest begins (Piece number octets) spells = (rest, begins, spells)
 spelled_piece line rest begins (End number) spells = absurd spells
+spelled_piece line rest begins (Pull number) spells = absurd spells
 spelled_piece line rest begins (Schedule inst octets) spells = absurd spells
 spelled_piece line rest begins (Withdraw inst id) spells = absurd spells
 
@@ -90,6 +96,7 @@ pub no_schedule : (line rest : List ℕ) → ((name octets : List ℕ) → Spell
 no_schedule line rest none begins (Open number) spells = other_word 115 111 _ _ (omega arith) (sym begins ∙ spells.1)
 no_schedule line rest none begins (Piece number octets) spells = other_word 115 112 _ _ (omega arith) (sym begins ∙ spells.1)
 no_schedule line rest none begins (End number) spells = other_word 115 101 _ _ (omega arith) (sym begins ∙ spells.1)
+no_schedule line rest none begins (Pull number) spells = other_word 115 112 _ _ (omega arith) (sym begins ∙ spells.1)
 no_schedule line rest none begins (Schedule inst octets) spells = none inst octets (rw (ap (drop 9) (sym begins ∙ spells.1)) spells.2)
 no_schedule line rest none begins (Withdraw inst id) spells = other_word 115 119 _ _ (omega arith) (sym begins ∙ spells.1)
 
@@ -98,5 +105,6 @@ pub no_withdrawal : (line rest : List ℕ) → ((name octets : List ℕ) → Spe
 no_withdrawal line rest none begins (Open number) spells = other_word 119 111 _ _ (omega arith) (sym begins ∙ spells.1)
 no_withdrawal line rest none begins (Piece number octets) spells = other_word 119 112 _ _ (omega arith) (sym begins ∙ spells.1)
 no_withdrawal line rest none begins (End number) spells = other_word 119 101 _ _ (omega arith) (sym begins ∙ spells.1)
+no_withdrawal line rest none begins (Pull number) spells = other_word 119 112 _ _ (omega arith) (sym begins ∙ spells.1)
 no_withdrawal line rest none begins (Schedule inst octets) spells = other_word 119 115 _ _ (omega arith) (sym begins ∙ spells.1)
 no_withdrawal line rest none begins (Withdraw inst id) spells = none inst id (rw (ap (drop 9) (sym begins ∙ spells.1)) spells.2)

@@ -4,10 +4,10 @@ use Rattle.std.proofs.lemmas.Fmt.{decimal_injective}
 use Rattle.hex.proofs.HexLemmas.{decode_of-odd, decode_of-same}
 use Rattle.hex.specs.Hex.{decode_of}
 use Rattle.dq_core.specs.declared.event.Event.{Event}
-use Rattle.dq_core.specs.declared.event.Event.TheVariants.{Open, Piece, End, Schedule, Withdraw}
+use Rattle.dq_core.specs.declared.event.Event.TheVariants.{Open, Piece, End, Pull, Schedule, Withdraw}
 use Rattle.dq_program.specs.Captures.{IsNumber, AreOctets, SpellsPiece, SpellsOrder, Spells, SpellEach}
 use Rattle.dq_program.proofs.Numbers.{IsNumber-spaceless}
-use Rattle.dq_program.proofs.Lines.{other_word, is_name-spaceless}
+use Rattle.dq_program.proofs.Lines.{other_word, other_letter, is_name-spaceless}
 
 same_number : (text : List ℕ) (m n : ℕ) → IsNumber text m → IsNumber text n → m ≡ n
 same_number text m n first second = decimal_injective m n first.0 second.0 (sym first.1 ∙ second.1)
@@ -83,6 +83,18 @@ same_event line (Withdraw g xs) (End n) first second = absurd (other_word 119 10
 same_event line (Withdraw g xs) (Withdraw h ys) first second =
     let same = same_order first.0 g h xs ys first.2 (rw (ap (drop 9) (sym first.1 ∙ second.1)) second.2) in
     ap₂ Withdraw same.0 same.1
+same_event line (Pull m) (Pull n) first second =
+    ap Pull (same_number first.0 m n first.2 (rw (ap (drop 5) (sym first.1 ∙ second.1)) second.2))
+same_event line (Open m) (Pull n) first second = absurd (other_word 111 112 _ _ (omega arith) (sym first.1 ∙ second.1))
+same_event line (Pull m) (Open n) first second = absurd (other_word 112 111 _ _ (omega arith) (sym first.1 ∙ second.1))
+same_event line (End m) (Pull n) first second = absurd (other_word 101 112 _ _ (omega arith) (sym first.1 ∙ second.1))
+same_event line (Pull m) (End n) first second = absurd (other_word 112 101 _ _ (omega arith) (sym first.1 ∙ second.1))
+same_event line (Schedule g xs) (Pull n) first second = absurd (other_word 115 112 _ _ (omega arith) (sym first.1 ∙ second.1))
+same_event line (Pull m) (Schedule h ys) first second = absurd (other_word 112 115 _ _ (omega arith) (sym first.1 ∙ second.1))
+same_event line (Withdraw g xs) (Pull n) first second = absurd (other_word 119 112 _ _ (omega arith) (sym first.1 ∙ second.1))
+same_event line (Pull m) (Withdraw h ys) first second = absurd (other_word 112 119 _ _ (omega arith) (sym first.1 ∙ second.1))
+same_event line (Piece m xs) (Pull n) first second = absurd (other_letter 112 112 105 117 _ _ (omega arith) (sym first.1 ∙ second.1))
+same_event line (Pull m) (Piece n ys) first second = absurd (other_letter 112 112 117 105 _ _ (omega arith) (sym first.1 ∙ second.1))
 
 pub same_events : (lines : List (List ℕ)) (es fs : List Event) → SpellEach lines es → SpellEach lines fs → es ≡ fs
 same_events [] [] [] first second = refl

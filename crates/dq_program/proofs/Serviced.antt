@@ -17,7 +17,7 @@ use Rattle.dq_wires.specs.Steps.{replies_of}
 use Rattle.dq_wires.specs.Turns.{Cut}
 use Rattle.dq_wires.specs.Turns.Cut.{NoRoom}
 use Rattle.dq_wires.specs.Servings.Act.{Turned, Ordered}
-use Rattle.dq_wires.specs.Stepping.{Stepped}
+use Rattle.dq_wires.specs.Stepping.{Stepped, Moves}
 use Rattle.dq_wires.specs.Turns.{Hold, Turn, TurnsWent}
 use Rattle.dq_wires.specs.Turners.{Turning, IsOrder}
 use Rattle.dq_program.specs.declared.desk.Line.{Line}
@@ -38,7 +38,7 @@ module _ {Tables : Type 0} (state : Tables → State) where
   -- the laws of servings that are used
   abbrev pub TurnsServe : Type 0
   TurnsServe = (rows : List Row) (before now after : Option (List Call)) (first mid next : Standing Tables) (hold to : Hold) (acts : List Act) (count : ℕ)
-      → Serving state rows before now first mid hold acts → (went : TurnsWent (Stepped state) now after mid next hold to count)
+      → Serving state rows before now first mid hold acts → (went : TurnsWent (Moves state) now after mid next hold to count)
       → Serving state rows before after first next to (acts ++ all_turned went.turns)
 
   abbrev pub OrdersServe : Type 0
@@ -70,7 +70,7 @@ module _ {Tables : Type 0} (state : Tables → State) where
     }
 
   pub went-by-turns : {before after : Option (List Call)} {old new : Turning Tables} {count : ℕ} → TurnsServe
-      → TurnsWent (Stepped state) before after old.server new.server old.hold new.hold count → new.fault ≡ None → WentOn state before after old new count
+      → TurnsWent (Moves state) before after old.server new.server old.hold new.hold count → new.fault ≡ None → WentOn state before after old new count
   went-by-turns {before} {after} {old} {new} {count} law went works = record {
     acts = all_turned went.turns;
     counted = ap length (all-turns went.turns) ∙ went.whole;

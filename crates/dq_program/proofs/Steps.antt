@@ -4,7 +4,7 @@ use Rattle.std.proofs.lemmas.List.{take_more}
 use Rattle.std.proofs.lemmas.List.Elements.{filter-append}
 use Rattle.std.proofs.lemmas.Bool.{false≢true}
 use Rattle.dq_core.specs.declared.event.Event.{Event}
-use Rattle.dq_core.specs.declared.event.Event.TheVariants.{Open, Piece, End, Schedule, Withdraw}
+use Rattle.dq_core.specs.declared.event.Event.TheVariants.{Open, Piece, End, Pull, Schedule, Withdraw}
 use Rattle.dq_core.specs.Histories.{is_above, newest_after, rises_from}
 use Rattle.dq_program.specs.declared.capture.CaptureFault.{CaptureFault}
 use Rattle.dq_program.specs.declared.capture.CaptureFault.TheVariants.{Line, NoMemory}
@@ -29,6 +29,7 @@ newest_after-push newest [] e = refl
 newest_after-push newest (Open n ∷ es) e = newest_after-push (Some n) es e
 newest_after-push newest (Piece n octets ∷ es) e = newest_after-push newest es e
 newest_after-push newest (End n ∷ es) e = newest_after-push newest es e
+newest_after-push newest (Pull n ∷ es) e = newest_after-push newest es e
 newest_after-push newest (Schedule inst octets ∷ es) e = newest_after-push newest es e
 newest_after-push newest (Withdraw inst id ∷ es) e = newest_after-push newest es e
 
@@ -39,6 +40,7 @@ rises_from-push newest (Open n ∷ es) e =
     ap (λ b. is_above newest n && b) (rises_from-push (Some n) es e) ∙ and_assoc (is_above newest n) _ _
 rises_from-push newest (Piece n octets ∷ es) e = rises_from-push newest es e
 rises_from-push newest (End n ∷ es) e = rises_from-push newest es e
+rises_from-push newest (Pull n ∷ es) e = rises_from-push newest es e
 rises_from-push newest (Schedule inst octets ∷ es) e = rises_from-push newest es e
 rises_from-push newest (Withdraw inst id ∷ es) e = rises_from-push newest es e
 
@@ -134,6 +136,7 @@ rises_from-front newest (Open n ∷ fs) gs rising =
     both_true _ _ (first_true _ _ rising) (rises_from-front (Some n) fs gs (second_true _ _ rising))
 rises_from-front newest (Piece n octets ∷ fs) gs rising = rises_from-front newest fs gs rising
 rises_from-front newest (End n ∷ fs) gs rising = rises_from-front newest fs gs rising
+rises_from-front newest (Pull n ∷ fs) gs rising = rises_from-front newest fs gs rising
 rises_from-front newest (Schedule inst octets ∷ fs) gs rising = rises_from-front newest fs gs rising
 rises_from-front newest (Withdraw inst id ∷ fs) gs rising = rises_from-front newest fs gs rising
 

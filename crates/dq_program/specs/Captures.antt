@@ -6,7 +6,7 @@ use Rattle.std.specs.List.{slice_split}
 use Rattle.hex.specs.Hex.{decode_of}
 use Rattle.dq_config.specs.Conditions.{is_name}
 use Rattle.dq_core.specs.declared.event.Event.{Event}
-use Rattle.dq_core.specs.declared.event.Event.TheVariants.{Open, Piece, End, Schedule, Withdraw}
+use Rattle.dq_core.specs.declared.event.Event.TheVariants.{Open, Piece, End, Pull, Schedule, Withdraw}
 use Rattle.dq_core.specs.Histories.{is_well_formed}
 
 abbrev pub line_feed : ℕ
@@ -47,6 +47,7 @@ SpellsPiece text (Open number) = ⊥
 SpellsPiece text (Piece number octets) = (digits : List ℕ) × (hex : List ℕ)
     × (text ≡ digits ++ codes " " ++ hex) × IsNumber digits number × AreOctets hex octets
 SpellsPiece text (End number) = ⊥
+SpellsPiece text (Pull number) = ⊥
 SpellsPiece text (Schedule inst octets) = ⊥
 SpellsPiece text (Withdraw inst id) = ⊥
 
@@ -55,8 +56,8 @@ abbrev pub SpellsOrder : List ℕ → List ℕ → List ℕ → Type 0
 SpellsOrder text name octets = (hex : List ℕ)
     × (text ≡ name ++ codes " " ++ hex) × IsTrue (is_name name) × AreOctets hex octets
 
--- `open N`, `piece N HEX`, `end N`, `schedule NAME HEX` and `withdraw NAME HEX`, with one space
--- between
+-- `open N`, `piece N HEX`, `end N`, `pull N`, `schedule NAME HEX` and `withdraw NAME HEX`, with one
+-- space between
 abbrev pub Spells : List ℕ → Event → Type 0
 Spells line (Open number) =
     (digits : List ℕ) × (line ≡ codes "open " ++ digits) × IsNumber digits number
@@ -64,6 +65,8 @@ Spells line (Piece number octets) =
     (rest : List ℕ) × (line ≡ codes "piece " ++ rest) × SpellsPiece rest (Piece number octets)
 Spells line (End number) =
     (digits : List ℕ) × (line ≡ codes "end " ++ digits) × IsNumber digits number
+Spells line (Pull number) =
+    (digits : List ℕ) × (line ≡ codes "pull " ++ digits) × IsNumber digits number
 Spells line (Schedule inst octets) =
     (rest : List ℕ) × (line ≡ codes "schedule " ++ rest) × SpellsOrder rest inst octets
 Spells line (Withdraw inst id) =

@@ -125,6 +125,9 @@ pub fn event_of(alloc: Global, line: &str) -> Result<Option<Event>, AllocError>
     if let Some(digits) = behind(line, "end ") {
         return Ok(number_of(digits).map(Event::End));
     }
+    if let Some(digits) = behind(line, "pull ") {
+        return Ok(number_of(digits).map(Event::Pull));
+    }
     if let Some(rest) = behind(line, "piece ") {
         return piece_of(alloc, rest);
     }

@@ -42,7 +42,7 @@ fn is_order(event: &Event) -> bool
 {
     match event {
         Event::Schedule { .. } | Event::Withdraw { .. } => true,
-        Event::Open(_) | Event::Piece(..) | Event::End(_) => false,
+        Event::Open(_) | Event::Piece(..) | Event::End(_) | Event::Pull(_) => false,
     }
 }
 

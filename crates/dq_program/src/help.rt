@@ -6,6 +6,7 @@ A capture is text, an event a line; empty lines and those that begin with # are 
   open N              connection N is opened; the numbers rise
   piece N HEX         octets that came on it (- is none)
   end N               it has ended
+  pull N              the next 64 answers of the C-FIND that is open on it are sent
   schedule NAME HEX   an entry for the worklist of an institution, in Explicit VR
   withdraw NAME HEX   the Scheduled Procedure Step ID of an entry that is to go
 

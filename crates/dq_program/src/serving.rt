@@ -63,6 +63,15 @@ fn listen<N: Network>(
     })
 }
 
+/// How long may be rested before the next turn. What was answered and not yet offered waits for
+/// nothing: no wire will tell that the next page of a search can be written.
+fn rest_of<T: Tables>(turner: &Turner<T>, most: Duration) -> Duration {
+    if turner.has_new_answers() {
+        return Duration::ZERO;
+    }
+    most
+}
+
 /// One turn of all connections and of the console, and a rest.
 fn turn_once<N: Network, T: Tables>(
     network: &N,
@@ -77,6 +86,7 @@ fn turn_once<N: Network, T: Tables>(
 {
     calls_are_a_serving::<T>();
     turn_all(turner, &mut reception.wires, 1)?;
+    let rest = rest_of(turner, rest);
     let rested = match &mut reception.desk {
         None => network.rest(&mut reception.wires, rest),
         Some(desk) => {

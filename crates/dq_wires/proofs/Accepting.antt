@@ -10,7 +10,8 @@ use Rattle.dq_wires.specs.declared.fault.TurnFault.{TurnFault}
 use Rattle.dq_wires.specs.declared.fault.TurnFault.TheVariants.{NoMemory, Network}
 use Rattle.dq_wires.specs.Logs.{Logs}
 use Rattle.dq_wires.specs.Held.{Held, new_held}
-use Rattle.dq_wires.specs.Steps.{Stops}
+use Rattle.dq_wires.specs.Steps.{Step, Stops}
+use Rattle.dq_wires.specs.Steps.Step.{Answered}
 use Rattle.dq_wires.specs.Turns.{Hold, has_room, refused}
 use Rattle.dq_wires.specs.Turns.Taking.{Came}
 use Rattle.dq_wires.specs.Turns.Cut.{NoRoom, Unaccepted, Unopened}
@@ -18,7 +19,7 @@ use Rattle.dq_wires.specs.Rounds.{TakingWent, TurnCut}
 use Rattle.dq_wires.proofs.Logging.{logs-none}
 use Rattle.dq_wires.proofs.Revolving.{hold-of}
 
-module _ {State : Type 0} {Goes : State → State → Event → Reply → Type 0} {Fails : State → State → Event → Fault → Type 0} {before : Option (List Call)}
+module _ {State : Type 0} {Goes : State → State → Step → Type 0} {Fails : State → State → Event → Fault → Type 0} {before : Option (List Call)}
     {old : State} {from : Hold} where
   pub cut-at_room : TurnCut Goes Fails before before old old from NoMemory
   cut-at_room = record { cut = NoRoom; fits = tt; calls = logs-none before; mid = old; steps = refl; stops = (refl, refl) }
@@ -31,9 +32,9 @@ module _ {State : Type 0} {Goes : State → State → Event → Reply → Type 0
   cut-at_open place room told stops =
       record { cut = Unopened place (from.newest + 1); fits = (room, refl); calls = told; mid = old; steps = refl; stops = stops }
 
-module _ {State : Type 0} {Goes : State → State → Event → Reply → Type 0} {before after : Option (List Call)} {old new : State} {h : List Held} {n : ℕ} where
+module _ {State : Type 0} {Goes : State → State → Step → Type 0} {before after : Option (List Call)} {old new : State} {h : List Held} {n : ℕ} where
   pub taken-new : {k : List Held} (place : ℕ) (reply : Reply) → has_room (record { held = h; newest = n }) ≡ true
-      → Logs before after (Accept (Ok (Some place))) → Goes old new (Open (n + 1)) reply → k ≡ h ++ new_held place (n + 1) ∷ []
+      → Logs before after (Accept (Ok (Some place))) → Goes old new (Answered (Open (n + 1)) reply) → k ≡ h ++ new_held place (n + 1) ∷ []
       → TakingWent Goes before after old new (record { held = h; newest = n }) (record { held = k; newest = n + 1 })
   taken-new place reply room told goes kept = record {
     taking = Came place (n + 1) reply;

@@ -5,14 +5,15 @@ use Rattle.std.proofs.lemmas.List.{append-nil}
 use Rattle.std.proofs.lemmas.Grind.{flat_map-append}
 use Rattle.dq_config.specs.declared.config.Institution.{Institution}
 use Rattle.dq_core.specs.declared.event.Event.{Event}
-use Rattle.dq_core.specs.declared.event.Event.TheVariants.{Open, Piece, End, Schedule, Withdraw}
+use Rattle.dq_core.specs.declared.event.Event.TheVariants.{Open, Piece, End, Pull, Schedule, Withdraw}
 use Rattle.dq_core.specs.declared.event.Reply.{Reply}
 use Rattle.dq_core.specs.Own.{is_on_connection, replies_at}
 use Rattle.dq_core.specs.Shared.{World, turn, world_after_turn, replies_from}
 use Rattle.dq_wires.specs.Held.{Held, octets_in}
 use Rattle.dq_wires.specs.Steps.{Step, events_of, replies_of}
+use Rattle.dq_wires.specs.Steps.Step.{Answered, Asked}
 use Rattle.dq_wires.specs.Deeds.{Deed, deed_steps, Break}
-use Rattle.dq_wires.specs.Deeds.Deed.{Sent, Broke, Lost, Closed, Heard, Silent, Left}
+use Rattle.dq_wires.specs.Deeds.Deed.{Sent, Broke, Lost, Closed, Heard, Silent, Pulled, Left}
 use Rattle.dq_wires.specs.Turns.{Done, wire_of, steps_of, kept_of, Hold, Taking, taking_steps, with_taken, Turn, IsTurn, turn_steps, after_turn, Cut, IsMidway, IsCut, cut_steps}
 use Rattle.dq_wires.specs.Turns.Taking.{Full, Nobody, Came}
 use Rattle.dq_wires.specs.Turns.Cut.{NoRoom, Unaccepted, Unopened, Midway}
@@ -25,7 +26,8 @@ use Rattle.dq_wires.proofs.Numbered.{IsAbsent, IsGone, nothing-on, absent-done, 
 
 -- the octets that steps answer on a connection
 abbrev pub answer_at : ℕ → Step → List ℕ
-answer_at n s = if is_on_connection n s.event then octets_in s.reply else []
+answer_at n (Answered event reply) = if is_on_connection n event then octets_in reply else []
+answer_at n (Asked number pending) = []
 
 abbrev pub answers : ℕ → List Step → List ℕ
 answers n steps = flat_map (answer_at n) steps
@@ -38,9 +40,10 @@ octets-chosen false r rs = refl
 pub answers-at : (n : ℕ) (steps : List Step)
     → flat_map octets_in (replies_at (is_on_connection n) (events_of steps) (replies_of steps)) ≡ answers n steps
 answers-at n [] = refl
-answers-at n (s ∷ steps) =
-    octets-chosen (is_on_connection n s.event) s.reply (replies_at (is_on_connection n) (events_of steps) (replies_of steps))
-    ∙ ap (λ x. answer_at n s ++ x) (answers-at n steps)
+answers-at n (Answered event reply ∷ steps) =
+    octets-chosen (is_on_connection n event) reply (replies_at (is_on_connection n) (events_of steps) (replies_of steps))
+    ∙ ap (λ x. (if is_on_connection n event then octets_in reply else []) ++ x) (answers-at n steps)
+answers-at n (Asked number pending ∷ steps) = answers-at n steps
 
 answers-append : (n : ℕ) (first later : List Step) → answers n (first ++ later) ≡ answers n first ++ answers n later
 answers-append n first later = flat_map-append (answer_at n) first later
@@ -50,18 +53,21 @@ abbrev pub IsQuietAt : Event → Reply → Type 0
 IsQuietAt (Open number) reply = octets_in reply ≡ []
 IsQuietAt (Piece number octets) reply = Unit {0}
 IsQuietAt (End number) reply = Unit {0}
+IsQuietAt (Pull number) reply = Unit {0}
 IsQuietAt (Schedule inst octets) reply = Unit {0}
 IsQuietAt (Withdraw inst id) reply = Unit {0}
 
 abbrev pub IsQuiet : List Step → Type 0
 IsQuiet [] = Unit {0}
-IsQuiet (s ∷ steps) = IsQuietAt s.event s.reply × IsQuiet steps
+IsQuiet (Answered event reply ∷ steps) = IsQuietAt event reply × IsQuiet steps
+IsQuiet (Asked number pending ∷ steps) = IsQuiet steps
 
 quiet-at : (institutions : List Institution) (world : World) (event : Event) (reply : Reply) → reply ≡ (turn institutions world event).reply
     → IsQuietAt event reply
 quiet-at institutions world (Open number) reply e = rw e refl
 quiet-at institutions world (Piece number octets) reply e = tt
 quiet-at institutions world (End number) reply e = tt
+quiet-at institutions world (Pull number) reply e = tt
 quiet-at institutions world (Schedule inst octets) reply e = tt
 quiet-at institutions world (Withdraw inst id) reply e = tt
 
@@ -69,19 +75,22 @@ quiet-at institutions world (Withdraw inst id) reply e = tt
 pub quiet-steps : (institutions : List Institution) (world : World) (steps : List Step)
     → replies_of steps ≡ replies_from institutions world (events_of steps) → IsQuiet steps
 quiet-steps institutions world [] e = tt
-quiet-steps institutions world (s ∷ steps) e =
-    let t = turn institutions world s.event in
-    let head : s.reply ≡ t.reply = cc in
+quiet-steps institutions world (Asked number pending ∷ steps) e = quiet-steps institutions world steps e
+quiet-steps institutions world (Answered event reply ∷ steps) e =
+    let t = turn institutions world event in
+    let head : reply ≡ t.reply = cc in
     let rest : replies_of steps ≡ replies_from institutions (world_after_turn world t) (events_of steps) = cc in
-    (quiet-at institutions world s.event s.reply head, quiet-steps institutions (world_after_turn world t) steps rest)
+    (quiet-at institutions world event reply head, quiet-steps institutions (world_after_turn world t) steps rest)
 
 quiet-first : (first later : List Step) → IsQuiet (first ++ later) → IsQuiet first
 quiet-first [] later q = tt
-quiet-first (s ∷ first) later q = (q.0, quiet-first first later q.1)
+quiet-first (Answered event reply ∷ first) later q = (q.0, quiet-first first later q.1)
+quiet-first (Asked number pending ∷ first) later q = quiet-first first later q
 
 quiet-later : (first later : List Step) → IsQuiet (first ++ later) → IsQuiet later
 quiet-later [] later q = q
-quiet-later (s ∷ first) later q = quiet-later first later q.1
+quiet-later (Answered event reply ∷ first) later q = quiet-later first later q.1
+quiet-later (Asked number pending ∷ first) later q = quiet-later first later q
 
 -- the answers at the steps of a deed
 one-answer : (b : Bool) (octets : List ℕ)
@@ -90,13 +99,14 @@ one-answer true octets = refl
 one-answer false octets = refl
 
 deed-answers : (n : ℕ) (wire : Held) (deed : Deed)
-    → answers n (deed_steps wire deed) ≡ on n wire.number (flat_map (λ (s : Step). octets_in s.reply) (deed_steps wire deed))
+    → answers n (deed_steps wire deed) ≡ on n wire.number (flat_map octets_in (replies_of (deed_steps wire deed)))
 deed-answers n wire (Sent count) = sym (nothing-on (wire.number == n))
 deed-answers n wire (Broke reply shut) = one-answer (wire.number == n) (octets_in reply)
 deed-answers n wire (Lost shut) = sym (nothing-on (wire.number == n))
 deed-answers n wire (Closed shut) = sym (nothing-on (wire.number == n))
 deed-answers n wire (Heard octets reply) = one-answer (wire.number == n) (octets_in reply)
 deed-answers n wire Silent = sym (nothing-on (wire.number == n))
+deed-answers n wire (Pulled reply) = one-answer (wire.number == n) (octets_in reply)
 deed-answers n wire (Left came reply shut) = one-answer (wire.number == n) (octets_in reply)
 
 round-answers : (n : ℕ) (done : List Done) → answers n (flat_map steps_of done) ≡ done_on n answered_in done
@@ -201,10 +211,11 @@ acts-gone n h (Turned t ∷ acts) cut are fits gone =
 acts-gone n h (Ordered event reply ∷ acts) cut are fits gone = acts-gone n h acts cut are.1 fits gone
 
 -- an order is on no connection
-order-answer : (n : ℕ) (event : Event) (reply : Reply) → IsOrder event → answer_at n (record { event = event; reply = reply }) ≡ []
+order-answer : (n : ℕ) (event : Event) (reply : Reply) → IsOrder event → answer_at n (Answered event reply) ≡ []
 order-answer n (Open number) reply h = absurd h
 order-answer n (Piece number octets) reply h = absurd h
 order-answer n (End number) reply h = absurd h
+order-answer n (Pull number) reply h = absurd h
 order-answer n (Schedule inst octets) reply h = refl
 order-answer n (Withdraw inst id) reply h = refl
 

@@ -5,7 +5,7 @@ use Rattle.std.proofs.lemmas.List.{append-nil, take-append-drop}
 use Rattle.dq_wires.specs.declared.limits.TheConstants.{MOST_WIRES}
 use Rattle.dq_wires.specs.Held.{Held, new_held}
 use Rattle.dq_wires.specs.Deeds.{Deed, IsDue, deed_after}
-use Rattle.dq_wires.specs.Deeds.Deed.{Sent, Broke, Lost, Closed, Heard, Silent, Left}
+use Rattle.dq_wires.specs.Deeds.Deed.{Sent, Broke, Lost, Closed, Heard, Silent, Pulled, Left}
 use Rattle.dq_wires.specs.Turns.{Done, wire_of, kept_of, Hold, greatest_number, Taking, IsTaking, with_taken, Turn, IsTurn, after_turn, AreTurns, after_turns}
 use Rattle.dq_wires.specs.Turns.Taking.{Full, Nobody, Came}
 use Rattle.dq_wires.specs.Octets.{answered_in, written_in, lost_in, unsent_of, RisesTo, IsNumbered}
@@ -18,6 +18,7 @@ deed-conserves wire (Lost shut) due = refl
 deed-conserves wire (Closed shut) due = rw due.0 refl
 deed-conserves wire (Heard octets reply) due = rw due.0.0 refl
 deed-conserves wire Silent due = refl
+deed-conserves wire (Pulled reply) due = rw due.0 refl
 deed-conserves wire (Left came reply shut) due = rw due.0.0 refl
 
 -- a connection is kept under its number, or not at all
@@ -28,6 +29,7 @@ kept-or-not wire (Lost shut) = inl refl
 kept-or-not wire (Closed shut) = inl refl
 kept-or-not wire (Heard octets reply) = inr (_, refl, refl)
 kept-or-not wire Silent = inr (_, refl, refl)
+kept-or-not wire (Pulled reply) = inr (_, refl, refl)
 kept-or-not wire (Left came reply shut) = inl refl
 
 pub rises-lower : (held : List Held) (low less high : ℕ) → less ≤ low → RisesTo low high held → RisesTo less high held

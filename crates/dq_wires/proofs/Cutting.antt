@@ -14,9 +14,10 @@ use Rattle.dq_tables.specs.Rows.{Record, Edit, edited_all}
 use Rattle.dq_core.specs.declared.event.Event.{Event}
 use Rattle.dq_core.specs.declared.event.Event.TheVariants as event
 use Rattle.dq_core.specs.declared.event.Reply.TheVariants as reply
-use Rattle.dq_core.specs.Answers.{Progress, Answer, then_answer, answer_after, answer, answers, request_in, piece_answer, verdict_at, progress_of, inputs_added}
-use Rattle.dq_core.specs.Connections.{Connection, new_connection, with_piece, connection_in, without, with_connection, after_piece}
-use Rattle.dq_core.specs.Alone.{AloneWorld, AloneTurn, alone_quiet, alone_live, alone_answer, alone_answer_turn, alone_piece, alone_end, alone_turn, alone_after_turn, alone_replies_from}
+use Rattle.dq_core.specs.Pages.{OpenQuery, next_page}
+use Rattle.dq_core.specs.Answers.{Progress, Answer, then_answer, answer_after, answer, answers, request_in, piece_answer, verdict_at, progress_of, inputs_added, after_piece}
+use Rattle.dq_core.specs.Connections.{Connection, new_connection, with_piece, with_query, connection_in, without, with_connection}
+use Rattle.dq_core.specs.Alone.{AloneWorld, AloneTurn, alone_quiet, alone_live, alone_answer, alone_answer_turn, alone_piece, alone_end, alone_pull, alone_turn, alone_after_turn, alone_replies_from}
 use Rattle.dq_core.specs.Own.{is_on_connection, replies_at}
 use Rattle.dq_core.specs.Histories.{is_above, rises_from}
 use Rattle.dq_wires.specs.Held.{octets_in}
@@ -25,15 +26,15 @@ use Rattle.dq_wires.proofs.Answering.{octets-chosen}
 
 -- the laws of the crates below
 abbrev pub Joins : Type 0
-Joins = (limits : Limits) (verdict : Verdict) (records : List Record) (stream first second : List ℕ)
-    → let front = piece_answer limits verdict records stream first in
-    piece_answer limits verdict records stream (first ++ second)
-    ≡ then_answer front (piece_answer limits verdict front.next.records (stream ++ first) second)
+Joins = (limits : Limits) (verdict : Verdict) (records : List Record) (c : Connection) (first second : List ℕ)
+    → let front = piece_answer limits verdict records c first in
+    piece_answer limits verdict records c (first ++ second)
+    ≡ then_answer front (piece_answer limits verdict front.next.records (with_piece c first front.next.query) second)
 
 abbrev pub OfRequest : Type 0
-OfRequest = (limits : Limits) (verdict other : Verdict) (records : List Record) (stream piece : List ℕ) (request : Request)
-    → request_in (inputs stream) ≡ Some request
-    → piece_answer limits verdict records stream piece ≡ piece_answer limits other records stream piece
+OfRequest = (limits : Limits) (verdict other : Verdict) (records : List Record) (c : Connection) (piece : List ℕ) (request : Request)
+    → request_in (inputs c.stream) ≡ Some request
+    → piece_answer limits verdict records c piece ≡ piece_answer limits other records c piece
 
 abbrev pub Adds : Type 0
 Adds = (stream more : List ℕ) → (added : List Input) × (inputs (stream ++ more) ≡ inputs stream ++ added)
@@ -114,6 +115,7 @@ formed newest (event.Open n ∷ events) h =
     let p = both (is_above newest n) (rises_from (Some n) events) h in (above newest n p.0, formed (Some n) events p.1)
 formed newest (event.Piece n piece ∷ events) h = formed newest events h
 formed newest (event.End n ∷ events) h = formed newest events h
+formed newest (event.Pull n ∷ events) h = formed newest events h
 formed newest (event.Schedule inst octets ∷ events) h = formed newest events h
 formed newest (event.Withdraw inst id ∷ events) h = formed newest events h
 
@@ -122,6 +124,7 @@ formed-lower top less [] h f = tt
 formed-lower top less (event.Open n ∷ events) h f = (omega (arith, f.0), f.1)
 formed-lower top less (event.Piece n piece ∷ events) h f = formed-lower top less events h f
 formed-lower top less (event.End n ∷ events) h f = formed-lower top less events h f
+formed-lower top less (event.Pull n ∷ events) h f = formed-lower top less events h f
 formed-lower top less (event.Schedule inst octets ∷ events) h f = formed-lower top less events h f
 formed-lower top less (event.Withdraw inst id ∷ events) h f = formed-lower top less events h f
 
@@ -138,6 +141,10 @@ formed-among mine top (event.Piece n piece ∷ events) f = kept (mine (event.Pie
   kept false later = later
 formed-among mine top (event.End n ∷ events) f = kept (mine (event.End n)) (formed-among mine top events f) where
   kept : (b : Bool) → Formed top (filter mine events) → Formed top (if b then event.End n ∷ filter mine events else filter mine events)
+  kept true later = later
+  kept false later = later
+formed-among mine top (event.Pull n ∷ events) f = kept (mine (event.Pull n)) (formed-among mine top events f) where
+  kept : (b : Bool) → Formed top (filter mine events) → Formed top (if b then event.Pull n ∷ filter mine events else filter mine events)
   kept true later = later
   kept false later = later
 formed-among mine top (event.Schedule inst octets ∷ events) f = kept (mine (event.Schedule inst octets)) (formed-among mine top events f) where
@@ -253,7 +260,7 @@ closed-piece : (c : Connection) (piece : List ℕ) (a : Answer) (cs : List Conne
 closed-piece c piece a cs e = rw e refl
 
 open-piece : (c : Connection) (piece : List ℕ) (a : Answer) (cs : List Connection) → a.close ≡ false
-    → after_piece c piece a cs ≡ with_connection (with_piece c piece) cs
+    → after_piece c piece a cs ≡ with_connection (with_piece c piece a.next.query) cs
 open-piece c piece a cs e = rw e refl
 
 abbrev with_records : List Connection → List Record → AloneWorld
@@ -313,13 +320,13 @@ module _ (joins : Joins) (of_request : OfRequest) (adds : Adds) (limits : Limits
     now = verdict_at limits.associations (alone_live world.connections)
 
     abbrev front : Answer
-    front = piece_answer limits now world.records c.stream a
+    front = piece_answer limits now world.records c a
 
     abbrev more : Connection
-    more = with_piece c a
+    more = with_piece c a front.next.query
 
     abbrev later : Answer
-    later = piece_answer limits now front.next.records (c.stream ++ a) b
+    later = piece_answer limits now front.next.records more b
 
     abbrev whole : AloneTurn
     whole = alone_answer_turn world c (a ++ b) (then_answer front later)
@@ -345,13 +352,13 @@ module _ (joins : Joins) (of_request : OfRequest) (adds : Adds) (limits : Limits
 
     -- the verdict is the same one, or it is not read
     verdict-at : (request : Option Request) → request_in (inputs (c.stream ++ a)) ≡ request → (records : List Record)
-        → piece_answer limits (verdict_at limits.associations (alone_live (with_connection more world.connections))) records (c.stream ++ a) b
-        ≡ piece_answer limits now records (c.stream ++ a) b
-    verdict-at (Some request) e records = of_request limits _ now records (c.stream ++ a) b request e
+        → piece_answer limits (verdict_at limits.associations (alone_live (with_connection more world.connections))) records more b
+        ≡ piece_answer limits now records more b
+    verdict-at (Some request) e records = of_request limits _ now records more b request e
     verdict-at None e records =
         let before : request_in (inputs c.stream) ≡ None =
         (let added = adds c.stream a in none-before (inputs c.stream) added.0 (rw added.1 at e)) in
-        ap (λ (n : ℕ). piece_answer limits (verdict_at limits.associations n) records (c.stream ++ a) b)
+        ap (λ (n : ℕ). piece_answer limits (verdict_at limits.associations n) records more b)
         (same-live more c world.connections held-own e before)
 
     there : front.close ≡ false → after_piece c a front world.connections ≡ with_connection more world.connections
@@ -367,8 +374,9 @@ module _ (joins : Joins) (of_request : OfRequest) (adds : Adds) (limits : Limits
         ∙ sym (closed-piece more b later (after_piece c a front world.connections) f)
     same-connections e false f =
         open-piece c (a ++ b) together world.connections f
-        ∙ ap (λ (stream : List ℕ). with_connection (record c { stream = stream }) world.connections) (sym (append_assoc c.stream a b))
-        ∙ sym (with-with more (with_piece more b) world.connections refl) ∙ ap (with_connection (with_piece more b)) (sym (there e))
+        ∙ ap (λ (stream : List ℕ). with_connection (record c { stream = stream; query = later.next.query }) world.connections) (sym (append_assoc c.stream a b))
+        ∙ sym (with-with more (with_piece more b later.next.query) world.connections refl)
+        ∙ ap (with_connection (with_piece more b later.next.query)) (sym (there e))
         ∙ sym (open-piece more b later (after_piece c a front world.connections) f)
 
     two-open : front.close ≡ false → Two world m b whole first
@@ -379,11 +387,11 @@ module _ (joins : Joins) (of_request : OfRequest) (adds : Adds) (limits : Limits
         ap (connection_in m) (there e) ∙ ap (λ (n : ℕ). connection_in n (with_connection more world.connections)) (sym (found m world.connections c held))
         ∙ found-with more c world.connections held-own in
         let records : mid.records ≡ front.next.records =
-        sym (answers-records limits now (progress_of c.stream world.records) (inputs_added c.stream a)) in
+        sym (answers-records limits now (progress_of c world.records) (inputs_added c.stream a)) in
         let answered : alone_answer limits mid more b ≡ later =
-        ap (λ (cs : List Connection). piece_answer limits (verdict_at limits.associations (alone_live cs)) mid.records (c.stream ++ a) b) (there e)
+        ap (λ (cs : List Connection). piece_answer limits (verdict_at limits.associations (alone_live cs)) mid.records more b) (there e)
         ∙ ap (λ (rs : List Record). piece_answer limits (verdict_at limits.associations (alone_live (with_connection more world.connections))) rs
-        (c.stream ++ a) b) records
+        more b) records
         ∙ verdict-at (request_in (inputs (c.stream ++ a))) refl front.next.records in
         let next : alone_turn limits mid (event.Piece m b) ≡ alone_answer_turn mid more b later =
         turn-some mid m b more found-more ∙ ap (alone_answer_turn mid more b) answered in
@@ -394,7 +402,7 @@ module _ (joins : Joins) (of_request : OfRequest) (adds : Adds) (limits : Limits
 
     two-held : Two world m b (alone_turn limits world (event.Piece m (a ++ b))) (alone_turn limits world (event.Piece m a))
     two-held =
-        move world m b (turn-some world m (a ++ b) c held ∙ ap (alone_answer_turn world c (a ++ b)) (joins limits now world.records c.stream a b))
+        move world m b (turn-some world m (a ++ b) c held ∙ ap (alone_answer_turn world c (a ++ b)) (joins limits now world.records c a b))
         (turn-some world m a c held) (by front.close refl)
       where
         by : (close : Bool) → front.close ≡ close → Two world m b whole first
@@ -442,6 +450,7 @@ module _ (joins : Joins) (of_request : OfRequest) (adds : Adds) (limits : Limits
   joined-first n world top rises m octets [] = refl
   joined-first n world top rises m octets (event.Open k ∷ events) = refl
   joined-first n world top rises m octets (event.End k ∷ events) = refl
+  joined-first n world top rises m octets (event.Pull k ∷ events) = refl
   joined-first n world top rises m octets (event.Schedule inst entry ∷ events) = refl
   joined-first n world top rises m octets (event.Withdraw inst id ∷ events) = refl
   joined-first n world top rises m octets (event.Piece k more ∷ events) = by (k == m) refl where
@@ -451,24 +460,24 @@ module _ (joins : Joins) (of_request : OfRequest) (adds : Adds) (limits : Limits
     by false t = rw t refl
 
   -- the connections after an event
-  abbrev top_after : ℕ → Event → ℕ
-  top_after top (event.Open n) = n + 1
-  top_after top (event.Piece n piece) = top
-  top_after top (event.End n) = top
-  top_after top (event.Schedule inst octets) = top
-  top_after top (event.Withdraw inst id) = top
-
   rises-piece : (world : AloneWorld) (top : ℕ) → RisesFrom 0 world.connections top → (n : ℕ) (piece : List ℕ) (o : Option Connection)
       → RisesFrom 0 (alone_piece limits world piece o).connections top
   rises-piece world top rises n piece None = rises
   rises-piece world top rises n piece (Some c) = by (alone_answer limits world c piece).close where
-    by : (b : Bool) → RisesFrom 0 (if b then without c.number world.connections else with_connection (with_piece c piece) world.connections) top
+    abbrev left : Option OpenQuery
+    left = (alone_answer limits world c piece).next.query
+
+    by : (b : Bool) → RisesFrom 0 (if b then without c.number world.connections else with_connection (with_piece c piece left) world.connections) top
     by true = rises-without c.number world.connections 0 top rises
-    by false = rises-with (with_piece c piece) world.connections 0 top rises
+    by false = rises-with (with_piece c piece left) world.connections 0 top rises
 
   rises-end : (world : AloneWorld) (top : ℕ) → RisesFrom 0 world.connections top → (o : Option Connection) → RisesFrom 0 (alone_end world o).connections top
   rises-end world top rises None = rises
   rises-end world top rises (Some c) = rises-without c.number world.connections 0 top rises
+
+  rises-pull : (world : AloneWorld) (top : ℕ) → RisesFrom 0 world.connections top → (o : Option Connection) → RisesFrom 0 (alone_pull world o).connections top
+  rises-pull world top rises None = rises
+  rises-pull world top rises (Some c) = rises-with (with_query (next_page c.query).query c) world.connections 0 top rises
 
   pub joined-octets : (n : ℕ) (world : AloneWorld) (top : ℕ) (events : List Event) → RisesFrom 0 world.connections top → Formed top events
       → octets_from limits n world (joined events) ≡ octets_from limits n world events
@@ -490,6 +499,12 @@ module _ (joins : Joins) (of_request : OfRequest) (adds : Adds) (limits : Limits
       ∙ ap (λ rest. (if m == n then octets_in t.reply else []) ++ rest)
       (joined-octets n (alone_after_turn world t) top events (rises-end world top rises (connection_in m world.connections)) f)
       ∙ sym (octets-cons n world (event.End m) events)
+  joined-octets n world top (event.Pull m ∷ events) rises f =
+      let t = alone_turn limits world (event.Pull m) in
+      octets-cons n world (event.Pull m) (joined events)
+      ∙ ap (λ rest. (if m == n then octets_in t.reply else []) ++ rest)
+      (joined-octets n (alone_after_turn world t) top events (rises-pull world top rises (connection_in m world.connections)) f)
+      ∙ sym (octets-cons n world (event.Pull m) events)
   joined-octets n world top (event.Schedule inst octets ∷ events) rises f =
       joined-octets n (alone_after_turn world (alone_turn limits world (event.Schedule inst octets))) top events rises f
   joined-octets n world top (event.Withdraw inst id ∷ events) rises f =

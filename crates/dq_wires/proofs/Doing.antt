@@ -2,7 +2,7 @@
 use Rattle.std.proofs.Common.{◌≡◌, ◌≤◌, ℕ, true, false, List, [], ◌∷◌, length, drop, Option, Some, Result, Ok, Err, refl, sym, ap, inl, inr}
 use Rattle.std.specs.Result.{IfErr, result_err}
 use Rattle.dq_core.specs.declared.event.Event.{Event}
-use Rattle.dq_core.specs.declared.event.Event.TheVariants.{Piece, End}
+use Rattle.dq_core.specs.declared.event.Event.TheVariants.{Piece, End, Pull}
 use Rattle.dq_core.specs.declared.event.Reply.{Reply}
 use Rattle.dq_core.specs.declared.fault.Fault.{Fault}
 use Rattle.dq_wires.specs.declared.calls.Call.{Call}
@@ -13,11 +13,12 @@ use Rattle.dq_wires.specs.declared.fault.TurnFault.{TurnFault}
 use Rattle.dq_wires.specs.declared.limits.TheConstants.{READ_MOST}
 use Rattle.dq_wires.specs.Logs.{Logs}
 use Rattle.dq_wires.specs.Held.{Held}
-use Rattle.dq_wires.specs.Steps.{Runs, Stops}
+use Rattle.dq_wires.specs.Steps.{Step, Runs, Stops}
+use Rattle.dq_wires.specs.Steps.Step.{Answered, Asked}
 use Rattle.dq_wires.specs.Deeds.{Shutting, IsSending, IsListening, IsEnd, failed}
-use Rattle.dq_wires.specs.Deeds.Deed.{Sent, Broke, Lost, Closed, Heard, Silent, Left}
-use Rattle.dq_wires.specs.Deeds.Break.{Unkept, Unanswered, Unended, Unbroken}
-use Rattle.dq_wires.specs.Going.{Ends, Hears, FailsToHear, Went, WentOff}
+use Rattle.dq_wires.specs.Deeds.Deed.{Sent, Broke, Lost, Closed, Heard, Silent, Pulled, Left}
+use Rattle.dq_wires.specs.Deeds.Break.{Unkept, Unanswered, Unpulled, Unended, Unbroken}
+use Rattle.dq_wires.specs.Going.{Ends, Hears, Pulls, Waits, FailsToHear, Went, WentOff}
 use Rattle.dq_wires.proofs.Logging.{logs-then}
 
 -- what holds of a fault that a call handed on
@@ -25,12 +26,11 @@ pub handed-on : {A : Type 0} (r : Result A TurnFault) {fault : TurnFault} (P : T
 handed-on (Ok a) P e p = tt
 handed-on (Err f) {fault} P e p = let same : f ≡ fault = cc in rw same p
 
--- one event
-run-one : {State : Type 0} (Goes : State → State → Event → Reply → Type 0) {old new : State} (event : Event) (reply : Reply) → Goes old new event reply
-    → Runs Goes old new (record { event = event; reply = reply } ∷ [])
-run-one Goes {old} {new} event reply goes = (new, goes, refl)
+-- one step
+run-one : {State : Type 0} (Goes : State → State → Step → Type 0) {old new : State} (s : Step) → Goes old new s → Runs Goes old new (s ∷ [])
+run-one Goes {old} {new} s goes = (new, goes, refl)
 
-module _ {State : Type 0} {Goes : State → State → Event → Reply → Type 0} {before after : Option (List Call)} {old : State} {wire : Held} where
+module _ {State : Type 0} {Goes : State → State → Step → Type 0} {before after : Option (List Call)} {old : State} {wire : Held} where
   pub went-sent : (next : Held) (place : ℕ) (offered : List ℕ) (count : ℕ) → place ≡ wire.place → offered ≡ wire.unsent → IsSending wire
       → count ≤ length offered → Logs before after (Write place offered (Ok count)) → next ≡ record wire { unsent = drop count wire.unsent }
       → Went Goes before after old old wire next true
@@ -58,12 +58,24 @@ module _ {State : Type 0} {Goes : State → State → Event → Reply → Type 0
   went-closed next place answer sent closed at told =
       record { deed = Closed answer; due = (sent, closed); calls = rw at at told; steps = refl; kept = refl }
 
-  pub went-silent : (place room : ℕ) → IsListening wire → place ≡ wire.place → room ≡ READ_MOST
-      → Logs before after (Read place room came.Nothing) → Went Goes before after old old wire wire true
-  went-silent place room listening at all told =
-      record { deed = Silent; due = listening; calls = rw (at, all) at told; steps = refl; kept = refl }
-
   module _ {new : State} where
+    pub went-waiting : (next : Held) (place room : ℕ) → IsListening wire → place ≡ wire.place → room ≡ READ_MOST
+        → Logs before after (Read place room came.Nothing) → Waits Goes old new wire next → Went Goes before after old new wire next true
+    went-waiting next place room listening at all told (inl silent) = record {
+      deed = Silent;
+      due = listening;
+      calls = rw (at, all) at told;
+      steps = run-one Goes (Asked wire.number false) silent.0;
+      kept = ap (λ (w : Held). w ∷ []) (sym silent.1);
+    }
+    went-waiting next place room listening at all told (inr pulls) = record {
+      deed = Pulled pulls.reply;
+      due = listening;
+      calls = rw (at, all) at told;
+      steps = (pulls.mid, pulls.is_open, run-one Goes (Answered (Pull wire.number) pulls.reply) pulls.goes);
+      kept = ap (λ (w : Held). w ∷ []) (sym pulls.kept);
+    }
+
     pub went-broke : (mid : Option (List Call)) (next : Held) (place : ℕ) (offered : List ℕ) → place ≡ wire.place → offered ≡ wire.unsent
         → IsSending wire → wire.closed ≡ false → Logs before mid (Write place offered failed) → Ends Goes mid after old new wire
         → Went Goes before after old new wire next false
@@ -71,7 +83,7 @@ module _ {State : Type 0} {Goes : State → State → Event → Reply → Type 0
       deed = Broke ends.reply ends.answer;
       due = (sending, unclosed);
       calls = logs-then before mid after (Write wire.place wire.unsent failed ∷ []) (Shut wire.place ends.answer ∷ []) (rw (at, all) at told) ends.calls;
-      steps = run-one Goes (End wire.number) ends.reply ends.goes;
+      steps = run-one Goes (Answered (End wire.number) ends.reply) ends.goes;
       kept = refl;
     }
 
@@ -82,7 +94,7 @@ module _ {State : Type 0} {Goes : State → State → Event → Reply → Type 0
       deed = Heard octets hears.reply;
       due = (listening, bound);
       calls = rw (at, all) at told;
-      steps = run-one Goes (Piece wire.number octets) hears.reply hears.goes;
+      steps = run-one Goes (Answered (Piece wire.number octets) hears.reply) hears.goes;
       kept = ap (λ (w : Held). w ∷ []) (sym hears.kept);
     }
 
@@ -93,7 +105,7 @@ module _ {State : Type 0} {Goes : State → State → Event → Reply → Type 0
       deed = Left came ends.reply ends.answer;
       due = (listening, ended);
       calls = logs-then before mid after (Read wire.place READ_MOST came ∷ []) (Shut wire.place ends.answer ∷ []) (rw (at, all) at told) ends.calls;
-      steps = run-one Goes (End wire.number) ends.reply ends.goes;
+      steps = run-one Goes (Answered (End wire.number) ends.reply) ends.goes;
       kept = refl;
     }
 
@@ -105,6 +117,12 @@ module _ {State : Type 0} {Fails : State → State → Event → Fault → Type 
       record { at = Unkept octets; fits = (listening, bound); calls = rw (at, all) at told; stops = unkept }
   off-unheard place room octets listening bound at all told (inr unanswered) =
       record { at = Unanswered octets; fits = (listening, bound); calls = rw (at, all) at told; stops = unanswered }
+
+  pub off-unpulled : (place room : ℕ) → IsListening wire → place ≡ wire.place → room ≡ READ_MOST
+      → Logs before after (Read place room came.Nothing) → Stops Fails old new (Some (Pull wire.number)) fault
+      → WentOff Fails before after old new wire fault
+  off-unpulled place room listening at all told stops =
+      record { at = Unpulled; fits = listening; calls = rw (at, all) at told; stops = stops }
 
   pub off-unended : (place room : ℕ) (came : Came) → IsListening wire → IsEnd came → place ≡ wire.place → room ≡ READ_MOST
       → Logs before after (Read place room came) → Stops Fails old new (Some (End wire.number)) fault

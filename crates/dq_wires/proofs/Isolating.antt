@@ -29,6 +29,7 @@ use Rattle.dq_core.specs.Renumbering.{KeepsOrder, renumbered, renumbered_reply}
 use Rattle.dq_core.specs.Standing.{Standing}
 use Rattle.dq_wires.specs.Held.{octets_in}
 use Rattle.dq_wires.specs.Steps.{Step, events_of, replies_of}
+use Rattle.dq_wires.specs.Steps.Step.{Answered, Asked}
 use Rattle.dq_wires.specs.Turns.{Cut}
 use Rattle.dq_wires.specs.Serving.{Serves}
 use Rattle.dq_wires.specs.Servings.{Act, nothing_held, Served, served_steps, served_done, served_events, written_on, answered_on, IsFrontOf, OneBegins}
@@ -59,7 +60,8 @@ at-more p (e ∷ events) (r ∷ some) later = by (p e) (at-more p events some la
 at-steps : (p : Event → Bool) (steps : List Step) (later : List Event)
     → replies_at p (events_of steps ++ later) (replies_of steps) ≡ replies_at p (events_of steps) (replies_of steps)
 at-steps p [] later = at-none p later
-at-steps p (s ∷ steps) later = ap (λ rs. if p s.event then s.reply ∷ rs else rs) (at-steps p steps later)
+at-steps p (Answered event reply ∷ steps) later = ap (λ rs. if p event then reply ∷ rs else rs) (at-steps p steps later)
+at-steps p (Asked number pending ∷ steps) later = at-steps p steps later
 
 -- Where all events that pass a test pass another, the replies at them are found among those at the others.
 at-among : (p mine : Event → Bool) → ((e : Event) → p e ≡ true → mine e ≡ true) → (events : List Event) (given : List Reply)
@@ -104,6 +106,7 @@ module _ (another : ℕ → ℕ) (keeps : KeepsOrder another) where
   same-on n (event.Open m) = same-at m n (cases_order m n)
   same-on n (event.Piece m piece) = same-at m n (cases_order m n)
   same-on n (event.End m) = same-at m n (cases_order m n)
+  same-on n (event.Pull m) = same-at m n (cases_order m n)
   same-on n (event.Schedule inst octets) = refl
   same-on n (event.Withdraw inst id) = refl
 
@@ -116,6 +119,7 @@ module _ (institutions : List Institution) (name : List ℕ) (events : List Even
   own-within (event.Open m) h = own-number m h
   own-within (event.Piece m piece) h = own-number m h
   own-within (event.End m) h = own-number m h
+  own-within (event.Pull m) h = own-number m h
   own-within (event.Schedule inst octets) h = cc
   own-within (event.Withdraw inst id) h = cc
 

@@ -1,10 +1,11 @@
 -- Steps after a look are steps from before it.
-use Rattle.std.proofs.Common.{List, [], ◌∷◌, ◌++◌, ◌∙◌, ap, refl}
+use Rattle.std.proofs.Common.{ℕ, Bool, List, [], ◌∷◌, ◌++◌, ◌∙◌, ap, refl}
 use Rattle.std.proofs.lemmas.List.{append-nil}
 use Rattle.dq_config.specs.declared.config.Institution.{Institution}
 use Rattle.dq_tables.specs.Keeping.{State}
 use Rattle.dq_core.specs.declared.event.Event.{Event}
 use Rattle.dq_core.specs.declared.event.Reply.{Reply}
+use Rattle.dq_core.specs.Connections.{is_pending}
 use Rattle.dq_core.specs.Shared.{turn, world_after}
 use Rattle.dq_core.specs.Histories.{newest_after}
 use Rattle.dq_core.specs.Standing.{Standing}
@@ -12,7 +13,8 @@ use Rattle.dq_core.specs.Looking.{Looked}
 use Rattle.dq_core.proofs.Going.{goes-then}
 use Rattle.dq_core.proofs.Looking.{looked-none, looked-then}
 use Rattle.dq_wires.specs.Steps.{Step, Runs}
-use Rattle.dq_wires.specs.Stepping.{Stepped}
+use Rattle.dq_wires.specs.Steps.Step.{Answered, Asked}
+use Rattle.dq_wires.specs.Stepping.{Stepped, Asks, Moves}
 use Rattle.dq_wires.specs.Serving.{Serves}
 use Rattle.dq_wires.specs.Servings.{ComesBy}
 use Rattle.dq_wires.proofs.Histories.{runs-serve}
@@ -33,6 +35,19 @@ module _ {Tables : Type 0} {state : Tables → State} where
     goes = goes-then looked.goes stepped.goes;
   }
 
+  asks-after : {old mid new : Standing Tables} {number : ℕ} {pending : Bool}
+      → Looked state old mid → Asks state mid new number pending → Asks state old new number pending
+  asks-after {number = number} looked asks = record {
+    looked = looked-then looked asks.looked;
+    told = λ rows events stood honest.
+        asks.told rows events (looked.stands rows events stood (asks.looked.goes.was_honest honest)) honest
+        ∙ ap (λ (i : List Institution). is_pending number (world_after i rows events).connections) looked.institutions;
+  }
+
+  moves-after : {old mid new : Standing Tables} (s : Step) → Looked state old mid → Moves state mid new s → Moves state old new s
+  moves-after (Answered event reply) looked moves = stepped-after looked moves
+  moves-after (Asked number pending) looked moves = asks-after looked moves
+
   -- no step, nor a look
   pub comes-none : (server : Standing Tables) → ComesBy state server server []
   comes-none server = record { last = server; runs = refl; looks = looked-none server }
@@ -44,12 +59,12 @@ module _ {Tables : Type 0} {state : Tables → State} where
 
   -- more steps: the looks before them are part of the first
   pub comes-more : (first mid next : Standing Tables) (steps more : List Step)
-      → ComesBy state first mid steps → Runs (Stepped state) mid next more → ComesBy state first next (steps ++ more)
+      → ComesBy state first mid steps → Runs (Moves state) mid next more → ComesBy state first next (steps ++ more)
   comes-more first mid next steps [] comes same =
       record { last = comes.last; runs = rw (append-nil steps) comes.runs; looks = rw same comes.looks }
-  comes-more first mid next steps (s ∷ more) comes (after, stepped, rest) = record {
+  comes-more first mid next steps (s ∷ more) comes (after, moves, rest) = record {
     last = next;
-    runs = runs-then (Stepped state) first comes.last next steps (s ∷ more) comes.runs (after, stepped-after comes.looks stepped, rest);
+    runs = runs-then (Moves state) first comes.last next steps (s ∷ more) comes.runs (after, moves-after s comes.looks moves, rest);
     looks = looked-none next;
   }
 

@@ -6,7 +6,7 @@ use Rattle.std.proofs.lemmas.Grind.{flat_map-append}
 use Rattle.std.proofs.lemmas.Bool.Decides.{nat_tests}
 use Rattle.dq_wires.specs.Held.{Held, new_held}
 use Rattle.dq_wires.specs.Deeds.{Deed, deed_after}
-use Rattle.dq_wires.specs.Deeds.Deed.{Sent, Broke, Lost, Closed, Heard, Silent, Left}
+use Rattle.dq_wires.specs.Deeds.Deed.{Sent, Broke, Lost, Closed, Heard, Silent, Pulled, Left}
 use Rattle.dq_wires.specs.Turns.{Done, wire_of, kept_of, AreDue, Hold, Taking, IsTaking, with_taken, Turn, IsTurn, after_turn, AreTurns, after_turns}
 use Rattle.dq_wires.specs.Turns.Taking.{Full, Nobody, Came}
 use Rattle.dq_wires.specs.Octets.{answered_in, written_in, lost_in, deed_lost, unsent_of, on, held_on, done_on, turns_done, RisesTo, IsNumbered}
@@ -108,6 +108,7 @@ lost-or-kept wire (Lost shut) = inr refl
 lost-or-kept wire (Closed shut) = inl refl
 lost-or-kept wire (Heard octets reply) = inl refl
 lost-or-kept wire Silent = inl refl
+lost-or-kept wire (Pulled reply) = inl refl
 lost-or-kept wire (Left came reply shut) = inr refl
 
 -- nothing was lost on it, or it is not held any more

@@ -1,8 +1,7 @@
 -- What an order of the console leaves, and why an accept failed.
 use Rattle.std.proofs.Common.{◌≡◌, ℕ, IsTrue, List, [], ◌∷◌, ◌++◌, Option, Some, None, refl, sym, ◌∙◌, append_assoc, arith}
 use Rattle.dq_core.specs.declared.event.Event.{Event}
-use Rattle.dq_core.specs.declared.event.Event.TheVariants.{Open, Piece, End, Schedule, Withdraw}
-use Rattle.dq_core.specs.declared.event.Reply.{Reply}
+use Rattle.dq_core.specs.declared.event.Event.TheVariants.{Open, Piece, End, Pull, Schedule, Withdraw}
 use Rattle.dq_core.specs.declared.fault.Fault.{Fault}
 use Rattle.dq_core.specs.Histories.{is_above, newest_after}
 use Rattle.dq_core.specs.Stepping.{Opens}
@@ -11,7 +10,7 @@ use Rattle.dq_wires.specs.declared.calls.Call.TheVariants.{Accept}
 use Rattle.dq_wires.specs.declared.fault.TurnFault.{TurnFault}
 use Rattle.dq_wires.specs.declared.fault.TurnFault.TheVariants.{Network}
 use Rattle.dq_wires.specs.Logs.{LogsAll}
-use Rattle.dq_wires.specs.Steps.{Stops}
+use Rattle.dq_wires.specs.Steps.{Step, Stops}
 use Rattle.dq_wires.specs.Deeds.{break_event}
 use Rattle.dq_wires.specs.Turns.{Hold, Cut, CutStops, refused, cut_calls, all_calls, TurnsCut}
 use Rattle.dq_wires.specs.Turns.Cut.{NoRoom, Unaccepted, Unopened, Midway}
@@ -21,6 +20,7 @@ pub order-opens : (newest : Option ℕ) (event : Event) → IsOrder event → Op
 order-opens newest (Open number) h = absurd h
 order-opens newest (Piece number octets) h = tt
 order-opens newest (End number) h = tt
+order-opens newest (Pull number) h = tt
 order-opens newest (Schedule inst octets) h = tt
 order-opens newest (Withdraw inst id) h = tt
 
@@ -28,6 +28,7 @@ pub order-newest : (newest : Option ℕ) (event : Event) → IsOrder event → n
 order-newest newest (Open number) h = absurd h
 order-newest newest (Piece number octets) h = refl
 order-newest newest (End number) h = refl
+order-newest newest (Pull number) h = refl
 order-newest newest (Schedule inst octets) h = refl
 order-newest newest (Withdraw inst id) h = refl
 
@@ -56,7 +57,7 @@ module _ {State : Type 0} (Fails : State → State → Event → Fault → Type 
       absurd (not-network Fails mid new fault (break_event wire at) stops e)
 
 -- The network failed only where an accept did.
-pub network-unaccepted : {State : Type 0} {Goes : State → State → Event → Reply → Type 0} {Fails : State → State → Event → Fault → Type 0}
+pub network-unaccepted : {State : Type 0} {Goes : State → State → Step → Type 0} {Fails : State → State → Event → Fault → Type 0}
     {before after : Option (List Call)} {old new : State} {from : Hold} {count : ℕ} {fault : TurnFault}
     → TurnsCut Goes Fails before after old new from count fault → fault ≡ Network → EndsUnaccepted after
 network-unaccepted {Fails = Fails} {before = before} {after = after} {new = new} {fault = fault} cut e =

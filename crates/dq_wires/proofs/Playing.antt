@@ -6,13 +6,13 @@ use Rattle.std.specs.Prelude.{slice_index_or, slice_set}
 use Rattle.dq_tables.specs.declared.row.Row.{Row}
 use Rattle.dq_tables.specs.Keeping.{State}
 use Rattle.dq_core.specs.declared.event.Event.{Event}
-use Rattle.dq_core.specs.declared.event.Event.TheVariants.{Open, Piece, End, Schedule, Withdraw}
+use Rattle.dq_core.specs.declared.event.Event.TheVariants.{Open, Piece, End, Pull, Schedule, Withdraw}
 use Rattle.dq_core.specs.declared.event.Reply.{Reply}
 use Rattle.dq_core.specs.Histories.{opened_numbers}
 use Rattle.dq_core.specs.Standing.{Standing, StandsFor}
 use Rattle.dq_wires.specs.declared.calls.Call.{Call}
 use Rattle.dq_wires.specs.declared.looping.Line.{Line}
-use Rattle.dq_wires.specs.Stepping.{Stepped}
+use Rattle.dq_wires.specs.Stepping.{Stepped, Moves}
 use Rattle.dq_wires.specs.Turns.{Hold, Turn, TurnsWent}
 use Rattle.dq_wires.specs.Turners.{Turning, IsOrder}
 use Rattle.dq_wires.specs.Servings.{Act, nothing_held, all_turned, Serving}
@@ -34,6 +34,7 @@ orders_of-append [] more = refl
 orders_of-append (Open number ∷ events) more = orders_of-append events more
 orders_of-append (Piece number octets ∷ events) more = orders_of-append events more
 orders_of-append (End number ∷ events) more = orders_of-append events more
+orders_of-append (Pull number ∷ events) more = orders_of-append events more
 orders_of-append (Schedule inst octets ∷ events) more = ap (λ orders. Schedule inst octets ∷ orders) (orders_of-append events more)
 orders_of-append (Withdraw inst id ∷ events) more = ap (λ orders. Withdraw inst id ∷ orders) (orders_of-append events more)
 
@@ -42,6 +43,7 @@ opened_numbers-append [] more = refl
 opened_numbers-append (Open number ∷ events) more = ap (λ numbers. number ∷ numbers) (opened_numbers-append events more)
 opened_numbers-append (Piece number octets ∷ events) more = opened_numbers-append events more
 opened_numbers-append (End number ∷ events) more = opened_numbers-append events more
+opened_numbers-append (Pull number ∷ events) more = opened_numbers-append events more
 opened_numbers-append (Schedule inst octets ∷ events) more = opened_numbers-append events more
 opened_numbers-append (Withdraw inst id ∷ events) more = opened_numbers-append events more
 
@@ -53,7 +55,7 @@ module _ {Tables : Type 0} {state : Tables → State} where
   }
 
   pub serves-turns : {before after : Option (List Call)} {old new : Turning Tables} {count : ℕ}
-      → TurnsWent (Stepped state) before after old.server new.server old.hold new.hold count → new.fault ≡ None → ServesOn state before after old new []
+      → TurnsWent (Moves state) before after old.server new.server old.hold new.hold count → new.fault ≡ None → ServesOn state before after old new []
   serves-turns {before} {after} {old} {new} {count} went working = record {
     goes = λ rows log first acts serving. (
       all_turned went.turns,

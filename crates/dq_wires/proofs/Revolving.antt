@@ -2,11 +2,11 @@
 use Rattle.std.proofs.Common.{◌≡◌, ◌<◌, ◌+◌, ℕ, List, [], ◌∷◌, ◌++◌, Option, refl, sym, ◌∙◌, ap, length-append}
 use Rattle.std.specs.List.{flat_map}
 use Rattle.dq_core.specs.declared.event.Event.{Event}
-use Rattle.dq_core.specs.declared.event.Reply.{Reply}
 use Rattle.dq_core.specs.declared.fault.Fault.{Fault}
 use Rattle.dq_wires.specs.declared.calls.Call.{Call}
 use Rattle.dq_wires.specs.declared.fault.TurnFault.{TurnFault}
 use Rattle.dq_wires.specs.Held.{Held}
+use Rattle.dq_wires.specs.Steps.{Step}
 use Rattle.dq_wires.specs.Deeds.{break_calls}
 use Rattle.dq_wires.specs.Turns.{calls_of, steps_of, Hold, Turn, IsTurn, turn_calls, turn_steps, taking_calls, taking_steps, after_turn, AreTurns, after_turns, all_calls, all_steps, cut_calls, cut_steps, TurnsWent, TurnsCut}
 use Rattle.dq_wires.specs.Turns.Cut.{Midway}
@@ -25,7 +25,7 @@ after-more : (h : Hold) (turns : List Turn) (t : Turn) → after_turns h (turns 
 after-more h [] t = refl
 after-more h (first ∷ turns) t = after-more (after_turn h first) turns t
 
-module _ {State : Type 0} {Goes : State → State → Event → Reply → Type 0} {before : Option (List Call)} {old : State} {from : Hold} where
+module _ {State : Type 0} {Goes : State → State → Step → Type 0} {before : Option (List Call)} {old : State} {from : Hold} where
   module _ {now after : Option (List Call)} {mid new : State} {h : List Held} {n : ℕ}
       (taken : TakingWent Goes before now old mid from (record { held = h; newest = n })) where
     -- a turn is its beginning and those of the connections

@@ -3,7 +3,6 @@ use Rattle.std.proofs.Common.{◌≡◌, ◌<◌, ◌+◌, ℕ, List, [], ◌∷
 use Rattle.std.specs.List.{flat_map}
 use Rattle.std.proofs.lemmas.List.{append-nil, map-append, flat_map_more}
 use Rattle.dq_core.specs.declared.event.Event.{Event}
-use Rattle.dq_core.specs.declared.event.Reply.{Reply}
 use Rattle.dq_core.specs.declared.fault.Fault.{Fault}
 use Rattle.dq_wires.specs.declared.calls.Call.{Call}
 use Rattle.dq_wires.specs.declared.fault.TurnFault.{TurnFault}
@@ -24,7 +23,7 @@ pub map-more : {X A : Type 0} (f : X → A) (xs : List X) (x : X) → map f (xs 
 map-more f xs x = map-append f xs (x ∷ [])
 
 -- steps, and then others
-pub runs-then : {State : Type 0} (Goes : State → State → Event → Reply → Type 0) (old mid new : State) (first later : List Step)
+pub runs-then : {State : Type 0} (Goes : State → State → Step → Type 0) (old mid new : State) (first later : List Step)
     → Runs Goes old mid first → Runs Goes mid new later → Runs Goes old new (first ++ later)
 runs-then Goes old mid new [] later a b = rw a at b
 runs-then Goes old mid new (s ∷ first) later a b = (a.0, a.1, runs-then Goes a.0 mid new first later a.2 b)
@@ -47,7 +46,7 @@ remove-at [] x rest = refl
 remove-at (y ∷ front) x rest = ap (λ l. y ∷ l) (remove-at front x rest)
 
 -- Some have had their turns. Where the next stands in what is held, the others come after it.
-pub record RoundSo {State : Type 0} (Goes : State → State → Event → Reply → Type 0) (before now : Option (List Call)) (old mid : State) (from held : List Held)
+pub record RoundSo {State : Type 0} (Goes : State → State → Step → Type 0) (before now : Option (List Call)) (old mid : State) (from held : List Held)
     (at : ℕ) : Type 0 where
   pub done : List Done
   pub others : List Held
@@ -58,7 +57,7 @@ pub record RoundSo {State : Type 0} (Goes : State → State → Event → Reply 
   pub holds : held ≡ flat_map kept_of done ++ others
   pub place : at ≡ length (flat_map kept_of done)
 
-module _ {State : Type 0} {Goes : State → State → Event → Reply → Type 0} where
+module _ {State : Type 0} {Goes : State → State → Step → Type 0} where
   pub round-begins : (log : Option (List Call)) (old : State) (from : List Held) → RoundSo Goes log log old old from from 0
   round-begins log old from =
       record { done = []; others = from; each = refl; due = tt; calls = logs-none log; steps = refl; holds = refl; place = refl }

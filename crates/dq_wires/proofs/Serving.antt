@@ -1,13 +1,13 @@
 -- A serving grows by what is asked of a turner.
 use Rattle.std.proofs.Common.{◌≡◌, ◌&&◌, ℕ, Bool, true, IsTrue, List, [], ◌∷◌, ◌++◌, Option, Some, None, refl, sym, ◌∙◌, ap, arith, append_assoc}
 use Rattle.std.specs.List.{flat_map}
-use Rattle.std.proofs.lemmas.List.{append-nil, map-append}
+use Rattle.std.proofs.lemmas.List.{append-nil}
 use Rattle.std.proofs.lemmas.Grind.{flat_map-append}
 use Rattle.std.proofs.lemmas.Bool.Decides.{nat_tests}
 use Rattle.dq_tables.specs.declared.row.Row.{Row}
 use Rattle.dq_tables.specs.Keeping.{State}
 use Rattle.dq_core.specs.declared.event.Event.{Event}
-use Rattle.dq_core.specs.declared.event.Event.TheVariants.{Open, Piece, End, Schedule, Withdraw}
+use Rattle.dq_core.specs.declared.event.Event.TheVariants.{Open, Piece, End, Pull, Schedule, Withdraw}
 use Rattle.dq_core.specs.declared.event.Reply.{Reply}
 use Rattle.dq_core.specs.declared.fault.Fault.{Fault}
 use Rattle.dq_core.specs.Histories.{is_above, rises_from, is_well_formed}
@@ -18,9 +18,10 @@ use Rattle.dq_wires.specs.declared.fault.TurnFault.{TurnFault}
 use Rattle.dq_wires.specs.Logs.{LogsAll}
 use Rattle.dq_wires.specs.Held.{Held}
 use Rattle.dq_wires.specs.Steps.{Step, Runs, events_of}
-use Rattle.dq_wires.specs.Stepping.{Stepped}
+use Rattle.dq_wires.specs.Steps.Step.{Answered, Asked}
+use Rattle.dq_wires.specs.Stepping.{Stepped, Moves}
 use Rattle.dq_wires.specs.Deeds.{Deed, deed_steps}
-use Rattle.dq_wires.specs.Deeds.Deed.{Sent, Broke, Lost, Closed, Heard, Silent, Left}
+use Rattle.dq_wires.specs.Deeds.Deed.{Sent, Broke, Lost, Closed, Heard, Silent, Pulled, Left}
 use Rattle.dq_wires.specs.Turns.{Done, steps_of, Hold, Taking, IsTaking, taking_steps, with_taken, Turn, turn_calls, turn_steps, after_turn, AreTurns, after_turns, all_calls, all_steps, Cut, IsCut, cut_steps, TurnsWent, TurnsCut}
 use Rattle.dq_wires.specs.Turns.Taking.{Full, Nobody, Came}
 use Rattle.dq_wires.specs.Turns.Cut.{NoRoom, Unaccepted, Unopened, Midway}
@@ -67,7 +68,7 @@ module _ {Tables : Type 0} (state : Tables → State) (rows : List Row) where
   module _ (before now after : Option (List Call)) (first mid next : Standing Tables) (hold to : Hold) (acts : List Act) where
     -- by acts that are asked of it from there on
     serving-more : (more : List Act) → Serving state rows before now first mid hold acts → AreActs hold more → to ≡ after_acts hold more
-        → LogsAll now after (flat_map act_calls more) → Runs (Stepped state) mid next (flat_map act_steps more)
+        → LogsAll now after (flat_map act_calls more) → Runs (Moves state) mid next (flat_map act_steps more)
         → Serving state rows before after first next to (acts ++ more)
     serving-more more serving are leaves calls steps = record {
       begins = serving.begins;
@@ -80,7 +81,7 @@ module _ {Tables : Type 0} (state : Tables → State) (rows : List Row) where
     }
 
     pub serving-turns : (count : ℕ) → Serving state rows before now first mid hold acts
-        → (went : TurnsWent (Stepped state) now after mid next hold to count)
+        → (went : TurnsWent (Moves state) now after mid next hold to count)
         → Serving state rows before after first next to (acts ++ all_turned went.turns)
     serving-turns count serving went =
         serving-more (all_turned went.turns) serving (turned-are hold went.turns went.are) (went.leaves ∙ sym (turned-after hold went.turns))
@@ -109,7 +110,7 @@ module _ {Tables : Type 0} (state : Tables → State) (rows : List Row) where
 
   pub serving-cut : {Fails : Standing Tables → Standing Tables → Event → Fault → Type 0} (before now after : Option (List Call))
       (first mid new : Standing Tables) (hold : Hold) (acts : List Act) (count : ℕ) (fault : TurnFault)
-      → Serving state rows before now first mid hold acts → (off : TurnsCut (Stepped state) Fails now after mid new hold count fault)
+      → Serving state rows before now first mid hold acts → (off : TurnsCut (Moves state) Fails now after mid new hold count fault)
       → Served state rows first off.mid (acts ++ all_turned off.turns) off.cut
   serving-cut before now after first mid new hold acts count fault serving off =
       let after : after_acts nothing_held (acts ++ all_turned off.turns) ≡ after_turns hold off.turns =
@@ -135,10 +136,13 @@ deed-rises newest wire (Lost shut) later = refl
 deed-rises newest wire (Closed shut) later = refl
 deed-rises newest wire (Heard octets reply) later = refl
 deed-rises newest wire Silent later = refl
+deed-rises newest wire (Pulled reply) later = refl
 deed-rises newest wire (Left came reply shut) later = refl
 
 events-append : (first later : List Step) → events_of (first ++ later) ≡ events_of first ++ events_of later
-events-append first later = map-append (λ (s : Step). s.event) first later
+events-append [] later = refl
+events-append (Answered event reply ∷ first) later = ap (λ events. event ∷ events) (events-append first later)
+events-append (Asked number pending ∷ first) later = events-append first later
 
 round-rises : (newest : Option ℕ) (done : List Done) (later : List Step)
     → rises_from newest (events_of (flat_map steps_of done ++ later)) ≡ rises_from newest (events_of later)
@@ -179,6 +183,7 @@ acts-rise newest h (Ordered event reply ∷ acts) cut opens are fits = by event 
   by (Open number) order rest = absurd order
   by (Piece number octets) order rest = absurd order
   by (End number) order rest = absurd order
+  by (Pull number) order rest = absurd order
   by (Schedule inst octets) order rest = rest
   by (Withdraw inst id) order rest = rest
 

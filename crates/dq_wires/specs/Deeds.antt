@@ -1,7 +1,7 @@
 -- What is done in the turn of one connection.
 use Rattle.std.specs.Prelude.{◌≡◌, ◌≢◌, ◌≤◌, ℕ, true, false, List, [], ◌∷◌, length, drop, Option, Some, None, Result, Ok, Err}
 use Rattle.dq_core.specs.declared.event.Event.{Event}
-use Rattle.dq_core.specs.declared.event.Event.TheVariants.{Piece, End}
+use Rattle.dq_core.specs.declared.event.Event.TheVariants.{Piece, End, Pull}
 use Rattle.dq_core.specs.declared.event.Reply.{Reply}
 use Rattle.dq_wires.specs.declared.calls.WireFault.{WireFault}
 use Rattle.dq_wires.specs.declared.calls.Came.{Came}
@@ -11,6 +11,7 @@ use Rattle.dq_wires.specs.declared.calls.Call.TheVariants.{Read, Write, Shut}
 use Rattle.dq_wires.specs.declared.limits.TheConstants.{READ_MOST}
 use Rattle.dq_wires.specs.Held.{Held, answered}
 use Rattle.dq_wires.specs.Steps.{Step}
+use Rattle.dq_wires.specs.Steps.Step.{Answered, Asked}
 
 -- what a shut is answered, which is passed over
 abbrev pub Shutting : Type 0
@@ -28,8 +29,10 @@ pub data Deed : Type 0 where
   Closed : Shutting → Deed
   -- octets came and were stepped
   Heard : List ℕ → Reply → Deed
-  -- nothing came
+  -- nothing came, and no C-FIND is open
   Silent : Deed
+  -- nothing came, and a C-FIND is open; the next of its answers were pulled
+  Pulled : Reply → Deed
   -- the peer left; its end was stepped, and it was shut
   Left : Came → Reply → Shutting → Deed
 
@@ -49,7 +52,7 @@ IsEnd came.Ended = Unit {0}
 IsEnd came.Failed = Unit {0}
 
 -- Which connection a deed is for: unsent octets are written, a closed one that has none is shut,
--- and from any other is read.
+-- and from any other is read. Where nothing comes it is asked whether a C-FIND is open.
 abbrev pub IsDue : Held → Deed → Type 0
 IsDue wire (Sent count) = IsSending wire × (count ≤ length wire.unsent)
 IsDue wire (Broke reply shut) = IsSending wire × (wire.closed ≡ false)
@@ -57,6 +60,7 @@ IsDue wire (Lost shut) = IsSending wire × (wire.closed ≡ true)
 IsDue wire (Closed shut) = (wire.unsent ≡ []) × (wire.closed ≡ true)
 IsDue wire (Heard octets reply) = IsListening wire × (length octets ≤ READ_MOST)
 IsDue wire Silent = IsListening wire
+IsDue wire (Pulled reply) = IsListening wire
 IsDue wire (Left came reply shut) = IsListening wire × IsEnd came
 
 -- the failure of a write
@@ -72,20 +76,22 @@ deed_calls wire (Lost shut) = Write wire.place wire.unsent failed ∷ Shut wire.
 deed_calls wire (Closed shut) = Shut wire.place shut ∷ []
 deed_calls wire (Heard octets reply) = Read wire.place READ_MOST (came.Octets octets) ∷ []
 deed_calls wire Silent = Read wire.place READ_MOST came.Nothing ∷ []
+deed_calls wire (Pulled reply) = Read wire.place READ_MOST came.Nothing ∷ []
 deed_calls wire (Left came reply shut) =
     Read wire.place READ_MOST came ∷ Shut wire.place shut ∷ []
 
 abbrev pub stepped : Event → Reply → List Step
-stepped event reply = record { event = event; reply = reply } ∷ []
+stepped event reply = Answered event reply ∷ []
 
--- the events that are stepped, under its own number
+-- the events that are stepped, and what is asked, under its own number
 abbrev pub deed_steps : Held → Deed → List Step
 deed_steps wire (Sent count) = []
 deed_steps wire (Broke reply shut) = stepped (End wire.number) reply
 deed_steps wire (Lost shut) = []
 deed_steps wire (Closed shut) = []
 deed_steps wire (Heard octets reply) = stepped (Piece wire.number octets) reply
-deed_steps wire Silent = []
+deed_steps wire Silent = Asked wire.number false ∷ []
+deed_steps wire (Pulled reply) = Asked wire.number true ∷ stepped (Pull wire.number) reply
 deed_steps wire (Left came reply shut) = stepped (End wire.number) reply
 
 -- the connection afterwards, if it is still held
@@ -96,6 +102,7 @@ deed_after wire (Lost shut) = []
 deed_after wire (Closed shut) = []
 deed_after wire (Heard octets reply) = answered wire reply ∷ []
 deed_after wire Silent = wire ∷ []
+deed_after wire (Pulled reply) = answered wire reply ∷ []
 deed_after wire (Left came reply shut) = []
 
 -- Where the turn of a connection is cut off by a fault.
@@ -104,6 +111,8 @@ pub data Break : Type 0 where
   Unkept : List ℕ → Break
   -- octets came, and the server failed at them
   Unanswered : List ℕ → Break
+  -- nothing came, a C-FIND is open, and the server failed at the pull
+  Unpulled : Break
   -- the peer left, and the server failed at the end
   Unended : Came → Break
   -- the write failed, and the server failed at the end
@@ -112,6 +121,7 @@ pub data Break : Type 0 where
 abbrev pub IsBreak : Held → Break → Type 0
 IsBreak wire (Unkept octets) = IsListening wire × (length octets ≤ READ_MOST)
 IsBreak wire (Unanswered octets) = IsListening wire × (length octets ≤ READ_MOST)
+IsBreak wire Unpulled = IsListening wire
 IsBreak wire (Unended came) = IsListening wire × IsEnd came
 IsBreak wire Unbroken = IsSending wire × (wire.closed ≡ false)
 
@@ -119,6 +129,7 @@ IsBreak wire Unbroken = IsSending wire × (wire.closed ≡ false)
 abbrev pub break_calls : Held → Break → List Call
 break_calls wire (Unkept octets) = Read wire.place READ_MOST (came.Octets octets) ∷ []
 break_calls wire (Unanswered octets) = Read wire.place READ_MOST (came.Octets octets) ∷ []
+break_calls wire Unpulled = Read wire.place READ_MOST came.Nothing ∷ []
 break_calls wire (Unended came) = Read wire.place READ_MOST came ∷ []
 break_calls wire Unbroken = Write wire.place wire.unsent failed ∷ []
 
@@ -126,5 +137,6 @@ break_calls wire Unbroken = Write wire.place wire.unsent failed ∷ []
 abbrev pub break_event : Held → Break → Option Event
 break_event wire (Unkept octets) = None
 break_event wire (Unanswered octets) = Some (Piece wire.number octets)
+break_event wire Unpulled = Some (Pull wire.number)
 break_event wire (Unended came) = Some (End wire.number)
 break_event wire Unbroken = Some (End wire.number)

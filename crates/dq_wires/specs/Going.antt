@@ -1,7 +1,7 @@
 -- How the turn of one connection went. This is there for the prover.
-use Rattle.std.specs.Prelude.{◌≡◌, ◌⊎◌, ℕ, Bool, if◌then◌else◌, List, [], ◌∷◌, Option, Some, None}
+use Rattle.std.specs.Prelude.{◌≡◌, ◌⊎◌, ℕ, Bool, true, false, if◌then◌else◌, List, [], ◌∷◌, Option, Some, None}
 use Rattle.dq_core.specs.declared.event.Event.{Event}
-use Rattle.dq_core.specs.declared.event.Event.TheVariants.{Piece, End}
+use Rattle.dq_core.specs.declared.event.Event.TheVariants.{Piece, End, Pull}
 use Rattle.dq_core.specs.declared.event.Reply.{Reply}
 use Rattle.dq_core.specs.declared.fault.Fault.{Fault}
 use Rattle.dq_wires.specs.declared.calls.Call.{Call}
@@ -9,23 +9,39 @@ use Rattle.dq_wires.specs.declared.calls.Call.TheVariants.{Shut}
 use Rattle.dq_wires.specs.declared.fault.TurnFault.{TurnFault}
 use Rattle.dq_wires.specs.Logs.{Logs, LogsAll}
 use Rattle.dq_wires.specs.Held.{Held, answered}
-use Rattle.dq_wires.specs.Steps.{Runs, Stops}
+use Rattle.dq_wires.specs.Steps.{Step, Runs, Stops}
+use Rattle.dq_wires.specs.Steps.Step.{Answered, Asked}
 use Rattle.dq_wires.specs.Deeds.{Shutting, Deed, IsDue, deed_calls, deed_steps, deed_after, Break, IsBreak, break_calls, break_event}
 
 -- The end of a connection was stepped, and it was shut.
-pub record Ends {State : Type 0} (Goes : State → State → Event → Reply → Type 0)
+pub record Ends {State : Type 0} (Goes : State → State → Step → Type 0)
     (before after : Option (List Call)) (old new : State) (wire : Held) : Type 0 where
   pub reply : Reply
   pub answer : Shutting
-  pub goes : Goes old new (End wire.number) reply
+  pub goes : Goes old new (Answered (End wire.number) reply)
   pub calls : Logs before after (Shut wire.place answer)
 
 -- Octets were stepped, and the connection keeps the answer.
-pub record Hears {State : Type 0} (Goes : State → State → Event → Reply → Type 0)
+pub record Hears {State : Type 0} (Goes : State → State → Step → Type 0)
     (old new : State) (wire next : Held) (octets : List ℕ) : Type 0 where
   pub reply : Reply
-  pub goes : Goes old new (Piece wire.number octets) reply
+  pub goes : Goes old new (Answered (Piece wire.number octets) reply)
   pub kept : next ≡ answered wire reply
+
+-- A C-FIND is open, and was pulled; the connection keeps the answer.
+pub record Pulls {State : Type 0} (Goes : State → State → Step → Type 0)
+    (old new : State) (wire next : Held) : Type 0 where
+  pub mid : State
+  pub reply : Reply
+  pub is_open : Goes old mid (Asked wire.number true)
+  pub goes : Goes mid new (Answered (Pull wire.number) reply)
+  pub kept : next ≡ answered wire reply
+
+-- No C-FIND is open, or it was pulled.
+abbrev pub Waits : {State : Type 0} → (State → State → Step → Type 0) → State → State → Held
+    → Held → Type 0
+Waits Goes old new wire next = (Goes old new (Asked wire.number false) × (next ≡ wire))
+    ⊎ (Pulls Goes old new wire next)
 
 -- There was no memory for the octets, or the server failed at them.
 abbrev pub FailsToHear : {State : Type 0} → (State → State → Event → Fault → Type 0)
@@ -34,7 +50,7 @@ FailsToHear Fails old new wire octets fault = (Stops Fails old new None fault)
     ⊎ (Stops Fails old new (Some (Piece wire.number octets)) fault)
 
 -- A deed was done, and the connection is still held or not.
-pub record Went {State : Type 0} (Goes : State → State → Event → Reply → Type 0)
+pub record Went {State : Type 0} (Goes : State → State → Step → Type 0)
     (before after : Option (List Call)) (old new : State) (wire next : Held)
     (held : Bool) : Type 0 where
   pub deed : Deed

@@ -3,7 +3,7 @@ use Rattle.std.specs.Prelude.{◌≡◌, ℕ, List, [], ◌∷◌, ◌++◌, Opt
 use Rattle.dq_tables.specs.declared.row.Row.{Row}
 use Rattle.dq_tables.specs.Keeping.{State}
 use Rattle.dq_core.specs.declared.event.Event.{Event}
-use Rattle.dq_core.specs.declared.event.Event.TheVariants.{Open, Piece, End, Schedule, Withdraw}
+use Rattle.dq_core.specs.declared.event.Event.TheVariants.{Open, Piece, End, Pull, Schedule, Withdraw}
 use Rattle.dq_core.specs.Standing.{Standing}
 use Rattle.dq_wires.specs.declared.calls.Call.{Call}
 use Rattle.dq_wires.specs.declared.looping.Line.{Line}
@@ -18,6 +18,7 @@ orders_of [] = []
 orders_of (Open number ∷ events) = orders_of events
 orders_of (Piece number octets ∷ events) = orders_of events
 orders_of (End number ∷ events) = orders_of events
+orders_of (Pull number ∷ events) = orders_of events
 orders_of (Schedule inst octets ∷ events) = Schedule inst octets ∷ orders_of events
 orders_of (Withdraw inst id ∷ events) = Withdraw inst id ∷ orders_of events
 

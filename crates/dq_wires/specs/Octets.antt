@@ -4,14 +4,14 @@ use Rattle.std.specs.List.{flat_map}
 use Rattle.dq_wires.specs.declared.calls.Call.{Call}
 use Rattle.dq_wires.specs.declared.calls.Call.TheVariants.{Accept, Read, Write, Shut}
 use Rattle.dq_wires.specs.Held.{Held, octets_in}
-use Rattle.dq_wires.specs.Steps.{Step}
+use Rattle.dq_wires.specs.Steps.{replies_of}
 use Rattle.dq_wires.specs.Deeds.{Deed}
-use Rattle.dq_wires.specs.Deeds.Deed.{Sent, Broke, Lost, Closed, Heard, Silent, Left}
+use Rattle.dq_wires.specs.Deeds.Deed.{Sent, Broke, Lost, Closed, Heard, Silent, Pulled, Left}
 use Rattle.dq_wires.specs.Turns.{Done, calls_of, steps_of, Hold, Turn}
 
 -- those of the replies to its events
 abbrev pub answered_in : Done → List ℕ
-answered_in d = flat_map (λ (s : Step). octets_in s.reply) (steps_of d)
+answered_in d = flat_map octets_in (replies_of (steps_of d))
 
 -- those that a call took
 abbrev pub octets_taken : Call → List ℕ
@@ -32,6 +32,7 @@ deed_lost wire (Lost shut) = wire.unsent
 deed_lost wire (Closed shut) = []
 deed_lost wire (Heard octets reply) = []
 deed_lost wire Silent = []
+deed_lost wire (Pulled reply) = []
 deed_lost wire (Left came reply shut) = octets_in reply
 
 abbrev pub lost_in : Done → List ℕ

@@ -2,18 +2,17 @@
 use Rattle.std.specs.Prelude.{◌≡◌, List, ◌∷◌, ◌++◌, map, Option}
 use Rattle.std.specs.List.{flat_map}
 use Rattle.dq_core.specs.declared.event.Event.{Event}
-use Rattle.dq_core.specs.declared.event.Reply.{Reply}
 use Rattle.dq_core.specs.declared.fault.Fault.{Fault}
 use Rattle.dq_wires.specs.declared.calls.Call.{Call}
 use Rattle.dq_wires.specs.declared.fault.TurnFault.{TurnFault}
 use Rattle.dq_wires.specs.Logs.{LogsAll}
 use Rattle.dq_wires.specs.Held.{Held}
-use Rattle.dq_wires.specs.Steps.{Runs, Stops}
+use Rattle.dq_wires.specs.Steps.{Step, Runs, Stops}
 use Rattle.dq_wires.specs.Deeds.{Break, IsBreak, break_calls, break_event}
 use Rattle.dq_wires.specs.Turns.{Done, wire_of, calls_of, steps_of, kept_of, AreDue, Hold, Taking, IsTaking, taking_calls, taking_steps, with_taken, Turn, IsTurn, turn_calls, turn_steps, after_turn, Cut, IsCut, cut_calls, cut_steps, CutStops}
 
 -- each of these connections had its turn
-pub record RoundWent {State : Type 0} (Goes : State → State → Event → Reply → Type 0)
+pub record RoundWent {State : Type 0} (Goes : State → State → Step → Type 0)
     (before after : Option (List Call)) (old new : State) (from to : List Held) : Type 0 where
   pub done : List Done
   pub each : map wire_of done ≡ from
@@ -23,7 +22,7 @@ pub record RoundWent {State : Type 0} (Goes : State → State → Event → Repl
   pub kept : to ≡ flat_map kept_of done
 
 -- the first had their turns, and that of the next was cut off by a fault
-pub record RoundCut {State : Type 0} (Goes : State → State → Event → Reply → Type 0)
+pub record RoundCut {State : Type 0} (Goes : State → State → Step → Type 0)
     (Fails : State → State → Event → Fault → Type 0) (before after : Option (List Call))
     (old new : State) (from : List Held) (fault : TurnFault) : Type 0 where
   pub done : List Done
@@ -39,7 +38,7 @@ pub record RoundCut {State : Type 0} (Goes : State → State → Event → Reply
   pub stops : Stops Fails mid new (break_event wire at) fault
 
 -- a turn began
-pub record TakingWent {State : Type 0} (Goes : State → State → Event → Reply → Type 0)
+pub record TakingWent {State : Type 0} (Goes : State → State → Step → Type 0)
     (before after : Option (List Call)) (old new : State) (from to : Hold) : Type 0 where
   pub taking : Taking
   pub takes : IsTaking from taking
@@ -48,7 +47,7 @@ pub record TakingWent {State : Type 0} (Goes : State → State → Event → Rep
   pub leaves : to ≡ with_taken from taking
 
 -- one turn
-pub record TurnWent {State : Type 0} (Goes : State → State → Event → Reply → Type 0)
+pub record TurnWent {State : Type 0} (Goes : State → State → Step → Type 0)
     (before after : Option (List Call)) (old new : State) (from to : Hold) : Type 0 where
   pub turn : Turn
   pub is : IsTurn from turn
@@ -57,7 +56,7 @@ pub record TurnWent {State : Type 0} (Goes : State → State → Event → Reply
   pub leaves : to ≡ after_turn from turn
 
 -- one that is cut off
-pub record TurnCut {State : Type 0} (Goes : State → State → Event → Reply → Type 0)
+pub record TurnCut {State : Type 0} (Goes : State → State → Step → Type 0)
     (Fails : State → State → Event → Fault → Type 0) (before after : Option (List Call))
     (old new : State) (from : Hold) (fault : TurnFault) : Type 0 where
   pub cut : Cut

@@ -12,7 +12,7 @@ use Rattle.dq_wires.specs.declared.calls.Call.{Call}
 use Rattle.dq_wires.specs.Logs.{LogsAll}
 use Rattle.dq_wires.specs.Held.{octets_in}
 use Rattle.dq_wires.specs.Steps.{Step, Runs, events_of, replies_of}
-use Rattle.dq_wires.specs.Stepping.{Stepped}
+use Rattle.dq_wires.specs.Stepping.{Moves}
 use Rattle.dq_wires.specs.Deeds.{stepped}
 use Rattle.dq_wires.specs.Turns.{Done, Hold, Turn, IsTurn, turn_calls, turn_steps, after_turn, Cut, IsCut, cut_steps}
 use Rattle.dq_wires.specs.Turns.Cut.{NoRoom, Unaccepted, Unopened, Midway}
@@ -60,7 +60,7 @@ all_turned turns = map (λ (t : Turn). Turned t) turns
 pub record ComesBy {Tables : Type 0} (state : Tables → State) (first now : Standing Tables)
     (steps : List Step) : Type 0 where
   pub last : Standing Tables
-  pub runs : Runs (Stepped state) first last steps
+  pub runs : Runs (Moves state) first last steps
   pub looks : Looked state last now
 
 -- A serving that goes on: by these acts a server that stands for no event, over the rows that are

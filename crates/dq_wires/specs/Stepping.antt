@@ -1,15 +1,19 @@
--- What the server does at one event.
-use Rattle.std.specs.Prelude.{◌≡◌, ◌↔◌, true, false, List, [], ◌∷◌, ◌++◌, Ok, Err}
+-- What the server does at one event, or where it is asked.
+use Rattle.std.specs.Prelude.{◌≡◌, ◌↔◌, ℕ, Bool, true, false, List, [], ◌∷◌, ◌++◌, Ok, Err}
 use Rattle.dq_tables.specs.declared.row.Row.{Row}
 use Rattle.dq_tables.specs.Keeping.{State}
 use Rattle.dq_core.specs.declared.event.Event.{Event}
 use Rattle.dq_core.specs.declared.event.Reply.{Reply}
 use Rattle.dq_core.specs.declared.fault.Fault.{Fault}
 use Rattle.dq_core.specs.declared.fault.Fault.TheVariants.{Store, Stopped}
+use Rattle.dq_core.specs.Connections.{is_pending}
 use Rattle.dq_core.specs.Shared.{turn, world_after}
 use Rattle.dq_core.specs.Histories.{newest_after}
 use Rattle.dq_core.specs.Stepping.{TakesNoMemory, Goes, MayLeave, IsPartOf}
 use Rattle.dq_core.specs.Standing.{Standing, StandsFor}
+use Rattle.dq_core.specs.Looking.{Looked}
+use Rattle.dq_wires.specs.Steps.{Step}
+use Rattle.dq_wires.specs.Steps.Step.{Answered, Asked}
 
 -- It is answered: whatever history the server stands for, the reply is that of the plain server,
 -- and the server then stands for the history with the event.
@@ -25,7 +29,22 @@ pub record Stepped {Tables : Type 0} (state : Tables → State) (old new : Stand
   pub unspent : new.spent ≡ false
   pub goes : Goes (state old.tables) (state new.tables) (Ok reply)
 
--- The server fails at it, after the first of its operations, and is spent. At what takes no memory
+-- It is asked whether a C-FIND is open on a connection: it is as after a look, and the answer is
+-- what the plain server has after whatever history it stands for.
+pub record Asks {Tables : Type 0} (state : Tables → State) (old new : Standing Tables)
+    (number : ℕ) (pending : Bool) : Type 0 where
+  pub looked : Looked state old new
+  pub told : (rows : List Row) (events : List Event) → StandsFor state rows old events
+      → (state new.tables).honest
+      → pending ≡ is_pending number (world_after old.institutions rows events).connections
+
+-- a step
+abbrev pub Moves : {Tables : Type 0} → (Tables → State) → Standing Tables → Standing Tables → Step
+    → Type 0
+Moves state old new (Answered event reply) = Stepped state old new event reply
+Moves state old new (Asked number pending) = Asks state old new number pending
+
+-- The server fails at an event, after the first of its operations, and is spent. At what takes no memory
 -- a server that stands for a history does not fail, and with Store only where its tables failed.
 pub record Fails {Tables : Type 0} (state : Tables → State) (old new : Standing Tables)
     (event : Event) (fault : Fault) : Type 0 where

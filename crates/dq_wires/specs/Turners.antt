@@ -1,7 +1,7 @@
 -- What contracts see of a turner.
 use Rattle.std.specs.Prelude.{◌≡◌, ◌+◌, ℕ, IsTrue, List, [], ◌∷◌, ◌++◌, Option, Some, None, IfSome}
 use Rattle.dq_core.specs.declared.event.Event.{Event}
-use Rattle.dq_core.specs.declared.event.Event.TheVariants.{Open, Piece, End, Schedule, Withdraw}
+use Rattle.dq_core.specs.declared.event.Event.TheVariants.{Open, Piece, End, Pull, Schedule, Withdraw}
 use Rattle.dq_core.specs.Histories.{is_above}
 use Rattle.dq_core.specs.Standing.{Standing}
 use Rattle.dq_wires.specs.declared.calls.Call.{Call}
@@ -24,6 +24,7 @@ abbrev pub IsOrder : Event → Type 0
 IsOrder (Open number) = ⊥
 IsOrder (Piece number octets) = ⊥
 IsOrder (End number) = ⊥
+IsOrder (Pull number) = ⊥
 IsOrder (Schedule inst octets) = Unit {0}
 IsOrder (Withdraw inst id) = Unit {0}
 

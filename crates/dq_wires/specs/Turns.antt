@@ -175,7 +175,7 @@ CutStops Fails old new (Midway taking done wire at) fault =
 
 -- So many turns went to their end: the calls of the wires are exactly theirs, the server was led by
 -- exactly their events with these replies, and what is held afterwards is what they leave.
-pub record TurnsWent {State : Type 0} (Goes : State → State → Event → Reply → Type 0)
+pub record TurnsWent {State : Type 0} (Goes : State → State → Step → Type 0)
     (before after : Option (List Call)) (old new : State) (from to : Hold)
     (count : ℕ) : Type 0 where
   pub turns : List Turn
@@ -187,7 +187,7 @@ pub record TurnsWent {State : Type 0} (Goes : State → State → Event → Repl
 
 -- Fewer turns went to their end, and the next was cut off by a fault: the calls are exactly theirs
 -- and its own up to there, and so are the events that were answered.
-pub record TurnsCut {State : Type 0} (Goes : State → State → Event → Reply → Type 0)
+pub record TurnsCut {State : Type 0} (Goes : State → State → Step → Type 0)
     (Fails : State → State → Event → Fault → Type 0) (before after : Option (List Call))
     (old new : State) (from : Hold) (count : ℕ) (fault : TurnFault) : Type 0 where
   pub turns : List Turn

@@ -17,7 +17,7 @@ ghost use Rattle.dq_wires.specs.declared.limits.TheConstants.{MOST_WIRES};
 ghost use Rattle.dq_wires.specs.Held.{Held};
 ghost use Rattle.dq_wires.specs.Steps.{Step, Runs, replies_of};
 ghost use Rattle.dq_wires.specs.Deeds.{Deed, IsDue};
-ghost use Rattle.dq_wires.specs.Stepping.{Stepped, Fails};
+ghost use Rattle.dq_wires.specs.Stepping.{Stepped, Moves, Fails};
 ghost use Rattle.dq_wires.specs.Serving.{Serves};
 ghost use Rattle.dq_wires.specs.Turns.{Done, kept_of, Hold, Turn, IsTurn, AreTurns, after_turn, after_turns, Cut, TurnsWent, TurnsCut};
 ghost use Rattle.dq_wires.specs.Turns.Cut.{NoRoom};
@@ -38,7 +38,7 @@ use dq_tables::Tables;
 /// server stands for, and its replies are those of the plain server.
 pub fn steps_are_a_history<T: Tables>()
     ensures { (old new : Standing T) (steps : List Step) →
-        Runs (Stepped T.state) old new steps →
+        Runs (Moves T.state) old new steps →
         Serves T.state old new steps }
 {}
 
@@ -87,7 +87,7 @@ pub fn calls_are_a_serving<T: Tables>()
     ensures turns { (rows : List Row) (before now after : Option (List Call))
         (first mid next : Standing T) (hold to : Hold) (acts : List Act) (count : ℕ) →
         Serving T.state rows before now first mid hold acts →
-        (went : TurnsWent (Stepped T.state) now after mid next hold to count) →
+        (went : TurnsWent (Moves T.state) now after mid next hold to count) →
         Serving T.state rows before after first next to (acts ++ all_turned went.turns) }
     ensures order { (rows : List Row) (before now : Option (List Call))
         (first mid next : Standing T) (hold : Hold) (acts : List Act) (event : Event)
@@ -105,7 +105,7 @@ pub fn calls_are_a_serving<T: Tables>()
     ensures cut { (rows : List Row) (before now after : Option (List Call))
         (first mid new : Standing T) (hold : Hold) (acts : List Act) (count : ℕ)
         (fault : TurnFault) → Serving T.state rows before now first mid hold acts →
-        (off : TurnsCut (Stepped T.state) (Fails T.state) now after mid new hold count fault) →
+        (off : TurnsCut (Moves T.state) (Fails T.state) now after mid new hold count fault) →
         Served T.state rows first off.mid (acts ++ all_turned off.turns) off.cut }
 {}
 

@@ -151,14 +151,15 @@ impl<'a, T: Tables, W: Wires, C: Clients<W>> Loopback<'a, T, W, C> {
         Ok(())
     }
 
-    /// Whether what is wanted came to be, nothing is unsent, and the clients have taken all that was
-    /// written.
+    /// Whether what is wanted came to be, no C-FIND is open, nothing is unsent, and the clients have
+    /// taken all that was written.
     fn is_over(&self, opened: u64, wanted: Wanted) -> bool {
         let is_stepped = match wanted {
             Wanted::Read(count) => self.wires.read >= count,
             Wanted::End => false,
         };
         (is_stepped || !self.turner.server().holds(opened))
+            && !self.turner.is_pending()
             && !self.turner.is_sending()
             && self.taken >= self.wires.written
     }
@@ -255,7 +256,8 @@ impl<'a, T: Tables, W: Wires, C: Clients<W>> Loopback<'a, T, W, C> {
         Ok(())
     }
 
-    /// Has an event come about. One of a connection that is not open is passed over.
+    /// Has an event come about. One of a connection that is not open is passed over, and so is a pull:
+    /// turns pull by themselves.
     fn play(
         &mut self,
         lines: &mut Vec<Line<C::Client>>,
@@ -279,6 +281,7 @@ impl<'a, T: Tables, W: Wires, C: Clients<W>> Loopback<'a, T, W, C> {
                 Some(at) => self.end(&mut lines[at]),
                 None => Ok(()),
             },
+            Event::Pull(_) => Ok(()),
             Event::Schedule { inst, octets } => self.order(Event::Schedule { inst, octets }),
             Event::Withdraw { inst, id } => self.order(Event::Withdraw { inst, id }),
         }
@@ -345,7 +348,7 @@ fn sent_on<C: Drop>(alloc: Global, lines: Vec<Line<C>>) -> Result<Vec<Sent>, All
 
 /// Plays the events of a capture over wires, each before the next: clients connect, send octets and
 /// end, until the server has taken it up and they have taken all that was answered; orders go to
-/// the console; an event of a connection that is not open is passed over. The answer is what each
+/// the console; an event of a connection that is not open, and a pull, are passed over. The answer is what each
 /// connection was sent, in the order in which they were opened. `Network` also tells that a client
 /// failed, or that there were more than `MOST_TURNS` turns.
 pub fn loop_back<T: Tables + Drop, W: Wires + Drop, C: Clients<W>>(

@@ -1,7 +1,7 @@
 //! Turns of all connections.
 ghost use Rattle.std.specs.Prelude.{◌≡◌, ◌+◌, length, IsTrue, IfErr, OnOk};
 ghost use Rattle.dq_core.specs.Histories.{is_above};
-ghost use Rattle.dq_wires.specs.Stepping.{Stepped, Fails};
+ghost use Rattle.dq_wires.specs.Stepping.{Moves, Fails};
 ghost use Rattle.dq_wires.specs.Turns.{has_room, TurnsWent, TurnsCut};
 ghost use Rattle.dq_wires.specs.Rounds.{RoundWent, RoundCut, TakingWent, TurnWent, TurnCut};
 
@@ -25,9 +25,9 @@ fn turn_held<T: Tables, W: Wires>(
     buffer: &mut [u8],
 ) -> Result<(), TurnFault>
     requires room { length buffer.old ≡ READ_MOST }
-    ensures went { OnOk result (RoundWent (Stepped T.state) (W.log wires.old)
+    ensures went { OnOk result (RoundWent (Moves T.state) (W.log wires.old)
         (W.log wires.new) server.old server.new held.old.items held.new.items) }
-    ensures cut { IfErr result (RoundCut (Stepped T.state)
+    ensures cut { IfErr result (RoundCut (Moves T.state)
         (Fails T.state) (W.log wires.old) (W.log wires.new) server.old server.new
         held.old.items) }
     ensures newest { OnOk result (server.new.newest ≡ server.old.newest) }
@@ -59,11 +59,11 @@ fn take_wire<T: Tables, W: Wires>(
     wires: &mut W,
 ) -> Result<(), TurnFault>
     requires { IsTrue (is_above server.old.newest (newest.old + 1)) }
-    ensures went { OnOk result (TakingWent (Stepped T.state) (W.log wires.old)
+    ensures went { OnOk result (TakingWent (Moves T.state) (W.log wires.old)
         (W.log wires.new) server.old server.new
         (record { held = held.old.items; newest = newest.old })
         (record { held = held.new.items; newest = newest.new })) }
-    ensures cut { IfErr result (TurnCut (Stepped T.state)
+    ensures cut { IfErr result (TurnCut (Moves T.state)
         (Fails T.state) (W.log wires.old) (W.log wires.new) server.old server.new
         (record { held = held.old.items; newest = newest.old })) }
     ensures opens { OnOk result (IsTrue (is_above server.new.newest (newest.new + 1))) }
@@ -94,11 +94,11 @@ fn turn_once<T: Tables, W: Wires>(
     buffer: &mut Vec<u8>,
 ) -> Result<(), TurnFault>
     requires { IsTrue (is_above server.old.newest (newest.old + 1)) }
-    ensures went { OnOk result (TurnWent (Stepped T.state) (W.log wires.old)
+    ensures went { OnOk result (TurnWent (Moves T.state) (W.log wires.old)
         (W.log wires.new) server.old server.new
         (record { held = held.old.items; newest = newest.old })
         (record { held = held.new.items; newest = newest.new })) }
-    ensures cut { IfErr result (TurnCut (Stepped T.state)
+    ensures cut { IfErr result (TurnCut (Moves T.state)
         (Fails T.state) (W.log wires.old) (W.log wires.new) server.old server.new
         (record { held = held.old.items; newest = newest.old })) }
     ensures opens { OnOk result (IsTrue (is_above server.new.newest (newest.new + 1))) }
@@ -119,11 +119,11 @@ pub(crate) fn turn_times<T: Tables, W: Wires>(
     turns: u64,
 ) -> Result<(), TurnFault>
     requires { IsTrue (is_above server.old.newest (newest.old + 1)) }
-    ensures went { OnOk result (TurnsWent (Stepped T.state) (W.log wires.old)
+    ensures went { OnOk result (TurnsWent (Moves T.state) (W.log wires.old)
         (W.log wires.new) server.old server.new
         (record { held = held.old.items; newest = newest.old })
         (record { held = held.new.items; newest = newest.new }) turns) }
-    ensures cut { IfErr result (TurnsCut (Stepped T.state)
+    ensures cut { IfErr result (TurnsCut (Moves T.state)
         (Fails T.state) (W.log wires.old) (W.log wires.new) server.old server.new
         (record { held = held.old.items; newest = newest.old }) turns) }
     ensures opens { OnOk result (IsTrue (is_above server.new.newest (newest.new + 1))) }

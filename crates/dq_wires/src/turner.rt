@@ -3,7 +3,7 @@ ghost use Rattle.std.specs.Prelude.{◌≡◌, [], length, IsTrue, None, Some, E
 ghost use Rattle.dq_core.specs.Histories.{is_above};
 ghost use Rattle.dq_core.specs.Looking.{Looked, FailsToLook};
 ghost use Rattle.dq_tables.specs.Finding.{rows_of};
-ghost use Rattle.dq_wires.specs.Stepping.{Stepped, Fails};
+ghost use Rattle.dq_wires.specs.Stepping.{Stepped, Moves, Fails};
 ghost use Rattle.dq_wires.specs.Turns.{TurnsWent, TurnsCut};
 ghost use Rattle.dq_wires.specs.Turners.{IsOrder, first_fault, EndsUnaccepted};
 
@@ -79,6 +79,19 @@ impl<T: Tables> Turner<T> {
         self.held.iter().any(|wire| wire.is_sending())
     }
 
+    /// Whether a C-FIND is open.
+    pub(crate) fn is_pending(&self) -> bool {
+        self.held
+            .iter()
+            .any(|wire| self.server.pending(wire.number()))
+    }
+
+    /// Whether octets were answered that were not yet offered. The next turn then has something to
+    /// do, whether or not anything comes.
+    pub fn has_new_answers(&self) -> bool {
+        self.held.iter().any(|wire| wire.is_new())
+    }
+
     /// Steps an order of the console. A fault stops the turner.
     pub fn console(&mut self, event: Event) -> Result<Reply, Fault>
         requires { IsOrder event }
@@ -123,18 +136,19 @@ impl<T: Tables> Turner<T> {
 
 /// So many turns of all connections. In a turn a connection is accepted where there is room, and
 /// then each that is held has its turn, by rising number: unsent octets are written; one that a
-/// reply closed is given up when all is written; from any other is read, and what came is stepped.
-/// A fault stops the turner, and is answered from then on.
+/// reply closed is given up when all is written; from any other is read, and what came is stepped;
+/// where nothing came and a C-FIND is open the next page of its answers is pulled. A fault stops the
+/// turner, and is answered from then on.
 pub fn turn_all<T: Tables, W: Wires>(
     turner: &mut Turner<T>,
     wires: &mut W,
     turns: u64,
 ) -> Result<(), TurnFault>
     ensures went { turner.old.fault ≡ None → OnOk result
-        (TurnsWent (Stepped T.state) (W.log wires.old) (W.log wires.new)
+        (TurnsWent (Moves T.state) (W.log wires.old) (W.log wires.new)
         turner.old.server turner.new.server turner.old.hold turner.new.hold turns) }
     ensures cut { turner.old.fault ≡ None → IfErr result
-        (TurnsCut (Stepped T.state) (Fails T.state)
+        (TurnsCut (Moves T.state) (Fails T.state)
         (W.log wires.old) (W.log wires.new) turner.old.server turner.new.server turner.old.hold
         turns) }
     ensures fault { turner.old.fault ≡ None → OnOk result (turner.new.fault ≡ None) }

@@ -1,10 +1,10 @@
 //! The turn of one connection.
 ghost use Rattle.std.specs.Prelude.{◌≡◌, length, Some, IfOk, IfErr, OnOk, OnErr};
-ghost use Rattle.dq_core.specs.declared.event.Event.TheVariants.{End};
+ghost use Rattle.dq_core.specs.declared.event.Event.TheVariants.{End, Pull};
 ghost use Rattle.dq_wires.specs.Steps.{Stops};
 ghost use Rattle.dq_wires.specs.Deeds.{IsSending, IsListening};
-ghost use Rattle.dq_wires.specs.Stepping.{Stepped, Fails};
-ghost use Rattle.dq_wires.specs.Going.{Ends, Hears, FailsToHear, Went, WentOff};
+ghost use Rattle.dq_wires.specs.Stepping.{Moves, Fails};
+ghost use Rattle.dq_wires.specs.Going.{Ends, Hears, Waits, FailsToHear, Went, WentOff};
 
 use crate::calls::{ReadTurn, WireFault};
 use crate::fault::TurnFault;
@@ -23,7 +23,7 @@ fn leave<T: Tables, W: Wires>(
     server: &mut Server<T>,
     wires: &mut W,
 ) -> Result<(), TurnFault>
-    ensures ends { OnOk result (Ends (Stepped T.state) (W.log wires.old)
+    ensures ends { OnOk result (Ends (Moves T.state) (W.log wires.old)
         (W.log wires.new) server.old server.new wire.now) }
     ensures stops { IfErr result (Stops (Fails T.state) server.old server.new
         (Some (End wire.now.number))) }
@@ -43,7 +43,7 @@ fn hear<T: Tables>(
     octets: &[u8],
 ) -> Result<(), TurnFault>
     requires { IsListening wire.old }
-    ensures hears { OnOk result (Hears (Stepped T.state) server.old server.new
+    ensures hears { OnOk result (Hears (Moves T.state) server.old server.new
         wire.old wire.new octets.now) }
     ensures stops { IfErr result (FailsToHear (Fails T.state) server.old
         server.new wire.old octets.now) }
@@ -55,6 +55,21 @@ fn hear<T: Tables>(
     Ok(())
 }
 
+/// Nothing came: where a C-FIND is open the next of its answers are pulled, and kept.
+fn pull<T: Tables>(wire: &mut Wire, server: &mut Server<T>) -> Result<(), TurnFault>
+    requires { IsListening wire.old }
+    ensures waits { OnOk result (Waits (Moves T.state) server.old server.new wire.old wire.new) }
+    ensures stops { IfErr result (Stops (Fails T.state) server.old server.new
+        (Some (Pull wire.old.number))) }
+    ensures newest { OnOk result (server.new.newest ≡ server.old.newest) }
+{
+    if server.pending(wire.number()) {
+        let reply = step_event(server, Event::Pull(wire.number()))?;
+        wire.answer(reply);
+    }
+    Ok(())
+}
+
 /// Offers the unsent octets. Where that fails the connection is given up, and its end is stepped
 /// unless a reply closed it. The answer is whether it is still held.
 fn send<T: Tables, W: Wires>(
@@ -63,7 +78,7 @@ fn send<T: Tables, W: Wires>(
     wires: &mut W,
 ) -> Result<bool, TurnFault>
     requires { IsSending wire.old }
-    ensures went { IfOk result (Went (Stepped T.state) (W.log wires.old)
+    ensures went { IfOk result (Went (Moves T.state) (W.log wires.old)
         (W.log wires.new) server.old server.new wire.old wire.new) }
     ensures off { IfErr result (WentOff (Fails T.state) (W.log wires.old)
         (W.log wires.new) server.old server.new wire.old) }
@@ -85,7 +100,7 @@ fn send<T: Tables, W: Wires>(
     }
 }
 
-/// Steps what came, or the end. The answer is whether the connection is still held.
+/// Steps what came, or the end; where nothing came it pulls what is pending. The answer is whether the connection is still held.
 fn receive<T: Tables, W: Wires>(
     alloc: Global,
     wire: &mut Wire,
@@ -95,7 +110,7 @@ fn receive<T: Tables, W: Wires>(
 ) -> Result<bool, TurnFault>
     requires listening { IsListening wire.old }
     requires room { length buffer.old ≡ READ_MOST }
-    ensures went { IfOk result (Went (Stepped T.state) (W.log wires.old)
+    ensures went { IfOk result (Went (Moves T.state) (W.log wires.old)
         (W.log wires.new) server.old server.new wire.old wire.new) }
     ensures off { IfErr result (WentOff (Fails T.state) (W.log wires.old)
         (W.log wires.new) server.old server.new wire.old) }
@@ -106,7 +121,10 @@ fn receive<T: Tables, W: Wires>(
             hear(alloc, wire, server, &buffer[..count])?;
             Ok(true)
         }
-        Ok(ReadTurn::Nothing) => Ok(true),
+        Ok(ReadTurn::Nothing) => {
+            pull(wire, server)?;
+            Ok(true)
+        }
         Ok(ReadTurn::Ended) => {
             leave(wire, server, wires)?;
             Ok(false)
@@ -119,7 +137,8 @@ fn receive<T: Tables, W: Wires>(
 }
 
 /// The turn of one connection: unsent octets are written, a closed one that has none is given up,
-/// and from any other is read. The answer is whether it is still held.
+/// and from any other is read, and pulled where nothing came. The answer is whether it is still
+/// held.
 pub(crate) fn turn_wire<T: Tables, W: Wires>(
     alloc: Global,
     wire: &mut Wire,
@@ -128,7 +147,7 @@ pub(crate) fn turn_wire<T: Tables, W: Wires>(
     buffer: &mut [u8],
 ) -> Result<bool, TurnFault>
     requires room { length buffer.old ≡ READ_MOST }
-    ensures went { IfOk result (Went (Stepped T.state) (W.log wires.old)
+    ensures went { IfOk result (Went (Moves T.state) (W.log wires.old)
         (W.log wires.new) server.old server.new wire.old wire.new) }
     ensures off { IfErr result (WentOff (Fails T.state) (W.log wires.old)
         (W.log wires.new) server.old server.new wire.old) }

@@ -17,6 +17,8 @@ pub(crate) struct Wire {
     octets: Listed<u8>,
     written: usize,
     closed: bool,
+    // Whether they are still to be offered for the first time.
+    is_new: bool,
 }
 
 impl Model for Wire {
@@ -46,6 +48,7 @@ impl Wire {
             octets: Listed::empty(alloc),
             written: 0,
             closed: false,
+            is_new: false,
         }
     }
 
@@ -75,6 +78,11 @@ impl Wire {
         &self.octets.as_slice()[self.written..]
     }
 
+    /// Whether there are any that were not yet offered.
+    pub(crate) fn is_new(&self) -> bool {
+        self.is_new && self.is_sending()
+    }
+
     /// Whether there are any.
     pub(crate) fn is_sending(&self) -> bool
         ensures { MatchBool result (IsSending self.now) (self.now.unsent ≡ []) }
@@ -90,6 +98,7 @@ impl Wire {
         let length = self.octets.len();
         prove!(count <= length - self.written);
         self.written += count;
+        self.is_new = false;
     }
 
     /// Keeps what is answered, where all was written that was answered before.
@@ -107,6 +116,7 @@ impl Wire {
             self.octets = octets;
             self.written = 0;
             self.closed = close;
+            self.is_new = true;
         }
     }
 }

@@ -1,11 +1,11 @@
 use Rattle.std.proofs.Common.{◌≡◌, ◌-◌, length}
-use Rattle.dq_wires.specs.Stepping.{Stepped}
+use Rattle.dq_wires.specs.Stepping.{Moves}
 use Rattle.dq_wires.proofs.Rounding.{RoundSo}
 use Rattle.dq_wires.proofs.rounds.turn_held.Given as goal
 
 abbrev pub invariant-loop-at : goal.invariant-loop-at
 invariant-loop-at g l = record {
-  so : RoundSo (Stepped g.T.Tables.state) (g.W.Wires.log l.fn.wires) (g.W.Wires.log l.wires) l.fn.server l.server
+  so : RoundSo (Moves g.T.Tables.state) (g.W.Wires.log l.fn.wires) (g.W.Wires.log l.wires) l.fn.server l.server
       l.fn.held.items l.held.items l.at;
   newest : l.server.newest ≡ l.fn.server.newest;
 }

@@ -3,7 +3,7 @@ use Rattle.std.proofs.lemmas.List.{length-take}
 use Rattle.std.specs.Result.{result_err}
 use Rattle.std.proofs.lemmas.Grind.{common_steps}
 use Rattle.dq_wires.specs.declared.limits.TheConstants.{READ_MOST}
-use Rattle.dq_wires.proofs.Doing.{went-heard, went-silent, went-left, off-unheard, off-unended, handed-on}
+use Rattle.dq_wires.proofs.Doing.{went-heard, went-waiting, went-left, off-unheard, off-unpulled, off-unended, handed-on}
 use Rattle.dq_wires.proofs.turning.receive.Goals as goal
 
 pub returns-in_ok-hear-in-Ok-Got-clause-went : goal.returns-in_ok-hear-in-Ok-Got-clause-went
@@ -21,9 +21,16 @@ returns-in_err-hear-in-Ok-Got-clause-off g c =
     handed-on c.from_residual.result _ left (off-unheard _ _ _ c.requires.listening bound c.place.ensures c.requires.room
     (rw c.in-Ok-Got.field-0-is at c.in-Ok-Got.ensures.told) c.in_err-hear-in-Ok-Got.ensures.stops)
 
-pub returns-in-Ok-Nothing-clause-went : goal.returns-in-Ok-Nothing-clause-went
-returns-in-Ok-Nothing-clause-went g c =
-    went-silent _ _ c.requires.listening c.place.ensures c.requires.room (rw c.in-Ok-Nothing.field-0-is at c.in-Ok-Nothing.ensures.told)
+pub returns-in_ok-pull-in-Ok-Nothing-clause-went : goal.returns-in_ok-pull-in-Ok-Nothing-clause-went
+returns-in_ok-pull-in-Ok-Nothing-clause-went g c =
+    went-waiting _ _ _ c.requires.listening c.place.ensures c.requires.room (rw c.in-Ok-Nothing.field-0-is at c.in-Ok-Nothing.ensures.told)
+    c.in_ok-pull-in-Ok-Nothing.ensures.waits
+
+pub returns-in_err-pull-in-Ok-Nothing-clause-off : goal.returns-in_err-pull-in-Ok-Nothing-clause-off
+returns-in_err-pull-in-Ok-Nothing-clause-off g c =
+    let left : result_err c.from_residual-in_err-pull-in-Ok-Nothing.result ≡ Some c.in_err-pull-in-Ok-Nothing.field-0.0 = grind (arith, common_steps) in
+    handed-on c.from_residual-in_err-pull-in-Ok-Nothing.result _ left (off-unpulled _ _ c.requires.listening c.place.ensures c.requires.room
+    (rw c.in-Ok-Nothing.field-0-is at c.in-Ok-Nothing.ensures.told) c.in_err-pull-in-Ok-Nothing.ensures.stops)
 
 pub returns-in_ok-leave-in-Ok-Ended-clause-went : goal.returns-in_ok-leave-in-Ok-Ended-clause-went
 returns-in_ok-leave-in-Ok-Ended-clause-went g c =
