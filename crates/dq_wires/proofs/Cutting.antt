@@ -14,7 +14,7 @@ use Rattle.dq_tables.specs.Rows.{Record, Edit, edited_all}
 use Rattle.dq_core.specs.declared.event.Event.{Event}
 use Rattle.dq_core.specs.declared.event.Event.TheVariants as event
 use Rattle.dq_core.specs.declared.event.Reply.TheVariants as reply
-use Rattle.dq_core.specs.Pages.{OpenQuery, next_page}
+use Rattle.dq_core.specs.Pages.{next_page}
 use Rattle.dq_core.specs.Answers.{Progress, Answer, then_answer, answer_after, answer, answers, request_in, piece_answer, verdict_at, progress_of, inputs_added, after_piece}
 use Rattle.dq_core.specs.Connections.{Connection, new_connection, with_piece, with_query, connection_in, without, with_connection}
 use Rattle.dq_core.specs.Alone.{AloneWorld, AloneTurn, alone_quiet, alone_live, alone_answer, alone_answer_turn, alone_piece, alone_end, alone_pull, alone_turn, alone_after_turn, alone_replies_from}
@@ -464,12 +464,9 @@ module _ (joins : Joins) (of_request : OfRequest) (adds : Adds) (limits : Limits
       → RisesFrom 0 (alone_piece limits world piece o).connections top
   rises-piece world top rises n piece None = rises
   rises-piece world top rises n piece (Some c) = by (alone_answer limits world c piece).close where
-    abbrev left : Option OpenQuery
-    left = (alone_answer limits world c piece).next.query
-
-    by : (b : Bool) → RisesFrom 0 (if b then without c.number world.connections else with_connection (with_piece c piece left) world.connections) top
+    by : (b : Bool) → RisesFrom 0 (if b then without c.number world.connections else with_connection (with_piece c piece (alone_answer limits world c piece).next.query) world.connections) top
     by true = rises-without c.number world.connections 0 top rises
-    by false = rises-with (with_piece c piece left) world.connections 0 top rises
+    by false = rises-with (with_piece c piece (alone_answer limits world c piece).next.query) world.connections 0 top rises
 
   rises-end : (world : AloneWorld) (top : ℕ) → RisesFrom 0 world.connections top → (o : Option Connection) → RisesFrom 0 (alone_end world o).connections top
   rises-end world top rises None = rises

@@ -3,7 +3,6 @@ use Rattle.std.proofs.Common.{◌≡◌, ◌≤◌, ℕ, true, false, List, [], 
 use Rattle.std.specs.Result.{IfErr, result_err}
 use Rattle.dq_core.specs.declared.event.Event.{Event}
 use Rattle.dq_core.specs.declared.event.Event.TheVariants.{Piece, End, Pull}
-use Rattle.dq_core.specs.declared.event.Reply.{Reply}
 use Rattle.dq_core.specs.declared.fault.Fault.{Fault}
 use Rattle.dq_wires.specs.declared.calls.Call.{Call}
 use Rattle.dq_wires.specs.declared.calls.Call.TheVariants.{Read, Write, Shut}
@@ -18,7 +17,7 @@ use Rattle.dq_wires.specs.Steps.Step.{Answered, Asked}
 use Rattle.dq_wires.specs.Deeds.{Shutting, IsSending, IsListening, IsEnd, failed}
 use Rattle.dq_wires.specs.Deeds.Deed.{Sent, Broke, Lost, Closed, Heard, Silent, Pulled, Left}
 use Rattle.dq_wires.specs.Deeds.Break.{Unkept, Unanswered, Unpulled, Unended, Unbroken}
-use Rattle.dq_wires.specs.Going.{Ends, Hears, Pulls, Waits, FailsToHear, Went, WentOff}
+use Rattle.dq_wires.specs.Going.{Ends, Hears, Waits, FailsToHear, Went, WentOff}
 use Rattle.dq_wires.proofs.Logging.{logs-then}
 
 -- what holds of a fault that a call handed on

@@ -1,14 +1,15 @@
 -- Steps after a look are steps from before it.
-use Rattle.std.proofs.Common.{ℕ, Bool, List, [], ◌∷◌, ◌++◌, ◌∙◌, ap, refl}
+use Rattle.std.proofs.Common.{◌≡◌, ℕ, Bool, List, [], ◌∷◌, ◌++◌, ◌∙◌, ap, refl}
 use Rattle.std.proofs.lemmas.List.{append-nil}
 use Rattle.dq_config.specs.declared.config.Institution.{Institution}
+use Rattle.dq_tables.specs.declared.row.Row.{Row}
 use Rattle.dq_tables.specs.Keeping.{State}
 use Rattle.dq_core.specs.declared.event.Event.{Event}
 use Rattle.dq_core.specs.declared.event.Reply.{Reply}
 use Rattle.dq_core.specs.Connections.{is_pending}
 use Rattle.dq_core.specs.Shared.{turn, world_after}
 use Rattle.dq_core.specs.Histories.{newest_after}
-use Rattle.dq_core.specs.Standing.{Standing}
+use Rattle.dq_core.specs.Standing.{Standing, StandsFor}
 use Rattle.dq_core.specs.Looking.{Looked}
 use Rattle.dq_core.proofs.Going.{goes-then}
 use Rattle.dq_core.proofs.Looking.{looked-none, looked-then}
@@ -35,6 +36,15 @@ module _ {Tables : Type 0} {state : Tables → State} where
     goes = goes-then looked.goes stepped.goes;
   }
 
+  -- a question, as it is answered
+  pub asks-so : {server : Standing Tables} (number asked : ℕ) (pending said : Bool) → asked ≡ number → said ≡ pending
+      → ((rows : List Row) (events : List Event) → StandsFor state rows server events → said ≡ is_pending asked (world_after server.institutions rows events).connections)
+      → Asks state server server number pending
+  asks-so {server} number asked pending said at so told = record {
+    looked = looked-none server;
+    told = λ rows events stood honest. rw (so, at) at (told rows events stood);
+  }
+
   asks-after : {old mid new : Standing Tables} {number : ℕ} {pending : Bool}
       → Looked state old mid → Asks state mid new number pending → Asks state old new number pending
   asks-after {number = number} looked asks = record {
@@ -44,9 +54,9 @@ module _ {Tables : Type 0} {state : Tables → State} where
         ∙ ap (λ (i : List Institution). is_pending number (world_after i rows events).connections) looked.institutions;
   }
 
-  moves-after : {old mid new : Standing Tables} (s : Step) → Looked state old mid → Moves state mid new s → Moves state old new s
-  moves-after (Answered event reply) looked moves = stepped-after looked moves
-  moves-after (Asked number pending) looked moves = asks-after looked moves
+  moves-after : (old mid new : Standing Tables) (s : Step) → Looked state old mid → Moves state mid new s → Moves state old new s
+  moves-after old mid new (Answered event reply) looked moves = stepped-after looked moves
+  moves-after old mid new (Asked number pending) looked moves = asks-after looked moves
 
   -- no step, nor a look
   pub comes-none : (server : Standing Tables) → ComesBy state server server []
@@ -64,7 +74,7 @@ module _ {Tables : Type 0} {state : Tables → State} where
       record { last = comes.last; runs = rw (append-nil steps) comes.runs; looks = rw same comes.looks }
   comes-more first mid next steps (s ∷ more) comes (after, moves, rest) = record {
     last = next;
-    runs = runs-then (Moves state) first comes.last next steps (s ∷ more) comes.runs (after, moves-after s comes.looks moves, rest);
+    runs = runs-then (Moves state) first comes.last next steps (s ∷ more) comes.runs (after, moves-after comes.last mid after s comes.looks moves, rest);
     looks = looked-none next;
   }
 
