@@ -1,6 +1,6 @@
-use Rattle.std.proofs.Common.{◌≡◌, [], ap, sym, ◌∙◌}
+use Rattle.std.proofs.Common.{◌≡◌, [], ap}
 use Rattle.dq_core.specs.Standing.{Standing, StandsFor}
-use Rattle.dq_wires.specs.Servings.{nothing_held, Serving}
+use Rattle.dq_wires.specs.Servings.{Serving}
 use Rattle.dq_program.proofs.Serviced.{ok-then, service-of}
 use Rattle.dq_program.proofs.serving.serve_by.Goals as goal
 

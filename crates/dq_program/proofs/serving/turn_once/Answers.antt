@@ -1,4 +1,3 @@
-use Rattle.dq_program.specs.Serving.{WentOn}
 use Rattle.dq_program.proofs.Serviced.{went-by-turns, went-then}
 use Rattle.dq_program.proofs.serving.turn_once.Goals.{in-None, in-Some+in_ok-turn-in-Some}
 use Rattle.dq_program.proofs.serving.turn_once.Goals as goal
