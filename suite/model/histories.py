@@ -78,7 +78,7 @@ def renumbered(lines, next_number):
     numbers, out = {}, []
     for line in lines:
         words = line.split(" ")
-        if words[0] in ("open", "piece", "end"):
+        if words[0] in ("open", "piece", "end", "pull"):
             if words[0] == "open":
                 numbers[words[1]] = next_number()
             words[1] = str(numbers[words[1]])
