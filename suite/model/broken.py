@@ -183,7 +183,7 @@ def opened_and_ended(name, lines):
     out = []
     for line in lines:
         words = line.split(" ")
-        if words[0] in ("open", "piece", "end"):
+        if words[0] in ("open", "piece", "end", "pull"):
             words[1] = f"{name}.{words[1]}"
         out.append(" ".join(words))
     return out + [line.replace("open", "end") for line in out if line.startswith("open ")]

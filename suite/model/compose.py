@@ -12,11 +12,14 @@ A scene is lines like these; N is a connection, I a presentation context, M a me
     set N I M INSTANCE DATA
     cancel N I M
     release N          abort N          end N
+    pull N                                           asks for the next answers of the C-FIND that is open
     piece N HEX                                      octets as they are
     schedule NAME DATA                               in Explicit
     withdraw NAME ID
     cut COUNT                                        from here on pieces have at most so many octets; 0: whole messages
     join                                             the next line's octets go out with those of the line before it
+    each FIRST LAST LINE                             the line for each of these numbers, which @ stands for in its words;
+                                                     messages go out together
 
 DATA is keywords of PS3.6 with values, as PatientName=DOE^A, and `Keyword= { .. } { .. }` for a sequence's items. Words
 with spaces stand in double quotes. A tag that has no keyword here is GGGGEEEE:VR=value, octets are written 0xHEX, and
@@ -48,7 +51,8 @@ LINES = {"open": "open N", "end": "end N", "associate": "associate N CALLED CALL
          "echo": "echo N I M", "cancel": "cancel N I M", "store": "store N I M CLASS INSTANCE DATA",
          "find": "find N I M CLASS DATA", "create": "create N I M INSTANCE DATA", "set": "set N I M INSTANCE DATA",
          "release": "release N", "abort": "abort N", "piece": "piece N HEX", "schedule": "schedule NAME DATA",
-         "withdraw": "withdraw NAME ID", "cut": "cut COUNT", "join": "join"}
+         "withdraw": "withdraw NAME ID", "cut": "cut COUNT", "join": "join", "pull": "pull N", "each": "each FIRST LAST LINE"}
+MESSAGES = ("echo", "store", "find", "create", "set", "cancel")
 OPTIONS = ("max", "version", "application")
 
 
@@ -252,6 +256,8 @@ class Scene:
             if not self.lines or not self.lines[-1].startswith("piece "):
                 raise BadScene(word, "a line with octets was expected before it")
             self.joined = hexadecimal(word, self.lines.pop().split(" ")[2])
+        elif word == "each":
+            self.each(words)
         else:
             if not re.fullmatch("#?[0-9]+", words[0]):
                 raise BadScene(words[0], "the number of a connection was expected")
@@ -260,13 +266,25 @@ class Scene:
             except OverflowError:
                 raise BadScene(word, "words were expected for which the lengths of a PDU have room") from None
 
+    def each(self, words):
+        """A line for each of the numbers."""
+        first, last, word = number_of(words[0], 999999), number_of(words[1], 999999), words[2]
+        if last < first:
+            raise BadScene(words[1], f"a number from {first} on was expected")
+        if word in ("each", "cut", "join"):
+            raise BadScene(word, "a line that may stand often was expected")
+        for number in range(first, last + 1):
+            if word in MESSAGES and number > first:
+                self.play("join", [])
+            self.play(word, [Word(one.replace("@", str(number)), one.line) for one in words[3:]])
+
     def order(self, word, words):
         """An order of the console."""
         octets = spelled_data_set(words[1:], data_sets.EXPLICIT) if word == "schedule" else spelled(words[1])
         self.lines.append(f"{word} {words[0]} {octets.hex() or '-'}")
 
     def play_on_connection(self, word, words):
-        if word in ("open", "end"):
+        if word in ("open", "end", "pull"):
             self.lines.append(f"{word} {words[0]}")
         elif word == "associate":
             self.associate(words)
@@ -305,7 +323,7 @@ def proposal(word):
 def check_count(word, words):
     """As many words stand after the first one as its line has, or more where others may follow."""
     form = LINES[word].split(" ")[1:]
-    is_open = form[-1:] in (["DATA"], [".."])
+    is_open = form[-1:] in (["DATA"], [".."], ["LINE"])
     least = len(form) - (2 if form[-1:] == [".."] else 1 if is_open else 0)
     if len(words) < least:
         raise BadScene(word, f"a word is missing: {LINES[word]}")

@@ -26,6 +26,8 @@ def studies():
         yield store(1, 1, 1, f"1.2.{at}", PatientName=f"DOE^{at}", PatientID=f"P{at % 10}")
     for keys in QUERIES:
         yield f"find 1 3 2 study QueryRetrieveLevel=STUDY {keys}"
+        # sixteen pages at most
+        yield from ["pull 1"] * 15
     yield "release 1"
 
 

@@ -40,7 +40,9 @@ CLASSES = {
 }
 COMMANDS = {VERIFICATION: {C_ECHO}, STORAGE: {C_STORE}, STUDY_ROOT: {C_FIND}, WORKLIST: {C_FIND},
             PROCEDURE_STEP: {N_CREATE, N_SET}}
-CLASS_NOT_SUPPORTED, UNRECOGNIZED_OPERATION = 0x0122, 0x0211
+CLASS_NOT_SUPPORTED, UNRECOGNIZED_OPERATION, CANCELLED = 0x0122, 0x0211, 0xFE00
+# how many pending responses to a C-FIND one reply has at most
+PAGE = 64
 LIMITS = {"studies": 1000000, "images": 1000000, "entries": 1000000, "steps": 1000000, "associations": 64}
 
 
@@ -122,9 +124,23 @@ def answered(context):
     return number, 4, IMPLICIT
 
 
+class Search:
+    """A C-FIND whose answers were found when its message was whole: the responses that are left of it, and its last one."""
+
+    def __init__(self, identity, pending, last, cancelled):
+        self.identity, self.pending, self.last, self.cancelled = identity, pending, last, cancelled
+
+    def page(self, most):
+        """So many responses more at most, with the last one if no other is left then, and whether that is so."""
+        taken, self.pending = self.pending[:most], self.pending[most:]
+        is_done = not self.pending
+        return b"".join(taken) + (self.last if is_done else b""), is_done
+
+
 class Connection:
     def __init__(self, server):
         self.server = server
+        self.search = None
         self.rest = b""
         self.request = None
         self.home = None
@@ -191,6 +207,28 @@ class Connection:
         if self.home is not None:
             self.home.live -= 1
 
+    def pages(self, most):
+        """So many responses more of the C-FIND that is open, if one is."""
+        if self.search is None:
+            return b""
+        octets, is_done = self.search.page(most)
+        self.search = None if is_done else self.search
+        return octets
+
+    def pull(self):
+        return self.pages(PAGE)
+
+    def drained(self):
+        """All that is left of the C-FIND that is open: it comes before the answer to another message."""
+        return b"" if self.search is None else self.pages(len(self.search.pending))
+
+    def cancel(self, identity):
+        """C-CANCEL (PS3.7 section 9.3.2.3): on any context it ends the C-FIND that is open and has this message id."""
+        if self.search is None or self.search.identity != identity:
+            return b""
+        octets, self.search = self.search.cancelled, None
+        return octets
+
     def served(self, context, command, octets):
         """The responses to a message, with its effect on the institution's records."""
         sop_class, syntax = self.contexts[context]
@@ -201,24 +239,26 @@ class Connection:
                         self.request.maximum)
 
         if command.field == C_CANCEL:
-            return b""
+            return self.cancel(command.identity)
+        before = self.drained()
         if command.field not in COMMANDS[service]:
-            return reply(UNRECOGNIZED_OPERATION)
+            return before + reply(UNRECOGNIZED_OPERATION)
         instance = command.sop_instance if command.field in (C_STORE, N_CREATE, N_SET) else b""
         if command.sop_class != sop_class:
-            return reply(CLASS_NOT_SUPPORTED, instance=instance)
+            return before + reply(CLASS_NOT_SUPPORTED, instance=instance)
         records = self.home.records
         if command.field == C_ECHO:
-            return reply(services.SUCCESS)
+            return before + reply(services.SUCCESS)
         if command.field == C_FIND:
             if service == STUDY_ROOT:
                 pending, answers, last = services.find(records, self.request.called, octets, syntax)
             else:
                 pending, answers, last = services.query(records, octets, syntax)
-            found = b"".join(reply(pending, services.written(answer, syntax)) for answer in answers)
-            return found + reply(last)
+            found = [reply(pending, services.written(answer, syntax)) for answer in answers]
+            self.search = Search(command.identity, found, reply(last), reply(CANCELLED))
+            return before + self.pages(PAGE)
         served = {C_STORE: services.store, N_CREATE: services.create, N_SET: services.change}[command.field]
-        return reply(served(records, command, octets, syntax), instance=instance)
+        return before + reply(served(records, command, octets, syntax), instance=instance)
 
 
 class Server:
@@ -249,10 +289,14 @@ class Server:
         if word == "end":
             self.held.pop(subject).drop()
             return "done"
-        out, close = self.held[subject].feed(octets)
+        out, close = (self.held[subject].pull(), False) if word == "pull" else self.held[subject].feed(octets)
         if close:
             self.held.pop(subject).drop()
         return f"{subject} {out.hex() or '-'}{' close' if close else ''}"
+
+    def is_pending(self, number):
+        """Whether a C-FIND is open on the connection."""
+        return number in self.held and self.held[number].search is not None
 
     def reported(self):
         """A line for each institution."""
@@ -283,7 +327,7 @@ def octets_of(text):
 
 def event_of(line):
     word, _, rest = line.partition(" ")
-    if word in ("open", "end"):
+    if word in ("open", "end", "pull"):
         return word, number_of(rest), b""
     subject, _, octets = rest.partition(" ")
     if word == "piece":

@@ -250,7 +250,7 @@ def octets_of(text):
 class Shown:
     """Lines of captures and of replies, in any order, each with the readable lines for it."""
 
-    FORMS = {"open": "open N", "end": "end N", "piece": "piece N HEX", "schedule": "schedule NAME HEX",
+    FORMS = {"open": "open N", "end": "end N", "pull": "pull N", "piece": "piece N HEX", "schedule": "schedule NAME HEX",
              "withdraw": "withdraw NAME HEX"}
     AS_THEY_ARE = r"(done|ignored|stopped|network|(refused|fault|config|store|capture line|ready) [0-9]+)"
 
@@ -267,6 +267,8 @@ class Shown:
         if word in ("open", "end") and len(words) == 1 and words[0].isdecimal():
             sent = self.connection(words[0]).sent
             return [*(self.unit_lines(words[0], list(sent.left())) if word == "end" else []), f"{word} {words[0]}"]
+        if word == "pull" and len(words) == 1 and words[0].isdecimal():
+            return [f"pull {words[0]}"]
         if word == "piece" and len(words) == 2 and words[0].isdecimal():
             return self.piece(words[0], octets_of(words[1]))
         if word in ("schedule", "withdraw") and len(words) == 2:
