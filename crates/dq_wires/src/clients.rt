@@ -46,6 +46,8 @@ impl SocketClient {
     /// Connects to an address, and returns at once.
     pub fn connect(net: &impl Net, address: SocketAddr) -> io::Result<Self> {
         let stream = TcpStream::connect(net, address)?;
+        // small pieces go out one by one, and do not wait for acknowledgements
+        stream.set_nodelay(true)?;
         Ok(SocketClient { stream })
     }
 }

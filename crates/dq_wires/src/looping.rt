@@ -348,9 +348,9 @@ fn sent_on<C: Drop>(alloc: Global, lines: Vec<Line<C>>) -> Result<Vec<Sent>, All
 
 /// Plays the events of a capture over wires, each before the next: clients connect, send octets and
 /// end, until the server has taken it up and they have taken all that was answered; orders go to
-/// the console; an event of a connection that is not open, and a pull, are passed over. The answer is what each
-/// connection was sent, in the order in which they were opened. `Network` also tells that a client
-/// failed, or that there were more than `MOST_TURNS` turns.
+/// the console; an event of a connection that is not open, and a pull, are passed over. The answer
+/// is what each connection was sent, in the order in which they were opened. `Network` also tells
+/// that a client failed, or that there were more than `MOST_TURNS` turns.
 pub fn loop_back<T: Tables + Drop, W: Wires + Drop, C: Clients<W>>(
     alloc: Global,
     server: Server<T>,

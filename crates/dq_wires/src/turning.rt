@@ -100,7 +100,8 @@ fn send<T: Tables, W: Wires>(
     }
 }
 
-/// Steps what came, or the end; where nothing came it pulls what is pending. The answer is whether the connection is still held.
+/// Steps what came, or the end; where nothing came it pulls what is pending. The answer is whether
+/// the connection is still held.
 fn receive<T: Tables, W: Wires>(
     alloc: Global,
     wire: &mut Wire,

@@ -137,7 +137,7 @@ fn replies(alloc: Global) -> Result<Vec<Reply>, AllocError> {
 #[test]
 fn reads_a_capture(rt: HostRuntime) -> Result<(), Fail> {
     let text =
-        "# example\n\nopen 0\npiece 0 0aFf\npiece 0 -\nend 0\nschedule A_1 00\nwithdraw A_1 5331";
+        "# example\n\nopen 0\npiece 0 0aFf\npiece 0 -\npull 0\nend 0\nschedule A_1 00\nwithdraw A_1 5331";
     let events = read_capture(rt.alloc(), text)?;
     let mut told = Vec::new(rt.alloc());
     for event in &events {
@@ -148,13 +148,14 @@ fn reads_a_capture(rt: HostRuntime) -> Result<(), Fail> {
                 octets.as_slice()
             )?,
             Event::End(number) => format!(in rt.alloc(); "e{number}")?,
+            Event::Pull(number) => format!(in rt.alloc(); "l{number}")?,
             Event::Schedule { octets, .. } => format!(in rt.alloc(); "s{:?}", octets.as_slice())?,
             Event::Withdraw { id, .. } => format!(in rt.alloc(); "w{:?}", id.as_slice())?,
         };
         told.push(line)?;
     }
     let told = told.join(rt.alloc(), " ")?;
-    assert_eq!(rt; told.as_str(), "o0 p0[10, 255] p0[] e0 s[0] w[83, 49]");
+    assert_eq!(rt; told.as_str(), "o0 p0[10, 255] p0[] l0 e0 s[0] w[83, 49]");
     let bad = read_capture(rt.alloc(), "open 1\n\nopen 1\n").err();
     assert_eq!(rt; bad, Some(CaptureFault::Line(3)));
     Ok(())
