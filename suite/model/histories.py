@@ -3,6 +3,8 @@ import compose
 
 PROPOSED = "1=echo:implicit 3=CT:explicit 5=study:implicit,explicit 7=worklist:explicit 9=mpps:implicit"
 CT = compose.CLASSES["CT"].decode()
+# the study and the series into which a hospital may have stored more than a page of instances
+FULL = "1.2.1"
 CUT_OFF = {3: "raw:400000244c54ffff4142", 5: "raw:40000024ffff00004142"}
 STEP = ("Modality=CT PerformedStationAETitle=CT1 PerformedProcedureStepStartDate=20240705 PerformedProcedureStepID=P "
         "PerformedProcedureStepStartTime=0900 ScheduledStepAttributesSequence= { ScheduledProcedureStepID=S1 } ")
@@ -24,21 +26,41 @@ def message(chance, number, identity):
         f"create {number} 9 {identity} {step} {STEP} PerformedProcedureStepStatus=\"IN PROGRESS\"",
         f"set {number} 9 {identity} {step} PerformedProcedureStepStatus=COMPLETED",
         f"set {number} 9 {identity} {step} PerformedProcedureStepDescription={name}",
-        f"cancel {number} 5 {identity}",
+        f"find {number} 5 {identity} study QueryRetrieveLevel=IMAGE StudyInstanceUID={FULL} SeriesInstanceUID={FULL}.1 "
+        "SOPInstanceUID=",
+        f"find {number} 7 {identity} worklist PatientID=",
+        f"cancel {number} {chance.choice([1, 5, 7])} {max(identity - chance.randrange(3), 0)}",
+        f"cancel {number} 5 {max(identity - 1, 0)}",
+        f"pull {number}",
         f"store {number} 3 {identity} CT {image} SOPClassUID={CT} SOPInstanceUID={image} StudyInstanceUID={study} "
         f"SeriesInstanceUID={study}.{series} {CUT_OFF[3]}",
         f"find {number} 5 {identity} study QueryRetrieveLevel=STUDY StudyInstanceUID= {CUT_OFF[5]}",
     ])
 
 
+def filled(chance, name, calling):
+    """The capture lines by which a hospital has more instances and entries than a page has answers, or some fewer."""
+    scene = compose.Scene()
+    images, entries = (100 + chance.randrange(60, most) for most in (140, 95))
+    for line in [
+            "open #9", f"associate #9 ARCHIVE {calling} {PROPOSED}",
+            f"each 101 {images} store #9 3 1 CT {FULL}.1.@ SOPClassUID={CT} SOPInstanceUID={FULL}.1.@ StudyInstanceUID={FULL} "
+            f"SeriesInstanceUID={FULL}.1",
+            "release #9",
+            f"each 101 {entries} {entry(name, 'S@', 'P@')}"]:
+        scene.play_line(line)
+    return scene.lines
+
+
+def entry(name, identity, patient="P1"):
+    return (f"schedule {name} PatientName=DOE^A PatientID={patient} StudyInstanceUID=1.2.3 RequestedProcedureID=R "
+            f"ScheduledProcedureStepSequence= {{ Modality=CT ScheduledStationAETitle=CT1 ScheduledProcedureStepID={identity} "
+            "ScheduledProcedureStepStartDate=20240705 ScheduledProcedureStepStartTime=0900 }")
+
+
 def console(chance, name):
-    entry = f"S{chance.randrange(1, 4)}"
-    return chance.choice([
-        f"withdraw {name} {entry}",
-        f"schedule {name} PatientName=DOE^A PatientID=P1 StudyInstanceUID=1.2.3 RequestedProcedureID=R "
-        f"ScheduledProcedureStepSequence= {{ Modality=CT ScheduledStationAETitle=CT1 ScheduledProcedureStepID={entry} "
-        "ScheduledProcedureStepStartDate=20240705 ScheduledProcedureStepStartTime=0900 }",
-    ])
+    identity = f"S{chance.choice([1, 2, 3, 101, 164, 165])}"
+    return chance.choice([f"withdraw {name} {identity}", entry(name, identity)])
 
 
 def session(chance, number, calling):
@@ -46,7 +68,10 @@ def session(chance, number, calling):
     scene = compose.Scene()
     scene.lines.append(f"open {number}")
     lines = [f"associate {number} ARCHIVE {calling} {PROPOSED}"]
-    lines += [message(chance, number, identity) for identity in range(1, chance.randrange(1, 9))]
+    for identity in range(1, chance.randrange(1, 9)):
+        lines.append(message(chance, number, identity))
+        if lines[-1].startswith("find "):
+            lines += chance.choice([[], [f"pull {number}"], [f"pull {number}"] * 2, [f"cancel {number} 1 {identity}"]])
     lines.append(chance.choice([f"release {number}", f"abort {number}", f"end {number}", f"piece {number} 080000000000"]))
     for line in lines:
         scene.most = chance.choice([0, 0, 0, 7, 100])
@@ -65,12 +90,14 @@ def mixed(chance, lists):
 
 
 def history(chance, name, callings):
-    """Sessions that overlap, and orders of the console; numbers count from 0 and rise with the openings."""
+    """Sessions that overlap, and orders of the console, sometimes of a hospital that has much; numbers count from 0 and rise with
+    the openings."""
+    before = filled(chance, name, callings[0]) if chance.random() < 0.5 else []
     lists = [session(chance, f"#{number}", chance.choice(callings)) for number in range(chance.randrange(2, 8))]
     orders = compose.Scene()
     for _ in range(chance.randrange(4)):
         orders.play_line(console(chance, name))
-    return mixed(chance, lists + [orders.lines])
+    return before + mixed(chance, lists + [orders.lines])
 
 
 def renumbered(lines, next_number):

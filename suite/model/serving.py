@@ -1,7 +1,8 @@
 """The model as a server over sockets: what `serve` and `loopback` do, for the suite that has to notice what is wrong.
 
 Each connection that comes is the next number's, from 1 on. What is read of it is a piece, its end is an end, and what is
-answered is written; nothing more is read of it before. At most MOST are held. The console takes lines of a capture.
+answered is written; nothing more is read of it before. One of which nothing is read, and whose C-FIND is open, is pulled. At most
+MOST are held. The console takes lines of a capture.
 """
 import argparse
 import contextlib
@@ -57,7 +58,12 @@ class Service:
                 selector.register(self.console, selectors.EVENT_READ)
                 for stream, _ in self.orders:
                     selector.register(stream, selectors.EVENT_READ)
-            return {key.fileobj for key, _ in selector.select(self.rest_most)}
+            rest = 0 if any(map(self.is_pending, self.wires)) else self.rest_most
+            return {key.fileobj for key, _ in selector.select(rest)}
+
+    def is_pending(self, wire):
+        """Whether more answers may be asked for: all that were given are sent, and a C-FIND is open."""
+        return not wire.unsent and self.keeping.server.is_pending(wire.number)
 
     def turn(self):
         ready = self.wait()
@@ -65,8 +71,11 @@ class Service:
             self.newest += 1
             self.keeping.step("open", self.newest, b"")
             self.wires.append(Wire(self.listener.accept()[0], self.newest))
+        pending = [one for one in self.wires if one.stream not in ready and self.is_pending(one)]
         for wire in [one for one in self.wires if one.stream in ready]:
             self.serve(wire)
+        for wire in pending:
+            self.take(wire, self.keeping.step("pull", wire.number, b""))
         for wire in [one for one in self.wires if one.closed and not one.unsent]:
             self.drop(wire)
         if self.quiet is not None:
@@ -96,8 +105,11 @@ class Service:
         if not octets:
             self.leave(wire)
             return
-        line = self.keeping.step("piece", wire.number, octets).split(" ")
-        self.answer(wire, b"" if line[1] == "-" else bytes.fromhex(line[1]), line[2:] == ["close"])
+        self.take(wire, self.keeping.step("piece", wire.number, octets))
+
+    def take(self, wire, reply):
+        words = reply.split(" ")
+        self.answer(wire, b"" if words[1] == "-" else bytes.fromhex(words[1]), words[2:] == ["close"])
 
     def answer(self, wire, octets, close):
         wire.unsent, wire.closed = octets, close
@@ -204,6 +216,19 @@ def serve(words, service=Service):
     return 0
 
 
+def turned(server, events):
+    """What happens over sockets: each event but pulls, with the pulls that follow until nothing is pending, and the reply of all."""
+    for event in events:
+        if event[0] == "pull":
+            continue
+        words = server.reply(*event).split(" ")
+        pulls = 0
+        while event[0] == "piece" and server.is_pending(event[1]):
+            words[1] += server.reply("pull", event[1], b"").split(" ")[1]
+            pulls += 1
+        yield event, pulls, " ".join(words)
+
+
 def loopback(words, capture):
     """Plays a capture, and prints what each connection was sent; the exit status."""
     words = replies.with_options(Words(prog="dq_server loopback"), has_store=False).parse_args(words)
@@ -214,9 +239,9 @@ def loopback(words, capture):
     if isinstance(events, int):
         print(f"capture line {events}", file=sys.stderr)
         return 3
-    server, sent = replies.Server(institutions), {}
-    for event in events:
-        line = server.reply(*event).split(" ")
+    sent = {}
+    for event, _, line in turned(replies.Server(institutions), events):
+        line = line.split(" ")
         if event[0] == "open":
             sent[event[1]] = ""
         if event[0] == "piece" and line != ["ignored"]:
