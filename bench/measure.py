@@ -10,7 +10,7 @@ TOP = pathlib.Path(__file__).resolve().parent.parent
 PROGRAM = pathlib.Path(os.environ.get("PROGRAM", TOP / "crates" / "dq_server" / "out" / "dq_server"))
 CONFIGURATION = TOP / "suite" / "configurations" / "large.toml"
 MOST = 2.3
-MEDIUM = 0
+MEDIUM, PAGE = 0, 64
 
 sys.path.insert(0, str(TOP / "suite" / "model"))
 
@@ -61,6 +61,11 @@ def find(context, **elements):
 
 def piece(number, octets):
     return f"piece {number} {octets.hex()}\n"
+
+
+def pulls(number, answers):
+    """The lines that ask for the pages after the first one, of so many answers."""
+    return [f"pull {number}\n"] * (max(answers - 1, 0) // PAGE)
 
 
 def run(command, source, out):

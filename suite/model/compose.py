@@ -324,7 +324,7 @@ def check_count(word, words):
     """As many words stand after the first one as its line has, or more where others may follow."""
     form = LINES[word].split(" ")[1:]
     is_open = form[-1:] in (["DATA"], [".."], ["LINE"])
-    least = len(form) - (2 if form[-1:] == [".."] else 1 if is_open else 0)
+    least = len(form) - (2 if form[-1:] == [".."] else 1 if form[-1:] == ["DATA"] else 0)
     if len(words) < least:
         raise BadScene(word, f"a word is missing: {LINES[word]}")
     if len(words) > least and not is_open:

@@ -9,6 +9,8 @@ import sys
 
 CT = "SOPClassUID=1.2.840.10008.5.1.4.1.1.2"
 HOSPITALS, EACH = 30, 10
+# a thousand answers are a page and fifteen more
+PULLS = 15
 QUERIES = ["StudyInstanceUID=1.2.77", "PatientID=P7 StudyInstanceUID=", "PatientName=doe^1* StudyInstanceUID=",
            "PatientName=ROE StudyInstanceUID=", "StudyInstanceUID="]
 
@@ -26,8 +28,7 @@ def studies():
         yield store(1, 1, 1, f"1.2.{at}", PatientName=f"DOE^{at}", PatientID=f"P{at % 10}")
     for keys in QUERIES:
         yield f"find 1 3 2 study QueryRetrieveLevel=STUDY {keys}"
-        # sixteen pages at most
-        yield from ["pull 1"] * 15
+        yield from ["pull 1"] * PULLS
     yield "release 1"
 
 

@@ -344,75 +344,6 @@ def abort_reason(wrong):
     replies.abort = lambda source, reason: right(source, int(wrong) if source == 2 else reason)
 
 
-def page_of(most):
-    """A page has another number of answers."""
-    replies.PAGE = int(most)
-
-
-def pull_finds_anew():
-    """What a pull brings is found as it is asked for."""
-    right, pull = replies.Connection.served, replies.Connection.pull
-
-    def served(self, *asked):
-        answer = right(self, *asked)
-        self.asked, self.given = asked, replies.PAGE
-        return answer
-
-    def pulled(self):
-        if self.search is not None:
-            self.search = None
-            replies.PAGE, page = 0, replies.PAGE
-            right(self, *self.asked)
-            replies.PAGE = page
-            self.search.pending = self.search.pending[self.given:]
-            self.given += page
-        return pull(self)
-
-    replies.Connection.served, replies.Connection.pull = served, pulled
-
-
-def rest_is_dropped():
-    """A message while a search is open ends it without its other answers."""
-    def drained(self):
-        self.search = None
-        return b""
-
-    replies.Connection.drained = drained
-
-
-def cancels_any():
-    """A C-CANCEL ends a search whatever its message id is."""
-    right = replies.Connection.cancel
-    replies.Connection.cancel = lambda self, identity: right(self, identity if self.search is None else self.search.identity)
-
-
-def cancels_nothing():
-    replies.Connection.cancel = lambda *_: b""
-
-
-def cancel_drains():
-    """A C-CANCEL of another message brings what is left of the search."""
-    right = replies.Connection.cancel
-
-    def cancel(self, identity):
-        is_other = self.search is not None and self.search.identity != identity
-        return self.drained() if is_other else right(self, identity)
-
-    replies.Connection.cancel = cancel
-
-
-def rest_at_a_release():
-    """A release brings what is left of the search before its own answer."""
-    right = replies.Connection.answer
-
-    def answer(self, kind, body):
-        if kind == upper_layer.RELEASE_RQ:
-            yield self.drained(), False
-        yield from right(self, kind, body)
-
-    replies.Connection.answer = answer
-
-
 def drops_the_rest():
     """What a piece leaves of a PDU is dropped."""
     right = replies.Connection.feed
@@ -510,6 +441,77 @@ def socket_reads_on():
             wire.unsent = unsent + wire.unsent
 
 
+def page_of(most):
+    """A page has so many answers."""
+    replies.PAGE = int(most)
+
+
+def pages_found_anew():
+    """The answers of a page are found when it is asked for."""
+    right_served, right_pull = replies.Connection.served, replies.Connection.pull
+
+    def served(self, context, command, octets):
+        found = right_served(self, context, command, octets)
+        if command.field == C_FIND:
+            self.asked = context, command, octets
+        return found
+
+    def pull(self):
+        if self.search is not None:
+            left = len(self.search.pending)
+            self.search = None
+            right_served(self, *self.asked)
+            if self.search is not None:
+                self.search.pending = self.search.pending[-left:]
+        return right_pull(self)
+
+    replies.Connection.served, replies.Connection.pull = served, pull
+
+
+def drops_what_is_left():
+    """Another message drops what is left of a search."""
+    def drained(self):
+        self.search = None
+        return b""
+
+    replies.Connection.drained = drained
+
+
+def cancels_any():
+    """A C-CANCEL ends the search that is open, whatever message it names."""
+    right = replies.Connection.cancel
+
+    def cancel(self, identity):
+        return right(self, identity if self.search is None else self.search.identity)
+
+    replies.Connection.cancel = cancel
+
+
+def answers_before_release():
+    """What is left of a search comes before the answer to a release."""
+    right = replies.Connection.answer
+
+    def answer(self, kind, body):
+        if kind == upper_layer.RELEASE_RQ and self.search is not None:
+            yield self.drained(), False
+        yield from right(self, kind, body)
+
+    replies.Connection.answer = answer
+
+
+def last_response_twice():
+    """The last response of a search comes with its last page, and once more with the next pull."""
+    right = replies.Connection.pull
+
+    def pull(self):
+        last = self.search.last if self.search is not None else b""
+        octets, late = right(self), getattr(self, "late", b"")
+        self.late = last if self.search is None else b""
+        return octets or late
+
+    replies.Connection.pull = pull
+
+
 def nothing():
     pass
 
@@ -532,9 +534,9 @@ FAULTS = {"stop-at-unreadable": stop_at_unreadable, "limit-over-all": limit_over
           "drops-the-rest": drops_the_rest, "fragments-at-most": fragments_at_most, "opens-at-most": opens_at_most,
           "looks-at-all-held": looks_at_all_held, "dear-pdus": dear_pdus,
           "longest-pdu": longest_pdu, "socket-waits-for-whole-pdus": socket_waits_for_whole_pdus,
-          "socket-reads-on": socket_reads_on, "page-of": page_of, "pull-finds-anew": pull_finds_anew,
-          "rest-is-dropped": rest_is_dropped, "cancels-any": cancels_any, "cancels-nothing": cancels_nothing,
-          "cancel-drains": cancel_drains, "rest-at-a-release": rest_at_a_release, "nothing": nothing}
+          "socket-reads-on": socket_reads_on, "page-of": page_of, "pages-found-anew": pages_found_anew,
+          "drops-what-is-left": drops_what_is_left, "cancels-any": cancels_any,
+          "answers-before-release": answers_before_release, "last-response-twice": last_response_twice, "nothing": nothing}
 
 
 def usage():
