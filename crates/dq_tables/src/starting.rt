@@ -1,5 +1,7 @@
 //! What a performed procedure step starts.
-ghost use Rattle.std.specs.Prelude.{◌≡◌, IfOk};
+ghost use Rattle.std.specs.Prelude.{◌≡◌, ◌++◌, [], ◌∷◌, IfOk, OnOk};
+ghost use Rattle.std.specs.List.{filter_map};
+ghost use Rattle.dq_tables.specs.Keys.{id_of};
 ghost use Rattle.dq_tables.specs.Starting.{items_at, ids_named};
 
 use crate::keys::step_id;
@@ -17,11 +19,19 @@ pub fn ids_named(alloc: Global, step: &DataSet) -> Result<Listed<Listed<u8>>, Al
 {
     let mut ids = Listed::empty(alloc);
     for item in items_at(step, SCHEDULED_STEP_ATTRIBUTES_SEQUENCE) {
-        if let Some(id) = step_id(item) {
-            ids.push(Listed::copy_of(alloc, id)?)?;
-        }
+        add_id(alloc, &mut ids, item)?;
     }
     Ok(ids)
+}
+
+/// Adds the id that an item names, if it names one.
+fn add_id(alloc: Global, ids: &mut Listed<Listed<u8>>, item: &DataSet) -> Result<(), AllocError>
+    ensures { OnOk result (ids.new ≡ ids.old ++ filter_map id_of (item.now ∷ [])) }
+{
+    if let Some(id) = step_id(item) {
+        ids.push(Listed::copy_of(alloc, id)?)?;
+    }
+    Ok(())
 }
 
 /// The items of the sequence with the tag; none where there is no such sequence.
