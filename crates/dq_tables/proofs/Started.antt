@@ -1,8 +1,6 @@
 -- Entries that are started.
-use Rattle.std.proofs.Common.{◌≡◌, ℕ, Bool, true, false, not, ◌&&◌, ◌||◌, List, [], ◌∷◌, ◌++◌, map, length, ◌<◌, ◌+◌, set, take, drop, slice_get, Option, Some, None, find, Result, Ok, Err, refl, sym, ◌∙◌, ap, subst, append-nil}
+use Rattle.std.proofs.Common.{◌≡◌, ℕ, true, List, [], ◌∷◌, ◌++◌, set, slice_get, Option, Some, None, Result, Ok, Err, refl, sym, ◌∙◌, ap, subst, append-nil}
 use Rattle.std.specs.Option.{option_map}
-use Rattle.std.specs.List.{AllByRecursion}
-use Rattle.std.specs.Str.{bytes_eq}
 use Rattle.std.proofs.lemmas.Bool.{and_parts}
 use Rattle.dq_list.specs.Among.{IsAmong}
 use Rattle.dq_dataset.specs.declared.fault.ReadFault.{ReadFault}
@@ -10,17 +8,16 @@ use Rattle.dq_dataset.specs.declared.header.Syntax.TheVariants.{Explicit}
 use Rattle.dq_dataset.specs.Tree.{ElementList}
 use Rattle.dq_dataset.specs.Reading.{reading}
 use Rattle.dq_tables.specs.declared.row.Kind.{Kind}
-use Rattle.dq_tables.specs.declared.row.Kind.TheVariants.{Entry, Step}
+use Rattle.dq_tables.specs.declared.row.Kind.TheVariants.{Entry}
 use Rattle.dq_tables.specs.declared.row.Row.{Row}
-use Rattle.dq_tables.specs.Rows.{Record, Place, Edit, Put, Start, as_started, left_there, place, within, record_of, row_of, record_at, of, rows_before, rows_past, after_edit, after_edits, IsRising}
+use Rattle.dq_tables.specs.Rows.{Record, Place, Put, Start, place, record_of, row_of, record_at, of, rows_before, rows_past, after_edit, IsRising}
 use Rattle.dq_tables.specs.Labels.{patient_of}
-use Rattle.dq_tables.specs.Finding.{same_kind, row_at, is_of, IsThere, IsFree}
+use Rattle.dq_tables.specs.Finding.{row_at, IsThere}
 use Rattle.dq_tables.specs.Indexed.{Index, ListsEach, is_listed}
 use Rattle.dq_tables.specs.Sound.{is_own, is_record_of, may_be_started, is_held}
 use Rattle.dq_tables.proofs.ByKeys.{find_among}
 use Rattle.dq_tables.proofs.Edits.{set_is}
 use Rattle.dq_tables.proofs.Indexed.{put_listed}
-use Rattle.dq_tables.proofs.Lens.{rising_edit}
 use Rattle.dq_tables.proofs.Listing.{its_kind}
 use Rattle.dq_tables.proofs.Members.{apart_is, free_is, one_inside}
 use Rattle.dq_tables.proofs.Rising.{each_among}
