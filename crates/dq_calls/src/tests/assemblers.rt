@@ -17,24 +17,59 @@ fn data(octets: Listed<u8>, last: bool) -> Pdv {
     }
 }
 
-/// An assembler that was given a request of a Command Field, with a data set to follow.
-fn begun(alloc: Global, code: u16) -> Result<Assembler, Fail> {
+/// A request of a Command Field, with a data set to follow.
+fn request(alloc: Global, code: u16) -> Result<Pdv, AllocError> {
     let mut request = ECHO_REQUEST;
     request[46..48].copy_from_slice(&code.to_le_bytes());
     request[66] = 0;
+    command(alloc, &request)
+}
+
+fn fresh(alloc: Global) -> Result<Assembler, AllocError> {
     let accepted = [1, 3].map(|id| Accepted {
         id,
         syntax: Syntax::Explicit,
     });
-    let mut assembler = Assembler::new(alloc, Listed::copy_of(alloc, &accepted)?);
-    if assembler.take(&command(alloc, &request)?)?.is_some() {
+    Ok(Assembler::new(alloc, Listed::copy_of(alloc, &accepted)?))
+}
+
+/// Gives an assembler a fragment behind which its message goes on.
+fn take(assembler: &mut Assembler, fragment: &Pdv) -> Result<(), Fail> {
+    if assembler.take(fragment)?.is_some() {
         return Err("the data set is still to come".into());
     }
+    Ok(())
+}
+
+/// An assembler that was given a request of a Command Field, with a data set to follow.
+fn begun(alloc: Global, code: u16) -> Result<Assembler, Fail> {
+    let request = request(alloc, code)?;
+    let mut assembler = fresh(alloc)?;
+    take(&mut assembler, &request)?;
     Ok(assembler)
 }
 
 fn zeros(alloc: Global, length: usize) -> Result<Listed<u8>, AllocError> {
     Ok(Listed::from_inner(vec![in alloc; 0; length]?))
+}
+
+fn take_front(alloc: Global, assembler: &mut Assembler, front: &[u8]) -> Result<(), Fail> {
+    let fragment = data(Listed::copy_of(alloc, front)?, false);
+    take(assembler, &fragment)
+}
+
+fn take_zeros(alloc: Global, assembler: &mut Assembler, fragments: usize) -> Result<(), Fail> {
+    let fragment = data(zeros(alloc, 0x1_0000)?, false);
+    for _ in 0..fragments {
+        take(assembler, &fragment)?;
+    }
+    Ok(())
+}
+
+/// What an assembler makes of its last fragment, of so many octets of zero.
+fn whole(alloc: Global, assembler: &mut Assembler, length: usize) -> Result<Message, Fail> {
+    let last = data(zeros(alloc, length)?, true);
+    Ok(assembler.take(&last)?.ok_or("the message is whole")?)
 }
 
 /// A message whose data set has these octets, and so many of zero behind them, in fragments.
@@ -45,18 +80,9 @@ pub(super) fn with_zeros(
     length: usize,
 ) -> Result<Message, Fail> {
     let mut assembler = begun(alloc, code)?;
-    let mut unfinished = assembler
-        .take(&data(Listed::copy_of(alloc, front)?, false))?
-        .is_none();
-    let fragment = data(zeros(alloc, 0x1_0000)?, false);
-    for _ in 0..length / 0x1_0000 {
-        unfinished &= assembler.take(&fragment)?.is_none();
-    }
-    if !unfinished {
-        return Err("the data set is still to come".into());
-    }
-    let last = data(zeros(alloc, length % 0x1_0000)?, true);
-    Ok(assembler.take(&last)?.ok_or("the message is whole")?)
+    take_front(alloc, &mut assembler, front)?;
+    take_zeros(alloc, &mut assembler, length / 0x1_0000)?;
+    whole(alloc, &mut assembler, length % 0x1_0000)
 }
 
 /// What is held of a data set of zero octets: so many, or nothing, since they spell none.
@@ -73,6 +99,18 @@ fn is_discarded(message: &Message) -> bool {
     message.over && matches!(&message.body, Body::Octets(octets) if octets.is_empty())
 }
 
+fn is_over(alloc: Global, code: u16, length: usize) -> Result<bool, Fail> {
+    Ok(with_zeros(alloc, code, &[], length)?.over)
+}
+
+fn is_held_whole(alloc: Global, code: u16, length: usize) -> Result<bool, Fail> {
+    Ok(is_held(&with_zeros(alloc, code, &[], length)?, length))
+}
+
+fn is_none_held(alloc: Global, code: u16, length: usize) -> Result<bool, Fail> {
+    Ok(is_discarded(&with_zeros(alloc, code, &[], length)?))
+}
+
 /// A C-FIND's data set may have 1,048,576 octets, and a C-STORE's 4,294,967,295.
 #[test]
 fn data_sets_at_their_limits(rt: HostRuntime) -> Result<(), Fail> {
@@ -81,11 +119,9 @@ fn data_sets_at_their_limits(rt: HostRuntime) -> Result<(), Fail> {
         (command_field::C_FIND, 0x10_0000),
         (command_field::C_STORE, 0xFFFF_FFFF),
     ] {
-        assert!(rt; !with_zeros(alloc, code, &[], limit - 2)?.over);
-        let at = with_zeros(alloc, code, &[], limit)?;
-        assert!(rt; is_held(&at, limit));
-        let above = with_zeros(alloc, code, &[], limit + 2)?;
-        assert!(rt; is_discarded(&above));
+        assert!(rt; !is_over(alloc, code, limit - 2)?);
+        assert!(rt; is_held_whole(alloc, code, limit)?);
+        assert!(rt; is_none_held(alloc, code, limit + 2)?);
     }
     Ok(())
 }

@@ -16,11 +16,20 @@ fn data_set(alloc: Global, elements: &[(Tag, &[u8])]) -> Result<DataSet, Fail> {
     Ok(read(alloc, octets.as_slice(), Syntax::Implicit)?)
 }
 
+/// The data set of one element.
+fn alone(alloc: Global, tag: Tag, value: &[u8]) -> Result<DataSet, Fail> {
+    data_set(alloc, &[(tag, value)])
+}
+
 /// Whether a record of one element meets a key.
 fn meets_alone(alloc: Global, tag: Tag, key: &[u8], held: &[u8]) -> Result<bool, Fail> {
-    let key = data_set(alloc, &[(tag, key)])?;
-    let held = data_set(alloc, &[(tag, held)])?;
+    let key = alone(alloc, tag, key)?;
+    let held = alone(alloc, tag, held)?;
     Ok(fits(&key, &held))
+}
+
+fn is_query_alone(alloc: Global, tag: Tag, value: &[u8]) -> Result<bool, Fail> {
+    Ok(is_query(&alone(alloc, tag, value)?))
 }
 
 // PS3.4 section C.2.2.2.4.
@@ -90,7 +99,12 @@ fn keys_of_each_kind(rt: HostRuntime) -> Result<(), Fail> {
         let met = meets_alone(rt.alloc(), tag, key, held)?;
         assert_eq!(rt; met, expected, "{tag:?} {key:?} {held:?}");
     }
-    let key = data_set(rt.alloc(), &[(tags::PATIENT_ID, b"S*H")])?;
+    Ok(())
+}
+
+#[test]
+fn what_is_absent_meets_every_key(rt: HostRuntime) -> Result<(), Fail> {
+    let key = alone(rt.alloc(), tags::PATIENT_ID, b"S*H")?;
     let absent = data_set(rt.alloc(), &[])?;
     assert!(rt; fits(&key, &absent));
     for element in key.elements() {
@@ -118,20 +132,29 @@ fn queries(rt: HostRuntime) -> Result<(), Fail> {
     Ok(())
 }
 
+/// A level, a private element, and a patient's name without a value.
+const WITH_PRIVATE: &[u8] = b"\x08\0\x52\0\x06\0\0\0STUDY \x09\0\x10\0\x02\0\0\0XY\
+\x10\0\x10\0\0\0\0\0";
+
+/// Whether a key of a query is struck, how many are left, and what is shown of a record to those.
+fn answered(
+    alloc: Global,
+    query: &DataSet,
+    list: KeyList,
+    held: &DataSet,
+) -> Result<(bool, usize, DataSet), Fail> {
+    let (keys, optional) = strike(alloc, query, list)?;
+    let answer = shown(alloc, &keys, held)?;
+    Ok((optional, keys.elements().len(), answer))
+}
+
 #[test]
 fn unsupported_keys_are_struck(rt: HostRuntime) -> Result<(), Fail> {
-    let private = Tag {
-        group: 0x0009,
-        element: 0x0010,
-    };
-    let level = (tags::QUERY_RETRIEVE_LEVEL, b"STUDY ".as_slice());
-    let name = (tags::PATIENT_NAME, b"".as_slice());
-    let identifier = data_set(rt.alloc(), &[level, (private, b"XY"), name])?;
-    let (struck, optional) = strike(rt.alloc(), &identifier, KeyList::Study)?;
+    let query = read(rt.alloc(), WITH_PRIVATE, Syntax::Implicit)?;
+    let held = alone(rt.alloc(), tags::PATIENT_NAME, b"DOE^A ")?;
+    let (optional, left, answer) = answered(rt.alloc(), &query, KeyList::Study, &held)?;
     assert!(rt; optional);
-    assert_eq!(rt; struck.elements().len(), 2);
-    let held = data_set(rt.alloc(), &[(tags::PATIENT_NAME, b"DOE^A ")])?;
-    let answer = shown(rt.alloc(), &struck, &held)?;
+    assert_eq!(rt; left, 2);
     assert_eq!(rt; answer.elements().len(), 1);
     assert!(rt; answer.get(tags::PATIENT_NAME).is_some());
     Ok(())
@@ -139,23 +162,29 @@ fn unsupported_keys_are_struck(rt: HostRuntime) -> Result<(), Fail> {
 
 // The code item A with meaning Y is in no one of the items (A, X) and (B, Y), as PS3.5 section 7.5
 // spells them: one item of defined length after another.
+const CODE: Tag = tags::REQUESTED_PROCEDURE_CODE_SEQUENCE;
+
+const ITEMS: &[u8] = b"\xfe\xff\0\xe0\x14\0\0\0\x08\0\0\x01\x02\0\0\0A \x08\0\x02\x01\x02\0\0\0X \
+\xfe\xff\0\xe0\x14\0\0\0\x08\0\0\x01\x02\0\0\0B \x08\0\x02\x01\x02\0\0\0Y ";
+
+const ACROSS: &[u8] = b"\xfe\xff\0\xe0\x14\0\0\0\x08\0\0\x01\x02\0\0\0A \x08\0\x02\x01\x02\0\0\0Y ";
+
+const ONE_CODE: &[u8] = b"\xfe\xff\0\xe0\x0a\0\0\0\x08\0\0\x01\x02\0\0\0A ";
+
 #[test]
 fn one_item_meets_all_keys(rt: HostRuntime) -> Result<(), Fail> {
-    let code = tags::REQUESTED_PROCEDURE_CODE_SEQUENCE;
-    let items = b"\xfe\xff\0\xe0\x14\0\0\0\x08\0\0\x01\x02\0\0\0A \x08\0\x02\x01\x02\0\0\0X \
-        \xfe\xff\0\xe0\x14\0\0\0\x08\0\0\x01\x02\0\0\0B \x08\0\x02\x01\x02\0\0\0Y ";
-    let across = b"\xfe\xff\0\xe0\x14\0\0\0\x08\0\0\x01\x02\0\0\0A \x08\0\x02\x01\x02\0\0\0Y ";
-    let alone = b"\xfe\xff\0\xe0\x0a\0\0\0\x08\0\0\x01\x02\0\0\0A ";
-    let held = data_set(rt.alloc(), &[(code, items)])?;
-    let two = data_set(rt.alloc(), &[(code, across)])?;
-    let one = data_set(rt.alloc(), &[(code, alone)])?;
-    assert!(rt; !fits(&two, &held));
-    assert!(rt; fits(&one, &held));
-    assert!(rt; !is_query(&held));
-    let (one, optional) = strike(rt.alloc(), &one, KeyList::Entry)?;
+    assert!(rt; !meets_alone(rt.alloc(), CODE, ACROSS, ITEMS)?);
+    assert!(rt; meets_alone(rt.alloc(), CODE, ONE_CODE, ITEMS)?);
+    assert!(rt; !is_query_alone(rt.alloc(), CODE, ITEMS)?);
+    Ok(())
+}
+
+#[test]
+fn a_code_is_shown_as_its_key(rt: HostRuntime) -> Result<(), Fail> {
+    let query = alone(rt.alloc(), CODE, ONE_CODE)?;
+    let held = alone(rt.alloc(), CODE, ITEMS)?;
+    let (optional, _, answer) = answered(rt.alloc(), &query, KeyList::Entry, &held)?;
     assert!(rt; !optional);
-    let answer = shown(rt.alloc(), &one, &held)?;
-    let expected = data_set(rt.alloc(), &[(code, alone)])?;
-    assert_eq!(rt; answer.elements().len(), expected.elements().len());
+    assert_eq!(rt; answer.elements().len(), query.elements().len());
     Ok(())
 }

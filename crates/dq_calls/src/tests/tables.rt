@@ -3,7 +3,7 @@ ghost use Rattle.std.specs.Prelude.{◌≡◌, ◌<◌, ◌^◌, [], true, lengt
 ghost use Rattle.dq_tables.specs.Sound.{is_own, Fits};
 
 use dq_list::Listed;
-use dq_tables::{Change, Fuse, Fused, Kind, PlainTables, Row, TableFault, Tables};
+use dq_tables::{Change, Fuse, Fused, Kind, PlainTables, RecordKeys, Row, TableFault, Tables};
 use std::alloc::{AllocError, Global};
 use std::test::*;
 
@@ -35,13 +35,8 @@ fn row(
           octets = octets.now;
         }) }
 {
-    Ok(Row {
-        kind,
-        inst: Listed::copy_of(alloc, NORTH)?,
-        key: Listed::copy_of(alloc, key)?,
-        above: Listed::copy_of(alloc, above)?,
-        octets: Listed::copy_of(alloc, octets)?,
-    })
+    let octets = Vec::from_slice(alloc, octets)?;
+    Row::new(alloc, NORTH, &RecordKeys { kind, key, above }, octets)
 }
 
 /// A row of NORTH that is its record's own.
@@ -95,11 +90,11 @@ fn begun(alloc: Global) -> Result<Change, Fail>
 }
 
 /// Tables in which nothing was kept but what a change adds.
-fn after(alloc: Global, change: &Change) -> Result<PlainTables, TableFault>
-    requires { Fits [] change.now }
+fn after(alloc: Global, change: Change) -> Result<PlainTables, TableFault>
+    requires { Fits [] change }
 {
     let mut tables = PlainTables::new(alloc);
-    match tables.apply(alloc, change) {
+    match tables.apply(alloc, &change) {
         Ok(()) => Ok(tables),
         Err(fault) => Err(fault),
     }
@@ -108,19 +103,19 @@ fn after(alloc: Global, change: &Change) -> Result<PlainTables, TableFault>
 /// Tables with a study, a series and an image of NORTH.
 pub(super) fn with_image(alloc: Global) -> Result<PlainTables, Fail> {
     let change = stored(alloc)?;
-    Ok(after(alloc, &change)?)
+    Ok(after(alloc, change)?)
 }
 
 /// Tables with an entry of NORTH.
 fn with_entry(alloc: Global) -> Result<PlainTables, Fail> {
     let change = added(alloc)?;
-    Ok(after(alloc, &change)?)
+    Ok(after(alloc, change)?)
 }
 
 /// Tables with a step of NORTH.
 fn with_step(alloc: Global) -> Result<PlainTables, Fail> {
     let change = begun(alloc)?;
-    Ok(after(alloc, &change)?)
+    Ok(after(alloc, change)?)
 }
 
 #[test]
