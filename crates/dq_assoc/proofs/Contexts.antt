@@ -4,6 +4,7 @@ use Rattle.std.specs.Prelude.{◌||◌, ◌&&◌, filter, find, filter_map, is_s
 use Rattle.std.specs.List.{cons_option}
 use Rattle.std.specs.Result.{result_ok}
 use Rattle.std.specs.Str.{bytes_eq}
+use Rattle.std.proofs.lemmas.Bool.{and_parts, or_parts}
 use Rattle.std.proofs.lemmas.Slice.Eq.{bytes_eq-Decides}
 use Rattle.std.proofs.lemmas.List.Folds.{list_any_at}
 use Rattle.dq_dataset.specs.declared.header.Syntax.{Syntax}
@@ -33,14 +34,6 @@ class-named uid class e =
     (bytes_eq-Decides (uid_of class) uid).0 (found-passes (λ (class : SopClass). bytes_eq (uid_of class) uid) served_classes class e)
 
 -- ---- Bools
-
-or-false : (a b : Bool) → (a || b) ≡ false → (a ≡ false) × (b ≡ false)
-or-false true b e = absurd cc
-or-false false b e = (refl, e)
-
-and-true : (a b : Bool) → (a && b) ≡ true → (a ≡ true) × (b ≡ true)
-and-true true b e = (refl, e)
-and-true false b e = absurd cc
 
 not-true : (a : Bool) → not a ≡ true → a ≡ false
 not-true true e = absurd cc
@@ -204,11 +197,11 @@ among-fewer : (x : ℕ) (o : Option AgreedContext) (c : ProposedContext) (cs : L
     → (is_among x (map (λ (c : ProposedContext). c.id) cs) ≡ false → is_among x (agreed-ids cs) ≡ false)
     → ((x == c.id) || is_among x (map (λ (c : ProposedContext). c.id) cs)) ≡ false
     → is_among x (map (λ (a : AgreedContext). a.id) (cons_option o (filter_map agreed_context cs))) ≡ false
-among-fewer x None c cs same later e = later (or-false (x == c.id) _ e).1
+among-fewer x None c cs same later e = later (or_parts (x == c.id) _ e).1
 among-fewer x (Some a) c cs same later e =
     ap (λ (n : ℕ). (x == n) || is_among x (agreed-ids cs)) (same a refl)
-    ∙ ap (λ (b : Bool). b || is_among x (agreed-ids cs)) (or-false (x == c.id) _ e).0
-    ∙ later (or-false (x == c.id) _ e).1
+    ∙ ap (λ (b : Bool). b || is_among x (agreed-ids cs)) (or_parts (x == c.id) _ e).0
+    ∙ later (or_parts (x == c.id) _ e).1
 
 not-among : (x : ℕ) (cs : List ProposedContext) → is_among x (map (λ (c : ProposedContext). c.id) cs) ≡ false → is_among x (agreed-ids cs) ≡ false
 not-among x [] e = refl
@@ -218,9 +211,9 @@ distinct-cons : (o : Option AgreedContext) (c : ProposedContext) (cs : List Prop
     → (are_distinct (map (λ (c : ProposedContext). c.id) cs) ≡ true → are_distinct (agreed-ids cs) ≡ true)
     → (not (is_among c.id (map (λ (c : ProposedContext). c.id) cs)) && are_distinct (map (λ (c : ProposedContext). c.id) cs)) ≡ true
     → are_distinct (map (λ (a : AgreedContext). a.id) (cons_option o (filter_map agreed_context cs))) ≡ true
-distinct-cons None c cs same later e = later (and-true (not (is_among c.id (map (λ (c : ProposedContext). c.id) cs))) _ e).1
+distinct-cons None c cs same later e = later (and_parts (not (is_among c.id (map (λ (c : ProposedContext). c.id) cs))) _ e).1
 distinct-cons (Some a) c cs same later e =
-    let both = and-true (not (is_among c.id (map (λ (c : ProposedContext). c.id) cs))) _ e in
+    let both = and_parts (not (is_among c.id (map (λ (c : ProposedContext). c.id) cs))) _ e in
     ap (λ (n : ℕ). not (is_among n (agreed-ids cs)) && are_distinct (agreed-ids cs)) (same a refl)
     ∙ ap (λ (b : Bool). not b && are_distinct (agreed-ids cs)) (not-among c.id cs (not-true (is_among c.id (map (λ (c : ProposedContext). c.id) cs)) both.0))
     ∙ later both.1

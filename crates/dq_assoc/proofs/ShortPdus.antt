@@ -2,14 +2,13 @@
 use Rattle.std.proofs.Common.{ℕ, [], ◌∷◌, refl, lit≤}
 use Rattle.std.specs.Int.{w32, to_be_bytes}
 use Rattle.dq_pdu.specs.declared.pdu.Pdu.TheVariants.{Reject, ReleaseRp, Abort}
-use Rattle.dq_pdu.specs.Numbers.{a_associate_rj, a_release_rp, a_abort, short_body}
 use Rattle.dq_pdu.specs.Writing.{IsWritable}
 
 pub reject_is_writable : (result source reason : ℕ) → IsWritable (Reject result source reason)
 reject_is_writable result source reason = record {
-  kind = a_associate_rj;
+  kind = 3;
   reserved = 0;
-  size = to_be_bytes w32 short_body;
+  size = to_be_bytes w32 4;
   body = 0 ∷ result ∷ source ∷ reason ∷ [];
   whole = refl;
   sized = record { wide = refl; value = refl };
@@ -19,9 +18,9 @@ reject_is_writable result source reason = record {
 
 pub release_is_writable : IsWritable ReleaseRp
 release_is_writable = record {
-  kind = a_release_rp;
+  kind = 6;
   reserved = 0;
-  size = to_be_bytes w32 short_body;
+  size = to_be_bytes w32 4;
   body = 0 ∷ 0 ∷ 0 ∷ 0 ∷ [];
   whole = refl;
   sized = record { wide = refl; value = refl };
@@ -31,9 +30,9 @@ release_is_writable = record {
 
 pub abort_is_writable : (source reason : ℕ) → IsWritable (Abort source reason)
 abort_is_writable source reason = record {
-  kind = a_abort;
+  kind = 7;
   reserved = 0;
-  size = to_be_bytes w32 short_body;
+  size = to_be_bytes w32 4;
   body = 0 ∷ 0 ∷ source ∷ reason ∷ [];
   whole = refl;
   sized = record { wide = refl; value = refl };

@@ -1,6 +1,6 @@
 -- The answer to an association request (PS3.8 sections 7.1.1, 9.3.2 to 9.3.4; PS3.7 annex D.3), and
 -- what an association agrees on.
-use Rattle.std.specs.Prelude.{ℕ, ◌%◌, Bool, false, not, ◌==◌, if◌then◌else◌, List, map, codes, find, Option, Some, None, is_some, unwrap_or, Result, Ok, Err}
+use Rattle.std.specs.Prelude.{ℕ, ◌%◌, Bool, false, not, ◌==◌, if◌then◌else◌, List, map, find, Option, Some, None, is_some, unwrap_or, Result, Ok, Err}
 use Rattle.std.specs.List.{list_any, filter_map}
 use Rattle.std.specs.Result.{result_ok}
 use Rattle.std.specs.Str.{bytes_eq}
@@ -17,6 +17,8 @@ use Rattle.dq_assoc.specs.declared.agreement.AgreedContext.{AgreedContext}
 use Rattle.dq_assoc.specs.declared.agreement.Agreement.{Agreement}
 use Rattle.dq_assoc.specs.declared.negotiation.ContextRefusal.{ContextRefusal}
 use Rattle.dq_assoc.specs.declared.negotiation.ContextRefusal.TheVariants.{AbstractSyntaxNotSupported, TransferSyntaxesNotSupported}
+use Rattle.dq_assoc.specs.declared.negotiation.TheConstants as code
+pub use Rattle.dq_assoc.specs.declared.negotiation.TheConstants.{PROTOCOL_VERSION as protocol_version, ACCEPTANCE as acceptance, PERMANENT as permanent, TRANSIENT as transient, SERVICE_USER as service_user, ASSOCIATION_PROVIDER as association_provider, PRESENTATION_PROVIDER as presentation_provider, NO_REASON as no_reason, APPLICATION_CONTEXT_NOT_SUPPORTED as application_context_not_supported, PROTOCOL_VERSION_NOT_SUPPORTED as protocol_version_not_supported, LOCAL_LIMIT_EXCEEDED as local_limit_exceeded}
 use Rattle.dq_assoc.specs.declared.association.Verdict.{Verdict}
 use Rattle.dq_assoc.specs.declared.association.Verdict.TheVariants.{Accept, Nowhere, Busy}
 use Rattle.dq_assoc.specs.Classes.{class_of}
@@ -24,12 +26,12 @@ use Rattle.dq_assoc.specs.PeerLimits.{has_room}
 
 -- The DICOM application context (PS3.7 annex A.2.1).
 abbrev pub dicom_context : List ℕ
-dicom_context = codes "1.2.840.10008.3.1.1.1"
+dicom_context = code.DICOM_CONTEXT.now
 
 -- Implicit and Explicit VR Little Endian (PS3.5 annex A.1 and A.2).
 abbrev pub syntax_uid : Syntax → List ℕ
-syntax_uid Implicit = codes "1.2.840.10008.1.2"
-syntax_uid Explicit = codes "1.2.840.10008.1.2.1"
+syntax_uid Implicit = code.IMPLICIT_SYNTAX.now
+syntax_uid Explicit = code.EXPLICIT_SYNTAX.now
 
 abbrev pub offers : List (List ℕ) → List ℕ → Bool
 offers syntaxes syntax = list_any (λ (offered : List ℕ). bytes_eq offered syntax) syntaxes
@@ -61,19 +63,10 @@ agreed_context c = result_ok (context_result c)
 abbrev pub is_accepted : ProposedContext → Bool
 is_accepted c = is_some (agreed_context c)
 
--- The results of a presentation context (PS3.8 table 9-18).
-abbrev pub acceptance : ℕ
-acceptance = 0x00
-
-abbrev pub abstract_syntax_not_supported : ℕ
-abstract_syntax_not_supported = 0x03
-
-abbrev pub transfer_syntaxes_not_supported : ℕ
-transfer_syntaxes_not_supported = 0x04
-
+-- the result of a context that is refused (PS3.8 table 9-18)
 abbrev pub result_of_refusal : ContextRefusal → ℕ
-result_of_refusal AbstractSyntaxNotSupported = abstract_syntax_not_supported
-result_of_refusal TransferSyntaxesNotSupported = transfer_syntaxes_not_supported
+result_of_refusal AbstractSyntaxNotSupported = 0x03
+result_of_refusal TransferSyntaxesNotSupported = 0x04
 
 abbrev pub answer_with : ℕ → ℕ → Syntax → AnsweredContext
 answer_with id reason syntax =
@@ -108,10 +101,6 @@ ids_of agreement = map (λ (c : AgreedContext). c.id) agreement.contexts
 abbrev pub context_of : Agreement → ℕ → Option AgreedContext
 context_of agreement id = find (λ (c : AgreedContext). c.id == id) agreement.contexts
 
--- The protocol's version, a field of bits: version 1 is bit 0 (PS3.8 section 9.3.2).
-abbrev pub protocol_version : ℕ
-protocol_version = 0x0001
-
 -- version 1, both titles and the reserved octets as received, and each context answered in order;
 -- the longest PDU that is received
 abbrev pub acceptance_of : Request → Pdu
@@ -129,34 +118,6 @@ acceptance_of request = accept_pdu (record {
 abbrev pub is_dicom : Option (List ℕ) → Bool
 is_dicom None = false
 is_dicom (Some name) = bytes_eq name dicom_context
-
--- The results, sources and reasons of a rejection (PS3.8 table 9-21).
-abbrev pub permanent : ℕ
-permanent = 0x01
-
-abbrev pub transient : ℕ
-transient = 0x02
-
-abbrev pub service_user : ℕ
-service_user = 0x01
-
-abbrev pub association_provider : ℕ
-association_provider = 0x02
-
-abbrev pub presentation_provider : ℕ
-presentation_provider = 0x03
-
-abbrev pub no_reason : ℕ
-no_reason = 0x01
-
-abbrev pub application_context_not_supported : ℕ
-application_context_not_supported = 0x02
-
-abbrev pub protocol_version_not_supported : ℕ
-protocol_version_not_supported = 0x02
-
-abbrev pub local_limit_exceeded : ℕ
-local_limit_exceeded = 0x02
 
 -- no institution has the titles: which of them is unknown is not told
 abbrev pub unknown_rejection : Pdu

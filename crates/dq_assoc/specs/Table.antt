@@ -8,6 +8,7 @@ use Rattle.dq_pdu.specs.declared.pdu.Pdu.TheVariants.{ReleaseRp, Abort}
 use Rattle.dq_pdu.specs.declared.pdu.Request.{Request}
 use Rattle.dq_pdu.specs.Writing.{is_writable, spelling}
 use Rattle.dq_dimse.specs.Received.{Message}
+pub use Rattle.dq_assoc.specs.declared.association.TheConstants.{BY_USER as by_user, BY_PROVIDER as by_provider, NOT_SPECIFIED as not_specified, UNRECOGNIZED_PDU as unrecognized_pdu, UNEXPECTED_PDU as unexpected_pdu, INVALID_PARAMETER as invalid_parameter}
 use Rattle.dq_assoc.specs.declared.association.State.{State}
 use Rattle.dq_assoc.specs.declared.association.State.TheVariants.{Waiting, Open, Closed}
 use Rattle.dq_assoc.specs.declared.association.Verdict.{Verdict}
@@ -31,26 +32,6 @@ pub record Line : Type 0 where
 
 abbrev pub goes : Option Pdu → State → Line
 goes answer next = record { answer = answer; next = next }
-
--- The sources of an abort (PS3.8 table 9-26).
-abbrev pub by_user : ℕ
-by_user = 0x00
-
-abbrev pub by_provider : ℕ
-by_provider = 0x02
-
--- Its reasons, all but the first of the provider (PS3.8 table 9-26).
-abbrev pub not_specified : ℕ
-not_specified = 0x00
-
-abbrev pub unrecognized_pdu : ℕ
-unrecognized_pdu = 0x01
-
-abbrev pub unexpected_pdu : ℕ
-unexpected_pdu = 0x02
-
-abbrev pub invalid_parameter : ℕ
-invalid_parameter = 0x06
 
 -- AA-1: what stands in a request's place, and a request whose acceptance no octets spell, is
 -- aborted.

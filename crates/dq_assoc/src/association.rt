@@ -243,13 +243,8 @@ fn take_value(
             messages.push(message)?;
             Ok(false)
         }
-        Err(fault) => {
-            if fault == DimseFault::NoMemory {
-                Err(AllocError)
-            } else {
-                Ok(true)
-            }
-        }
+        Err(DimseFault::NoMemory) => Err(AllocError),
+        Err(_) => Ok(true),
     }
 }
 

@@ -11,19 +11,12 @@ use Rattle.dq_dataset.specs.View.{elements_of}
 use Rattle.dq_dataset.specs.Reading.{reading}
 use Rattle.dq_dataset.specs.Grammar.{AreOctets, IsSpelled}
 use Rattle.dq_list.specs.Readers.{◌>>=◌, provided}
+use Rattle.dq_list.proofs.Readers.{bind_some, provided_some}
 use Rattle.dq_dimse.specs.declared.command.Command.{Command}
 use Rattle.dq_dimse.specs.Commands.{belongs, number_of, identifier_of, id_number, class_number, instance_number, command_from, read_set, command_of}
 use Rattle.dq_dimse.specs.CommandElements.{command_field, command_data_set_type, no_data_set}
 use Rattle.dq_dimse.specs.CommandFields.{response_bit}
 use Rattle.dq_dimse.specs.CommandSets.{SaysCommand, IsCommandSet}
-
-bind_some : {A B : Type 0} (r : Option A) (f : A → Option B) (y : B) → (r >>= f) ≡ Some y → (x : A) × (r ≡ Some x) × (f x ≡ Some y)
-bind_some (Some x) f y e = (x, refl, e)
-bind_some None f y e = absurd cc
-
-provided_some : {A : Type 0} (b : Bool) (x y : A) → provided b x ≡ Some y → (b ≡ true) × (x ≡ y)
-provided_some true x y e = (refl, cc)
-provided_some false x y e = absurd cc
 
 set_read : (r : Result ElementList ReadFault) (set : ElementList) → read_set r ≡ Some set → r ≡ Ok set
 set_read (Ok x) set e = cc

@@ -8,6 +8,7 @@ use Rattle.std.proofs.lemmas.List.{append-nil}
 use Rattle.dq_pdu.specs.declared.pdu.Pdv.{Pdv}
 use Rattle.dq_pdu.specs.Writing.{pdv, body, spelling, is_writable, p_data}
 use Rattle.dq_dimse.specs.Sending.{IsLimit, pdu_limit, fragment_size, fragments_within, pdus_of}
+use Rattle.dq_dimse.proofs.Fragments.{one_fragment}
 
 abbrev pub pdus_within : ℕ → Bool → ℕ → ℕ → List ℕ → List ℕ
 pdus_within context command fuel size octets = flat_map spelling (pdus_of context command (fragments_within fuel size octets))
@@ -69,13 +70,9 @@ pub goes_on : (context : ℕ) (command : Bool) (size : ℕ) (written rest total 
     → Cuts context command size (written ++ spelling (p_data context command false (take size rest))) (drop size rest) total
 goes_on context command size written rest total some long c = one_more context command size written rest total c.fuel some long c.enough c.whole
 
-last_fragment : (fuel size : ℕ) (rest : List ℕ) → length rest ≤ size → fragments_within fuel size rest ≡ rest ∷ []
-last_fragment zero size rest le = refl
-last_fragment (suc fuel) size rest le = rw (le-leb _ _ le) refl
-
 pub ends : (context : ℕ) (command : Bool) (size : ℕ) (written rest total : List ℕ) → length rest ≤ size → Cuts context command size written rest total
     → written ++ spelling (p_data context command true rest) ≡ total
 ends context command size written rest total le c =
     let e : pdus_within context command c.fuel size rest ≡ spelling (p_data context command true rest) ++ [] =
-    ap (λ (fs : List (List ℕ)). flat_map spelling (pdus_of context command fs)) (last_fragment c.fuel size rest le) in
+    ap (λ (fs : List (List ℕ)). flat_map spelling (pdus_of context command fs)) (one_fragment c.fuel size rest le) in
     ap (λ (xs : List ℕ). written ++ xs) (sym (append-nil _) ∙ sym e) ∙ c.whole

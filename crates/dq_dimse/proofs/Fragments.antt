@@ -10,7 +10,7 @@ use Rattle.dq_dimse.specs.Sending.{fragments_within, AreSized, AreFragmentsOf}
 abbrev pub together : List (List ℕ) → List ℕ
 together run = flat_map (λ (part : List ℕ). part) run
 
-one_fragment : (fuel size : ℕ) (octets : List ℕ) → length octets ≤ size → fragments_within fuel size octets ≡ octets ∷ []
+pub one_fragment : (fuel size : ℕ) (octets : List ℕ) → length octets ≤ size → fragments_within fuel size octets ≡ octets ∷ []
 one_fragment zero size octets le = refl
 one_fragment (suc fuel) size octets le = rw (le-leb _ _ le) refl
 

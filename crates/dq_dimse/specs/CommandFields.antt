@@ -1,30 +1,24 @@
--- Values of Command Field (0000,0100): the requests that are served (PS3.7 annex E.1).
+-- Values of Command Field (0000,0100): those of the code (PS3.7 annex E.1).
 use Rattle.std.specs.Prelude.{ℕ}
+use Rattle.dq_dimse.specs.declared.command_field.TheConstants as code
 
--- PS3.7 section 9.3.1
 abbrev pub c_store : ℕ
-c_store = 0x0001
+c_store = code.C_STORE
 
--- PS3.7 section 9.3.2
 abbrev pub c_find : ℕ
-c_find = 0x0020
+c_find = code.C_FIND
 
--- PS3.7 section 9.3.5
 abbrev pub c_echo : ℕ
-c_echo = 0x0030
+c_echo = code.C_ECHO
 
--- PS3.7 section 10.3.3
 abbrev pub n_set : ℕ
-n_set = 0x0120
+n_set = code.N_SET
 
--- PS3.7 section 10.3.5
 abbrev pub n_create : ℕ
-n_create = 0x0140
+n_create = code.N_CREATE
 
--- PS3.7 section 9.3.2.3
 abbrev pub c_cancel : ℕ
-c_cancel = 0x0fff
+c_cancel = code.C_CANCEL
 
--- the bit that the Command Field of each response has
 abbrev pub response_bit : ℕ
-response_bit = 0x8000
+response_bit = code.RESPONSE_BIT

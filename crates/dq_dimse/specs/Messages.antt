@@ -6,6 +6,9 @@ use Rattle.std.specs.Prelude.{if◌then◌else◌, List, [], ◌∷◌, ◌++◌
 use Rattle.std.specs.List.{flat_map}
 use Rattle.dq_pdu.specs.declared.pdu.Pdv.{Pdv}
 use Rattle.dq_pdu.specs.Octets.{is_among}
+-- the limits are the code's, that of a command set too
+use Rattle.dq_dimse.specs.declared.assembler.TheConstants as code
+pub use Rattle.dq_dimse.specs.declared.assembler.TheConstants.{COMMAND_LIMIT as command_limit}
 use Rattle.dq_dimse.specs.declared.command.Command.{Command}
 use Rattle.dq_dimse.specs.Received.{Message}
 use Rattle.dq_dimse.specs.declared.fault.DimseFault.{DimseFault}
@@ -14,16 +17,12 @@ use Rattle.dq_dimse.specs.declared.fault.DimseFault.TheVariants.{BadCommand, NoM
 use Rattle.dq_dimse.specs.CommandFields.{c_store}
 use Rattle.dq_dimse.specs.Commands.{command_of}
 
--- a command set is at most so many octets
-abbrev pub command_limit : ℕ
-command_limit = 16384
-
--- A data set is at most so many octets: that of a C-STORE, and that of any other command.
+-- a data set is at most so many octets: that of a C-STORE, and that of any other command
 abbrev pub store_limit : ℕ
-store_limit = 4294967295
+store_limit = code.STORE_LIMIT
 
 abbrev pub other_limit : ℕ
-other_limit = 1048576
+other_limit = code.OTHER_LIMIT
 
 abbrev pub data_limit : Command → ℕ
 data_limit command = if command.code == c_store then store_limit else other_limit

@@ -4,16 +4,13 @@ use Rattle.std.specs.Result.{result_ok}
 use Rattle.dq_dataset.specs.declared.header.Syntax.{Syntax}
 use Rattle.dq_dataset.specs.Reading.{reading}
 use Rattle.dq_dataset.specs.Tree.{ElementList}
+pub use Rattle.dq_dimse.specs.declared.receiving.TheConstants.{IDENTIFIER_LIMIT as identifier_limit}
 use Rattle.dq_dimse.specs.Received.{Message}
 use Rattle.dq_dimse.specs.Statuses.{out_of_resources, cannot_understand}
 
 -- The octets of its data set are more than the limit, or were discarded as more than they may be.
 abbrev pub is_over : ℕ → Message → Bool
 is_over limit message = message.over || nat_lt limit (length message.octets)
-
--- an Identifier, the data set of a C-FIND request, is at most so many octets
-abbrev pub identifier_limit : ℕ
-identifier_limit = 1048576
 
 abbrev pub unless_unread : Option ElementList → Result ElementList ℕ
 unless_unread None = Err cannot_understand

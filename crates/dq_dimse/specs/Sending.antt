@@ -8,6 +8,7 @@ use Rattle.dq_pdu.specs.declared.pdu.Pdu.{Pdu}
 use Rattle.dq_pdu.specs.Numbers.{pdv_header}
 use Rattle.dq_pdu.specs.Writing.{spelling, p_data}
 use Rattle.dq_dimse.specs.declared.command.Command.{Command}
+pub use Rattle.dq_dimse.specs.declared.sending.TheConstants.{PDU_LIMIT as own_limit}
 use Rattle.dq_dimse.specs.CommandElements.{command_field, command_data_set_type, status_element}
 use Rattle.dq_dimse.specs.CommandElements.{command_group_length, message_id_being_responded_to}
 use Rattle.dq_dimse.specs.CommandElements.{affected_sop_class_uid, affected_sop_instance_uid}
@@ -55,10 +56,7 @@ least_limit = 8
 abbrev pub IsLimit : ℕ → Type 0
 IsLimit limit = (limit ≡ 0) ⊎ (least_limit ≤ limit)
 
--- The longest PDU that is sent: 16,384 octets, or what the peer takes where that is less.
-abbrev pub own_limit : ℕ
-own_limit = 16384
-
+-- The longest PDU that is sent: the code's own limit, or what the peer takes where that is less.
 abbrev pub pdu_limit : ℕ → ℕ
 pdu_limit limit = if limit == 0 then own_limit else min limit own_limit
 

@@ -4,7 +4,7 @@ use Rattle.std.specs.Int.{w16, from_be_bytes}
 use Rattle.std.proofs.lemmas.List.{take-append-drop, length-take-le, length-drop, drop-drop, take_at, drop_at}
 use Rattle.dq_pdu.specs.declared.reading.Item.{Item}
 use Rattle.dq_pdu.specs.Octets.{Fills, parts_of}
-use Rattle.dq_pdu.specs.Spelling.{IsItem, IsAssociate}
+use Rattle.dq_pdu.specs.Spelling.{IsItem, AreFields}
 use Rattle.dq_pdu.specs.Reading.{item_at}
 use Rattle.dq_pdu.proofs.ItemLaws.{items_read}
 
@@ -18,7 +18,7 @@ field_length : (body : List ℕ) (m n : ℕ) → m + n ≤ length body → lengt
 field_length body m n h = length-take-le n (drop m body) (omega (arith, length-drop m body))
 
 pub associate_spelled : (body : List ℕ) (items : List Item) → 68 ≤ length body → Fills IsItem items (drop 68 body)
-    → IsAssociate (from_be_bytes w16 (take 2 body)) (take 16 (drop 4 body)) (take 16 (drop 20 body)) (take 32 (drop 36 body)) items body
+    → AreFields (from_be_bytes w16 (take 2 body)) (take 16 (drop 4 body)) (take 16 (drop 20 body)) (take 32 (drop 36 body)) items body
 associate_spelled body items h fills =
     let s2 = longer (take 2 body) body 2 2 (sym (take-append-drop 2 body)) in
     let s3 = longer (take 2 body ++ take 2 (drop 2 body)) body 4 16 s2 in
@@ -50,7 +50,7 @@ pub record Fixed (version : ℕ) (called calling reserved : List ℕ) (items : L
   pub items_are : parts_of item_at (drop 68 body) ≡ Some items
 
 pub fixed_from : (version : ℕ) (called calling reserved : List ℕ) (items : List Item) (body : List ℕ)
-    → IsAssociate version called calling reserved items body → Fixed version called calling reserved items body
+    → AreFields version called calling reserved items body → Fixed version called calling reserved items body
 fixed_from version called calling reserved items body is =
     let n = is.number in
     let g = is.gap in

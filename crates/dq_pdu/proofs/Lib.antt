@@ -4,7 +4,6 @@ pub mod Filling
 pub mod Readers
 pub mod Given
 pub mod ItemBodies
-pub mod AssociateRead
 pub mod Fronts
 pub mod PduLaws
 pub mod PartLaws
@@ -17,8 +16,7 @@ pub mod StreamLaws
 pub mod InboxLaws
 pub mod WritingLaws
 pub mod WrittenItems
-pub mod WrittenRequests
-pub mod WrittenAccepts
+pub mod WrittenAssociates
 pub mod WritableLaws
 pub mod ContextIds
 pub mod Answering

@@ -72,9 +72,9 @@ received octets request octets_are s =
     let contexts = bodies_small 32 is.items fixed.rest fixed.fills rest in
     record {
       ids = record {
-        odd = odd_ids request.contexts (bodies 32 is.items) is.contexts;
+        odd = odd_ids request.contexts (bodies 32 is.items) is.each;
         octets = small_ids request.contexts
-            (bodies 32 is.items) is.contexts contexts;
+            (bodies 32 is.items) is.each contexts;
         distinct = is.distinct;
       };
       called_sixteen = fixed.called_sixteen;

@@ -7,18 +7,17 @@ use Rattle.std.proofs.lemmas.List.{drop_at}
 use Rattle.std.proofs.lemmas.Nat.{from_be_bytes-to_be_bytes_4}
 use Rattle.dq_pdu.specs.declared.pdu.Pdu.{Pdu}
 use Rattle.dq_pdu.specs.declared.pdu.Pdu.TheVariants.{Request as request_pdu, Accept as accept_pdu, Reject, PData, ReleaseRq, ReleaseRp, Abort}
-use Rattle.dq_pdu.specs.Spelling.{IsBody}
+use Rattle.dq_pdu.specs.Spelling.{request_fields, accept_fields, IsBody}
 use Rattle.dq_pdu.specs.Writing.{kind, body, IsWritable, has_parts, is_writable}
 use Rattle.dq_pdu.specs.Widths.{counted, HasWidths}
 use Rattle.dq_pdu.proofs.ContextLaws.{not_nil, filled}
 use Rattle.dq_pdu.proofs.WritingLaws.{values_written}
-use Rattle.dq_pdu.proofs.WrittenRequests.{request_written, request_tells}
-use Rattle.dq_pdu.proofs.WrittenAccepts.{accept_written, accept_tells}
+use Rattle.dq_pdu.proofs.WrittenAssociates.{of_requests, of_accepts, associate_spelled, associate_tells}
 use Rattle.dq_pdu.proofs.Spelled.{short_body}
 
 body_written : (pdu : Pdu) → HasWidths pdu → length (body pdu) ≤ 65536 → has_parts pdu ≡ true → IsBody pdu (kind pdu) (body pdu)
-body_written (request_pdu r) w h e = (refl, request_written r w h e)
-body_written (accept_pdu a) w h e = (refl, accept_written a w h e)
+body_written (request_pdu r) w h e = (refl, associate_spelled of_requests (λ c. c.id) (request_fields r) r.contexts w h e)
+body_written (accept_pdu a) w h e = (refl, associate_spelled of_accepts (λ c. c.id) (accept_fields a) a.contexts w h e)
 body_written (Reject result source reason) w h e = (refl, 0, refl)
 body_written (PData values) w h e = (refl, not_nil values e, values_written values h)
 body_written ReleaseRq w h e = (refl, refl)
@@ -26,8 +25,8 @@ body_written ReleaseRp w h e = (refl, refl)
 body_written (Abort source reason) w h e = (refl, 0, 0, refl)
 
 body_tells : (pdu : Pdu) (k : ℕ) → length (body pdu) ≤ 65536 → IsBody pdu k (body pdu) → has_parts pdu ≡ true
-body_tells (request_pdu r) k h is = request_tells r h is.1
-body_tells (accept_pdu a) k h is = accept_tells a h is.1
+body_tells (request_pdu r) k h is = associate_tells of_requests (λ c. c.id) (request_fields r) r.contexts h is.1
+body_tells (accept_pdu a) k h is = associate_tells of_accepts (λ c. c.id) (accept_fields a) a.contexts h is.1
 body_tells (Reject result source reason) k h is = refl
 body_tells (PData values) k h is = filled values is.1
 body_tells ReleaseRq k h is = refl

@@ -6,7 +6,7 @@ use Rattle.std.proofs.lemmas.List.{drop_at}
 use Rattle.std.proofs.lemmas.Nat.{from_be_bytes-to_be_bytes_2, from_be_bytes-to_be_bytes_4}
 use Rattle.dq_pdu.specs.declared.reading.Item.{Item}
 use Rattle.dq_pdu.specs.Octets.{Fills, parts_of, bodies, at_most_one, unpadded}
-use Rattle.dq_pdu.specs.Spelling.{IsItem, IsAssociate, IsMaximumLength, IsUserInformation}
+use Rattle.dq_pdu.specs.Spelling.{IsItem, AreFields, IsMaximumLength, IsUserInformation}
 use Rattle.dq_pdu.specs.Reading.{item_at}
 use Rattle.dq_pdu.specs.Writing.{item, application_context, maximum_length, request_information, implementation, accept_information, fixed_fields, associate, kind, is_name}
 use Rattle.dq_pdu.specs.Widths.{AreWide}
@@ -122,7 +122,7 @@ three_runs kind a b c x y z e1 e2 e3 = bodies-append kind (a ++ b) c ∙ ap (λ 
 
 pub associate_written : (version : ℕ) (called calling reserved : List ℕ) (maximum : Option ℕ) (items : List Item) (octets : List ℕ)
     → AreWide version called calling reserved maximum → Fills IsItem items octets
-    → IsAssociate version called calling reserved items (associate version called calling reserved octets)
+    → AreFields version called calling reserved items (associate version called calling reserved octets)
 associate_written version called calling reserved maximum items octets w fills = record {
   number = to_be_bytes w16 version;
   gap = 0 ∷ 0 ∷ [];
@@ -138,7 +138,7 @@ associate_written version called calling reserved maximum items octets w fills =
 
 -- the items after the fixed fields are those that were written
 pub items_are : (version : ℕ) (called calling reserved : List ℕ) (items written : List Item) (octets : List ℕ)
-    → IsAssociate version called calling reserved items (associate version called calling reserved octets) → Fills IsItem written octets → items ≡ written
+    → AreFields version called calling reserved items (associate version called calling reserved octets) → Fills IsItem written octets → items ≡ written
 items_are version called calling reserved items written octets is fills =
     let fixed = fixed_from version called calling reserved items (associate version called calling reserved octets) is in
     let n1 = length-append ((to_be_bytes w16 version ++ (0 ∷ 0 ∷ called)) ++ calling) reserved in

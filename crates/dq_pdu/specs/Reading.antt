@@ -97,8 +97,8 @@ user_information_of (Some body) = do
 
 -- what a request and an acceptance have in common, from the body and the items after its fixed
 -- fields
-unfoldable pub associate_of : List ℕ → List Item → Option Associate
-associate_of body items = do
+unfoldable pub fields_of : List ℕ → List Item → Option Associate
+fields_of body items = do
   application ← at_most_one (bodies application_context_item items)
   user ← at_most_one (bodies user_information_item items)
   maximum ← user_information_of user
@@ -133,23 +133,25 @@ accept_with fields contexts = record {
   maximum_length = fields.maximum_length;
 }
 
-unfoldable pub request_of : List ℕ → Option Request
-request_of body = do
+-- the same with the contexts, each of which is read from the body of an item of the type
+unfoldable pub associate_of : {C : Type 0} → (List ℕ → Option C) → (C → ℕ) → ℕ → List ℕ
+    → Option (Associate × List C)
+associate_of context_of id_of kind body = do
   rest ← provided (nat_le associate_fields (length body)) (drop associate_fields body)
   items ← parts_of item_at rest
-  fields ← associate_of body items
-  contexts ← each proposed_of (bodies proposed_context_item items)
-  let ids = map (λ (c : ProposedContext). c.id) contexts
-  provided (are_distinct ids) (request_with fields contexts)
+  fields ← fields_of body items
+  contexts ← each context_of (bodies kind items)
+  provided (are_distinct (map id_of contexts)) (fields, contexts)
+
+unfoldable pub request_of : List ℕ → Option Request
+request_of body = do
+  read ← associate_of proposed_of (λ c. c.id) proposed_context_item body
+  Some (request_with read.0 read.1)
 
 unfoldable pub accept_of : List ℕ → Option Accept
 accept_of body = do
-  rest ← provided (nat_le associate_fields (length body)) (drop associate_fields body)
-  items ← parts_of item_at rest
-  fields ← associate_of body items
-  contexts ← each answered_of (bodies answered_context_item items)
-  let ids = map (λ (c : AnsweredContext). c.id) contexts
-  provided (are_distinct ids) (accept_with fields contexts)
+  read ← associate_of answered_of (λ c. c.id) answered_context_item body
+  Some (accept_with read.0 read.1)
 
 unfoldable pub values_of : List ℕ → Option Pdu
 values_of body = do

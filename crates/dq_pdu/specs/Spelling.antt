@@ -3,6 +3,7 @@
 use Rattle.std.specs.Prelude.{◌≡◌, ◌≢◌, ℕ, ◌+◌, ◌/◌, ◌%◌, ◌≤◌, IsTrue, ◌==◌, List, [], ◌∷◌, ◌++◌, length, map, Option, Some, None, option_map}
 use Rattle.std.specs.Int.{w16, w32}
 use Rattle.dq_pdu.specs.declared.reading.Item.{Item}
+use Rattle.dq_pdu.specs.declared.bodies.Associate.{Associate}
 use Rattle.dq_pdu.specs.declared.pdu.Pdu.{Pdu}
 use Rattle.dq_pdu.specs.declared.pdu.Pdu.TheVariants.{Request as request_pdu, Accept as accept_pdu, Reject, PData, ReleaseRq, ReleaseRp, Abort}
 use Rattle.dq_pdu.specs.declared.pdu.Request.{Request}
@@ -63,7 +64,7 @@ pub record IsAnswered (context : AnsweredContext) (body : List ℕ) : Type 0 whe
       ≡ Some context.transfer_syntax
 
 -- The fixed fields of a request or an acceptance, and its items (PS3.8 sections 9.3.2 and 9.3.3).
-pub record IsAssociate
+pub record AreFields
     (version : ℕ) (called calling reserved : List ℕ) (items : List Item) (body : List ℕ)
     : Type 0 where
   pub number : List ℕ
@@ -92,29 +93,53 @@ IsUserInformation maximum (body ∷ []) =
     × IsMaximumLength maximum (bodies maximum_length_item items)
 IsUserInformation maximum (a ∷ b ∷ bs) = ⊥
 
--- An association request: at most one application context (10H), presentation contexts (20H) with
--- ids of their own and at most one user information item (50H); all other items are free (PS3.8
--- section 9.3.2).
-pub record IsRequest (request : Request) (body : List ℕ) : Type 0 where
+-- A request or an acceptance: at most one application context (10H), presentation contexts of one
+-- type with ids of their own and at most one user information item (50H); all other items are free
+-- (PS3.8 sections 9.3.2 and 9.3.3).
+pub record IsAssociate {C : Type 0}
+    (Context : C → List ℕ → Type 0) (kind : ℕ) (id_of : C → ℕ)
+    (fields : Associate) (contexts : List C) (body : List ℕ)
+    : Type 0 where
   pub items : List Item
-  pub fixed : IsAssociate request.version request.called request.calling request.reserved items body
+  pub fixed : AreFields fields.version fields.called fields.calling fields.reserved items body
   pub application :
       option_map (option_map unpadded) (at_most_one (bodies application_context_item items))
-      ≡ Some request.application_context
-  pub contexts : Pairwise IsProposed request.contexts (bodies proposed_context_item items)
-  pub distinct : IsTrue (are_distinct (map (λ (c : ProposedContext). c.id) request.contexts))
-  pub user : IsUserInformation request.maximum_length (bodies user_information_item items)
+      ≡ Some fields.application_context
+  pub each : Pairwise Context contexts (bodies kind items)
+  pub distinct : IsTrue (are_distinct (map id_of contexts))
+  pub user : IsUserInformation fields.maximum_length (bodies user_information_item items)
 
--- An acceptance, with answered contexts (21H) in the place of proposed ones (PS3.8 section 9.3.3).
-pub record IsAccept (accept : Accept) (body : List ℕ) : Type 0 where
-  pub items : List Item
-  pub fixed : IsAssociate accept.version accept.called accept.calling accept.reserved items body
-  pub application :
-      option_map (option_map unpadded) (at_most_one (bodies application_context_item items))
-      ≡ Some accept.application_context
-  pub contexts : Pairwise IsAnswered accept.contexts (bodies answered_context_item items)
-  pub distinct : IsTrue (are_distinct (map (λ (c : AnsweredContext). c.id) accept.contexts))
-  pub user : IsUserInformation accept.maximum_length (bodies user_information_item items)
+abbrev pub request_fields : Request → Associate
+request_fields r = record {
+  version = r.version;
+  called = r.called;
+  calling = r.calling;
+  reserved = r.reserved;
+  application_context = r.application_context;
+  maximum_length = r.maximum_length;
+}
+
+-- a request has proposed contexts (20H)
+abbrev pub IsRequest : Request → List ℕ → Type 0
+IsRequest r body =
+    IsAssociate IsProposed proposed_context_item (λ (c : ProposedContext). c.id)
+    (request_fields r) r.contexts body
+
+abbrev pub accept_fields : Accept → Associate
+accept_fields a = record {
+  version = a.version;
+  called = a.called;
+  calling = a.calling;
+  reserved = a.reserved;
+  application_context = a.application_context;
+  maximum_length = a.maximum_length;
+}
+
+-- an acceptance has answered contexts (21H) in their place
+abbrev pub IsAccept : Accept → List ℕ → Type 0
+IsAccept a body =
+    IsAssociate IsAnswered answered_context_item (λ (c : AnsweredContext). c.id)
+    (accept_fields a) a.contexts body
 
 -- the type of a PDU, and the body that it may have (PS3.8 sections 9.3.2 to 9.3.8)
 abbrev pub IsBody : Pdu → ℕ → List ℕ → Type 0

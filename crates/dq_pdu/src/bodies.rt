@@ -1,9 +1,9 @@
 //! The bodies of PDUs, as they are read (PS3.8 sections 9.3.2 to 9.3.8).
-ghost use Rattle.std.specs.Prelude.{◌≡◌, ◌≤◌, ◌+◌, length, take, drop, option_map, map, IfOk};
+ghost use Rattle.std.specs.Prelude.{◌≡◌, ◌≤◌, ◌+◌, ℕ, List, Option, length, take, drop, option_map, map, IfOk};
 ghost use Rattle.dq_list.specs.Readers.{Gives};
-ghost use Rattle.dq_pdu.specs.Numbers.{associate_fields, proposed_context_item, answered_context_item};
+ghost use Rattle.dq_pdu.specs.Numbers.{associate_fields};
 ghost use Rattle.dq_pdu.specs.Octets.{parts_of, bodies, each, unpadded};
-ghost use Rattle.dq_pdu.specs.Reading.{Fails, item_at, maximum_in, user_information_of, proposed_of, answered_of, associate_of, request_of, accept_of, pdv_at, values_of, pdu_of};
+ghost use Rattle.dq_pdu.specs.Reading.{Fails, item_at, maximum_in, user_information_of, proposed_of, answered_of, fields_of, associate_of, request_of, accept_of, pdv_at, values_of, pdu_of};
 
 use crate::items::{at_most_one, exactly_one, items_of, name_of, names_of};
 use crate::numbers::{
@@ -12,7 +12,7 @@ use crate::numbers::{
 };
 use crate::pdu::{Accept, AnsweredContext, Pdu, Pdv, ProposedContext, Request};
 use crate::reading::{Item, ReadError};
-use crate::rules::are_distinct;
+use crate::rules::{Identified, are_distinct};
 use dq_list::Listed;
 use std::alloc::{AllocError, Global};
 
@@ -42,72 +42,67 @@ fn user_information_of(alloc: Global, user: Option<&[u8]>) -> Result<Option<u32>
     }
 }
 
-/// A proposed presentation context, from the body of its item.
-#[tactic(auto, unfolding(crate::specs::Reading::proposed_of))]
-fn proposed_of(alloc: Global, body: &[u8]) -> Result<ProposedContext, ReadError>
-    ensures { Gives Fails (λ x. x) result (proposed_of body.now) }
-{
-    if body.len() < CONTEXT_FIELDS {
-        return Err(ReadError::Malformed);
-    }
-    let (fields, rest) = body.split_at(CONTEXT_FIELDS);
-    let items = items_of(alloc, rest)?;
-    let abstract_syntax = exactly_one(&items, item_type::ABSTRACT_SYNTAX)?;
-    let transfer_syntaxes = names_of(alloc, &items, item_type::TRANSFER_SYNTAX)?;
-    if fields[0] % 2 == 0 || transfer_syntaxes.is_empty() {
-        return Err(ReadError::Malformed);
-    }
-    Ok(ProposedContext {
-        id: fields[0],
-        abstract_syntax: name_of(alloc, abstract_syntax)?,
-        transfer_syntaxes: Listed::from_inner(transfer_syntaxes),
-    })
+/// A presentation context, as it is read from the body of its item.
+trait Context: Identified + Drop {
+    ghost context_of: { List ℕ → Option Self };
+
+    fn read(alloc: Global, body: &[u8]) -> Result<Self, ReadError>
+        ensures { Gives Fails (λ x. x) result (context_of body.now) };
 }
 
-/// An answered presentation context, from the body of its item.
-#[tactic(auto, unfolding(crate::specs::Reading::answered_of))]
-fn answered_of(alloc: Global, body: &[u8]) -> Result<AnsweredContext, ReadError>
-    ensures { Gives Fails (λ x. x) result (answered_of body.now) }
-{
-    if body.len() < CONTEXT_FIELDS {
-        return Err(ReadError::Malformed);
-    }
-    let (fields, rest) = body.split_at(CONTEXT_FIELDS);
-    let items = items_of(alloc, rest)?;
-    let transfer_syntax = exactly_one(&items, item_type::TRANSFER_SYNTAX)?;
-    if fields[0] % 2 == 0 {
-        return Err(ReadError::Malformed);
-    }
-    Ok(AnsweredContext {
-        id: fields[0],
-        result: fields[2],
-        transfer_syntax: name_of(alloc, transfer_syntax)?,
-    })
-}
+impl Context for ProposedContext {
+    ghost context_of = { proposed_of };
 
-/// The proposed contexts among the items of a request.
-fn proposed_contexts(alloc: Global, items: &[Item]) -> Result<Vec<ProposedContext>, ReadError>
-    ensures { Gives Fails (λ v. v.items) result
-        (each proposed_of (bodies proposed_context_item items.now)) }
-{
-    let mut contexts = Vec::new(alloc);
-    for item in items {
-        if item.kind == item_type::PROPOSED_CONTEXT {
-            contexts.push(proposed_of(alloc, item.octets.inner())?)?;
+    #[tactic(auto, unfolding(crate::specs::Reading::proposed_of))]
+    fn read(alloc: Global, body: &[u8]) -> Result<Self, ReadError> {
+        if body.len() < CONTEXT_FIELDS {
+            return Err(ReadError::Malformed);
         }
+        let (fields, rest) = body.split_at(CONTEXT_FIELDS);
+        let items = items_of(alloc, rest)?;
+        let abstract_syntax = exactly_one(&items, item_type::ABSTRACT_SYNTAX)?;
+        let transfer_syntaxes = names_of(alloc, &items, item_type::TRANSFER_SYNTAX)?;
+        if fields[0] % 2 == 0 || transfer_syntaxes.is_empty() {
+            return Err(ReadError::Malformed);
+        }
+        Ok(ProposedContext {
+            id: fields[0],
+            abstract_syntax: name_of(alloc, abstract_syntax)?,
+            transfer_syntaxes: Listed::from_inner(transfer_syntaxes),
+        })
     }
-    Ok(contexts)
 }
 
-/// The answered contexts among the items of an acceptance.
-fn answered_contexts(alloc: Global, items: &[Item]) -> Result<Vec<AnsweredContext>, ReadError>
-    ensures { Gives Fails (λ v. v.items) result
-        (each answered_of (bodies answered_context_item items.now)) }
+impl Context for AnsweredContext {
+    ghost context_of = { answered_of };
+
+    #[tactic(auto, unfolding(crate::specs::Reading::answered_of))]
+    fn read(alloc: Global, body: &[u8]) -> Result<Self, ReadError> {
+        if body.len() < CONTEXT_FIELDS {
+            return Err(ReadError::Malformed);
+        }
+        let (fields, rest) = body.split_at(CONTEXT_FIELDS);
+        let items = items_of(alloc, rest)?;
+        let transfer_syntax = exactly_one(&items, item_type::TRANSFER_SYNTAX)?;
+        if fields[0] % 2 == 0 {
+            return Err(ReadError::Malformed);
+        }
+        Ok(AnsweredContext {
+            id: fields[0],
+            result: fields[2],
+            transfer_syntax: name_of(alloc, transfer_syntax)?,
+        })
+    }
+}
+
+/// The contexts in the items of a type.
+fn contexts_of<C: Context>(alloc: Global, items: &[Item], kind: u8) -> Result<Vec<C>, ReadError>
+    ensures { Gives Fails (λ v. v.items) result (each C.context_of (bodies kind items.now)) }
 {
     let mut contexts = Vec::new(alloc);
     for item in items {
-        if item.kind == item_type::ANSWERED_CONTEXT {
-            contexts.push(answered_of(alloc, item.octets.inner())?)?;
+        if item.kind == kind {
+            contexts.push(C::read(alloc, item.octets.inner())?)?;
         }
     }
     Ok(contexts)
@@ -149,10 +144,10 @@ pub(crate) struct Associate {
 
 /// What a request and an acceptance have in common, from the body and the items after its fixed
 /// fields.
-#[tactic(auto, unfolding(crate::specs::Reading::associate_of))]
-fn associate_of(alloc: Global, body: &[u8], items: &[Item]) -> Result<Associate, ReadError>
+#[tactic(auto, unfolding(crate::specs::Reading::fields_of))]
+fn fields_of(alloc: Global, body: &[u8], items: &[Item]) -> Result<Associate, ReadError>
     requires { associate_fields ≤ length body.now }
-    ensures { Gives Fails (λ x. x) result (associate_of body.now items.now) }
+    ensures { Gives Fails (λ x. x) result (fields_of body.now items.now) }
 {
     let application = at_most_one(items, item_type::APPLICATION_CONTEXT)?;
     let user = at_most_one(items, item_type::USER_INFORMATION)?;
@@ -167,13 +162,27 @@ fn associate_of(alloc: Global, body: &[u8], items: &[Item]) -> Result<Associate,
     })
 }
 
-/// The items after the fixed fields of a request or an acceptance.
-fn associate_items(alloc: Global, body: &[u8]) -> Result<Vec<Item>, ReadError>
-    requires { associate_fields ≤ length body.now }
-    ensures { Gives Fails (λ v. v.items) result
-        (parts_of item_at (drop associate_fields body.now)) }
+/// What a request and an acceptance have in common, and the contexts in the items of a type, from
+/// the body (PS3.8 sections 9.3.2 and 9.3.3).
+#[tactic(auto, unfolding(crate::specs::Reading::associate_of))]
+fn associate_of<C: Context>(
+    alloc: Global,
+    body: &[u8],
+    kind: u8,
+) -> Result<(Associate, Vec<C>), ReadError>
+    ensures { Gives Fails (λ x. (x.0, x.1.items)) result
+        (associate_of C.context_of C.id_of kind body.now) }
 {
-    items_of(alloc, body.split_at(ASSOCIATE_FIELDS).1)
+    if body.len() < ASSOCIATE_FIELDS {
+        return Err(ReadError::Malformed);
+    }
+    let items = items_of(alloc, body.split_at(ASSOCIATE_FIELDS).1)?;
+    let fields = fields_of(alloc, body, &items)?;
+    let contexts = contexts_of(alloc, &items, kind)?;
+    if !are_distinct(&contexts) {
+        return Err(ReadError::Malformed);
+    }
+    Ok((fields, contexts))
 }
 
 /// A request, from its body (PS3.8 section 9.3.2).
@@ -181,10 +190,7 @@ fn associate_items(alloc: Global, body: &[u8]) -> Result<Vec<Item>, ReadError>
 fn request_of(alloc: Global, body: &[u8]) -> Result<Request, ReadError>
     ensures { Gives Fails (λ x. x) result (request_of body.now) }
 {
-    if body.len() < ASSOCIATE_FIELDS {
-        return Err(ReadError::Malformed);
-    }
-    let items = associate_items(alloc, body)?;
+    let (fields, contexts) = associate_of(alloc, body, item_type::PROPOSED_CONTEXT)?;
     let Associate {
         version,
         called,
@@ -192,11 +198,7 @@ fn request_of(alloc: Global, body: &[u8]) -> Result<Request, ReadError>
         reserved,
         application_context,
         maximum_length,
-    } = associate_of(alloc, body, &items)?;
-    let contexts = proposed_contexts(alloc, &items)?;
-    if !are_distinct(&contexts) {
-        return Err(ReadError::Malformed);
-    }
+    } = fields;
     Ok(Request {
         version,
         called,
@@ -213,10 +215,7 @@ fn request_of(alloc: Global, body: &[u8]) -> Result<Request, ReadError>
 fn accept_of(alloc: Global, body: &[u8]) -> Result<Accept, ReadError>
     ensures { Gives Fails (λ x. x) result (accept_of body.now) }
 {
-    if body.len() < ASSOCIATE_FIELDS {
-        return Err(ReadError::Malformed);
-    }
-    let items = associate_items(alloc, body)?;
+    let (fields, contexts) = associate_of(alloc, body, item_type::ANSWERED_CONTEXT)?;
     let Associate {
         version,
         called,
@@ -224,11 +223,7 @@ fn accept_of(alloc: Global, body: &[u8]) -> Result<Accept, ReadError>
         reserved,
         application_context,
         maximum_length,
-    } = associate_of(alloc, body, &items)?;
-    let contexts = answered_contexts(alloc, &items)?;
-    if !are_distinct(&contexts) {
-        return Err(ReadError::Malformed);
-    }
+    } = fields;
     Ok(Accept {
         version,
         called,

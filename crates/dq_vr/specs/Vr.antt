@@ -9,40 +9,20 @@ use Rattle.dq_vr.specs.declared.LengthForm.TheVariants.{Two, Four}
 
 -- the length field in an explicit spelling (PS3.5 section 7.1.2, tables 7.1-1 and 7.1-2)
 unfoldable pub length_form_of : Vr → LengthForm
-length_form_of AE = Two
-length_form_of AS = Two
-length_form_of AT = Two
-length_form_of CS = Two
-length_form_of DA = Two
-length_form_of DS = Two
-length_form_of DT = Two
-length_form_of FD = Two
-length_form_of FL = Two
-length_form_of IS = Two
-length_form_of LO = Two
-length_form_of LT = Two
 length_form_of OB = Four
 length_form_of OD = Four
 length_form_of OF = Four
 length_form_of OL = Four
 length_form_of OV = Four
 length_form_of OW = Four
-length_form_of PN = Two
-length_form_of SH = Two
-length_form_of SL = Two
 length_form_of SQ = Four
-length_form_of SS = Two
-length_form_of ST = Two
 length_form_of SV = Four
-length_form_of TM = Two
 length_form_of UC = Four
-length_form_of UI = Two
-length_form_of UL = Two
 length_form_of UN = Four
 length_form_of UR = Four
-length_form_of US = Two
 length_form_of UT = Four
 length_form_of UV = Four
+length_form_of _ = Two
 
 -- the VRs whose values are character strings (PS3.5 section 6.2, table 6.2-1), UI apart
 unfoldable pub is_text : Vr → Bool

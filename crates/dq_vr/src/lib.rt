@@ -264,7 +264,6 @@ fn vr_in(entries: &[(Tag, Vr)], tag: Tag) -> Option<Vr>
 /// The tags of the dictionary rise, so that no tag is there twice, and `lookup` answers each
 /// entry's VR.
 pub fn dictionary_law()
-    ensures keywords { DICTIONARY ≡ dictionary }
     ensures rises { Rises dictionary }
     ensures told { (entry : Entry) → Contains dictionary entry → known_vr entry.0 ≡ Some entry.1 }
 {}

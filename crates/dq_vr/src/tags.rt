@@ -1,4 +1,6 @@
-//! The tags of the data dictionary by their keywords (PS3.6, chapter 6).
+//! The tags of the data dictionary by their keywords (PS3.6, chapter 6), by rising tag.
+
+use crate::Tag;
 
 /// A tag by the numbers of its group and its element.
 macro_rules! tag {
@@ -10,175 +12,331 @@ macro_rules! tag {
     };
 }
 
-mod acquisition;
-mod descriptions;
-mod identifying;
-mod image;
-mod patient;
-mod performed_steps;
-mod references;
-mod relationship;
-mod requested_procedures;
-mod scheduled_steps;
-mod visit;
+/// `SpecificCharacterSet`.
+pub const SPECIFIC_CHARACTER_SET: Tag = tag!(0x0008, 0x0005);
+/// `ImageType`.
+pub const IMAGE_TYPE: Tag = tag!(0x0008, 0x0008);
+/// `InstanceCreationDate`.
+pub const INSTANCE_CREATION_DATE: Tag = tag!(0x0008, 0x0012);
+/// `InstanceCreationTime`.
+pub const INSTANCE_CREATION_TIME: Tag = tag!(0x0008, 0x0013);
+/// `InstanceCreatorUID`.
+pub const INSTANCE_CREATOR_UID: Tag = tag!(0x0008, 0x0014);
+/// `SOPClassUID`.
+pub const SOP_CLASS_UID: Tag = tag!(0x0008, 0x0016);
+/// `SOPInstanceUID`.
+pub const SOP_INSTANCE_UID: Tag = tag!(0x0008, 0x0018);
+/// `StudyDate`.
+pub const STUDY_DATE: Tag = tag!(0x0008, 0x0020);
+/// `SeriesDate`.
+pub const SERIES_DATE: Tag = tag!(0x0008, 0x0021);
+/// `AcquisitionDate`.
+pub const ACQUISITION_DATE: Tag = tag!(0x0008, 0x0022);
+/// `ContentDate`.
+pub const CONTENT_DATE: Tag = tag!(0x0008, 0x0023);
+/// `AcquisitionDateTime`.
+pub const ACQUISITION_DATE_TIME: Tag = tag!(0x0008, 0x002a);
+/// `StudyTime`.
+pub const STUDY_TIME: Tag = tag!(0x0008, 0x0030);
+/// `SeriesTime`.
+pub const SERIES_TIME: Tag = tag!(0x0008, 0x0031);
+/// `AcquisitionTime`.
+pub const ACQUISITION_TIME: Tag = tag!(0x0008, 0x0032);
+/// `ContentTime`.
+pub const CONTENT_TIME: Tag = tag!(0x0008, 0x0033);
+/// `AccessionNumber`.
+pub const ACCESSION_NUMBER: Tag = tag!(0x0008, 0x0050);
+/// `QueryRetrieveLevel`.
+pub const QUERY_RETRIEVE_LEVEL: Tag = tag!(0x0008, 0x0052);
+/// `RetrieveAETitle`.
+pub const RETRIEVE_AE_TITLE: Tag = tag!(0x0008, 0x0054);
+/// `InstanceAvailability`.
+pub const INSTANCE_AVAILABILITY: Tag = tag!(0x0008, 0x0056);
+/// `Modality`.
+pub const MODALITY: Tag = tag!(0x0008, 0x0060);
+/// `ModalitiesInStudy`.
+pub const MODALITIES_IN_STUDY: Tag = tag!(0x0008, 0x0061);
+/// `SOPClassesInStudy`.
+pub const SOP_CLASSES_IN_STUDY: Tag = tag!(0x0008, 0x0062);
+/// `ConversionType`.
+pub const CONVERSION_TYPE: Tag = tag!(0x0008, 0x0064);
+/// `Manufacturer`.
+pub const MANUFACTURER: Tag = tag!(0x0008, 0x0070);
+/// `InstitutionName`.
+pub const INSTITUTION_NAME: Tag = tag!(0x0008, 0x0080);
+/// `InstitutionAddress`.
+pub const INSTITUTION_ADDRESS: Tag = tag!(0x0008, 0x0081);
+/// `ReferringPhysicianName`.
+pub const REFERRING_PHYSICIAN_NAME: Tag = tag!(0x0008, 0x0090);
+/// `CodeValue`.
+pub const CODE_VALUE: Tag = tag!(0x0008, 0x0100);
+/// `CodingSchemeDesignator`.
+pub const CODING_SCHEME_DESIGNATOR: Tag = tag!(0x0008, 0x0102);
+/// `CodingSchemeVersion`.
+pub const CODING_SCHEME_VERSION: Tag = tag!(0x0008, 0x0103);
+/// `CodeMeaning`.
+pub const CODE_MEANING: Tag = tag!(0x0008, 0x0104);
+/// `TimezoneOffsetFromUTC`.
+pub const TIMEZONE_OFFSET_FROM_UTC: Tag = tag!(0x0008, 0x0201);
+/// `StationName`.
+pub const STATION_NAME: Tag = tag!(0x0008, 0x1010);
+/// `StudyDescription`.
+pub const STUDY_DESCRIPTION: Tag = tag!(0x0008, 0x1030);
+/// `ProcedureCodeSequence`.
+pub const PROCEDURE_CODE_SEQUENCE: Tag = tag!(0x0008, 0x1032);
+/// `SeriesDescription`.
+pub const SERIES_DESCRIPTION: Tag = tag!(0x0008, 0x103e);
+/// `InstitutionalDepartmentName`.
+pub const INSTITUTIONAL_DEPARTMENT_NAME: Tag = tag!(0x0008, 0x1040);
+/// `PhysiciansOfRecord`.
+pub const PHYSICIANS_OF_RECORD: Tag = tag!(0x0008, 0x1048);
+/// `PerformingPhysicianName`.
+pub const PERFORMING_PHYSICIAN_NAME: Tag = tag!(0x0008, 0x1050);
+/// `NameOfPhysiciansReadingStudy`.
+pub const NAME_OF_PHYSICIANS_READING_STUDY: Tag = tag!(0x0008, 0x1060);
+/// `OperatorsName`.
+pub const OPERATORS_NAME: Tag = tag!(0x0008, 0x1070);
+/// `AdmittingDiagnosesDescription`.
+pub const ADMITTING_DIAGNOSES_DESCRIPTION: Tag = tag!(0x0008, 0x1080);
+/// `ManufacturerModelName`.
+pub const MANUFACTURER_MODEL_NAME: Tag = tag!(0x0008, 0x1090);
+/// `ReferencedStudySequence`.
+pub const REFERENCED_STUDY_SEQUENCE: Tag = tag!(0x0008, 0x1110);
+/// `ReferencedPerformedProcedureStepSequence`.
+pub const REFERENCED_PERFORMED_PROCEDURE_STEP_SEQUENCE: Tag = tag!(0x0008, 0x1111);
+/// `ReferencedSeriesSequence`.
+pub const REFERENCED_SERIES_SEQUENCE: Tag = tag!(0x0008, 0x1115);
+/// `ReferencedPatientSequence`.
+pub const REFERENCED_PATIENT_SEQUENCE: Tag = tag!(0x0008, 0x1120);
+/// `ReferencedImageSequence`.
+pub const REFERENCED_IMAGE_SEQUENCE: Tag = tag!(0x0008, 0x1140);
+/// `ReferencedSOPClassUID`.
+pub const REFERENCED_SOP_CLASS_UID: Tag = tag!(0x0008, 0x1150);
+/// `ReferencedSOPInstanceUID`.
+pub const REFERENCED_SOP_INSTANCE_UID: Tag = tag!(0x0008, 0x1155);
+/// `ReferencedSOPSequence`.
+pub const REFERENCED_SOP_SEQUENCE: Tag = tag!(0x0008, 0x1199);
+/// `DerivationDescription`.
+pub const DERIVATION_DESCRIPTION: Tag = tag!(0x0008, 0x2111);
+/// `SourceImageSequence`.
+pub const SOURCE_IMAGE_SEQUENCE: Tag = tag!(0x0008, 0x2112);
 
-pub use acquisition::BODY_PART_EXAMINED;
-pub use acquisition::DEVICE_SERIAL_NUMBER;
-pub use acquisition::ECHO_TIME;
-pub use acquisition::KVP;
-pub use acquisition::PATIENT_POSITION;
-pub use acquisition::PROTOCOL_NAME;
-pub use acquisition::REPETITION_TIME;
-pub use acquisition::SLICE_THICKNESS;
-pub use acquisition::SOFTWARE_VERSIONS;
-pub use acquisition::X_RAY_TUBE_CURRENT;
-pub use descriptions::ADMITTING_DIAGNOSES_DESCRIPTION;
-pub use descriptions::CODE_MEANING;
-pub use descriptions::CODE_VALUE;
-pub use descriptions::CODING_SCHEME_DESIGNATOR;
-pub use descriptions::CODING_SCHEME_VERSION;
-pub use descriptions::INSTITUTION_ADDRESS;
-pub use descriptions::INSTITUTION_NAME;
-pub use descriptions::INSTITUTIONAL_DEPARTMENT_NAME;
-pub use descriptions::MANUFACTURER;
-pub use descriptions::MANUFACTURER_MODEL_NAME;
-pub use descriptions::NAME_OF_PHYSICIANS_READING_STUDY;
-pub use descriptions::OPERATORS_NAME;
-pub use descriptions::PERFORMING_PHYSICIAN_NAME;
-pub use descriptions::PHYSICIANS_OF_RECORD;
-pub use descriptions::PROCEDURE_CODE_SEQUENCE;
-pub use descriptions::REFERRING_PHYSICIAN_NAME;
-pub use descriptions::SERIES_DESCRIPTION;
-pub use descriptions::STATION_NAME;
-pub use descriptions::STUDY_DESCRIPTION;
-pub use descriptions::TIMEZONE_OFFSET_FROM_UTC;
-pub use identifying::ACCESSION_NUMBER;
-pub use identifying::ACQUISITION_DATE;
-pub use identifying::ACQUISITION_DATE_TIME;
-pub use identifying::ACQUISITION_TIME;
-pub use identifying::CONTENT_DATE;
-pub use identifying::CONTENT_TIME;
-pub use identifying::CONVERSION_TYPE;
-pub use identifying::IMAGE_TYPE;
-pub use identifying::INSTANCE_AVAILABILITY;
-pub use identifying::INSTANCE_CREATION_DATE;
-pub use identifying::INSTANCE_CREATION_TIME;
-pub use identifying::INSTANCE_CREATOR_UID;
-pub use identifying::MODALITIES_IN_STUDY;
-pub use identifying::MODALITY;
-pub use identifying::QUERY_RETRIEVE_LEVEL;
-pub use identifying::RETRIEVE_AE_TITLE;
-pub use identifying::SERIES_DATE;
-pub use identifying::SERIES_TIME;
-pub use identifying::SOP_CLASS_UID;
-pub use identifying::SOP_CLASSES_IN_STUDY;
-pub use identifying::SOP_INSTANCE_UID;
-pub use identifying::SPECIFIC_CHARACTER_SET;
-pub use identifying::STUDY_DATE;
-pub use identifying::STUDY_TIME;
-pub use image::BITS_ALLOCATED;
-pub use image::BITS_STORED;
-pub use image::COLUMNS;
-pub use image::HIGH_BIT;
-pub use image::NUMBER_OF_FRAMES;
-pub use image::PHOTOMETRIC_INTERPRETATION;
-pub use image::PIXEL_DATA;
-pub use image::PIXEL_REPRESENTATION;
-pub use image::PIXEL_SPACING;
-pub use image::RESCALE_INTERCEPT;
-pub use image::RESCALE_SLOPE;
-pub use image::ROWS;
-pub use image::SAMPLES_PER_PIXEL;
-pub use image::WINDOW_CENTER;
-pub use image::WINDOW_WIDTH;
-pub use patient::ADDITIONAL_PATIENT_HISTORY;
-pub use patient::ALLERGIES;
-pub use patient::ETHNIC_GROUP;
-pub use patient::ISSUER_OF_PATIENT_ID;
-pub use patient::MEDICAL_ALERTS;
-pub use patient::OCCUPATION;
-pub use patient::OTHER_PATIENT_IDS;
-pub use patient::OTHER_PATIENT_NAMES;
-pub use patient::PATIENT_AGE;
-pub use patient::PATIENT_BIRTH_DATE;
-pub use patient::PATIENT_BIRTH_TIME;
-pub use patient::PATIENT_COMMENTS;
-pub use patient::PATIENT_ID;
-pub use patient::PATIENT_NAME;
-pub use patient::PATIENT_SEX;
-pub use patient::PATIENT_SIZE;
-pub use patient::PATIENT_WEIGHT;
-pub use patient::PREGNANCY_STATUS;
-pub use performed_steps::COMMENTS_ON_THE_PERFORMED_PROCEDURE_STEP;
-pub use performed_steps::PERFORMED_LOCATION;
-pub use performed_steps::PERFORMED_PROCEDURE_STEP_DESCRIPTION;
-pub use performed_steps::PERFORMED_PROCEDURE_STEP_DISCONTINUATION_REASON_CODE_SEQUENCE;
-pub use performed_steps::PERFORMED_PROCEDURE_STEP_END_DATE;
-pub use performed_steps::PERFORMED_PROCEDURE_STEP_END_TIME;
-pub use performed_steps::PERFORMED_PROCEDURE_STEP_ID;
-pub use performed_steps::PERFORMED_PROCEDURE_STEP_START_DATE;
-pub use performed_steps::PERFORMED_PROCEDURE_STEP_START_TIME;
-pub use performed_steps::PERFORMED_PROCEDURE_STEP_STATUS;
-pub use performed_steps::PERFORMED_PROCEDURE_TYPE_DESCRIPTION;
-pub use performed_steps::PERFORMED_PROTOCOL_CODE_SEQUENCE;
-pub use performed_steps::PERFORMED_SERIES_SEQUENCE;
-pub use performed_steps::PERFORMED_STATION_AE_TITLE;
-pub use performed_steps::PERFORMED_STATION_NAME;
-pub use performed_steps::REFERENCED_NON_IMAGE_COMPOSITE_SOP_INSTANCE_SEQUENCE;
-pub use performed_steps::REQUEST_ATTRIBUTES_SEQUENCE;
-pub use performed_steps::SCHEDULED_STEP_ATTRIBUTES_SEQUENCE;
-pub use references::DERIVATION_DESCRIPTION;
-pub use references::REFERENCED_IMAGE_SEQUENCE;
-pub use references::REFERENCED_PATIENT_SEQUENCE;
-pub use references::REFERENCED_PERFORMED_PROCEDURE_STEP_SEQUENCE;
-pub use references::REFERENCED_SERIES_SEQUENCE;
-pub use references::REFERENCED_SOP_CLASS_UID;
-pub use references::REFERENCED_SOP_INSTANCE_UID;
-pub use references::REFERENCED_SOP_SEQUENCE;
-pub use references::REFERENCED_STUDY_SEQUENCE;
-pub use references::SOURCE_IMAGE_SEQUENCE;
-pub use relationship::ACQUISITION_NUMBER;
-pub use relationship::FRAME_OF_REFERENCE_UID;
-pub use relationship::IMAGE_COMMENTS;
-pub use relationship::IMAGE_ORIENTATION_PATIENT;
-pub use relationship::IMAGE_POSITION_PATIENT;
-pub use relationship::INSTANCE_NUMBER;
-pub use relationship::LATERALITY;
-pub use relationship::NUMBER_OF_SERIES_RELATED_INSTANCES;
-pub use relationship::NUMBER_OF_STUDY_RELATED_INSTANCES;
-pub use relationship::NUMBER_OF_STUDY_RELATED_SERIES;
-pub use relationship::SERIES_INSTANCE_UID;
-pub use relationship::SERIES_NUMBER;
-pub use relationship::SLICE_LOCATION;
-pub use relationship::STUDY_ID;
-pub use relationship::STUDY_INSTANCE_UID;
-pub use requested_procedures::FILLER_ORDER_NUMBER_IMAGING_SERVICE_REQUEST;
-pub use requested_procedures::IMAGING_SERVICE_REQUEST_COMMENTS;
-pub use requested_procedures::PATIENT_TRANSPORT_ARRANGEMENTS;
-pub use requested_procedures::PLACER_ORDER_NUMBER_IMAGING_SERVICE_REQUEST;
-pub use requested_procedures::REASON_FOR_THE_REQUESTED_PROCEDURE;
-pub use requested_procedures::REQUESTED_PROCEDURE_CODE_SEQUENCE;
-pub use requested_procedures::REQUESTED_PROCEDURE_COMMENTS;
-pub use requested_procedures::REQUESTED_PROCEDURE_DESCRIPTION;
-pub use requested_procedures::REQUESTED_PROCEDURE_ID;
-pub use requested_procedures::REQUESTED_PROCEDURE_PRIORITY;
-pub use requested_procedures::REQUESTING_PHYSICIAN;
-pub use requested_procedures::REQUESTING_SERVICE;
-pub use scheduled_steps::PRE_MEDICATION;
-pub use scheduled_steps::SCHEDULED_PERFORMING_PHYSICIAN_NAME;
-pub use scheduled_steps::SCHEDULED_PROCEDURE_STEP_DESCRIPTION;
-pub use scheduled_steps::SCHEDULED_PROCEDURE_STEP_END_DATE;
-pub use scheduled_steps::SCHEDULED_PROCEDURE_STEP_END_TIME;
-pub use scheduled_steps::SCHEDULED_PROCEDURE_STEP_ID;
-pub use scheduled_steps::SCHEDULED_PROCEDURE_STEP_LOCATION;
-pub use scheduled_steps::SCHEDULED_PROCEDURE_STEP_SEQUENCE;
-pub use scheduled_steps::SCHEDULED_PROCEDURE_STEP_START_DATE;
-pub use scheduled_steps::SCHEDULED_PROCEDURE_STEP_START_TIME;
-pub use scheduled_steps::SCHEDULED_PROCEDURE_STEP_STATUS;
-pub use scheduled_steps::SCHEDULED_PROTOCOL_CODE_SEQUENCE;
-pub use scheduled_steps::SCHEDULED_STATION_AE_TITLE;
-pub use scheduled_steps::SCHEDULED_STATION_NAME;
-pub use visit::ADMISSION_ID;
-pub use visit::CURRENT_PATIENT_LOCATION;
-pub use visit::PATIENT_STATE;
-pub use visit::SPECIAL_NEEDS;
+/// `PatientName`.
+pub const PATIENT_NAME: Tag = tag!(0x0010, 0x0010);
+/// `PatientID`.
+pub const PATIENT_ID: Tag = tag!(0x0010, 0x0020);
+/// `IssuerOfPatientID`.
+pub const ISSUER_OF_PATIENT_ID: Tag = tag!(0x0010, 0x0021);
+/// `PatientBirthDate`.
+pub const PATIENT_BIRTH_DATE: Tag = tag!(0x0010, 0x0030);
+/// `PatientBirthTime`.
+pub const PATIENT_BIRTH_TIME: Tag = tag!(0x0010, 0x0032);
+/// `PatientSex`.
+pub const PATIENT_SEX: Tag = tag!(0x0010, 0x0040);
+/// `OtherPatientIDs`.
+pub const OTHER_PATIENT_IDS: Tag = tag!(0x0010, 0x1000);
+/// `OtherPatientNames`.
+pub const OTHER_PATIENT_NAMES: Tag = tag!(0x0010, 0x1001);
+/// `PatientAge`.
+pub const PATIENT_AGE: Tag = tag!(0x0010, 0x1010);
+/// `PatientSize`.
+pub const PATIENT_SIZE: Tag = tag!(0x0010, 0x1020);
+/// `PatientWeight`.
+pub const PATIENT_WEIGHT: Tag = tag!(0x0010, 0x1030);
+/// `MedicalAlerts`.
+pub const MEDICAL_ALERTS: Tag = tag!(0x0010, 0x2000);
+/// `Allergies`.
+pub const ALLERGIES: Tag = tag!(0x0010, 0x2110);
+/// `EthnicGroup`.
+pub const ETHNIC_GROUP: Tag = tag!(0x0010, 0x2160);
+/// `Occupation`.
+pub const OCCUPATION: Tag = tag!(0x0010, 0x2180);
+/// `AdditionalPatientHistory`.
+pub const ADDITIONAL_PATIENT_HISTORY: Tag = tag!(0x0010, 0x21b0);
+/// `PregnancyStatus`.
+pub const PREGNANCY_STATUS: Tag = tag!(0x0010, 0x21c0);
+/// `PatientComments`.
+pub const PATIENT_COMMENTS: Tag = tag!(0x0010, 0x4000);
+
+/// `BodyPartExamined`.
+pub const BODY_PART_EXAMINED: Tag = tag!(0x0018, 0x0015);
+/// `SliceThickness`.
+pub const SLICE_THICKNESS: Tag = tag!(0x0018, 0x0050);
+/// `KVP`.
+pub const KVP: Tag = tag!(0x0018, 0x0060);
+/// `RepetitionTime`.
+pub const REPETITION_TIME: Tag = tag!(0x0018, 0x0080);
+/// `EchoTime`.
+pub const ECHO_TIME: Tag = tag!(0x0018, 0x0081);
+/// `DeviceSerialNumber`.
+pub const DEVICE_SERIAL_NUMBER: Tag = tag!(0x0018, 0x1000);
+/// `SoftwareVersions`.
+pub const SOFTWARE_VERSIONS: Tag = tag!(0x0018, 0x1020);
+/// `ProtocolName`.
+pub const PROTOCOL_NAME: Tag = tag!(0x0018, 0x1030);
+/// `XRayTubeCurrent`.
+pub const X_RAY_TUBE_CURRENT: Tag = tag!(0x0018, 0x1151);
+/// `PatientPosition`.
+pub const PATIENT_POSITION: Tag = tag!(0x0018, 0x5100);
+
+/// `StudyInstanceUID`.
+pub const STUDY_INSTANCE_UID: Tag = tag!(0x0020, 0x000d);
+/// `SeriesInstanceUID`.
+pub const SERIES_INSTANCE_UID: Tag = tag!(0x0020, 0x000e);
+/// `StudyID`.
+pub const STUDY_ID: Tag = tag!(0x0020, 0x0010);
+/// `SeriesNumber`.
+pub const SERIES_NUMBER: Tag = tag!(0x0020, 0x0011);
+/// `AcquisitionNumber`.
+pub const ACQUISITION_NUMBER: Tag = tag!(0x0020, 0x0012);
+/// `InstanceNumber`.
+pub const INSTANCE_NUMBER: Tag = tag!(0x0020, 0x0013);
+/// `ImagePositionPatient`.
+pub const IMAGE_POSITION_PATIENT: Tag = tag!(0x0020, 0x0032);
+/// `ImageOrientationPatient`.
+pub const IMAGE_ORIENTATION_PATIENT: Tag = tag!(0x0020, 0x0037);
+/// `FrameOfReferenceUID`.
+pub const FRAME_OF_REFERENCE_UID: Tag = tag!(0x0020, 0x0052);
+/// `Laterality`.
+pub const LATERALITY: Tag = tag!(0x0020, 0x0060);
+/// `SliceLocation`.
+pub const SLICE_LOCATION: Tag = tag!(0x0020, 0x1041);
+/// `NumberOfStudyRelatedSeries`.
+pub const NUMBER_OF_STUDY_RELATED_SERIES: Tag = tag!(0x0020, 0x1206);
+/// `NumberOfStudyRelatedInstances`.
+pub const NUMBER_OF_STUDY_RELATED_INSTANCES: Tag = tag!(0x0020, 0x1208);
+/// `NumberOfSeriesRelatedInstances`.
+pub const NUMBER_OF_SERIES_RELATED_INSTANCES: Tag = tag!(0x0020, 0x1209);
+/// `ImageComments`.
+pub const IMAGE_COMMENTS: Tag = tag!(0x0020, 0x4000);
+
+/// `SamplesPerPixel`.
+pub const SAMPLES_PER_PIXEL: Tag = tag!(0x0028, 0x0002);
+/// `PhotometricInterpretation`.
+pub const PHOTOMETRIC_INTERPRETATION: Tag = tag!(0x0028, 0x0004);
+/// `NumberOfFrames`.
+pub const NUMBER_OF_FRAMES: Tag = tag!(0x0028, 0x0008);
+/// `Rows`.
+pub const ROWS: Tag = tag!(0x0028, 0x0010);
+/// `Columns`.
+pub const COLUMNS: Tag = tag!(0x0028, 0x0011);
+/// `PixelSpacing`.
+pub const PIXEL_SPACING: Tag = tag!(0x0028, 0x0030);
+/// `BitsAllocated`.
+pub const BITS_ALLOCATED: Tag = tag!(0x0028, 0x0100);
+/// `BitsStored`.
+pub const BITS_STORED: Tag = tag!(0x0028, 0x0101);
+/// `HighBit`.
+pub const HIGH_BIT: Tag = tag!(0x0028, 0x0102);
+/// `PixelRepresentation`.
+pub const PIXEL_REPRESENTATION: Tag = tag!(0x0028, 0x0103);
+/// `WindowCenter`.
+pub const WINDOW_CENTER: Tag = tag!(0x0028, 0x1050);
+/// `WindowWidth`.
+pub const WINDOW_WIDTH: Tag = tag!(0x0028, 0x1051);
+/// `RescaleIntercept`.
+pub const RESCALE_INTERCEPT: Tag = tag!(0x0028, 0x1052);
+/// `RescaleSlope`.
+pub const RESCALE_SLOPE: Tag = tag!(0x0028, 0x1053);
+
+/// `RequestingPhysician`.
+pub const REQUESTING_PHYSICIAN: Tag = tag!(0x0032, 0x1032);
+/// `RequestingService`.
+pub const REQUESTING_SERVICE: Tag = tag!(0x0032, 0x1033);
+/// `RequestedProcedureDescription`.
+pub const REQUESTED_PROCEDURE_DESCRIPTION: Tag = tag!(0x0032, 0x1060);
+/// `RequestedProcedureCodeSequence`.
+pub const REQUESTED_PROCEDURE_CODE_SEQUENCE: Tag = tag!(0x0032, 0x1064);
+
+/// `AdmissionID`.
+pub const ADMISSION_ID: Tag = tag!(0x0038, 0x0010);
+/// `SpecialNeeds`.
+pub const SPECIAL_NEEDS: Tag = tag!(0x0038, 0x0050);
+/// `CurrentPatientLocation`.
+pub const CURRENT_PATIENT_LOCATION: Tag = tag!(0x0038, 0x0300);
+/// `PatientState`.
+pub const PATIENT_STATE: Tag = tag!(0x0038, 0x0500);
+
+/// `ScheduledStationAETitle`.
+pub const SCHEDULED_STATION_AE_TITLE: Tag = tag!(0x0040, 0x0001);
+/// `ScheduledProcedureStepStartDate`.
+pub const SCHEDULED_PROCEDURE_STEP_START_DATE: Tag = tag!(0x0040, 0x0002);
+/// `ScheduledProcedureStepStartTime`.
+pub const SCHEDULED_PROCEDURE_STEP_START_TIME: Tag = tag!(0x0040, 0x0003);
+/// `ScheduledProcedureStepEndDate`.
+pub const SCHEDULED_PROCEDURE_STEP_END_DATE: Tag = tag!(0x0040, 0x0004);
+/// `ScheduledProcedureStepEndTime`.
+pub const SCHEDULED_PROCEDURE_STEP_END_TIME: Tag = tag!(0x0040, 0x0005);
+/// `ScheduledPerformingPhysicianName`.
+pub const SCHEDULED_PERFORMING_PHYSICIAN_NAME: Tag = tag!(0x0040, 0x0006);
+/// `ScheduledProcedureStepDescription`.
+pub const SCHEDULED_PROCEDURE_STEP_DESCRIPTION: Tag = tag!(0x0040, 0x0007);
+/// `ScheduledProtocolCodeSequence`.
+pub const SCHEDULED_PROTOCOL_CODE_SEQUENCE: Tag = tag!(0x0040, 0x0008);
+/// `ScheduledProcedureStepID`.
+pub const SCHEDULED_PROCEDURE_STEP_ID: Tag = tag!(0x0040, 0x0009);
+/// `ScheduledStationName`.
+pub const SCHEDULED_STATION_NAME: Tag = tag!(0x0040, 0x0010);
+/// `ScheduledProcedureStepLocation`.
+pub const SCHEDULED_PROCEDURE_STEP_LOCATION: Tag = tag!(0x0040, 0x0011);
+/// `PreMedication`.
+pub const PRE_MEDICATION: Tag = tag!(0x0040, 0x0012);
+/// `ScheduledProcedureStepStatus`.
+pub const SCHEDULED_PROCEDURE_STEP_STATUS: Tag = tag!(0x0040, 0x0020);
+/// `ScheduledProcedureStepSequence`.
+pub const SCHEDULED_PROCEDURE_STEP_SEQUENCE: Tag = tag!(0x0040, 0x0100);
+/// `ReferencedNonImageCompositeSOPInstanceSequence`.
+pub const REFERENCED_NON_IMAGE_COMPOSITE_SOP_INSTANCE_SEQUENCE: Tag = tag!(0x0040, 0x0220);
+/// `PerformedStationAETitle`.
+pub const PERFORMED_STATION_AE_TITLE: Tag = tag!(0x0040, 0x0241);
+/// `PerformedStationName`.
+pub const PERFORMED_STATION_NAME: Tag = tag!(0x0040, 0x0242);
+/// `PerformedLocation`.
+pub const PERFORMED_LOCATION: Tag = tag!(0x0040, 0x0243);
+/// `PerformedProcedureStepStartDate`.
+pub const PERFORMED_PROCEDURE_STEP_START_DATE: Tag = tag!(0x0040, 0x0244);
+/// `PerformedProcedureStepStartTime`.
+pub const PERFORMED_PROCEDURE_STEP_START_TIME: Tag = tag!(0x0040, 0x0245);
+/// `PerformedProcedureStepEndDate`.
+pub const PERFORMED_PROCEDURE_STEP_END_DATE: Tag = tag!(0x0040, 0x0250);
+/// `PerformedProcedureStepEndTime`.
+pub const PERFORMED_PROCEDURE_STEP_END_TIME: Tag = tag!(0x0040, 0x0251);
+/// `PerformedProcedureStepStatus`.
+pub const PERFORMED_PROCEDURE_STEP_STATUS: Tag = tag!(0x0040, 0x0252);
+/// `PerformedProcedureStepID`.
+pub const PERFORMED_PROCEDURE_STEP_ID: Tag = tag!(0x0040, 0x0253);
+/// `PerformedProcedureStepDescription`.
+pub const PERFORMED_PROCEDURE_STEP_DESCRIPTION: Tag = tag!(0x0040, 0x0254);
+/// `PerformedProcedureTypeDescription`.
+pub const PERFORMED_PROCEDURE_TYPE_DESCRIPTION: Tag = tag!(0x0040, 0x0255);
+/// `PerformedProtocolCodeSequence`.
+pub const PERFORMED_PROTOCOL_CODE_SEQUENCE: Tag = tag!(0x0040, 0x0260);
+/// `ScheduledStepAttributesSequence`.
+pub const SCHEDULED_STEP_ATTRIBUTES_SEQUENCE: Tag = tag!(0x0040, 0x0270);
+/// `RequestAttributesSequence`.
+pub const REQUEST_ATTRIBUTES_SEQUENCE: Tag = tag!(0x0040, 0x0275);
+/// `CommentsOnThePerformedProcedureStep`.
+pub const COMMENTS_ON_THE_PERFORMED_PROCEDURE_STEP: Tag = tag!(0x0040, 0x0280);
+/// `PerformedProcedureStepDiscontinuationReasonCodeSequence`.
+pub const PERFORMED_PROCEDURE_STEP_DISCONTINUATION_REASON_CODE_SEQUENCE: Tag = tag!(0x0040, 0x0281);
+/// `PerformedSeriesSequence`.
+pub const PERFORMED_SERIES_SEQUENCE: Tag = tag!(0x0040, 0x0340);
+/// `RequestedProcedureID`.
+pub const REQUESTED_PROCEDURE_ID: Tag = tag!(0x0040, 0x1001);
+/// `ReasonForTheRequestedProcedure`.
+pub const REASON_FOR_THE_REQUESTED_PROCEDURE: Tag = tag!(0x0040, 0x1002);
+/// `RequestedProcedurePriority`.
+pub const REQUESTED_PROCEDURE_PRIORITY: Tag = tag!(0x0040, 0x1003);
+/// `PatientTransportArrangements`.
+pub const PATIENT_TRANSPORT_ARRANGEMENTS: Tag = tag!(0x0040, 0x1004);
+/// `RequestedProcedureComments`.
+pub const REQUESTED_PROCEDURE_COMMENTS: Tag = tag!(0x0040, 0x1400);
+/// `PlacerOrderNumberImagingServiceRequest`.
+pub const PLACER_ORDER_NUMBER_IMAGING_SERVICE_REQUEST: Tag = tag!(0x0040, 0x2016);
+/// `FillerOrderNumberImagingServiceRequest`.
+pub const FILLER_ORDER_NUMBER_IMAGING_SERVICE_REQUEST: Tag = tag!(0x0040, 0x2017);
+/// `ImagingServiceRequestComments`.
+pub const IMAGING_SERVICE_REQUEST_COMMENTS: Tag = tag!(0x0040, 0x2400);
+
+/// `PixelData`.
+pub const PIXEL_DATA: Tag = tag!(0x7fe0, 0x0010);

@@ -1,11 +1,5 @@
-use Rattle.std.proofs.Common.{refl}
-use Rattle.dq_vr.specs.Dictionary.{dictionary}
 use Rattle.dq_vr.proofs.Rising.{dictionary_rises, entries_told}
 use Rattle.dq_vr.proofs.dictionary_law.Goals as goal
-
-pub returns-clause-keywords : goal.returns-clause-keywords
-unfolding dictionary
-returns-clause-keywords c = refl
 
 pub returns-clause-rises : goal.returns-clause-rises
 returns-clause-rises c = dictionary_rises
