@@ -2,6 +2,7 @@ mod DataSets
 mod Fitting
 mod Itself
 mod KnownKeys
+mod MetAsLent
 mod Moments
 mod NamePads
 mod Names

@@ -13,4 +13,5 @@ pub mod Supported
 pub mod Responses
 pub mod Universal
 pub mod ShownTags
+pub mod AsLent
 pub mod Answers
