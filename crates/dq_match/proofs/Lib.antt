@@ -6,6 +6,7 @@ mod MetAsLent
 mod Moments
 mod NamePads
 mod Names
+mod PiecesInText
 mod Scanning
 mod Showing
 mod ShownTags

@@ -1,6 +1,7 @@
 pub mod Wildcards
 pub mod Scans
 pub mod Words
+pub mod Pieces
 pub mod Ranges
 pub mod DateBounds
 pub mod Values

@@ -8,6 +8,7 @@ mod keys;
 pub mod laws;
 mod lending;
 mod matching;
+mod pieces;
 mod ranges;
 mod responses;
 mod several;
