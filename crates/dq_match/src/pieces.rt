@@ -1,4 +1,4 @@
-//! Pieces of a pattern, which are looked for at 64 starts of a text together (PS3.4 section
+//! Pieces of a pattern, which are looked for at 128 starts of a text together (PS3.4 section
 //! C.2.2.2.4).
 ghost use Rattle.std.specs.Prelude.{◌≡◌, ◌≢◌, ◌⊎◌, ℕ, ◌<◌, ◌≤◌, false, length, slice_index};
 ghost use Rattle.dq_match.specs.Wildcards.{any_run, stands_for};
@@ -8,7 +8,7 @@ ghost use Rattle.dq_match.specs.Pieces.{is_open, Differs};
 use crate::wildcards::{Casing, Scan, scanned};
 
 /// How many starts are tried together.
-pub(crate) const ABREAST: usize = 64;
+pub(crate) const ABREAST: usize = 128;
 
 /// How many octets are before a pattern's first asterisk.
 fn piece_length(pattern: &[u8]) -> usize
@@ -29,6 +29,9 @@ fn rule_out(casing: Casing, wanted: u8, ahead: &[u8], starts: &mut [bool])
     ensures { (t : ℕ) → is_open starts.new t ≡ false → (is_open starts.old t ≡ false)
         ⊎ (stands_for casing wanted (slice_index ahead.now t) ≡ false) }
 {
+    if wanted == b'?' {
+        return;
+    }
     for (at, open) in starts.iter_mut().enumerate() {
         let stands = casing.stands_for(wanted, ahead[at]);
         *open = *open && stands;
@@ -48,7 +51,7 @@ fn ruled_out(starts: &[bool]) -> usize
     starts.len()
 }
 
-/// How many starts of the text, of its first 64, are before the first at which the piece may stand.
+/// How many starts of the text, of its first 128, are before the first at which the piece may stand.
 /// Starts of a text that is too short to try all of these are not tried.
 fn starts_passed(casing: Casing, piece: &[u8], text: &[u8]) -> usize
     ensures within { result ≤ length text.now }

@@ -4,7 +4,7 @@ use Rattle.dq_match.proofs.PiecesInText.{none_shut, differs_at}
 use Rattle.dq_match.proofs.pieces.starts_passed.Goals as goal
 
 pub loop-at-init : goal.loop-at-init
-loop-at-init c = λ t h. absurd (none_shut 64 t h)
+loop-at-init c = λ t h. absurd (none_shut 128 t h)
 
 pub returns-then-ruled_out-eq-ABREAST-clause-none : goal.returns-then-ruled_out-eq-ABREAST-clause-none
 returns-then-ruled_out-eq-ABREAST-clause-none c = λ t less.
