@@ -1,8 +1,10 @@
 //! The answers to a query (PS3.4 sections C.4.1.3 and C.6.2).
-ghost use Rattle.std.specs.Prelude.{◌≡◌, [], IfOk, Some, map, filter, option_map};
+ghost use Rattle.std.specs.Prelude.{◌≡◌, false, [], IfOk, Some, map, filter, option_map};
 ghost use Rattle.std.specs.List.{filter_map, list_all};
+ghost use Rattle.dq_dataset.specs.View.{elements_of};
 ghost use Rattle.dq_dimse.specs.Holding.{plain_message};
 ghost use Rattle.dq_match.specs.Identifiers.{HasKnownTags};
+ghost use Rattle.dq_tables.specs.Records.{data_set_of};
 ghost use Rattle.dq_tables.specs.Rows.{record_of, row_of};
 ghost use Rattle.dq_tables.specs.Serving.{Serves};
 ghost use Rattle.dq_find.specs.Choosing.{is_asked};
@@ -26,7 +28,7 @@ use dq_dimse::Message;
 use dq_dimse::status::SUCCESS;
 use dq_list::Listed;
 use dq_match::laws::keys_are_met_alone_and_as_a_period;
-use dq_match::{Found, answer, meets};
+use dq_match::{Found, answer, lent_meets, meets};
 use dq_tables::laws::{day_numbers_are_in_order, honest_rows_are_sound};
 use dq_tables::{Row, TableFault, Tables, uid_at};
 use dq_value::{stripped, values};
@@ -239,6 +241,16 @@ impl Search<'_> {
         Ok(Some(part.merged(alloc, about)?))
     }
 
+    /// Whether a row meets the keys that a kept element meets, as far as its octets tell before they
+    /// are read.
+    fn may_fit(&self, row: &Row) -> bool
+        ensures { result ≡ false → list_all (is_met (data_set_of row.now.octets))
+            (elements_of self.now.query.now.keys) ≡ false }
+    {
+        let keys = self.query.keys.elements();
+        lent_meets(keys, &MET_LATER, row.octets.as_slice())
+    }
+
     /// The answer that a row gives. What no key asks for is not computed, nor what is asked of a
     /// record that does not meet the keys that are kept.
     fn answer_of<T: Tables>(
@@ -256,6 +268,9 @@ impl Search<'_> {
             (record_of row.now)) result }
     {
         keys_are_met_alone_and_as_a_period();
+        if !self.may_fit(row) {
+            return Ok(None);
+        }
         let held = row.data_set(alloc)?;
         if !asks_computed(self.query) {
             return Ok(self.answer(alloc, about, &held)?);

@@ -13,7 +13,7 @@ is_below-trans : (a b c : Tag) → is_below a b ≡ true → is_below b c ≡ tr
 unfolding is_below
 is_below-trans a b c p q = grind (arith, nat_tests)
 
-follows-trans : (last : Option Tag) (tag next : Tag) → follows last tag ≡ true → follows (Some tag) next ≡ true → follows last next ≡ true
+pub follows-trans : (last : Option Tag) (tag next : Tag) → follows last tag ≡ true → follows (Some tag) next ≡ true → follows last next ≡ true
 follows-trans None tag next e f = refl
 follows-trans (Some last) tag next e f = is_below-trans last tag next e f
 

@@ -2,9 +2,11 @@ mod DataSets
 mod Fitting
 mod Itself
 mod KnownKeys
+mod MetAsLent
 mod Moments
 mod NamePads
 mod Names
+mod PiecesInText
 mod Scanning
 mod Showing
 mod ShownTags

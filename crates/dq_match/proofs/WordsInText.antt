@@ -45,7 +45,7 @@ module _ (pattern others plain octets : List ℕ) (ones count start : ℕ)
 -- ---- where a pattern fits
 
 -- up to its first asterisk, each octet of a pattern that fits stands for one of the text
-fits_at : (casing : Casing) (pattern text : List ℕ) (n k : ℕ) → ((j : ℕ) → j < n → get_or pattern j 0 ≢ any_run) → n ≤ length pattern
+pub fits_at : (casing : Casing) (pattern text : List ℕ) (n k : ℕ) → ((j : ℕ) → j < n → get_or pattern j 0 ≢ any_run) → n ≤ length pattern
     → wild casing pattern text ≡ true → k < n → (k < length text) × (stands_for casing (get_or pattern k 0) (get_or text k 0) ≡ true)
 fits_at casing pattern text zero k free within fits lt = absurd (omega arith)
 fits_at casing [] text (suc n) k free within fits lt = absurd (omega arith)
@@ -74,7 +74,7 @@ same_length casing (first ∷ others) (octet ∷ rest) free fits =
     let rec = same_length casing others rest (λ j h. free (suc j) (omega arith)) parts.1 in
     omega (arith, rec)
 
-refuted : (b : Bool) → (b ≡ true → ⊥) → b ≡ false
+pub refuted : (b : Bool) → (b ≡ true → ⊥) → b ≡ false
 refuted true h = absurd (h refl)
 refuted false h = refl
 
@@ -85,7 +85,7 @@ none_here test [] none = none 0 (omega arith)
 none_here test (octet ∷ rest) none =
     (λ i. none 0 (omega arith) i || after_run test rest) ∙ none_here test rest (λ t h. none (suc t) (omega arith))
 
-passed_over : (test : List ℕ → Bool) (text : List ℕ) (count : ℕ) → count ≤ length text → ((t : ℕ) → t < count → test (drop t text) ≡ false)
+pub passed_over : (test : List ℕ → Bool) (text : List ℕ) (count : ℕ) → count ≤ length text → ((t : ℕ) → t < count → test (drop t text) ≡ false)
     → after_run test text ≡ after_run test (drop count text)
 passed_over test text zero h none = refl
 passed_over test [] (suc count) h none = absurd (omega arith)

@@ -1,6 +1,7 @@
 pub mod Wildcards
 pub mod Scans
 pub mod Words
+pub mod Pieces
 pub mod Ranges
 pub mod DateBounds
 pub mod Values
@@ -13,4 +14,5 @@ pub mod Supported
 pub mod Responses
 pub mod Universal
 pub mod ShownTags
+pub mod AsLent
 pub mod Answers

@@ -5,7 +5,8 @@ ghost use Rattle.dq_match.specs.Scans.{IsScan, IsFirstFit};
 ghost use Rattle.dq_match.specs.Words.{IsWord};
 ghost use Rattle.dq_match.specs.declared.wildcards.Casing.TheVariants.{Exact};
 
-use crate::words::{Stretch, Word, all_stand};
+use crate::pieces::{ABREAST, first_fit_abreast};
+use crate::words::{Stretch, Word, all_stand, is_one_word};
 
 /// How octets are compared: each for itself, or letters of either case as one.
 #[derive(Clone, Copy, Debug, PartialEq, Eq)]
@@ -49,7 +50,7 @@ impl Casing {
 }
 
 /// Goes along the text up to the first asterisk of the pattern.
-fn scanned<'a>(casing: Casing, pattern: &'a [u8], text: &'a [u8]) -> Scan<'a>
+pub(crate) fn scanned<'a>(casing: Casing, pattern: &'a [u8], text: &'a [u8]) -> Scan<'a>
     ensures { IsScan casing pattern.now text.now result }
 {
     let mut wanted = pattern;
@@ -143,14 +144,18 @@ fn at_end<'a>(casing: Casing, pattern: &'a [u8], text: &'a [u8]) -> Scan<'a>
     scanned(casing, pattern, end)
 }
 
-/// Goes along the text from the first start at which what is behind an asterisk fits.
+/// Goes along the text from the first start at which what is behind an asterisk fits. A single word
+/// is looked for in one pass, but for short texts.
 fn behind_asterisk<'a>(casing: Casing, pattern: &'a [u8], text: &'a [u8]) -> Scan<'a>
     ensures { IsFirstFit casing pattern.now text.now result }
 {
-    if has_asterisk(pattern) {
+    if !has_asterisk(pattern) {
+        return at_end(casing, pattern, text);
+    }
+    if ABREAST <= text.len() && is_one_word(pattern) {
         return first_fit(casing, pattern, text);
     }
-    at_end(casing, pattern, text)
+    first_fit_abreast(casing, pattern, text)
 }
 
 /// Whether the pattern fits the text, with letters compared by the casing.

@@ -49,6 +49,12 @@ fn plain_octets(pattern: &[u8]) -> usize
     pattern.len()
 }
 
+/// Whether no `?` is behind the first octets that stand for themselves, up to the next asterisk.
+pub(crate) fn is_one_word(pattern: &[u8]) -> bool {
+    let (_, others) = pattern.split_at(any_ones(pattern));
+    others.get(plain_octets(others)) != Some(&b'?')
+}
+
 /// Where the greatest of a word's ends begins, which repeats itself in a way that is seen going
 /// along it (J.-P. Duval's factors).
 fn greatest_end(casing: Casing, word: &[u8]) -> usize

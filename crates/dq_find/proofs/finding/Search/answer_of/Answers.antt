@@ -23,6 +23,18 @@ returns-then-not-asks_computed g c =
     (c.in_ok-answer.ensures ∙ ap (answer_if called query) c.in_ok-held.ensures.data_set
     ∙ answered_alike (of name it.rows) called row.key query (data_set_of row.octets) (sym c.asks_computed.ensures ∙ c.if-not-asks_computed.true))
 
+pub returns-then-not-may_fit : goal.returns-then-not-may_fit
+returns-then-not-may_fit g c =
+    let it = g.T.Tables.state c.args.tables.now in
+    let name = c.args.self.now.institution.now in
+    let called = c.args.self.now.called.now in
+    let query = c.args.self.now.query.now in
+    let row = c.args.row.now in
+    looks_nothing name it None (λ (records : List Record). answer_of records called query (record_of row))
+    (sym (not_met (of name it.rows) called row.key query (data_set_of row.octets)
+    (λ one fit. ((c.keys_are_met_alone_and_as_a_period.ensures.each Outer query.keys one).0 fit).0)
+    (c.may_fit.ensures c.if-not-may_fit.true)))
+
 pub returns-then-not-kept_keys_are_met : goal.returns-then-not-kept_keys_are_met
 returns-then-not-kept_keys_are_met g c =
     let it = g.T.Tables.state c.args.tables.now in
