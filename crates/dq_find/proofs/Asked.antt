@@ -16,7 +16,7 @@ use Rattle.dq_tables.specs.declared.row.Kind.{Kind}
 use Rattle.dq_tables.specs.Rows.{Record, record_of, of}
 use Rattle.dq_tables.specs.Keys.{uid_at}
 use Rattle.dq_tables.specs.Records.{data_set_of}
-use Rattle.dq_tables.specs.Sound.{IsSound, is_own, is_record_of, is_value, has_key, has_above, is_within}
+use Rattle.dq_tables.specs.Sound.{IsSound, is_own, is_record_of, may_be_started, is_value, has_key, has_above, is_within}
 use Rattle.dq_find.specs.declared.level.Level.{Level}
 use Rattle.dq_find.specs.declared.level.Level.TheVariants.{Study, Series, Image}
 use Rattle.dq_find.specs.declared.query.Query.{Query}
@@ -41,7 +41,9 @@ own_by (Ok d) row is own =
 
 row_own : (row : Row) → is_own row ≡ true → HasOwnAbove (record_of row)
 unfolding is_own
-row_own row own = own_by (reading Explicit row.octets) row refl own
+row_own row own =
+    own_by (reading Explicit row.octets) row refl
+    (and_parts (may_be_started row.kind row.started) (is_record_of (reading Explicit row.octets) row) own).1
 
 own_step : (r : Record) (row : Row) (b : Bool) (kept : List Row) → is_own row ≡ true → (IsAmong r (map record_of kept) → HasOwnAbove r)
     → IsAmong r (map record_of (if b then row ∷ kept else kept)) → HasOwnAbove r

@@ -40,7 +40,7 @@ use Rattle.dq_tables.specs.Rows.{Record, IsRising, octet_order, record_of, row_o
 use Rattle.dq_tables.specs.Finding.{same_kind, record_at, row_at, records_of}
 use Rattle.dq_tables.specs.Records.{AreInOrder, data_set_of}
 use Rattle.dq_tables.specs.Keys.{uid_at}
-use Rattle.dq_tables.specs.Sound.{IsSound, is_own, is_record_of, has_key, has_above, is_within}
+use Rattle.dq_tables.specs.Sound.{IsSound, is_own, is_record_of, may_be_started, has_key, has_above, is_within}
 use Rattle.dq_tables.proofs.Listing.{its_kind, one_kind, of_kind_to, listed_in_order, in_order_filter}
 use Rattle.dq_tables.proofs.Rising.{each_among, one_list}
 use Rattle.dq_tables.proofs.Seen.{found_own}
@@ -419,7 +419,9 @@ HasOwnKey r = AllByRecursion HasKnownVr (elements_of (data_set_of r.octets)) × 
 
 row_own : (row : Row) → is_own row ≡ true → HasOwnKey (record_of row)
 unfolding is_own
-row_own row own = own_by (reading Explicit row.octets) row refl own
+row_own row own =
+    own_by (reading Explicit row.octets) row refl
+    (and_parts (may_be_started row.kind row.started) (is_record_of (reading Explicit row.octets) row) own).1
 
 module _ (P : Record → Type 0) (own_has : (row : Row) → is_own row ≡ true → P (record_of row)) (r : Record) where
   own_step : (row : Row) (b : Bool) (kept : List Row) → is_own row ≡ true → (IsAmong r (map record_of kept) → P r)

@@ -40,6 +40,7 @@ study name uid = record {
   key = uid;
   above = [];
   octets = canonical Explicit (element tags.patient_name PN name no_elements);
+  started = false;
 }
 
 -- a series of a study
@@ -49,6 +50,7 @@ series modality uid above = record {
   key = uid;
   above = above;
   octets = canonical Explicit (element tags.modality CS modality no_elements);
+  started = false;
 }
 
 -- a study of Jane Doe with a CT and an MR series, and a study of Richard Roe

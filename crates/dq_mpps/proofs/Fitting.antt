@@ -12,14 +12,16 @@ use Rattle.dq_dataset.specs.Reading.{reading}
 use Rattle.dq_dataset.specs.Canonical.{canonical}
 use Rattle.dq_dataset.specs.declared.fault.ReadFault.{ReadFault}
 use Rattle.dq_tables.specs.declared.row.Kind.{Kind}
-use Rattle.dq_tables.specs.declared.row.Kind.TheVariants.{Step}
+use Rattle.dq_tables.specs.declared.row.Kind.TheVariants.{Entry, Step}
 use Rattle.dq_tables.specs.declared.row.Row.{Row}
 use Rattle.dq_tables.specs.Rows.{of, row_of, record_of}
 use Rattle.dq_tables.specs.Finding.{same_kind, is_of, row_at, record_at, rows_of, records_of}
-use Rattle.dq_tables.specs.Sound.{is_record_of, is_own, OwnEach, is_held, has_key, has_above, is_within, IsNew, IsChanged}
+use Rattle.dq_tables.specs.Sound.{is_record_of, may_be_started, is_own, OwnEach, is_held, has_key, has_above, is_within, IsNew, FitsStep, IsChanged}
+use Rattle.dq_tables.specs.Starting.{entries_named}
 use Rattle.dq_tables.proofs.Seen.{found_own, found_record, counted_own}
 use Rattle.dq_tables.proofs.Listing.{one_kind}
 use Rattle.dq_mpps.specs.Steps.{spelled_step, step_record}
+use Rattle.dq_mpps.proofs.Named.{named_are_there}
 
 same_bytes : (o : List ℕ) → bytes_eq o o ≡ true
 same_bytes o = (bytes_eq-Decides o o).1 refl
@@ -38,6 +40,15 @@ new_fits h uid d rows back uid_is free = record {
   free = found_own Step h uid rows ∙ ap (option_map (row_of h)) free;
   own = own_step h uid d back uid_is;
   held = refl;
+}
+
+-- with the keys of the entries that it names
+pub new_step_fits : (h uid : List ℕ) (d : ElementList) (rows : List Row) (keys : List (List ℕ)) → reading Explicit (canonical Explicit d) ≡ Ok d
+    → is_uid uid ≡ true → record_at Step uid (of h rows) ≡ None → keys ≡ entries_named (of h rows) d
+    → FitsStep rows (row_of h (step_record uid d)) keys
+new_step_fits h uid d rows keys back uid_is free keys_are = record {
+  step_new = new_fits h uid d rows back uid_is free;
+  there = subst (AllByRecursion (λ (key : List ℕ). is_some (row_at Entry h key rows) ≡ true)) (sym keys_are) (named_are_there h rows d);
 }
 
 some_mapped : {A B : Type 0} (f : A → B) (o : Option A) → is_some (option_map f o) ≡ is_some o
@@ -70,7 +81,9 @@ uid_of_record (Ok d) row kind own =
 
 uid_of_row : (row : Row) → row.kind ≡ Step → is_own row ≡ true → is_uid row.key ≡ true
 unfolding is_own
-uid_of_row row kind own = uid_of_record (reading Explicit row.octets) row kind own
+uid_of_row row kind own =
+    uid_of_record (reading Explicit row.octets) row kind
+    (and_parts (may_be_started row.kind row.started) (is_record_of (reading Explicit row.octets) row) own).1
 
 kept_uid : (h uid : List ℕ) (rows : List Row) (row : Row) → OwnEach rows → row_at Step h uid rows ≡ Some row → is_uid uid ≡ true
 unfolding row_at

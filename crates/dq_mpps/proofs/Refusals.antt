@@ -16,7 +16,7 @@ use Rattle.dq_tables.specs.Finding.{record_at, records_of}
 use Rattle.dq_tables.specs.Serving.{first_refusal, outcome}
 use Rattle.dq_tables.proofs.Refusing.{stopped}
 use Rattle.dq_mpps.specs.Steps.{data_set_limit, step_record}
-use Rattle.dq_mpps.specs.Creating.{creation_refusals, created}
+use Rattle.dq_mpps.specs.Creating.{creation_refusals, creation, created}
 use Rattle.dq_mpps.specs.Creating as creating
 use Rattle.dq_mpps.specs.Changing.{kept_data_set, is_ended, changes_fixed, sends_unknown_status, is_too_long, change_refusals, changed}
 
@@ -31,7 +31,7 @@ unfolding created
 created_unless limits records message syntax h =
     let data_set = reading syntax message.octets in
     let sent = result_unwrap_or data_set no_elements in
-    refusal_edits_nothing (first_refusal (creation_refusals limits records message data_set)) (Put (step_record message.command.sop_instance sent) ∷ []) h
+    refusal_edits_nothing (first_refusal (creation_refusals limits records message data_set)) (creation records message.command.sop_instance sent) h
 
 pub changed_unless : (records : List Record) (message : Message) (syntax : Syntax) → (changed records message syntax).0 ≢ success
     → (changed records message syntax).1 ≡ []
@@ -53,7 +53,7 @@ created_again limits records message syntax kept found =
     let before =
     (is_over data_set_limit message, resource_limitation) ∷ (is_err data_set, processing_failure) ∷ (not (is_uid uid), invalid_sop_instance) ∷ [] in
     let others = creating.attribute_refusals sent ++ (nat_le limits.steps (length (records_of Step records)), resource_limitation) ∷ [] in
-    rw found (stopped (success, Put (step_record uid sent) ∷ []) before others duplicate_sop_instance)
+    rw found (stopped (success, creation records uid sent) before others duplicate_sop_instance)
 
 pub ended_stays : (records : List Record) (message : Message) (syntax : Syntax) (kept : Record)
     → record_at Step message.command.sop_instance records ≡ Some kept → is_ended (kept_data_set (Some kept)) ≡ true

@@ -1,6 +1,6 @@
 -- N-CREATE of a performed procedure step, over the records and the limits of one institution (PS3.4
 -- section F.7.2.1, PS3.7 section 10.1.5).
-use Rattle.std.specs.Prelude.{ℕ, Bool, false, not, nat_le, List, [], ◌∷◌, ◌++◌, length, Option, Some, None, is_some, Result, is_err}
+use Rattle.std.specs.Prelude.{ℕ, Bool, false, not, nat_le, List, [], ◌∷◌, ◌++◌, map, length, Option, Some, None, is_some, Result, is_err}
 use Rattle.std.specs.List.{list_all}
 use Rattle.std.specs.Result.{result_unwrap_or}
 use Rattle.dq_list.specs.Lengths.{is_empty}
@@ -18,9 +18,10 @@ use Rattle.dq_dimse.specs.Receiving.{is_over}
 use Rattle.dq_dimse.specs.Statuses.{success, processing_failure, duplicate_sop_instance, invalid_sop_instance, missing_attribute, missing_attribute_value, invalid_attribute_value, resource_limitation}
 use Rattle.dq_config.specs.Limits.{Limits}
 use Rattle.dq_tables.specs.declared.row.Kind.TheVariants.{Step}
-use Rattle.dq_tables.specs.Rows.{Record, Edit, Put}
+use Rattle.dq_tables.specs.Rows.{Record, Edit, Put, Start}
 use Rattle.dq_tables.specs.Finding.{record_at, records_of}
 use Rattle.dq_tables.specs.Serving.{first_refusal, outcome}
+use Rattle.dq_tables.specs.Starting.{entries_named}
 use Rattle.dq_mpps.specs.Attributes.{required_attributes}
 use Rattle.dq_mpps.specs.Steps.{in_progress, has_status, data_set_limit, step_record}
 
@@ -62,10 +63,14 @@ creation_refusals limits records message data_set =
     ∷ (not (is_uid message.command.sop_instance), invalid_sop_instance)
     ∷ step_refusals limits records message.command.sop_instance sent
 
--- A step that is not refused is kept with its data set whole.
+-- A step is kept with its data set whole, and starts the entries that it names.
+abbrev pub creation : List Record → List ℕ → ElementList → List Edit
+creation records uid d = Put (step_record uid d) ∷ map Start (entries_named records d)
+
+-- what an N-CREATE is answered, and its edits, of which a refusal makes none
 unfoldable pub created : Limits → List Record → Message → Syntax → ℕ × List Edit
 created limits records message syntax =
     let data_set = reading syntax message.octets in
     let sent = result_unwrap_or data_set no_elements in
     outcome (first_refusal (creation_refusals limits records message data_set))
-    (success, Put (step_record message.command.sop_instance sent) ∷ [])
+    (success, creation records message.command.sop_instance sent)

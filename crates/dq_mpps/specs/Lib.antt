@@ -1,5 +1,6 @@
 pub mod Attributes
 pub mod Changing
+pub mod Created
 pub mod Creating
 pub mod Steps
 pub mod Views

@@ -1,5 +1,5 @@
 -- What creation and change of a performed procedure step share (PS3.4 section F.7).
-use Rattle.std.specs.Prelude.{ℕ, Bool, List, [], codes}
+use Rattle.std.specs.Prelude.{ℕ, Bool, false, List, [], codes}
 use Rattle.dq_vr.specs.Tags.{performed_procedure_step_status}
 use Rattle.dq_dataset.specs.declared.header.Syntax.TheVariants.{Explicit}
 use Rattle.dq_dataset.specs.Tree.{ElementList}
@@ -29,7 +29,8 @@ data_set_limit = 0x100000
 
 -- the record of a step under its SOP Instance UID, with its data set whole
 abbrev pub spelled_step : List ℕ → List ℕ → Record
-spelled_step uid octets = record { kind = Step; key = uid; above = []; octets = octets }
+spelled_step uid octets =
+    record { kind = Step; key = uid; above = []; octets = octets; started = false }
 
 abbrev pub step_record : List ℕ → ElementList → Record
 step_record uid d = spelled_step uid (canonical Explicit d)

@@ -1,14 +1,19 @@
 -- What is left to answer once a data set has been read, and edits that the code makes.
-use Rattle.std.specs.Prelude.{ℕ, ◌≡◌, None, List, [], ◌∷◌, Option}
+use Rattle.std.specs.Prelude.{ℕ, ◌≡◌, None, List, [], ◌∷◌, map, filter, Option, is_some}
+use Rattle.std.specs.Global.{Vec}
+use Rattle.std.specs.List.{list_any}
+use Rattle.std.specs.List.Sorted.{IsStrictlySortedBy}
+use Rattle.std.specs.Str.{bytes_eq}
 use Rattle.dq_dataset.specs.Tree.{ElementList}
 use Rattle.dq_dataset.specs.Editing.{merged}
 use Rattle.dq_dimse.specs.Statuses.{success}
 use Rattle.dq_config.specs.Limits.{Limits}
-use Rattle.dq_tables.specs.declared.row.Kind.TheVariants.{Step}
+use Rattle.dq_tables.specs.declared.row.Kind.TheVariants.{Entry, Step}
 use Rattle.dq_tables.specs.declared.row.Row.{Row}
-use Rattle.dq_tables.specs.Rows.{Record, Edit, Put, of, by, after}
+use Rattle.dq_tables.specs.Rows.{Record, Edit, Put, octet_order, of, by, after}
 use Rattle.dq_tables.specs.Finding.{record_at}
 use Rattle.dq_tables.specs.Serving.{first_refusal, outcome}
+use Rattle.dq_tables.specs.Starting.{names}
 use Rattle.dq_mpps.specs.Steps.{step_record}
 use Rattle.dq_mpps.specs.Creating as creating
 use Rattle.dq_mpps.specs.Changing.{kept_data_set, step_refusals}
@@ -17,7 +22,7 @@ use Rattle.dq_mpps.specs.Changing.{kept_data_set, step_refusals}
 abbrev pub step_created : Limits → List ℕ → ElementList → List Record → ℕ × List Edit
 step_created limits uid step records =
     outcome (first_refusal (creating.step_refusals limits records uid step))
-    (success, Put (step_record uid step) ∷ [])
+    (success, creating.creation records uid step)
 
 -- of an N-SET of a step that is kept or not
 abbrev pub step_changed : List ℕ → ElementList → Option Record → ℕ × List Edit
@@ -32,3 +37,21 @@ IsFree name uid rows = record_at Step uid (of name rows) ≡ None
 -- the rows with a record put among those of an institution
 abbrev pub with_put : List ℕ → Record → List Row → List Row
 with_put name r rows = after (by name (Put r ∷ [])) rows
+
+-- the rows with a new step of an institution, and its entries started that the step names
+abbrev pub with_step : List ℕ → List ℕ → ElementList → List Row → List Row
+with_step name uid step rows =
+    after (by name (creating.creation (of name rows) uid step)) rows
+
+-- the octets of vectors
+abbrev pub octets_of : List (Vec ℕ) → List (List ℕ)
+octets_of vectors = map (λ (v : Vec ℕ). v.items) vectors
+
+-- the ids are those that a step names, in their order, each once
+pub record AreNamed (step : ElementList) (ids : List (List ℕ)) : Type 0 where
+  pub in_order : IsStrictlySortedBy octet_order ids
+  pub same : (id : List ℕ) → list_any (bytes_eq id) ids ≡ names step id
+
+-- the ids under which an entry is kept
+abbrev pub ids_kept : List Record → List (List ℕ) → List (List ℕ)
+ids_kept records ids = filter (λ (id : List ℕ). is_some (record_at Entry id records)) ids

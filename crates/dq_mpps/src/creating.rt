@@ -1,28 +1,30 @@
 //! N-CREATE of a performed procedure step (PS3.4 section F.7.2.1).
-ghost use Rattle.std.specs.Prelude.{◌≡◌, true, IfOk, is_some, nat_le, length};
+ghost use Rattle.std.specs.Prelude.{◌≡◌, true, Ok, IfOk, is_some, nat_le, length};
 ghost use Rattle.dq_value.specs.Uid.{is_uid};
 ghost use Rattle.dq_dataset.specs.declared.header.Syntax.TheVariants.{Explicit};
-ghost use Rattle.dq_dataset.specs.Canonical.{HasLengths};
+ghost use Rattle.dq_dataset.specs.Reading.{reading};
+ghost use Rattle.dq_dataset.specs.Canonical.{canonical, HasLengths};
 ghost use Rattle.dq_config.specs.Limits.{limits_of};
 ghost use Rattle.dq_dimse.specs.Holding.{plain_message};
 ghost use Rattle.dq_tables.specs.declared.row.Kind.TheVariants.{Step};
-ghost use Rattle.dq_tables.specs.Rows.{of};
+ghost use Rattle.dq_tables.specs.Rows.{of, row_of};
 ghost use Rattle.dq_tables.specs.Finding.{record_at, records_of};
 ghost use Rattle.dq_tables.specs.Keeping.{Reads, Writes};
 ghost use Rattle.dq_tables.specs.Serving.{Serves, first_refusal};
 ghost use Rattle.dq_mpps.specs.Steps.{step_record};
 ghost use Rattle.dq_mpps.specs.Creating.{attribute_refusals, step_refusals, created};
-ghost use Rattle.dq_mpps.specs.Views.{step_created, IsFree, with_put};
+ghost use Rattle.dq_mpps.specs.Views.{step_created, IsFree, with_step};
 
 use crate::attributes::{has_attribute_values, has_attributes};
+use crate::naming::entries_named;
 use crate::steps::{DATA_SET_LIMIT, Sent, is_in_progress, step_row};
 use dq_config::Institution;
 use dq_dataset::laws::written_law;
 use dq_dataset::{DataSet, Syntax, write};
 use dq_dimse::{Message, status};
-use dq_tables::{Change, Kind, TableFault, Tables};
+use dq_tables::{Change, Kind, Row, TableFault, Tables};
 use dq_value::is_uid;
-use std::alloc::Global;
+use std::alloc::{AllocError, Global};
 
 /// Creates a performed procedure step among the institution's rows, and answers the status
 /// (PS3.4 section F.7.2.1). A refusal, and a fault of the tables or want of memory, change nothing.
@@ -143,7 +145,7 @@ fn attribute_refusal(step: &DataSet) -> Option<u16>
     None
 }
 
-/// Adds a step that is not refused.
+/// Adds a step that is not refused, and starts the entries that it names.
 fn add_step<T: Tables>(
     alloc: Global,
     tables: &mut T,
@@ -155,12 +157,23 @@ fn add_step<T: Tables>(
     requires new { (T.state tables.old).honest
         → IsFree name.now sent.now.uid.now (T.state tables.old).rows }
     ensures { Writes (T.state tables.old) (T.state tables.new)
-        (with_put name.now (step_record sent.now.uid.now sent.now.data_set.now)
-        (T.state tables.old).rows) result }
+        (with_step name.now sent.now.uid.now sent.now.data_set.now (T.state tables.old).rows) result }
+{
+    let keys = entries_named(alloc, tables, name, sent.data_set)?;
+    let row = new_row(alloc, name, sent)?;
+    tables.apply(alloc, &Change::StepAdded(row, keys))
+}
+
+/// The row of a new step.
+fn new_row(alloc: Global, name: &[u8], sent: &Sent<'_>) -> Result<Row, AllocError>
+    requires { HasLengths Explicit sent.now.data_set.now }
+    ensures row { IfOk result (λ row. row
+        ≡ row_of name.now (step_record sent.now.uid.now sent.now.data_set.now)) }
+    ensures read_back { IfOk result (λ row.
+        reading Explicit (canonical Explicit sent.now.data_set.now) ≡ Ok sent.now.data_set.now) }
 {
     written_law();
     let _elements = sent.data_set.elements();
     let octets = write(alloc, sent.data_set, Syntax::Explicit)?;
-    let row = step_row(alloc, name, sent.uid, octets)?;
-    tables.apply(alloc, &Change::StepAdded(row))
+    step_row(alloc, name, sent.uid, octets)
 }

@@ -1,10 +1,12 @@
 //! What follows from the definitions. Each function's contract is a law; its body does nothing.
 ghost use Rattle.std.specs.Prelude.{◌≡◌, ◌≢◌, ℕ, [], List, Some, true, false};
 ghost use Rattle.std.specs.Option.{option_or};
+ghost use Rattle.std.specs.Result.{result_unwrap_or};
 ghost use Rattle.dq_vr.specs.declared.Tag.{Tag};
 ghost use Rattle.dq_dataset.specs.declared.header.Syntax.{Syntax};
 ghost use Rattle.dq_dataset.specs.declared.data_set.Element.{Element};
-ghost use Rattle.dq_dataset.specs.Tree.{ElementList};
+ghost use Rattle.dq_dataset.specs.Tree.{ElementList, no_elements};
+ghost use Rattle.dq_dataset.specs.Reading.{reading};
 ghost use Rattle.dq_dataset.specs.Facts.{IsDataSet};
 ghost use Rattle.dq_dataset.specs.Editing.{merged};
 ghost use Rattle.dq_dataset.specs.Values.{element_at};
@@ -13,10 +15,11 @@ ghost use Rattle.dq_dimse.specs.Statuses.{success};
 ghost use Rattle.dq_config.specs.Limits.{Limits};
 ghost use Rattle.dq_tables.specs.declared.row.Kind.TheVariants.{Step};
 ghost use Rattle.dq_tables.specs.declared.row.Row.{Row};
-ghost use Rattle.dq_tables.specs.Rows.{Record, Edit, IsRising, of, by, after};
+ghost use Rattle.dq_tables.specs.Rows.{Record, Edit, IsRising, of, by, after, edited};
 ghost use Rattle.dq_tables.specs.Finding.{record_at};
 ghost use Rattle.dq_mpps.specs.Attributes.{is_fixed};
 ghost use Rattle.dq_mpps.specs.Creating.{created};
+ghost use Rattle.dq_mpps.specs.Created.{IsCreated};
 ghost use Rattle.dq_mpps.specs.Changing.{kept_data_set, is_ended, changes_fixed, changed};
 
 /// A request that is not answered by success changes no record.
@@ -73,4 +76,14 @@ pub fn other_institutions_change_no_status()
         → IsRising rows → (message : Message) (syntax : Syntax)
         → changed (of own (after (by other edits) rows)) message syntax
         ≡ changed (of own rows) message syntax }
+{}
+
+/// A step that is created is kept, and has started the entries that it names: an entry is started
+/// afterwards exactly where it was before or is named. Nothing else of the records changes.
+pub fn named_entries_are_started()
+    ensures { (limits : Limits) (records : List Record) (message : Message) (syntax : Syntax)
+        → (created limits records message syntax).0 ≡ success
+        → IsCreated records (edited (created limits records message syntax).1 records)
+        message.command.sop_instance
+        (result_unwrap_or (reading syntax message.octets) no_elements) }
 {}

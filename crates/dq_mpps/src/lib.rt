@@ -5,6 +5,7 @@ mod attributes;
 mod changing;
 mod creating;
 pub mod laws;
+mod naming;
 mod steps;
 
 pub use changing::set;

@@ -140,7 +140,13 @@ storage_refusals limits records message data_set =
 -- the record of a data set at a level
 abbrev pub cut_record : Kind → List ℕ → List ℕ → List Tag → ElementList → Record
 cut_record kind key above tags d =
-    record { kind = kind; key = key; above = above; octets = canonical Explicit (cut_out tags d) }
+    record {
+      kind = kind;
+      key = key;
+      above = above;
+      octets = canonical Explicit (cut_out tags d);
+      started = false;
+    }
 
 abbrev pub study_record : Instance → Record
 study_record sent = cut_record Study sent.study [] study_attributes sent.elements

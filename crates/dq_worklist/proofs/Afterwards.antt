@@ -158,7 +158,7 @@ module _ (keys : ElementList) where
   put_answered order fit records =
       let p : Place = record { kind = Entry; key = order.id } in
       let among = among_between (entry_of order) (records_before p records) (records_past p records) in
-      match_shown (edited_by (Put (entry_of order)) records) keys (entry_of order) (record { kept = among; kind = refl; fit = fit })
+      match_shown (edited_by (Put (entry_of order)) records) keys (entry_of order) (record { kept = among; kind = refl; waiting = refl; fit = fit })
 
   pub scheduled_is_answered : (limits : Limits) (records : List Record) (octets : List ℕ) (edits : List Edit) (order : Order)
       → reading Explicit (canonical Explicit order.elements) ≡ Ok order.elements → scheduled limits records octets ≡ (None, edits)

@@ -1,6 +1,6 @@
 -- Where a query asks for one step's id, no entry with another id matches, and the entry that is
 -- looked up gives the answers of all.
-use Rattle.std.proofs.Common.{◌≡◌, ◌≢◌, ◌↔◌, ℕ, Bool, true, false, ◌&&◌, ◌||◌, List, [], ◌∷◌, map, find, filter, Option, Some, None, is_some, unwrap_or, option_map, Result, Ok, Err, inl, inr, refl, sym, ap, subst, ◌∙◌, cond, arith, if◌then◌else◌}
+use Rattle.std.proofs.Common.{◌≡◌, ◌≢◌, ◌↔◌, ℕ, Bool, true, false, not, ◌&&◌, ◌||◌, List, [], ◌∷◌, map, find, filter, Option, Some, None, is_some, unwrap_or, option_map, Result, Ok, Err, inl, inr, refl, sym, ap, subst, ◌∙◌, cond, arith, if◌then◌else◌}
 use Rattle.std.specs.List.{AllByRecursion, filter_map, cons_option}
 use Rattle.std.specs.Option.{option_to_list}
 use Rattle.std.specs.Str.{bytes_eq}
@@ -50,12 +50,12 @@ use Rattle.dq_tables.specs.declared.row.Row.{Row}
 use Rattle.dq_tables.specs.Rows.{Record, octet_order, record_of, row_of, of}
 use Rattle.dq_tables.specs.Finding.{same_kind, record_at, row_at, rows_of, records_of}
 use Rattle.dq_tables.specs.Records.{AreInOrder, data_set_of}
-use Rattle.dq_tables.specs.Keys.{passing, is_id, sole_item_of, sole_item_at, id_in, entry_id}
-use Rattle.dq_tables.specs.Sound.{IsSound, is_own, is_record_of, is_value, has_key, has_above, is_within}
+use Rattle.dq_tables.specs.Keys.{passing, is_id, sole_item_of, sole_item_at, id_of, id_in, entry_id}
+use Rattle.dq_tables.specs.Sound.{IsSound, is_own, is_record_of, may_be_started, is_value, has_key, has_above, is_within}
 use Rattle.dq_tables.proofs.Listing.{of_kind_from, listed_in_order}
 use Rattle.dq_tables.proofs.Rising.{each_among}
 use Rattle.dq_tables.proofs.Seen.{found_own, listed_own}
-use Rattle.dq_worklist.specs.Candidates.{id_asked_in, id_asked, entries_with, candidates}
+use Rattle.dq_worklist.specs.Candidates.{id_asked_in, id_asked, entries_with, candidates, answer_of}
 use Rattle.dq_worklist.specs.Queries.{answers}
 use Rattle.dq_worklist.proofs.Queries.{row_answers}
 
@@ -274,6 +274,7 @@ step_asked keys id h = asked_by keys id (sole_item_at scheduled_procedure_step_s
 
 held_by : (d : ElementList) (id : List ℕ) (o : Option ElementList) → sole_item_at scheduled_procedure_step_sequence d ≡ o → id_in o ≡ Some id
     → HasStep d id
+unfolding id_of
 held_by d id None is h = absurd cc
 held_by d id (Some step) is h =
     record { step = step; there = is; has = (passed is_id (sole_at scheduled_procedure_step_id step) id h).0 }
@@ -297,7 +298,9 @@ own_by (Ok d) row is own =
 
 row_own : (row : Row) → is_own row ≡ true → HasOwnId (record_of row)
 unfolding is_own
-row_own row own = own_by (reading Explicit row.octets) row refl own
+row_own row own =
+    own_by (reading Explicit row.octets) row refl
+    (and_parts (may_be_started row.kind row.started) (is_record_of (reading Explicit row.octets) row) own).1
 
 module _ (r : Record) where
   own_step : (row : Row) (b : Bool) (kept : List Row) → is_own row ≡ true → (IsAmong r (map record_of kept) → HasOwnId r)
@@ -383,6 +386,26 @@ one_candidate institution rows keys id row listed asked found is =
     is ∙ ap option_to_list (found ∙ found_own Entry institution id rows) ∙ mapped institution (record_at Entry id (of institution rows))
     ∙ ap (λ (o : Option (List ℕ)). map (row_of institution) (entries_with (of institution rows) o)) asked
 
+-- what those give that wait
+waiting_step : (keys : ElementList) (r : Record) (left entries : List Record) (b : Bool) → r.started ≡ b
+    → filter_map (λ (s : Record). answer keys (data_set_of s.octets)) left ≡ filter_map (answer_of keys) entries
+    → filter_map (λ (s : Record). answer keys (data_set_of s.octets)) (if not b then r ∷ left else left)
+    ≡ cons_option (if b then None else answer keys (data_set_of r.octets)) (filter_map (answer_of keys) entries)
+waiting_step keys r left entries true is rest = rest
+waiting_step keys r left entries false is rest = ap (cons_option (answer keys (data_set_of r.octets))) rest
+
+waiting_give : (keys : ElementList) (entries : List Record)
+    → filter_map (λ (r : Record). answer keys (data_set_of r.octets)) (filter (λ (r : Record). not r.started) entries)
+    ≡ filter_map (answer_of keys) entries
+waiting_give keys [] = refl
+waiting_give keys (r ∷ entries) =
+    waiting_step keys r (filter (λ (s : Record). not s.started) entries) entries r.started refl (waiting_give keys entries)
+
+none_of : (keys : ElementList) (r : Record) (b : Bool) → answer keys (data_set_of r.octets) ≡ None
+    → (if b then None else answer keys (data_set_of r.octets)) ≡ None
+none_of keys r true none = refl
+none_of keys r false none = none
+
 module _ (each_alone : EachAlone) (items_met : ItemsMet) (institution : List ℕ) (rows : List Row) (keys : ElementList) (sound : IsSound rows)
     (facts : IsDataSet keys) where
   other_gives_none : (id : List ℕ) → id_asked keys ≡ Some id → (r : Record) → IsAmong r (records_of Entry (of institution rows)) → r.key ≢ id
@@ -397,12 +420,12 @@ module _ (each_alone : EachAlone) (items_met : ItemsMet) (institution : List ℕ
       key.0.there held.there key.0.has held.has key.1 fit)))
 
   by_asked : (o : Option (List ℕ)) → id_asked keys ≡ o
-      → filter_map (λ (r : Record). answer keys (data_set_of r.octets)) (entries_with (of institution rows) o)
-      ≡ filter_map (λ (r : Record). answer keys (data_set_of r.octets)) (records_of Entry (of institution rows))
+      → filter_map (answer_of keys) (entries_with (of institution rows) o)
+      ≡ filter_map (answer_of keys) (records_of Entry (of institution rows))
   by_asked None is = refl
   by_asked (Some id) is =
-      one_gives_all _ (λ (r : Record). answer keys (data_set_of r.octets)) id (of institution rows) (listed_in_order Entry institution rows sound.rising)
-      (other_gives_none id is)
+      one_gives_all _ (answer_of keys) id (of institution rows) (listed_in_order Entry institution rows sound.rising)
+      (λ r h other. none_of keys r r.started (other_gives_none id is r h other))
 
   -- the answers of the entries that are looked at
   pub answered_of_candidates : (name : List ℕ) (listed_rows : List Row) (found : List ElementList) → name ≡ institution
@@ -411,5 +434,5 @@ module _ (each_alone : EachAlone) (items_met : ItemsMet) (institution : List ℕ
   unfolding answers
   answered_of_candidates name listed_rows found named is_listed is_found =
       is_found ∙ ap (row_answers keys) (is_listed ∙ ap (λ (n : List ℕ). map (row_of n) (candidates (of n rows) keys)) named)
-      ∙ given_of_each (λ (row : Row). answer keys (data_set_of row.octets)) (row_of institution) (candidates (of institution rows) keys)
-      ∙ by_asked (id_asked keys) refl
+      ∙ given_of_each (λ (row : Row). answer_of keys (record_of row)) (row_of institution) (candidates (of institution rows) keys)
+      ∙ by_asked (id_asked keys) refl ∙ sym (waiting_give keys (records_of Entry (of institution rows)))

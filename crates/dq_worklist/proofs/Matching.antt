@@ -1,5 +1,5 @@
 -- The answers to keys are what they are shown of the entries that match, in order.
-use Rattle.std.proofs.Common.{◌≡◌, ◌≢◌, ℕ, Bool, true, false, List, map, filter, Result, Ok, Err, refl, sym, ap, ◌∙◌, subst, arith, if◌then◌else◌}
+use Rattle.std.proofs.Common.{◌≡◌, ◌≢◌, ℕ, Bool, true, false, not, List, map, filter, Result, Ok, Err, refl, sym, ap, ◌∙◌, subst, arith, if◌then◌else◌}
 use Rattle.dq_list.specs.Among.{IsAmong}
 use Rattle.dq_list.proofs.Among.{among_filter, filtered_from}
 use Rattle.dq_dataset.specs.declared.header.Syntax.{Syntax}
@@ -26,43 +26,56 @@ use Rattle.dq_tables.proofs.Rising.{one_list}
 use Rattle.dq_tables.proofs.Listing.{of_kind_from, of_kind_to, listed_in_order, in_order_filter}
 use Rattle.dq_worklist.specs.declared.asking.Query.{Query}
 use Rattle.dq_worklist.specs.Answers.{Matches, AreAnswers}
-use Rattle.dq_worklist.specs.Queries.{query_in, query_of, answers, listed_by, listed}
+use Rattle.dq_worklist.specs.Queries.{query_in, query_of, waiting, answers, listed_by, listed}
 use Rattle.dq_worklist.proofs.Queries.{listed_answers}
+
+is_not : (b : Bool) → not b ≡ true → b ≡ false
+is_not true e = absurd cc
+is_not false e = refl
 
 module _ (records : List Record) (keys : ElementList) where
   abbrev is_fit : Record → Bool
   is_fit r = fits keys (data_set_of r.octets)
 
+  abbrev waits : Record → Bool
+  waits r = not r.started
+
   abbrev all_matching : List Record
-  all_matching = filter is_fit (records_of Entry records)
+  all_matching = filter is_fit (waiting records)
 
   match_from : (r : Record) → IsAmong r all_matching → Matches records keys r
   match_from r h =
-      let kept = filtered_from is_fit r (records_of Entry records) h in
-      let entry = of_kind_from Entry r records kept.0 in
-      record { kept = entry.0; kind = entry.1; fit = kept.1 }
+      let kept = filtered_from is_fit r (waiting records) h in
+      let left = filtered_from waits r (records_of Entry records) kept.0 in
+      let entry = of_kind_from Entry r records left.0 in
+      record { kept = entry.0; kind = entry.1; waiting = is_not r.started left.1; fit = kept.1 }
+
+  waiting_to : (r : Record) → Matches records keys r → IsAmong r (waiting records)
+  waiting_to r matches =
+      among_filter waits r (records_of Entry records) (of_kind_to Entry r records matches.kept matches.kind) (ap not matches.waiting)
 
   match_to : (r : Record) → Matches records keys r → IsAmong r all_matching
-  match_to r matches = among_filter is_fit r (records_of Entry records) (of_kind_to Entry r records matches.kept matches.kind) matches.fit
+  match_to r matches = among_filter is_fit r (waiting records) (waiting_to r matches) matches.fit
 
   all_shown : answers records keys ≡ map (λ (r : Record). shown keys (data_set_of r.octets)) all_matching
   unfolding answers
   all_shown =
       given_where (λ (r : Record). answer keys (data_set_of r.octets)) is_fit (λ (r : Record). shown keys (data_set_of r.octets)) (λ (r : Record). refl)
-      (records_of Entry records)
+      (waiting records)
 
   -- a record that matches is shown
   pub match_shown : (r : Record) → Matches records keys r → IsAmong (shown keys (data_set_of r.octets)) (answers records keys)
   unfolding answers
   match_shown r matches =
-      given_to (λ (s : Record). answer keys (data_set_of s.octets)) (shown keys (data_set_of r.octets)) r (records_of Entry records)
-      (of_kind_to Entry r records matches.kept matches.kind) (fit_to keys (data_set_of r.octets) matches.fit)
+      given_to (λ (s : Record). answer keys (data_set_of s.octets)) (shown keys (data_set_of r.octets)) r (waiting records)
+      (waiting_to r matches) (fit_to keys (data_set_of r.octets) matches.fit)
 
 are_answers : (institution : List ℕ) (rows : List Row) (keys : ElementList) → IsRising rows
     → AreAnswers (of institution rows) keys (answers (of institution rows) keys)
 are_answers institution rows keys rising = record {
   matching = all_matching (of institution rows) keys;
-  in_order = in_order_filter (is_fit (of institution rows) keys) (records_of Entry (of institution rows)) (listed_in_order Entry institution rows rising);
+  in_order = in_order_filter (is_fit (of institution rows) keys) (waiting (of institution rows))
+      (in_order_filter (waits (of institution rows) keys) (records_of Entry (of institution rows)) (listed_in_order Entry institution rows rising));
   exactly = λ r. (match_from (of institution rows) keys r, match_to (of institution rows) keys r);
   each_shown = all_shown (of institution rows) keys;
 }

@@ -5,15 +5,15 @@ use Rattle.dq_dataset.specs.declared.header.Syntax.{Syntax}
 use Rattle.dq_dataset.specs.Tree.{ElementList}
 use Rattle.dq_dimse.specs.Received.{Message}
 use Rattle.dq_dimse.specs.Statuses.{success}
-use Rattle.dq_match.specs.Answers.{refused, answer}
+use Rattle.dq_match.specs.Answers.{refused}
 use Rattle.dq_tables.specs.declared.row.Row.{Row}
-use Rattle.dq_tables.specs.Rows.{Record}
-use Rattle.dq_tables.specs.Records.{data_set_of}
+use Rattle.dq_tables.specs.Rows.{Record, record_of}
 use Rattle.dq_worklist.specs.declared.asking.Query.{Query}
+use Rattle.dq_worklist.specs.Candidates.{answer_of}
 use Rattle.dq_worklist.specs.Queries.{query_of, answers, listed_by, listed}
 
 abbrev pub row_answers : ElementList → List Row → List ElementList
-row_answers keys rows = filter_map (λ (row : Row). answer keys (data_set_of row.octets)) rows
+row_answers keys rows = filter_map (λ (row : Row). answer_of keys (record_of row)) rows
 
 pub not_asked : (records : List Record) (message : Message) (syntax : Syntax) (status : ℕ) → query_of message syntax ≡ Err status
     → listed records message syntax ≡ refused status

@@ -15,6 +15,7 @@ use Rattle.dq_match.specs.Matching.{asked_days, asked_times, start_day, start_ti
 use Rattle.dq_match.specs.Responses.{shown}
 use Rattle.dq_match.specs.Supported.{keys_of, leaves, is_supported, below}
 use Rattle.dq_match.specs.Values.{matching_of, is_universal, octets_meet, are_well_formed}
+use Rattle.dq_tables.specs.Rows.{as_started}
 use Rattle.dq_tables.specs.Finding.{records_of}
 use Rattle.dq_tables.specs.Records.{data_set_of}
 use Rattle.dq_worklist.specs.Queries.{query_of, answers, listed}
@@ -35,3 +36,11 @@ unfolding listed query_of identifier_in reading readers elements_by element_by e
     without_trailing kept_before keys_of leaves is_supported below is_universal are_well_formed matching_of parts pieces_of pieces joined has_separator answers
     records_of data_set_of octets_meet period sole_at asked_days asked_times start_day start_time shown
 none_listed = refl
+
+pub started_unlisted : listed (as_started entry ∷ []) (request (steps_of (codes "CT"))) Explicit ≡ found_with []
+unfolding listed query_of identifier_in reading readers elements_by element_by elements_after items_by item_by items_after item_header_at content_by value_by
+    header_at end_at tag_at spelling_at vr_at vr_or_fault length_at long_length_at is_below known_vr vr_in dictionary length_form_of vr_with_letters vr_among
+    every_vr letters_of is_text agrees content_of header_of item_header_of vr_and_length trimmed unpadded is_padded ignores_leading_spaces without_leading
+    without_trailing kept_before keys_of leaves is_supported below is_universal are_well_formed matching_of parts pieces_of pieces joined has_separator answers
+    records_of data_set_of octets_meet period sole_at asked_days asked_times start_day start_time shown
+started_unlisted = refl

@@ -1,5 +1,5 @@
 -- What is said of the answers to a worklist query: of which entries they are (PS3.4 section K.4.1).
-use Rattle.std.specs.Prelude.{◌≡◌, ◌↔◌, true, List, map}
+use Rattle.std.specs.Prelude.{◌≡◌, ◌↔◌, true, false, List, map}
 use Rattle.dq_list.specs.Among.{IsAmong}
 use Rattle.dq_dataset.specs.Tree.{ElementList}
 use Rattle.dq_match.specs.Matching.{fits}
@@ -8,10 +8,12 @@ use Rattle.dq_tables.specs.declared.row.Kind.TheVariants.{Entry}
 use Rattle.dq_tables.specs.Rows.{Record}
 use Rattle.dq_tables.specs.Records.{AreInOrder, data_set_of}
 
--- a record matches keys: it is kept, it is an entry, and it fits them (PS3.4 section K.4.1.2.1)
+-- a record matches keys: it is kept, it is an entry that waits, since no step has started it (PS3.4
+-- section K.6.1.2), and it fits them (PS3.4 section K.4.1.2.1)
 pub record Matches (records : List Record) (keys : ElementList) (r : Record) : Type 0 where
   pub kept : IsAmong r records
   pub kind : r.kind ≡ Entry
+  pub waiting : r.started ≡ false
   pub fit : fits keys (data_set_of r.octets) ≡ true
 
 -- The answers to keys are what they are shown of the entries that match, in the order of their ids:

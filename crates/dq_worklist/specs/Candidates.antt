@@ -1,15 +1,17 @@
 -- The entries that are looked at for a query. This is there for the prover: what is answered is
--- `answers` of Queries, of all entries.
-use Rattle.std.specs.Prelude.{ℕ, List, Option, Some, None}
+-- `answers` of Queries, of all entries that wait.
+use Rattle.std.specs.Prelude.{ℕ, List, Option, Some, None, if◌then◌else◌}
 use Rattle.std.specs.Option.{option_to_list}
 use Rattle.dq_vr.specs.Tags.{scheduled_procedure_step_sequence, scheduled_procedure_step_id}
 use Rattle.dq_dataset.specs.Tree.{ElementList}
 use Rattle.dq_dataset.specs.Values.{sole_at}
+use Rattle.dq_match.specs.Answers.{answer}
 use Rattle.dq_match.specs.Several.{is_plain}
 use Rattle.dq_tables.specs.declared.row.Kind.TheVariants.{Entry}
 use Rattle.dq_tables.specs.Keys.{passing, sole_item_at}
 use Rattle.dq_tables.specs.Rows.{Record}
 use Rattle.dq_tables.specs.Finding.{records_of, record_at}
+use Rattle.dq_tables.specs.Records.{data_set_of}
 
 abbrev pub id_asked_in : Option ElementList → Option (List ℕ)
 id_asked_in None = None
@@ -26,3 +28,7 @@ entries_with records (Some id) = option_to_list (record_at Entry id records)
 
 abbrev pub candidates : List Record → ElementList → List Record
 candidates records keys = entries_with records (id_asked keys)
+
+-- the answer that an entry gives to keys, where it waits
+abbrev pub answer_of : ElementList → Record → Option ElementList
+answer_of keys r = if r.started then None else answer keys (data_set_of r.octets)

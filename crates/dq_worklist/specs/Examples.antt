@@ -49,6 +49,7 @@ entry = record {
       (element tags.modality CS (codes "CT")
       (element tags.scheduled_procedure_step_start_time TM (codes "1030")
       (element tags.scheduled_procedure_step_id SH (codes "S1") no_elements))));
+  started = false;
 }
 
 abbrev pub answer : ElementList

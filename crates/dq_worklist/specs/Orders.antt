@@ -91,13 +91,14 @@ refusals limits records octets data_set =
     ∷ (is_none (read_order data_set), Incomplete)
     ∷ record_refusals limits records (read_order data_set)
 
--- The order is kept whole.
+-- The order is kept whole, and no step has started it.
 abbrev pub entry_of : Order → Record
 entry_of order = record {
   kind = Entry;
   key = order.id;
   above = [];
   octets = canonical Explicit order.elements;
+  started = false;
 }
 
 -- What is complete becomes an entry, and nothing is answered.

@@ -5,12 +5,10 @@ ghost use Rattle.std.specs.List.{filter_map};
 ghost use Rattle.dq_dimse.specs.Holding.{plain_message};
 ghost use Rattle.dq_match.specs.Identifiers.{HasKnownTags};
 ghost use Rattle.dq_tables.specs.declared.row.Row.{Row as TheRow};
-ghost use Rattle.dq_tables.specs.Rows.{Record, of, row_of};
+ghost use Rattle.dq_tables.specs.Rows.{Record, of, record_of, row_of};
 ghost use Rattle.dq_tables.specs.Keeping.{Reads};
-ghost use Rattle.dq_worklist.specs.Candidates.{id_asked, candidates};
+ghost use Rattle.dq_worklist.specs.Candidates.{id_asked, candidates, answer_of};
 ghost use Rattle.dq_tables.specs.Serving.{Serves};
-ghost use Rattle.dq_match.specs.Answers.{answer};
-ghost use Rattle.dq_tables.specs.Records.{data_set_of};
 ghost use Rattle.dq_worklist.specs.Queries.{listed};
 
 use crate::asking::{Query, query_of};
@@ -66,14 +64,18 @@ fn candidates<T: Tables>(
     Ok(listed(alloc, row)?)
 }
 
-/// The answers that rows give to the keys.
+/// The answers that rows give to the keys. An entry that a performed procedure step has started is
+/// no longer listed (PS3.4 section K.6.1.2).
 fn answers_of(alloc: Global, keys: &DataSet, rows: &[Row]) -> Result<Listed<DataSet>, AllocError>
     requires { HasKnownTags keys.now }
     ensures { IfOk result (λ answers. answers ≡ filter_map
-        (λ (row : TheRow). answer keys.now (data_set_of row.octets)) rows.now) }
+        (λ (row : TheRow). answer_of keys.now (record_of row)) rows.now) }
 {
     let mut answers = Listed::empty(alloc);
     for row in rows {
+        if row.started {
+            continue;
+        }
         let held = row.data_set(alloc)?;
         if let Some(given) = answer(alloc, keys, &held)? {
             answers.push(given)?;
@@ -82,8 +84,8 @@ fn answers_of(alloc: Global, keys: &DataSet, rows: &[Row]) -> Result<Listed<Data
     Ok(answers)
 }
 
-/// Answers a worklist C-FIND from the entries of an institution: those that fit, in order of the
-/// octets of their key, each with what the keys ask for. It is refused with status A700 where the
+/// Answers a worklist C-FIND from the entries of an institution that wait: those that fit, in order
+/// of the octets of their key, each with what the keys ask for. It is refused with status A700 where the
 /// identifier is too long, C000 where it is unreadable, and A900 where it has values that are not
 /// well formed (PS3.4 section K.4.1.1.4).
 pub fn query<T: Tables>(

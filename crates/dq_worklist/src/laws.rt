@@ -12,7 +12,7 @@ ghost use Rattle.dq_config.specs.Limits.{Limits};
 ghost use Rattle.dq_match.specs.Matching.{fits};
 ghost use Rattle.dq_match.specs.Responses.{shown};
 ghost use Rattle.dq_tables.specs.declared.row.Row.{Row};
-ghost use Rattle.dq_tables.specs.Rows.{Record, Edit, IsRising, of, by, after, edited};
+ghost use Rattle.dq_tables.specs.Rows.{Record, Edit, IsRising, as_started, of, by, after, edited};
 ghost use Rattle.dq_worklist.specs.Orders.{Order, read_order, has_entry, scheduled, withdrawn};
 ghost use Rattle.dq_worklist.specs.Answers.{AreAnswers};
 ghost use Rattle.dq_worklist.specs.Examples.{request, steps_of, entry, answer, found_with};
@@ -81,10 +81,12 @@ pub fn a_withdrawn_id_is_free()
 {}
 
 /// On a worked example: an entry is listed, with what is asked for, by the modality of its step,
-/// and is not by another.
+/// and is not by another, nor once a performed procedure step has started it.
 pub fn an_entry_is_listed_by_its_modality()
     ensures one { listed (entry ∷ []) (request (steps_of (codes "CT"))) Explicit
         ≡ found_with (answer ∷ []) }
     ensures nothing { listed (entry ∷ []) (request (steps_of (codes "MR"))) Explicit
+        ≡ found_with [] }
+    ensures started { listed (as_started entry ∷ []) (request (steps_of (codes "CT"))) Explicit
         ≡ found_with [] }
 {}
