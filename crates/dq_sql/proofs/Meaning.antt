@@ -1,6 +1,6 @@
 -- From the clause of a call to the rows that it reads.
-use Rattle.std.proofs.Common.{◌≡◌, ℕ, ℤ, int_cmp, int_le, is_eq, is_le, min, slice_index_or, pos, Option, Bool, true, false, ◌&&◌, List, [], ◌∷◌, None, Some, map, filter, length, slice_get, if◌then◌else◌, refl, sym, ◌∙◌, ap, subst, arith}
-use Rattle.std.specs.List.{AllByRecursion, find}
+use Rattle.std.proofs.Common.{◌≡◌, ℕ, ℤ, int_cmp, int_le, is_eq, is_le, min, slice_index_or, pos, Option, Bool, true, false, ◌&&◌, List, [], ◌∷◌, None, Some, map, filter, length, slice_get, refl, sym, ◌∙◌, ap, subst, arith}
+use Rattle.std.specs.List.{AllByRecursion}
 use Rattle.std.specs.List.Sorted.{IsPermutation}
 use Rattle.std.specs.Str.{bytes_eq}
 use Rattle.std.specs.declared.cmp.Ordering.TheVariants.{Less, Equal}

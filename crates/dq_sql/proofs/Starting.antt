@@ -1,9 +1,8 @@
 -- Entries that are started in turn, in a transaction.
-use Rattle.std.proofs.Common.{◌≡◌, ◌<◌, ◌+◌, ℕ, List, [], map, length, take, get_or, IsTrue, inl, refl, sym, subst, arith}
+use Rattle.std.proofs.Common.{◌≡◌, ◌<◌, ◌+◌, ℕ, List, [], map, length, take, get_or, IsTrue, inl, refl, subst, arith}
 use Rattle.sqlite.specs.Effect.{Database}
 use Rattle.sqlite.specs.State.{State, HasCleanDisk, Survives, KeepsCommit}
 use Rattle.sqlite.proofs.StateLemmas.{survives_then}
-use Rattle.dq_tables.specs.declared.row.Row.{Row}
 use Rattle.dq_tables.specs.Rows.{Start, after_edit, after_edits}
 use Rattle.dq_tables.proofs.Soundness.{start_more}
 use Rattle.dq_sql.specs.Tie.{HasRows}
