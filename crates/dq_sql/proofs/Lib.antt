@@ -18,6 +18,7 @@ mod Selected
 mod Selecting
 mod Silent
 pub mod Statements
+mod Starting
 mod Staying
 mod Texts
 mod Walks

@@ -16,9 +16,11 @@ mod placing;
 mod reading;
 mod schema_test;
 mod sql_tables;
+mod version;
 mod writing;
 
 pub use fault::StoreFault;
 pub use finding::kept_rows;
 pub use open::make_store;
 pub use sql_tables::SqlTables;
+pub use version::Version;
