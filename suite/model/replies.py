@@ -403,6 +403,21 @@ def begun(words):
     return institutions, store, status
 
 
+def migrate(words):
+    """Migrates a store of version 1; the exit status."""
+    options = argparse.ArgumentParser()
+    options.add_argument("--from", dest="old", required=True)
+    options.add_argument("--to", dest="new", required=True)
+    words = options.parse_args(words)
+    try:
+        stores.migrate(words.old, words.new)
+    except stores.Refused as refused:
+        print("store", refused.args[0], file=sys.stderr)
+        return 4
+    print("migrated")
+    return 0
+
+
 def main():
     words = with_options(argparse.ArgumentParser())
     words.add_argument("--report", action="store_true")

@@ -16,6 +16,7 @@ SOP_CLASS, SOP_INSTANCE = (0x0008, 0x0016), (0x0008, 0x0018)
 STUDY, SERIES, IMAGE = (0x0020, 0x000D), (0x0020, 0x000E), (0x0008, 0x0018)
 LEVEL, MODALITY, MODALITIES = (0x0008, 0x0052), (0x0008, 0x0060), (0x0008, 0x0061)
 STATE, SCHEDULED_STEP, STEP_ID = (0x0040, 0x0252), (0x0040, 0x0100), (0x0040, 0x0009)
+STEP_ATTRIBUTES = (0x0040, 0x0270)
 FIXED = [MODALITY, (0x0040, 0x0241), (0x0040, 0x0244), (0x0040, 0x0245), (0x0040, 0x0253), (0x0040, 0x0270)]
 
 
@@ -27,7 +28,8 @@ class Refused(Exception):
 
 @dataclass
 class Records:
-    """One institution's records: by key, the key above and the data set."""
+    """One institution's records: by key, the key above and the data set; of an entry whether a step has started it, and the data
+    set; of a step the data set."""
     limits: dict
     studies: dict = field(default_factory=dict)
     series: dict = field(default_factory=dict)
@@ -178,7 +180,7 @@ def query(records, octets, syntax):
             raise Refused(MISMATCH)
     except Refused as refused:
         return PENDING, [], refused.status
-    kept = [records.entries[key] for key in sorted(records.entries)]
+    kept = [held for _, (is_started, held) in sorted(records.entries.items()) if not is_started]
     answers = [matching.shown(keys, held) for held in kept if matching.fits(keys, held)]
     return PENDING_OPTIONAL if struck else PENDING, answers, SUCCESS
 
@@ -217,7 +219,7 @@ def schedule(records, octets):
         return 3
     if len(records.entries) >= records.limits["entries"]:
         return 4
-    records.entries[key] = data_set
+    records.entries[key] = (False, data_set)
     return None
 
 
@@ -225,8 +227,15 @@ def withdraw(records, key):
     return None if records.entries.pop(key, None) is not None else 5
 
 
+def ids_named(step):
+    """The ids of the scheduled steps that a performed one names, each the only value of its item (PS3.4 table F.7.2-1)."""
+    element = element_of(step, STEP_ATTRIBUTES)
+    items = element[2] if element is not None and element[1] == "SQ" else []
+    return {only_value(element_of(item, STEP_ID)) for item in items} - {None}
+
+
 def create(records, command, octets, syntax):
-    """N-CREATE of a performed procedure step (PS3.4 section F.7.2.1)."""
+    """N-CREATE of a performed procedure step (PS3.4 section F.7.2.1), which starts the entries that it names."""
     try:
         step = read(octets, syntax, 0x0213, 0x0110)
     except Refused as refused:
@@ -245,6 +254,8 @@ def create(records, command, octets, syntax):
     if len(records.steps) >= records.limits["steps"]:
         return 0x0213
     records.steps[command.sop_instance] = step
+    for key in ids_named(step) & records.entries.keys():
+        records.entries[key] = (True, records.entries[key][1])
     return SUCCESS
 
 

@@ -1,9 +1,10 @@
 """Stores: the rows of all institutions in an SQLite database, as docs describe them. An independent model of the program's
 keeper, over Python's own sqlite3.
 
-A row is (kind, inst, id, above, patient, day, octets): kind 1 study, 2 series, 3 image, 4 entry, 5 step; the institution's
-name; the key, and the key of the row above it; of a study the only value of Patient ID, and the only value of Study Date as
-a number where it is a date; and the data set in Explicit VR Little Endian.
+A row is (kind, inst, id, above, patient, day, octets, started): kind 1 study, 2 series, 3 image, 4 entry, 5 step; the
+institution's name; the key, and the key of the row above it; of a study the only value of Patient ID, and the only value of
+Study Date as a number where it is a date; the data set in Explicit VR Little Endian; and 1 of an entry that a step has started,
+else 0. Version 1 of a store has not the last column.
 """
 import os
 import sqlite3
@@ -15,17 +16,23 @@ from matching import element_of, only_value
 
 NO_MEMORY, STORE, WRONG_VERSION, BAD_ROWS = 1, 2, 3, 4
 STUDY, SERIES, IMAGE, ENTRY, STEP = 1, 2, 3, 4, 5
-VERSION = 1
+OLD_VERSION, VERSION = 1, 2
+PARTS = ("studies", "series", "images", "entries", "steps")
 LONGEST_ENTRY = 16777216
 PATIENT, DATE = (0x0010, 0x0020), (0x0008, 0x0020)
 TABLES = """
 CREATE TABLE kept (kind INTEGER NOT NULL CHECK (kind BETWEEN 1 AND 5), inst TEXT NOT NULL, id BLOB NOT NULL,
-    above BLOB NOT NULL, patient BLOB, day INTEGER, octets BLOB NOT NULL, PRIMARY KEY (kind, inst, id)) STRICT;
+    above BLOB NOT NULL, patient BLOB, day INTEGER, octets BLOB NOT NULL, started INTEGER NOT NULL,
+    PRIMARY KEY (kind, inst, id)) STRICT;
 CREATE TABLE version (number INTEGER NOT NULL) STRICT;
 CREATE INDEX kept_above ON kept (kind, inst, above, id);
 """
-INSERT = "INSERT INTO kept (kind, inst, id, above, patient, day, octets) VALUES (?, ?, ?, ?, ?, ?, ?)"
-SELECT = "SELECT kind, inst, id, above, patient, day, octets FROM kept ORDER BY kind, inst, id"
+OLD_TABLES = TABLES.replace(" started INTEGER NOT NULL,", "")
+COLUMNS = "kind, inst, id, above, patient, day, octets"
+INSERT = f"INSERT INTO kept ({COLUMNS}, started) VALUES (?, ?, ?, ?, ?, ?, ?, ?)"
+OLD_INSERT = f"INSERT INTO kept ({COLUMNS}) VALUES (?, ?, ?, ?, ?, ?, ?)"
+SELECT = f"SELECT {COLUMNS}, started FROM kept ORDER BY kind, inst, id"
+OLD_SELECT = f"SELECT {COLUMNS}, 0 FROM kept ORDER BY kind, inst, id"
 
 
 class Refused(Exception):
@@ -49,20 +56,23 @@ def labels(kind, data_set):
     return only_value(element_of(data_set, PATIENT)), int(date) if is_day else None
 
 
-def row_of(kind, name, key, above, data_set):
+def row_of(kind, name, key, held):
+    """The row of what is held at a key."""
+    if kind == STEP:
+        above, is_started, data_set = b"", False, held
+    elif kind == ENTRY:
+        above, (is_started, data_set) = b"", held
+    else:
+        (above, data_set), is_started = held, False
     octets = data_sets.canonical(data_set, data_sets.EXPLICIT)
-    return (kind, name.encode(), key, above, *labels(kind, data_set), octets)
+    return (kind, name.encode(), key, above, *labels(kind, data_set), octets, int(is_started))
 
 
 def rows_of(institution):
     """An institution's rows, in no order."""
-    records = institution.records
-    for kind, part in ((STUDY, records.studies), (SERIES, records.series), (IMAGE, records.images)):
-        for key, (above, data_set) in part.items():
-            yield row_of(kind, institution.name, key, above, data_set)
-    for kind, part in ((ENTRY, records.entries), (STEP, records.steps)):
-        for key, data_set in part.items():
-            yield row_of(kind, institution.name, key, b"", data_set)
+    for kind, part in enumerate(PARTS, STUDY):
+        for key, held in getattr(institution.records, part).items():
+            yield row_of(kind, institution.name, key, held)
 
 
 def shape(store):
@@ -78,9 +88,9 @@ def shape(store):
     return found
 
 
-def documented():
+def documented(version=VERSION):
     store = connect(":memory:")
-    store.executescript(TABLES)
+    store.executescript(TABLES if version == VERSION else OLD_TABLES)
     return shape(store)
 
 
@@ -112,8 +122,8 @@ def own_key(kind, key, data_set):
 
 
 def check_row(row, keys):
-    kind, name, key, above, patient, day, octets = row
-    if not STUDY <= kind <= STEP:
+    kind, name, key, above, patient, day, octets, started = row
+    if not STUDY <= kind <= STEP or started not in ((0, 1) if kind == ENTRY else (0,)):
         raise Refused(BAD_ROWS)
     data_set = data_set_of(octets)
     tags = {SERIES: services.STUDY, IMAGE: services.SERIES}
@@ -127,53 +137,86 @@ def check_row(row, keys):
     return data_set
 
 
-def new(path):
-    """A store that is made."""
+def empty(path):
+    """A connection to a file that holds nothing yet, or is not there."""
     try:
         store = connect(path)
         if shape(store):
             raise Refused(STORE)
         store.execute("PRAGMA journal_mode = wal")
         store.execute("PRAGMA synchronous = EXTRA")
-        store.executescript(f"BEGIN; {TABLES} INSERT INTO version VALUES ({VERSION}); COMMIT")
     except sqlite3.Error:
         raise Refused(STORE) from None
     return store
 
 
-def adopt(path):
+def fill(store, rows, version=VERSION):
+    """Makes a store of a version that has these rows."""
+    tables, insert, width = (TABLES, INSERT, 8) if version == VERSION else (OLD_TABLES, OLD_INSERT, 7)
+    try:
+        store.execute("BEGIN")
+        for statement in tables.strip().rstrip(";").split(";"):
+            store.execute(statement)
+        store.execute("INSERT INTO version VALUES (?)", (version,))
+        store.executemany(insert, [(kind, name.decode(), *rest)[:width] for kind, name, *rest in rows])
+        store.execute("COMMIT")
+    except sqlite3.Error:
+        raise Refused(STORE) from None
+
+
+def new(path):
+    """A store that is made."""
+    store = empty(path)
+    fill(store, [])
+    return store
+
+
+def adopt(path, version=VERSION):
     """A store that is taken, with its rows and their data sets."""
     if not os.access(path, os.R_OK | os.W_OK):
         raise Refused(STORE)
     try:
         store = connect(path)
-        if columns_alone(shape(store)) != columns_alone(documented()):
+        found = columns_alone(shape(store))
+        shaped = [one for one in (OLD_VERSION, VERSION) if found == columns_alone(documented(one))]
+        if not shaped:
             raise Refused(STORE)
         versions = store.execute("SELECT number FROM version").fetchall()
-        rows = store.execute(SELECT).fetchall()
+        rows = store.execute(SELECT if shaped == [VERSION] else OLD_SELECT).fetchall()
         store.execute("PRAGMA busy_timeout = 0")
         store.execute("BEGIN IMMEDIATE")
         store.execute("COMMIT")
     except (sqlite3.Error, UnicodeDecodeError):
         raise Refused(STORE) from None
-    if versions != [(VERSION,)]:
+    if shaped != [version] or versions != [(version,)]:
         raise Refused(WRONG_VERSION)
     keys = {row[:3] for row in rows}
     return store, [(row, check_row(row, keys)) for row in rows]
 
 
+def migrated(found):
+    """Rows of version 1 with their data sets, as rows of version 2: an entry is started where a kept step of its institution names
+    it, whenever it was scheduled."""
+    named = {(row[1], key) for row, data_set in found if row[0] == STEP for key in services.ids_named(data_set)}
+    return [(*row[:7], int(row[0] == ENTRY and row[1:3] in named)) for row, _ in found]
+
+
+def migrate(old, new_one):
+    """Makes a new store of the rows of one of version 1."""
+    if not os.access(old, os.R_OK | os.W_OK) or os.path.exists(new_one) and os.path.samefile(old, new_one):
+        raise Refused(STORE)
+    store = empty(new_one)
+    fill(store, migrated(adopt(old, OLD_VERSION)[1]))
+    store.close()
+
+
 def take(institutions, found):
     """The rows of these institutions, into their records."""
     named = {one.name.encode(): one.records for one in institutions}
-    for (kind, name, key, above, *_), data_set in found:
-        if name not in named:
-            continue
-        records = named[name]
-        if kind in (STUDY, SERIES, IMAGE):
-            part = {STUDY: records.studies, SERIES: records.series, IMAGE: records.images}[kind]
-            part[key] = (above, data_set)
-        else:
-            (records.entries if kind == ENTRY else records.steps)[key] = data_set
+    for (kind, name, key, above, *_, started), data_set in found:
+        if name in named:
+            held = data_set if kind == STEP else (bool(started) if kind == ENTRY else above, data_set)
+            getattr(named[name], PARTS[kind - 1])[key] = held
 
 
 class Noted(dict):
@@ -205,7 +248,7 @@ def noted(institutions):
     """Makes the institutions note their changes; where they are noted."""
     changes = []
     for one in institutions:
-        for kind, part in enumerate(("studies", "series", "images", "entries", "steps"), STUDY):
+        for kind, part in enumerate(PARTS, STUDY):
             held = Noted(kind, one.name, changes)
             dict.update(held, getattr(one.records, part))
             setattr(one.records, part, held)
@@ -215,8 +258,7 @@ def noted(institutions):
 def edits(changes):
     """The places that were changed, each with its row or None; they are noted no more."""
     for kind, name, key, part in changes:
-        above, data_set = (b"", part.get(key)) if kind in (ENTRY, STEP) else part.get(key, (b"", None))
-        yield (kind, name, key), None if data_set is None else row_of(kind, name, key, above, data_set)
+        yield (kind, name, key), row_of(kind, name, key, part[key]) if key in part else None
     changes.clear()
 
 

@@ -207,6 +207,216 @@ def store_unchecked():
     stores.check_row = check_row
 
 
+def starts_none():
+    """A step starts no entry."""
+    services.ids_named = lambda step: set()
+
+
+def starts_every_value():
+    """A step starts the entries of each value of an item."""
+    def ids_named(step):
+        return {value for item in matching.element_of(step, services.STEP_ATTRIBUTES)[2]
+                for value in matching.values("SH", (matching.element_of(item, services.STEP_ID) or (0, 0, b""))[2])}
+
+    services.ids_named = ids_named
+
+
+def starts_of_all():
+    """A step starts the entries of every institution that have an id that it names."""
+    right, all_records = services.create, []
+    right_begin = services.Records.__init__
+
+    def begin(self, *words):
+        right_begin(self, *words)
+        all_records.append(self)
+
+    def create(records, command, octets, syntax):
+        status = right(records, command, octets, syntax)
+        if status == services.SUCCESS:
+            for other in all_records:
+                for key in services.ids_named(records.steps[command.sop_instance]) & other.entries.keys():
+                    other.entries[key] = (True, other.entries[key][1])
+        return status
+
+    services.Records.__init__, services.create = begin, create
+
+
+def refused_starts():
+    """A step that is refused starts what it names too, where it can be read."""
+    right = services.create
+
+    def create(records, command, octets, syntax):
+        try:
+            step = services.read(octets, syntax, 0x0213, 0x0110)
+            for key in services.ids_named(step) & records.entries.keys():
+                records.entries[key] = (True, records.entries[key][1])
+        except services.Refused:
+            pass
+        return right(records, command, octets, syntax)
+
+    services.create = create
+
+
+def discontinued_unstarts():
+    """An entry whose step is discontinued is on the worklist again."""
+    right = services.change
+
+    def change(records, command, octets, syntax):
+        status = right(records, command, octets, syntax)
+        step = records.steps.get(command.sop_instance)
+        if status == services.SUCCESS and matching.only_value(matching.element_of(step, services.STATE)) == b"DISCONTINUED":
+            for key in services.ids_named(step) & records.entries.keys():
+                records.entries[key] = (False, records.entries[key][1])
+        return status
+
+    services.change = change
+
+
+def started_not_counted():
+    """Entries that are started are not counted for the limit."""
+    right = services.schedule
+
+    def schedule(records, octets):
+        started = {key: held for key, held in records.entries.items() if held[0]}
+        if len(records.entries) - len(started) >= records.limits["entries"]:
+            return right(records, octets)
+        limit = records.limits["entries"]
+        records.limits["entries"] += len(started)
+        try:
+            return right(records, octets)
+        finally:
+            records.limits["entries"] = limit
+
+    services.schedule = schedule
+
+
+def started_is_free():
+    """The id of a started entry may be scheduled again."""
+    right = services.schedule
+
+    def schedule(records, octets):
+        for key in [key for key, (is_started, _) in records.entries.items() if is_started]:
+            held = records.entries.pop(key)
+            refusal = right(records, octets)
+            records.entries.setdefault(key, held)
+            if refusal is None:
+                return None
+        return right(records, octets)
+
+    services.schedule = schedule
+
+
+def started_stays_started():
+    """An entry that is withdrawn and scheduled again is started still."""
+    right, started = services.schedule, set()
+    right_create = services.create
+
+    def create(records, *words):
+        status = right_create(records, *words)
+        started.update((id(records), key) for key, (is_started, _) in records.entries.items() if is_started)
+        return status
+
+    def schedule(records, octets):
+        refusal = right(records, octets)
+        for key, (_, data_set) in records.entries.items():
+            if (id(records), key) in started:
+                records.entries[key] = (True, data_set)
+        return refusal
+
+    services.create, services.schedule = create, schedule
+
+
+def migrates_alike(wrong):
+    """Migrated rows are made of the right ones by a function."""
+    right = stores.migrated
+    stores.migrated = lambda found: wrong(right(found), found)
+
+
+def migrates_none_started():
+    migrates_alike(lambda rows, _: [(*row[:7], 0) for row in rows])
+
+
+def migrates_by_id_alone():
+    """An entry is started where a step of any institution names its id."""
+    def wrong(rows, found):
+        named = {key for row, data_set in found if row[0] == stores.STEP for key in services.ids_named(data_set)}
+        return [(*row[:7], int(row[0] == stores.ENTRY and row[2] in named)) for row in rows]
+
+    migrates_alike(wrong)
+
+
+def migrates_without_steps_ended():
+    """A step that is discontinued starts none."""
+    def is_discontinued(data_set):
+        return matching.only_value(matching.element_of(data_set, services.STATE)) == b"DISCONTINUED"
+
+    right = stores.migrated
+    stores.migrated = lambda found: right([(row, [] if is_discontinued(data_set) else data_set) for row, data_set in found])
+
+
+def migrates_without_a_row():
+    migrates_alike(lambda rows, _: rows[:-1])
+
+
+def migrates_any_version():
+    """The version of the old store is not looked at."""
+    right = stores.adopt
+
+    def adopt(path, version=stores.VERSION):
+        try:
+            return right(path, version)
+        except stores.Refused as refused:
+            if refused.args[0] != stores.WRONG_VERSION or version == stores.VERSION:
+                raise
+            return right(path, stores.VERSION)
+
+    stores.adopt = adopt
+
+
+def migrates_over_rows():
+    """A new store that has tables is migrated to all the same."""
+    stores.empty = stores.connect
+
+
+def migrates_and_empties():
+    """The old store has no rows any more."""
+    right = stores.migrate
+
+    def migrate(old, new_one):
+        right(old, new_one)
+        stores.connect(old).execute("DELETE FROM kept")
+
+    stores.migrate = migrate
+
+
+def migrates_row_by_row():
+    """Each row is a transaction of its own."""
+    def fill(store, rows, version=stores.VERSION):
+        try:
+            store.executescript(f"BEGIN; {stores.TABLES} INSERT INTO version VALUES ({version}); COMMIT")
+            for kind, name, *rest in rows:
+                store.execute(stores.INSERT, (kind, name.decode(), *rest))
+        except stores.sqlite3.Error:
+            raise stores.Refused(stores.STORE) from None
+
+    stores.fill = fill
+
+
+def old_store_is_taken():
+    """`--store` takes version 1, of which no entry is started."""
+    right = stores.adopt
+
+    def adopt(path, version=stores.VERSION):
+        try:
+            return right(path, version)
+        except stores.Refused as refused:
+            if refused.args[0] != stores.WRONG_VERSION:
+                raise
+            return right(path, stores.OLD_VERSION)
+
+    stores.adopt = adopt
+
+
 def store_without_patients():
     right = stores.labels
     stores.labels = lambda kind, data_set: (None, right(kind, data_set)[1])
@@ -523,6 +733,14 @@ FAULTS = {"stop-at-unreadable": stop_at_unreadable, "limit-over-all": limit_over
           "report-counts-to-one": report_counts_to_one, "store-kept-late": store_kept_late,
           "store-kept-by-row": store_kept_by_row, "store-fault-passed-over": store_fault_passed_over,
           "store-unchecked": store_unchecked, "store-without-patients": store_without_patients,
+          "starts-none": starts_none, "starts-every-value": starts_every_value, "starts-of-all": starts_of_all,
+          "refused-starts": refused_starts, "discontinued-unstarts": discontinued_unstarts,
+          "started-not-counted": started_not_counted, "started-is-free": started_is_free,
+          "started-stays-started": started_stays_started, "migrates-none-started": migrates_none_started,
+          "migrates-by-id-alone": migrates_by_id_alone, "migrates-without-steps-ended": migrates_without_steps_ended,
+          "migrates-without-a-row": migrates_without_a_row, "migrates-any-version": migrates_any_version,
+          "migrates-over-rows": migrates_over_rows, "migrates-and-empties": migrates_and_empties,
+          "migrates-row-by-row": migrates_row_by_row, "old-store-is-taken": old_store_is_taken,
           "store-without-an-index": store_without_an_index, "socket-drops-an-octet": socket_drops_an_octet,
           "socket-answers-another": socket_answers_another, "socket-never-closes": socket_never_closes,
           "socket-drops-what-waits": socket_drops_what_waits, "socket-waits-for-one": socket_waits_for_one,
@@ -549,10 +767,12 @@ def main():
     name, *parts = fault.split(":")
     FAULTS[name](*parts)
     options = [word.split("=")[0] for word in words if word.startswith("--")]
-    if words[:1] not in ([], ["replay"], ["report"], ["serve"], ["loopback"]) or {"--new", "--store"} <= set(options) or len(
-            options) > len(set(options)):
+    if words[:1] not in ([], ["replay"], ["report"], ["serve"], ["loopback"], ["migrate"]) or {
+            "--new", "--store"} <= set(options) or len(options) > len(set(options)):
         return usage()
     try:
+        if words[:1] == ["migrate"]:
+            return replies.migrate(words[1:])
         if words[:1] == ["serve"]:
             return serving.serve(words[1:])
         if words[:1] == ["loopback"]:

@@ -11,9 +11,9 @@ use Rattle.dq_program.specs.declared.stop.Stop.{Stop}
 use Rattle.dq_program.specs.declared.stop.Stop.TheVariants.{Usage, Config, Capture, Store, Fault, Output, Network}
 use Rattle.dq_program.specs.declared.words.Task.TheVariants.{Replay, Report}
 use Rattle.dq_program.specs.declared.words.Task.{Task}
-use Rattle.dq_program.specs.Words.{Request, Serving, Errand, Serves, Loops}
+use Rattle.dq_program.specs.Words.{Request, Serving, Migrating, Errand, Serves, Loops, Migrates}
 use Rattle.dq_program.specs.Serving.{StopsService}
-use Rattle.dq_program.specs.Program.{no_memory, status_of, RefusesFile, RefusesCapture, RefusesStore, IsRunFault, EndsTask, CutsTask, EndsLoop, rows_at, text_of, IsBy, HasConfig, PrintsFirst}
+use Rattle.dq_program.specs.Program.{no_memory, status_of, RefusesFile, RefusesCapture, RefusesStore, IsRunFault, EndsTask, CutsTask, EndsLoop, EndsMigration, rows_at, text_of, IsBy, HasConfig, PrintsFirst}
 use Rattle.dq_program.specs.Surroundings.{AppendsPart}
 
 file_memory : (may_fail : List ℕ → Type 0) (held : List ℕ → Option (List ℕ)) (file : Option (List ℕ)) (number : ℕ)
@@ -81,6 +81,15 @@ pub unread_loop : (found : Option Errand) (file : Option (List ℕ)) (fails : Ty
     → (cause : Stop) × (status ≡ status_of cause) × Told cause × EndsLoop fails written written cause
 unread_loop found file fails written Told k status is other memory = elim (memory_or_not k) [
   | inl so ↦ let told = memory so in (Fault no_memory, told.0, told.1, keeps written)
+  | inr not ↦ let none : found ≡ None = other not in absurd (cc)
+]
+
+-- Nor are words that ask to migrate a store.
+pub unread_migration : (found : Option Errand) (files : Migrating) (fails : Type 0) (written : Option (List ℕ)) (Told : Stop → Type 0) (k : ErrorKind) (status : ℕ)
+    → found ≡ Some (Migrates files) → (k ≢ kind.OutOfMemory → found ≡ None) → (k ≡ kind.OutOfMemory → (status ≡ 4) × Told (Fault no_memory))
+    → (cause : Stop) × (status ≡ status_of cause) × Told cause × EndsMigration fails written written cause
+unread_migration found files fails written Told k status is other memory = elim (memory_or_not k) [
+  | inl so ↦ let told = memory so in (Fault no_memory, told.0, told.1, (keeps written, refl))
   | inr not ↦ let none : found ≡ None = other not in absurd (cc)
 ]
 

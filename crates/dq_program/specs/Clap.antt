@@ -41,14 +41,22 @@ serve_app = with_rule
 abbrev pub loopback_app : App
 loopback_app = with_rule (new_app (codes "loopback")) (value_rule (codes "config"))
 
+-- the one that migrates a store
+abbrev pub migrate_app : App
+migrate_app = with_rule
+    (with_rule (new_app (codes "migrate")) (required_rule (codes "from")))
+    (required_rule (codes "to"))
+
+-- the program, with its tasks over a capture
+abbrev pub tasks_app : App
+tasks_app = with_subcommand
+    (with_subcommand (new_app (codes "dq_server")) (task_app (codes "replay")).top)
+    (task_app (codes "report")).top
+
 abbrev pub command : App
 command = with_subcommand
-    (with_subcommand
-    (with_subcommand
-    (with_subcommand (new_app (codes "dq_server")) (task_app (codes "replay")).top)
-    (task_app (codes "report")).top)
-    serve_app.top)
-    loopback_app.top
+    (with_subcommand (with_subcommand tasks_app serve_app.top) loopback_app.top)
+    migrate_app.top
 
 -- the value of an option of the subcommand
 abbrev pub value_in : Text → Option (Text × List Row) → Option Text

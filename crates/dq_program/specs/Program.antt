@@ -238,6 +238,17 @@ EndsLoop may_fail before after stop.Output = may_fail
 EndsLoop may_fail before after stop.Usage = ⊥
 EndsLoop may_fail before after other = Keeps before after
 
+-- what is printed once a store is migrated
+abbrev pub migrated_line : List ℕ
+migrated_line = codes "migrated" ++ line_feed ∷ []
+
+-- What a migration stops by: a refused store, where nothing was printed, or an output that fails, after the first octets
+-- of the line.
+abbrev pub EndsMigration : Type 0 → Option (List ℕ) → Option (List ℕ) → Stop → Type 0
+EndsMigration may_fail before after stop.Output =
+    may_fail × AppendsPart before after migrated_line
+EndsMigration may_fail before after cause = Keeps before after × RefusesStore cause
+
 -- It is so by some configuration of the file and some events that the input tells.
 abbrev pub IsBy : (List ℕ → Option (List ℕ)) → Option (List ℕ) → Option (List ℕ)
     → (List Institution → List Event → Type 0) → Type 0

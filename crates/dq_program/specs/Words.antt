@@ -11,6 +11,7 @@ use Rattle.dq_program.specs.declared.words.Job.{Job}
 use Rattle.dq_program.specs.declared.words.Job.TheVariants as job
 use Rattle.dq_program.specs.declared.words.Keeper.{Keeper}
 use Rattle.dq_program.specs.declared.words.Keeper.TheVariants as keeper
+use Rattle.dq_program.specs.declared.words.Migration.{Migration}
 use Rattle.dq_program.specs.declared.words.Service.{Service}
 use Rattle.dq_program.specs.declared.words.Task.{Task}
 
@@ -47,12 +48,18 @@ pub record Serving : Type 0 where
   pub config : Option (List ℕ)
   pub place : Place
 
--- what a command line asks for: a task over a capture, to serve, or to play a capture over sockets
--- with a configuration
+-- the file of a store of the version before, and the one in which the new store is made
+pub record Migrating : Type 0 where
+  pub from : List ℕ
+  pub to : List ℕ
+
+-- what a command line asks for: a task over a capture, to serve, to play a capture over sockets
+-- with a configuration, or to migrate a store
 pub data Errand : Type 0 where
   Plays : Request → Errand
   Serves : Serving → Errand
   Loops : Option (List ℕ) → Errand
+  Migrates : Migrating → Errand
 
 -- the place that `--new` and `--store` name, which exclude each other
 abbrev pub place_of : Option (List ℕ) → Option (List ℕ) → Option Place
@@ -125,11 +132,23 @@ serving_of subcommand =
     (told_if_given turns_told (value_in (codes "turns") subcommand)))
     (option_and_then port_told (value_in (codes "port") subcommand))
 
+-- both files have to be named
+abbrev pub files_of : Option (List ℕ) → Option (List ℕ) → Option Migrating
+files_of (Some from) (Some to) = Some (record { from = from; to = to })
+files_of (Some from) None = None
+files_of None to = None
+
+abbrev pub migration_of : Option (Text × List Row) → Option Migrating
+migration_of subcommand =
+    files_of (value_in (codes "from") subcommand) (value_in (codes "to") subcommand)
+
 abbrev pub errand_of : Option (Text × List Row) → Option Errand
 errand_of subcommand =
     if is_named (codes "serve") subcommand then option_map Serves (serving_of subcommand)
     else if is_named (codes "loopback") subcommand
     then Some (Loops (value_in (codes "config") subcommand))
+    else if is_named (codes "migrate") subcommand
+    then option_map Migrates (migration_of subcommand)
     else option_map Plays (request_of subcommand)
 
 abbrev pub errand_if : Kinds → Option Errand → Option Errand
@@ -164,7 +183,11 @@ serving_in service = record {
   place = place_in service.keeper;
 }
 
+abbrev pub migration_in : Migration → Migrating
+migration_in files = record { from = files.from.now; to = files.to.now }
+
 abbrev pub errand_in : Job → Errand
 errand_in (job.Play asked) = Plays (request_in asked)
 errand_in (job.Serve service) = Serves (serving_in service)
 errand_in (job.Loop config) = Loops (option_copied config)
+errand_in (job.Migrate files) = Migrates (migration_in files)

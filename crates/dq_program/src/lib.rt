@@ -7,6 +7,7 @@ mod capture;
 mod desk;
 mod help;
 mod looping;
+mod migrating;
 mod network;
 mod printing;
 mod program;

@@ -12,12 +12,13 @@ ghost use Rattle.dq_wires.specs.declared.looping.Sent.{Sent};
 ghost use Rattle.dq_wires.specs.Looping.{sent_number};
 ghost use Rattle.dq_program.specs.Printing.{sent_text};
 ghost use Rattle.dq_program.specs.Surroundings.{AppendsPart};
-ghost use Rattle.dq_program.specs.Words.{Request, Serving, Plays, Serves, Loops, asked, place_in};
-ghost use Rattle.dq_program.specs.Program.{no_memory, status_of, IsTold, IsBadConfig, IsBadCapture, RefusesFile, RefusesCapture, RefusesStore, AreHonest, IsRunFault, EndsTask, CutsTask, EndsLoop, rows_at, text_of, IsBy, IsConfigured, HasConfig, PrintsFirst};
+ghost use Rattle.dq_program.specs.Words.{Request, Serving, Migrating, Plays, Serves, Loops, Migrates, asked, place_in};
+ghost use Rattle.dq_program.specs.Program.{no_memory, status_of, IsTold, IsBadConfig, IsBadCapture, RefusesFile, RefusesCapture, RefusesStore, AreHonest, IsRunFault, EndsTask, CutsTask, EndsLoop, migrated_line, EndsMigration, rows_at, text_of, IsBy, IsConfigured, HasConfig, PrintsFirst};
 ghost use Rattle.dq_program.specs.Serving.{ready_text, turn_count, IsUncalled, Served, StopsService};
 
 use crate::answering::answer;
 use crate::looping::loop_over;
+use crate::migrating::migrate;
 use crate::network::Network;
 use crate::reading::{configured, read_events};
 use crate::reporting::report;
@@ -237,6 +238,17 @@ pub fn perform<Rt: AllocGlobal + Folder + Stores + Network, S: AsStr, R: Source,
         × (result ≡ status_of stop)
         × IsTold (E.may_fail errors.old) (E.written errors.old) (E.written errors.new) stop
         × EndsLoop (W.may_fail output.old) (W.written output.old) (W.written output.new) stop }
+    // Migrating a store: a keeper of its rows was made in a new one, and a line was printed.
+    ensures migrated { (files : Migrating) →
+        asked (map S.text words.now) ≡ Some (Migrates files) → result ≡ 0 → ((tables : Rt.File)
+        × IfSome (Rt.migrated rt.now files.from) (λ rows. (Rt.File.state tables).rows ≡ rows))
+        × Appends (W.written output.old) (W.written output.new) migrated_line }
+    ensures unmigrated { (files : Migrating) →
+        asked (map S.text words.now) ≡ Some (Migrates files) → result ≢ 0 → (stop : Stop)
+        × (result ≡ status_of stop)
+        × IsTold (E.may_fail errors.old) (E.written errors.old) (E.written errors.new) stop
+        × EndsMigration (W.may_fail output.old) (W.written output.old) (W.written output.new)
+        stop }
 {
     let line = match line_of(rt.alloc(), words) {
         Ok(line) => line,
@@ -252,6 +264,10 @@ pub fn perform<Rt: AllocGlobal + Folder + Stores + Network, S: AsStr, R: Source,
             Err(stop) => stopped(stop, errors),
         },
         Ok(Job::Loop(config)) => match loop_over(rt, config, input, output) {
+            Ok(()) => 0,
+            Err(stop) => stopped(stop, errors),
+        },
+        Ok(Job::Migrate(files)) => match migrate(rt, files, output) {
             Ok(()) => 0,
             Err(stop) => stopped(stop, errors),
         },

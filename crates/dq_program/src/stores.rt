@@ -26,6 +26,10 @@ pub trait Stores {
     /// The rows of the store at a path, where they are known: what keeps them is then honest.
     ghost stored: { Self → List ℕ → Option (List Row) };
 
+    /// The rows that the store of the version before at a path has once it is migrated, where they
+    /// are known.
+    ghost migrated: { Self → List ℕ → Option (List Row) };
+
     /// No rows, kept in memory.
     fn memory(&self, alloc: Global) -> Result<Self::Memory, Unkept>
         ensures rows { IfOk result (λ tables. (Self.Memory.state tables).rows ≡ []) }
@@ -42,6 +46,12 @@ pub trait Stores {
         ensures rows { IfOk result (λ tables. IfSome (stored self.now path.now)
             (λ rows. (Self.File.state tables).rows ≡ rows)) }
         ensures failed { IfOk result (λ tables. (Self.File.state tables).failed ≡ false) };
+
+    /// The rows of a store of the version before, migrated to a store that is made in a file. The
+    /// old store stays.
+    fn migrate(&self, alloc: Global, from: &str, to: &str) -> Result<Self::File, Unkept>
+        ensures { IfOk result (λ tables. IfSome (migrated self.now from.now)
+            (λ rows. (Self.File.state tables).rows ≡ rows)) };
 
     /// Nothing but the program writes memory.
     ghost memory_is_honest: { (tables : Self.Memory) → (Self.Memory.state tables).honest };

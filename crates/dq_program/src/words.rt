@@ -4,8 +4,8 @@ ghost use Rattle.std.specs.Option.{option_copied};
 ghost use Rattle.std.specs.Result.{result_ok};
 ghost use Rattle.clap.specs.declared.builder.command.Command.TheViews.{out-Command as fields_of};
 ghost use Rattle.clap.specs.Words.{app_of, rule_of, kind_of, subcommand_rows_of};
-ghost use Rattle.dq_program.specs.Words.{line_of, place_named, place_in, port_told, turns_told, seconds_told, told_if_given, loopback_address, request_in, request_of, serving_in, serving_of, errand_in, errand_of, asked};
-ghost use Rattle.dq_program.specs.Clap.{value_rule, required_rule, task_app, listening_app, serve_app, loopback_app, command, value_in, is_given, is_named, task_in};
+ghost use Rattle.dq_program.specs.Words.{line_of, place_named, place_in, port_told, turns_told, seconds_told, told_if_given, loopback_address, request_in, request_of, serving_in, serving_of, migration_in, migration_of, errand_in, errand_of, asked};
+ghost use Rattle.dq_program.specs.Clap.{value_rule, required_rule, task_app, listening_app, serve_app, loopback_app, migrate_app, tasks_app, command, value_in, is_given, is_named, task_in};
 
 use crate::help::{CAPTURES, STATUSES};
 use clap::error::ErrorKind;
@@ -62,6 +62,13 @@ pub struct Service<'a> {
     pub keeper: Keeper<'a>,
 }
 
+/// The file of a store of the version before, and the file in which the new one is made.
+#[derive(Clone, Copy, Debug, PartialEq, Eq)]
+pub struct Migration<'a> {
+    pub from: &'a str,
+    pub to: &'a str,
+}
+
 /// What a command line asks for.
 #[derive(Clone, Copy, Debug, PartialEq, Eq)]
 pub enum Job<'a> {
@@ -71,6 +78,8 @@ pub enum Job<'a> {
     Serve(Service<'a>),
     /// To play a capture over sockets, with the configuration's file if one is named.
     Loop(Option<&'a str>),
+    /// To migrate a store.
+    Migrate(Migration<'a>),
 }
 
 /// Why options are not taken.
@@ -86,6 +95,8 @@ enum Misuse {
     NoConsole,
     /// The number of seconds is none.
     NoSeconds,
+    /// One of the files of a migration is not named.
+    NoFile,
 }
 
 /// The whole command line: the program's own name, and the words.
@@ -265,6 +276,17 @@ fn service_in<'a>(matches: &ArgMatches<'a>) -> Result<Service<'a>, Misuse>
     })
 }
 
+/// Which store is migrated.
+fn migration_in<'a>(matches: &ArgMatches<'a>) -> Result<Migration<'a>, Misuse>
+    ensures { option_map migration_in (result_ok result)
+        ≡ migration_of (subcommand_rows_of matches.now) }
+{
+    match (value_in(matches, "from"), value_in(matches, "to")) {
+        (Some(from), Some(to)) => Ok(Migration { from, to }),
+        _ => Err(Misuse::NoFile),
+    }
+}
+
 /// What the subcommand asks for with its options, a replay where there is none.
 fn job_in<'a>(matches: &ArgMatches<'a>) -> Result<Job<'a>, Misuse>
     ensures { option_map errand_in (result_ok result)
@@ -274,6 +296,8 @@ fn job_in<'a>(matches: &ArgMatches<'a>) -> Result<Job<'a>, Misuse>
         Ok(Job::Serve(service_in(matches)?))
     } else if is_named(matches, "loopback") {
         Ok(Job::Loop(value_in(matches, "config")))
+    } else if is_named(matches, "migrate") {
+        Ok(Job::Migrate(migration_in(matches)?))
     } else {
         Ok(Job::Play(asked_in(matches)?))
     }
@@ -400,9 +424,33 @@ fn loopback_command<'a>(alloc: Global) -> Result<Command<'a>, AllocError>
     Ok(command)
 }
 
-/// The command line of the program.
-fn command<'a>(alloc: Global) -> Result<Command<'a>, AllocError>
-    ensures { IfOk result (λ built. app_of built ≡ command) }
+/// The subcommand that migrates a store.
+fn migrate_command<'a>(alloc: Global) -> Result<Command<'a>, AllocError>
+    ensures app { IfOk result (λ built. app_of built ≡ migrate_app) }
+    ensures local { IfOk result (λ built. (fields_of built).has_globals ≡ false) }
+{
+    let from = value_option(alloc, "from", "FILE", "The store of version 1, which stays").required(
+        true,
+    );
+    let to = value_option(
+        alloc,
+        "to",
+        "FILE",
+        "The new store, which is made; it must not be there, or be empty",
+    )
+    .required(true);
+    let command = Command::new(alloc, "migrate")
+        .about("Makes a new store of the rows of one of version 1; it reads no standard input")
+        .after_help(STATUSES)
+        .arg(from)?
+        .arg(to)?;
+    Ok(command)
+}
+
+/// The program, with its tasks over a capture.
+fn tasks_command<'a>(alloc: Global) -> Result<Command<'a>, AllocError>
+    ensures app { IfOk result (λ built. app_of built ≡ tasks_app) }
+    ensures local { IfOk result (λ built. (fields_of built).has_globals ≡ false) }
 {
     let replay = task_command(
         alloc,
@@ -414,15 +462,25 @@ fn command<'a>(alloc: Global) -> Result<Command<'a>, AllocError>
         "report",
         "Counts what is kept after a capture from standard input",
     )?;
-    let serve = serve_command(alloc)?;
-    let loopback = loopback_command(alloc)?;
     let command = Command::new(alloc, PROGRAM_NAME)
         .about("A DICOM server")
         .after_help(CAPTURES)
         .subcommand(replay)?
-        .subcommand(report)?
+        .subcommand(report)?;
+    Ok(command)
+}
+
+/// The command line of the program.
+fn command<'a>(alloc: Global) -> Result<Command<'a>, AllocError>
+    ensures { IfOk result (λ built. app_of built ≡ command) }
+{
+    let serve = serve_command(alloc)?;
+    let loopback = loopback_command(alloc)?;
+    let migrate = migrate_command(alloc)?;
+    let command = tasks_command(alloc)?
         .subcommand(serve)?
-        .subcommand(loopback)?;
+        .subcommand(loopback)?
+        .subcommand(migrate)?;
     Ok(command)
 }
 
@@ -448,6 +506,10 @@ fn misused(alloc: Global, misuse: Misuse) -> Result<clap::Error, AllocError> {
         Misuse::NoSeconds => (
             ErrorKind::ValueValidation,
             "the argument '--quiet <SECONDS>' takes a number from 1 to 4294967295",
+        ),
+        Misuse::NoFile => (
+            ErrorKind::MissingRequiredArgument,
+            "the arguments '--from <FILE>' and '--to <FILE>' are required",
         ),
     };
     command(alloc)?.error(kind, text)

@@ -2,7 +2,7 @@
 ghost use Rattle.std.specs.Prelude.{◌≡◌};
 
 use dq_program::{Host, Stores, Unkept};
-use dq_sql::{SqlTables, StoreFault};
+use dq_sql::{MigrateFault, SqlTables, StoreFault};
 use dq_tables::PlainTables;
 use sqlite::{Connection, Error, ErrorCode, File, FileStore};
 use std::alloc::Global;
@@ -44,6 +44,33 @@ fn unopened(error: &Error) -> Unkept {
     }
 }
 
+/// Why a store is not migrated.
+fn unmigrated(fault: MigrateFault) -> Unkept {
+    match fault {
+        MigrateFault::NoMemory => Unkept::NoMemory,
+        other => Unkept::Store(other.number()),
+    }
+}
+
+impl Machine<'_> {
+    /// A connection to a file, which is made where it is not there.
+    fn connected(&self, path: &str) -> Result<Connection<FileStore<File>>, Unkept> {
+        match Connection::open(self.rt, path) {
+            Ok(conn) => Ok(conn),
+            Err(error) => Err(unopened(&error)),
+        }
+    }
+
+    /// A connection to a file that is there.
+    fn found(&self, path: &str) -> Result<Connection<FileStore<File>>, Unkept> {
+        // A connection to a file that is not there would make it.
+        match fs::open(self.rt, path) {
+            Ok(_) => self.connected(path),
+            Err(_) => Err(unkept(StoreFault::Store)),
+        }
+    }
+}
+
 impl Stores for Machine<'_> {
     ghost use Rattle.std.specs.Prelude.{None};
 
@@ -54,31 +81,32 @@ impl Stores for Machine<'_> {
     // No contract says what a file of the machine holds.
     ghost stored = { λ _ _. None };
 
+    ghost migrated = { λ _ _. None };
+
     fn memory(&self, alloc: Global) -> Result<Self::Memory, Unkept> {
         Ok(PlainTables::new(alloc))
     }
 
     fn new_store(&self, alloc: Global, path: &str) -> Result<Self::File, Unkept> {
-        match Connection::open(self.rt, path) {
-            Ok(conn) => match SqlTables::open(alloc, conn) {
-                Ok(tables) => Ok(tables),
-                Err(fault) => Err(unkept(fault)),
-            },
-            Err(error) => Err(unopened(&error)),
+        match SqlTables::open(alloc, self.connected(path)?) {
+            Ok(tables) => Ok(tables),
+            Err(fault) => Err(unkept(fault)),
         }
     }
 
     fn store(&self, alloc: Global, path: &str) -> Result<Self::File, Unkept> {
-        // A connection to a file that is not there would make it.
-        if fs::open(self.rt, path).is_err() {
-            return Err(unkept(StoreFault::Store));
+        match SqlTables::adopt(alloc, self.found(path)?) {
+            Ok(tables) => Ok(tables),
+            Err(fault) => Err(unkept(fault)),
         }
-        match Connection::open(self.rt, path) {
-            Ok(conn) => match SqlTables::adopt(alloc, conn) {
-                Ok(tables) => Ok(tables),
-                Err(fault) => Err(unkept(fault)),
-            },
-            Err(error) => Err(unopened(&error)),
+    }
+
+    fn migrate(&self, alloc: Global, from: &str, to: &str) -> Result<Self::File, Unkept> {
+        // The old file is locked while the new one is opened, so that they cannot be one.
+        let old = self.found(from)?;
+        match SqlTables::migrate(alloc, old, self.connected(to)?) {
+            Ok(tables) => Ok(tables),
+            Err(fault) => Err(unmigrated(fault)),
         }
     }
 

@@ -1,7 +1,7 @@
 use Rattle.std.proofs.Common.{◌≡◌, Some, map, ap, sym, ◌∙◌, rules}
 use Rattle.dq_program.specs.Words.{Plays, asked, errand_in, line_of, request_in}
 use Rattle.dq_program.specs.Program.{IsTold}
-use Rattle.dq_program.proofs.Ends.{faults, unread_words, unread_loop}
+use Rattle.dq_program.proofs.Ends.{faults, unread_words, unread_loop, unread_migration}
 use Rattle.dq_program.proofs.program.perform.Goals as goal
 
 pub returns-in-Ok-Play-clause-fault : goal.returns-in-Ok-Play-clause-fault
@@ -32,5 +32,13 @@ returns-clause-unlooped g c = λ file is stops.
     let words = map g.S.AsStr.text c.args.words.now in
     let line : map (λ word. word.now) c.as_slice.result.now ≡ line_of words = search rules in
     unread_loop (asked words) file (g.W.Sink.may_fail c.args.output.now) (g.W.Sink.written c.args.output.now)
+    (IsTold (g.E.Sink.may_fail c.args.errors.now) (g.E.Sink.written c.args.errors.now) (g.E.Sink.written c.refused.new.errors))
+    _ c.refused.result is (c.in-Err-parse.ensures.err words line) c.refused.ensures.memory
+
+pub returns-clause-unmigrated : goal.returns-clause-unmigrated
+returns-clause-unmigrated g c = λ files is stops.
+    let words = map g.S.AsStr.text c.args.words.now in
+    let line : map (λ word. word.now) c.as_slice.result.now ≡ line_of words = search rules in
+    unread_migration (asked words) files (g.W.Sink.may_fail c.args.output.now) (g.W.Sink.written c.args.output.now)
     (IsTold (g.E.Sink.may_fail c.args.errors.now) (g.E.Sink.written c.args.errors.now) (g.E.Sink.written c.refused.new.errors))
     _ c.refused.result is (c.in-Err-parse.ensures.err words line) c.refused.ensures.memory

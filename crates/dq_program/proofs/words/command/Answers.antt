@@ -1,16 +1,11 @@
-use Rattle.std.proofs.Common.{◌≡◌, codes, ap, ap₂, ◌∙◌, rules}
-use Rattle.clap.specs.Words.{App, app_of, new_app, with_subcommand}
-use Rattle.clap.specs.Simple.{app_of_fields}
-use Rattle.dq_program.specs.Clap.{task_app}
+use Rattle.std.proofs.Common.{◌≡◌, ap, ap₂, ◌∙◌, rules}
+use Rattle.clap.specs.Words.{App, app_of, with_subcommand}
+use Rattle.dq_program.specs.Clap.{tasks_app, serve_app}
 use Rattle.dq_program.proofs.words.command.Goals as goal
 
 pub returns : goal.returns
 returns c =
-    let top : app_of c.after_help.result ≡ new_app (codes "dq_server") = ap app_of_fields c.after_help.ensures ∙ ap app_of_fields c.about.ensures ∙ c.new.ensures.app in
-    let one : app_of c.in_ok-subcommand.field-0 ≡ with_subcommand (new_app (codes "dq_server")) (task_app (codes "replay")).top =
-    c.in_ok-subcommand.ensures.shape (search rules) ∙ ap₂ with_subcommand top (ap (λ (a : App). a.top) c.in_ok-replay.ensures.app) in
-    let two : app_of c.in_ok-subcommand-2.field-0
-    ≡ with_subcommand (with_subcommand (new_app (codes "dq_server")) (task_app (codes "replay")).top) (task_app (codes "report")).top =
-    c.in_ok-subcommand-2.ensures.shape (search rules) ∙ ap₂ with_subcommand one (ap (λ (a : App). a.top) c.in_ok-report.ensures.app) in
-    let three = c.in_ok-subcommand-3.ensures.shape (search rules) ∙ ap₂ with_subcommand two (ap (λ (a : App). a.top) c.in_ok-serve.ensures.app) in
-    c.in_ok-command.ensures.shape (search rules) ∙ ap₂ with_subcommand three (ap (λ (a : App). a.top) c.in_ok-loopback.ensures.app)
+    let serve : app_of c.in_ok-subcommand.field-0 ≡ with_subcommand tasks_app serve_app.top =
+    c.in_ok-subcommand.ensures.shape (search rules) ∙ ap₂ with_subcommand c.in_ok-tasks_command.ensures.app (ap (λ (a : App). a.top) c.in_ok-serve.ensures.app) in
+    let loopback = c.in_ok-subcommand-2.ensures.shape (search rules) ∙ ap₂ with_subcommand serve (ap (λ (a : App). a.top) c.in_ok-loopback.ensures.app) in
+    c.in_ok-command.ensures.shape (search rules) ∙ ap₂ with_subcommand loopback (ap (λ (a : App). a.top) c.in_ok-migrate.ensures.app)
