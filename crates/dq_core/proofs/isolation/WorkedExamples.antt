@@ -461,7 +461,7 @@ abbrev study_element : ℕ → List ℕ → List ℕ
 study_element size value = 0x20 ∷ 0 ∷ 0x0d ∷ 0 ∷ 0x55 ∷ 0x49 ∷ size ∷ 0 ∷ [] ++ value
 
 abbrev kept_study : Row
-kept_study = record { kind = Study; inst = north; key = codes "1.21"; above = []; octets = study_element 4 (codes "1.21") }
+kept_study = record { kind = Study; inst = north; key = codes "1.21"; above = []; octets = study_element 4 (codes "1.21"); started = false }
 
 -- Study Root FIND in Explicit alone, for a modality
 abbrev find_request : List ℕ → List ℕ
