@@ -85,9 +85,9 @@ fn answers_of(alloc: Global, keys: &DataSet, rows: &[Row]) -> Result<Listed<Data
 }
 
 /// Answers a worklist C-FIND from the entries of an institution that wait: those that fit, in order
-/// of the octets of their key, each with what the keys ask for. It is refused with status A700 where the
-/// identifier is too long, C000 where it is unreadable, and A900 where it has values that are not
-/// well formed (PS3.4 section K.4.1.1.4).
+/// of the octets of their key, each with what the keys ask for. It is refused with status A700 where
+/// the identifier is too long, C000 where it is unreadable, and A900 where it has values that are
+/// not well formed (PS3.4 section K.4.1.1.4).
 pub fn query<T: Tables>(
     alloc: Global,
     tables: &mut T,
