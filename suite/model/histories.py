@@ -7,7 +7,8 @@ CT = compose.CLASSES["CT"].decode()
 FULL = "1.2.1"
 CUT_OFF = {3: "raw:400000244c54ffff4142", 5: "raw:40000024ffff00004142"}
 STEP = ("Modality=CT PerformedStationAETitle=CT1 PerformedProcedureStepStartDate=20240705 PerformedProcedureStepID=P "
-        "PerformedProcedureStepStartTime=0900 ScheduledStepAttributesSequence= { ScheduledProcedureStepID=S1 } ")
+        "PerformedProcedureStepStartTime=0900 ScheduledStepAttributesSequence= ")
+IDS = [1, 2, 3, 101, 164, 165]
 
 
 def message(chance, number, identity):
@@ -23,7 +24,7 @@ def message(chance, number, identity):
         "NumberOfStudyRelatedInstances=",
         f"find {number} 5 {identity} study QueryRetrieveLevel=SERIES StudyInstanceUID={study} SeriesInstanceUID=",
         f"find {number} 7 {identity} worklist PatientName= ScheduledProcedureStepSequence= {{ }}",
-        f"create {number} 9 {identity} {step} {STEP} PerformedProcedureStepStatus=\"IN PROGRESS\"",
+        f"create {number} 9 {identity} {step} {STEP} {named(chance)} PerformedProcedureStepStatus=\"IN PROGRESS\"",
         f"set {number} 9 {identity} {step} PerformedProcedureStepStatus=COMPLETED",
         f"set {number} 9 {identity} {step} PerformedProcedureStepDescription={name}",
         f"find {number} 5 {identity} study QueryRetrieveLevel=IMAGE StudyInstanceUID={FULL} SeriesInstanceUID={FULL}.1 "
@@ -36,6 +37,14 @@ def message(chance, number, identity):
         f"SeriesInstanceUID={study}.{series} {CUT_OFF[3]}",
         f"find {number} 5 {identity} study QueryRetrieveLevel=STUDY StudyInstanceUID= {CUT_OFF[5]}",
     ])
+
+
+def named(chance):
+    """The items of a step, of which each names an entry, one that is none, or two, which is none."""
+    ids = [f"S{chance.choice(IDS)}" for _ in range(chance.choice([1, 1, 2, 3]))]
+    if chance.random() < 0.2:
+        ids.append(chance.choice(["S9", "", "S1\\\\S2"]))
+    return " ".join(f"{{ ScheduledProcedureStepID={one} }}" for one in ids)
 
 
 def filled(chance, name, calling):
@@ -59,7 +68,7 @@ def entry(name, identity, patient="P1"):
 
 
 def console(chance, name):
-    identity = f"S{chance.choice([1, 2, 3, 101, 164, 165])}"
+    identity = f"S{chance.choice(IDS)}"
     return chance.choice([f"withdraw {name} {identity}", entry(name, identity)])
 
 

@@ -10,6 +10,7 @@ Use: replies.py [--config FILE] [--new FILE | --store FILE] [--report] < CAPTURE
 bad configuration with 2, and on a store that is not taken, or that fails, with 4.
 """
 import argparse
+import os
 import re
 import sys
 import tomllib
@@ -414,7 +415,10 @@ def migrate(words):
     except stores.Refused as refused:
         print("store", refused.args[0], file=sys.stderr)
         return 4
-    print("migrated")
+    try:
+        os.write(sys.stdout.fileno(), b"migrated\n")
+    except OSError:
+        return 4
     return 0
 
 
