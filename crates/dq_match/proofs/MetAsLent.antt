@@ -32,7 +32,7 @@ use Rattle.dq_match.proofs.DataSets.{follows-trans}
 
 -- ---- octets with a fault meet all keys
 
-pub faulty_meets : (later : List Tag) (keys : List Element) (met : Bool) (fault : ReadFault) (xs : List (Result Spelled ReadFault)) (es : List Element)
+faulty_meets : (later : List Tag) (keys : List Element) (met : Bool) (fault : ReadFault) (xs : List (Result Spelled ReadFault)) (es : List Element)
     → Lends xs es (Err fault ∷ []) → all_meet later keys met xs ≡ true
 faulty_meets later keys met fault xs [] h = ap (all_meet later keys met) h
 faulty_meets later keys met fault [] (e ∷ es) h = absurd h
@@ -62,7 +62,7 @@ found_first tag e f es is same = ap (λ (b : Bool). cond b (Some f) (find (has_t
 found_later : (tag : Tag) (e f : Element) (es : List Element) → has_tag tag f ≡ false → find (has_tag tag) es ≡ Some e → find (has_tag tag) (f ∷ es) ≡ Some e
 found_later tag e f es is rest = ap (λ (b : Bool). cond b (Some f) (find (has_tag tag) es)) is ∙ rest
 
-pub found : (levels : ℕ) (last : Option Tag) (d : ElementList) → AreElements levels last d → (e : Element) → IsAmong e (elements_of d)
+found : (levels : ℕ) (last : Option Tag) (d : ElementList) → AreElements levels last d → (e : Element) → IsAmong e (elements_of d)
     → element_at e.tag d ≡ Some e
 found levels last no_elements h e a = absurd a
 found levels last (element t v o rest) h e (inl is) =
@@ -80,7 +80,7 @@ abbrev IsSequenceAt : Vr → Value → Type 0
 IsSequenceAt vr (Octets octets) = Unit {0}
 IsSequenceAt vr (Items items) = vr ≡ SQ
 
-pub sequences : (levels : ℕ) (last : Option Tag) (d : ElementList) → AreElements levels last d → (e : Element) → IsAmong e (elements_of d)
+sequences : (levels : ℕ) (last : Option Tag) (d : ElementList) → AreElements levels last d → (e : Element) → IsAmong e (elements_of d)
     → IsSequenceAt e.vr e.value
 sequences levels last no_elements h e a = absurd a
 sequences levels last (element t v o rest) h e (inl is) = subst (λ (k : Element). IsSequenceAt k.vr k.value) is tt

@@ -1,5 +1,5 @@
 use dq_dataset::{DataSet, Syntax, read};
-use dq_match::{KeyList, fits, is_query, meets, shown, strike, wild};
+use dq_match::{KeyList, fits, is_query, lent_meets, meets, shown, strike, wild};
 use dq_vr::{Tag, tags};
 use std::alloc::Global;
 use std::test::Fail;
@@ -59,6 +59,35 @@ fn wild_cards(rt: HostRuntime) {
     }
 }
 
+// A piece of 101 octets stands behind so many others, or would but for its last octet.
+#[test]
+fn long_pieces_are_found(rt: HostRuntime) -> Result<(), Fail> {
+    let mut pattern = Vec::from_slice(rt.alloc(), b"*")?;
+    for _ in 0..50 {
+        pattern.extend_from_slice(b"A?")?;
+    }
+    pattern.extend_from_slice(b"B*")?;
+    for (before, last, expected) in [
+        (0, b'B', true),
+        (63, b'B', true),
+        (64, b'B', true),
+        (65, b'B', true),
+        (130, b'B', true),
+        (130, b'C', false),
+    ] {
+        let mut text = Vec::new(rt.alloc());
+        for _ in 0..before {
+            text.push(b'A')?;
+        }
+        text.extend_from_slice(&[b'A'; 100])?;
+        text.push(last)?;
+        assert_eq!(rt; wild(&pattern, &text), expected, "{before}");
+        text.extend_from_slice(&[b'C'; 200])?;
+        assert_eq!(rt; wild(&pattern, &text), expected, "{before}");
+    }
+    Ok(())
+}
+
 #[test]
 fn keys_of_each_kind(rt: HostRuntime) -> Result<(), Fail> {
     let rows: [(Tag, &[u8], &[u8], bool); 32] = [
@@ -109,6 +138,29 @@ fn what_is_absent_meets_every_key(rt: HostRuntime) -> Result<(), Fail> {
     assert!(rt; fits(&key, &absent));
     for element in key.elements() {
         assert!(rt; meets(element, None));
+    }
+    Ok(())
+}
+
+// An element that is absent or left for later excludes no record, nor do octets that are cut off.
+#[test]
+fn elements_are_met_as_they_are_lent(rt: HostRuntime) -> Result<(), Fail> {
+    let held = b"\x10\0\x10\0PN\x06\0DOE^A \x10\0\x20\0LO\x02\0P1";
+    let rows: [(Tag, &[u8], &[u8], bool); 5] = [
+        (tags::PATIENT_NAME, b"d*", held, true),
+        (tags::PATIENT_NAME, b"ROE*", held, false),
+        (tags::PATIENT_NAME, b"ROE*", &held[..20], true),
+        (tags::PATIENT_ID, b"P1", held, true),
+        (tags::ACCESSION_NUMBER, b"7", held, true),
+    ];
+    for (tag, key, octets, expected) in rows {
+        let keys = data_set(rt.alloc(), &[(tag, key)])?;
+        assert_eq!(rt;
+            lent_meets(keys.elements(), &[], octets),
+            expected,
+            "{tag:?} {key:?}"
+        );
+        assert!(rt; lent_meets(keys.elements(), &[tag], octets));
     }
     Ok(())
 }
