@@ -1,5 +1,5 @@
 -- Changes that fit where nothing is kept.
-use Rattle.std.proofs.Common.{◌≡◌, ℕ, true, List, [], Some, refl, sym, subst}
+use Rattle.std.proofs.Common.{◌≡◌, ℕ, true, false, List, [], Some, refl, sym, subst}
 use Rattle.std.specs.Str.{bytes_eq}
 use Rattle.std.proofs.lemmas.Slice.Eq.{bytes_eq-Decides}
 use Rattle.dq_tables.specs.declared.row.Kind.TheVariants.{Study, Series, Image, Entry, Step}
@@ -14,13 +14,13 @@ same_bytes o = (bytes_eq-Decides o o).1 refl
 
 module _ (n s r i a b c : List ℕ) where
   abbrev study_row : Row
-  study_row = record { kind = Study; inst = n; key = s; above = []; octets = a }
+  study_row = record { kind = Study; inst = n; key = s; above = []; octets = a; started = false }
 
   abbrev series_row : Row
-  series_row = record { kind = Series; inst = n; key = r; above = s; octets = b }
+  series_row = record { kind = Series; inst = n; key = r; above = s; octets = b; started = false }
 
   abbrev image_row : Row
-  image_row = record { kind = Image; inst = n; key = i; above = r; octets = c }
+  image_row = record { kind = Image; inst = n; key = i; above = r; octets = c; started = false }
 
   fits_rows : is_own study_row ≡ true → is_own series_row ≡ true → is_own image_row ≡ true → FitsStored [] (Some study_row) (Some series_row) image_row
   unfolding row_at is_held after_edit
@@ -46,6 +46,9 @@ pub fits_entry : (row : Row) → row.kind ≡ Entry → is_own row ≡ true → 
 unfolding row_at is_held
 fits_entry row kind own = record { kind_is = kind; free = refl; own = own; held = refl }
 
-pub fits_step : (row : Row) → row.kind ≡ Step → is_own row ≡ true → Fits [] (StepAdded row)
+pub fits_step : (row : Row) → row.kind ≡ Step → is_own row ≡ true → Fits [] (StepAdded row [])
 unfolding row_at is_held
-fits_step row kind own = record { kind_is = kind; free = refl; own = own; held = refl }
+fits_step row kind own = record {
+  step_new = record { kind_is = kind; free = refl; own = own; held = refl };
+  there = tt;
+}

@@ -11,6 +11,7 @@ mod procedure_steps;
 mod searches;
 mod servers;
 mod sieves;
+mod started_steps;
 mod stores;
 mod streams;
 mod tables;

@@ -8,10 +8,10 @@ use dq_tables::{PlainTables, TableFault};
 use std::alloc::Global;
 use std::test::*;
 
-const PROCEDURE_STEP: &[u8] = b"1.2.840.10008.3.1.2.3.3";
+pub(super) const PROCEDURE_STEP: &[u8] = b"1.2.840.10008.3.1.2.3.3";
 
 /// The data set of an N-CREATE, in Explicit.
-const NEW: &[u8] = b"\x08\x00\x60\x00CS\x02\x00MR\
+pub(super) const NEW: &[u8] = b"\x08\x00\x60\x00CS\x02\x00MR\
 \x40\x00\x41\x02AE\x04\x00MR1 \
 \x40\x00\x44\x02DA\x08\x0020261122\
 \x40\x00\x45\x02TM\x04\x000930\
@@ -20,7 +20,7 @@ const NEW: &[u8] = b"\x08\x00\x60\x00CS\x02\x00MR\
 \x40\x00\x70\x02SQ\x00\x00\x08\x00\x00\x00\xfe\xff\x00\xe0\x00\x00\x00\x00";
 
 /// The data set of an N-SET that completes the step.
-const END: &[u8] = b"\x40\x00\x52\x02CS\x0a\x00COMPLETED ";
+pub(super) const END: &[u8] = b"\x40\x00\x52\x02CS\x0a\x00COMPLETED ";
 
 /// The status of a request with these octets.
 fn answered(

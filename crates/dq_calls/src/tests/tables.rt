@@ -1,5 +1,5 @@
 //! Rows of records in memory, and over a fuse.
-ghost use Rattle.std.specs.Prelude.{◌≡◌, ◌<◌, ◌^◌, [], true, length, IfOk};
+ghost use Rattle.std.specs.Prelude.{◌≡◌, ◌<◌, ◌^◌, [], true, false, length, IfOk};
 ghost use Rattle.dq_tables.specs.Sound.{is_own, Fits};
 
 use dq_list::Listed;
@@ -33,6 +33,7 @@ fn row(
           key = key.now;
           above = above.now;
           octets = octets.now;
+          started = false;
         }) }
 {
     let octets = Vec::from_slice(alloc, octets)?;
@@ -49,6 +50,7 @@ fn own(alloc: Global, kind: Kind, key: &[u8], above: &[u8], octets: &[u8]) -> Re
           key = key.now;
           above = above.now;
           octets = octets.now;
+          started = false;
         }) }
     ensures own { IfOk result (λ row. is_own row ≡ true) }
 {
@@ -86,7 +88,8 @@ fn added(alloc: Global) -> Result<Change, Fail>
 fn begun(alloc: Global) -> Result<Change, Fail>
     ensures { IfOk result (λ change. Fits [] change) }
 {
-    Ok(Change::StepAdded(own(alloc, Kind::Step, b"1.5", b"", b"")?))
+    let step = own(alloc, Kind::Step, b"1.5", b"", b"")?;
+    Ok(Change::StepAdded(step, Listed::empty(alloc)))
 }
 
 /// Tables in which nothing was kept but what a change adds.

@@ -31,7 +31,7 @@ const ORDER: [u8; 128] = *b"\x10\x00\x10\x00PN\x06\x00DOE^A \
 \x40\x00\x01\x10SH\x02\x00R1";
 
 /// The refusal of an order with the first letter of a VR, the last digit of its date and of its id.
-fn ordered<T: Tables>(
+pub(super) fn ordered<T: Tables>(
     alloc: Global,
     tables: &mut T,
     institution: &Institution,
@@ -68,7 +68,7 @@ fn orders_in_turn(rt: HostRuntime) -> Result<(), Fail> {
     Ok(())
 }
 
-const WORKLIST: &[u8] = b"1.2.840.10008.5.1.4.31";
+pub(super) const WORKLIST: &[u8] = b"1.2.840.10008.5.1.4.31";
 
 /// Whether a data set holds the patient's name alone.
 fn is_name_alone(data_set: &DataSet) -> bool {
