@@ -15,7 +15,7 @@ def message(chance, number, identity):
     """A line of a scene: identifiers are few, so that both hospitals use the same."""
     study, series, image = (f"1.2.{chance.randrange(1, 4)}" for _ in range(3))
     name = chance.choice(["DOE^A", "ROE^B", "POE^C"])
-    step = f"1.2.9.{chance.randrange(3)}"
+    step = f"1.2.9.{chance.randrange(6)}"
     return chance.choice([
         f"echo {number} 1 {identity}",
         f"store {number} 3 {identity} CT {image} SOPClassUID={CT} SOPInstanceUID={image} PatientName={name} "
@@ -25,11 +25,12 @@ def message(chance, number, identity):
         f"find {number} 5 {identity} study QueryRetrieveLevel=SERIES StudyInstanceUID={study} SeriesInstanceUID=",
         f"find {number} 7 {identity} worklist PatientName= ScheduledProcedureStepSequence= {{ }}",
         f"create {number} 9 {identity} {step} {STEP} {named(chance)} PerformedProcedureStepStatus=\"IN PROGRESS\"",
-        f"set {number} 9 {identity} {step} PerformedProcedureStepStatus=COMPLETED",
+        f"create {number} 9 {identity} {step} {STEP} {named(chance)} PerformedProcedureStepStatus=\"IN PROGRESS\"",
+        f"set {number} 9 {identity} {step} PerformedProcedureStepStatus={chance.choice(['COMPLETED', 'DISCONTINUED'])}",
         f"set {number} 9 {identity} {step} PerformedProcedureStepDescription={name}",
         f"find {number} 5 {identity} study QueryRetrieveLevel=IMAGE StudyInstanceUID={FULL} SeriesInstanceUID={FULL}.1 "
         "SOPInstanceUID=",
-        f"find {number} 7 {identity} worklist PatientID=",
+        f"find {number} 7 {identity} worklist ScheduledProcedureStepSequence= {{ ScheduledProcedureStepID= }}",
         f"cancel {number} {chance.choice([1, 5, 7])} {max(identity - chance.randrange(3), 0)}",
         f"cancel {number} 5 {max(identity - 1, 0)}",
         f"pull {number}",
@@ -104,7 +105,7 @@ def history(chance, name, callings):
     before = filled(chance, name, callings[0]) if chance.random() < 0.5 else []
     lists = [session(chance, f"#{number}", chance.choice(callings)) for number in range(chance.randrange(2, 8))]
     orders = compose.Scene()
-    for _ in range(chance.randrange(4)):
+    for _ in range(chance.randrange(8)):
         orders.play_line(console(chance, name))
     return before + mixed(chance, lists + [orders.lines])
 
