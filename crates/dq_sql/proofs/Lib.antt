@@ -1,6 +1,7 @@
 mod Added
 mod Counted
 mod Counting
+mod Filled
 mod Found
 mod Inserted
 mod Judged

@@ -10,3 +10,4 @@ pub mod Keeping
 pub mod Kept
 pub mod Adopting
 pub mod Counts
+pub mod Filling

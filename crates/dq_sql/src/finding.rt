@@ -82,7 +82,7 @@ fn sound_rows(alloc: Global, found: &[sqlite::Row]) -> Result<Vec<Row>, StoreFau
 }
 
 /// All rows of a store of rows, in order. A store without the tables and the index that
-/// `make_store` makes, or with more, is refused by `Store`, one of another version than 1 by
+/// `SqlTables::open` makes, or with more, is refused by `Store`, one of another version than 1 by
 /// `WrongVersion`, and one with a row that is not its record's own, or without the row above it, by
 /// `BadRows`. Nothing changes.
 #[tactic(auto, using(crate::proofs::Sounding::stays_then))]

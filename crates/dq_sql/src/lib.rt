@@ -5,6 +5,7 @@ mod adopting;
 mod cells;
 mod counts;
 mod fault;
+mod filling;
 mod finding;
 mod history;
 mod ids;
@@ -20,5 +21,4 @@ mod writing;
 
 pub use fault::StoreFault;
 pub use finding::kept_rows;
-pub use open::make_store;
 pub use sql_tables::SqlTables;
