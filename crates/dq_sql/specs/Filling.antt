@@ -8,6 +8,11 @@ use Rattle.dq_sql.specs.Making.{no_schema, GoesOn}
 use Rattle.dq_sql.specs.Keeping.{under_schema}
 use Rattle.dq_sql.specs.Tie.{HasRows}
 
+-- The store has nothing, and no transaction is open.
+pub record IsNothingYet (s : State) : Type 0 where
+  pub autocommit : s.in_transaction ≡ false
+  pub schema : s.now.schema ≡ no_schema
+
 -- The transaction goes on, and a store without rows has these.
 pub record AddsRows (old new : State) (rows : List Row) : Type 0 where
   pub on : GoesOn old new

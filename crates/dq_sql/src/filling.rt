@@ -1,11 +1,11 @@
 //! A new store that has rows from the start.
-ghost use Rattle.std.specs.Prelude.{◌≡◌, ◌≢◌, ◌⊎◌, Err, false, IsTrue, IfErr, OnOk, OnErr};
+ghost use Rattle.std.specs.Prelude.{◌≡◌, ◌⊎◌, false, IsTrue, IfErr, OnOk, OnErr, MatchBool};
 ghost use Rattle.sqlite.specs.State.{HasCleanDisk, Survives, KeepsCommit};
 ghost use Rattle.sqlite.specs.Held.{state};
 ghost use Rattle.dq_tables.specs.Rows.{IsRising};
 ghost use Rattle.dq_sql.specs.declared.fault.StoreFault.TheVariants.{NoMemory, Store};
-ghost use Rattle.dq_sql.specs.Making.{no_schema, GoesOn};
-ghost use Rattle.dq_sql.specs.Filling.{AddsRows, MakesStore, HasThese, IsFilled};
+ghost use Rattle.dq_sql.specs.Making.{GoesOn};
+ghost use Rattle.dq_sql.specs.Filling.{AddsRows, MakesStore, HasThese, IsNothingYet, IsFilled};
 ghost use Rattle.dq_sql.specs.Tie.{IsAtRest, IsSame};
 
 use crate::fault::StoreFault;
@@ -64,18 +64,25 @@ fn make_and_put<S: Alter>(
     Ok(())
 }
 
-/// Makes a store of an empty one that has these rows, in one transaction. A store that has
-/// anything, or a transaction that is open, is refused by `Store`, and so is one that fails; what
-/// else is refused wants memory. A refusal changes nothing. A crash leaves the store as it was, or
-/// with all rows.
+/// Whether a store has nothing yet, and no transaction is open.
+pub(crate) fn is_new_store<S: Alter>(conn: &Connection<S>) -> bool
+    ensures { MatchBool result (IsNothingYet (state S.Store conn.now))
+        (¬ IsNothingYet (state S.Store conn.now)) }
+{
+    conn.is_autocommit() && is_empty(conn.schema())
+}
+
+/// Makes a store of an empty one that has these rows, in one transaction. It is refused where the
+/// store fails, and where memory is wanted. A refusal changes nothing. A crash leaves the store as
+/// it was, or with all rows.
 pub(crate) fn fill_store<S: Alter>(
     conn: &mut Connection<S>,
     alloc: Global,
     rows: &[Row],
 ) -> Result<(), StoreFault>
-    requires { IsRising rows.now }
+    requires nothing { IsNothingYet (state S.Store conn.old) }
+    requires rising { IsRising rows.now }
     ensures mode { OnOk result (conn.new.in_transaction ≡ false) }
-    ensures taken { (state S.Store conn.old).now.schema ≢ no_schema → result ≡ Err Store }
     ensures fault { IfErr result (λ e. (e ≡ NoMemory) ⊎ (e ≡ Store)) }
     ensures made { HasCleanDisk (state S.Store conn.new)
         → OnOk result (IsFilled (state S.Store conn.new) rows.now) }
@@ -85,9 +92,6 @@ pub(crate) fn fill_store<S: Alter>(
     ensures survives { Survives (state S.Store conn.old) (state S.Store conn.new)
         (HasThese rows.now) }
 {
-    if !conn.is_autocommit() || !is_empty(conn.schema()) {
-        return Err(StoreFault::Store);
-    }
     let mut tx = conn.transaction();
     make_and_put(&mut tx, alloc, rows)?;
     tx.commit()?;

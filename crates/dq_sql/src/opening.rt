@@ -6,7 +6,7 @@ ghost use Rattle.dq_sql.specs.declared.fault.StoreFault.TheVariants.{NoMemory, S
 ghost use Rattle.dq_sql.specs.Making.{no_schema};
 
 use crate::fault::StoreFault;
-use crate::filling::fill_store;
+use crate::filling::{fill_store, is_new_store};
 use crate::sql_tables::SqlTables;
 use dq_list::Listed;
 use dq_tables::Tables;
@@ -30,6 +30,9 @@ impl<S: Alter + Drop> SqlTables<S> {
         ensures settled { IfOk result (λ t. (⟦<SqlTables<S> as Tables>⟧.state t).honest
             → IsSettled (⟦<SqlTables<S> as Tables>⟧.state t)) }
     {
+        if !is_new_store(&conn) {
+            return Err(StoreFault::Store);
+        }
         fill_store(&mut conn, alloc, &[])?;
         Ok(SqlTables::over(alloc, conn, &Listed::from_inner(Vec::new(alloc))))
     }
