@@ -57,7 +57,7 @@ find_step : {X : Type 0} (p : X → Bool) (x y : X) (xs : List X) (b : Bool) →
 find_step p x y xs true e found on = (let same : y ≡ x = one_inside y x (rw e at found) in (inl same, ap p (sym same) ∙ e))
 find_step p x y xs false e found on = (let later = on (rw e at found) in (inr later.0, later.1))
 
-find_among : {X : Type 0} (p : X → Bool) (x : X) (xs : List X) → find p xs ≡ Some x → IsAmong x xs × (p x ≡ true)
+pub find_among : {X : Type 0} (p : X → Bool) (x : X) (xs : List X) → find p xs ≡ Some x → IsAmong x xs × (p x ≡ true)
 find_among p x [] found = absurd cc
 find_among p x (y ∷ xs) found = find_step p x y xs (p y) refl found (find_among p x xs)
 

@@ -1,8 +1,7 @@
 -- Calls of tables one after the other, and what a service makes of them.
-use Rattle.std.proofs.Common.{◌≡◌, ℕ, Bool, List, [], Result, Ok, Err, refl, sym, ◌∙◌, ap, inl, inr}
+use Rattle.std.proofs.Common.{◌≡◌, ℕ, List, [], Result, Ok, Err, refl, sym, ◌∙◌, ap, inl, inr}
 use Rattle.dq_tables.specs.declared.fault.TableFault.{TableFault}
 use Rattle.dq_tables.specs.declared.fault.TableFault.TheVariants.{Store}
-use Rattle.dq_tables.specs.declared.row.Row.{Row}
 use Rattle.dq_tables.specs.Rows.{Record, Edit, of, by, after}
 use Rattle.dq_tables.specs.Keeping.{State, Goes, Reads, Writes}
 use Rattle.dq_tables.specs.Serving.{Serves}

@@ -1,7 +1,8 @@
 -- Edits of rows by their indexes.
-use Rattle.std.proofs.Common.{◌≡◌, ℕ, zero, suc, ◌+◌, ◌<◌, ◌≤◌, List, [], ◌∷◌, ◌++◌, length, take, drop, set, refl, sym, ◌∙◌, ap, arith, append_assoc, add-one, append-nil}
-use Rattle.std.specs.List.{insert, remove}
-use Rattle.std.proofs.lemmas.List.{take-append-drop}
+use Rattle.std.proofs.Common.{◌≡◌, ℕ, zero, suc, ◌+◌, ◌<◌, ◌≤◌, List, [], ◌∷◌, ◌++◌, length, take, drop, set, get_or, Option, refl, sym, ◌∙◌, ap, arith, append_assoc, add-one, append-nil}
+use Rattle.std.specs.List.{insert, remove, filter_map}
+use Rattle.std.proofs.lemmas.List.{take-append-drop, take_more}
+use Rattle.std.proofs.lemmas.List.Elements.{filter_map-append}
 use Rattle.dq_tables.specs.declared.row.Kind.{Kind}
 use Rattle.dq_tables.specs.declared.row.Row.{Row}
 use Rattle.dq_tables.specs.Rows.{Put, Remove, record_of, after_edit, place, rows_before}
@@ -12,7 +13,7 @@ set_at [] i y l = absurd (omega arith)
 set_at (x ∷ xs) zero y l = refl
 set_at (x ∷ xs) (suc i) y l = ap (λ ys. x ∷ ys) (set_at xs i y (omega arith))
 
-set_is : {X : Type 0} (xs : List X) (i : ℕ) (y : X) → i < length xs → set xs i y ≡ (take i xs ++ y ∷ []) ++ drop (i + 1) xs
+pub set_is : {X : Type 0} (xs : List X) (i : ℕ) (y : X) → i < length xs → set xs i y ≡ (take i xs ++ y ∷ []) ++ drop (i + 1) xs
 set_is xs i y l = rw add-one (set_at xs i y l)
 
 insert_is : {X : Type 0} (xs : List X) (i : ℕ) (y : X) → i ≤ length xs → insert xs i y ≡ (take i xs ++ y ∷ []) ++ drop i xs
@@ -42,3 +43,10 @@ unfolding after_edit
 removes_nothing rows kind institution key at free =
     sym (take-append-drop at rows) ∙ ap (λ (rs : List Row). rs ++ drop at rows) free.before
     ∙ ap (λ (rs : List Row). rows_before (place kind institution key) rows ++ rs) free.past ∙ rw append-nil refl
+
+-- what a loop has made of one more item
+pub made_more : {X Y : Type 0} (f : X → Option Y) (xs : List X) (i : ℕ) (x : X) (made more : List Y) → i < length xs → get_or xs i x ≡ x
+    → made ≡ filter_map f (take i xs) → more ≡ made ++ filter_map f (x ∷ []) → more ≡ filter_map f (take (i + 1) xs)
+made_more f xs i x made more within here before added =
+    added ∙ ap (λ ys. ys ++ filter_map f (x ∷ [])) before ∙ sym (filter_map-append f (take i xs) (x ∷ []))
+    ∙ ap (filter_map f) (sym (take_more xs i x within ∙ ap (λ y. take i xs ++ y ∷ []) here))

@@ -1,5 +1,5 @@
 -- Rows seen through one institution's name.
-use Rattle.std.proofs.Common.{◌≡◌, ℕ, Bool, true, false, List, [], ◌∷◌, ◌++◌, map, Option, refl, sym, ◌∙◌, ap, subst, ◌≢◌}
+use Rattle.std.proofs.Common.{◌≡◌, ℕ, Bool, true, false, List, [], ◌∷◌, ◌++◌, map, Option, Some, None, refl, sym, ◌∙◌, ap, subst, ◌≢◌}
 use Rattle.std.specs.declared.cmp.Ordering.{Ordering}
 use Rattle.std.specs.declared.cmp.Ordering.TheVariants.{Less, Equal, Greater}
 use Rattle.std.specs.Ordering.{is_lt, is_eq, is_gt, ordering_then}
@@ -12,7 +12,8 @@ use Rattle.std.proofs.lemmas.List.{map-append}
 use Rattle.std.proofs.lemmas.Map.Text.{is_eq-slice_cmp}
 use Rattle.std.proofs.lemmas.Bool.{false_from_ne_true, both_ways}
 use Rattle.dq_tables.specs.declared.row.Row.{Row}
-use Rattle.dq_tables.specs.Rows.{Record, Place, place_of, place_order, octet_order, kind_order, records_before, records_past, Edit, Put, Remove, edit_place, left_there, left_by, record_at, edited_by, edited, row_of, record_of, of, RowPlace, row_place_of, within, row_place_order, IsRising, rows_before, rows_past, after_edit, after_edits, Operation, by, after, after_all, edited_all, own_edits}
+use Rattle.dq_tables.specs.Rows.{Record, Place, place_of, place_order, octet_order, kind_order, records_before, records_past, Edit, Put, Remove, Start, edit_place, left_there, left_by, record_at, edited_by, edited, row_of, record_of, of, RowPlace, row_place_of, within, row_place_order, IsRising, rows_before, rows_past, after_edit, after_edits, Operation, by, after, after_all, edited_all, own_edits}
+use Rattle.dq_tables.proofs.There.{StandsAt, stands_there}
 use Rattle.dq_tables.proofs.Order.{rows_total, less_from, each_weaker, each_passed, each_appended, IsRising-split, IsRising-filter, IsRising-append, is_at, is_before, is_past, filter_none}
 
 then_equal : (o : Ordering) → ordering_then o Equal ≡ o
@@ -133,32 +134,45 @@ left_rises : (h : List ℕ) (e : Edit) (there : Option Record) → IsRising (map
 unfolding IsRising
 left_rises h (Put r) there = (tt, tt)
 left_rises h (Remove kind key) there = tt
+left_rises h (Start key) None = tt
+left_rises h (Start key) (Some r) = (tt, tt)
 
-left_past : (h : List ℕ) (e : Edit) (there : Option Record) (x : Row) → row_place_order (row_place_of x) (within h (edit_place e)) ≡ Less
+left_past : (h : List ℕ) (e : Edit) (there : Option Record) → StandsAt (edit_place e) there → (x : Row)
+    → row_place_order (row_place_of x) (within h (edit_place e)) ≡ Less
     → AllByRecursion (λ (y : Row). row_place_order (row_place_of x) (row_place_of y) ≡ Less) (map (row_of h) (left_there e there))
-left_past h (Put r) there x less = (less, tt)
-left_past h (Remove kind key) there x less = tt
+left_past h (Put r) there stands x less = (less, tt)
+left_past h (Remove kind key) there stands x less = tt
+left_past h (Start key) None stands x less = tt
+left_past h (Start key) (Some r) stands x less =
+    (subst (λ (p : Place). row_place_order (row_place_of x) (within h p) ≡ Less) (sym stands) less, tt)
 
-left_before : (h : List ℕ) (e : Edit) (there : Option Record) (rows : List Row)
+left_before : (h : List ℕ) (e : Edit) (there : Option Record) → StandsAt (edit_place e) there → (rows : List Row)
     → AllByRecursion (λ (x : Row). AllByRecursion (λ (y : Row). row_place_order (row_place_of x) (row_place_of y) ≡ Less)
     (rows_past (within h (edit_place e)) rows)) (map (row_of h) (left_there e there))
-left_before h (Put r) there rows = (past_is (within h (place_of r)) rows, tt)
-left_before h (Remove kind key) there rows = tt
+left_before h (Put r) there stands rows = (past_is (within h (place_of r)) rows, tt)
+left_before h (Remove kind key) there stands rows = tt
+left_before h (Start key) None stands rows = tt
+left_before h (Start key) (Some r) stands rows = (
+  subst (λ (p : Place). AllByRecursion (λ (y : Row). row_place_order (within h p) (row_place_of y) ≡ Less) (rows_past (within h (edit_place (Start key))) rows))
+      (sym stands) (past_is (within h (edit_place (Start key))) rows),
+  tt,
+)
 
 pub rising_edit : (h : List ℕ) (e : Edit) (rows : List Row) → IsRising rows → IsRising (after_edit h e rows)
 unfolding after_edit
 rising_edit h e rows rising =
     let p = within h (edit_place e) in
     let there = record_at (edit_place e).kind (edit_place e).key (of h rows) in
+    let stands = stands_there (edit_place e) (of h rows) in
     IsRising-append (rows_before p rows ++ map (row_of h) (left_there e there)) (rows_past p rows)
     (IsRising-append (rows_before p rows) (map (row_of h) (left_there e there)) (IsRising-filter (is_before p) rows rising) (left_rises h e there)
-    (each_weaker (λ (x : Row). row_place_order (row_place_of x) p ≡ Less) _ (λ (x : Row) less. left_past h e there x less) (rows_before p rows)
+    (each_weaker (λ (x : Row). row_place_order (row_place_of x) p ≡ Less) _ (λ (x : Row) less. left_past h e there stands x less) (rows_before p rows)
     (before_is p rows)))
     (IsRising-filter (is_past p) rows rising)
     (each_appended _ (rows_before p rows) (map (row_of h) (left_there e there))
     (each_weaker (λ (x : Row). row_place_order (row_place_of x) p ≡ Less) _ (λ (x : Row) less. past_later p x less rows) (rows_before p rows)
     (before_is p rows))
-    (left_before h e there rows))
+    (left_before h e there stands rows))
 
 rising_edits : (h : List ℕ) (es : List Edit) (rows : List Row) → IsRising rows → IsRising (after_edits h es rows)
 rising_edits h [] rows r = r

@@ -1,8 +1,10 @@
 pub mod Order
+pub mod There
 pub mod Lens
 pub mod InOrder
 pub mod Groups
 pub mod Edits
+pub mod Started
 pub mod Soundness
 pub mod Seen
 pub mod Listing

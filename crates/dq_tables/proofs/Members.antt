@@ -85,7 +85,7 @@ held_or : {X : Type 0} → X → Option X → X
 held_or x None = x
 held_or x (Some y) = y
 
-one_inside : {X : Type 0} (x y : X) → Some x ≡ Some y → x ≡ y
+pub one_inside : {X : Type 0} (x y : X) → Some x ≡ Some y → x ≡ y
 unfolding held_or
 one_inside x y e = ap (held_or x) e
 

@@ -1,20 +1,23 @@
 -- Sound rows stay sound.
-use Rattle.std.proofs.Common.{◌≡◌, ℕ, Bool, true, false, List, [], ◌∷◌, ◌++◌, map, Option, Some, None, is_some, find, refl, sym, ◌∙◌, ap, subst, ◌⊎◌, inl, inr, if◌then◌else◌}
+use Rattle.std.proofs.Common.{◌≡◌, ℕ, Bool, true, false, ◌+◌, ◌<◌, List, [], ◌∷◌, ◌++◌, map, length, take, get_or, Option, Some, None, is_some, find, refl, sym, ◌∙◌, ap, subst, ◌⊎◌, inl, inr, if◌then◌else◌}
 use Rattle.std.specs.declared.cmp.Ordering.{Ordering}
 use Rattle.std.specs.declared.cmp.Ordering.TheVariants.{Less, Equal, Greater}
 use Rattle.std.specs.Ordering.{is_eq}
 use Rattle.std.specs.List.{AllByRecursion}
+use Rattle.std.proofs.lemmas.List.{map_more}
 use Rattle.dq_tables.specs.declared.row.Kind.{Kind}
 use Rattle.dq_tables.specs.declared.row.Kind.TheVariants.{Study, Series, Image, Entry, Step}
 use Rattle.dq_tables.specs.declared.row.Row.{Row}
 use Rattle.dq_tables.specs.declared.change.Change.{Change}
 use Rattle.dq_tables.specs.declared.change.Change.TheVariants.{Stored, EntryAdded, EntryRemoved, StepAdded, StepChanged}
-use Rattle.dq_tables.specs.Rows.{RowPlace, row_place_of, row_place_order, place, rows_before, rows_past, Edit, Put, Remove, record_of, row_of, after_edit, after_edits, after, operation_of, put_if, IsOf, edit_place, left_by, of, within}
+use Rattle.dq_tables.specs.Rows.{RowPlace, row_place_of, row_place_order, place, rows_before, rows_past, Edit, Put, Remove, Start, record_of, row_of, after_edit, after_edits, after, operation_of, put_if, IsOf, edit_place, left_by, of, within}
 use Rattle.dq_tables.specs.Finding.{row_at}
 use Rattle.dq_tables.specs.Sound.{IsSound, HeldEach, is_own, is_held, IsNew, IsNewIf, IsChanged, Fits, FitsStored}
 use Rattle.dq_tables.proofs.Order.{rows_total, is_at, is_before, is_past, each_filtered, each_appended, each_weaker}
 use Rattle.dq_tables.proofs.InOrder.{row_at_is}
 use Rattle.dq_tables.proofs.Lens.{rising_edit}
+use Rattle.dq_tables.proofs.Rising.{each_among}
+use Rattle.dq_tables.proofs.Started.{started, start_keeps, started_own, entry_held}
 
 some_left_step : {X : Type 0} (t : X → Bool) (x : X) (xs ys : List X) (b : Bool) → (is_some (find t xs) ≡ true → is_some (find t (xs ++ ys)) ≡ true)
     → is_some (if b then Some x else find t xs) ≡ true → is_some (if b then Some x else find t (xs ++ ys)) ≡ true
@@ -182,6 +185,14 @@ pub after_edits-append : (h : List ℕ) (es fs : List Edit) (rows : List Row) �
 after_edits-append h [] fs rows = refl
 after_edits-append h (e ∷ es) fs rows = after_edits-append h es fs (after_edit h e rows)
 
+-- a loop that has started an entry more
+pub start_more : (h : List ℕ) (keys : List (List ℕ)) (i : ℕ) (key : List ℕ) (rows mid new : List Row) → i < length keys → get_or keys i key ≡ key
+    → mid ≡ after_edits h (map Start (take i keys)) rows → new ≡ after_edit h (Start key) mid → new ≡ after_edits h (map Start (take (i + 1) keys)) rows
+start_more h keys i key rows mid new within here before done =
+    done ∙ ap (after_edit h (Start key)) before ∙ sym (after_edits-append h (map Start (take i keys)) (Start key ∷ []) rows)
+    ∙ ap (λ (es : List Edit). after_edits h es rows)
+    (sym (map_more Start keys i key within ∙ ap (λ (k : List ℕ). map Start (take i keys) ++ Start k ∷ []) here))
+
 put_at : (h : List ℕ) (row : Row) (rows : List Row) → row.inst ≡ h → IsSound (after_edit row.inst (Put (record_of row)) rows)
     → IsSound (after_edit h (Put (record_of row)) rows)
 put_at h row rows same sound = subst (λ (g : List ℕ). IsSound (after_edit g (Put (record_of row)) rows)) same sound
@@ -214,11 +225,22 @@ unfolding is_held
 changed_sound rows row sound fits =
     put_sound rows row sound fits.own (subst (λ (k : Kind). is_held rows k row.inst row.above ≡ true) (sym fits.kind_is) refl)
 
+pub start_sound : (h key : List ℕ) (rows : List Row) → IsSound rows → IsSound (after_edit h (Start key) rows)
+start_sound h key rows sound =
+    start_keeps IsSound h key rows sound.rising sound
+    (λ row kind among. put_sound rows (started row) sound (started_own row kind (each_among (λ (r : Row). is_own r ≡ true) row rows sound.own among))
+    (entry_held rows row.kind row.inst row.above kind))
+
+pub starts_sound : (h : List ℕ) (keys : List (List ℕ)) (rows : List Row) → IsSound rows → IsSound (after_edits h (map Start keys) rows)
+starts_sound h [] rows sound = sound
+starts_sound h (key ∷ keys) rows sound = starts_sound h keys (after_edit h (Start key) rows) (start_sound h key rows sound)
+
 pub change_sound : (rows : List Row) (change : Change) → IsSound rows → Fits rows change → IsSound (after (operation_of change) rows)
 change_sound rows (Stored study series image) sound fits = rw (stored_is rows study series image) (stored_sound rows study series image sound fits)
 change_sound rows (EntryAdded row) sound fits = new_sound rows Entry row sound fits
 change_sound rows (EntryRemoved h key) sound fits = remove_sound rows h key sound
-change_sound rows (StepAdded row) sound fits = new_sound rows Step row sound fits
+change_sound rows (StepAdded row keys) sound fits =
+    starts_sound row.inst keys (after_edit row.inst (Put (record_of row)) rows) (new_sound rows Step row sound fits.step_new)
 change_sound rows (StepChanged row) sound fits = changed_sound rows row sound fits
 
 -- the same of rows and copies that are known to be equal

@@ -29,9 +29,13 @@ sole_item_at tag d = sole_item_of (element_at tag d)
 abbrev pub is_id : List ℕ → Bool
 is_id value = nat_le 1 (length value) && nat_le (length value) 16
 
+-- the only value of Scheduled Procedure Step ID (0040,0009), where it is an id
+unfoldable pub id_of : ElementList → Option (List ℕ)
+id_of item = passing is_id (sole_at scheduled_procedure_step_id item)
+
 abbrev pub id_in : Option ElementList → Option (List ℕ)
 id_in None = None
-id_in (Some item) = passing is_id (sole_at scheduled_procedure_step_id item)
+id_in (Some item) = id_of item
 
 -- the id of the only scheduled procedure step of a worklist entry (PS3.4 section K.6.1.2.2)
 unfoldable pub entry_id : ElementList → Option (List ℕ)

@@ -2,6 +2,7 @@ pub mod Rows
 pub mod Finding
 pub mod Records
 pub mod Keys
+pub mod Starting
 pub mod Faults
 pub mod Labels
 pub mod Choosing

@@ -1,5 +1,5 @@
 -- What is kept: records of one institution, rows of all, and what changes make of them.
-use Rattle.std.specs.Prelude.{◌≡◌, ℕ, Bool, ◌==◌, ◌&&◌, not, find, List, [], ◌∷◌, ◌++◌, if◌then◌else◌, filter, map, Option, Some, None}
+use Rattle.std.specs.Prelude.{◌≡◌, ℕ, Bool, true, ◌==◌, ◌&&◌, not, find, List, [], ◌∷◌, ◌++◌, if◌then◌else◌, filter, map, Option, Some, None}
 use Rattle.std.specs.declared.cmp.Ordering.{Ordering}
 use Rattle.std.specs.declared.cmp.Ordering.TheVariants.{Less}
 use Rattle.std.specs.Ordering.{nat_cmp, ordering_then, is_lt, is_eq, is_gt}
@@ -19,13 +19,15 @@ number_of Image = 3
 number_of Entry = 4
 number_of Step = 5
 
--- A record: the data set in Explicit, its key, and the key of the record above it, of which there
--- is none but for series and images.
+-- A record: the data set in Explicit, its key, the key of the record above it, of which there is
+-- none but for series and images, and whether a performed procedure step has started it, as may be
+-- of entries.
 pub record Record : Type 0 where
   pub kind : Kind
   pub key : List ℕ
   pub above : List ℕ
   pub octets : List ℕ
+  pub started : Bool
 
 -- where a record stands among those of its institution
 pub record Place : Type 0 where
@@ -60,20 +62,27 @@ unfoldable pub record_at : Kind → List ℕ → List Record → Option Record
 record_at kind key records =
     find (λ (r : Record). same_kind r.kind kind && bytes_eq r.key key) records
 
--- A record put in its place, where it replaces the one that was there, or the record at a place
--- removed.
+abbrev pub as_started : Record → Record
+as_started r = record r { started = true }
+
+-- A record put in its place, where it replaces the one that was there, the record at a place
+-- removed, or the entry with a key started.
 pub data Edit : Type 0 where
   Put : Record → Edit
   Remove : Kind → List ℕ → Edit
+  Start : List ℕ → Edit
 
 abbrev pub edit_place : Edit → Place
 edit_place (Put r) = place_of r
 edit_place (Remove kind key) = record { kind = kind; key = key }
+edit_place (Start key) = record { kind = Entry; key = key }
 
 -- what stands at that place afterwards, by what stands there before
 abbrev pub left_there : Edit → Option Record → List Record
 left_there (Put r) there = r ∷ []
 left_there (Remove kind key) there = []
+left_there (Start key) None = []
+left_there (Start key) (Some r) = as_started r ∷ []
 
 abbrev pub left_by : Edit → List Record → List Record
 left_by e records =
@@ -102,10 +111,17 @@ row_of institution r = record {
   key = r.key;
   above = r.above;
   octets = r.octets;
+  started = r.started;
 }
 
 abbrev pub record_of : Row → Record
-record_of row = record { kind = row.kind; key = row.key; above = row.above; octets = row.octets }
+record_of row = record {
+  kind = row.kind;
+  key = row.key;
+  above = row.above;
+  octets = row.octets;
+  started = row.started;
+}
 
 -- the records of an institution
 unfoldable pub of : List ℕ → List Row → List Record
@@ -202,14 +218,14 @@ abbrev pub edits_of : Change → List Edit
 edits_of (Stored study series image) = put_if study ++ (put_if series ++ Put (record_of image) ∷ [])
 edits_of (EntryAdded row) = Put (record_of row) ∷ []
 edits_of (EntryRemoved institution key) = Remove Entry key ∷ []
-edits_of (StepAdded row) = Put (record_of row) ∷ []
+edits_of (StepAdded row keys) = Put (record_of row) ∷ map Start keys
 edits_of (StepChanged row) = Put (record_of row) ∷ []
 
 abbrev pub institution_of : Change → List ℕ
 institution_of (Stored study series image) = image.inst
 institution_of (EntryAdded row) = row.inst
 institution_of (EntryRemoved institution key) = institution
-institution_of (StepAdded row) = row.inst
+institution_of (StepAdded row keys) = row.inst
 institution_of (StepChanged row) = row.inst
 
 abbrev pub operation_of : Change → Operation

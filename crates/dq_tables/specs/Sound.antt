@@ -1,5 +1,5 @@
 -- Which rows are sound, and which changes fit them.
-use Rattle.std.specs.Prelude.{◌≡◌, ℕ, Bool, true, false, ◌&&◌, nat_le, List, [], ◌∷◌, length, Option, Some, None, is_some, Result, Ok, Err}
+use Rattle.std.specs.Prelude.{◌≡◌, ℕ, Bool, true, false, not, ◌&&◌, ◌||◌, nat_le, List, [], ◌∷◌, length, Option, Some, None, is_some, Result, Ok, Err}
 use Rattle.std.specs.Coded.{Coded-set, coded_bool, ×_prop, Unit-prop}
 use Rattle.std.specs.List.{AllByRecursion, AllByRecursion-prop}
 use Rattle.std.specs.Ordering.{Ordering-set}
@@ -17,7 +17,7 @@ use Rattle.dq_tables.specs.declared.row.Row.{Row}
 use Rattle.dq_tables.specs.declared.change.Change.{Change}
 use Rattle.dq_tables.specs.declared.change.Change.TheVariants.{Stored, EntryAdded, EntryRemoved, StepAdded, StepChanged}
 use Rattle.dq_tables.specs.Rows.{IsRising, after_edits, put_if, IsOf}
-use Rattle.dq_tables.specs.Finding.{row_at}
+use Rattle.dq_tables.specs.Finding.{same_kind, row_at}
 use Rattle.dq_tables.specs.Keys.{uid_at, entry_id}
 
 abbrev pub is_value : Option (List ℕ) → List ℕ → Bool
@@ -47,6 +47,10 @@ unfoldable pub is_within : Kind → List ℕ → Bool
 is_within Entry octets = nat_le (length octets) entry_limit
 is_within kind octets = true
 
+-- An entry alone may be started.
+abbrev pub may_be_started : Kind → Bool → Bool
+may_be_started kind started = not started || same_kind kind Entry
+
 abbrev pub is_record_of : Result ElementList ReadFault → Row → Bool
 is_record_of (Err fault) row = false
 is_record_of (Ok d) row =
@@ -54,9 +58,11 @@ is_record_of (Ok d) row =
     && (has_key row.kind row.key d
     && (has_above row.kind row.above d && is_within row.kind row.octets))
 
--- The octets are the one Explicit spelling of a data set, and the keys are its own.
+-- The octets are the one Explicit spelling of a data set, the keys are its own, and the row is
+-- started only where it may be.
 unfoldable pub is_own : Row → Bool
-is_own row = is_record_of (reading Explicit row.octets) row
+is_own row =
+    may_be_started row.kind row.started && is_record_of (reading Explicit row.octets) row
 
 -- the row above is there
 unfoldable pub is_held : List Row → Kind → List ℕ → List ℕ → Bool
@@ -106,6 +112,12 @@ pub record IsChanged (rows : List Row) (kind : Kind) (row : Row) : Type 0 where
   pub there : is_some (row_at kind row.inst row.key rows) ≡ true
   pub own : is_own row ≡ true
 
+-- A new step, with the keys of entries that are there.
+pub record FitsStep (rows : List Row) (row : Row) (keys : List (List ℕ)) : Type 0 where
+  pub step_new : IsNew rows Step row
+  pub there
+      : AllByRecursion (λ (key : List ℕ). is_some (row_at Entry row.inst key rows) ≡ true) keys
+
 -- A stored image, with a study and a series where they are new. Their places are free in turn.
 pub record FitsStored (rows : List Row) (study series : Option Row) (image : Row) : Type 0 where
   pub study_of : IsOf image.inst study
@@ -116,11 +128,11 @@ pub record FitsStored (rows : List Row) (study series : Option Row) (image : Row
       : IsNew (after_edits image.inst (put_if series) (after_edits image.inst (put_if study) rows))
       Image image
 
--- What a change asks: added places are free, changed and removed rows are there, rows above are
--- there or added with it, and rows are their records' own.
+-- What a change asks: added places are free, changed, removed and started rows are there, rows above
+-- are there or added with it, and rows are their records' own.
 abbrev pub Fits : List Row → Change → Type 0
 Fits rows (Stored study series image) = FitsStored rows study series image
 Fits rows (EntryAdded row) = IsNew rows Entry row
 Fits rows (EntryRemoved institution key) = is_some (row_at Entry institution key rows) ≡ true
-Fits rows (StepAdded row) = IsNew rows Step row
+Fits rows (StepAdded row keys) = FitsStep rows row keys
 Fits rows (StepChanged row) = IsChanged rows Step row

@@ -16,7 +16,8 @@ pub enum Change {
         inst: Listed<u8>,
         key: Listed<u8>,
     },
-    StepAdded(Row),
+    /// The step, and the keys of the entries of its institution that it starts.
+    StepAdded(Row, Listed<Listed<u8>>),
     /// The row takes the place of that with its key.
     StepChanged(Row),
 }

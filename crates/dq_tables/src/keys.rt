@@ -1,7 +1,7 @@
 //! The keys that a data set holds.
 ghost use Rattle.std.specs.Prelude.{◌≡◌};
 ghost use Rattle.std.specs.Option.{option_copied};
-ghost use Rattle.dq_tables.specs.Keys.{uid_at, sole_item_at, entry_id, is_id};
+ghost use Rattle.dq_tables.specs.Keys.{uid_at, sole_item_at, id_of, entry_id};
 
 use dq_dataset::{DataSet, Value};
 use dq_value::is_uid;
@@ -38,8 +38,16 @@ pub fn sole_item_at(data_set: &DataSet, tag: Tag) -> Option<&DataSet>
 pub fn entry_id(data_set: &DataSet) -> Option<&[u8]>
     ensures { option_copied result ≡ entry_id data_set.now }
 {
-    let step = sole_item_at(data_set, SCHEDULED_PROCEDURE_STEP_SEQUENCE)?;
-    let id = step.sole_value(SCHEDULED_PROCEDURE_STEP_ID)?;
+    step_id(sole_item_at(data_set, SCHEDULED_PROCEDURE_STEP_SEQUENCE)?)
+}
+
+/// The id of the scheduled procedure step that an item is of, of 1 to 16 octets (VR SH, PS3.5
+/// section 6.2).
+#[tactic(auto, unfolding(crate::specs::Keys::id_of))]
+pub(crate) fn step_id(item: &DataSet) -> Option<&[u8]>
+    ensures { option_copied result ≡ id_of item.now }
+{
+    let id = item.sole_value(SCHEDULED_PROCEDURE_STEP_ID)?;
     if 1 <= id.len() && id.len() <= 16 {
         Some(id)
     } else {

@@ -15,6 +15,7 @@ mod plain_tables;
 mod put;
 mod row;
 mod search;
+mod starting;
 mod tables;
 mod under;
 
@@ -26,7 +27,8 @@ pub use fused::Fused;
 pub use keys::{entry_id, sole_item_at, uid_at};
 pub use labels::{Labels, day_number};
 pub use plain::PlainTables;
-pub use put::put as put_row;
+pub use put::{put as put_row, start as start_row};
 pub use row::{Kind, RecordKeys, Row};
 pub use search::search as search_rows;
+pub use starting::ids_named;
 pub use tables::Tables;

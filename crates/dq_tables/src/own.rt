@@ -1,7 +1,7 @@
 //! Rows that are their records' own.
 ghost use Rattle.std.specs.Prelude.{◌≡◌, ◌<◌, ◌^◌, length, IfOk, option_map};
 ghost use Rattle.std.specs.Option.{option_copied};
-ghost use Rattle.dq_tables.specs.Sound.{is_value, has_key, has_above, is_within, is_own};
+ghost use Rattle.dq_tables.specs.Sound.{is_value, has_key, has_above, is_within, may_be_started, is_own};
 
 use crate::keys::{entry_id, uid_at};
 use crate::row::{Kind, Row};
@@ -59,8 +59,16 @@ fn is_within(kind: Kind, octets: &[u8]) -> bool
     }
 }
 
+/// Whether a row of a kind may be started, or not, as it is.
+fn may_be_started(kind: Kind, started: bool) -> bool
+    ensures { result ≡ may_be_started kind started }
+{
+    !started || kind == Kind::Entry
+}
+
 impl Row {
-    /// Whether the octets are the one Explicit spelling of a data set, and the keys are its own.
+    /// Whether the octets are the one Explicit spelling of a data set, the keys are its own, and
+    /// the row is started only where it may be.
     #[tactic(auto, unfolding(crate::specs::Sound::is_own))]
     pub fn is_own(&self, alloc: Global) -> Result<bool, AllocError>
         requires { length self.now.octets < 2 ^ 31 }
@@ -76,7 +84,8 @@ impl Row {
         let spelled = write(alloc, &data_set, Syntax::Explicit)?;
         let (kind, key, above) = (self.kind, self.key.as_slice(), self.above.as_slice());
         Ok(
-            spelled.as_slice() == octets
+            may_be_started(kind, self.started)
+                && spelled.as_slice() == octets
                 && has_key(kind, key, &data_set)
                 && has_above(kind, above, &data_set)
                 && is_within(kind, octets),

@@ -1,16 +1,16 @@
 //! Rows in memory.
-ghost use Rattle.std.specs.Prelude.{◌≡◌, [], true, false, length, IfOk, OnOk, OnErr};
-ghost use Rattle.dq_tables.specs.declared.change.Change.TheVariants.{Stored};
+ghost use Rattle.std.specs.Prelude.{◌≡◌, [], map, true, false, length, IfOk, OnOk, OnErr};
+ghost use Rattle.dq_tables.specs.declared.change.Change.TheVariants.{Stored, StepAdded};
 ghost use Rattle.dq_tables.specs.declared.row.Kind.TheVariants.{Entry};
 ghost use Rattle.dq_tables.specs.declared.row.Row.{Row};
-ghost use Rattle.dq_tables.specs.Rows.{IsRising, Put, Remove, record_of, after_edit, after, operation_of};
+ghost use Rattle.dq_tables.specs.Rows.{IsRising, Put, Remove, Start, record_of, after_edit, after_edits, after, operation_of};
 ghost use Rattle.dq_tables.specs.Finding.{rows_above};
 ghost use Rattle.dq_tables.specs.Indexed.{ListsEach, ListsEach-prop, Grows, is_listed, is_listed_if};
 ghost use Rattle.dq_tables.specs.Choosing.{studies_in};
-ghost use Rattle.dq_tables.specs.Sound.{is_own, is_held, FitsStored, OwnEach, HeldEach, IsRising-prop, OwnEach-prop, HeldEach-prop};
+ghost use Rattle.dq_tables.specs.Sound.{is_own, is_held, FitsStored, FitsStep, OwnEach, HeldEach, IsRising-prop, OwnEach-prop, HeldEach-prop};
 
 use crate::choice::Choice;
-use crate::put::{put, put_if, remove};
+use crate::put::{put, put_if, remove, start};
 use crate::row::{Kind, Row};
 use crate::search::{copies_chosen, copies_under, count_under, group, studies_near};
 use crate::under::{
@@ -178,6 +178,42 @@ impl PlainTables {
         put_if(&mut self.kept, series);
         put(&mut self.kept, image);
         Ok(())
+    }
+
+    /// Puts a copy of a new step in its place, and starts entries of its institution. Want of
+    /// memory changes nothing.
+    pub(crate) fn keep_step(
+        &mut self,
+        alloc: Global,
+        step: &Row,
+        keys: &[Listed<u8>],
+    ) -> Result<(), AllocError>
+        requires { FitsStep self.old.kept.items step.now keys.now }
+        ensures ok { OnOk result (self.new.kept.items
+            ≡ after (operation_of (StepAdded step.now keys.now)) self.old.kept.items) }
+        ensures err { OnErr result (self.new.kept.items ≡ self.old.kept.items) }
+    {
+        self.keep(alloc, step)?;
+        self.start_each(step.inst.as_slice(), keys);
+        Ok(())
+    }
+
+    /// Starts the entries with keys.
+    fn start_each(&mut self, institution: &[u8], keys: &[Listed<u8>])
+        ensures { self.new.kept.items
+            ≡ after_edits institution.now (map Start keys.now) self.old.kept.items }
+    {
+        for key in keys {
+            self.start_entry(institution, key.as_slice());
+        }
+    }
+
+    /// Starts an entry.
+    fn start_entry(&mut self, institution: &[u8], key: &[u8])
+        ensures { self.new.kept.items ≡ after_edit institution.now (Start key.now)
+            self.old.kept.items }
+    {
+        start(&mut self.kept, institution, key);
     }
 
     /// Removes an entry.

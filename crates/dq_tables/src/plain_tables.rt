@@ -91,7 +91,7 @@ impl Tables for PlainTables {
                 key.as_slice(),
             ),
             Change::EntryAdded(row) => self.keep(alloc, row)?,
-            Change::StepAdded(row) => self.keep(alloc, row)?,
+            Change::StepAdded(row, keys) => self.keep_step(alloc, row, keys.as_slice())?,
             Change::StepChanged(row) => self.keep(alloc, row)?,
         }
         Ok(())

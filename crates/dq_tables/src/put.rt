@@ -1,7 +1,7 @@
 //! Rows in order, edited.
 ghost use Rattle.std.specs.Prelude.{◌≡◌, ◌+◌, ◌<◌, ◌≤◌, ℕ, List};
 ghost use Rattle.std.specs.Vec.{vec_len, vec_capacity};
-ghost use Rattle.dq_tables.specs.Rows.{IsRising, after_edit, after_edits, put_if, IsOf, record_of, Put, Remove};
+ghost use Rattle.dq_tables.specs.Rows.{IsRising, after_edit, after_edits, put_if, IsOf, record_of, Put, Remove, Start};
 
 use crate::row::{Kind, Row};
 use crate::search::search;
@@ -33,6 +33,19 @@ pub(crate) fn put_if(rows: &mut Vec<Row>, row: Option<Row>)
 {
     if let Some(row) = row {
         put(rows, row);
+    }
+}
+
+/// Starts the entry with a key, if there is one.
+pub fn start(rows: &mut Vec<Row>, institution: &[u8], key: &[u8])
+    requires { IsRising rows.old.items }
+    ensures done { rows.new.items ≡ after_edit institution.now (Start key.now) rows.old.items }
+    ensures rising { IsRising rows.new.items }
+    ensures long { vec_len rows.new ≡ vec_len rows.old }
+    ensures room { vec_capacity rows.new ≡ vec_capacity rows.old }
+{
+    if let Ok(at) = search(rows, Kind::Entry, institution, key) {
+        rows[at].started = true;
     }
 }
 

@@ -1,5 +1,5 @@
 //! Rows.
-ghost use Rattle.std.specs.Prelude.{◌≡◌, ◌<◌, ◌^◌, IfOk, length};
+ghost use Rattle.std.specs.Prelude.{◌≡◌, ◌<◌, ◌^◌, false, IfOk, length};
 ghost use Rattle.dq_dataset.specs.declared.header.Syntax.TheVariants.{Explicit};
 ghost use Rattle.dq_dataset.specs.Canonical.{HasLengths};
 ghost use Rattle.dq_tables.specs.Records.{data_set_of};
@@ -65,6 +65,8 @@ pub struct Row {
     pub above: Listed<u8>,
     /// The data set as `dq_dataset::write` spells it in Explicit.
     pub octets: Listed<u8>,
+    /// Whether a performed procedure step has started the entry; false of another kind.
+    pub started: bool,
 }
 
 /// What a record is kept under: its kind, its key, and the key of the record above it, empty where
@@ -77,7 +79,8 @@ pub struct RecordKeys<'a> {
 }
 
 impl Row {
-    /// The row of an institution's record whose data set these octets spell in Explicit.
+    /// The row of an institution's record whose data set these octets spell in Explicit. It is not
+    /// started.
     pub fn new(
         alloc: Global,
         institution: &[u8],
@@ -89,6 +92,7 @@ impl Row {
           key = keys.now.key.now;
           above = keys.now.above.now;
           octets = octets.items;
+          started = false;
         })) }
     {
         Ok(Row {
@@ -97,6 +101,7 @@ impl Row {
             key: Listed::copy_of(alloc, keys.key)?,
             above: Listed::copy_of(alloc, keys.above)?,
             octets: Listed::from_inner(octets),
+            started: false,
         })
     }
 
@@ -110,6 +115,7 @@ impl Row {
             key: Listed::copy_of(alloc, self.key.as_slice())?,
             above: Listed::copy_of(alloc, self.above.as_slice())?,
             octets: Listed::copy_of(alloc, self.octets.as_slice())?,
+            started: self.started,
         })
     }
 

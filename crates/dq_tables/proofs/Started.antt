@@ -1,0 +1,124 @@
+-- Entries that are started.
+use Rattle.std.proofs.Common.{◌≡◌, ℕ, true, List, [], ◌∷◌, ◌++◌, set, slice_get, Option, Some, None, Result, Ok, Err, refl, sym, ◌∙◌, ap, subst, append-nil}
+use Rattle.std.specs.Option.{option_map}
+use Rattle.std.proofs.lemmas.Bool.{and_parts}
+use Rattle.dq_list.specs.Among.{IsAmong}
+use Rattle.dq_dataset.specs.declared.fault.ReadFault.{ReadFault}
+use Rattle.dq_dataset.specs.declared.header.Syntax.TheVariants.{Explicit}
+use Rattle.dq_dataset.specs.Tree.{ElementList}
+use Rattle.dq_dataset.specs.Reading.{reading}
+use Rattle.dq_tables.specs.declared.row.Kind.{Kind}
+use Rattle.dq_tables.specs.declared.row.Kind.TheVariants.{Entry}
+use Rattle.dq_tables.specs.declared.row.Row.{Row}
+use Rattle.dq_tables.specs.Rows.{Record, Place, Put, Start, place, record_of, row_of, record_at, of, rows_before, rows_past, after_edit, IsRising}
+use Rattle.dq_tables.specs.Labels.{patient_of}
+use Rattle.dq_tables.specs.Finding.{row_at, IsThere}
+use Rattle.dq_tables.specs.Indexed.{Index, ListsEach, is_listed}
+use Rattle.dq_tables.specs.Sound.{is_own, is_record_of, may_be_started, is_held}
+use Rattle.dq_tables.proofs.ByKeys.{find_among}
+use Rattle.dq_tables.proofs.Edits.{set_is}
+use Rattle.dq_tables.proofs.Indexed.{put_listed}
+use Rattle.dq_tables.proofs.Listing.{its_kind}
+use Rattle.dq_tables.proofs.Members.{apart_is, free_is, one_inside}
+use Rattle.dq_tables.proofs.Rising.{each_among}
+use Rattle.dq_tables.proofs.Seen.{found_own}
+use Rattle.dq_tables.proofs.There.{stands_there, StandsAt}
+
+abbrev pub started : Row → Row
+started row = record row { started = true }
+
+-- ---- of an edit
+
+-- the record of an entry that is found, and where it stands
+pub record IsFound (h key : List ℕ) (rows : List Row) (row : Row) : Type 0 where
+  pub at : record_at Entry key (of h rows) ≡ Some (record_of row)
+  pub kind_is : row.kind ≡ Entry
+  pub inst_is : row.inst ≡ h
+  pub key_is : row.key ≡ key
+
+record_found : (h key : List ℕ) (rows : List Row) (row : Row) (o : Option Record) → record_at Entry key (of h rows) ≡ o
+    → option_map (row_of h) o ≡ Some row → IsFound h key rows row
+record_found h key rows row None at found = absurd (cc)
+record_found h key rows row (Some r) at found =
+    let same : row_of h r ≡ row = one_inside (row_of h r) row found in
+    let stands = subst (StandsAt (record { kind = Entry; key = key })) at (stands_there (record { kind = Entry; key = key }) (of h rows)) in
+    record {
+      at = at ∙ ap (λ (x : Row). Some (record_of x)) same;
+      kind_is = ap (λ (x : Row). x.kind) (sym same) ∙ ap (λ (p : Place). p.kind) stands;
+      inst_is = ap (λ (x : Row). x.inst) (sym same);
+      key_is = ap (λ (x : Row). x.key) (sym same) ∙ ap (λ (p : Place). p.key) stands;
+    }
+
+pub is_found : (h key : List ℕ) (rows : List Row) (row : Row) → row_at Entry h key rows ≡ Some row → IsFound h key rows row
+is_found h key rows row found =
+    record_found h key rows row (record_at Entry key (of h rows)) refl (sym (found_own Entry h key rows) ∙ found)
+
+-- what stands where an entry is started
+start_leaves : (h key : List ℕ) (rows : List Row) (row : Row) → IsFound h key rows row
+    → after_edit h (Start key) rows ≡ (rows_before (place Entry h key) rows ++ started row ∷ []) ++ rows_past (place Entry h key) rows
+unfolding after_edit
+start_leaves h key rows row it = rw (it.at, ← it.inst_is) refl
+
+-- An entry that is there is started by putting it as started.
+pub start_is_put : (h key : List ℕ) (rows : List Row) (row : Row) → row_at Entry h key rows ≡ Some row
+    → after_edit h (Start key) rows ≡ after_edit row.inst (Put (record_of (started row))) rows
+unfolding after_edit
+start_is_put h key rows row found =
+    let it = is_found h key rows row found in
+    start_leaves h key rows row it ∙ rw (it.kind_is, it.inst_is, it.key_is) refl
+
+none_found : (h : List ℕ) (o : Option Record) → option_map (row_of h) o ≡ None → o ≡ None
+none_found h None e = refl
+none_found h (Some r) e = absurd (cc)
+
+-- Where none is there, nothing changes.
+pub start_of_none : (h key : List ℕ) (rows : List Row) → IsRising rows → row_at Entry h key rows ≡ None → after_edit h (Start key) rows ≡ rows
+unfolding after_edit
+start_of_none h key rows rising free =
+    let none : record_at Entry key (of h rows) ≡ None = none_found h (record_at Entry key (of h rows)) (sym (found_own Entry h key rows) ∙ free) in
+    rw none (rw append-nil (apart_is (place Entry h key) rows rising ∙ free_is Entry h key rows free))
+
+-- by its index
+pub starts_at : (h key : List ℕ) (rows : List Row) (at : ℕ) (row : Row) → IsThere (place Entry h key) rows at → slice_get rows at ≡ Some row
+    → set rows at (started row) ≡ after_edit h (Start key) rows
+starts_at h key rows at row there here =
+    set_is rows at (started row) there.within ∙ rw (there.before, there.past) (sym (start_leaves h key rows row (is_found h key rows row (there.found ∙ here))))
+
+-- ---- of sound rows
+
+started_record : (r : Result ElementList ReadFault) (row : Row) → is_record_of r (started row) ≡ is_record_of r row
+started_record (Ok d) row = refl
+started_record (Err fault) row = refl
+
+pub started_own : (row : Row) → row.kind ≡ Entry → is_own row ≡ true → is_own (started row) ≡ true
+unfolding is_own
+started_own row kind own =
+    rw (its_kind row.kind Entry kind)
+    (started_record (reading Explicit row.octets) row
+    ∙ (and_parts (may_be_started row.kind row.started) (is_record_of (reading Explicit row.octets) row) own).1)
+
+pub entry_held : (rows : List Row) (kind : Kind) (h above : List ℕ) → kind ≡ Entry → is_held rows kind h above ≡ true
+unfolding is_held
+entry_held rows kind h above e = rw e refl
+
+keeps_found : (P : List Row → Type 0) (h key : List ℕ) (rows : List Row) → IsRising rows → P rows
+    → ((row : Row) → row.kind ≡ Entry → IsAmong row rows → P (after_edit row.inst (Put (record_of (started row))) rows))
+    → (o : Option Row) → row_at Entry h key rows ≡ o → P (after_edit h (Start key) rows)
+unfolding row_at
+keeps_found P h key rows rising holds put None e = subst P (sym (start_of_none h key rows rising e)) holds
+keeps_found P h key rows rising holds put (Some row) e =
+    subst P (sym (start_is_put h key rows row e)) (put row (is_found h key rows row e).kind_is (find_among _ row rows e).0)
+
+-- what holds of the rows, and of them with an entry put as started, holds after it is started
+pub start_keeps : (P : List Row → Type 0) (h key : List ℕ) (rows : List Row) → IsRising rows → P rows
+    → ((row : Row) → row.kind ≡ Entry → IsAmong row rows → P (after_edit row.inst (Put (record_of (started row))) rows))
+    → P (after_edit h (Start key) rows)
+start_keeps P h key rows rising holds put = keeps_found P h key rows rising holds put (row_at Entry h key rows) refl
+
+-- A started entry is listed where it was.
+pub start_listed : (index : Index) (h key : List ℕ) (rows : List Row) → IsRising rows → ListsEach index rows
+    → ListsEach index (after_edit h (Start key) rows)
+unfolding patient_of
+start_listed index h key rows rising lists =
+    start_keeps (ListsEach index) h key rows rising lists
+    (λ row kind among. put_listed index rows (started row) lists (each_among (λ (r : Row). is_listed index r ≡ true) row rows lists among))
