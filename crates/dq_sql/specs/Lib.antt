@@ -11,3 +11,5 @@ pub mod Kept
 pub mod Adopting
 pub mod Counts
 pub mod Filling
+pub mod Migrating
+pub mod Migration

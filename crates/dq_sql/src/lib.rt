@@ -11,14 +11,18 @@ mod history;
 mod ids;
 mod judging;
 pub mod laws;
+mod migrate_fault;
+mod migrating;
 mod open;
 mod opening;
 mod placing;
 mod reading;
 mod schema_test;
 mod sql_tables;
+mod starting;
 mod writing;
 
 pub use fault::StoreFault;
 pub use finding::kept_rows;
+pub use migrate_fault::MigrateFault;
 pub use sql_tables::SqlTables;
