@@ -1,5 +1,5 @@
 -- Which rows of a found table are rows of ours.
-use Rattle.std.specs.Prelude.{◌≡◌, true, pos, List, [], ◌∷◌, ℤ, IsTrue, is_some, map, IsPermutation}
+use Rattle.std.specs.Prelude.{◌≡◌, ◌≢◌, true, pos, List, [], ◌∷◌, ℤ, IsTrue, is_some, map, IsPermutation}
 use Rattle.std.specs.List.{AllByRecursion, IsDistinct}
 use Rattle.sqlite_value.specs.declared.value.Value.TheVariants.{Int, Text, Blob}
 use Rattle.sqlite_value.specs.Order.{Row as Values, column}
@@ -7,6 +7,7 @@ use Rattle.sqlite_trees.specs.declared.store.Store.{Ghosts}
 use Rattle.sqlite_trees.specs.Tree.{rowid}
 use Rattle.sqlite_trees.specs.View.{is_int}
 use Rattle.sqlite_rules.specs.Edit.{id_in}
+use Rattle.sqlite_schema.specs.declared.schema.Schema.{Schema}
 use Rattle.sqlite.specs.Effect.{Database}
 use Rattle.sqlite.specs.State.{State, HasCleanDisk}
 use Rattle.sqlite.specs.Held.{Held, state}
@@ -16,9 +17,10 @@ use Rattle.dq_tables.specs.Finding.{row_at}
 use Rattle.dq_tables.specs.Sound.{is_own, HeldEach, IsSound}
 use Rattle.dq_sql.specs.declared.fault.StoreFault.{StoreFault}
 use Rattle.dq_sql.specs.declared.fault.StoreFault.TheVariants.{WrongVersion, BadRows}
-use Rattle.dq_sql.specs.Cells.{patient_of, day_of}
-use Rattle.dq_sql.specs.Schema.{kept_schema}
-use Rattle.dq_sql.specs.Tie.{IsKept, kept_of, same_id, HasRows, IsAtRest, Stays}
+use Rattle.dq_sql.specs.declared.version.Version.{Version}
+use Rattle.dq_sql.specs.Cells.{patient_of, day_of, flag}
+use Rattle.dq_sql.specs.Schema.{version_number, schema_of}
+use Rattle.dq_sql.specs.Tie.{IsKept, kept_of, same_id, IsOfVersion, HasRowsOf, IsAtRest, Stays}
 
 -- The columns hold the row, but for what they say of a study's patient and day.
 pub record HoldsRecord (row : Row) (r : Values) : Type 0 where
@@ -27,6 +29,7 @@ pub record HoldsRecord (row : Row) (r : Values) : Type 0 where
   pub key : column r 3 ≡ Blob row.key
   pub above : column r 4 ≡ Blob row.above
   pub octets : column r 7 ≡ Blob row.octets
+  pub started : column r 8 ≡ flag row.started
 
 -- the columns say of a study's patient and day what its record says
 pub record HasCells (row : Row) (r : Values) : Type 0 where
@@ -60,18 +63,18 @@ pub record AreApart (found : List Values) : Type 0 where
   pub whole : AllByRecursion IsNumbered found
   pub apart : IsDistinct same_id found
 
--- what the query of the version shows: one number, and that is 1
-abbrev pub SaysOne : List Values → Type 0
-SaysOne found = map (λ r. column r 0) found ≡ Int (pos 1) ∷ []
+-- what the query of the version shows: one number, and that is the version's
+abbrev pub SaysNumber : Version → List Values → Type 0
+SaysNumber version found = map (λ r. column r 0) found ≡ Int (pos (version_number version)) ∷ []
 
--- the table `version` says 1
-abbrev pub IsVersionOne : Database → Type 0
-IsVersionOne d = map (λ r. column r 1) (d.trees 2) ≡ Int (pos 1) ∷ []
+-- the schema of no store of rows
+abbrev pub IsOther : Schema → Type 0
+IsOther schema = (version : Version) → schema ≢ schema_of version
 
--- No transaction is open, and the store has the tables and the index of a store of rows alone.
-pub record IsOurs (s : State) : Type 0 where
+-- No transaction is open, and the store has the tables and the index of the version alone.
+pub record IsShaped (version : Version) (s : State) : Type 0 where
   pub rest : IsAtRest s
-  pub schema : s.now.schema ≡ kept_schema
+  pub schema : s.now.schema ≡ schema_of version
 
 -- Found rows are those of a store of sound rows.
 pub record AreSound (found : List Values) (rows : List Row) : Type 0 where
@@ -79,22 +82,23 @@ pub record AreSound (found : List Values) (rows : List Row) : Type 0 where
   pub good : AreGood found rows
   pub held : HeldEach rows rows
 
--- The store was open and had the rows, which are sound.
-pub record IsFound (s : State) (rows : List Row) : Type 0 where
+-- The store was open, of the version, and had the rows, which are sound.
+pub record IsFound (version : Version) (s : State) (rows : List Row) : Type 0 where
   pub is_open : IsTrue s.is_open
   pub rest : IsAtRest s
-  pub has : HasRows s.now rows
+  pub has : HasRowsOf version s.now rows
   pub sound : IsSound rows
 
--- A found store is refused by a fault, and its connection is dropped as it is left. Where the disk
--- returned what was written until then, the fault is true of the store: a wrong version is not 1,
--- and bad rows are found in version 1, of which no rows that it has are sound.
-pub record IsRefused {S : Type 0} (g : Ghosts S) (found : Held S) (fault : StoreFault)
-    : Type 0 where
+-- A store that should be of a version is refused by a fault, and its connection is dropped as it is
+-- left. Where the disk returned what was written until then, the fault is true of the store: one of
+-- a wrong version is not of the version, and one with bad rows is, and no rows that it has are sound.
+pub record IsRefused {S : Type 0} (g : Ghosts S) (version : Version) (found : Held S)
+    (fault : StoreFault) : Type 0 where
   pub left : Held S
   pub stays : Stays (state g found) (state g left)
-  pub version : HasCleanDisk (state g left) → fault ≡ WrongVersion
-      → ¬ IsVersionOne (state g found).now
-  pub said : HasCleanDisk (state g left) → fault ≡ BadRows → IsVersionOne (state g found).now
+  pub wrong : HasCleanDisk (state g left) → fault ≡ WrongVersion
+      → ¬ IsOfVersion version (state g found).now
+  pub said : HasCleanDisk (state g left) → fault ≡ BadRows
+      → IsOfVersion version (state g found).now
   pub bad : HasCleanDisk (state g left) → fault ≡ BadRows
-      → (rows : List Row) → HasRows (state g found).now rows → ¬ IsSound rows
+      → (rows : List Row) → HasRowsOf version (state g found).now rows → ¬ IsSound rows

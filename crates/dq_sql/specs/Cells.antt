@@ -1,5 +1,5 @@
 -- The columns in which a store holds a row.
-use Rattle.std.specs.Prelude.{pos, [], ◌∷◌}
+use Rattle.std.specs.Prelude.{Bool, pos, [], ◌∷◌, if◌then◌else◌}
 use Rattle.sqlite_value.specs.declared.value.Value.{Value}
 use Rattle.sqlite_value.specs.declared.value.Value.TheVariants.{Int, Text, Blob}
 use Rattle.sqlite_value.specs.Order.{Row as Values}
@@ -15,8 +15,12 @@ patient_of row = or_null Blob (labels.patient_of row)
 unfoldable pub day_of : Row → Value
 day_of row = or_null Int (labels.day_of row)
 
+-- whether an entry is started
+abbrev pub flag : Bool → Value
+flag started = Int (if started then pos 1 else pos 0)
+
 -- the columns of a row, after its rowid
 abbrev pub columns_of : Row → Values
 columns_of row =
     Int (pos (number_of row.kind)) ∷ Text row.inst ∷ Blob row.key ∷ Blob row.above
-    ∷ patient_of row ∷ day_of row ∷ Blob row.octets ∷ []
+    ∷ patient_of row ∷ day_of row ∷ Blob row.octets ∷ flag row.started ∷ []

@@ -16,8 +16,8 @@ IsSound-prop rows = hlevel (IsRising-prop rows, OwnEach-prop rows, HeldEach-prop
 -- a database has one list of rows
 pub one_list : (d : Database) (xs ys : List Row) → HasRows d xs → HasRows d ys → xs ≡ ys
 one_list d xs ys p q =
-    one_order xs ys p.rising q.rising
-    (IsPermutation-trans _ _ _ (IsPermutation-sym _ _ p.same) q.same)
+    one_order xs ys p.table.rising q.table.rising
+    (IsPermutation-trans _ _ _ (IsPermutation-sym _ _ p.table.same) q.table.same)
 
 module _ (s : State) (rows : List Row) (keeps : ∥ (HasCleanDisk s → Keeps s rows) ∥₁) where
   pub kept_sound : HasCleanDisk s → IsSound rows

@@ -1,19 +1,19 @@
 -- How a store of rows is made: what each statement of the one transaction makes of the database.
-use Rattle.std.specs.Prelude.{◌≡◌, [], ◌∷◌, map, pos, IsTrue}
-use Rattle.sqlite_value.specs.declared.value.Value.TheVariants.{Int}
-use Rattle.sqlite_value.specs.Order.{column}
+use Rattle.std.specs.Prelude.{◌≡◌, [], IsTrue}
 use Rattle.sqlite_schema.specs.declared.schema.Schema.{Schema}
 use Rattle.sqlite_catalog.specs.Change.{created}
 use Rattle.sqlite.specs.Effect.{Database}
 use Rattle.sqlite.specs.State.{State}
+use Rattle.dq_sql.specs.declared.version.Version.TheVariants.{Two}
 use Rattle.dq_sql.specs.Schema.{kept_table, version_table, kept_schema}
+use Rattle.dq_sql.specs.Tie.{IsOfVersion}
 
 abbrev pub no_schema : Schema
 no_schema = record { tables = []; indexes = []; views = [] }
 
 -- the schema with the table `kept`, and with the table `version` too
 abbrev pub with_kept : Schema
-with_kept = created no_schema kept_table
+with_kept = created no_schema (kept_table Two)
 
 abbrev pub with_version : Schema
 with_version = created with_kept version_table
@@ -31,8 +31,7 @@ MakesIndex old new = old.schema ≡ with_version
 
 abbrev pub SaysVersion : Database → Database → Type 0
 SaysVersion old new = old.schema ≡ kept_schema
-    → (new.schema ≡ kept_schema) × (new.trees 0 ≡ old.trees 0)
-    × (old.trees 2 ≡ [] → map (λ r. column r 1) (new.trees 2) ≡ Int (pos 1) ∷ [])
+    → (new.trees 0 ≡ old.trees 0) × (old.trees 2 ≡ [] → IsOfVersion Two new)
 
 -- The transaction goes on: the store is open, and what is committed is as it was.
 pub record GoesOn (old new : State) : Type 0 where

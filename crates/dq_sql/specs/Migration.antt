@@ -5,14 +5,14 @@ use Rattle.sqlite_trees.specs.Tree.{Trees}
 use Rattle.sqlite.specs.State.{State, HasCleanDisk, Survives}
 use Rattle.sqlite.specs.Held.{Held, state}
 use Rattle.dq_tables.specs.declared.row.Row.{Row}
-use Rattle.dq_tables.specs.Sound.{IsSound}
 use Rattle.dq_sql.specs.declared.fault.StoreFault.{StoreFault}
 use Rattle.dq_sql.specs.declared.fault.StoreFault.TheVariants as store
 use Rattle.dq_sql.specs.declared.migrate_fault.MigrateFault.{MigrateFault}
 use Rattle.dq_sql.specs.declared.migrate_fault.MigrateFault.TheVariants.{NoMemory, Store, WrongVersion, BadRows}
+use Rattle.dq_sql.specs.declared.version.Version.TheVariants.{One}
 use Rattle.dq_sql.specs.Tie.{HasRows, IsAtRest, IsSame, Stays}
 use Rattle.dq_sql.specs.Keeping.{under_schema}
-use Rattle.dq_sql.specs.Adopting.{IsVersionOne, IsFound}
+use Rattle.dq_sql.specs.Adopting.{IsFound, IsRefused}
 use Rattle.dq_sql.specs.Migrating.{migrated}
 
 abbrev pub fault_number : MigrateFault → ℕ
@@ -21,7 +21,7 @@ fault_number Store = 2
 fault_number WrongVersion = 3
 fault_number BadRows = 4
 
--- what a store's own fault is called
+-- a fault of one store as one of the migration
 abbrev pub fault_of : StoreFault → MigrateFault
 fault_of store.NoMemory = NoMemory
 fault_of store.Store = Store
@@ -31,42 +31,34 @@ fault_of store.BadRows = BadRows
 -- The rows are those that were found in a store of version 1, migrated.
 pub record IsMigrated (s : State) (rows : List Row) : Type 0 where
   pub kept : List Row
-  pub found : IsFound s kept
+  pub found : IsFound One s kept
   pub is : rows ≡ migrated kept
 
 -- Trees that have the rows that were found in a store of version 1, migrated.
 pub record HasMigrated (s : State) (trees : Trees) : Type 0 where
   pub rows : List Row
-  pub migrated : IsMigrated s rows
+  pub are : IsMigrated s rows
   pub has : HasRows (under_schema trees) rows
 
--- The old store stays as it is, and as far as its disk returned what was written until its
--- connection was dropped, the rows are its own, migrated.
+-- The old store stays as it is. As far as its disk returned what was written until its connection
+-- was dropped, the rows are its own, migrated.
 pub record Migrates {S : Type 0} (g : Ghosts S) (old : Held S) (rows : List Row) : Type 0 where
   pub left : Held S
   pub stays : Stays (state g old) (state g left)
-  pub migrated : HasCleanDisk (state g left) → IsMigrated (state g old) rows
+  pub are : HasCleanDisk (state g left) → IsMigrated (state g old) rows
 
--- The migration is refused by a fault, and both connections are dropped as they are left. The old
--- store stays as it is. The new one shows what it showed, and a crash leaves of it what it could
--- leave before, or all rows, migrated. The fault is true of the old store as far as its disk
--- returned what was written.
+-- A migration is refused by a fault, and both connections are dropped as they are left. Of the old
+-- store the fault is true as where it is refused itself, and it stays as it is. The new one shows
+-- what it showed, and a crash leaves of it what it could leave before, or all rows, migrated.
 pub record IsNotMigrated {S : Type 0} (g : Ghosts S) (old new : Held S) (fault : MigrateFault)
     : Type 0 where
-  pub old_left : Held S
-  pub new_left : Held S
-  pub stays : Stays (state g old) (state g old_left)
+  pub cause : StoreFault
+  pub is : fault ≡ fault_of cause
+  pub refused : IsRefused g One old cause
+  pub left : Held S
   pub survives
-      : Survives (state g new) (state g new_left)
-      (λ trees. HasCleanDisk (state g old_left) → HasMigrated (state g old) trees)
+      : Survives (state g new) (state g left)
+      (λ trees. HasCleanDisk (state g refused.left) → HasMigrated (state g old) trees)
   pub same
-      : HasCleanDisk (state g new_left) → IsTrue (state g new_left).is_open
-      → IsAtRest (state g new) → IsSame (state g new) (state g new_left)
-  pub version
-      : HasCleanDisk (state g old_left) → fault ≡ WrongVersion
-      → ¬ IsVersionOne (state g old).now
-  pub said
-      : HasCleanDisk (state g old_left) → fault ≡ BadRows → IsVersionOne (state g old).now
-  pub bad
-      : HasCleanDisk (state g old_left) → fault ≡ BadRows
-      → (rows : List Row) → HasRows (state g old).now rows → ¬ IsSound rows
+      : HasCleanDisk (state g left) → IsTrue (state g left).is_open
+      → IsAtRest (state g new) → IsSame (state g new) (state g left)

@@ -7,8 +7,10 @@ use Rattle.sqlite.specs.Listing.{understood}
 use Rattle.sqlite.specs.State.{State}
 use Rattle.dq_tables.specs.declared.row.Kind.{Kind}
 use Rattle.dq_tables.specs.declared.row.Row.{Row}
-use Rattle.dq_sql.specs.Schema.{kept_schema}
-use Rattle.dq_sql.specs.Tie.{HasRows}
+use Rattle.sqlite.specs.Effect.{Database}
+use Rattle.dq_sql.specs.declared.version.Version.{Version}
+use Rattle.dq_sql.specs.Schema.{schema_of}
+use Rattle.dq_sql.specs.Tie.{is_set, kept_in, HasRows}
 
 -- A text that shows no rows of a write, whatever the schema.
 abbrev pub ShowsNoWrite : List ℕ → Type 0
@@ -23,16 +25,25 @@ pub record HoldsOf (s : State) (P : List Row → Type 0) : Type 0 where
 abbrev pub columns : Values → Values
 columns r =
     column r 0 ∷ column r 1 ∷ column r 2 ∷ column r 3 ∷ column r 4 ∷ column r 5 ∷ column r 6
-    ∷ column r 7 ∷ []
+    ∷ column r 7 ∷ column r 8 ∷ []
 
--- The store is open, and where it has our schema these are the rows of a tree, each shown so, in
+-- The store is open, and where it has the tables of the version these are the rows that it has, in
 -- any order.
-pub record ShowsTree (s : State) (tree : ℕ) (show : Values → Values)
+pub record Shows (version : Version) (s : State) (rows : Database → List Values)
     (answer : List Values) : Type 0 where
   pub is_open : IsTrue s.is_open
-  pub rows : s.now.schema ≡ kept_schema → IsPermutation (map show (s.now.trees tree)) answer
+  pub rows : s.now.schema ≡ schema_of version → IsPermutation (rows s.now) answer
 
--- the row of a kind and an institution whose key, key above and octets these are
+-- the rows of the table `kept`
+abbrev pub kept_shown : Version → Database → List Values
+kept_shown version d = map columns (kept_in version d)
+
+-- those of the table `version`, without their rowids
+abbrev pub numbers_shown : Database → List Values
+numbers_shown d = map (λ r. column r 1 ∷ []) (d.trees 2)
+
+-- the row of a kind and an institution whose key, key above and octets these are, and whether it is
+-- started
 abbrev pub row_shown : Kind → List ℕ → Values → Row
 row_shown kind institution values = record {
   kind = kind;
@@ -40,6 +51,7 @@ row_shown kind institution values = record {
   key = bytes (column values 0);
   above = bytes (column values 1);
   octets = bytes (column values 2);
+  started = is_set (column values 3);
 }
 
 -- What a count shows, which is no number from the greatest whole number of SQL on.

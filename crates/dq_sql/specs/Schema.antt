@@ -1,5 +1,5 @@
--- The schema of a store of rows.
-use Rattle.std.specs.Prelude.{Bool, true, false, List, ℕ, [], ◌∷◌, None, codes, pos}
+-- The schemas of stores of rows.
+use Rattle.std.specs.Prelude.{Bool, true, false, List, ℕ, [], ◌∷◌, ◌++◌, None, codes, pos}
 use Rattle.sqlite_value.specs.declared.keys.Collation.TheVariants.{Binary}
 use Rattle.sqlite_value.specs.declared.value.Value.TheVariants.{Null, Int}
 use Rattle.sqlite_value.specs.Keys.{plain}
@@ -12,6 +12,13 @@ use Rattle.sqlite_schema.specs.declared.schema.Column.{Column}
 use Rattle.sqlite_schema.specs.declared.schema.Table.{Table}
 use Rattle.sqlite_schema.specs.declared.schema.Index.{Index}
 use Rattle.sqlite_schema.specs.declared.schema.Schema.{Schema}
+use Rattle.dq_sql.specs.declared.version.Version.{Version}
+use Rattle.dq_sql.specs.declared.version.Version.TheVariants.{One, Two}
+
+-- the number by which a store says its version
+abbrev pub version_number : Version → ℕ
+version_number One = 1
+version_number Two = 2
 
 -- a column of a STRICT table without a default
 abbrev pub optional : List ℕ → Kind → Column
@@ -27,11 +34,20 @@ optional name kind = record {
 abbrev pub required : List ℕ → Kind → Column
 required name kind = record (optional name kind) { not_null = true }
 
-abbrev pub kept_columns : List Column
-kept_columns =
+-- the columns of a record, its place and what it says of a study
+abbrev pub record_columns : List Column
+record_columns =
     required (codes "kind") Integer ∷ required (codes "inst") Text ∷ required (codes "id") Blob
     ∷ required (codes "above") Blob ∷ optional (codes "patient") Blob ∷ optional (codes "day") Integer
     ∷ required (codes "octets") Blob ∷ []
+
+-- Version 2 says also whether the entry is started.
+abbrev pub further_columns : Version → List Column
+further_columns One = []
+further_columns Two = required (codes "started") Integer ∷ []
+
+abbrev pub kept_columns : Version → List Column
+kept_columns version = record_columns ++ further_columns version
 
 abbrev pub version_columns : List Column
 version_columns = required (codes "number") Integer ∷ []
@@ -40,11 +56,11 @@ version_columns = required (codes "number") Integer ∷ []
 abbrev pub kind_checks : List Term
 kind_checks = op2 And (op2 (Compare Ge Binary) (col 1 1) (lit (Int (pos 1)))) (op2 (Compare Le Binary) (col 1 1) (lit (Int (pos 5)))) ∷ []
 
-abbrev pub kept_table : Table
-kept_table = record {
+abbrev pub kept_table : Version → Table
+kept_table version = record {
   name = codes "kept";
   tree = 0;
-  columns = kept_columns;
+  columns = kept_columns version;
   key = None;
   primary = 1 ∷ 2 ∷ 3 ∷ [];
   uniques = (1 ∷ 2 ∷ 3 ∷ []) ∷ [];
@@ -91,9 +107,13 @@ key_index = kept_index (codes "sqlite_autoindex_kept_1") 1 (1 ∷ 2 ∷ 3 ∷ []
 abbrev pub above_index : Index
 above_index = kept_index (codes "kept_above") 3 (1 ∷ 2 ∷ 4 ∷ 3 ∷ []) false
 
-unfoldable pub kept_schema : Schema
-kept_schema = record {
-  tables = kept_table ∷ version_table ∷ [];
+unfoldable pub schema_of : Version → Schema
+schema_of version = record {
+  tables = kept_table version ∷ version_table ∷ [];
   indexes = key_index ∷ above_index ∷ [];
   views = [];
 }
+
+-- that of a store of rows as they are kept now
+abbrev pub kept_schema : Schema
+kept_schema = schema_of Two

@@ -1,5 +1,5 @@
 -- Parts of the test whether a store is one of rows.
-use Rattle.std.specs.Prelude.{◌≡◌, ℕ, ◌+◌, ℤ, false, [], ◌∷◌, None}
+use Rattle.std.specs.Prelude.{◌≡◌, ℕ, ◌+◌, ℤ, false, [], ◌∷◌, None, codes}
 use Rattle.sqlite_value.specs.Keys.{plain}
 use Rattle.sqlite_value.specs.declared.value.Value.TheVariants.{Int}
 use Rattle.sqlite_value.specs.declared.keys.Collation.TheVariants.{Binary as Bytewise}
@@ -8,6 +8,8 @@ use Rattle.sqlite_sql.specs.declared.ops.CompareOp.{CompareOp}
 use Rattle.sqlite_schema.specs.declared.code.Op.{Op}
 use Rattle.sqlite_schema.specs.declared.code.Op.TheVariants.{Column, Literal, Binary}
 use Rattle.sqlite_schema.specs.declared.schema.Table.{Table}
+use Rattle.sqlite_schema.specs.declared.schema.Schema.{Schema}
+use Rattle.dq_sql.specs.Schema.{kind_checks, key_index, above_index}
 
 -- what a table of a store of rows does not have
 pub record HasNoMore (table : Table) : Type 0 where
@@ -28,6 +30,19 @@ pub record HasNoRules (table : Table) : Type 0 where
   pub uniques : table.uniques ≡ []
   pub orders : table.orders ≡ []
   pub checks : table.checks ≡ []
+
+-- the table `kept`, but for its columns
+pub record IsKept (table : Table) : Type 0 where
+  pub name : table.name ≡ codes "kept"
+  pub tree : table.tree ≡ 0
+  pub key : HasKey table
+  pub checks : table.checks ≡ kind_checks
+  pub more : HasNoMore table
+
+-- what a store of rows has beside its tables
+pub record HasOthers (schema : Schema) : Type 0 where
+  pub indexes : schema.indexes ≡ key_index ∷ above_index ∷ []
+  pub views : schema.views ≡ []
 
 -- The nodes are the column `kind`, the number, and that the one compares so to the other.
 pub record BoundsKind (kind limit test : Op) (how : CompareOp) (number : ℤ) (place : ℕ) : Type 0 where

@@ -1,7 +1,7 @@
 -- How the tables of a database hold rows, and what a call leaves that changes none of them.
-use Rattle.std.specs.Prelude.{◌≡◌, ℕ, ◌==◌, pos, Bool, false, if◌then◌else◌, List, [], ◌∷◌, map, IsTrue, IsPermutation}
+use Rattle.std.specs.Prelude.{◌≡◌, ℕ, ◌==◌, pos, Bool, false, not, if◌then◌else◌, List, [], ◌∷◌, map, IsTrue, IsPermutation}
 use Rattle.std.specs.List.{AllByRecursion, IsDistinct}
-use Rattle.std.specs.Ordering.{is_eq}
+use Rattle.std.specs.Ordering.{is_eq, int_eq}
 use Rattle.sqlite_value.specs.declared.value.Value.{Value}
 use Rattle.sqlite_value.specs.declared.value.Value.TheVariants.{Int, Text, Blob}
 use Rattle.sqlite_value.specs.Order.{Row as Values, column, bytes, value_cmp}
@@ -13,8 +13,10 @@ use Rattle.dq_tables.specs.declared.row.Kind.{Kind}
 use Rattle.dq_tables.specs.declared.row.Kind.TheVariants.{Study, Series, Image, Entry, Step}
 use Rattle.dq_tables.specs.declared.row.Row.{Row}
 use Rattle.dq_tables.specs.Rows.{number_of, IsRising}
-use Rattle.dq_sql.specs.Cells.{patient_of, day_of}
-use Rattle.dq_sql.specs.Schema.{kept_schema}
+use Rattle.dq_sql.specs.declared.version.Version.{Version}
+use Rattle.dq_sql.specs.declared.version.Version.TheVariants.{One, Two}
+use Rattle.dq_sql.specs.Cells.{patient_of, day_of, flag}
+use Rattle.dq_sql.specs.Schema.{version_number, schema_of}
 
 -- the kind with a number from 1 to 5
 abbrev pub kind_numbered : ℕ → Kind
@@ -26,6 +28,11 @@ abbrev pub kind_in : Value → Kind
 kind_in (Int (pos n)) = kind_numbered n
 kind_in _ = Step
 
+-- whether a number is not 0
+abbrev pub is_set : Value → Bool
+is_set (Int n) = not (int_eq n (pos 0))
+is_set _ = false
+
 -- A row of the table `kept` is its rowid and then its columns.
 abbrev pub kept_of : Values → Row
 kept_of r = record {
@@ -34,6 +41,7 @@ kept_of r = record {
   key = bytes (column r 3);
   above = bytes (column r 4);
   octets = bytes (column r 7);
+  started = is_set (column r 8);
 }
 
 -- the columns of the table hold a row
@@ -45,6 +53,7 @@ pub record Holds (row : Row) (r : Values) : Type 0 where
   pub patient : column r 5 ≡ patient_of row
   pub day : column r 6 ≡ day_of row
   pub octets : column r 7 ≡ Blob row.octets
+  pub started : column r 8 ≡ flag row.started
 
 abbrev pub IsKept : Values → Type 0
 IsKept r = Holds (kept_of r) r
@@ -52,16 +61,38 @@ IsKept r = Holds (kept_of r) r
 abbrev pub same_id : Values → Values → Bool
 same_id a b = is_eq (value_cmp (rowid a) (rowid b))
 
--- The database has the tables, the table `version` says 1, and the table `kept` holds the rows, each
--- once and in any order.
-pub record HasRows (d : Database) (rows : List Row) : Type 0 where
-  pub schema : d.schema ≡ kept_schema
-  pub version : map (λ r. column r 1) (d.trees 2) ≡ Int (pos 1) ∷ []
-  pub apart : IsDistinct same_id (d.trees 0)
-  pub ids : AllByRecursion (λ r. IsTrue (is_int (rowid r))) (d.trees 0)
-  pub kept : AllByRecursion IsKept (d.trees 0)
-  pub same : IsPermutation (map kept_of (d.trees 0)) rows
+-- A table holds the rows, each once and in any order.
+pub record HoldsRows (table : List Values) (rows : List Row) : Type 0 where
+  pub apart : IsDistinct same_id table
+  pub ids : AllByRecursion (λ r. IsTrue (is_int (rowid r))) table
+  pub kept : AllByRecursion IsKept table
+  pub same : IsPermutation (map kept_of table) rows
   pub rising : IsRising rows
+
+-- a row of version 1, which has no last column, as that of what is not started
+abbrev pub unstarted : Values → Values
+unstarted r =
+    column r 0 ∷ column r 1 ∷ column r 2 ∷ column r 3 ∷ column r 4 ∷ column r 5 ∷ column r 6
+    ∷ column r 7 ∷ flag false ∷ []
+
+-- the table `kept`
+abbrev pub kept_in : Version → Database → List Values
+kept_in One d = map unstarted (d.trees 0)
+kept_in Two d = d.trees 0
+
+-- The database has the tables of a version, and the table `version` says so.
+pub record IsOfVersion (version : Version) (d : Database) : Type 0 where
+  pub schema : d.schema ≡ schema_of version
+  pub says : map (λ r. column r 1) (d.trees 2) ≡ Int (pos (version_number version)) ∷ []
+
+-- It is of the version, and the table `kept` holds the rows.
+pub record HasRowsOf (version : Version) (d : Database) (rows : List Row) : Type 0 where
+  pub version_is : IsOfVersion version d
+  pub table : HoldsRows (kept_in version d) rows
+
+-- a store of rows as they are kept now
+abbrev pub HasRows : Database → List Row → Type 0
+HasRows = HasRowsOf Two
 
 -- No transaction is open: what is seen is what is committed.
 pub record IsAtRest (s : State) : Type 0 where

@@ -1,5 +1,5 @@
 -- What the calls that write make of a connection, and of the rows, whatever rows it had.
-use Rattle.std.specs.Prelude.{◌≡◌, ℕ, List, true, Option, Some, None, IsTrue}
+use Rattle.std.specs.Prelude.{◌≡◌, ℕ, List, map, true, Option, Some, None, IsTrue}
 use Rattle.std.specs.Option.{is_some}
 use Rattle.sqlite_trees.specs.Tree.{Trees}
 use Rattle.sqlite.specs.Effect.{Database}
@@ -8,7 +8,7 @@ use Rattle.dq_tables.specs.declared.row.Kind.{Kind}
 use Rattle.dq_tables.specs.declared.row.Row.{Row}
 use Rattle.dq_tables.specs.declared.change.Change.{Change}
 use Rattle.dq_tables.specs.Rows.{after as after_operation, operation_of}
-use Rattle.dq_tables.specs.Rows.{after_edit, Put, Remove, record_of}
+use Rattle.dq_tables.specs.Rows.{after_edit, after_edits, Put, Remove, Start, record_of}
 use Rattle.dq_tables.specs.Finding.{row_at}
 use Rattle.dq_tables.specs.Sound.{Fits}
 use Rattle.dq_sql.specs.Tie.{HasRows}
@@ -33,6 +33,17 @@ Replaces d e row =
 abbrev pub Removes : Database → Database → Kind → List ℕ → List ℕ → Type 0
 Removes d e kind institution key =
     (rows : List Row) → HasRows d rows → HasRows e (after_edit institution (Remove kind key) rows)
+
+-- the entry with a key is started, if there is one
+abbrev pub Starts : Database → Database → List ℕ → List ℕ → Type 0
+Starts d e institution key =
+    (rows : List Row) → HasRows d rows → HasRows e (after_edit institution (Start key) rows)
+
+-- and the entries with some keys
+abbrev pub StartsEach : Database → Database → List ℕ → List (List ℕ) → Type 0
+StartsEach d e institution keys =
+    (rows : List Row) → HasRows d rows
+    → HasRows e (after_edits institution (map Start keys) rows)
 
 -- a change that fits the rows is made
 abbrev pub Makes : Database → Database → Change → Type 0

@@ -142,7 +142,7 @@ impl Counts {
             }
             Change::EntryAdded(row) => self.add(row),
             Change::EntryRemoved { inst, key: _ } => self.take(Kind::Entry, inst.as_slice()),
-            Change::StepAdded(row) => self.add(row),
+            Change::StepAdded(row, _) => self.add(row),
             Change::StepChanged(_) => {}
         }
     }

@@ -1,66 +1,71 @@
 //! The rows of a store that is found.
-ghost use Rattle.std.specs.Prelude.{◌≡◌, ◌≢◌, ◌⊎◌, pos, Err, IsTrue, false, IfOk, IfErr, OnOk, MatchBool};
+ghost use Rattle.std.specs.Prelude.{◌≡◌, ◌≢◌, ◌⊎◌, pos, Err, IfSome, IfOk, IfErr, OnOk, MatchBool, false};
 ghost use Rattle.sqlite_value.specs.declared.value.Value.TheVariants.{Int};
 ghost use Rattle.sqlite_value.specs.Order.{column};
 ghost use Rattle.sqlite.specs.State.{HasCleanDisk};
 ghost use Rattle.sqlite.specs.Held.{state};
 ghost use Rattle.dq_tables.specs.Sound.{IsSound};
 ghost use Rattle.dq_sql.specs.declared.fault.StoreFault.TheVariants.{NoMemory, Store, WrongVersion, BadRows};
-ghost use Rattle.dq_sql.specs.Schema.{kept_schema};
-ghost use Rattle.dq_sql.specs.Tie.{HasRows, Stays};
-ghost use Rattle.dq_sql.specs.Adopting.{SaysOne, IsVersionOne, IsOurs, AreSound, IsFound};
+ghost use Rattle.dq_sql.specs.Schema.{version_number, schema_of};
+ghost use Rattle.dq_sql.specs.Tie.{IsOfVersion, HasRowsOf, Stays};
+ghost use Rattle.dq_sql.specs.Adopting.{SaysNumber, IsOther, IsShaped, AreSound, IsFound};
 
 use crate::fault::StoreFault;
 use crate::ids::ids_apart;
 use crate::judging::value_at;
 use crate::placing::{are_held, rows_found};
 use crate::reading::{rows_read, versions_read};
-use crate::schema_test::is_ours;
+use crate::schema_test::version_shaped;
+use crate::version::Version;
 use dq_tables::Row;
 use sqlite::types::ValueRef;
 use sqlite::{Alter, Connection};
 use std::alloc::Global;
 
-/// Whether a store has the tables and the index of a store of rows alone, and no transaction is
-/// open.
-fn is_store_of_rows<S: Alter>(conn: &Connection<S>) -> bool
-    ensures { IsTrue result → IsOurs (state S.Store conn.now) }
+/// The version whose tables and index a store has alone, where no transaction is open.
+fn version_found<S: Alter>(conn: &Connection<S>) -> Option<Version>
+    ensures { IfSome result (λ version. IsShaped version (state S.Store conn.now)) }
 {
-    conn.is_autocommit() && is_ours(conn.schema())
+    if conn.is_autocommit() {
+        version_shaped(conn.schema())
+    } else {
+        None
+    }
 }
 
-/// Whether the one number is 1.
-fn says_one(found: &[sqlite::Row]) -> bool
-    ensures { MatchBool result (SaysOne found.now) (¬ SaysOne found.now) }
+/// Whether the one number is the version's.
+fn says_number(found: &[sqlite::Row], version: Version) -> bool
+    ensures { MatchBool result (SaysNumber version found.now) (¬ SaysNumber version found.now) }
 {
     match found {
-        [number] => is_one(number),
+        [number] => is_number(number, version),
         _ => false,
     }
 }
 
-/// Whether the first column is 1.
-fn is_one(found: &sqlite::Row) -> bool
-    ensures { MatchBool result (column found.now 0 ≡ Int (pos 1)) (column found.now 0 ≢ Int (pos 1)) }
+/// Whether the first column is the version's number.
+fn is_number(found: &sqlite::Row, version: Version) -> bool
+    ensures { MatchBool result (column found.now 0 ≡ Int (pos (version_number version)))
+        (column found.now 0 ≢ Int (pos (version_number version))) }
 {
     match value_at(found, 0) {
-        ValueRef::Int(number) => number == 1,
+        ValueRef::Int(number) => number == version.number(),
         _ => false,
     }
 }
 
-/// Whether the store is of version 1.
+/// Whether a store that has the tables of the version says so.
 #[tactic(auto, using(crate::proofs::Sounding::version_told))]
-fn is_version_one<S: Alter>(conn: &mut Connection<S>) -> Result<bool, StoreFault>
-    ensures version { HasCleanDisk (state S.Store conn.new)
-        → (state S.Store conn.old).now.schema ≡ kept_schema
-        → IfOk result (λ one. MatchBool one (IsVersionOne (state S.Store conn.old).now)
-        (¬ IsVersionOne (state S.Store conn.old).now)) }
+fn is_of_version<S: Alter>(conn: &mut Connection<S>, version: Version) -> Result<bool, StoreFault>
+    ensures told { HasCleanDisk (state S.Store conn.new)
+        → (state S.Store conn.old).now.schema ≡ schema_of version
+        → IfOk result (λ is_so. MatchBool is_so (IsOfVersion version (state S.Store conn.old).now)
+        (¬ IsOfVersion version (state S.Store conn.old).now)) }
     ensures fault { IfErr result (λ e. (e ≡ NoMemory) ⊎ (e ≡ Store)) }
     ensures stays { Stays (state S.Store conn.old) (state S.Store conn.new) }
 {
     let found = versions_read(conn)?;
-    Ok(says_one(found.as_slice()))
+    Ok(says_number(found.as_slice(), version))
 }
 
 /// The rows that are found, where they are those of a store of sound rows.
@@ -81,30 +86,34 @@ fn sound_rows(alloc: Global, found: &[sqlite::Row]) -> Result<Vec<Row>, StoreFau
     }
 }
 
-/// All rows of a store of rows, in order. A store without the tables and the index that
-/// `SqlTables::open` makes, or with more, is refused by `Store`, one of another version than 1 by
-/// `WrongVersion`, and one with a row that is not its record's own, or without the row above it, by
-/// `BadRows`. Nothing changes.
+/// All rows of a store of rows of a version, in order. A store without the tables and the index of a
+/// version, or with more, is refused by `Store`, one of another version by `WrongVersion`, and one
+/// with a row that is not its record's own, or without the row above it, by `BadRows`. Nothing
+/// changes.
 #[tactic(auto, using(crate::proofs::Sounding::stays_then))]
-pub fn kept_rows<S: Alter>(conn: &mut Connection<S>, alloc: Global) -> Result<Vec<Row>, StoreFault>
+pub fn kept_rows<S: Alter>(
+    conn: &mut Connection<S>,
+    alloc: Global,
+    version: Version,
+) -> Result<Vec<Row>, StoreFault>
     ensures found { HasCleanDisk (state S.Store conn.new)
-        → IfOk result (λ rows. IsFound (state S.Store conn.old) rows.items) }
-    ensures other { (state S.Store conn.old).now.schema ≢ kept_schema → result ≡ Err Store }
-    ensures version { HasCleanDisk (state S.Store conn.new) → result ≡ Err WrongVersion
-        → ¬ IsVersionOne (state S.Store conn.old).now }
+        → IfOk result (λ rows. IsFound version (state S.Store conn.old) rows.items) }
+    ensures other { IsOther (state S.Store conn.old).now.schema → result ≡ Err Store }
+    ensures wrong { HasCleanDisk (state S.Store conn.new) → result ≡ Err WrongVersion
+        → ¬ IsOfVersion version (state S.Store conn.old).now }
     ensures said { HasCleanDisk (state S.Store conn.new) → result ≡ Err BadRows
-        → IsVersionOne (state S.Store conn.old).now }
+        → IsOfVersion version (state S.Store conn.old).now }
     ensures bad { HasCleanDisk (state S.Store conn.new) → result ≡ Err BadRows
-        → (rows : _) → HasRows (state S.Store conn.old).now rows → ¬ IsSound rows }
+        → (rows : _) → HasRowsOf version (state S.Store conn.old).now rows → ¬ IsSound rows }
     ensures alone { OnOk result (conn.new.in_transaction ≡ false) }
     ensures stays { Stays (state S.Store conn.old) (state S.Store conn.new) }
 {
-    if !is_store_of_rows(conn) {
+    let Some(shaped) = version_found(conn) else {
         return Err(StoreFault::Store);
-    }
-    if !is_version_one(conn)? {
+    };
+    if shaped != version || !is_of_version(conn, version)? {
         return Err(StoreFault::WrongVersion);
     }
-    let found = rows_read(conn)?;
+    let found = rows_read(conn, version)?;
     sound_rows(alloc, found.as_slice())
 }

@@ -1,5 +1,5 @@
 //! What the columns of a found row hold.
-ghost use Rattle.std.specs.Prelude.{◌≡◌, ◌≢◌, ℕ, List, pos, Err, IfOk, MatchOption, MatchBool};
+ghost use Rattle.std.specs.Prelude.{◌≡◌, ◌≢◌, ℕ, Bool, List, pos, Err, IfOk, MatchOption, MatchBool};
 ghost use Rattle.sqlite_value.specs.declared.value.Value.TheVariants.{Int, Text, Blob};
 ghost use Rattle.sqlite_value.specs.Value.{owned};
 ghost use Rattle.sqlite_value.specs.Order.{column};
@@ -7,6 +7,7 @@ ghost use Rattle.sqlite.specs.Values.{or_null};
 ghost use Rattle.dq_tables.specs.declared.row.Kind.{Kind};
 ghost use Rattle.dq_tables.specs.declared.row.Row.{Row};
 ghost use Rattle.dq_tables.specs.Rows.{number_of};
+ghost use Rattle.dq_sql.specs.Cells.{flag};
 ghost use Rattle.dq_sql.specs.Tie.{kept_of};
 ghost use Rattle.dq_sql.specs.declared.fault.StoreFault.TheVariants.{WrongVersion, BadRows};
 ghost use Rattle.dq_sql.specs.Adopting.{HoldsRecord, HasCells, IsGood};
@@ -54,6 +55,18 @@ fn blob_in<'a>(value: ValueRef<'a>) -> Option<&'a [u8]>
     }
 }
 
+/// Whether an entry is started, as 1 or 0 says.
+fn flag_in(value: ValueRef<'_>) -> Option<bool>
+    ensures { MatchOption result ((started : Bool) → owned value.entry ≢ flag started)
+        (λ started. owned value.entry ≡ flag started) }
+{
+    match value {
+        ValueRef::Int(0) => Some(false),
+        ValueRef::Int(1) => Some(true),
+        _ => None,
+    }
+}
+
 /// The value in a column, which is null past the last.
 pub(crate) fn value_at(found: &sqlite::Row, at: usize) -> ValueRef<'_>
     ensures { owned result ≡ column found.now at }
@@ -72,6 +85,7 @@ struct Lent<'a> {
     key: &'a [u8],
     above: &'a [u8],
     octets: &'a [u8],
+    started: bool,
 }
 
 /// The row whose record the columns hold, lent.
@@ -83,6 +97,7 @@ fn lent_in(found: &sqlite::Row) -> Option<Lent<'_>>
           key = lent.key.now;
           above = lent.above.now;
           octets = lent.octets.now;
+          started = lent.started;
         }) found.now) }
 {
     Some(Lent {
@@ -91,6 +106,7 @@ fn lent_in(found: &sqlite::Row) -> Option<Lent<'_>>
         key: blob_in(value_at(found, 3))?,
         above: blob_in(value_at(found, 4))?,
         octets: blob_in(value_at(found, 7))?,
+        started: flag_in(value_at(found, 8))?,
     })
 }
 
@@ -108,6 +124,7 @@ fn record_in(alloc: Global, found: &sqlite::Row) -> Result<Option<Row>, AllocErr
         key: Listed::copy_of(alloc, lent.key)?,
         above: Listed::copy_of(alloc, lent.above)?,
         octets: Listed::copy_of(alloc, lent.octets)?,
+        started: lent.started,
     }))
 }
 

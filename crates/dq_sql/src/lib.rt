@@ -20,9 +20,11 @@ mod reading;
 mod schema_test;
 mod sql_tables;
 mod starting;
+mod version;
 mod writing;
 
 pub use fault::StoreFault;
 pub use finding::kept_rows;
 pub use migrate_fault::MigrateFault;
 pub use sql_tables::SqlTables;
+pub use version::Version;

@@ -3,8 +3,8 @@ ghost use Rattle.std.specs.Prelude.{◌≡◌, ◌≢◌, false, IfOk, IfErr, Is
 ghost use Rattle.sqlite.specs.Held.{state};
 ghost use Rattle.dq_tables.specs.Keeping.{IsSettled};
 ghost use Rattle.dq_sql.specs.declared.migrate_fault.MigrateFault.TheVariants.{Store};
-ghost use Rattle.dq_sql.specs.Schema.{kept_schema};
 ghost use Rattle.dq_sql.specs.Making.{no_schema};
+ghost use Rattle.dq_sql.specs.Adopting.{IsOther};
 ghost use Rattle.dq_sql.specs.Migration.{Migrates, IsNotMigrated};
 
 use crate::filling::{fill_store, is_new_store};
@@ -12,6 +12,7 @@ use crate::finding::kept_rows;
 use crate::migrate_fault::MigrateFault;
 use crate::sql_tables::SqlTables;
 use crate::starting::start_named;
+use crate::version::Version;
 use dq_list::Listed;
 use dq_tables::Tables;
 use sqlite::{Alter, Connection};
@@ -24,7 +25,7 @@ impl<S: Alter + Drop> SqlTables<S> {
     /// alone.
     ///
     /// It answers `Store` where the new store has anything already or a transaction is open, where
-    /// the old one has not the tables and the index of version 1, or more, and where one of them
+    /// the old one has not the tables and the index of a version, or more, and where one of them
     /// fails; `WrongVersion` and `BadRows` only of an old store that is so, as far as its disk
     /// returned what was written until its connection was dropped. A refusal drops both
     /// connections, and changes no value of either store.
@@ -40,14 +41,14 @@ impl<S: Alter + Drop> SqlTables<S> {
             → IsSettled (⟦<SqlTables<S> as Tables>⟧.state t)) }
         ensures taken { (state S.Store new).now.schema ≢ no_schema
             → IsErrAnd result (λ e. e ≡ Store) }
-        ensures other { (state S.Store old).now.schema ≢ kept_schema
+        ensures other { IsOther (state S.Store old).now.schema
             → IsErrAnd result (λ e. e ≡ Store) }
         ensures refused { IfErr result (λ e. ∥ IsNotMigrated S.Store old new e ∥₁) }
     {
         if !is_new_store(&new) {
             return Err(MigrateFault::Store);
         }
-        let mut rows = kept_rows(&mut old, alloc)?;
+        let mut rows = kept_rows(&mut old, alloc, Version::One)?;
         start_named(alloc, &mut rows)?;
         fill_store(&mut new, alloc, rows.as_slice())?;
         Ok(SqlTables::over(alloc, new, &Listed::from_inner(rows)))

@@ -20,7 +20,8 @@ pub(crate) fn is_empty(schema: &Schema) -> bool
 /// Makes the table `kept`, of a row for each row that is kept: `kind` is a `Kind`'s number, `inst`
 /// the institution's name, `id` the key, `above` the key of the row above, and `octets` the record.
 /// `patient` is the only value of a study's Patient ID, `day` its Study Date as a number; both are
-/// null where there is no such value, and in other rows.
+/// null where there is no such value, and in other rows. `started` is 1 for an entry that is
+/// started, and else 0.
 fn make_kept<S: Alter>(tx: &mut Transaction<'_, S>) -> Result<usize, Error>
     ensures same_reference { tx.new.conn.ghost_name ≡ tx.old.conn.ghost_name }
     ensures goes_on { HasCleanDisk (state S.Store tx.new.conn.now)
@@ -34,7 +35,7 @@ fn make_kept<S: Alter>(tx: &mut Transaction<'_, S>) -> Result<usize, Error>
         (λ _. ⊥) }
 {
     tx.execute(
-        "CREATE TABLE kept (kind INTEGER NOT NULL CHECK (kind BETWEEN 1 AND 5), inst TEXT NOT NULL, id BLOB NOT NULL, above BLOB NOT NULL, patient BLOB, day INTEGER, octets BLOB NOT NULL, PRIMARY KEY (kind, inst, id)) STRICT",
+        "CREATE TABLE kept (kind INTEGER NOT NULL CHECK (kind BETWEEN 1 AND 5), inst TEXT NOT NULL, id BLOB NOT NULL, above BLOB NOT NULL, patient BLOB, day INTEGER, octets BLOB NOT NULL, started INTEGER NOT NULL, PRIMARY KEY (kind, inst, id)) STRICT",
         &[],
     )
 }
@@ -74,7 +75,7 @@ fn make_index<S: Alter>(tx: &mut Transaction<'_, S>) -> Result<usize, Error>
     )
 }
 
-/// Says that the store is of version 1.
+/// Says that the store is of version 2.
 fn say_version<S: Alter>(tx: &mut Transaction<'_, S>) -> Result<usize, Error>
     ensures same_reference { tx.new.conn.ghost_name ≡ tx.old.conn.ghost_name }
     ensures goes_on { HasCleanDisk (state S.Store tx.new.conn.now)
@@ -87,7 +88,7 @@ fn say_version<S: Alter>(tx: &mut Transaction<'_, S>) -> Result<usize, Error>
     ensures survives { Survives (state S.Store tx.old.conn.now) (state S.Store tx.new.conn.now)
         (λ _. ⊥) }
 {
-    tx.execute("INSERT INTO version (number) VALUES (1)", &[])
+    tx.execute("INSERT INTO version (number) VALUES (2)", &[])
 }
 
 /// Makes the tables and the index, and says the version.

@@ -8,9 +8,10 @@ ghost use Rattle.sqlite.specs.State.{HasCleanDisk, Shown};
 ghost use Rattle.sqlite.specs.Held.{state};
 ghost use Rattle.dq_tables.specs.Finding.{row_at, rows_of, rows_above};
 ghost use Rattle.dq_tables.specs.Choosing.{studies_in};
-ghost use Rattle.dq_sql.specs.Tie.{Stays};
-ghost use Rattle.dq_sql.specs.Reading.{ShowsNoWrite, HoldsOf, ShowsTree, IsCount, columns, row_shown};
+ghost use Rattle.dq_sql.specs.Tie.{is_set, Stays};
+ghost use Rattle.dq_sql.specs.Reading.{ShowsNoWrite, HoldsOf, Shows, kept_shown, numbers_shown, IsCount, row_shown};
 
+use crate::version::Version;
 use dq_list::Listed;
 use dq_tables::{Choice, Kind, Row, TableFault};
 use sqlite::types::{ToSql, ValueRef};
@@ -52,7 +53,18 @@ fn octets_at(values: &sqlite::Row, at: usize) -> Result<Listed<u8>, TableFault>
     }
 }
 
-/// The row of a kind and an institution whose key, key above and octets a query shows.
+/// Whether the number in a column is not 0.
+fn is_set_at(values: &sqlite::Row, at: usize) -> Result<bool, TableFault>
+    ensures { IfOk result (λ set. set ≡ is_set (column values.now at)) }
+{
+    match values.get::<bool>(at) {
+        Ok(set) => Ok(set),
+        Err(error) => Err(fault_of(&error)),
+    }
+}
+
+/// The row of a kind and an institution whose key, key above and octets a query shows, and whether
+/// it is started.
 fn row_shown(
     alloc: Global,
     kind: Kind,
@@ -67,6 +79,7 @@ fn row_shown(
         key: octets_at(values, 0)?,
         above: octets_at(values, 1)?,
         octets: octets_at(values, 2)?,
+        started: is_set_at(values, 3)?,
     })
 }
 
@@ -118,7 +131,7 @@ pub(crate) fn row<S: Alter>(
 {
     let answer = answered(
         conn,
-        "SELECT id, above, octets FROM kept WHERE kind = ?1 AND inst = ?2 AND id = ?3",
+        "SELECT id, above, octets, started FROM kept WHERE kind = ?1 AND inst = ?2 AND id = ?3",
         &[
             u32::from(kind.number()).to_sql(),
             ValueRef::Text(institution),
@@ -142,7 +155,7 @@ pub(crate) fn rows_of<S: Alter>(
 {
     let answer = answered(
         conn,
-        "SELECT id, above, octets FROM kept WHERE kind = ?1 AND inst = ?2 ORDER BY id",
+        "SELECT id, above, octets, started FROM kept WHERE kind = ?1 AND inst = ?2 ORDER BY id",
         &[
             u32::from(kind.number()).to_sql(),
             ValueRef::Text(institution),
@@ -167,7 +180,7 @@ pub(crate) fn rows_above<S: Alter>(
 {
     let answer = answered(
         conn,
-        "SELECT id, above, octets FROM kept WHERE kind = ?1 AND inst = ?2 AND above = ?3 ORDER BY id",
+        "SELECT id, above, octets, started FROM kept WHERE kind = ?1 AND inst = ?2 AND above = ?3 ORDER BY id",
         &[
             u32::from(kind.number()).to_sql(),
             ValueRef::Text(institution),
@@ -204,7 +217,7 @@ fn studies_asked<S: Alter>(
 {
     let answer = answered(
         conn,
-        "SELECT id, above, octets FROM kept WHERE kind = ?1 AND inst = ?2 AND coalesce(?3 = patient, 1) AND coalesce(?4 <= day, 1) AND coalesce(day <= ?5, 1) ORDER BY id",
+        "SELECT id, above, octets, started FROM kept WHERE kind = ?1 AND inst = ?2 AND coalesce(?3 = patient, 1) AND coalesce(?4 <= day, 1) AND coalesce(day <= ?5, 1) ORDER BY id",
         &[
             u32::from(Kind::Study.number()).to_sql(),
             ValueRef::Text(institution),
@@ -233,7 +246,7 @@ fn studies_named<S: Alter>(
 {
     let answer = answered(
         conn,
-        "SELECT id, above, octets FROM kept WHERE kind = ?1 AND inst = ?2 AND id = ?6 AND coalesce(?3 = patient, 1) AND coalesce(?4 <= day, 1) AND coalesce(day <= ?5, 1) ORDER BY id",
+        "SELECT id, above, octets, started FROM kept WHERE kind = ?1 AND inst = ?2 AND id = ?6 AND coalesce(?3 = patient, 1) AND coalesce(?4 <= day, 1) AND coalesce(day <= ?5, 1) ORDER BY id",
         &[
             u32::from(Kind::Study.number()).to_sql(),
             ValueRef::Text(institution),
@@ -327,27 +340,38 @@ pub(crate) fn count_above<S: Alter>(
     count_shown(answer.as_slice())
 }
 
-/// The rows of the table `kept`, each with its rowid, in the order of kind, institution and id.
-#[tactic(auto, using(crate::proofs::Silent::all_silent))]
-pub(crate) fn rows_read<S: Alter>(conn: &mut Connection<S>) -> Result<Vec<sqlite::Row>, TableFault>
+/// The rows of the table `kept` of a version, each with its rowid, in the order of kind, institution
+/// and id.
+#[tactic(auto, using(crate::proofs::Silent::all_silent, crate::proofs::Silent::all_one_silent))]
+pub(crate) fn rows_read<S: Alter>(
+    conn: &mut Connection<S>,
+    version: Version,
+) -> Result<Vec<sqlite::Row>, TableFault>
     ensures found { HasCleanDisk (state S.Store conn.new) → IfOk result (λ answer.
-        ShowsTree (state S.Store conn.old) 0 columns answer.items) }
+        Shows version (state S.Store conn.old) (kept_shown version) answer.items) }
     ensures stays { Stays (state S.Store conn.old) (state S.Store conn.new) }
 {
-    answered(
-        conn,
-        "SELECT rowid, kind, inst, id, above, patient, day, octets FROM kept ORDER BY kind, inst, id",
-        &[],
-    )
+    match version {
+        Version::One => answered(
+            conn,
+            "SELECT rowid, kind, inst, id, above, patient, day, octets, 0 FROM kept ORDER BY kind, inst, id",
+            &[],
+        ),
+        Version::Two => answered(
+            conn,
+            "SELECT rowid, kind, inst, id, above, patient, day, octets, started FROM kept ORDER BY kind, inst, id",
+            &[],
+        ),
+    }
 }
 
-/// The numbers in the table `version`.
+/// The numbers in the table `version` of a store that has the tables of a version.
 #[tactic(auto, using(crate::proofs::Silent::version_silent))]
 pub(crate) fn versions_read<S: Alter>(
     conn: &mut Connection<S>,
 ) -> Result<Vec<sqlite::Row>, TableFault>
     ensures found { HasCleanDisk (state S.Store conn.new) → IfOk result (λ answer.
-        ShowsTree (state S.Store conn.old) 2 (λ r. column r 1 ∷ []) answer.items) }
+        (version : _) → Shows version (state S.Store conn.old) numbers_shown answer.items) }
     ensures stays { Stays (state S.Store conn.old) (state S.Store conn.new) }
 {
     answered(conn, "SELECT number FROM version", &[])

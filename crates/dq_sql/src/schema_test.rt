@@ -1,14 +1,15 @@
-//! Whether a store has the tables and the index of a store of rows, and nothing else.
-ghost use Rattle.std.specs.Prelude.{◌≡◌, ◌<◌, [], ◌∷◌, false, pos, None, codes, IsTrue};
+//! Of which version the tables and the index of a store are, where it has nothing else.
+ghost use Rattle.std.specs.Prelude.{◌≡◌, ◌<◌, [], ◌∷◌, false, pos, None, codes, IsTrue, IfSome};
 ghost use Rattle.sqlite_value.specs.declared.value.Value.TheVariants.{Int};
 ghost use Rattle.sqlite_value.specs.declared.keys.Collation.TheVariants.{Binary};
 ghost use Rattle.sqlite_value.specs.Keys.{plain};
 ghost use Rattle.sqlite_sql.specs.declared.ops.BinaryOp.TheVariants.{And, Compare};
 ghost use Rattle.sqlite_schema.specs.declared.code.Op.TheVariants as node;
 ghost use Rattle.sqlite_schema.specs.Code.{terms_in};
-ghost use Rattle.dq_sql.specs.Schema.{optional, kept_columns, version_columns, kind_checks, kept_table, version_table, kept_index, kept_schema};
-ghost use Rattle.dq_sql.specs.SchemaTest.{HasNoMore, HasNoRules, HasKey, BoundsKind};
+ghost use Rattle.dq_sql.specs.Schema.{optional, record_columns, further_columns, kept_columns, version_columns, kind_checks, kept_table, version_table, kept_index, schema_of};
+ghost use Rattle.dq_sql.specs.SchemaTest.{HasNoMore, HasNoRules, HasKey, BoundsKind, IsKept, HasOthers};
 
+use crate::version::Version;
 use sqlite_schema::code::{Op, Terms};
 use sqlite_schema::schema::{Column, Index, Kind, Schema, Table};
 use sqlite_sql::ops::{BinaryOp, CompareOp};
@@ -29,9 +30,9 @@ fn is_column(column: &Column, name: &[u8], kind: Kind, is_required: bool) -> boo
         && column.collation == Collation::Binary
 }
 
-/// Whether the columns are those of the table `kept`.
-fn are_kept_columns(columns: &[Column]) -> bool
-    ensures { IsTrue result → columns.now ≡ kept_columns }
+/// Whether the columns are those of a record.
+fn are_record_columns(columns: &[Column]) -> bool
+    ensures { IsTrue result → columns.now ≡ record_columns }
 {
     let [kind, inst, id, above, patient, day, octets] = columns else {
         return false;
@@ -43,6 +44,32 @@ fn are_kept_columns(columns: &[Column]) -> bool
         && is_column(patient, b"patient", Kind::Blob, false)
         && is_column(day, b"day", Kind::Integer, false)
         && is_column(octets, b"octets", Kind::Blob, true)
+}
+
+/// The version whose further columns these are.
+fn further_version(columns: &[Column]) -> Option<Version>
+    ensures { IfSome result (λ version. columns.now ≡ further_columns version) }
+{
+    match columns {
+        [] => Some(Version::One),
+        [started] if is_column(started, b"started", Kind::Integer, true) => Some(Version::Two),
+        _ => None,
+    }
+}
+
+/// The version whose table `kept` has the columns.
+fn columns_version(columns: &[Column]) -> Option<Version>
+    ensures { IfSome result (λ version. columns.now ≡ kept_columns version) }
+{
+    if columns.len() < 7 {
+        return None;
+    }
+    let (record, further) = columns.split_at(7);
+    if are_record_columns(record) {
+        further_version(further)
+    } else {
+        None
+    }
 }
 
 /// Whether the columns are those of the table `version`.
@@ -150,17 +177,27 @@ fn has_key(table: &Table) -> bool
         && order.digits == 0
 }
 
-/// Whether a table is `kept`.
-#[tactic(auto, using(crate::proofs::SchemaTest::kept_from))]
+/// Whether a table is `kept`, but for its columns.
 fn is_kept(table: &Table) -> bool
-    ensures { IsTrue result → table.now ≡ kept_table }
+    ensures { IsTrue result → IsKept table.now }
 {
     table.name.as_slice() == b"kept".as_slice()
         && table.tree == 0
-        && are_kept_columns(table.columns.as_slice())
         && has_key(table)
         && are_kind_checks(&table.checks)
         && has_no_more(table)
+}
+
+/// The version of which a table is `kept`.
+#[tactic(auto, using(crate::proofs::SchemaTest::kept_from))]
+fn kept_version(table: &Table) -> Option<Version>
+    ensures { IfSome result (λ version. table.now ≡ kept_table version) }
+{
+    if is_kept(table) {
+        columns_version(table.columns.as_slice())
+    } else {
+        None
+    }
 }
 
 /// Whether a table has neither a primary key, nor what is unique, nor tests.
@@ -199,20 +236,29 @@ fn is_index(index: &Index, name: &[u8], tree: u32, columns: &[usize], is_unique:
         && index.is_unique == is_unique
 }
 
-/// Whether a store has the tables and the index of a store of rows, and nothing else.
-#[tactic(auto, unfolding(crate::specs::Schema::kept_schema))]
-pub(crate) fn is_ours(schema: &Schema) -> bool
-    ensures { IsTrue result → schema.now ≡ kept_schema }
+/// Whether a store has the indexes of a store of rows, and no views.
+fn has_others(schema: &Schema) -> bool
+    ensures { IsTrue result → HasOthers schema.now }
 {
-    let [kept, version] = schema.tables.as_slice() else {
-        return false;
-    };
     let [key, above] = schema.indexes.as_slice() else {
         return false;
     };
-    is_kept(kept)
-        && is_version(version)
-        && is_index(key, b"sqlite_autoindex_kept_1", 1, &[1, 2, 3], true)
+    is_index(key, b"sqlite_autoindex_kept_1", 1, &[1, 2, 3], true)
         && is_index(above, b"kept_above", 3, &[1, 2, 4, 3], false)
         && schema.views.as_slice().is_empty()
+}
+
+/// The version whose tables and index a store has, where it has nothing else.
+#[tactic(auto, unfolding(crate::specs::Schema::schema_of))]
+pub(crate) fn version_shaped(schema: &Schema) -> Option<Version>
+    ensures { IfSome result (λ version. schema.now ≡ schema_of version) }
+{
+    let [kept, version] = schema.tables.as_slice() else {
+        return None;
+    };
+    if is_version(version) && has_others(schema) {
+        kept_version(kept)
+    } else {
+        None
+    }
 }

@@ -5,12 +5,13 @@ ghost use Rattle.sqlite.specs.Held.{state};
 ghost use Rattle.sqlite.specs.Values.{or_null};
 ghost use Rattle.sqlite_value.specs.declared.value.Value.TheVariants.{Int, Blob};
 ghost use Rattle.dq_sql.specs.Cells.{patient_of, day_of, columns_of};
-ghost use Rattle.dq_sql.specs.Writing.{Adds, AddsIf, Replaces, Removes, Makes};
+ghost use Rattle.dq_sql.specs.Writing.{Adds, AddsIf, Replaces, Removes, Starts, StartsEach, Makes};
 ghost use Rattle.dq_sql.specs.Writing.{GoesOn, Went, IsMade, IsUndone, Commits};
-ghost use Rattle.dq_tables.specs.declared.change.Change.TheVariants.{Stored};
+ghost use Rattle.dq_tables.specs.declared.change.Change.TheVariants.{Stored, StepAdded};
 
 use crate::cells::Cells;
 use crate::reading::fault_of;
+use dq_list::Listed;
 use dq_tables::{Change, Kind, Row, TableFault};
 use sqlite::types::{ToSql, ValueRef};
 use sqlite::{Alter, Connection, Transaction};
@@ -46,6 +47,7 @@ fn run<'a, S: Alter>(
             (&cells.patient).to_sql(),
             cells.day.to_sql(),
             row.octets.as_slice().to_sql(),
+            row.started.to_sql(),
         ],
     );
     match ran {
@@ -74,7 +76,7 @@ pub(crate) fn put<S: Alter>(
     let cells = Cells::of(alloc, row)?;
     run(
         tx,
-        "INSERT INTO kept (kind, inst, id, above, patient, day, octets) VALUES (?1, ?2, ?3, ?4, ?5, ?6, ?7)",
+        "INSERT INTO kept (kind, inst, id, above, patient, day, octets, started) VALUES (?1, ?2, ?3, ?4, ?5, ?6, ?7, ?8)",
         row,
         &cells,
     )
@@ -101,7 +103,7 @@ fn replace<S: Alter>(
     let cells = Cells::of(alloc, row)?;
     run(
         tx,
-        "UPDATE kept SET above = ?4, patient = ?5, day = ?6, octets = ?7 WHERE kind = ?1 AND inst = ?2 AND id = ?3",
+        "UPDATE kept SET above = ?4, patient = ?5, day = ?6, octets = ?7, started = ?8 WHERE kind = ?1 AND inst = ?2 AND id = ?3",
         row,
         &cells,
     )
@@ -138,6 +140,86 @@ fn remove<'a, S: Alter>(
         Ok(_) => Ok(()),
         Err(error) => Err(fault_of(&error)),
     }
+}
+
+/// Starts the entry with a key, if there is one.
+fn start<'a, S: Alter>(
+    tx: &mut Transaction<'_, S>,
+    institution: &'a [u8],
+    key: &'a [u8],
+) -> Result<(), TableFault>
+    ensures same_reference { tx.new.conn.ghost_name ≡ tx.old.conn.ghost_name }
+    ensures done { HasCleanDisk (state S.Store tx.new.conn.now)
+        → IsTrue (state S.Store tx.old.conn.now).in_transaction
+        → OnOk result (Went (state S.Store tx.old.conn.now) (state S.Store tx.new.conn.now)
+        × Starts (state S.Store tx.old.conn.now).now (state S.Store tx.new.conn.now).now
+        institution.now key.now) }
+    ensures kept { HasCleanDisk (state S.Store tx.new.conn.now)
+        → IsTrue (state S.Store tx.old.conn.now).in_transaction
+        → KeepsCommit (state S.Store tx.old.conn.now) (state S.Store tx.new.conn.now) }
+    ensures survives { Survives (state S.Store tx.old.conn.now) (state S.Store tx.new.conn.now)
+        (λ _. ⊥) }
+{
+    let ran = tx.execute(
+        "UPDATE kept SET started = 1 WHERE kind = ?1 AND inst = ?2 AND id = ?3",
+        &[
+            u32::from(Kind::Entry.number()).to_sql(),
+            ValueRef::Text(institution),
+            key.to_sql(),
+        ],
+    );
+    match ran {
+        Ok(_) => Ok(()),
+        Err(error) => Err(fault_of(&error)),
+    }
+}
+
+/// Starts the entries with some keys.
+fn start_each<S: Alter>(
+    tx: &mut Transaction<'_, S>,
+    institution: &[u8],
+    keys: &[Listed<u8>],
+) -> Result<(), TableFault>
+    ensures same_reference { tx.new.conn.ghost_name ≡ tx.old.conn.ghost_name }
+    ensures done { HasCleanDisk (state S.Store tx.new.conn.now)
+        → IsTrue (state S.Store tx.old.conn.now).in_transaction
+        → IsTrue (state S.Store tx.old.conn.now).is_open
+        → OnOk result (Went (state S.Store tx.old.conn.now) (state S.Store tx.new.conn.now)
+        × StartsEach (state S.Store tx.old.conn.now).now (state S.Store tx.new.conn.now).now
+        institution.now keys.now) }
+    ensures kept { HasCleanDisk (state S.Store tx.new.conn.now)
+        → IsTrue (state S.Store tx.old.conn.now).in_transaction
+        → KeepsCommit (state S.Store tx.old.conn.now) (state S.Store tx.new.conn.now) }
+    ensures survives { Survives (state S.Store tx.old.conn.now) (state S.Store tx.new.conn.now)
+        (λ _. ⊥) }
+{
+    for key in keys {
+        start(tx, institution, key.as_slice())?;
+    }
+    Ok(())
+}
+
+/// Adds a step, and starts entries of its institution.
+fn put_step<S: Alter>(
+    tx: &mut Transaction<'_, S>,
+    alloc: Global,
+    step: &Row,
+    keys: &[Listed<u8>],
+) -> Result<(), TableFault>
+    ensures same_reference { tx.new.conn.ghost_name ≡ tx.old.conn.ghost_name }
+    ensures done { HasCleanDisk (state S.Store tx.new.conn.now)
+        → IsTrue (state S.Store tx.old.conn.now).in_transaction
+        → OnOk result (Went (state S.Store tx.old.conn.now) (state S.Store tx.new.conn.now)
+        × Makes (state S.Store tx.old.conn.now).now (state S.Store tx.new.conn.now).now
+        (StepAdded step.now keys.now)) }
+    ensures kept { HasCleanDisk (state S.Store tx.new.conn.now)
+        → IsTrue (state S.Store tx.old.conn.now).in_transaction
+        → KeepsCommit (state S.Store tx.old.conn.now) (state S.Store tx.new.conn.now) }
+    ensures survives { Survives (state S.Store tx.old.conn.now) (state S.Store tx.new.conn.now)
+        (λ _. ⊥) }
+{
+    put(tx, alloc, step)?;
+    start_each(tx, step.inst.as_slice(), keys)
 }
 
 /// Adds a row, if there is one.
@@ -217,7 +299,7 @@ fn make<S: Alter>(
         Change::EntryRemoved { inst, key } => {
             remove(tx, Kind::Entry, inst.as_slice(), key.as_slice())
         }
-        Change::StepAdded(row) => put(tx, alloc, row),
+        Change::StepAdded(row, keys) => put_step(tx, alloc, row, keys.as_slice()),
         Change::StepChanged(row) => replace(tx, alloc, row),
     }
 }
