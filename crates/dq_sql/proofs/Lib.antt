@@ -19,6 +19,7 @@ mod Selected
 mod Selecting
 mod Silent
 pub mod Statements
+mod Started
 mod Staying
 mod Texts
 mod Walks
