@@ -19,9 +19,9 @@ use Rattle.dq_tables.specs.declared.row.Kind.TheVariants.{Study, Series, Image, 
 use Rattle.dq_tables.specs.declared.row.Row.{Row}
 use Rattle.dq_tables.specs.Rows.{number_of, after_edit, Put, record_of, row_place_of, rows_elsewhere}
 use Rattle.dq_tables.proofs.Lens.{rising_edit}
-use Rattle.dq_sql.specs.Tie.{kind_in, kept_of, Holds, IsKept, same_id, HasRows}
+use Rattle.dq_sql.specs.Tie.{kind_in, is_set, kept_of, Holds, IsKept, same_id, HasRows}
 use Rattle.dq_sql.specs.Schema.{kept_schema}
-use Rattle.dq_sql.specs.Cells.{columns_of}
+use Rattle.dq_sql.specs.Cells.{flag, columns_of}
 use Rattle.dq_sql.specs.Writing.{Adds}
 use Rattle.dq_tables.proofs.Members.{put_has, free_is}
 use Rattle.dq_sql.proofs.Inserted.{numbered_cells, Inserted}
@@ -80,12 +80,16 @@ kind_is Image = refl
 kind_is Entry = refl
 kind_is Step = refl
 
+pub set_is : (started : Bool) → is_set (flag started) ≡ started
+set_is true = refl
+set_is false = refl
+
 module _ (row : Row) (id : ℤ) where
   pub columns_kept : kept_of (Int id ∷ columns_of row) ≡ row
-  columns_kept = ap (λ (k : Kind). let r : Row = record row { kind = k } in r) (kind_is row.kind)
+  columns_kept = λ i. let r : Row = record row { kind = kind_is row.kind i; started = set_is row.started i } in r
 
   columns_hold : Holds row (Int id ∷ columns_of row)
-  columns_hold = record { kind = refl; inst = refl; key = refl; above = refl; patient = refl; day = refl; octets = refl }
+  columns_hold = record { kind = refl; inst = refl; key = refl; above = refl; patient = refl; day = refl; octets = refl; started = refl }
 
   -- A row is put among those that hold the rows at other places.
   pub placed : (d e : Database) (old : List Values) (rows : List Row) → HasRows d rows
@@ -99,16 +103,17 @@ module _ (row : Row) (id : ℤ) where
       let held : IsPermutation (map kept_of (put_row new old)) (row ∷ map kept_of old) =
       subst (λ (x : Row). IsPermutation (map kept_of (put_row new old)) (x ∷ map kept_of old)) columns_kept (IsPermutation-map kept_of _ _ (put_is new old fresh)) in
       record {
-        schema = schema;
-        version = rw version has.version;
-        apart = rw is (apart_put new old (untaken new old fresh) apart);
-        ids = rw is (all-put_row (λ r. IsTrue (is_int (rowid r))) new old refl ids);
-        kept = rw is (all-put_row IsKept new old is_kept kept);
-        same = rw is (IsPermutation-trans _ _ _ held (IsPermutation-trans _ _ _ (IsPermutation-cons row _ _ same) (put_has row rows has.rising)));
-        rising = rising_edit row.inst (Put (record_of row)) rows has.rising;
+        version_is = record { schema = schema; says = rw version has.version_is.says };
+        table = record {
+          apart = rw is (apart_put new old (untaken new old fresh) apart);
+          ids = rw is (all-put_row (λ r. IsTrue (is_int (rowid r))) new old refl ids);
+          kept = rw is (all-put_row IsKept new old is_kept kept);
+          same = rw is (IsPermutation-trans _ _ _ held (IsPermutation-trans _ _ _ (IsPermutation-cons row _ _ same) (put_has row rows has.table.rising)));
+          rising = rising_edit row.inst (Put (record_of row)) rows has.table.rising;
+        };
       }
 
 pub added : (d e : Database) (row : Row) → Inserted d e (numbered_cells d row) → Adds d e row
 added d e row it rows has free =
-    placed row (next_rowid (d.trees 0)) d e (d.trees 0) rows has it.schema it.version it.rows it.fresh has.apart has.ids has.kept
-    (subst (IsPermutation (map kept_of (d.trees 0))) (sym (free_is row.kind row.inst row.key rows free)) has.same)
+    placed row (next_rowid (d.trees 0)) d e (d.trees 0) rows has it.schema it.version it.rows it.fresh has.table.apart has.table.ids has.table.kept
+    (subst (IsPermutation (map kept_of (d.trees 0))) (sym (free_is row.kind row.inst row.key rows free)) has.table.same)

@@ -6,6 +6,7 @@ use Rattle.sqlite.specs.Effect.{Database}
 use Rattle.sqlite.specs.State.{State, HasCleanDisk}
 use Rattle.dq_tables.specs.declared.row.Row.{Row}
 use Rattle.dq_sql.specs.declared.fault.StoreFault.{StoreFault}
+use Rattle.dq_sql.specs.declared.version.Version.TheVariants.{Two}
 use Rattle.dq_sql.specs.Tie.{HasRows, Stays}
 use Rattle.dq_sql.specs.Keeping.{under_schema, MayLeave, Keeps}
 use Rattle.dq_sql.specs.Kept.{one_list}
@@ -15,13 +16,8 @@ use Rattle.dq_sql.specs.Adopting.{IsFound}
 under : (d : Database) (trees : Trees) (rows : List Row) → HasRows d rows → trees ≡ d.trees → HasRows (under_schema trees) rows
 under d trees rows has same =
     subst (λ t. HasRows (under_schema t) rows) (sym same) (record {
-      schema = refl;
-      version = has.version;
-      apart = has.apart;
-      ids = has.ids;
-      kept = has.kept;
-      same = has.same;
-      rising = has.rising;
+      version_is = record { schema = refl; says = has.version_is.says };
+      table = has.table;
     })
 
 -- while a store is open, a crash leaves what it committed
@@ -33,14 +29,14 @@ left_has : (s : State) (rows : List Row) → LeavesCommit s → IsTrue s.is_open
 left_has s rows law live has same trees left =
     under s.now trees rows has (law trees live left ∙ ap (λ (d : Database). d.trees) (sym same))
 
-found_left : (a b : State) (rows : List Row) → LeavesCommit a → IsFound a rows → Stays a b → HasCleanDisk b → (trees : Trees) → b.may_leave trees
+found_left : (a b : State) (rows : List Row) → LeavesCommit a → IsFound Two a rows → Stays a b → HasCleanDisk b → (trees : Trees) → b.may_leave trees
     → HasRows (under_schema trees) rows
 found_left a b rows law found stays clean trees left = elim (stays.survives.crash clean trees left) [
   | inl before ↦ left_has a rows law found.is_open found.has (found.rest.settled found.is_open) trees before
   | inr none ↦ absurd none
 ]
 
-pub found_keeps : (a b : State) (rows : List Row) → LeavesCommit a → IsFound a rows → Stays a b → HasCleanDisk b → Keeps b rows
+pub found_keeps : (a b : State) (rows : List Row) → LeavesCommit a → IsFound Two a rows → Stays a b → HasCleanDisk b → Keeps b rows
 found_keeps a b rows law found stays clean = record {
   sound = found.sound;
   has = λ live. subst (λ (d : Database). HasRows d rows) (sym (stays.same clean live found.rest).now) found.has;
@@ -49,7 +45,7 @@ found_keeps a b rows law found stays clean = record {
   left = λ trees left. record { rows = rows; has = found_left a b rows law found stays clean trees left; sound = found.sound };
 }
 
-pub found_settled : (a b : State) (rows : List Row) → LeavesCommit a → IsFound a rows → Stays a b → HasCleanDisk b → (r : List Row) → MayLeave b r → r ≡ rows
+pub found_settled : (a b : State) (rows : List Row) → LeavesCommit a → IsFound Two a rows → Stays a b → HasCleanDisk b → (r : List Row) → MayLeave b r → r ≡ rows
 found_settled a b rows law found stays clean r left =
     one_list (under_schema left.trees) r rows left.has (found_left a b rows law found stays clean left.trees left.left)
 

@@ -74,5 +74,5 @@ size_kept tests params keeps finds (r ∷ rest) h =
 pub size_found : (tests : List Term) (params : Values) (keeps : Row → Bool) → ((r : Values) → IsKept r → passes tests params r ≡ keeps (kept_of r))
     → (d : Database) (rows : List Row) → HasRows d rows → length (chosen 0 tests d.trees params) ≡ length (filter keeps rows)
 size_found tests params keeps finds d rows has =
-    size_kept tests params keeps finds (d.trees 0) has.kept
-    ∙ sym (length_permutation _ _ (IsPermutation-filter keeps _ _ has.same))
+    size_kept tests params keeps finds (d.trees 0) has.table.kept
+    ∙ sym (length_permutation _ _ (IsPermutation-filter keeps _ _ has.table.same))

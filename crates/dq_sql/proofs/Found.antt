@@ -20,7 +20,7 @@ use Rattle.dq_tables.specs.declared.row.Kind.{Kind}
 use Rattle.dq_tables.specs.declared.row.Row.{Row}
 use Rattle.dq_tables.specs.Rows.{row_place_of, row_place_order, octet_order, number_of}
 use Rattle.dq_tables.proofs.Order.{each_filtered, IsRising-filter}
-use Rattle.dq_sql.specs.Tie.{kept_of, IsKept, HasRows}
+use Rattle.dq_sql.specs.Tie.{is_set, kept_of, IsKept, HasRows}
 use Rattle.dq_sql.specs.Reading.{row_shown}
 use Rattle.dq_tables.proofs.OneOrder.{NeverFalls, in_order}
 use Rattle.dq_sql.proofs.Queries.{selecting, shown_columns, by_id}
@@ -54,7 +54,7 @@ module _ (tests : List Term) (params : Values) (kind : Kind) (inst : List ℕ) (
   back_is : (r : Values) → keeps (kept_of r) ≡ true → back r ≡ kept_of r
   back_is r e =
       let whose = own (kept_of r) e in
-      ap₂ (λ k i. record { kind = k; inst = i; key = bytes (column r 3); above = bytes (column r 4); octets = bytes (column r 7) }) (sym whose.0) (sym whose.1)
+      ap₂ (λ k i. record { kind = k; inst = i; key = bytes (column r 3); above = bytes (column r 4); octets = bytes (column r 7); started = is_set (column r 8) }) (sym whose.0) (sym whose.1)
 
   back_step : (r : Values) (rest : List Values) (b : Bool) → keeps (kept_of r) ≡ b
       → map back (filter (passes tests params) rest) ≡ filter keeps (map kept_of rest)
@@ -72,9 +72,9 @@ module _ (tests : List Term) (params : Values) (kind : Kind) (inst : List ℕ) (
       → IsPermutation (filter keeps rows) (map (row_shown kind inst) answer)
   found_rows order d rows answer has s =
       let shown = IsPermutation-map (row_shown kind inst) _ _ (selection_rows 0 tests shown_columns order d.trees params answer s) in
-      let here = map_map (λ r. eval_all shown_columns (with_row params r)) (row_shown kind inst) (chosen 0 tests d.trees params) ∙ all_back (d.trees 0) has.kept in
+      let here = map_map (λ r. eval_all shown_columns (with_row params r)) (row_shown kind inst) (chosen 0 tests d.trees params) ∙ all_back (d.trees 0) has.table.kept in
       IsPermutation-trans (filter keeps rows) (filter keeps (map kept_of (d.trees 0))) _
-      (IsPermutation-sym _ _ (IsPermutation-filter keeps _ _ has.same))
+      (IsPermutation-sym _ _ (IsPermutation-filter keeps _ _ has.table.same))
       (subst (λ l. IsPermutation l (map (row_shown kind inst) answer)) here shown)
 
   all_keyed : (tree : List Values) → AllByRecursion IsKept tree → AllByRecursion IsKeyed (map (λ r. output (selecting 0 tests None shown_columns by_id) (with_row params r)) tree)
@@ -103,8 +103,8 @@ module _ (tests : List Term) (params : Values) (kind : Kind) (inst : List ℕ) (
       → map (row_shown kind inst) answer ≡ filter keeps rows
   listed_rows d rows answer has s =
       let keyed = recursion_from_All IsKeyed s.ordered (All-permutation IsKeyed _ s.ordered s.same
-      (All-from_recursion IsKeyed _ (all_keyed (chosen 0 tests d.trees params) (each_filtered IsKept (passes tests params) (d.trees 0) has.kept)))) in
+      (All-from_recursion IsKeyed _ (all_keyed (chosen 0 tests d.trees params) (each_filtered IsKept (passes tests params) (d.trees 0) has.table.kept)))) in
       let same : map (row_shown kind inst) answer ≡ map (λ (o : Output). row_shown kind inst o.1) s.ordered =
       ap (map (row_shown kind inst)) s.is ∙ map_map (λ (o : Output). o.1) (row_shown kind inst) s.ordered in
-      in_order (filter keeps rows) (map (row_shown kind inst) answer) (IsRising-filter keeps rows has.rising) (found_rows by_id d rows answer has s)
+      in_order (filter keeps rows) (map (row_shown kind inst) answer) (IsRising-filter keeps rows has.table.rising) (found_rows by_id d rows answer has s)
       (subst NeverFalls (sym same) (falls_never s.ordered keyed s.sorted))

@@ -19,7 +19,8 @@ use Rattle.sqlite.specs.Listing.{understood}
 use Rattle.sqlite.specs.State.{State, mode_of, Executes}
 use Rattle.sqlite.proofs.Callers.{statement_of, runs_as, one_step}
 use Rattle.dq_tables.specs.declared.row.Row.{Row}
-use Rattle.dq_sql.specs.Schema.{kept_schema, kept_table}
+use Rattle.dq_sql.specs.declared.version.Version.TheVariants.{Two}
+use Rattle.dq_sql.specs.Schema.{schema_of, kept_schema, kept_table}
 use Rattle.sqlite.specs.Values.{or_null}
 use Rattle.dq_sql.specs.Cells.{day_of, columns_of}
 use Rattle.dq_sql.proofs.Statements.{insert_text, terms, insert_is, insert_plain}
@@ -68,11 +69,11 @@ day_cast row = cast-day _
 
 pub inserted : (old new : State) (row : Row) (count : ℕ) → old.now.schema ≡ kept_schema → Executes insert_text (columns_of row) old new (Ok count)
     → Inserted old.now new.now (numbered_cells old.now row)
-unfolding kept_schema
+unfolding schema_of
 inserted old new row count has h =
     let params = columns_of row in
     let db = old.now.trees in
-    let command = Insert 0 (Listed terms 8) in
+    let command = Insert 0 (Listed terms 9) in
     let w = runs_as insert_text params old new kept_schema has command insert_is insert_plain count h in
     let text = statement_of insert_text (understood kept_schema insert_text) in
     let done = went (subst (λ s. Does old.step_limit (mode_of old) params (record old.now { schema = s }) text None command (Ok (w.tally, new.now))) has w.changed) in
@@ -81,12 +82,12 @@ inserted old new row count has h =
     let written = went (went given.2).2 in
     let counted = went written.2 in
     let trees : done.0.trees ≡ written.0 = ap (λ (it : Written). it.trees) (same_value counted.2) ∙ same_value counted.1 in
-    let made : Edit = edit_of db kept_table [] Chosen 0 given.0 in
+    let made : Edit = edit_of db (kept_table Two) [] Chosen 0 given.0 in
     let applied = one_step kept_schema _ db written.0 made refl written.1 in
     let put = numbered_cells old.now row in
-    let wanted : Edit = record { table = kept_table; gone = []; news = put ∷ [] } in
+    let wanted : Edit = record { table = (kept_table Two); gone = []; news = put ∷ [] } in
     let news : made ≡ wanted =
-    ap (λ all. edit_of db kept_table [] Chosen 0 all) given.1.1 ∙ rw (cast-Null, cast-Int, day_cast row) refl in
+    ap (λ all. edit_of db (kept_table Two) [] Chosen 0 all) given.1.1 ∙ rw (cast-Null, cast-Int, cast-Int, day_cast row) refl in
     let applied = subst (λ edit. Applies kept_schema Enforced db edit written.0) news (one_step kept_schema Enforced db written.0 made refl written.1) in
     record {
       schema = ap (λ (d : Database). d.schema) now;

@@ -5,10 +5,10 @@ use Rattle.dq_tables.specs.declared.row.Row.{Row}
 use Rattle.dq_tables.specs.Sound.{is_own}
 use Rattle.dq_sql.specs.Tie.{kept_of, Holds}
 use Rattle.dq_sql.specs.Adopting.{HoldsRecord, HasCells, IsGood}
-use Rattle.dq_sql.proofs.Added.{kind_is}
+use Rattle.dq_sql.proofs.Added.{kind_is, set_is}
 
 pub record_kept : (row : Row) (r : Values) → HoldsRecord row r → kept_of r ≡ row
-record_kept row r h = rw (h.kind, h.inst, h.key, h.above, h.octets, kind_is row.kind) refl
+record_kept row r h = rw (h.kind, h.inst, h.key, h.above, h.octets, h.started, kind_is row.kind, set_is row.started) refl
 
 holds_from : (row : Row) (r : Values) → HoldsRecord row r → HasCells row r → Holds row r
 holds_from row r h c = record {
@@ -19,6 +19,7 @@ holds_from row r h c = record {
   patient = c.patient;
   day = c.day;
   octets = h.octets;
+  started = h.started;
 }
 
 pub good_from : (row : Row) (r : Values) → HoldsRecord row r → HasCells row r → is_own row ≡ true → IsGood r
@@ -32,7 +33,7 @@ good_from row r h c own =
 pub none_good : (r : Values) → ((row : Row) → ¬ HoldsRecord row r) → ¬ IsGood r
 none_good r none good =
     let h = good.kept in
-    none (kept_of r) (record { kind = h.kind; inst = h.inst; key = h.key; above = h.above; octets = h.octets })
+    none (kept_of r) (record { kind = h.kind; inst = h.inst; key = h.key; above = h.above; octets = h.octets; started = h.started })
 
 pub cells_of_good : (row : Row) (r : Values) → HoldsRecord row r → IsGood r → HasCells row r
 cells_of_good row r h good =

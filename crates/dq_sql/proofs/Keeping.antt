@@ -51,7 +51,7 @@ found_in set s rows f x kept clean h = ∥∥₁_elim kept (set x (f rows)) (λ 
 
 -- trees have the rows that they have under the schema
 under : (d : Database) (rows : List Row) → HasRows d rows → HasRows (under_schema d.trees) rows
-under d rows has = subst (λ s. let x : Database = record { schema = s; trees = d.trees } in HasRows x rows) has.schema has
+under d rows has = subst (λ s. let x : Database = record { schema = s; trees = d.trees } in HasRows x rows) has.version_is.schema has
 
 module _ (old new : Connected) (rows : List Row) where
   -- a call that reads

@@ -11,7 +11,7 @@ use Rattle.dq_tables.specs.Finding.{row_at}
 use Rattle.dq_tables.specs.Sound.{IsNew, IsNewIf}
 use Rattle.dq_tables.proofs.Soundness.{stored_is}
 use Rattle.dq_sql.specs.Tie.{HasRows}
-use Rattle.dq_sql.specs.Writing.{Adds, AddsIf, Replaces, Removes, Makes}
+use Rattle.dq_sql.specs.Writing.{Adds, AddsIf, Replaces, Removes, StartsEach, Makes}
 
 pub free_place : (rows : List Row) (kind : Kind) (row : Row) → IsNew rows kind row → row_at row.kind row.inst row.key rows ≡ None
 free_place rows kind row new = subst (λ (k : Kind). row_at k row.inst row.key rows ≡ None) (sym new.kind_is) new.free
@@ -35,8 +35,9 @@ module _ (d : Database) where
   pub entry_made : (e : Database) (row : Row) → Adds d e row → Makes d e (EntryAdded row)
   entry_made e row adds rows has fits = adds rows has (free_place rows Entry row fits)
 
-  pub step_made : (e : Database) (row : Row) → Adds d e row → Makes d e (StepAdded row)
-  step_made e row adds rows has fits = adds rows has (free_place rows Step row fits)
+  pub step_made : (e f : Database) (row : Row) (keys : List (List ℕ)) → Adds d e row → StartsEach e f row.inst keys → Makes d f (StepAdded row keys)
+  step_made e f row keys adds starts rows has fits =
+      starts (after_edit row.inst (Put (record_of row)) rows) (adds rows has (free_place rows Step row fits.step_new))
 
   pub step_changed : (e : Database) (row : Row) → Replaces d e row → Makes d e (StepChanged row)
   step_changed e row replaces rows has fits =

@@ -41,21 +41,24 @@ use Rattle.dq_tables.proofs.Listing.{one_kind}
 use Rattle.dq_tables.proofs.Keyed.{both_tests}
 use Rattle.dq_tables.proofs.Order.{rows_total, each_passed, filter_all, IsRising-filter}
 use Rattle.dq_sql.specs.Cells as cells
-use Rattle.dq_sql.specs.Schema.{kept_schema}
-use Rattle.dq_sql.specs.Tie.{kept_of, IsKept}
-use Rattle.dq_sql.specs.Reading.{ShowsNoWrite, HoldsOf, ShowsTree, IsCount, columns, row_shown}
+use Rattle.dq_sql.specs.declared.version.Version.{Version}
+use Rattle.dq_sql.specs.declared.version.Version.TheVariants.{One, Two}
+use Rattle.dq_sql.specs.Schema.{schema_of}
+use Rattle.dq_sql.specs.Tie.{kept_of, IsKept, unstarted}
+use Rattle.dq_sql.specs.Reading.{ShowsNoWrite, HoldsOf, Shows, kept_shown, numbers_shown, IsCount, columns, row_shown}
 use Rattle.dq_sql.proofs.Queries.{Means, selecting, of_tests, at_tests, above_tests, chosen_tests, named_tests, shown_columns, by_id, row_text, of_text, above_text, chosen_text, named_text, row_means, of_means, above_means, chosen_means, named_means, count_text, count_above_text, count_means, count_above_means, all_text, all_columns, by_place, all_means, version_text, version_means}
 use Rattle.dq_sql.proofs.Selecting.{with_row, passes, chosen, selection, selection_rows}
 use Rattle.dq_sql.proofs.Found.{found_rows, listed_rows}
 use Rattle.dq_sql.proofs.Counting.{count_answer, size_found}
+use Rattle.dq_sql.proofs.Selected.{first_kept}
 use Rattle.dq_sql.proofs.Placed.{equals, equals-Int, equals-Text, equals-Blob}
 use Rattle.dq_sql.proofs.Silent.{row_silent, of_silent, above_silent, chosen_silent, named_silent, count_silent, count_above_silent, all_silent, version_silent}
 use Rattle.dq_sql.proofs.Staying.{shown_unchanged}
 
-pub answer_of : (text : List ℕ) (q : Query) → Means text q → (params : Values) (old new : State) → old.now.schema ≡ kept_schema → (answer : List Values)
-    → Shown text params old new answer → IsAnswer q (overlay old.now.trees []) params answer
-answer_of text q m params old new has answer h =
-    (reads_as text params old new kept_schema has (Select (record { lets = []; body = q }) m.names) m.is m.plain m.unlisted answer h).answer Null
+pub answer_of : (version : Version) (text : List ℕ) (q : Query) → Means version text q → (params : Values) (old new : State) → old.now.schema ≡ schema_of version
+    → (answer : List Values) → Shown text params old new answer → IsAnswer q (overlay old.now.trees []) params answer
+answer_of version text q m params old new has answer h =
+    (reads_as text params old new (schema_of version) has (Select (record { lets = []; body = q }) m.names) m.is m.plain m.unlisted answer h).answer Null
 
 -- ---- what WHERE tests
 
@@ -230,13 +233,6 @@ and_own kind inst test row h = of_own kind inst row (and_parts (is_of kind inst 
 
 -- ---- the row at a place
 
-first_kept : {X : Type 0} (p : X → Bool) (xs : List X) → find p xs ≡ slice_get (filter p xs) 0
-first_kept p [] = refl
-first_kept p (x ∷ xs) = elim (p x) as (λ b. (if b then Some x else find p xs) ≡ slice_get (if b then x ∷ filter p xs else filter p xs) 0) [
-  | true ↦ refl
-  | false ↦ first_kept p xs
-]
-
 -- rows at one place, in order, are at most one
 only_first : (p : RowPlace) (rows found : List Row) → IsRising rows → AllByRecursion (λ (row : Row). row_place_of row ≡ p) rows
     → IsPermutation rows found → slice_get found 0 ≡ slice_get rows 0
@@ -267,10 +263,10 @@ module _ (old new : State) (kind : Kind) (inst : List ℕ) (answer : List Values
     is_open = (shown_unchanged row_text (of_params kind inst (Blob key ∷ [])) old new row_silent answer h).0.was_open;
     of_rows = λ rows has.
         let params = of_params kind inst (Blob key ∷ []) in
-        let s = selection 0 at_tests shown_columns [] old.now.trees params answer refl (answer_of row_text _ row_means params old new has.schema answer h) in
+        let s = selection 0 at_tests shown_columns [] old.now.trees params answer refl (answer_of Two row_text _ row_means params old new has.version_is.schema answer h) in
         let keeps = keeps_at kind inst key in
         let found = found_rows at_tests params kind inst keeps (at_finds kind inst key) (and_own kind inst (λ row. bytes_eq row.key key)) [] old.now rows answer has s in
-        only_first (place kind inst key) (filter keeps rows) _ (IsRising-filter keeps rows has.rising) (each_passed _ keeps (at_place kind inst key) rows) found
+        only_first (place kind inst key) (filter keeps rows) _ (IsRising-filter keeps rows has.table.rising) (each_passed _ keeps (at_place kind inst key) rows) found
         ∙ sym (first_kept keeps rows);
   }
 
@@ -281,7 +277,7 @@ module _ (old new : State) (kind : Kind) (inst : List ℕ) (answer : List Values
     is_open = (shown_unchanged of_text (of_params kind inst []) old new of_silent answer h).0.was_open;
     of_rows = λ rows has.
         let params = of_params kind inst [] in
-        let s = selection 0 of_tests shown_columns by_id old.now.trees params answer refl (answer_of of_text _ of_means params old new has.schema answer h) in
+        let s = selection 0 of_tests shown_columns by_id old.now.trees params answer refl (answer_of Two of_text _ of_means params old new has.version_is.schema answer h) in
         listed_rows of_tests params kind inst (is_of kind inst) (of_finds kind inst) (of_own kind inst) old.now rows answer has s;
   }
 
@@ -293,7 +289,7 @@ module _ (old new : State) (kind : Kind) (inst : List ℕ) (answer : List Values
     of_rows = λ rows has.
         let params = of_params kind inst (Blob above ∷ []) in
         let under : Row → Bool = λ row. bytes_eq row.above above in
-        let s = selection 0 above_tests shown_columns by_id old.now.trees params answer refl (answer_of above_text _ above_means params old new has.schema answer h) in
+        let s = selection 0 above_tests shown_columns by_id old.now.trees params answer refl (answer_of Two above_text _ above_means params old new has.version_is.schema answer h) in
         listed_rows above_tests params kind inst (λ row. is_of kind inst row && under row) (above_finds kind inst above) (and_own kind inst under) old.now rows answer has s
         ∙ sym (both_tests (is_of kind inst) under rows);
   }
@@ -306,7 +302,7 @@ module _ (old new : State) (choice : Choice) (inst : List ℕ) (answer : List Va
     is_open = (shown_unchanged chosen_text (chosen_params choice inst []) old new chosen_silent answer h).0.was_open;
     of_rows = λ rows has.
         let params = chosen_params choice inst [] in
-        let s = selection 0 chosen_tests shown_columns by_id old.now.trees params answer refl (answer_of chosen_text _ chosen_means params old new has.schema answer h) in
+        let s = selection 0 chosen_tests shown_columns by_id old.now.trees params answer refl (answer_of Two chosen_text _ chosen_means params old new has.version_is.schema answer h) in
         listed_rows chosen_tests params Study inst (λ row. is_of Study inst row && takes choice row) (λ r kept. chosen_finds choice inst r kept none)
         (and_own Study inst (takes choice)) old.now rows answer has s
         ∙ sym (both_tests (is_of Study inst) (takes choice) rows);
@@ -319,7 +315,7 @@ module _ (old new : State) (choice : Choice) (inst : List ℕ) (answer : List Va
     is_open = (shown_unchanged named_text (chosen_params choice inst (Blob uid ∷ [])) old new named_silent answer h).0.was_open;
     of_rows = λ rows has.
         let params = chosen_params choice inst (Blob uid ∷ []) in
-        let s = selection 0 named_tests shown_columns by_id old.now.trees params answer refl (answer_of named_text _ named_means params old new has.schema answer h) in
+        let s = selection 0 named_tests shown_columns by_id old.now.trees params answer refl (answer_of Two named_text _ named_means params old new has.version_is.schema answer h) in
         listed_rows named_tests params Study inst (λ row. is_of Study inst row && takes choice row) (λ r kept. named_finds choice inst r kept uid some)
         (and_own Study inst (takes choice)) old.now rows answer has s
         ∙ sym (both_tests (is_of Study inst) (takes choice) rows);
@@ -339,7 +335,7 @@ module _ (old new : State) (kind : Kind) (inst : List ℕ) (answer : List Values
     is_open = (shown_unchanged count_text (of_params kind inst []) old new count_silent answer h).0.was_open;
     of_rows = λ rows has.
         let params = of_params kind inst [] in
-        let one = count_answer of_tests old.now.trees params answer (answer_of count_text _ count_means params old new has.schema answer h) in
+        let one = count_answer of_tests old.now.trees params answer (answer_of Two count_text _ count_means params old new has.version_is.schema answer h) in
         count_is (length (chosen 0 of_tests old.now.trees params)) number answer one shown
         ∙ size_found of_tests params (is_of kind inst) (of_finds kind inst) old.now rows has;
   }
@@ -352,7 +348,7 @@ module _ (old new : State) (kind : Kind) (inst : List ℕ) (answer : List Values
     of_rows = λ rows has.
         let params = of_params kind inst (Blob above ∷ []) in
         let under : Row → Bool = λ row. bytes_eq row.above above in
-        let one = count_answer above_tests old.now.trees params answer (answer_of count_above_text _ count_above_means params old new has.schema answer h) in
+        let one = count_answer above_tests old.now.trees params answer (answer_of Two count_above_text _ count_above_means params old new has.version_is.schema answer h) in
         count_is (length (chosen 0 above_tests old.now.trees params)) number answer one shown
         ∙ size_found above_tests params (λ row. is_of kind inst row && under row) (above_finds kind inst above) old.now rows has
         ∙ ap length (sym (both_tests (is_of kind inst) under rows));
@@ -367,19 +363,27 @@ each_passes : (params : Values) (tree : List Values) → AllByRecursion (λ r. p
 each_passes params [] = tt
 each_passes params (r ∷ rest) = (refl, each_passes params rest)
 
-shows_tree : (text : List ℕ) (tree : ℕ) (shown : List Term) (order : List (Term × Key)) → Means text (selecting tree [] None shown order) → ShowsNoWrite text
-    → (old new : State) → overlay old.now.trees [] tree ≡ old.now.trees tree → (answer : List Values) → Shown text [] old new answer
-    → ShowsTree old tree (λ r. eval_all shown (with_row [] r)) answer
-shows_tree text tree shown order means silent old new at answer h = record {
+shows_tree : (version : Version) (text : List ℕ) (tree : ℕ) (shown : List Term) (order : List (Term × Key)) → Means version text (selecting tree [] None shown order)
+    → ShowsNoWrite text → (old new : State) → overlay old.now.trees [] tree ≡ old.now.trees tree → (answer : List Values) → Shown text [] old new answer
+    → Shows version old (λ d. map (λ r. eval_all shown (with_row [] r)) (d.trees tree)) answer
+shows_tree version text tree shown order means silent old new at answer h = record {
   is_open = (shown_unchanged text [] old new silent answer h).0.was_open;
   rows = λ has.
-      let s = selection tree [] shown order old.now.trees [] answer at (answer_of text _ means [] old new has answer h) in
+      let s = selection tree [] shown order old.now.trees [] answer at (answer_of version text _ means [] old new has answer h) in
       subst (λ l. IsPermutation (map (λ r. eval_all shown (with_row [] r)) l) answer) (filter_all (passes [] []) (old.now.trees tree) (each_passes [] (old.now.trees tree)))
       (selection_rows tree [] shown order old.now.trees [] answer s);
 }
 
-pub shows_rows : (old new : State) (answer : List Values) → Shown all_text [] old new answer → ShowsTree old 0 columns answer
-shows_rows old new = shows_tree all_text 0 all_columns by_place all_means all_silent old new refl
+unstarted_shown : (tree : List Values) → map unstarted tree ≡ map columns (map unstarted tree)
+unstarted_shown [] = refl
+unstarted_shown (r ∷ tree) = ap (λ l. unstarted r ∷ l) (unstarted_shown tree)
 
-pub shows_versions : (old new : State) (answer : List Values) → Shown version_text [] old new answer → ShowsTree old 2 (λ r. column r 1 ∷ []) answer
-shows_versions old new = shows_tree version_text 2 (col 1 1 ∷ []) [] version_means version_silent old new refl
+pub shows_rows : (version : Version) (old new : State) (answer : List Values) → Shown (all_text version) [] old new answer → Shows version old (kept_shown version) answer
+shows_rows One old new answer h =
+    let it = shows_tree One (all_text One) 0 (all_columns One) by_place (all_means One) (all_silent One) old new refl answer h in
+    record { is_open = it.is_open; rows = λ has. subst (λ l. IsPermutation l answer) (unstarted_shown (old.now.trees 0)) (it.rows has) }
+shows_rows Two old new answer h = shows_tree Two (all_text Two) 0 (all_columns Two) by_place (all_means Two) (all_silent Two) old new refl answer h
+
+pub shows_versions : (old new : State) (answer : List Values) → Shown version_text [] old new answer → (version : Version) → Shows version old numbers_shown answer
+shows_versions old new answer h version =
+    shows_tree version version_text 2 (col 1 1 ∷ []) [] (version_means version) version_silent old new refl answer h

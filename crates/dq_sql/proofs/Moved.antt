@@ -11,29 +11,33 @@ use Rattle.sqlite_value.specs.declared.value.Value.TheVariants.{Int, Text, Blob}
 use Rattle.sqlite_value.specs.Order.{Row as Values, column}
 use Rattle.sqlite_trees.specs.Tree.{rowid, put_row}
 use Rattle.sqlite_trees.specs.View.{is_int}
-use Rattle.sqlite_sql.specs.Term.{eval_all}
+use Rattle.sqlite_sql.specs.Term.{Term, eval_all}
 use Rattle.sqlite_rules.specs.Calls.{ids_of}
 use Rattle.sqlite_rules.specs.Cast.{cast_row}
 use Rattle.sqlite_rules.specs.Edit.{id_in, without_all, put_all, are_fresh, is_taken}
 use Rattle.sqlite.specs.Effect.{Database}
 use Rattle.sqlite.proofs.Callers.{one_permutation}
 use Rattle.dq_tables.specs.declared.row.Kind.{Kind}
+use Rattle.dq_tables.specs.declared.row.Kind.TheVariants.{Entry}
 use Rattle.dq_tables.specs.declared.row.Row.{Row}
-use Rattle.dq_tables.specs.Rows.{RowPlace, place, number_of, after_edit, Put, Remove, record_of, kind_order, octet_order}
+use Rattle.dq_tables.specs.Rows.{RowPlace, place, row_place_of, number_of, after_edit, Put, Remove, Start, record_of, kind_order, octet_order}
 use Rattle.dq_tables.proofs.Order.{is_at, each_filtered, each_passed}
-use Rattle.dq_tables.proofs.InOrder.{is_eq_then, is_eq_nat}
+use Rattle.dq_tables.proofs.InOrder.{is_eq_then, is_eq_nat, row_at_is}
 use Rattle.dq_tables.proofs.Listing.{one_kind}
 use Rattle.dq_tables.proofs.Lens.{rising_edit}
+use Rattle.dq_sql.specs.declared.version.Version.TheVariants.{Two}
 use Rattle.dq_sql.specs.Schema.{kept_table}
-use Rattle.dq_sql.specs.Cells.{patient_of, day_of, columns_of}
-use Rattle.dq_sql.specs.Tie.{kept_of, IsKept, same_id, HasRows}
-use Rattle.dq_sql.specs.Writing.{Replaces, Removes}
-use Rattle.dq_sql.proofs.Statements.{changed}
+use Rattle.dq_sql.specs.Cells.{patient_of, day_of, flag, columns_of}
+use Rattle.dq_sql.specs.Tie.{kept_of, IsKept, same_id, HoldsRows, HasRows}
+use Rattle.dq_sql.specs.Writing.{Replaces, Removes, Starts}
+use Rattle.dq_sql.proofs.Statements.{changed, begun}
 use Rattle.dq_tables.proofs.Members.{removed_has}
+use Rattle.dq_tables.proofs.Started.{started, start_is_put, start_of_none}
+use Rattle.dq_tables.specs.Labels as labels
 use Rattle.dq_sql.proofs.Inserted.{cast-Int, day_cast, not_so}
 use Rattle.dq_sql.proofs.Added.{placed}
-use Rattle.dq_sql.proofs.Selected.{holds_at, one_found, is_found, others_same, none_others, none_if, named, int_of}
-use Rattle.dq_sql.proofs.Replaced.{Deleted, Updated}
+use Rattle.dq_sql.proofs.Selected.{holds_at, one_found, one_there, none_at, nothing_found, is_found, others_same, none_others, none_if, named, int_of}
+use Rattle.dq_sql.proofs.Replaced.{at_params, Deleted, Updated}
 
 apart_filter : (p : Values → Bool) (xs : List Values) → IsDistinct same_id xs → IsDistinct same_id (filter p xs)
 unfolding IsDistinct
@@ -73,10 +77,10 @@ module _ (p : RowPlace) (d : Database) (rows : List Row) (has : HasRows d rows) 
   others = filter (λ r. not (holds_at p r)) (d.trees 0)
 
   the_id : (x : Values) → filter (holds_at p) (d.trees 0) ≡ x ∷ [] → rowid x ≡ Int (id_in (rowid x))
-  the_id x one = int_of (rowid x) (subst (AllByRecursion (λ r. IsTrue (is_int (rowid r)))) one (each_filtered _ (holds_at p) (d.trees 0) has.ids)).0
+  the_id x one = int_of (rowid x) (subst (AllByRecursion (λ r. IsTrue (is_int (rowid r)))) one (each_filtered _ (holds_at p) (d.trees 0) has.table.ids)).0
 
   is_kept : (x : Values) → filter (holds_at p) (d.trees 0) ≡ x ∷ [] → IsKept x
-  is_kept x one = (subst (AllByRecursion IsKept) one (each_filtered IsKept (holds_at p) (d.trees 0) has.kept)).0
+  is_kept x one = (subst (AllByRecursion IsKept) one (each_filtered IsKept (holds_at p) (d.trees 0) has.table.kept)).0
 
   is_there : (x : Values) → filter (holds_at p) (d.trees 0) ≡ x ∷ [] → IsAtPlace p (kept_of x)
   is_there x one =
@@ -96,55 +100,107 @@ removed d e kind institution key it rows has =
     let p = place kind institution key in
     let q = holds_at p in
     let f : Values → Values = λ r. rowid r ∷ [] in
-    let left : e.trees 0 ≡ filter (λ r. not (q r)) (d.trees 0) = it.edits.rows ∙ elim (one_found p (d.trees 0) rows has.same has.rising) [
+    let left : e.trees 0 ≡ filter (λ r. not (q r)) (d.trees 0) = it.edits.rows ∙ elim (one_found p (d.trees 0) rows has.table.same has.table.rising) [
       | inl none ↦ ap (λ l. without_all (d.trees 0) (ids_of l)) (shown_none p d rows has f it.found it.shown none) ∙ sym (none_others q (d.trees 0) none)
       | inr one ↦ ap (λ l. without_all (d.trees 0) (ids_of l)) (shown_one p d rows has f it.found one.0 it.shown one.1)
-          ∙ named q one.0 (id_in (rowid one.0)) (the_id p d rows has one.0 one.1) (d.trees 0) has.apart one.1
+          ∙ named q one.0 (id_in (rowid one.0)) (the_id p d rows has one.0 one.1) (d.trees 0) has.table.apart one.1
     ] in
     record {
-      schema = it.edits.schema;
-      version = rw it.edits.version has.version;
-      apart = rw left (apart_filter _ (d.trees 0) has.apart);
-      ids = rw left (each_filtered _ _ (d.trees 0) has.ids);
-      kept = rw left (each_filtered IsKept _ (d.trees 0) has.kept);
-      same = rw left (subst (IsPermutation (map kept_of (filter (λ r. not (q r)) (d.trees 0)))) (sym (removed_has kind institution key rows has.rising)) (others_same p (d.trees 0) rows has.same));
-      rising = rising_edit institution (Remove kind key) rows has.rising;
+      version_is = record { schema = it.edits.schema; says = rw it.edits.version has.version_is.says };
+      table = record {
+      apart = rw left (apart_filter _ (d.trees 0) has.table.apart);
+      ids = rw left (each_filtered _ _ (d.trees 0) has.table.ids);
+      kept = rw left (each_filtered IsKept _ (d.trees 0) has.table.kept);
+      same = rw left (subst (IsPermutation (map kept_of (filter (λ r. not (q r)) (d.trees 0)))) (sym (removed_has kind institution key rows has.table.rising)) (others_same p (d.trees 0) rows has.table.same));
+      rising = rising_edit institution (Remove kind key) rows has.table.rising;
+      };
     }
 
 -- the columns of a row are cast to what they are
-recast : (row : Row) (id : ℤ) (a b c v : Value) → a ≡ Int id → b ≡ Int (pos (number_of row.kind)) → c ≡ Text row.inst → v ≡ Blob row.key
-    → cast_row kept_table (a ∷ b ∷ c ∷ v ∷ Blob row.above ∷ patient_of row ∷ day_of row ∷ Blob row.octets ∷ []) ≡ Int id ∷ columns_of row
-recast row id a b c v p q r s = rw (p, q, r, s, cast-Int, cast-Int, day_cast row) refl
+recast : (row : Row) (id : ℤ) → cast_row (kept_table Two) (Int id ∷ columns_of row) ≡ Int id ∷ columns_of row
+recast row id = rw (cast-Int, cast-Int, cast-Int, day_cast row) refl
 
-replaced_one : (d e : Database) (row : Row) (it : Updated d e row) (rows : List Row) (has : HasRows d rows) (x : Values)
-    → filter (holds_at (place row.kind row.inst row.key)) (d.trees 0) ≡ x ∷ [] → HasRows e (after_edit row.inst (Put (record_of row)) rows)
-replaced_one d e row it rows has x one =
-    let p = place row.kind row.inst row.key in
+-- The one row at a place is taken out, and put in as another row of the place.
+moved_one : (d e : Database) (row : Row) (params : Values) (project : List Term) (it : Updated d e (row_place_of row) params project) (rows : List Row) (has : HasRows d rows)
+    (x : Values) → filter (holds_at (row_place_of row)) (d.trees 0) ≡ x ∷ [] → drop 1 (eval_all project (params ∷ x ∷ [])) ≡ Int (id_in (rowid x)) ∷ columns_of row
+    → HasRows e (after_edit row.inst (Put (record_of row)) rows)
+moved_one d e row params project it rows has x one shows =
+    let p = row_place_of row in
     let q = holds_at p in
-    let f : Values → Values = λ r. eval_all changed (columns_of row ∷ r ∷ []) in
-    let recasts : List Values → List Values = map (λ s. cast_row kept_table (drop 1 s)) in
+    let f : Values → Values = λ r. eval_all project (params ∷ r ∷ []) in
+    let recasts : List Values → List Values = map (λ s. cast_row (kept_table Two) (drop 1 s)) in
     let id = id_in (rowid x) in
     let new = Int id ∷ columns_of row in
     let left = filter (λ r. not (q r)) (d.trees 0) in
     let found : it.found ≡ f x ∷ [] = shown_one p d rows has f it.found x it.shown one in
-    let kept = is_kept p d rows has x one in
-    let at = is_there p d rows has x one in
-    let cast : cast_row kept_table (drop 1 (f x)) ≡ new = recast row id (column x 0) (column x 1) (column x 2) (column x 3) (the_id p d rows has x one)
-    (kept.kind ∙ ap (λ k. Int (pos (number_of k))) at.kind) (kept.inst ∙ ap Text at.institution) (kept.key ∙ ap Blob at.key) in
+    let cast : cast_row (kept_table Two) (drop 1 (f x)) ≡ new = ap (cast_row (kept_table Two)) shows ∙ recast row id in
     let news : recasts it.found ≡ new ∷ [] = ap recasts found ∙ ap (λ r. r ∷ []) cast in
     let base : without_all (d.trees 0) (ids_of it.found) ≡ left =
-    ap (λ l. without_all (d.trees 0) (ids_of l)) found ∙ named q x id (the_id p d rows has x one) (d.trees 0) has.apart one in
+    ap (λ l. without_all (d.trees 0) (ids_of l)) found ∙ named q x id (the_id p d rows has x one) (d.trees 0) has.table.apart one in
     let is : e.trees 0 ≡ put_row new left = it.edits.rows ∙ ap (λ l. put_all l (recasts it.found)) base ∙ ap (put_all left) news in
     let fresh : are_fresh left (new ∷ []) ≡ true =
     sym (ap (λ l. are_fresh l (recasts it.found)) base ∙ ap (are_fresh left) news) ∙ it.edits.fresh in
     placed row id d e left rows has it.edits.schema it.edits.version is (not_so (is_taken left new) fresh)
-    (apart_filter _ (d.trees 0) has.apart) (each_filtered _ _ (d.trees 0) has.ids) (each_filtered IsKept _ (d.trees 0) has.kept)
-    (others_same p (d.trees 0) rows has.same)
+    (apart_filter _ (d.trees 0) has.table.apart) (each_filtered _ _ (d.trees 0) has.table.ids) (each_filtered IsKept _ (d.trees 0) has.table.kept)
+    (others_same p (d.trees 0) rows has.table.same)
 
-pub replaced : (d e : Database) (row : Row) → Updated d e row → Replaces d e row
+pub replaced : (d e : Database) (row : Row) → Updated d e (row_place_of row) (columns_of row) changed → Replaces d e row
 replaced d e row it rows has there =
-    let p = place row.kind row.inst row.key in
-    elim (one_found p (d.trees 0) rows has.same has.rising) [
-      | inl none ↦ absurd (is_found p (d.trees 0) rows has.same there none)
-      | inr one ↦ replaced_one d e row it rows has one.0 one.1
+    let p = row_place_of row in
+    elim (one_found p (d.trees 0) rows has.table.same has.table.rising) [
+      | inl none ↦ absurd (is_found p (d.trees 0) rows has.table.same there none)
+      | inr one ↦ moved_one d e row (columns_of row) changed it rows has one.0 one.1 (shows one.0 one.1)
+    ]
+  where
+    shows : (x : Values) → filter (holds_at (row_place_of row)) (d.trees 0) ≡ x ∷ [] → drop 1 (eval_all changed (columns_of row ∷ x ∷ [])) ≡ Int (id_in (rowid x)) ∷ columns_of row
+    shows x one =
+        let p = row_place_of row in
+        let kept = is_kept p d rows has x one in
+        let at = is_there p d rows has x one in
+        let id = the_id p d rows has x one in
+        let kind = kept.kind ∙ ap (λ k. Int (pos (number_of k))) at.kind in
+        let inst = kept.inst ∙ ap Text at.institution in
+        let key = kept.key ∙ ap Blob at.key in
+        λ i. id i ∷ kind i ∷ inst i ∷ key i ∷ Blob row.above ∷ patient_of row ∷ day_of row ∷ Blob row.octets ∷ flag row.started ∷ []
+
+-- ---- an entry that is started
+
+begun_shows : (x : Values) (id : ℤ) → rowid x ≡ Int id → IsKept x → (params : Values) → drop 1 (eval_all begun (params ∷ x ∷ [])) ≡ Int id ∷ columns_of (started (kept_of x))
+unfolding patient_of day_of labels.patient_of labels.day_of
+begun_shows x id is kept params =
+    λ i. is i ∷ kept.kind i ∷ kept.inst i ∷ kept.key i ∷ kept.above i ∷ kept.patient i ∷ kept.day i ∷ kept.octets i ∷ Int (pos 1) ∷ []
+
+module _ (d e : Database) (institution key : List ℕ) (it : Updated d e (place Entry institution key) (at_params Entry institution key) begun) (rows : List Row) (has : HasRows d rows) where
+  abbrev p : RowPlace
+  p = place Entry institution key
+
+  unmoved : filter (holds_at p) (d.trees 0) ≡ [] → HasRows e (after_edit institution (Start key) rows)
+  unmoved none =
+      let f : Values → Values = λ r. eval_all begun (at_params Entry institution key ∷ r ∷ []) in
+      let free = row_at_is p rows ∙ nothing_found (is_at p) rows (none_at p (d.trees 0) rows has.table.same none) in
+      let nothing = shown_none p d rows has f it.found it.shown none in
+      let is : e.trees 0 ≡ d.trees 0 =
+      it.edits.rows ∙ ap (λ l. put_all (without_all (d.trees 0) (ids_of l)) (map (λ s. cast_row (kept_table Two) (drop 1 s)) l)) nothing in
+      subst (HasRows e) (sym (start_of_none institution key rows has.table.rising free)) (record {
+        version_is = record { schema = it.edits.schema; says = rw it.edits.version has.version_is.says };
+        table = subst (λ t. HoldsRows t rows) (sym is) has.table;
+      })
+
+  moved : (x : Values) → filter (holds_at p) (d.trees 0) ≡ x ∷ [] → HasRows e (after_edit institution (Start key) rows)
+  moved x one =
+      let row = started (kept_of x) in
+      let at = is_there p d rows has x one in
+      let there : row_place_of row ≡ p = λ i. place (at.kind i) (at.institution i) (at.key i) in
+      let found = one_there p (d.trees 0) rows has.table.same x one in
+      subst (HasRows e) (sym (start_is_put institution key rows (kept_of x) found))
+      (moved_one d e row (at_params Entry institution key) begun (subst (λ q. Updated d e q (at_params Entry institution key) begun) (sym there) it) rows has x
+      (subst (λ q. filter (holds_at q) (d.trees 0) ≡ x ∷ []) (sym there) one)
+      (begun_shows x (id_in (rowid x)) (the_id p d rows has x one) (is_kept p d rows has x one) (at_params Entry institution key)))
+
+pub begun_starts : (d e : Database) (institution key : List ℕ) → Updated d e (place Entry institution key) (at_params Entry institution key) begun
+    → Starts d e institution key
+begun_starts d e institution key it rows has =
+    elim (one_found (place Entry institution key) (d.trees 0) rows has.table.same has.table.rising) [
+      | inl none ↦ unmoved d e institution key it rows has none
+      | inr one ↦ moved d e institution key it rows has one.0 one.1
     ]

@@ -26,7 +26,8 @@ use Rattle.std.specs.List.{IsDistinct}
 use Rattle.dq_tables.specs.Rows.{IsRising}
 use Rattle.dq_sql.specs.Tie.{HasRows}
 use Rattle.sqlite.proofs.Callers.{statement_of, runs_as, one_step}
-use Rattle.dq_sql.specs.Schema.{kept_table, version_table, above_index, kept_schema}
+use Rattle.dq_sql.specs.declared.version.Version.TheVariants.{Two}
+use Rattle.dq_sql.specs.Schema.{schema_of, kept_table, version_table, above_index, kept_schema}
 use Rattle.dq_sql.specs.Making.{no_schema, with_kept, with_version, MakesKept, MakesVersion, MakesIndex, SaysVersion, GoesOn}
 use Rattle.dq_sql.proofs.Texts.{kept_text, version_text, above_text, number_text, number_terms, kept_is, version_is, above_is, number_is, all_made, kept_plain, version_plain, above_plain, number_plain}
 
@@ -47,8 +48,8 @@ makes_kept old new count h has =
     let all = went w.changed in
     let first = went all.1 in
     let made = first.1 in
-    let both : Ok made.table ≡ Ok kept_table = sym made.defined ∙ kept_is.2 in
-    let same : made.table ≡ kept_table = cc in
+    let both : Ok made.table ≡ Ok (kept_table Two) = sym made.defined ∙ kept_is.2 in
+    let same : made.table ≡ (kept_table Two) = cc in
     let schema : first.0.schema ≡ with_kept = made.is ∙ ap (λ s. created s made.table) has ∙ ap (created no_schema) same in
     let plain : lacks_sequence first.0.schema ≡ false = ap lacks_sequence schema in
     let now : new.now ≡ first.0 = ap (λ (p : Tally × Database). p.1) (same_value all.2) ∙ same_value (rw plain at first.2) in
@@ -78,7 +79,7 @@ makes_index old new count h has =
     let made = all.1 in
     let both : Ok made.index ≡ Ok (record above_index { tree = 0 }) = sym made.defined ∙ above_is.2 in
     let same : made.index ≡ record above_index { tree = 0 } = cc in
-    let schema : all.0.schema ≡ kept_schema = made.is ∙ ap (indexed with_version kept_table) same ∙ all_made in
+    let schema : all.0.schema ≡ kept_schema = made.is ∙ ap (indexed with_version (kept_table Two)) same ∙ all_made in
     let now : new.now ≡ all.0 = ap (λ (p : Tally × Database). p.1) (same_value all.2) in
     (ap (λ (d : Database). d.schema) now ∙ schema, ap (λ (d : Database). d.trees 0) now ∙ made.rows.0, ap (λ (d : Database). d.trees 2) now ∙ made.rows.1.0)
 
@@ -86,9 +87,9 @@ either : (b : Bool) (x : Value) → cond b x x ≡ x
 either true x = refl
 either false x = refl
 
-cast_one : cast Integer (Int (pos 1)) ≡ Int (pos 1)
+cast_two : cast Integer (Int (pos 2)) ≡ Int (pos 2)
 unfolding unary
-cast_one = either _ (Int (pos 1))
+cast_two = either _ (Int (pos 2))
 
 cast_null : cast Integer Null ≡ Null
 unfolding unary
@@ -98,7 +99,7 @@ zero_not_two : ◌≢◌ {A = ℕ} 0 2
 zero_not_two e = omega (arith, e)
 
 pub says_version : (old new : State) (count : ℕ) → ExecutesInside 0 number_text [] old new (Ok count) → SaysVersion old.now new.now
-unfolding kept_schema
+unfolding schema_of
 says_version old new count h has =
     let db = old.now.trees in
     let command = Insert 1 (Values number_terms 2) in
@@ -112,12 +113,14 @@ says_version old new count h has =
     let trees : done.0.trees ≡ written.0 = ap (λ (it : Written). it.trees) (same_value counted.2) ∙ same_value counted.1 in
     let edit = λ (sources : List Row). edit_of db version_table [] Chosen 0 sources in
     let step = one_step kept_schema _ db written.0 (edit given.0) refl written.1 in
-    let two : db 2 ≡ [] → edited db (edit given.0) ≡ (Int (pos 1) ∷ Int (pos 1) ∷ []) ∷ [] =
-    λ none. ap (λ all. edited db (edit all)) given.1.1 ∙ rw (none, cast_null, cast_one) in (
-      ap (λ (d : Database). d.schema) now,
+    let two : db 2 ≡ [] → edited db (edit given.0) ≡ (Int (pos 1) ∷ Int (pos 2) ∷ []) ∷ [] =
+    λ none. ap (λ all. edited db (edit all)) given.1.1 ∙ rw (none, cast_null, cast_two) in (
       ap (λ (d : Database). d.trees 0) now ∙ ap (λ (t : Trees). t 0) trees ∙ step.tables.0 zero_not_two,
-      λ none. ap (λ (d : Database). map (λ r. column r 1) (d.trees 2)) now ∙ ap (λ (t : Trees). map (λ r. column r 1) (t 2)) trees
-          ∙ ap (map (λ r. column r 1)) (step.rows ∙ two none),
+      λ none. record {
+        schema = ap (λ (d : Database). d.schema) now;
+        says = ap (λ (d : Database). map (λ r. column r 1) (d.trees 2)) now ∙ ap (λ (t : Trees). map (λ r. column r 1) (t 2)) trees
+            ∙ ap (map (λ r. column r 1)) (step.rows ∙ two none);
+      },
     )
 
 -- what a statement made that was executed inside a transaction
@@ -164,15 +167,16 @@ whole_store a b c d e one two three four has =
     let version = two kept.0 in
     let index = three version.0 in
     let said = four index.0 in
-    let none : e.trees 0 ≡ [] = said.1 ∙ (index.1 ∙ (version.1 ∙ kept.1)) in
+    let none : e.trees 0 ≡ [] = said.0 ∙ (index.1 ∙ (version.1 ∙ kept.1)) in
     record {
-      schema = said.0;
-      version = said.2 (index.2 ∙ version.2);
-      apart = rw none tt;
-      ids = rw none tt;
-      kept = rw none tt;
-      same = rw none (IsPermutation-refl []);
-      rising = tt;
+      version_is = said.1 (index.2 ∙ version.2);
+      table = record {
+        apart = rw none tt;
+        ids = rw none tt;
+        kept = rw none tt;
+        same = rw none (IsPermutation-refl []);
+        rising = tt;
+      };
     }
 
 pub keeps_itself : (s : State) → KeepsCommit s s

@@ -15,7 +15,9 @@ use Rattle.sqlite_schema.specs.declared.command.Command.TheVariants.{Select}
 use Rattle.sqlite.specs.Listing.{understood, reads_listing}
 use Rattle.sqlite_tied.specs.Compute.{everything}
 use Rattle.sqlite.proofs.Callers.{IsPlain, command_of}
-use Rattle.dq_sql.specs.Schema.{kept_schema}
+use Rattle.dq_sql.specs.declared.version.Version.{Version}
+use Rattle.dq_sql.specs.declared.version.Version.TheVariants.{One, Two}
+use Rattle.dq_sql.specs.Schema.{schema_of}
 
 -- each row of a tree that passes these tests, shown by these terms, in this order
 abbrev pub selecting : ℕ → List Term → Option Grouping → List Term → List (Term × Key) → Query
@@ -60,7 +62,7 @@ abbrev pub named_tests : List Term
 named_tests = column_is 1 0 ∷ column_is 2 1 ∷ column_is 3 5 ∷ label_tests
 
 abbrev pub shown_columns : List Term
-shown_columns = col 1 3 ∷ col 1 4 ∷ col 1 7 ∷ []
+shown_columns = col 1 3 ∷ col 1 4 ∷ col 1 7 ∷ col 1 8 ∷ []
 
 abbrev pub by_id : List (Term × Key)
 by_id = (col 1 3, ascending Binary) ∷ []
@@ -76,27 +78,27 @@ count_grouping = record {
 abbrev pub counted : Option Grouping
 counted = Some count_grouping
 
--- the text is this query under our schema
-pub record Means (text : List ℕ) (q : Query) : Type 0 where
+-- the text is this query under the schema of a version
+pub record Means (version : Version) (text : List ℕ) (q : Query) : Type 0 where
   pub names : List (List ℕ)
-  pub is : command_of (understood kept_schema text) ≡ Select (record { lets = []; body = q }) names
-  pub plain : IsPlain (understood kept_schema text)
-  pub unlisted : reads_listing kept_schema text ≡ false
+  pub is : command_of (understood (schema_of version) text) ≡ Select (record { lets = []; body = q }) names
+  pub plain : IsPlain (understood (schema_of version) text)
+  pub unlisted : reads_listing (schema_of version) text ≡ false
 
 abbrev pub row_text : List ℕ
-row_text = codes "SELECT id, above, octets FROM kept WHERE kind = ?1 AND inst = ?2 AND id = ?3"
+row_text = codes "SELECT id, above, octets, started FROM kept WHERE kind = ?1 AND inst = ?2 AND id = ?3"
 
 abbrev pub of_text : List ℕ
-of_text = codes "SELECT id, above, octets FROM kept WHERE kind = ?1 AND inst = ?2 ORDER BY id"
+of_text = codes "SELECT id, above, octets, started FROM kept WHERE kind = ?1 AND inst = ?2 ORDER BY id"
 
 abbrev pub above_text : List ℕ
-above_text = codes "SELECT id, above, octets FROM kept WHERE kind = ?1 AND inst = ?2 AND above = ?3 ORDER BY id"
+above_text = codes "SELECT id, above, octets, started FROM kept WHERE kind = ?1 AND inst = ?2 AND above = ?3 ORDER BY id"
 
 abbrev pub chosen_text : List ℕ
-chosen_text = codes "SELECT id, above, octets FROM kept WHERE kind = ?1 AND inst = ?2 AND coalesce(?3 = patient, 1) AND coalesce(?4 <= day, 1) AND coalesce(day <= ?5, 1) ORDER BY id"
+chosen_text = codes "SELECT id, above, octets, started FROM kept WHERE kind = ?1 AND inst = ?2 AND coalesce(?3 = patient, 1) AND coalesce(?4 <= day, 1) AND coalesce(day <= ?5, 1) ORDER BY id"
 
 abbrev pub named_text : List ℕ
-named_text = codes "SELECT id, above, octets FROM kept WHERE kind = ?1 AND inst = ?2 AND id = ?6 AND coalesce(?3 = patient, 1) AND coalesce(?4 <= day, 1) AND coalesce(day <= ?5, 1) ORDER BY id"
+named_text = codes "SELECT id, above, octets, started FROM kept WHERE kind = ?1 AND inst = ?2 AND id = ?6 AND coalesce(?3 = patient, 1) AND coalesce(?4 <= day, 1) AND coalesce(day <= ?5, 1) ORDER BY id"
 
 abbrev pub count_text : List ℕ
 count_text = codes "SELECT count(*) FROM kept WHERE kind = ?1 AND inst = ?2"
@@ -104,56 +106,70 @@ count_text = codes "SELECT count(*) FROM kept WHERE kind = ?1 AND inst = ?2"
 abbrev pub count_above_text : List ℕ
 count_above_text = codes "SELECT count(*) FROM kept WHERE kind = ?1 AND inst = ?2 AND above = ?3"
 
-abbrev pub all_text : List ℕ
-all_text = codes "SELECT rowid, kind, inst, id, above, patient, day, octets FROM kept ORDER BY kind, inst, id"
+abbrev pub all_text : Version → List ℕ
+all_text One = codes "SELECT rowid, kind, inst, id, above, patient, day, octets, 0 FROM kept ORDER BY kind, inst, id"
+all_text Two = codes "SELECT rowid, kind, inst, id, above, patient, day, octets, started FROM kept ORDER BY kind, inst, id"
 
 abbrev pub version_text : List ℕ
 version_text = codes "SELECT number FROM version"
 
-abbrev pub all_columns : List Term
-all_columns = col 1 0 ∷ col 1 1 ∷ col 1 2 ∷ col 1 3 ∷ col 1 4 ∷ col 1 5 ∷ col 1 6 ∷ col 1 7 ∷ []
+-- version 1 has no last column, which would be 0
+abbrev pub last_column : Version → Term
+last_column One = lit (Int (pos 0))
+last_column Two = col 1 8
+
+abbrev pub all_columns : Version → List Term
+all_columns version =
+    col 1 0 ∷ col 1 1 ∷ col 1 2 ∷ col 1 3 ∷ col 1 4 ∷ col 1 5 ∷ col 1 6 ∷ col 1 7 ∷ last_column version ∷ []
 
 abbrev pub by_place : List (Term × Key)
 by_place = (col 1 1, ascending Binary) ∷ (col 1 2, ascending Binary) ∷ (col 1 3, ascending Binary) ∷ []
 
 abbrev names : List (List ℕ)
-names = codes "id" ∷ codes "above" ∷ codes "octets" ∷ []
+names = codes "id" ∷ codes "above" ∷ codes "octets" ∷ codes "started" ∷ []
 
-abbrev all_names : List (List ℕ)
-all_names = codes "rowid" ∷ codes "kind" ∷ codes "inst" ∷ codes "id" ∷ codes "above" ∷ codes "patient" ∷ codes "day" ∷ codes "octets" ∷ []
+abbrev last_name : Version → List ℕ
+last_name One = codes "0"
+last_name Two = codes "started"
 
-pub row_means : Means row_text (selecting 0 at_tests None shown_columns [])
-unfolding understood everything kept_schema
+abbrev all_names : Version → List (List ℕ)
+all_names version =
+    codes "rowid" ∷ codes "kind" ∷ codes "inst" ∷ codes "id" ∷ codes "above" ∷ codes "patient" ∷ codes "day" ∷ codes "octets" ∷ last_name version ∷ []
+
+pub row_means : Means Two row_text (selecting 0 at_tests None shown_columns [])
+unfolding understood everything schema_of
 row_means = record { names = names; is = refl; plain = (refl, refl); unlisted = refl }
 
-pub of_means : Means of_text (selecting 0 of_tests None shown_columns by_id)
-unfolding understood everything kept_schema
+pub of_means : Means Two of_text (selecting 0 of_tests None shown_columns by_id)
+unfolding understood everything schema_of
 of_means = record { names = names; is = refl; plain = (refl, refl); unlisted = refl }
 
-pub above_means : Means above_text (selecting 0 above_tests None shown_columns by_id)
-unfolding understood everything kept_schema
+pub above_means : Means Two above_text (selecting 0 above_tests None shown_columns by_id)
+unfolding understood everything schema_of
 above_means = record { names = names; is = refl; plain = (refl, refl); unlisted = refl }
 
-pub chosen_means : Means chosen_text (selecting 0 chosen_tests None shown_columns by_id)
-unfolding understood everything kept_schema
+pub chosen_means : Means Two chosen_text (selecting 0 chosen_tests None shown_columns by_id)
+unfolding understood everything schema_of
 chosen_means = record { names = names; is = refl; plain = (refl, refl); unlisted = refl }
 
-pub named_means : Means named_text (selecting 0 named_tests None shown_columns by_id)
-unfolding understood everything kept_schema
+pub named_means : Means Two named_text (selecting 0 named_tests None shown_columns by_id)
+unfolding understood everything schema_of
 named_means = record { names = names; is = refl; plain = (refl, refl); unlisted = refl }
 
-pub count_means : Means count_text (selecting 0 of_tests counted (col 1 0 ∷ []) [])
-unfolding understood everything kept_schema
+pub count_means : Means Two count_text (selecting 0 of_tests counted (col 1 0 ∷ []) [])
+unfolding understood everything schema_of
 count_means = record { names = codes "count(*)" ∷ []; is = refl; plain = (refl, refl); unlisted = refl }
 
-pub count_above_means : Means count_above_text (selecting 0 above_tests counted (col 1 0 ∷ []) [])
-unfolding understood everything kept_schema
+pub count_above_means : Means Two count_above_text (selecting 0 above_tests counted (col 1 0 ∷ []) [])
+unfolding understood everything schema_of
 count_above_means = record { names = codes "count(*)" ∷ []; is = refl; plain = (refl, refl); unlisted = refl }
 
-pub all_means : Means all_text (selecting 0 [] None all_columns by_place)
-unfolding understood everything kept_schema
-all_means = record { names = all_names; is = refl; plain = (refl, refl); unlisted = refl }
+pub all_means : (version : Version) → Means version (all_text version) (selecting 0 [] None (all_columns version) by_place)
+unfolding understood everything schema_of
+all_means One = record { names = all_names One; is = refl; plain = (refl, refl); unlisted = refl }
+all_means Two = record { names = all_names Two; is = refl; plain = (refl, refl); unlisted = refl }
 
-pub version_means : Means version_text (selecting 2 [] None (col 1 1 ∷ []) [])
-unfolding understood everything kept_schema
-version_means = record { names = codes "number" ∷ []; is = refl; plain = (refl, refl); unlisted = refl }
+pub version_means : (version : Version) → Means version version_text (selecting 2 [] None (col 1 1 ∷ []) [])
+unfolding understood everything schema_of
+version_means One = record { names = codes "number" ∷ []; is = refl; plain = (refl, refl); unlisted = refl }
+version_means Two = record { names = codes "number" ∷ []; is = refl; plain = (refl, refl); unlisted = refl }

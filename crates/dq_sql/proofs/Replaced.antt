@@ -5,7 +5,7 @@ use Rattle.std.specs.List.Sorted.{IsPermutation}
 use Rattle.sqlite_value.specs.declared.value.Value.TheVariants.{Null, Int, Text, Blob}
 use Rattle.sqlite_value.specs.Order.{Row as Values}
 use Rattle.sqlite_trees.specs.Tree.{Trees, rowid}
-use Rattle.sqlite_sql.specs.Term.{eval_all, col}
+use Rattle.sqlite_sql.specs.Term.{Term, eval_all, col}
 use Rattle.sqlite_schema.specs.declared.schema.Keys.TheVariants.{Enforced}
 use Rattle.sqlite_schema.specs.declared.command.Command.TheVariants.{Update, Delete}
 use Rattle.sqlite_rules.specs.declared.error.Rowids.TheVariants.{Given}
@@ -18,14 +18,16 @@ use Rattle.sqlite.specs.Rows.{Written}
 use Rattle.sqlite.specs.Does.{Tally, Does}
 use Rattle.sqlite.specs.Listing.{understood}
 use Rattle.sqlite.specs.State.{State, mode_of, Executes}
-use Rattle.sqlite.proofs.Callers.{statement_of, runs_as, one_step}
+use Rattle.sqlite.proofs.Callers.{IsPlain, command_of, statement_of, runs_as, one_step}
 use Rattle.dq_tables.specs.declared.row.Kind.{Kind}
+use Rattle.dq_tables.specs.declared.row.Kind.TheVariants.{Entry}
 use Rattle.dq_tables.specs.declared.row.Row.{Row}
-use Rattle.dq_tables.specs.Rows.{place, number_of}
-use Rattle.dq_sql.specs.Schema.{kept_schema, kept_table}
+use Rattle.dq_tables.specs.Rows.{RowPlace, place, row_place_of, number_of}
+use Rattle.dq_sql.specs.declared.version.Version.TheVariants.{Two}
+use Rattle.dq_sql.specs.Schema.{schema_of, kept_schema, kept_table}
 use Rattle.dq_sql.specs.Cells.{columns_of}
 use Rattle.dq_sql.specs.Tie.{IsKept}
-use Rattle.dq_sql.proofs.Statements.{update_text, delete_text, selecting, changed, update_is, delete_is, update_plain, delete_plain}
+use Rattle.dq_sql.proofs.Statements.{update_text, start_text, delete_text, selecting, changed, begun, update_is, start_is, delete_is, update_plain, start_plain, delete_plain}
 use Rattle.dq_sql.proofs.Inserted.{went, same_value}
 use Rattle.dq_sql.proofs.Selected.{holds_at, selected}
 
@@ -48,7 +50,7 @@ pub record Deleted (d e : Database) (kind : Kind) (institution key : List ℕ) :
 
 pub deleted : (old new : State) (kind : Kind) (institution key : List ℕ) (count : ℕ) → old.now.schema ≡ kept_schema → AllByRecursion IsKept (old.now.trees 0)
     → Executes delete_text (at_params kind institution key) old new (Ok count) → Deleted old.now new.now kind institution key
-unfolding kept_schema
+unfolding schema_of
 deleted old new kind institution key count has kept h =
     let params = at_params kind institution key in
     let db = old.now.trees in
@@ -60,7 +62,7 @@ deleted old new kind institution key count has kept h =
     let found = went done.1 in
     let written = went found.2 in
     let trees : done.0.trees ≡ written.0 = ap (λ (it : Written). it.trees) (same_value written.2) in
-    let applied = one_step kept_schema Enforced db written.0 (edit_of db kept_table (ids_of found.0) Given 0 []) refl written.1 in
+    let applied = one_step kept_schema Enforced db written.0 (edit_of db (kept_table Two) (ids_of found.0) Given 0 []) refl written.1 in
     record {
       found = found.0;
       shown = selected kind institution key [] (col 1 0 ∷ []) db found.0 kept (found.1.answer Null);
@@ -73,32 +75,34 @@ deleted old new kind institution key count has kept h =
     }
 
 -- The rows that UPDATE finds are taken out, and put in with their new columns.
-pub record Updated (d e : Database) (row : Row) : Type 0 where
+pub record Updated (d e : Database) (p : RowPlace) (params : Values) (project : List Term) : Type 0 where
   pub found : List Values
-  pub shown : IsPermutation (map (λ r. eval_all changed (columns_of row ∷ r ∷ [])) (filter (holds_at (place row.kind row.inst row.key)) (d.trees 0))) found
-  pub edits : Edits d e (ids_of found) (map (λ s. cast_row kept_table (drop 1 s)) found)
+  pub shown : IsPermutation (map (λ r. eval_all project (params ∷ r ∷ [])) (filter (holds_at p) (d.trees 0))) found
+  pub edits : Edits d e (ids_of found) (map (λ s. cast_row (kept_table Two) (drop 1 s)) found)
 
-pub updated : (old new : State) (row : Row) (count : ℕ) → old.now.schema ≡ kept_schema → AllByRecursion IsKept (old.now.trees 0)
-    → Executes update_text (columns_of row) old new (Ok count) → Updated old.now new.now row
-unfolding kept_schema
-updated old new row count has kept h =
-    let params = columns_of row in
+updated_by : (text : List ℕ) (project : List Term) → command_of (understood kept_schema text) ≡ Update 0 (record { lets = []; body = selecting project })
+    → IsPlain (understood kept_schema text) → (kind : Kind) (institution key : List ℕ) (more : Values) (old new : State) (count : ℕ) → old.now.schema ≡ kept_schema
+    → AllByRecursion IsKept (old.now.trees 0) → Executes text (Int (pos (number_of kind)) ∷ Text institution ∷ Blob key ∷ more) old new (Ok count)
+    → Updated old.now new.now (place kind institution key) (Int (pos (number_of kind)) ∷ Text institution ∷ Blob key ∷ more) project
+unfolding schema_of
+updated_by sql project is plain kind institution key more old new count has kept h =
+    let params : Values = Int (pos (number_of kind)) ∷ Text institution ∷ Blob key ∷ more in
     let db = old.now.trees in
-    let command = Update 0 (record { lets = []; body = selecting changed }) in
-    let w = runs_as update_text params old new kept_schema has command update_is update_plain count h in
-    let text = statement_of update_text (understood kept_schema update_text) in
+    let command = Update 0 (record { lets = []; body = selecting project }) in
+    let w = runs_as sql params old new kept_schema has command is plain count h in
+    let text = statement_of sql (understood kept_schema sql) in
     let done = went (subst (λ s. Does old.step_limit (mode_of old) params (record old.now { schema = s }) text None command (Ok (w.tally, new.now))) has w.changed) in
     let now = ap (λ (p : Tally × Database). p.1) (same_value (went (went done.2).2).2) in
     let found = went done.1 in
     let written = went found.2 in
     let trees : done.0.trees ≡ written.0 = ap (λ (it : Written). it.trees) (same_value written.2) in
-    let made : Edit = edit_of db kept_table (ids_of found.0) Given 1 found.0 in
-    let wanted : Edit = record { table = kept_table; gone = ids_of found.0; news = map (λ s. cast_row kept_table (drop 1 s)) found.0 } in
-    let news : made ≡ wanted = ap (λ rows. let edit : Edit = record { table = kept_table; gone = ids_of found.0; news = rows } in edit) (given _ _) in
+    let made : Edit = edit_of db (kept_table Two) (ids_of found.0) Given 1 found.0 in
+    let wanted : Edit = record { table = kept_table Two; gone = ids_of found.0; news = map (λ s. cast_row (kept_table Two) (drop 1 s)) found.0 } in
+    let news : made ≡ wanted = ap (λ rows. let edit : Edit = record { table = kept_table Two; gone = ids_of found.0; news = rows } in edit) (given _ _) in
     let applied = subst (λ edit. Applies kept_schema Enforced db edit written.0) news (one_step kept_schema Enforced db written.0 made refl written.1) in
     record {
       found = found.0;
-      shown = selected row.kind row.inst row.key _ changed db found.0 kept (found.1.answer Null);
+      shown = selected kind institution key more project db found.0 kept (found.1.answer Null);
       edits = record {
         schema = ap (λ (d : Database). d.schema) now;
         rows = ap (λ (d : Database). d.trees 0) now ∙ ap (λ (t : Trees). t 0) trees ∙ applied.rows;
@@ -106,3 +110,12 @@ updated old new row count has kept h =
         version = ap (λ (d : Database). d.trees 2) now ∙ ap (λ (t : Trees). t 2) trees ∙ applied.tables.1.0 (λ e. absurd (omega arith));
       };
     }
+
+pub updated : (old new : State) (row : Row) (count : ℕ) → old.now.schema ≡ kept_schema → AllByRecursion IsKept (old.now.trees 0)
+    → Executes update_text (columns_of row) old new (Ok count) → Updated old.now new.now (row_place_of row) (columns_of row) changed
+updated old new row = updated_by update_text changed update_is update_plain row.kind row.inst row.key _ old new
+
+pub begins : (old new : State) (institution key : List ℕ) (count : ℕ) → old.now.schema ≡ kept_schema → AllByRecursion IsKept (old.now.trees 0)
+    → Executes start_text (at_params Entry institution key) old new (Ok count)
+    → Updated old.now new.now (place Entry institution key) (at_params Entry institution key) begun
+begins old new institution key = updated_by start_text begun start_is start_plain Entry institution key [] old new

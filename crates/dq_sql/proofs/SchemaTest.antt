@@ -7,8 +7,9 @@ use Rattle.sqlite_schema.specs.declared.code.Op.TheVariants.{Binary}
 use Rattle.sqlite_schema.specs.Code.{terms_in}
 use Rattle.sqlite_schema.specs.declared.schema.Table.{Table}
 use Rattle.sqlite_schema.specs.declared.schema.Index.{Index}
+use Rattle.dq_sql.specs.declared.version.Version.{Version}
 use Rattle.dq_sql.specs.Schema.{kept_columns, version_columns, kind_checks, kept_table, version_table, kept_index}
-use Rattle.dq_sql.specs.SchemaTest.{HasNoMore, HasNoRules, HasKey, BoundsKind}
+use Rattle.dq_sql.specs.SchemaTest.{HasNoMore, HasNoRules, IsKept, BoundsKind}
 
 pub kind_range : (a b c d e f g : Op) → BoundsKind a b c Ge (pos 1) 0 → BoundsKind d e f Le (pos 5) 3 → g ≡ Binary And 2 5
     → terms_in (a ∷ b ∷ c ∷ d ∷ e ∷ f ∷ g ∷ []) (6 ∷ []) ≡ kind_checks
@@ -18,9 +19,11 @@ pub index_from : (i : Index) (name : List ℕ) (tree : ℕ) (columns : List ℕ)
     → i.columns ≡ columns → i.order.digits ≡ 0 → i.is_unique ≡ is_unique → i ≡ kept_index name tree columns is_unique
 index_from i name tree columns is_unique p q r s t u = rw (p, q, r, s, t, u) refl
 
-pub kept_from : (t : Table) → t.name ≡ codes "kept" → t.tree ≡ 0 → t.columns ≡ kept_columns → HasKey t → t.checks ≡ kind_checks → HasNoMore t → t ≡ kept_table
-kept_from t name tree columns key checks more =
-    rw (name, tree, columns, key.primary, key.uniques, key.orders, checks, more.key, more.references, more.computed, more.stamps, more.uncounted) refl
+pub kept_from : (t : Table) (version : Version) → IsKept t → t.columns ≡ kept_columns version → t ≡ kept_table version
+kept_from t version it columns =
+    let key = it.key in
+    let more = it.more in
+    rw (it.name, it.tree, columns, key.primary, key.uniques, key.orders, it.checks, more.key, more.references, more.computed, more.stamps, more.uncounted) refl
 
 pub version_from : (t : Table) → t.name ≡ codes "version" → t.tree ≡ 2 → t.columns ≡ version_columns → HasNoRules t → HasNoMore t → t ≡ version_table
 version_from t name tree columns rules more =

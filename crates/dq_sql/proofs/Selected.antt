@@ -1,5 +1,5 @@
 -- Which row of the table a statement finds by its place, and which rows are the others.
-use Rattle.std.proofs.Common.{◌≡◌, ◌⊎◌, inl, inr, ℕ, pos, ◌≤◌, Bool, true, false, not, List, [], ◌∷◌, ◌++◌, length, map, filter, flat_map, if◌then◌else◌, None, IsTrue, ℤ, refl, sym, ap, subst, ◌∙◌, arith}
+use Rattle.std.proofs.Common.{◌≡◌, ◌⊎◌, inl, inr, ℕ, pos, ◌≤◌, Bool, true, false, not, List, [], ◌∷◌, ◌++◌, length, map, filter, flat_map, if◌then◌else◌, slice_get, None, Some, IsTrue, ℤ, refl, sym, ap, subst, ◌∙◌, arith}
 use Rattle.std.specs.List.{AllByRecursion, IsDistinct, list_all, find}
 use Rattle.std.specs.Option.{is_some}
 use Rattle.std.proofs.lemmas.List.{length-map}
@@ -19,6 +19,7 @@ use Rattle.sqlite_sql.specs.Term.{Term, Env, holds, eval_all}
 use Rattle.sqlite_sql.specs.Query.{IsAnswer, output, Output}
 use Rattle.sqlite_sql.specs.Program.{overlay}
 use Rattle.sqlite_rules.specs.Edit.{id_in}
+use Rattle.sqlite.proofs.Callers.{one_permutation}
 use Rattle.dq_tables.specs.declared.row.Kind.{Kind}
 use Rattle.dq_tables.specs.declared.row.Row.{Row}
 use Rattle.dq_tables.specs.Rows.{IsRising, RowPlace, place, number_of, row_place_of, rows_elsewhere}
@@ -101,7 +102,7 @@ none_step : {X : Type 0} (q : X → Bool) (x : X) (xs : List X) (b : Bool) → q
 none_step q x xs true e none on = absurd (let f = rw e at none in cc)
 none_step q x xs false e none on = rw e (on (rw e at none))
 
-nothing_found : {X : Type 0} (q : X → Bool) (xs : List X) → filter q xs ≡ [] → find q xs ≡ None
+pub nothing_found : {X : Type 0} (q : X → Bool) (xs : List X) → filter q xs ≡ [] → find q xs ≡ None
 nothing_found q [] none = refl
 nothing_found q (x ∷ xs) none = none_step q x xs (q x) refl none (nothing_found q xs)
 
@@ -113,6 +114,13 @@ others_step q x xs false e none on = rw e (ap (λ l. x ∷ l) (on (rw e at none)
 pub none_others : {X : Type 0} (q : X → Bool) (xs : List X) → filter q xs ≡ [] → filter (λ x. not (q x)) xs ≡ xs
 none_others q [] none = refl
 none_others q (x ∷ xs) none = others_step q x xs (q x) refl none (none_others q xs)
+
+pub first_kept : {X : Type 0} (p : X → Bool) (xs : List X) → find p xs ≡ slice_get (filter p xs) 0
+first_kept p [] = refl
+first_kept p (x ∷ xs) = elim (p x) as (λ b. (if b then Some x else find p xs) ≡ slice_get (if b then x ∷ filter p xs else filter p xs) 0) [
+  | true ↦ refl
+  | false ↦ first_kept p xs
+]
 
 module _ (p : RowPlace) (t : List Values) (rows : List Row) (same : IsPermutation (map kept_of t) rows) where
   -- the others are the rows that are not at the place
@@ -126,6 +134,19 @@ module _ (p : RowPlace) (t : List Values) (rows : List Row) (same : IsPermutatio
       length_permutation _ _ (subst (λ (l : List Row). IsPermutation l (filter (is_at p) rows)) (filter-map (is_at p) kept_of t)
       (IsPermutation-filter (is_at p) (map kept_of t) rows same)) ∙ length-map (filter (holds_at p) t) kept_of
 
+  -- where none of the table holds a row at the place, there is none
+  pub none_at : filter (holds_at p) t ≡ [] → filter (is_at p) rows ≡ []
+  none_at none = none_if (filter (is_at p) rows) (as_many ∙ ap length none)
+
+  -- where one of the table holds a row at the place, it is that row
+  pub one_there : (x : Values) → filter (holds_at p) t ≡ x ∷ [] → row_at p.kind p.institution p.key rows ≡ Some (kept_of x)
+  one_there x one =
+      let here : IsPermutation (kept_of x ∷ []) (filter (is_at p) rows) =
+      subst (λ (l : List Values). IsPermutation (map kept_of l) (filter (is_at p) rows)) one
+      (subst (λ (l : List Row). IsPermutation l (filter (is_at p) rows)) (filter-map (is_at p) kept_of t)
+      (IsPermutation-filter (is_at p) (map kept_of t) rows same)) in
+      row_at_is p rows ∙ first_kept (is_at p) rows ∙ ap (λ (l : List Row). slice_get l 0) (one_permutation (kept_of x) (filter (is_at p) rows) here)
+
   -- at most one row of the table holds the row at a place
   pub one_found : IsRising rows → (filter (holds_at p) t ≡ []) ⊎ ((x : Values) × (filter (holds_at p) t ≡ x ∷ []))
   one_found rising = let few = one_at p rows rising in none_or_one (filter (holds_at p) t) (omega (arith, as_many))
@@ -133,8 +154,7 @@ module _ (p : RowPlace) (t : List Values) (rows : List Row) (same : IsPermutatio
   -- and it does where there is one
   pub is_found : is_some (row_at p.kind p.institution p.key rows) ≡ true → filter (holds_at p) t ≡ [] → ⊥
   is_found there none =
-      let empty : filter (is_at p) rows ≡ [] = none_if (filter (is_at p) rows) (as_many ∙ ap length none) in
-      let found = sym there ∙ ap is_some (row_at_is p rows ∙ nothing_found (is_at p) rows empty) in
+      let found = sym there ∙ ap is_some (row_at_is p rows ∙ nothing_found (is_at p) rows (none_at none)) in
       absurd cc
 
 pub int_of : (v : Value) → IsTrue (is_int v) → v ≡ Int (id_in v)

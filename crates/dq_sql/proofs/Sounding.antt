@@ -1,5 +1,5 @@
 -- What a store has whose found rows are sound.
-use Rattle.std.proofs.Common.{◌≡◌, ℕ, List, [], ◌∷◌, map, IsTrue, IfOk, MatchBool, Result, Ok, Err, Bool, true, false, refl, sym, ap, subst, ◌∙◌, arith}
+use Rattle.std.proofs.Common.{◌≡◌, ◌≢◌, List, [], ◌∷◌, map, length, IsTrue, IfOk, MatchBool, Result, Ok, Err, Bool, true, false, refl, sym, ap, subst, ◌∙◌, arith}
 use Rattle.std.specs.List.{AllByRecursion, IsDistinct}
 use Rattle.std.specs.List.Sorted.{IsPermutation}
 use Rattle.std.proofs.lemmas.List.Sorted.{IsPermutation-sym, IsPermutation-trans, IsPermutation-map}
@@ -14,10 +14,14 @@ use Rattle.sqlite.proofs.Callers.{one_permutation}
 use Rattle.dq_tables.specs.declared.row.Row.{Row}
 use Rattle.dq_tables.specs.Sound.{is_own, HeldEach, IsSound}
 use Rattle.dq_tables.proofs.OneOrder.{one_order}
-use Rattle.dq_sql.specs.Schema.{kept_schema}
-use Rattle.dq_sql.specs.Tie.{IsKept, kept_of, same_id, HasRows, IsAtRest, IsSame, Stays}
-use Rattle.dq_sql.specs.Reading.{columns, ShowsTree}
-use Rattle.dq_sql.specs.Adopting.{IsGood, AreGood, AreSound, SaysOne, IsVersionOne, IsOurs, IsFound}
+use Rattle.sqlite_schema.specs.declared.schema.Schema.{Schema}
+use Rattle.sqlite_schema.specs.declared.schema.Table.{Table}
+use Rattle.dq_sql.specs.declared.version.Version.{Version}
+use Rattle.dq_sql.specs.declared.version.Version.TheVariants.{One, Two}
+use Rattle.dq_sql.specs.Schema.{schema_of}
+use Rattle.dq_sql.specs.Tie.{IsKept, kept_of, kept_in, same_id, IsOfVersion, HasRowsOf, IsAtRest, IsSame, Stays}
+use Rattle.dq_sql.specs.Reading.{columns, Shows, kept_shown, numbers_shown}
+use Rattle.dq_sql.specs.Adopting.{IsGood, AreGood, AreSound, SaysNumber, IsShaped, IsFound}
 use Rattle.dq_sql.proofs.Ordered.{each_moved}
 use Rattle.dq_sql.proofs.Added.{apart_back}
 
@@ -27,24 +31,31 @@ shown_numbers : (trees : List Values) → map (λ (r : Values). column r 0) (map
 shown_numbers [] = refl
 shown_numbers (r ∷ trees) = ap (λ l. column r 1 ∷ l) (shown_numbers trees)
 
-numbers : (s : State) (found : List Values) → s.now.schema ≡ kept_schema → ShowsTree s 2 (λ r. column r 1 ∷ []) found
-    → IsPermutation (map (λ r. column r 1) (s.now.trees 2)) (map (λ r. column r 0) found)
-numbers s found ours shows =
-    subst (λ l. IsPermutation l (map (λ r. column r 0) found)) (shown_numbers (s.now.trees 2))
-    (IsPermutation-map (λ (r : Values). column r 0) _ found (shows.rows ours))
+module _ (version : Version) (s : State) (found : List Values) (ours : s.now.schema ≡ schema_of version) (shows : Shows version s numbers_shown found) where
+  numbers : IsPermutation (map (λ r. column r 1) (s.now.trees 2)) (map (λ r. column r 0) found)
+  numbers =
+      subst (λ l. IsPermutation l (map (λ r. column r 0) found)) (shown_numbers (s.now.trees 2))
+      (IsPermutation-map (λ (r : Values). column r 0) _ found (shows.rows ours))
 
-pub version_one : (s : State) (found : List Values) → s.now.schema ≡ kept_schema → ShowsTree s 2 (λ r. column r 1 ∷ []) found → SaysOne found → IsVersionOne s.now
-version_one s found ours shows says =
-    one_permutation _ _ (subst (λ l. IsPermutation l (map (λ r. column r 1) (s.now.trees 2))) says (IsPermutation-sym _ _ (numbers s found ours shows)))
+  pub version_told : (b : Bool) → MatchBool b (SaysNumber version found) (¬ SaysNumber version found)
+      → MatchBool b (IsOfVersion version s.now) (¬ IsOfVersion version s.now)
+  version_told true says = record {
+    schema = ours;
+    says = one_permutation _ _ (subst (λ l. IsPermutation l (map (λ r. column r 1) (s.now.trees 2))) says (IsPermutation-sym _ _ numbers));
+  }
+  version_told false other =
+      λ it. other (one_permutation _ _ (subst (λ l. IsPermutation l (map (λ r. column r 0) found)) it.says numbers))
 
-pub version_other : (s : State) (found : List Values) → s.now.schema ≡ kept_schema → ShowsTree s 2 (λ r. column r 1 ∷ []) found → ¬ SaysOne found → ¬ IsVersionOne s.now
-version_other s found ours shows other one =
-    other (one_permutation _ _ (subst (λ l. IsPermutation l (map (λ r. column r 0) found)) one (numbers s found ours shows)))
+-- a schema is of one version
+pub one_version : (a b : Version) → schema_of a ≡ schema_of b → a ≡ b
+unfolding schema_of
+one_version One One same = refl
+one_version Two Two same = refl
+one_version One Two same = absurd (let n = ap (λ (s : Schema). map (λ (t : Table). length t.columns) s.tables) same in cc)
+one_version Two One same = absurd (let n = ap (λ (s : Schema). map (λ (t : Table). length t.columns) s.tables) same in cc)
 
-pub version_told : (s : State) (found : List Values) (b : Bool) → s.now.schema ≡ kept_schema → ShowsTree s 2 (λ r. column r 1 ∷ []) found
-    → MatchBool b (SaysOne found) (¬ SaysOne found) → MatchBool b (IsVersionOne s.now) (¬ IsVersionOne s.now)
-version_told s found true ours shows says = version_one s found ours shows says
-version_told s found false ours shows other = version_other s found ours shows other
+pub not_version : (a b : Version) (s : State) → IsShaped a s → a ≢ b → ¬ IsOfVersion b s.now
+not_version a b s shaped other it = other (one_version a b (sym shaped.schema ∙ it.schema))
 
 both_ways : (x y : Bool) → (x ≡ false → y ≡ false) → (y ≡ false → x ≡ false) → x ≡ y
 both_ways true true p q = refl
@@ -86,9 +97,9 @@ unfolding IsDistinct
 shown_apart [] h = tt
 shown_apart (r ∷ trees) h = (shown_each (λ x. same_id r x ≡ false) trees (λ x e. e) h.0, shown_apart trees h.1)
 
-kept_shown : (trees : List Values) → map kept_of (map columns trees) ≡ map kept_of trees
-kept_shown [] = refl
-kept_shown (r ∷ trees) = ap (λ l. kept_of r ∷ l) (kept_shown trees)
+kept_shown_is : (trees : List Values) → map kept_of (map columns trees) ≡ map kept_of trees
+kept_shown_is [] = refl
+kept_shown_is (r ∷ trees) = ap (λ l. kept_of r ∷ l) (kept_shown_is trees)
 
 own_each : (rows : List Values) → AllByRecursion IsGood rows → AllByRecursion (λ (row : Row). is_own row ≡ true) (map kept_of rows)
 own_each [] h = tt
@@ -101,28 +112,32 @@ good_each (r ∷ rows) h o = (record { kept = h.0; own = o.0 }, good_each rows h
 good_shown : (r : Values) → IsGood r → IsGood (columns r)
 good_shown r h =
     let k = h.kept in
-    record { kept = record { kind = k.kind; inst = k.inst; key = k.key; above = k.above; patient = k.patient; day = k.day; octets = k.octets }; own = h.own }
+    record { kept = record { kind = k.kind; inst = k.inst; key = k.key; above = k.above; patient = k.patient; day = k.day; octets = k.octets; started = k.started }; own = h.own }
 
 shown_kept : (r : Values) → IsKept (columns r) → IsKept r
-shown_kept r k = record { kind = k.kind; inst = k.inst; key = k.key; above = k.above; patient = k.patient; day = k.day; octets = k.octets }
+shown_kept r k = record { kind = k.kind; inst = k.inst; key = k.key; above = k.above; patient = k.patient; day = k.day; octets = k.octets; started = k.started }
 
 -- The store has the rows that are found.
-pub found_from : (s : State) (found : List Values) (rows : List Row) → IsOurs s → IsVersionOne s.now → ShowsTree s 0 columns found → AreSound found rows → IsFound s rows
-found_from s found rows ours version shows sound =
-    let back = IsPermutation-sym _ _ (shows.rows ours.schema) in
+pub found_from : (version : Version) (s : State) (found : List Values) (rows : List Row) → IsAtRest s → IsOfVersion version s.now → Shows version s (kept_shown version) found
+    → AreSound found rows → IsFound version s rows
+found_from version s found rows rest ours shows sound =
+    let table = kept_in version s.now in
+    let on = shows.rows ours.schema in
+    let back = IsPermutation-sym _ _ on in
     let apart = IsDistinct-IsPermutation same_id flips found _ back sound.apart.apart in
     record {
       is_open = shows.is_open;
-      rest = ours.rest;
+      rest = rest;
       has = record {
-        schema = ours.schema;
-        version = version;
-        apart = apart_shown (s.now.trees 0) apart;
-        ids = each_shown (λ r. IsTrue (is_int (rowid r))) (s.now.trees 0) (λ r e. e) (each_moved _ found _ back sound.apart.whole);
-        kept = each_shown IsKept (s.now.trees 0) shown_kept (each_moved IsKept found _ back (each_then IsGood IsKept found (λ r h. h.kept) sound.good.each));
-        same = IsPermutation-trans _ (map kept_of found) rows
-            (subst (λ l. IsPermutation l (map kept_of found)) (kept_shown (s.now.trees 0)) (IsPermutation-map kept_of _ found (shows.rows ours.schema))) sound.good.same;
-        rising = sound.good.rising;
+        version_is = ours;
+        table = record {
+          apart = apart_shown table apart;
+          ids = each_shown (λ r. IsTrue (is_int (rowid r))) table (λ r e. e) (each_moved _ found _ back sound.apart.whole);
+          kept = each_shown IsKept table shown_kept (each_moved IsKept found _ back (each_then IsGood IsKept found (λ r h. h.kept) sound.good.each));
+          same = IsPermutation-trans _ (map kept_of found) rows
+              (subst (λ l. IsPermutation l (map kept_of found)) (kept_shown_is table) (IsPermutation-map kept_of _ found on)) sound.good.same;
+          rising = sound.good.rising;
+        };
       };
       sound = record {
         rising = sound.good.rising;
@@ -132,21 +147,23 @@ found_from s found rows ours version shows sound =
     }
 
 -- Where the store has sound rows, these are found.
-pub sound_in : (s : State) (found : List Values) (rows : List Row) → ShowsTree s 0 columns found → HasRows s.now rows → IsSound rows → AreSound found rows
-sound_in s found rows shows has sound =
-    let on = shows.rows has.schema in
-    let own = each_moved (λ (row : Row). is_own row ≡ true) rows (map kept_of (s.now.trees 0)) (IsPermutation-sym _ _ has.same) sound.own in
-    let good = good_each (s.now.trees 0) has.kept own in
+pub sound_in : (version : Version) (s : State) (found : List Values) (rows : List Row) → Shows version s (kept_shown version) found → HasRowsOf version s.now rows → IsSound rows
+    → AreSound found rows
+sound_in version s found rows shows has sound =
+    let table = kept_in version s.now in
+    let on = shows.rows has.version_is.schema in
+    let own = each_moved (λ (row : Row). is_own row ≡ true) rows (map kept_of table) (IsPermutation-sym _ _ has.table.same) sound.own in
+    let good = good_each table has.table.kept own in
     record {
       apart = record {
-        whole = each_moved (λ r. IsTrue (is_int (rowid r))) _ found on (shown_each _ (s.now.trees 0) (λ r e. e) has.ids);
-        apart = IsDistinct-IsPermutation same_id flips _ found on (shown_apart (s.now.trees 0) has.apart);
+        whole = each_moved (λ r. IsTrue (is_int (rowid r))) _ found on (shown_each _ table (λ r e. e) has.table.ids);
+        apart = IsDistinct-IsPermutation same_id flips _ found on (shown_apart table has.table.apart);
       };
       good = record {
-        each = each_moved IsGood _ found on (shown_each IsGood (s.now.trees 0) good_shown good);
-        same = IsPermutation-trans _ (map kept_of (s.now.trees 0)) rows
-            (subst (IsPermutation (map kept_of found)) (kept_shown (s.now.trees 0)) (IsPermutation-map kept_of found _ (IsPermutation-sym _ _ on))) has.same;
-        rising = has.rising;
+        each = each_moved IsGood _ found on (shown_each IsGood table good_shown good);
+        same = IsPermutation-trans _ (map kept_of table) rows
+            (subst (IsPermutation (map kept_of found)) (kept_shown_is table) (IsPermutation-map kept_of found _ (IsPermutation-sym _ _ on))) has.table.same;
+        rising = has.table.rising;
       };
       held = sound.held;
     }
@@ -170,25 +187,25 @@ stays_then a b c one two = record {
         record { was_open = first.was_open; now = second.now ∙ first.now; committed = second.committed ∙ first.committed }
 
 -- what is shown after a read is what was there before it
-shown_before : (a b : State) (tree : ℕ) (show : Values → Values) (found : List Values) → IsAtRest a → Stays a b → HasCleanDisk b
-    → ShowsTree b tree show found → ShowsTree a tree show found
-shown_before a b tree show found rest stays clean shows =
+shown_before : (version : Version) (a b : State) (rows : Database → List Values) (found : List Values) → IsAtRest a → Stays a b → HasCleanDisk b
+    → Shows version b rows found → Shows version a rows found
+shown_before version a b rows found rest stays clean shows =
     let same = stays.same clean shows.is_open rest in
     record {
       is_open = same.was_open;
-      rows = subst (λ (d : Database). d.schema ≡ kept_schema → IsPermutation (map show (d.trees tree)) found) same.now shows.rows;
+      rows = subst (λ (d : Database). d.schema ≡ schema_of version → IsPermutation (rows d) found) same.now shows.rows;
     }
 
-pub found_after : (a b : State) (items found : List Values) (rows : List Row) → IsOurs a → IsVersionOne a.now → Stays a b → HasCleanDisk b
-    → ShowsTree b 0 columns items → found ≡ items → AreSound found rows → IsFound a rows
-found_after a b items found rows ours version stays clean shows same sound =
-    found_from a found rows ours version
-    (subst (ShowsTree a 0 columns) (sym same) (shown_before a b 0 columns items ours.rest stays clean shows)) sound
+pub found_after : (version : Version) (a b : State) (items found : List Values) (rows : List Row) → IsAtRest a → IsOfVersion version a.now → Stays a b → HasCleanDisk b
+    → Shows version b (kept_shown version) items → found ≡ items → AreSound found rows → IsFound version a rows
+found_after version a b items found rows rest ours stays clean shows same sound =
+    found_from version a found rows rest ours
+    (subst (Shows version a (kept_shown version)) (sym same) (shown_before version a b (kept_shown version) items rest stays clean shows)) sound
 
-pub sound_after : (a b : State) (items found : List Values) (rows : List Row) → IsAtRest a → Stays a b → HasCleanDisk b
-    → ShowsTree b 0 columns items → found ≡ items → HasRows a.now rows → IsSound rows → AreSound found rows
-sound_after a b items found rows rest stays clean shows same has sound =
-    sound_in a found rows (subst (ShowsTree a 0 columns) (sym same) (shown_before a b 0 columns items rest stays clean shows)) has sound
+pub sound_after : (version : Version) (a b : State) (items found : List Values) (rows : List Row) → IsAtRest a → Stays a b → HasCleanDisk b
+    → Shows version b (kept_shown version) items → found ≡ items → HasRowsOf version a.now rows → IsSound rows → AreSound found rows
+sound_after version a b items found rows rest stays clean shows same has sound =
+    sound_in version a found rows (subst (Shows version a (kept_shown version)) (sym same) (shown_before version a b (kept_shown version) items rest stays clean shows)) has sound
 
 pub ok_then : {A E : Type 0} (P Q : A → Type 0) (r : Result A E) → ((x : A) → P x → Q x) → IfOk r P → IfOk r Q
 ok_then P Q (Ok x) f h = f x h
