@@ -15,6 +15,7 @@ use Rattle.dq_tables.proofs.Edits.{inserts}
 use Rattle.dq_sql.specs.Tie.{HasRows}
 use Rattle.dq_sql.specs.Writing.{Adds, Went}
 use Rattle.dq_sql.specs.Filling.{AddsRows}
+use Rattle.dq_sql.proofs.Migrated.{survives_itself}
 use Rattle.dq_sql.proofs.NewStore.{keeps_then, keeps_itself}
 
 -- ---- one row past all others
@@ -73,7 +74,7 @@ put_none s = record {
   inside = λ clean inside. inside;
   done = λ clean inside opened. record { on = record { was_open = opened; is_open = opened; committed = refl; inside = inside }; added = λ has. has };
   kept = λ clean inside. keeps_itself s;
-  survives = record { clean = omega arith; shield = λ h. h; counts = omega arith; limit = refl; closes = λ clean opened. inl opened; crash = λ clean db left. inl left };
+  survives = survives_itself s _;
 }
 
 module _ (old mid new : State) (rows : List Row) (i : ℕ) (row : Row) (within : i < length rows) (is : row ≡ get_or rows i row) (rising : IsRising rows) where

@@ -8,6 +8,7 @@ mod Judged
 mod Keeping
 mod Making
 mod Meaning
+mod Migrated
 mod Moved
 mod NewStore
 mod Ordered

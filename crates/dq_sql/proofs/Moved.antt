@@ -108,11 +108,11 @@ removed d e kind institution key it rows has =
     record {
       version_is = record { schema = it.edits.schema; says = rw it.edits.version has.version_is.says };
       table = record {
-      apart = rw left (apart_filter _ (d.trees 0) has.table.apart);
-      ids = rw left (each_filtered _ _ (d.trees 0) has.table.ids);
-      kept = rw left (each_filtered IsKept _ (d.trees 0) has.table.kept);
-      same = rw left (subst (IsPermutation (map kept_of (filter (λ r. not (q r)) (d.trees 0)))) (sym (removed_has kind institution key rows has.table.rising)) (others_same p (d.trees 0) rows has.table.same));
-      rising = rising_edit institution (Remove kind key) rows has.table.rising;
+        apart = rw left (apart_filter _ (d.trees 0) has.table.apart);
+        ids = rw left (each_filtered _ _ (d.trees 0) has.table.ids);
+        kept = rw left (each_filtered IsKept _ (d.trees 0) has.table.kept);
+        same = rw left (subst (IsPermutation (map kept_of (filter (λ r. not (q r)) (d.trees 0)))) (sym (removed_has kind institution key rows has.table.rising)) (others_same p (d.trees 0) rows has.table.same));
+        rising = rising_edit institution (Remove kind key) rows has.table.rising;
       };
     }
 
