@@ -1,5 +1,5 @@
 -- Counts of rows stay right through changes.
-use Rattle.std.proofs.Common.{◌≡◌, ℕ, suc, Bool, true, false, not, List, [], ◌∷◌, ◌++◌, length, get_or, IfSome, filter, if◌then◌else◌, Option, None, Some, is_some, refl, sym, ap, subst, ◌∙◌}
+use Rattle.std.proofs.Common.{◌≡◌, ℕ, suc, Bool, true, false, not, List, [], ◌∷◌, ◌++◌, map, length, get_or, IfSome, filter, if◌then◌else◌, Option, None, Some, is_some, refl, sym, ap, subst, ◌∙◌}
 use Rattle.std.specs.List.{AllByRecursion}
 use Rattle.std.specs.List.Sorted.{IsPermutation}
 use Rattle.std.proofs.lemmas.List.Sorted.{length_permutation, IsPermutation-filter_both}
@@ -8,15 +8,16 @@ use Rattle.sqlite_trees.proofs.ListLemmas.{IsPermutation-filter}
 use Rattle.dq_tables.specs.declared.row.Kind.{Kind}
 use Rattle.dq_tables.specs.declared.row.Kind.TheVariants.{Study, Series, Image, Entry, Step}
 use Rattle.dq_tables.specs.declared.row.Row.{Row}
-use Rattle.dq_tables.specs.declared.change.Change.TheVariants.{Stored, EntryRemoved, StepChanged}
-use Rattle.dq_tables.specs.Rows.{IsRising, IsOf, RowPlace, place, row_place_of, rows_elsewhere, after, after_edit, after_edits, operation_of, put_if, Put, record_of}
+use Rattle.dq_tables.specs.declared.change.Change.TheVariants.{Stored, EntryRemoved, StepAdded, StepChanged}
+use Rattle.dq_tables.specs.Rows.{IsRising, IsOf, RowPlace, place, row_place_of, rows_elsewhere, after, after_edit, after_edits, operation_of, put_if, Put, Start, record_of}
 use Rattle.dq_tables.specs.Finding.{row_at, is_of, rows_of}
-use Rattle.dq_tables.specs.Sound.{IsNew, IsNewIf, FitsStored, IsChanged}
+use Rattle.dq_tables.specs.Sound.{IsNew, IsNewIf, FitsStored, FitsStep, IsChanged}
 use Rattle.dq_tables.proofs.Order.{is_at, each_passed}
 use Rattle.dq_tables.proofs.Lens.{rising_edit}
 use Rattle.dq_tables.proofs.Listing.{one_kind, its_kind}
 use Rattle.dq_tables.proofs.Members.{put_has, added_has, removed_has, one_at}
 use Rattle.dq_tables.proofs.Soundness.{stored_is}
+use Rattle.dq_tables.proofs.Started.{started, is_found, start_is_put, start_of_none}
 use Rattle.dq_sql.specs.declared.counts.Count.{Count}
 use Rattle.dq_sql.specs.declared.counts.Counts.{Counts}
 use Rattle.dq_sql.specs.Counts.{IsRight, AreRight, added}
@@ -142,14 +143,40 @@ alike kind inst x y rows p q =
     counted_if (is_of kind inst x) x others ∙ ap (λ (b : Bool). if b then suc (length others) else length others) same
     ∙ sym (counted_if (is_of kind inst y) y others)
 
--- a step that takes the place of another is neither
-pub changed_right : (row : Row) (rows : List Row) (counts : Counts) → IsRising rows → IsChanged rows Step row → AreRight rows counts
-    → AreRight (after (operation_of (StepChanged row)) rows) counts
-changed_right row rows counts rising fits right =
+-- a row that takes the place of another is neither
+put_right : (row : Row) (rows : List Row) (counts : Counts) → IsRising rows → is_some (row_at row.kind row.inst row.key rows) ≡ true → AreRight rows counts
+    → AreRight (after_edit row.inst (Put (record_of row)) rows) counts
+put_right row rows counts rising there right =
     let p = row_place_of row in
-    let there = subst (λ (k : Kind). is_some (row_at k row.inst row.key rows) ≡ true) (sym fits.kind_is) fits.there in
     let it = standing p rows rising there in
     let put = right_moved _ _ counts (put_has row rows rising) in
     let before = right_moved _ _ counts it.first right in
     put (λ i d low. as_right (it.row ∷ rows_elsewhere p rows) (row ∷ rows_elsewhere p rows) (get_or counts.known.items i d)
     (alike _ _ it.row row (rows_elsewhere p rows) it.at.kind it.at.institution) (before i d low))
+
+pub changed_right : (row : Row) (rows : List Row) (counts : Counts) → IsRising rows → IsChanged rows Step row → AreRight rows counts
+    → AreRight (after (operation_of (StepChanged row)) rows) counts
+changed_right row rows counts rising fits right =
+    put_right row rows counts rising (subst (λ (k : Kind). is_some (row_at k row.inst row.key rows) ≡ true) (sym fits.kind_is) fits.there) right
+
+started_right : (h key : List ℕ) (rows : List Row) (counts : Counts) → IsRising rows → AreRight rows counts → (o : Option Row) → row_at Entry h key rows ≡ o
+    → AreRight (after_edit h (Start key) rows) counts
+started_right h key rows counts rising right None e = subst (λ (l : List Row). AreRight l counts) (sym (start_of_none h key rows rising e)) right
+started_right h key rows counts rising right (Some row) e =
+    let it = is_found h key rows row e in
+    let there : is_some (row_at row.kind row.inst row.key rows) ≡ true = rw (it.kind_is, it.inst_is, it.key_is, e) refl in
+    subst (λ (l : List Row). AreRight l counts) (sym (start_is_put h key rows row e)) (put_right (started row) rows counts rising there right)
+
+starts_right : (h : List ℕ) (keys : List (List ℕ)) (rows : List Row) (counts : Counts) → IsRising rows → AreRight rows counts
+    → AreRight (after_edits h (map Start keys) rows) counts
+starts_right h [] rows counts rising right = right
+starts_right h (key ∷ keys) rows counts rising right =
+    starts_right h keys (after_edit h (Start key) rows) counts (rising_edit h (Start key) rows rising)
+    (started_right h key rows counts rising right (row_at Entry h key rows) refl)
+
+-- a step is one more, and entries that it starts are neither
+pub step_right : (row : Row) (keys : List (List ℕ)) (rows : List Row) (counts : Counts) → IsRising rows → FitsStep rows row keys → AreRight (row ∷ rows) counts
+    → AreRight (after (operation_of (StepAdded row keys)) rows) counts
+step_right row keys rows counts rising fits right =
+    starts_right row.inst keys (after_edit row.inst (Put (record_of row)) rows) counts (rising_edit row.inst (Put (record_of row)) rows rising)
+    (new_right rows rising Step row counts fits.step_new right)

@@ -21,6 +21,7 @@ mod Selecting
 mod Silent
 pub mod Statements
 mod Started
+mod Starting
 mod Staying
 mod Texts
 mod Walks

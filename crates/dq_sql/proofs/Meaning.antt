@@ -1,6 +1,6 @@
 -- From the clause of a call to the rows that it reads.
-use Rattle.std.proofs.Common.{◌≡◌, ℕ, ℤ, int_cmp, int_le, is_eq, is_le, min, slice_index_or, pos, Option, Bool, true, false, ◌&&◌, List, [], ◌∷◌, None, Some, map, filter, length, slice_get, if◌then◌else◌, refl, sym, ◌∙◌, ap, subst, arith}
-use Rattle.std.specs.List.{AllByRecursion, find}
+use Rattle.std.proofs.Common.{◌≡◌, ℕ, ℤ, int_cmp, int_le, is_eq, is_le, min, slice_index_or, pos, Option, Bool, true, false, ◌&&◌, List, [], ◌∷◌, None, Some, map, filter, length, slice_get, refl, sym, ◌∙◌, ap, subst, arith}
+use Rattle.std.specs.List.{AllByRecursion}
 use Rattle.std.specs.List.Sorted.{IsPermutation}
 use Rattle.std.specs.Str.{bytes_eq}
 use Rattle.std.specs.declared.cmp.Ordering.TheVariants.{Less, Equal}
@@ -52,7 +52,7 @@ use Rattle.dq_sql.proofs.Found.{found_rows, listed_rows}
 use Rattle.dq_sql.proofs.Counting.{count_answer, size_found}
 use Rattle.dq_sql.proofs.Selected.{first_kept}
 use Rattle.dq_sql.proofs.Placed.{equals, equals-Int, equals-Text, equals-Blob}
-use Rattle.dq_sql.proofs.Silent.{row_silent, of_silent, above_silent, chosen_silent, named_silent, count_silent, count_above_silent, all_silent, version_silent}
+use Rattle.dq_sql.proofs.Silent.{row_silent, of_silent, above_silent, chosen_silent, named_silent, count_silent, count_above_silent, all_one_silent, all_two_silent, version_silent}
 use Rattle.dq_sql.proofs.Staying.{shown_unchanged}
 
 pub answer_of : (version : Version) (text : List ℕ) (q : Query) → Means version text q → (params : Values) (old new : State) → old.now.schema ≡ schema_of version
@@ -380,9 +380,9 @@ unstarted_shown (r ∷ tree) = ap (λ l. unstarted r ∷ l) (unstarted_shown tre
 
 pub shows_rows : (version : Version) (old new : State) (answer : List Values) → Shown (all_text version) [] old new answer → Shows version old (kept_shown version) answer
 shows_rows One old new answer h =
-    let it = shows_tree One (all_text One) 0 (all_columns One) by_place (all_means One) (all_silent One) old new refl answer h in
+    let it = shows_tree One (all_text One) 0 (all_columns One) by_place (all_means One) all_one_silent old new refl answer h in
     record { is_open = it.is_open; rows = λ has. subst (λ l. IsPermutation l answer) (unstarted_shown (old.now.trees 0)) (it.rows has) }
-shows_rows Two old new answer h = shows_tree Two (all_text Two) 0 (all_columns Two) by_place (all_means Two) (all_silent Two) old new refl answer h
+shows_rows Two old new answer h = shows_tree Two (all_text Two) 0 (all_columns Two) by_place (all_means Two) all_two_silent old new refl answer h
 
 pub shows_versions : (old new : State) (answer : List Values) → Shown version_text [] old new answer → (version : Version) → Shows version old numbers_shown answer
 shows_versions old new answer h version =

@@ -6,9 +6,8 @@ use Rattle.std.specs.List.Sorted.{IsPermutation}
 use Rattle.std.proofs.lemmas.List.Sorted.{length_permutation}
 use Rattle.std.proofs.lemmas.Map.Text.{is_eq-slice_cmp}
 use Rattle.std.proofs.lemmas.Slice.Eq.{bytes_eq-Decides}
-use Rattle.sqlite_value.specs.declared.value.Value.{Value}
 use Rattle.sqlite_value.specs.declared.value.Value.TheVariants.{Int, Text, Blob}
-use Rattle.sqlite_value.specs.Order.{Row as Values, column}
+use Rattle.sqlite_value.specs.Order.{Row as Values}
 use Rattle.sqlite_trees.specs.Tree.{rowid, put_row}
 use Rattle.sqlite_trees.specs.View.{is_int}
 use Rattle.sqlite_sql.specs.Term.{Term, eval_all}
@@ -122,7 +121,7 @@ recast row id = rw (cast-Int, cast-Int, cast-Int, day_cast row) refl
 
 -- The one row at a place is taken out, and put in as another row of the place.
 moved_one : (d e : Database) (row : Row) (params : Values) (project : List Term) (it : Updated d e (row_place_of row) params project) (rows : List Row) (has : HasRows d rows)
-    (x : Values) → filter (holds_at (row_place_of row)) (d.trees 0) ≡ x ∷ [] → drop 1 (eval_all project (params ∷ x ∷ [])) ≡ Int (id_in (rowid x)) ∷ columns_of row
+    (x : Values) → filter (holds_at (row_place_of row)) (d.trees 0) ≡ x ∷ [] → eval_all project (params ∷ x ∷ []) ≡ rowid x ∷ Int (id_in (rowid x)) ∷ columns_of row
     → HasRows e (after_edit row.inst (Put (record_of row)) rows)
 moved_one d e row params project it rows has x one shows =
     let p = row_place_of row in
@@ -132,9 +131,8 @@ moved_one d e row params project it rows has x one shows =
     let id = id_in (rowid x) in
     let new = Int id ∷ columns_of row in
     let left = filter (λ r. not (q r)) (d.trees 0) in
-    let found : it.found ≡ f x ∷ [] = shown_one p d rows has f it.found x it.shown one in
-    let cast : cast_row (kept_table Two) (drop 1 (f x)) ≡ new = ap (cast_row (kept_table Two)) shows ∙ recast row id in
-    let news : recasts it.found ≡ new ∷ [] = ap recasts found ∙ ap (λ r. r ∷ []) cast in
+    let found : it.found ≡ (rowid x ∷ new) ∷ [] = shown_one p d rows has f it.found x it.shown one ∙ ap (λ s. s ∷ []) shows in
+    let news : recasts it.found ≡ new ∷ [] = ap recasts found ∙ ap (λ r. r ∷ []) (recast row id) in
     let base : without_all (d.trees 0) (ids_of it.found) ≡ left =
     ap (λ l. without_all (d.trees 0) (ids_of l)) found ∙ named q x id (the_id p d rows has x one) (d.trees 0) has.table.apart one in
     let is : e.trees 0 ≡ put_row new left = it.edits.rows ∙ ap (λ l. put_all l (recasts it.found)) base ∙ ap (put_all left) news in
@@ -152,7 +150,7 @@ replaced d e row it rows has there =
       | inr one ↦ moved_one d e row (columns_of row) changed it rows has one.0 one.1 (shows one.0 one.1)
     ]
   where
-    shows : (x : Values) → filter (holds_at (row_place_of row)) (d.trees 0) ≡ x ∷ [] → drop 1 (eval_all changed (columns_of row ∷ x ∷ [])) ≡ Int (id_in (rowid x)) ∷ columns_of row
+    shows : (x : Values) → filter (holds_at (row_place_of row)) (d.trees 0) ≡ x ∷ [] → eval_all changed (columns_of row ∷ x ∷ []) ≡ rowid x ∷ Int (id_in (rowid x)) ∷ columns_of row
     shows x one =
         let p = row_place_of row in
         let kept = is_kept p d rows has x one in
@@ -161,14 +159,14 @@ replaced d e row it rows has there =
         let kind = kept.kind ∙ ap (λ k. Int (pos (number_of k))) at.kind in
         let inst = kept.inst ∙ ap Text at.institution in
         let key = kept.key ∙ ap Blob at.key in
-        λ i. id i ∷ kind i ∷ inst i ∷ key i ∷ Blob row.above ∷ patient_of row ∷ day_of row ∷ Blob row.octets ∷ flag row.started ∷ []
+        λ i. rowid x ∷ id i ∷ kind i ∷ inst i ∷ key i ∷ Blob row.above ∷ patient_of row ∷ day_of row ∷ Blob row.octets ∷ flag row.started ∷ []
 
 -- ---- an entry that is started
 
-begun_shows : (x : Values) (id : ℤ) → rowid x ≡ Int id → IsKept x → (params : Values) → drop 1 (eval_all begun (params ∷ x ∷ [])) ≡ Int id ∷ columns_of (started (kept_of x))
+begun_shows : (x : Values) (id : ℤ) → rowid x ≡ Int id → IsKept x → (params : Values) → eval_all begun (params ∷ x ∷ []) ≡ rowid x ∷ Int id ∷ columns_of (started (kept_of x))
 unfolding patient_of day_of labels.patient_of labels.day_of
 begun_shows x id is kept params =
-    λ i. is i ∷ kept.kind i ∷ kept.inst i ∷ kept.key i ∷ kept.above i ∷ kept.patient i ∷ kept.day i ∷ kept.octets i ∷ Int (pos 1) ∷ []
+    λ i. rowid x ∷ is i ∷ kept.kind i ∷ kept.inst i ∷ kept.key i ∷ kept.above i ∷ kept.patient i ∷ kept.day i ∷ kept.octets i ∷ Int (pos 1) ∷ []
 
 module _ (d e : Database) (institution key : List ℕ) (it : Updated d e (place Entry institution key) (at_params Entry institution key) begun) (rows : List Row) (has : HasRows d rows) where
   abbrev p : RowPlace

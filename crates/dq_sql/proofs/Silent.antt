@@ -11,7 +11,6 @@ use Rattle.sqlite_resolve.specs.Scope.{Name}
 use Rattle.sqlite_resolve.specs.Compile.{compiled, first, planned, meaning, returning, command, timed, small, with_command}
 use Rattle.sqlite_tied.specs.Compute.{everything}
 use Rattle.sqlite.specs.Listing.{understood, if_select, is_select, reads_listing, listing_schema}
-use Rattle.dq_sql.specs.declared.version.Version.{Version}
 use Rattle.dq_sql.specs.declared.version.Version.TheVariants.{One, Two}
 use Rattle.dq_sql.specs.Reading.{ShowsNoWrite}
 use Rattle.dq_sql.proofs.Queries.{row_text, of_text, above_text, chosen_text, named_text, count_text, count_above_text, all_text, version_text}
@@ -109,13 +108,19 @@ count_above_bare schema base = refl
 pub count_above_silent : ShowsNoWrite count_above_text
 count_above_silent = bare_shows count_above_text count_above_bare
 
-all_bare : (version : Version) → IsBare (all_text version)
+all_one_bare : IsBare (all_text One)
 unfolding everything
-all_bare One schema base = refl
-all_bare Two schema base = refl
+all_one_bare schema base = refl
 
-pub all_silent : (version : Version) → ShowsNoWrite (all_text version)
-all_silent version = bare_shows (all_text version) (all_bare version)
+pub all_one_silent : ShowsNoWrite (all_text One)
+all_one_silent = bare_shows (all_text One) all_one_bare
+
+all_two_bare : IsBare (all_text Two)
+unfolding everything
+all_two_bare schema base = refl
+
+pub all_two_silent : ShowsNoWrite (all_text Two)
+all_two_silent = bare_shows (all_text Two) all_two_bare
 
 version_bare : IsBare version_text
 unfolding everything

@@ -29,10 +29,10 @@ columns r =
 
 -- The store is open, and where it has the tables of the version these are the rows that it has, in
 -- any order.
-pub record Shows (version : Version) (s : State) (rows : Database → List Values)
+pub record Shows (version : Version) (s : State) (shown : Database → List Values)
     (answer : List Values) : Type 0 where
   pub is_open : IsTrue s.is_open
-  pub rows : s.now.schema ≡ schema_of version → IsPermutation (rows s.now) answer
+  pub rows : s.now.schema ≡ schema_of version → IsPermutation (shown s.now) answer
 
 -- the rows of the table `kept`
 abbrev pub kept_shown : Version → Database → List Values

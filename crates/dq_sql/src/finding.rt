@@ -112,7 +112,10 @@ pub fn kept_rows<S: Alter>(
     let Some(shaped) = version_found(conn) else {
         return Err(StoreFault::Store);
     };
-    if shaped != version || !is_of_version(conn, version)? {
+    if shaped != version {
+        return Err(StoreFault::WrongVersion);
+    }
+    if !is_of_version(conn, version)? {
         return Err(StoreFault::WrongVersion);
     }
     let found = rows_read(conn, version)?;

@@ -342,7 +342,7 @@ pub(crate) fn count_above<S: Alter>(
 
 /// The rows of the table `kept` of a version, each with its rowid, in the order of kind, institution
 /// and id.
-#[tactic(auto, using(crate::proofs::Silent::all_silent, crate::proofs::Silent::all_one_silent))]
+#[tactic(auto, using(crate::proofs::Silent::all_one_silent, crate::proofs::Silent::all_two_silent))]
 pub(crate) fn rows_read<S: Alter>(
     conn: &mut Connection<S>,
     version: Version,

@@ -1,5 +1,5 @@
-use Rattle.dq_tables.specs.declared.row.Kind.TheVariants.{Entry, Step}
-use Rattle.dq_sql.proofs.Counted.{stored_right, new_right, gone_right, changed_right}
+use Rattle.dq_tables.specs.declared.row.Kind.TheVariants.{Entry}
+use Rattle.dq_sql.proofs.Counted.{stored_right, new_right, gone_right, step_right, changed_right}
 use Rattle.dq_sql.proofs.counts.Counts.follow.Goals as goal
 
 pub returns-in-Stored : goal.returns-in-Stored
@@ -22,7 +22,7 @@ returns-in-EntryRemoved c rows rising fits right =
 pub returns-in-StepAdded : goal.returns-in-StepAdded
 returns-in-StepAdded c rows rising fits right =
     let it = c.in-StepAdded in
-    rw it.is (new_right rows rising Step it.row c.add-in-StepAdded.new.self (rw it.is at fits) (c.add-in-StepAdded.ensures rows right))
+    rw it.is (step_right it.row it.field-1 rows c.add-in-StepAdded.new.self rising (rw it.is at fits) (c.add-in-StepAdded.ensures rows right))
 
 pub returns-in-StepChanged : goal.returns-in-StepChanged
 returns-in-StepChanged c rows rising fits right =

@@ -1,6 +1,7 @@
 use Rattle.std.proofs.Common.{Err, ◌∙◌, sym, ap, subst}
 use Rattle.sqlite.specs.State.{HasCleanDisk}
 use Rattle.sqlite.specs.Held.{state}
+use Rattle.dq_sql.specs.declared.version.Version.TheVariants.{Two}
 use Rattle.dq_sql.specs.Adopting.{IsFound, IsRefused}
 use Rattle.dq_sql.specs.Keeping.{MayLeave}
 use Rattle.dq_sql.proofs.Adopted.{found_keeps, found_settled, found_crash, refused_by}
@@ -17,7 +18,7 @@ pub returns-clause-found : goal.returns-clause-found
 returns-clause-found g c clean =
     let old = state g.S.Store c.args.conn in
     let early = subst (λ h. HasCleanDisk (state g.S.Store h)) c.over-2.ensures.conn clean in
-    subst (IsFound old) (sym (c.over-2.ensures.rows ∙ c.from_inner.ensures)) (c.in_ok-rows.ensures.found early)
+    subst (IsFound Two old) (sym (c.over-2.ensures.rows ∙ c.from_inner.ensures)) (c.in_ok-rows.ensures.found early)
 
 pub returns-clause-settled : goal.returns-clause-settled
 returns-clause-settled g c clean = record {
@@ -41,11 +42,11 @@ returns-clause-crash g c clean r left =
 
 pub returns-in_err-rows-clause-refused : goal.returns-in_err-rows-clause-refused
 returns-in_err-rows-clause-refused g c =
-    refused_by c.from_residual.result (λ e. ∥ IsRefused g.S.Store c.args.conn e ∥₁) c.from_residual.ensures.1
+    refused_by c.from_residual.result (λ e. ∥ IsRefused g.S.Store Two c.args.conn e ∥₁) c.from_residual.ensures.1
     (∣ record {
       left = c.kept_rows.new.conn;
       stays = c.kept_rows.ensures.stays;
-      version = λ clean is. c.in_err-rows.ensures.version clean (ap Err is);
+      wrong = λ clean is. c.in_err-rows.ensures.wrong clean (ap Err is);
       said = λ clean is. c.in_err-rows.ensures.said clean (ap Err is);
       bad = λ clean is. c.in_err-rows.ensures.bad clean (ap Err is);
     } ∣₁)
