@@ -20,7 +20,7 @@ use Rattle.dq_tables.proofs.Members.{one_at}
 use Rattle.dq_tables.proofs.Lens.{rising}
 use Rattle.dq_tables.proofs.Started.{started, is_found, start_is_put, start_of_none}
 use Rattle.dq_tables.proofs.Soundness.{starts_sound}
-use Rattle.dq_sql.specs.declared.starting.Starts.{Starts}
+use Rattle.dq_sql.specs.declared.kept_steps.NamedEntries.{NamedEntries}
 use Rattle.dq_sql.specs.Migrating.{starts_of, started_by, steps_among, migrated, is_named, with_start}
 
 -- ---- rows that are started by a test
@@ -191,21 +191,21 @@ steps_more rows i row within is =
     ap steps_among (take_more rows i row within ∙ ap (λ r. take i rows ++ r ∷ []) (sym is))
     ∙ filter-append (λ (r : Row). same_kind r.kind Step) (take i rows) (row ∷ [])
 
-pub next_step : (rows : List Row) (i : ℕ) (row : Row) (all : List Starts) (starts : Starts) → i < length rows → row ≡ get_or rows i row
+pub next_step : (rows : List Row) (i : ℕ) (row : Row) (all : List NamedEntries) (starts : NamedEntries) → i < length rows → row ≡ get_or rows i row
     → same_kind row.kind Step ≡ true → map started_by all ≡ map starts_of (steps_among (take i rows)) → started_by starts ≡ starts_of row
     → map started_by (all ++ starts ∷ []) ≡ map starts_of (steps_among (take (i + 1) rows))
 next_step rows i row all starts within is kind had one =
     map-append started_by all (starts ∷ []) ∙ ap₂ (λ xs y. xs ++ y ∷ []) had one
     ∙ sym (ap (map starts_of) (steps_more rows i row within is ∙ rw kind refl) ∙ map-append starts_of (steps_among (take i rows)) (row ∷ []))
 
-pub no_step : (rows : List Row) (i : ℕ) (row : Row) (all : List Starts) → i < length rows → row ≡ get_or rows i row
+pub no_step : (rows : List Row) (i : ℕ) (row : Row) (all : List NamedEntries) → i < length rows → row ≡ get_or rows i row
     → same_kind row.kind Step ≡ false → map started_by all ≡ map starts_of (steps_among (take i rows))
     → map started_by all ≡ map starts_of (steps_among (take (i + 1) rows))
 no_step rows i row all within is kind had =
     had ∙ ap (map starts_of) (sym (steps_more rows i row within is ∙ rw kind (append-nil (steps_among (take i rows)))))
 
 -- what one more step starts
-pub next_starts : (all : List Starts) (i : ℕ) (starts : Starts) (rows mid new : List Row) → i < length all → starts ≡ get_or all i starts
+pub next_starts : (all : List NamedEntries) (i : ℕ) (starts : NamedEntries) (rows mid new : List Row) → i < length all → starts ≡ get_or all i starts
     → mid ≡ after_all (map started_by (take i all)) rows → new ≡ after (started_by starts) mid → new ≡ after_all (map started_by (take (i + 1) all)) rows
 next_starts all i starts rows mid new within is had next =
     next ∙ ap (after (started_by starts)) had
@@ -214,7 +214,7 @@ next_starts all i starts rows mid new within is had next =
     ∙ ap (map started_by) (sym (take_more all i starts within)))
 
 -- all steps
-pub all_started : (all given : List Starts) (i : ℕ) (rows shown new : List Row) → shown ≡ rows → map started_by all ≡ map starts_of (steps_among shown)
+pub all_started : (all given : List NamedEntries) (i : ℕ) (rows shown new : List Row) → shown ≡ rows → map started_by all ≡ map starts_of (steps_among shown)
     → given ≡ all → length given ≤ i → new ≡ after_all (map started_by (take i given)) rows → new ≡ migrated rows
 unfolding migrated
 all_started all given i rows shown new same found is whole done =

@@ -7,7 +7,7 @@ use Rattle.dq_tables.specs.Rows.{Operation, Start, by, after_all, same_kind}
 use Rattle.dq_tables.specs.Finding.{is_of}
 use Rattle.dq_tables.specs.Records.{data_set_of}
 use Rattle.dq_tables.specs.Starting.{ids_named, names}
-use Rattle.dq_sql.specs.declared.starting.Starts.{Starts}
+use Rattle.dq_sql.specs.declared.kept_steps.NamedEntries.{NamedEntries}
 
 -- A kept step starts the entries of its institution that it names.
 abbrev pub starts_of : Row → Operation
@@ -21,8 +21,8 @@ unfoldable pub migrated : List Row → List Row
 migrated rows = after_all (map starts_of (steps_among rows)) rows
 
 -- what a step was found to start
-abbrev pub started_by : Starts → Operation
-started_by starts = by starts.inst (map Start starts.ids)
+abbrev pub started_by : NamedEntries → Operation
+started_by entries = by entries.inst (map Start entries.ids)
 
 -- the row is an entry that a kept step of its institution names
 abbrev pub is_named : List Row → Row → Bool

@@ -10,6 +10,7 @@ mod finding;
 mod history;
 mod ids;
 mod judging;
+mod kept_steps;
 pub mod laws;
 mod migrate_fault;
 mod migrating;
@@ -19,7 +20,6 @@ mod placing;
 mod reading;
 mod schema_test;
 mod sql_tables;
-mod starting;
 mod version;
 mod writing;
 

@@ -9,9 +9,9 @@ ghost use Rattle.dq_sql.specs.Migration.{Migrates, IsNotMigrated};
 
 use crate::filling::{fill_store, is_new_store};
 use crate::finding::kept_rows;
+use crate::kept_steps::start_named;
 use crate::migrate_fault::MigrateFault;
 use crate::sql_tables::SqlTables;
-use crate::starting::start_named;
 use crate::version::Version;
 use dq_list::Listed;
 use dq_tables::Tables;

@@ -1,4 +1,4 @@
-//! What the kept steps of a store start, which was made when none was started.
+//! Entries that the kept steps of a store name, which are started where the store is migrated.
 ghost use Rattle.std.specs.Prelude.{◌≡◌, map, IfOk, OnOk};
 ghost use Rattle.dq_tables.specs.Rows.{IsRising, after};
 ghost use Rattle.dq_tables.specs.Sound.{IsSound};
@@ -10,18 +10,18 @@ use std::alloc::{AllocError, Global};
 
 /// The entries of an institution that a step names.
 #[derive(Drop)]
-struct Starts {
+struct NamedEntries {
     inst: Listed<u8>,
     ids: Listed<Listed<u8>>,
 }
 
-impl Starts {
-    /// What a step starts.
-    fn of(alloc: Global, step: &Row) -> Result<Starts, AllocError>
-        ensures { IfOk result (λ starts. started_by starts ≡ starts_of step.now) }
+impl NamedEntries {
+    /// What a step names.
+    fn of(alloc: Global, step: &Row) -> Result<NamedEntries, AllocError>
+        ensures { IfOk result (λ entries. started_by entries ≡ starts_of step.now) }
     {
         let data_set = step.data_set(alloc)?;
-        Ok(Starts {
+        Ok(NamedEntries {
             inst: Listed::copy_of(alloc, step.inst.as_slice())?,
             ids: ids_named(alloc, &data_set)?,
         })
@@ -39,14 +39,14 @@ impl Starts {
     }
 }
 
-/// What each step among the rows starts.
-fn starts_among(alloc: Global, rows: &[Row]) -> Result<Vec<Starts>, AllocError>
+/// What each step among the rows names.
+fn named_by_steps(alloc: Global, rows: &[Row]) -> Result<Vec<NamedEntries>, AllocError>
     ensures { IfOk result (λ all. map started_by all.items ≡ map starts_of (steps_among rows.now)) }
 {
     let mut all = Vec::new(alloc);
     for row in rows {
         if row.kind == Kind::Step {
-            all.push(Starts::of(alloc, row)?)?;
+            all.push(NamedEntries::of(alloc, row)?)?;
         }
     }
     Ok(all)
@@ -58,9 +58,9 @@ pub(crate) fn start_named(alloc: Global, rows: &mut Vec<Row>) -> Result<(), Allo
     ensures done { OnOk result (rows.new.items ≡ migrated rows.old.items) }
     ensures sound { OnOk result (IsSound rows.new.items) }
 {
-    let all = starts_among(alloc, rows.as_slice())?;
-    for starts in &all {
-        starts.start(rows);
+    let all = named_by_steps(alloc, rows.as_slice())?;
+    for entries in &all {
+        entries.start(rows);
     }
     Ok(())
 }

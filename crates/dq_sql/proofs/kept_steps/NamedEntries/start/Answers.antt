@@ -1,6 +1,6 @@
 use Rattle.std.proofs.Common.{sym}
 use Rattle.dq_tables.proofs.Soundness.{start_more}
-use Rattle.dq_sql.proofs.starting.Starts.start.Goals as goal
+use Rattle.dq_sql.proofs.kept_steps.NamedEntries.start.Goals as goal
 
 pub loop-id-preserved : goal.loop-id-preserved
 loop-id-preserved c = (

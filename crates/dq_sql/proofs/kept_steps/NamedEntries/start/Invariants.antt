@@ -1,6 +1,6 @@
 use Rattle.std.proofs.Common.{◌≡◌, map, take}
 use Rattle.dq_tables.specs.Rows.{Start, after_edits, IsRising}
-use Rattle.dq_sql.proofs.starting.Starts.start.Given as goal
+use Rattle.dq_sql.proofs.kept_steps.NamedEntries.start.Given as goal
 
 abbrev pub invariant-loop-id : goal.invariant-loop-id
 invariant-loop-id l =
