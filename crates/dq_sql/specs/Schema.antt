@@ -114,6 +114,6 @@ schema_of version = record {
   views = [];
 }
 
--- that of a store of rows as they are kept now
+-- that in which rows are kept
 abbrev pub kept_schema : Schema
 kept_schema = schema_of Two

@@ -90,7 +90,7 @@ pub record HasRowsOf (version : Version) (d : Database) (rows : List Row) : Type
   pub version_is : IsOfVersion version d
   pub table : HoldsRows (kept_in version d) rows
 
--- a store of rows as they are kept now
+-- Rows are kept in a store of version 2.
 abbrev pub HasRows : Database → List Row → Type 0
 HasRows = HasRowsOf Two
 

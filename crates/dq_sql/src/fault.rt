@@ -13,11 +13,10 @@ pub enum StoreFault {
     #[error("out of memory")]
     NoMemory = 1,
     /// The store failed, or is not one of those that are taken: `open` takes an empty one, `adopt`
-    /// one that has the tables and the index that `open` makes, and nothing else; one of another
-    /// version has its tables.
+    /// and `kept_rows` one that has the tables and the index of a version, and nothing else.
     #[error("the store failed, or is not a store of rows")]
     Store = 2,
-    /// The version of the store is not 2.
+    /// The store is of another version than 2, or than the one that `kept_rows` is to read.
     #[error("the store is of another version")]
     WrongVersion = 3,
     /// A row of the store is not its record's own, or the row above it is missing.
