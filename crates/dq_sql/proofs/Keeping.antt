@@ -12,7 +12,7 @@ use Rattle.dq_tables.specs.Rows.{after, operation_of, IsRising}
 use Rattle.dq_tables.specs.Sound.{IsSound, Fits}
 use Rattle.dq_tables.proofs.Soundness.{change_sound}
 use Rattle.dq_sql.specs.Tie.{HasRows, Stays}
-use Rattle.dq_sql.specs.Making.{IsNewStore}
+use Rattle.dq_sql.specs.Filling.{IsFilled}
 use Rattle.dq_sql.specs.Reading.{HoldsOf}
 use Rattle.dq_sql.specs.Writing.{IsMade, IsUndone, Commits}
 use Rattle.dq_sql.specs.Keeping.{Keeps, MayLeave, under_schema}
@@ -133,24 +133,25 @@ followed_counted old new rows change before after_it survives kept fits counted 
     let was : HasCleanDisk old = omega (arith, survives.clean) in
     follows (kept_sound old rows kept was).rising (fits was) (right was))
 
-no_rows_sound : IsSound []
+pub no_rows_sound : IsSound []
 unfolding IsRising
 no_rows_sound = record { rising = tt; own = tt; held = tt }
 
--- a new store keeps no rows
-pub new_keeps : (s : Connected) → ((trees : Trees) → IsTrue s.is_open → s.may_leave trees → trees ≡ s.committed.trees) → IsNewStore s → Keeps s []
-new_keeps s settled new = record {
-  sound = no_rows_sound;
-  has = λ opened. new.empty;
-  settled = λ opened. new.settled;
+-- a store that was filled keeps its rows
+pub filled_keeps : (s : Connected) (rows : List Row) → ((trees : Trees) → IsTrue s.is_open → s.may_leave trees → trees ≡ s.committed.trees)
+    → IsSound rows → IsFilled s rows → Keeps s rows
+filled_keeps s rows settled sound filled = record {
+  sound = sound;
+  has = λ opened. filled.has;
+  settled = λ opened. filled.settled;
   left = λ trees left.
-      let is : s.now.trees ≡ trees = sym (settled trees new.is_open left ∙ ap (λ (d : Database). d.trees) (sym new.settled)) in
-      record { rows = []; has = subst (λ t. HasRows (under_schema t) []) is (under s.now [] new.empty); sound = no_rows_sound };
+      let is : s.now.trees ≡ trees = sym (settled trees filled.is_open left ∙ ap (λ (d : Database). d.trees) (sym filled.settled)) in
+      record { rows = rows; has = subst (λ t. HasRows (under_schema t) rows) is (under s.now rows filled.has); sound = sound };
 }
 
--- and a crash leaves none
-pub new_settled : (s : Connected) → ((trees : Trees) → IsTrue s.is_open → s.may_leave trees → trees ≡ s.committed.trees) → IsNewStore s
-    → (r : List Row) → MayLeave s r → r ≡ []
-new_settled s settled new r left =
-    let is : left.trees ≡ s.now.trees = settled left.trees new.is_open left.left ∙ ap (λ (d : Database). d.trees) (sym new.settled) in
-    one_list (under_schema s.now.trees) r [] (subst (λ t. HasRows (under_schema t) r) is left.has) (under s.now [] new.empty)
+-- and a crash leaves them
+pub filled_settled : (s : Connected) (rows : List Row) → ((trees : Trees) → IsTrue s.is_open → s.may_leave trees → trees ≡ s.committed.trees)
+    → IsFilled s rows → (r : List Row) → MayLeave s r → r ≡ rows
+filled_settled s rows settled filled r left =
+    let is : left.trees ≡ s.now.trees = settled left.trees filled.is_open left.left ∙ ap (λ (d : Database). d.trees) (sym filled.settled) in
+    one_list (under_schema s.now.trees) r rows (subst (λ t. HasRows (under_schema t) r) is left.has) (under s.now rows filled.has)

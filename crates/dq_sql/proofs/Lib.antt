@@ -1,12 +1,14 @@
 mod Added
 mod Counted
 mod Counting
+mod Filled
 mod Found
 mod Inserted
 mod Judged
 mod Keeping
 mod Making
 mod Meaning
+mod Migrated
 mod Moved
 mod NewStore
 mod Ordered
@@ -18,6 +20,7 @@ mod Selected
 mod Selecting
 mod Silent
 pub mod Statements
+mod Started
 mod Starting
 mod Staying
 mod Texts

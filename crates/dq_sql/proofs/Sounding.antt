@@ -117,6 +117,14 @@ good_shown r h =
 shown_kept : (r : Values) → IsKept (columns r) → IsKept r
 shown_kept r k = record { kind = k.kind; inst = k.inst; key = k.key; above = k.above; patient = k.patient; day = k.day; octets = k.octets; started = k.started }
 
+-- Found rows are sound, whatever the store has.
+pub found_sound : (found : List Values) (rows : List Row) → AreSound found rows → IsSound rows
+found_sound found rows sound = record {
+  rising = sound.good.rising;
+  own = each_moved (λ (row : Row). is_own row ≡ true) (map kept_of found) rows sound.good.same (own_each found sound.good.each);
+  held = sound.held;
+}
+
 -- The store has the rows that are found.
 pub found_from : (version : Version) (s : State) (found : List Values) (rows : List Row) → IsAtRest s → IsOfVersion version s.now → Shows version s (kept_shown version) found
     → AreSound found rows → IsFound version s rows
@@ -139,11 +147,7 @@ found_from version s found rows rest ours shows sound =
           rising = sound.good.rising;
         };
       };
-      sound = record {
-        rising = sound.good.rising;
-        own = each_moved (λ (row : Row). is_own row ≡ true) (map kept_of found) rows sound.good.same (own_each found sound.good.each);
-        held = sound.held;
-      };
+      sound = found_sound found rows sound;
     }
 
 -- Where the store has sound rows, these are found.

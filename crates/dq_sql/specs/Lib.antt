@@ -10,3 +10,6 @@ pub mod Keeping
 pub mod Kept
 pub mod Adopting
 pub mod Counts
+pub mod Filling
+pub mod Migrating
+pub mod Migration

@@ -1,13 +1,12 @@
 -- How a store of rows is made: what each statement of the one transaction makes of the database.
-use Rattle.std.specs.Prelude.{◌≡◌, [], false, IsTrue}
-use Rattle.sqlite_trees.specs.Tree.{Trees}
+use Rattle.std.specs.Prelude.{◌≡◌, [], IsTrue}
 use Rattle.sqlite_schema.specs.declared.schema.Schema.{Schema}
 use Rattle.sqlite_catalog.specs.Change.{created}
 use Rattle.sqlite.specs.Effect.{Database}
 use Rattle.sqlite.specs.State.{State}
 use Rattle.dq_sql.specs.declared.version.Version.TheVariants.{Two}
 use Rattle.dq_sql.specs.Schema.{kept_table, version_table, kept_schema}
-use Rattle.dq_sql.specs.Tie.{IsOfVersion, HasRows}
+use Rattle.dq_sql.specs.Tie.{IsOfVersion}
 
 abbrev pub no_schema : Schema
 no_schema = record { tables = []; indexes = []; views = [] }
@@ -40,14 +39,3 @@ pub record GoesOn (old new : State) : Type 0 where
   pub is_open : IsTrue new.is_open
   pub committed : new.committed ≡ old.committed
   pub inside : IsTrue new.in_transaction
-
--- the trees of a store without rows
-abbrev pub HasNoRows : Trees → Type 0
-HasNoRows trees = let d : Database = record { schema = kept_schema; trees = trees } in HasRows d []
-
--- The store is open, has no rows, and all that it has is committed.
-pub record IsNewStore (s : State) : Type 0 where
-  pub is_open : IsTrue s.is_open
-  pub empty : HasRows s.now []
-  pub settled : s.now ≡ s.committed
-  pub autocommit : s.in_transaction ≡ false

@@ -90,7 +90,7 @@ fn sound_rows(alloc: Global, found: &[sqlite::Row]) -> Result<Vec<Row>, StoreFau
 /// version, or with more, is refused by `Store`, one of another version by `WrongVersion`, and one
 /// with a row that is not its record's own, or without the row above it, by `BadRows`. Nothing
 /// changes.
-#[tactic(auto, using(crate::proofs::Sounding::stays_then))]
+#[tactic(auto, using(crate::proofs::Sounding::found_sound, crate::proofs::Sounding::stays_then))]
 pub fn kept_rows<S: Alter>(
     conn: &mut Connection<S>,
     alloc: Global,
@@ -98,6 +98,7 @@ pub fn kept_rows<S: Alter>(
 ) -> Result<Vec<Row>, StoreFault>
     ensures found { HasCleanDisk (state S.Store conn.new)
         → IfOk result (λ rows. IsFound version (state S.Store conn.old) rows.items) }
+    ensures sound { IfOk result (λ rows. IsSound rows.items) }
     ensures other { IsOther (state S.Store conn.old).now.schema → result ≡ Err Store }
     ensures wrong { HasCleanDisk (state S.Store conn.new) → result ≡ Err WrongVersion
         → ¬ IsOfVersion version (state S.Store conn.old).now }

@@ -1,13 +1,11 @@
-//! A new store.
-ghost use Rattle.std.specs.Prelude.{◌≡◌, ◌≢◌, ◌⊎◌, [], Err, true, false, IsTrue, IfErr, OnOk, OnErr, MatchBool};
+//! What a new store is made of.
+ghost use Rattle.std.specs.Prelude.{◌≡◌, ◌≢◌, [], OnOk, MatchBool};
 ghost use Rattle.sqlite.specs.State.{HasCleanDisk, Survives, KeepsCommit};
 ghost use Rattle.sqlite.specs.Held.{state};
-ghost use Rattle.dq_sql.specs.declared.fault.StoreFault.TheVariants.{NoMemory, Store};
-ghost use Rattle.dq_sql.specs.Making.{no_schema, MakesKept, MakesVersion, MakesIndex, SaysVersion, GoesOn, HasNoRows, IsNewStore};
-ghost use Rattle.dq_sql.specs.Tie.{HasRows, IsAtRest, IsSame};
+ghost use Rattle.dq_sql.specs.Making.{no_schema, MakesKept, MakesVersion, MakesIndex, SaysVersion, GoesOn};
+ghost use Rattle.dq_sql.specs.Tie.{HasRows};
 
-use crate::fault::StoreFault;
-use sqlite::{Alter, Connection, Error, Transaction};
+use sqlite::{Alter, Error, Transaction};
 use sqlite_schema::schema::Schema;
 
 /// Whether a schema has nothing.
@@ -94,7 +92,7 @@ fn say_version<S: Alter>(tx: &mut Transaction<'_, S>) -> Result<usize, Error>
 }
 
 /// Makes the tables and the index, and says the version.
-fn make_tables<S: Alter>(tx: &mut Transaction<'_, S>) -> Result<(), Error>
+pub(crate) fn make_tables<S: Alter>(tx: &mut Transaction<'_, S>) -> Result<(), Error>
     ensures same_reference { tx.new.conn.ghost_name ≡ tx.old.conn.ghost_name }
     ensures goes_on { HasCleanDisk (state S.Store tx.new.conn.now)
         → OnOk result (GoesOn (state S.Store tx.old.conn.now) (state S.Store tx.new.conn.now)) }
@@ -110,29 +108,5 @@ fn make_tables<S: Alter>(tx: &mut Transaction<'_, S>) -> Result<(), Error>
     make_version(tx)?;
     make_index(tx)?;
     say_version(tx)?;
-    Ok(())
-}
-
-/// Makes a store of rows of an empty one, in one transaction: the table `kept`, the table `version`
-/// and the index `kept_above`. A store that has anything, or a transaction that is open, is refused
-/// by `Store`, and so is one that fails; what else is refused wants memory. A refusal changes
-/// nothing. A crash leaves the store as it was, or one without rows.
-pub fn make_store<S: Alter>(conn: &mut Connection<S>) -> Result<(), StoreFault>
-    ensures mode { OnOk result (conn.new.in_transaction ≡ false) }
-    ensures taken { (state S.Store conn.old).now.schema ≢ no_schema → result ≡ Err Store }
-    ensures fault { IfErr result (λ e. (e ≡ NoMemory) ⊎ (e ≡ Store)) }
-    ensures made { HasCleanDisk (state S.Store conn.new)
-        → OnOk result (IsNewStore (state S.Store conn.new)) }
-    ensures same { HasCleanDisk (state S.Store conn.new) → IsTrue (state S.Store conn.new).is_open
-        → IsAtRest (state S.Store conn.old)
-        → OnErr result (IsSame (state S.Store conn.old) (state S.Store conn.new)) }
-    ensures survives { Survives (state S.Store conn.old) (state S.Store conn.new) HasNoRows }
-{
-    if !conn.is_autocommit() || !is_empty(conn.schema()) {
-        return Err(StoreFault::Store);
-    }
-    let mut tx = conn.transaction();
-    make_tables(&mut tx)?;
-    tx.commit()?;
     Ok(())
 }

@@ -6,7 +6,7 @@ ghost use Rattle.dq_sql.specs.declared.fault.StoreFault.TheVariants.{NoMemory, S
 ghost use Rattle.dq_sql.specs.Making.{no_schema};
 
 use crate::fault::StoreFault;
-use crate::open::make_store;
+use crate::filling::{fill_store, is_new_store};
 use crate::sql_tables::SqlTables;
 use dq_list::Listed;
 use dq_tables::Tables;
@@ -20,6 +20,7 @@ impl<S: Alter + Drop> SqlTables<S> {
     /// It answers `Store` where the store has a table or an index already, or a transaction is
     /// open, or where the store fails, and `NoMemory` where a growth was refused. A refusal drops
     /// the connection and changes no value of the store.
+    #[tactic(auto, unfolding(dq_tables::specs::Rows::IsRising))]
     pub fn open(alloc: Global, mut conn: Connection<S>) -> Result<SqlTables<S>, StoreFault>
         ensures taken { (state S.Store conn).now.schema ≢ no_schema
             → IsErrAnd result (λ e. e ≡ Store) }
@@ -29,7 +30,10 @@ impl<S: Alter + Drop> SqlTables<S> {
         ensures settled { IfOk result (λ t. (⟦<SqlTables<S> as Tables>⟧.state t).honest
             → IsSettled (⟦<SqlTables<S> as Tables>⟧.state t)) }
     {
-        make_store(&mut conn)?;
+        if !is_new_store(&conn) {
+            return Err(StoreFault::Store);
+        }
+        fill_store(&mut conn, alloc, &[])?;
         Ok(SqlTables::over(alloc, conn, &Listed::from_inner(Vec::new(alloc))))
     }
 }

@@ -57,7 +57,11 @@ fn run<'a, S: Alter>(
 }
 
 /// Adds a row.
-fn put<S: Alter>(tx: &mut Transaction<'_, S>, alloc: Global, row: &Row) -> Result<(), TableFault>
+pub(crate) fn put<S: Alter>(
+    tx: &mut Transaction<'_, S>,
+    alloc: Global,
+    row: &Row,
+) -> Result<(), TableFault>
     ensures same_reference { tx.new.conn.ghost_name ≡ tx.old.conn.ghost_name }
     ensures done { HasCleanDisk (state S.Store tx.new.conn.now)
         → IsTrue (state S.Store tx.old.conn.now).in_transaction

@@ -1,0 +1,64 @@
+-- What a migration of one store into another leaves of both.
+use Rattle.std.specs.Prelude.{◌≡◌, ℕ, List, IsTrue}
+use Rattle.sqlite_trees.specs.declared.store.Store.{Ghosts}
+use Rattle.sqlite_trees.specs.Tree.{Trees}
+use Rattle.sqlite.specs.State.{State, HasCleanDisk, Survives}
+use Rattle.sqlite.specs.Held.{Held, state}
+use Rattle.dq_tables.specs.declared.row.Row.{Row}
+use Rattle.dq_sql.specs.declared.fault.StoreFault.{StoreFault}
+use Rattle.dq_sql.specs.declared.fault.StoreFault.TheVariants as store
+use Rattle.dq_sql.specs.declared.migrate_fault.MigrateFault.{MigrateFault}
+use Rattle.dq_sql.specs.declared.migrate_fault.MigrateFault.TheVariants.{NoMemory, Store, WrongVersion, BadRows}
+use Rattle.dq_sql.specs.declared.version.Version.TheVariants.{One}
+use Rattle.dq_sql.specs.Tie.{HasRows, IsAtRest, IsSame, Stays}
+use Rattle.dq_sql.specs.Keeping.{under_schema}
+use Rattle.dq_sql.specs.Adopting.{IsFound, IsRefused}
+use Rattle.dq_sql.specs.Migrating.{migrated}
+
+abbrev pub fault_number : MigrateFault → ℕ
+fault_number NoMemory = 1
+fault_number Store = 2
+fault_number WrongVersion = 3
+fault_number BadRows = 4
+
+-- a fault of one store as one of the migration
+abbrev pub fault_of : StoreFault → MigrateFault
+fault_of store.NoMemory = NoMemory
+fault_of store.Store = Store
+fault_of store.WrongVersion = WrongVersion
+fault_of store.BadRows = BadRows
+
+-- The rows are those that were found in a store of version 1, migrated.
+pub record IsMigrated (s : State) (rows : List Row) : Type 0 where
+  pub kept : List Row
+  pub found : IsFound One s kept
+  pub is : rows ≡ migrated kept
+
+-- Trees that have the rows that were found in a store of version 1, migrated.
+pub record HasMigrated (s : State) (trees : Trees) : Type 0 where
+  pub rows : List Row
+  pub are : IsMigrated s rows
+  pub has : HasRows (under_schema trees) rows
+
+-- The old store stays as it is. As far as its disk returned what was written until its connection
+-- was dropped, the rows are its own, migrated.
+pub record Migrates {S : Type 0} (g : Ghosts S) (old : Held S) (rows : List Row) : Type 0 where
+  pub left : Held S
+  pub stays : Stays (state g old) (state g left)
+  pub are : HasCleanDisk (state g left) → IsMigrated (state g old) rows
+
+-- A migration is refused by a fault, and both connections are dropped as they are left. Of the old
+-- store the fault is true as where it is refused itself, and it stays as it is. The new one shows
+-- what it showed, and a crash leaves of it what it could leave before, or all rows, migrated.
+pub record IsNotMigrated {S : Type 0} (g : Ghosts S) (old new : Held S) (fault : MigrateFault)
+    : Type 0 where
+  pub cause : StoreFault
+  pub is : fault ≡ fault_of cause
+  pub refused : IsRefused g One old cause
+  pub left : Held S
+  pub survives
+      : Survives (state g new) (state g left)
+      (λ trees. HasCleanDisk (state g refused.left) → HasMigrated (state g old) trees)
+  pub same
+      : HasCleanDisk (state g left) → IsTrue (state g left).is_open
+      → IsAtRest (state g new) → IsSame (state g new) (state g left)
