@@ -9,7 +9,7 @@ use Rattle.std.proofs.lemmas.List.{map-append, take_all, take_more}
 use Rattle.std.proofs.lemmas.List.Elements.{filter-append}
 use Rattle.dq_tables.specs.declared.row.Kind.TheVariants.{Entry, Step}
 use Rattle.dq_tables.specs.declared.row.Row.{Row}
-use Rattle.dq_tables.specs.Rows.{RowPlace, Edit, Operation, Put, Start, by, place, record_of, row_place_of, row_place_order, rows_before, rows_past, after, after_edit, after_edits, after_all, IsRising, same_kind}
+use Rattle.dq_tables.specs.Rows.{RowPlace, Operation, Start, by, place, row_place_of, row_place_order, rows_before, rows_past, after, after_edit, after_edits, after_all, IsRising, same_kind}
 use Rattle.dq_tables.specs.Finding.{is_of, row_at}
 use Rattle.dq_tables.specs.Records.{data_set_of}
 use Rattle.dq_tables.specs.Starting.{ids_named, names}

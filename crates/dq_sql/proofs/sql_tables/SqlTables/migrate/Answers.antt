@@ -2,7 +2,7 @@ use Rattle.std.proofs.Common.{Err, inl, inr, ◌∙◌, refl, sym, ap, subst}
 use Rattle.sqlite.specs.State.{HasCleanDisk}
 use Rattle.sqlite.specs.Held.{state}
 use Rattle.dq_sql.specs.declared.fault.StoreFault.TheVariants.{NoMemory, Store}
-use Rattle.dq_sql.specs.Filling.{IsFilled, HasThese}
+use Rattle.dq_sql.specs.Filling.{IsFilled}
 use Rattle.dq_sql.specs.Keeping.{MayLeave}
 use Rattle.dq_sql.specs.Migration.{IsNotMigrated}
 use Rattle.dq_sql.proofs.Keeping.{filled_keeps, filled_settled}
