@@ -15,7 +15,7 @@ def message(chance, number, identity):
     """A line of a scene: identifiers are few, so that both hospitals use the same."""
     study, series, image = (f"1.2.{chance.randrange(1, 4)}" for _ in range(3))
     name = chance.choice(["DOE^A", "ROE^B", "POE^C"])
-    step = f"1.2.9.{chance.randrange(6)}"
+    step = f"1.2.9.{chance.randrange(3)}"
     return chance.choice([
         f"echo {number} 1 {identity}",
         f"store {number} 3 {identity} CT {image} SOPClassUID={CT} SOPInstanceUID={image} PatientName={name} "

@@ -374,8 +374,13 @@ def migrates_any_version():
 
 
 def migrates_over_rows():
-    """A new store that has tables is migrated to all the same."""
-    stores.empty = stores.connect
+    """What the new store has is dropped."""
+    def empty(path):
+        store = stores.connect(path)
+        store.executescript("DROP TABLE IF EXISTS kept; DROP TABLE IF EXISTS version")
+        return store
+
+    stores.empty = empty
 
 
 def migrates_and_empties():

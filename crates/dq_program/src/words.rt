@@ -429,9 +429,13 @@ fn migrate_command<'a>(alloc: Global) -> Result<Command<'a>, AllocError>
     ensures app { IfOk result (λ built. app_of built ≡ migrate_app) }
     ensures local { IfOk result (λ built. (fields_of built).has_globals ≡ false) }
 {
-    let from = value_option(alloc, "from", "FILE", "The store of version 1, which stays").required(
-        true,
-    );
+    let from = value_option(
+        alloc,
+        "from",
+        "FILE",
+        "The store of version 1, which stays as it is",
+    )
+    .required(true);
     let to = value_option(
         alloc,
         "to",

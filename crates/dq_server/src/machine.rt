@@ -64,10 +64,10 @@ impl Machine<'_> {
     /// A connection to a file that is there.
     fn found(&self, path: &str) -> Result<Connection<FileStore<File>>, Unkept> {
         // A connection to a file that is not there would make it.
-        match fs::open(self.rt, path) {
-            Ok(_) => self.connected(path),
-            Err(_) => Err(unkept(StoreFault::Store)),
+        if fs::open(self.rt, path).is_err() {
+            return Err(unkept(StoreFault::Store));
         }
+        self.connected(path)
     }
 }
 

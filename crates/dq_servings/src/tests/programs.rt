@@ -100,6 +100,8 @@ impl Stores for Bench<'_> {
 
     ghost stored = { λ _ _. None };
 
+    ghost migrated = { λ _ _. None };
+
     fn memory(&self, alloc: Global) -> Result<PlainTables, Unkept> {
         Ok(PlainTables::new(alloc))
     }
@@ -110,6 +112,13 @@ impl Stores for Bench<'_> {
 
     fn store(&self, _alloc: Global, _path: &str) -> Result<PlainTables, Unkept> {
         Err(Unkept::Store(2))
+    }
+
+    fn migrate(&self, alloc: Global, from: &str, _to: &str) -> Result<PlainTables, Unkept> {
+        match from {
+            "old.db" => Ok(PlainTables::new(alloc)),
+            _ => Err(Unkept::Store(3)),
+        }
     }
 
     ghost memory_is_honest = { λ _. tt };
@@ -321,6 +330,17 @@ fn serves_no_turn_and_no_port_that_is_taken(rt: HostRuntime) -> Result<(), Fail>
     Ok(())
 }
 
+#[test]
+fn migrates_without_an_input(rt: HostRuntime) -> Result<(), Fail> {
+    for (from, expected) in [("old.db", "0|migrated\n|"), ("new.db", "4||store 3\n")] {
+        let words = ["migrate", "--from", from, "--to", "new.db"];
+        let failing = torn_reader("open", true);
+        let answer = answered(&Bench { rt: &rt }, &words, failing)?;
+        assert_eq!(rt; answer.as_str(), expected);
+    }
+    Ok(())
+}
+
 /// A network on which one connection comes, with a PDU whose type is not known (PS3.8 section
 /// 9.3.1), and after it an accept that fails.
 #[derive(Clone, Copy)]
@@ -357,6 +377,8 @@ impl Stores for OneCall<'_> {
 
     ghost stored = { λ _ _. None };
 
+    ghost migrated = { λ _ _. None };
+
     fn memory(&self, alloc: Global) -> Result<PlainTables, Unkept> {
         self.bench.memory(alloc)
     }
@@ -367,6 +389,10 @@ impl Stores for OneCall<'_> {
 
     fn store(&self, alloc: Global, path: &str) -> Result<PlainTables, Unkept> {
         self.bench.store(alloc, path)
+    }
+
+    fn migrate(&self, alloc: Global, from: &str, to: &str) -> Result<PlainTables, Unkept> {
+        self.bench.migrate(alloc, from, to)
     }
 
     ghost memory_is_honest = { λ _. tt };
