@@ -1,7 +1,7 @@
 -- The definitions on worked examples: what the plain server replies to histories, octet for octet, by computation.
 use Rattle.std.specs.Prelude.{◌≡◌, ℕ, ◌/◌, ◌%◌, List, [], ◌∷◌, ◌++◌, codes, replicate, take, drop, true, false, refl}
 use Rattle.dq_pdu.specs.Stream.{pdus_within}
-use Rattle.dq_pdu.specs.Reading.{front, pdu_of, associate_of, request_of, item_at, pdv_at, proposed_of, user_information_of, values_of}
+use Rattle.dq_pdu.specs.Reading.{front, pdu_of, associate_of, fields_of, request_of, item_at, pdv_at, proposed_of, user_information_of, values_of}
 use Rattle.dq_pdu.specs.Octets.{parts}
 use Rattle.dq_vr.specs.Dictionary.{dictionary, vr_in, known_vr}
 use Rattle.dq_vr.specs.Tag.{is_below}
@@ -234,7 +234,7 @@ closed octets = Octets 1 octets true
 an_association :
     (replies built_in [] (history (request ∷ echo ∷ release ∷ [])) ≡ Done ∷ answered accepted ∷ answered echoed ∷ closed released ∷ [])
     × (replies built_in [] (history ((request ++ echo ++ release) ∷ [])) ≡ Done ∷ closed (accepted ++ echoed ++ released) ∷ [])
-unfolding pdus_within front pdu_of associate_of request_of item_at pdv_at proposed_of user_information_of values_of parts routed has_route joins built_in class_of
+unfolding pdus_within front pdu_of associate_of fields_of request_of item_at pdv_at proposed_of user_information_of values_of parts routed has_route joins built_in class_of
     stripped without_leading without_trailing kept_before messages_from command_from command_of reading readers elements_by element_by elements_after value_by
     items_by item_by items_after header_at end_at is_below tag_at spelling_at long_length_at content_of known_vr vr_in dictionary trimmed unpadded is_padded
     ignores_leading_spaces served reaction
@@ -245,7 +245,7 @@ command_sets :
     (replies built_in [] (history (request ∷ echo_with_sequence ∷ [])) ≡ Done ∷ answered accepted ∷ answered echoed ∷ [])
     × (replies built_in [] (history (request ∷ echo_of_two_groups ∷ [])) ≡ Done ∷ answered accepted ∷ closed (short 7 0 2 6) ∷ [])
     × (replies built_in [] (history (request_from 1 modality 1 8 ∷ echo ∷ [])) ≡ Done ∷ answered accepted ∷ answered (in_twos echoed_set) ∷ [])
-unfolding pdus_within front pdu_of associate_of request_of item_at pdv_at proposed_of user_information_of values_of parts routed has_route joins built_in class_of
+unfolding pdus_within front pdu_of associate_of fields_of request_of item_at pdv_at proposed_of user_information_of values_of parts routed has_route joins built_in class_of
     stripped without_leading without_trailing kept_before messages_from command_from command_of reading readers elements_by element_by elements_after value_by
     items_by item_by items_after header_at end_at is_below tag_at spelling_at long_length_at content_of known_vr vr_in dictionary trimmed unpadded is_padded
     ignores_leading_spaces served reaction
@@ -258,7 +258,7 @@ statuses :
     × (replies built_in [] (history (request ∷ command 0x0020 verification_class ∷ command 0x0020
     (codes "1.2.840.10008.1.20") ∷ [])) ≡ Done ∷ answered accepted ∷ answered (response 0x8020 0x0211) ∷ answered (response 0x8020 0x0211) ∷ [])
     × (replies built_in [] (history (request ∷ cancel ∷ echo ∷ [])) ≡ Done ∷ answered accepted ∷ answered [] ∷ answered echoed ∷ [])
-unfolding pdus_within front pdu_of associate_of request_of item_at pdv_at proposed_of user_information_of values_of parts routed has_route joins built_in class_of
+unfolding pdus_within front pdu_of associate_of fields_of request_of item_at pdv_at proposed_of user_information_of values_of parts routed has_route joins built_in class_of
     stripped without_leading without_trailing kept_before messages_from command_from command_of reading readers elements_by element_by elements_after value_by
     items_by item_by items_after header_at end_at is_below tag_at spelling_at long_length_at content_of known_vr vr_in dictionary trimmed unpadded is_padded
     ignores_leading_spaces served reaction
@@ -271,13 +271,13 @@ rejections :
     × (replies built_in [] (history (request_from 2 ct9 1 7 ∷ [])) ≡ Done ∷ closed (short 3 1 2 2) ∷ [])
     × (replies built_in [] (history (request_from 1 modality 1 7 ∷ [])) ≡ Done ∷ closed (short 3 1 1 1) ∷ [])
     × (replies built_in [] (history (request_from 1 modality 2 16384 ∷ [])) ≡ Done ∷ closed (short 7 0 0 0) ∷ [])
-unfolding pdus_within front pdu_of associate_of request_of item_at pdv_at proposed_of user_information_of values_of parts routed has_route joins built_in class_of
+unfolding pdus_within front pdu_of associate_of fields_of request_of item_at pdv_at proposed_of user_information_of values_of parts routed has_route joins built_in class_of
     stripped without_leading without_trailing kept_before messages_from
 rejections = (refl, refl, refl, refl, refl)
 
 -- Explicit before Implicit; result 4 where no syntax is taken, and 3 where the class is not served
 contexts : replies built_in [] (history (four_contexts ∷ [])) ≡ Done ∷ answered four_results ∷ []
-unfolding pdus_within front pdu_of associate_of request_of item_at pdv_at proposed_of user_information_of values_of parts routed has_route joins built_in class_of
+unfolding pdus_within front pdu_of associate_of fields_of request_of item_at pdv_at proposed_of user_information_of values_of parts routed has_route joins built_in class_of
     stripped without_leading without_trailing kept_before messages_from
 contexts = refl
 
@@ -287,7 +287,7 @@ in_place_of_a_request :
     × (replies built_in [] (history (release ∷ [])) ≡ Done ∷ closed (short 7 0 0 0) ∷ [])
     × (replies built_in [] (history ((8 ∷ 0 ∷ 0 ∷ 0 ∷ 0 ∷ 0 ∷ []) ∷ (0 ∷ []) ∷ [])) ≡ Done ∷ closed (short 7 0 0 0) ∷ Ignored ∷ [])
     × (replies built_in [] (history (short 7 0 0 0 ∷ echo ∷ [])) ≡ Done ∷ closed [] ∷ Ignored ∷ [])
-unfolding pdus_within front pdu_of associate_of request_of item_at pdv_at proposed_of user_information_of values_of parts routed has_route joins built_in class_of
+unfolding pdus_within front pdu_of associate_of fields_of request_of item_at pdv_at proposed_of user_information_of values_of parts routed has_route joins built_in class_of
     stripped without_leading without_trailing kept_before messages_from
 in_place_of_a_request = (refl, refl, refl, refl)
 
@@ -298,7 +298,7 @@ after_a_request :
     × (replies built_in [] (history (request ∷ value_pdu 6 3 3 [] ∷ [])) ≡ Done ∷ answered accepted ∷ closed (short 7 0 2 6) ∷ [])
     × (replies built_in [] (history (request ∷ (4 ∷ 0 ∷ 0 ∷ 0 ∷ 0 ∷ 0 ∷ []) ∷ [])) ≡ Done ∷ answered accepted ∷ closed (short 7 0 2 6) ∷ [])
     × (replies built_in [] (history (request ∷ short 7 0 0 0 ∷ [])) ≡ Done ∷ answered accepted ∷ closed [] ∷ [])
-unfolding pdus_within front pdu_of associate_of request_of item_at pdv_at proposed_of user_information_of values_of parts routed has_route joins built_in class_of
+unfolding pdus_within front pdu_of associate_of fields_of request_of item_at pdv_at proposed_of user_information_of values_of parts routed has_route joins built_in class_of
     stripped without_leading without_trailing kept_before messages_from
 after_a_request = (refl, refl, refl, refl, refl)
 
@@ -307,7 +307,7 @@ in_mid_message :
     (replies built_in [] (history (request ∷ (value_pdu 24 20 1 (element 0x0000 4
     (56 ∷ 0 ∷ 0 ∷ 0 ∷ []) ++ 0 ∷ 0 ∷ 2 ∷ 0 ∷ 18 ∷ 0 ∷ []) ++ release) ∷ [])) ≡ Done ∷ answered accepted ∷ closed released ∷ [])
     × (replies built_in [] (history (request ∷ (echo ++ 8 ∷ 0 ∷ 0 ∷ 0 ∷ 0 ∷ 0 ∷ []) ∷ [])) ≡ Done ∷ answered accepted ∷ closed (echoed ++ short 7 0 2 1) ∷ [])
-unfolding pdus_within front pdu_of associate_of request_of item_at pdv_at proposed_of user_information_of values_of parts routed has_route joins built_in class_of
+unfolding pdus_within front pdu_of associate_of fields_of request_of item_at pdv_at proposed_of user_information_of values_of parts routed has_route joins built_in class_of
     stripped without_leading without_trailing kept_before messages_from command_from command_of reading readers elements_by element_by elements_after value_by
     items_by item_by items_after header_at end_at is_below tag_at spelling_at long_length_at content_of known_vr vr_in dictionary trimmed unpadded is_padded
     ignores_leading_spaces served reaction
@@ -317,7 +317,7 @@ in_mid_message = (refl, refl)
 two_institutions : replies (two 4) [] (Open 1 ∷ Open 2 ∷ Piece 2 (request_of_title ct2) ∷ Piece 1 (request_of_title ct1) ∷ Piece 2 echo ∷ Piece 1 echo ∷
     Piece 1 release ∷ End 1 ∷ End 2 ∷ End 2 ∷ Piece 2 echo ∷ End 9 ∷ []) ≡ Done ∷ Done ∷ Octets 2 (accepted_title ct2) false ∷ Octets 1 (accepted_title ct1)
     false ∷ Octets 2 echoed false ∷ Octets 1 echoed false ∷ Octets 1 released true ∷ Ignored ∷ Done ∷ Ignored ∷ Ignored ∷ Ignored ∷ []
-unfolding pdus_within front pdu_of associate_of request_of item_at pdv_at proposed_of user_information_of values_of parts routed has_route joins built_in class_of
+unfolding pdus_within front pdu_of associate_of fields_of request_of item_at pdv_at proposed_of user_information_of values_of parts routed has_route joins built_in class_of
     stripped without_leading without_trailing kept_before messages_from command_from command_of reading readers elements_by element_by elements_after value_by
     items_by item_by items_after header_at end_at is_below tag_at spelling_at long_length_at content_of known_vr vr_in dictionary trimmed unpadded is_padded
     ignores_leading_spaces served reaction
@@ -328,14 +328,14 @@ one_at_a_time : replies (two 1) [] (Open 1 ∷ Open 2 ∷ Open 3 ∷ Piece 1 (re
     ct2) ∷ Piece 1 release ∷ Open 4 ∷ Piece 4 (request_of_title ct1) ∷ End 4 ∷ Open 5 ∷ Piece 5 (request_of_title ct1) ∷ []) ≡ Done ∷ Done ∷ Done ∷ Octets 1
     (accepted_title ct1) false ∷ Octets 2 (short 3 2 3 2) true ∷ Octets 3 (accepted_title ct2) false ∷ Octets 1 released true ∷ Done ∷ Octets 4
     (accepted_title ct1) false ∷ Done ∷ Done ∷ Octets 5 (accepted_title ct1) false ∷ []
-unfolding pdus_within front pdu_of associate_of request_of item_at pdv_at proposed_of user_information_of values_of parts routed has_route joins built_in class_of
+unfolding pdus_within front pdu_of associate_of fields_of request_of item_at pdv_at proposed_of user_information_of values_of parts routed has_route joins built_in class_of
     stripped without_leading without_trailing kept_before messages_from
 one_at_a_time = refl
 
 -- of a request that does not pass the checks nobody asks whether it is busy
 a_busy_request : replies (two 1) [] (Open 1 ∷ Open 2 ∷ Piece 1 (request_of_title ct1) ∷ Piece 2 (request_from 2 ct1 1 16384) ∷ []) ≡ Done ∷ Done ∷ Octets 1
     (accepted_title ct1) false ∷ Octets 2 (short 3 1 2 2) true ∷ []
-unfolding pdus_within front pdu_of associate_of request_of item_at pdv_at proposed_of user_information_of values_of parts routed has_route joins built_in class_of
+unfolding pdus_within front pdu_of associate_of fields_of request_of item_at pdv_at proposed_of user_information_of values_of parts routed has_route joins built_in class_of
     stripped without_leading without_trailing kept_before messages_from
 a_busy_request = refl
 
@@ -345,13 +345,13 @@ own_events :
     (request_of_title ct1) ∷ Schedule south [] ∷ Withdraw north [] ∷ []) ≡ Open 3 ∷ Piece 3 (request_of_title ct1) ∷ Withdraw north [] ∷ [])
     × (own (two 4) north (Piece 1 [] ∷ Open 1 ∷ Piece 1 (take 20 (request_of_title ct1)) ∷ Piece 1 (drop 20
     (request_of_title ct1)) ∷ []) ≡ Piece 1 [] ∷ Open 1 ∷ Piece 1 (take 20 (request_of_title ct1)) ∷ Piece 1 (drop 20 (request_of_title ct1)) ∷ [])
-unfolding pdus_within front pdu_of associate_of request_of item_at pdv_at proposed_of user_information_of values_of parts routed has_route joins built_in class_of
+unfolding pdus_within front pdu_of associate_of fields_of request_of item_at pdv_at proposed_of user_information_of values_of parts routed has_route joins built_in class_of
     stripped without_leading without_trailing kept_before messages_from
 own_events = (refl, refl)
 
 -- an order for an institution that is not configured
 orders : replies (two 4) [] (Schedule (codes "EAST") [] ∷ Withdraw (codes "EAST") [] ∷ []) ≡ Refused 6 ∷ Refused 6 ∷ []
-unfolding pdus_within front pdu_of associate_of request_of item_at pdv_at proposed_of user_information_of values_of parts routed has_route joins built_in class_of
+unfolding pdus_within front pdu_of associate_of fields_of request_of item_at pdv_at proposed_of user_information_of values_of parts routed has_route joins built_in class_of
     stripped without_leading without_trailing kept_before messages_from named
 orders = refl
 
@@ -377,7 +377,7 @@ abbrev not_understood : List ℕ
 not_understood = find_status 0xc000
 
 a_query : replies built_in [] (history (four_contexts ∷ find ∷ [])) ≡ Done ∷ answered four_results ∷ answered not_understood ∷ []
-unfolding pdus_within front pdu_of associate_of request_of item_at pdv_at proposed_of user_information_of values_of parts routed has_route joins built_in class_of
+unfolding pdus_within front pdu_of associate_of fields_of request_of item_at pdv_at proposed_of user_information_of values_of parts routed has_route joins built_in class_of
     stripped without_leading without_trailing kept_before messages_from command_from command_of reading readers elements_by element_by elements_after value_by
     items_by item_by items_after header_at end_at is_below tag_at spelling_at long_length_at content_of known_vr vr_in dictionary trimmed unpadded is_padded
     ignores_leading_spaces served reaction found query_of identifier_in
@@ -402,7 +402,7 @@ a_query_over_no_rows :
     (replies built_in [] (history (four_contexts ∷ find_studies ∷ [])) ≡ Done ∷ answered four_results ∷ answered (find_status 0) ∷ [])
     × (replies built_in [] (history (four_contexts ∷ find_level 20 16 (codes "VISIT ") ∷ [])) ≡ Done ∷ answered four_results ∷ answered
     (find_status 0xa900) ∷ [])
-unfolding pdus_within front pdu_of associate_of request_of item_at pdv_at proposed_of user_information_of values_of parts routed has_route joins built_in class_of
+unfolding pdus_within front pdu_of associate_of fields_of request_of item_at pdv_at proposed_of user_information_of values_of parts routed has_route joins built_in class_of
     stripped without_leading without_trailing kept_before messages_from command_from command_of reading readers elements_by element_by elements_after value_by
     items_by item_by items_after header_at end_at is_below tag_at spelling_at long_length_at content_of known_vr vr_in dictionary trimmed unpadded is_padded
     ignores_leading_spaces served reaction found query_of identifier_in level_named has_keys_above is_supported keys_of leaves answers records_asked records_of of
@@ -434,7 +434,7 @@ store_status context status = value_on context 106 102 (
 stores :
     (replies built_in [] (history (four_contexts ∷ store_on 3 ∷ [])) ≡ Done ∷ answered four_results ∷ answered (store_status 3 0xa900) ∷ [])
     × (replies built_in [] (history (request ∷ store_on 1 ∷ [])) ≡ Done ∷ answered accepted ∷ answered (response 0x8001 0x0211) ∷ [])
-unfolding pdus_within front pdu_of associate_of request_of item_at pdv_at proposed_of user_information_of values_of parts routed has_route joins built_in class_of
+unfolding pdus_within front pdu_of associate_of fields_of request_of item_at pdv_at proposed_of user_information_of values_of parts routed has_route joins built_in class_of
     stripped without_leading without_trailing kept_before messages_from command_from command_of reading readers elements_by element_by elements_after value_by
     items_by item_by items_after header_at end_at is_below tag_at spelling_at long_length_at content_of known_vr vr_in dictionary trimmed unpadded is_padded
     ignores_leading_spaces served reaction stored is_large is_named uid_at sole_at
@@ -447,7 +447,7 @@ limits = record { studies = 100; images = 1000; entries = 100; steps = 100; asso
 alone : alone_replies limits [] (Open 1 ∷ Piece 1 (request_of_title ct9) ∷ Piece 1 echo ∷ Open 2 ∷ Piece 2 four_contexts ∷ Piece 2 find_studies ∷
     Piece 2 (store_on 3) ∷ Withdraw [] [] ∷ []) ≡ Done ∷ Octets 1 (accepted_title ct9) false ∷ Octets 1 echoed false ∷ Done ∷ Octets 2 four_results
     false ∷ Octets 2 (find_status 0) false ∷ Octets 2 (store_status 3 0xa900) false ∷ Refused 5 ∷ []
-unfolding pdus_within front pdu_of associate_of request_of item_at pdv_at proposed_of user_information_of values_of parts
+unfolding pdus_within front pdu_of associate_of fields_of request_of item_at pdv_at proposed_of user_information_of values_of parts
     stripped without_leading without_trailing kept_before messages_from command_from command_of reading readers elements_by element_by elements_after value_by
     items_by item_by items_after header_at end_at is_below tag_at spelling_at long_length_at content_of known_vr vr_in dictionary trimmed unpadded is_padded
     ignores_leading_spaces served reaction found query_of identifier_in level_named has_keys_above is_supported keys_of leaves answers records_asked records_of stored is_large
@@ -489,7 +489,7 @@ a_kept_study :
     (replies (two 4) (kept_study ∷ []) (history (find_request ct1 ∷ find_uids ∷ [])) ≡ Done ∷ answered (find_accepted ct1) ∷ answered
     (found_study ++ find_status 0) ∷ [])
     × (replies (two 4) (kept_study ∷ []) (history (find_request ct2 ∷ find_uids ∷ [])) ≡ Done ∷ answered (find_accepted ct2) ∷ answered (find_status 0) ∷ [])
-unfolding pdus_within front pdu_of associate_of request_of item_at pdv_at proposed_of user_information_of values_of parts routed has_route joins built_in class_of
+unfolding pdus_within front pdu_of associate_of fields_of request_of item_at pdv_at proposed_of user_information_of values_of parts routed has_route joins built_in class_of
     stripped without_leading without_trailing kept_before messages_from command_from command_of reading readers elements_by element_by elements_after value_by
     items_by item_by items_after header_at end_at is_below tag_at spelling_at long_length_at content_of known_vr vr_in dictionary trimmed unpadded is_padded
     ignores_leading_spaces served reaction found query_of identifier_in level_named has_keys_above is_supported keys_of leaves answers records_asked records_of of
