@@ -1,5 +1,5 @@
 -- What a migration leaves of two stores.
-use Rattle.std.proofs.Common.{◌≡◌, ◌⊎◌, inl, inr, List, IsTrue, Result, Ok, Err, IfErr, refl, sym, ◌∙◌, arith}
+use Rattle.std.proofs.Common.{◌≡◌, ap, ◌⊎◌, inl, inr, List, IsTrue, Result, Ok, Err, IfErr, refl, sym, ◌∙◌, arith}
 use Rattle.std.specs.Prelude.{IsErrAnd}
 use Rattle.sqlite_trees.specs.declared.store.Store.{Ghosts}
 use Rattle.sqlite_trees.specs.Tree.{Trees}
@@ -8,13 +8,14 @@ use Rattle.sqlite.specs.Held.{Held, state}
 use Rattle.sqlite.proofs.StateLemmas.{survives_weaker}
 use Rattle.dq_tables.specs.declared.row.Row.{Row}
 use Rattle.dq_sql.specs.declared.fault.StoreFault.{StoreFault}
-use Rattle.dq_sql.specs.declared.fault.StoreFault.TheVariants.{NoMemory, Store, WrongVersion, BadRows}
+use Rattle.dq_sql.specs.declared.fault.StoreFault.TheVariants as store
+use Rattle.dq_sql.specs.declared.migrate_fault.MigrateFault.{MigrateFault}
+use Rattle.dq_sql.specs.declared.migrate_fault.MigrateFault.TheVariants.{NoMemory, Store, WrongVersion, BadRows}
 use Rattle.dq_sql.specs.declared.version.Version.TheVariants.{One}
-use Rattle.dq_sql.specs.Tie.{IsAtRest, IsSame, Stays}
-use Rattle.dq_sql.specs.Adopting.{IsFound, IsRefused}
+use Rattle.dq_sql.specs.Tie.{IsOfVersion, HasRowsOf, IsAtRest, IsSame, Stays}
+use Rattle.dq_tables.specs.Sound.{IsSound}
 use Rattle.dq_sql.specs.Filling.{HasThese}
-use Rattle.dq_sql.specs.Migrating.{migrated}
-use Rattle.dq_sql.specs.Migration.{fault_of, IsMigrated, Migrates, IsNotMigrated}
+use Rattle.dq_sql.specs.Migration.{fault_of, IsMigrated, IsNotTaken, IsNotMigrated}
 
 pub survives_itself : (s : State) (P : Trees → Type 0) → Survives s s P
 survives_itself s P = record {
@@ -37,56 +38,70 @@ by_fault (Ok x) P is p = tt
 by_fault (Err e) P is p = rw is p
 
 -- a fault that says nothing of the old store
-abbrev pub IsPlain : StoreFault → Type 0
-IsPlain cause = (cause ≡ NoMemory) ⊎ (cause ≡ Store)
+abbrev pub IsPlain : MigrateFault → Type 0
+IsPlain fault = (fault ≡ NoMemory) ⊎ (fault ≡ Store)
 
-not_wrong : (cause : StoreFault) → IsPlain cause → cause ≡ WrongVersion → ⊥
-not_wrong cause (inl is) wrong = let no = sym is ∙ wrong in cc
-not_wrong cause (inr is) wrong = let no = sym is ∙ wrong in cc
+not_wrong : (fault : MigrateFault) → IsPlain fault → fault ≡ WrongVersion → ⊥
+not_wrong fault (inl is) wrong = let no = sym is ∙ wrong in cc
+not_wrong fault (inr is) wrong = let no = sym is ∙ wrong in cc
 
-not_bad : (cause : StoreFault) → IsPlain cause → cause ≡ BadRows → ⊥
-not_bad cause (inl is) bad = let no = sym is ∙ bad in cc
-not_bad cause (inr is) bad = let no = sym is ∙ bad in cc
+not_bad : (fault : MigrateFault) → IsPlain fault → fault ≡ BadRows → ⊥
+not_bad fault (inl is) bad = let no = sym is ∙ bad in cc
+not_bad fault (inr is) bad = let no = sym is ∙ bad in cc
+
+pub not_blamed : (old left : State) (fault : MigrateFault) → IsPlain fault → IsNotTaken old left fault
+not_blamed old left fault plain = record {
+  wrong = λ clean wrong. absurd (not_wrong fault plain wrong);
+  said = λ clean bad. absurd (not_bad fault plain bad);
+  bad = λ clean bad. absurd (not_bad fault plain bad);
+}
+
+-- what the two faults of a store that fails are called
+pub plain_fault : (cause : StoreFault) → (cause ≡ store.NoMemory) ⊎ (cause ≡ store.Store) → IsPlain (fault_of cause)
+plain_fault cause (inl is) = inl (ap fault_of is)
+plain_fault cause (inr is) = inr (ap fault_of is)
+
+-- a fault by which the old store is refused
+pub told_by : (old left : State) (cause : StoreFault) → (HasCleanDisk left → cause ≡ store.WrongVersion → ¬ IsOfVersion One old.now)
+    → (HasCleanDisk left → cause ≡ store.BadRows → IsOfVersion One old.now)
+    → (HasCleanDisk left → cause ≡ store.BadRows → (rows : List Row) → HasRowsOf One old.now rows → ¬ IsSound rows)
+    → IsNotTaken old left (fault_of cause)
+told_by old left store.NoMemory wrong said bad = not_blamed old left NoMemory (inl refl)
+told_by old left store.Store wrong said bad = not_blamed old left Store (inr refl)
+told_by old left store.WrongVersion wrong said bad = record {
+  wrong = λ clean is. wrong clean refl;
+  said = λ clean is. absurd (cc);
+  bad = λ clean is. absurd (cc);
+}
+told_by old left store.BadRows wrong said bad = record {
+  wrong = λ clean is. absurd (cc);
+  said = λ clean is. said clean refl;
+  bad = λ clean is. bad clean refl;
+}
 
 module _ {S : Type 0} (g : Ghosts S) (old left : Held S) (stays : Stays (state g old) (state g left)) where
-  pub not_blamed : (cause : StoreFault) → IsPlain cause → IsRefused g One old cause
-  not_blamed cause plain = record {
-    left = left;
+  -- a refusal before the new store is touched
+  pub untouched : (new : Held S) (fault : MigrateFault) → IsNotTaken (state g old) (state g left) fault → IsNotMigrated g old new fault
+  untouched new fault taken = record {
+    old_left = left;
     stays = stays;
-    wrong = λ clean wrong. absurd (not_wrong cause plain wrong);
-    said = λ clean bad. absurd (not_bad cause plain bad);
-    bad = λ clean bad. absurd (not_bad cause plain bad);
+    not_taken = taken;
+    new_left = new;
+    survives = survives_itself (state g new) _;
+    same = λ clean opened rest. same_itself (state g new) opened;
   }
 
-  module _ (kept rows : List Row) (found : HasCleanDisk (state g left) → IsFound One (state g old) kept) (is : rows ≡ migrated kept) where
-    are_migrated : HasCleanDisk (state g left) → IsMigrated (state g old) rows
-    are_migrated clean = record { kept = kept; found = found clean; is = is }
-
-    pub migrates : Migrates g old rows
-    migrates = record { left = left; stays = stays; are = are_migrated }
-
+  module _ (rows : List Row) (are : HasCleanDisk (state g left) → IsMigrated (state g old) rows) where
     -- the new store is not made
-    pub not_filled : (new after : Held S) (cause : StoreFault) → IsPlain cause → Survives (state g new) (state g after) (HasThese rows)
+    pub not_filled : (new after : Held S) (cause : StoreFault) → (cause ≡ store.NoMemory) ⊎ (cause ≡ store.Store)
+        → Survives (state g new) (state g after) (HasThese rows)
         → (HasCleanDisk (state g after) → IsTrue (state g after).is_open → IsAtRest (state g new) → IsSame (state g new) (state g after))
         → IsNotMigrated g old new (fault_of cause)
-    unfolding not_blamed
     not_filled new after cause plain survives same = record {
-      cause = cause;
-      is = refl;
-      refused = not_blamed cause plain;
-      left = after;
-      survives = survives_weaker (state g new) (state g after) _ _
-          (λ _ trees has clean. record { rows = rows; are = are_migrated clean; has = has }) survives;
+      old_left = left;
+      stays = stays;
+      not_taken = not_blamed (state g old) (state g left) (fault_of cause) (plain_fault cause plain);
+      new_left = after;
+      survives = survives_weaker (state g new) (state g after) _ _ (λ _ trees has clean. record { rows = rows; are = are clean; has = has }) survives;
       same = same;
     }
-
--- a refusal before the new store is touched
-pub untouched : {S : Type 0} (g : Ghosts S) (old new : Held S) (cause : StoreFault) → IsRefused g One old cause → IsNotMigrated g old new (fault_of cause)
-untouched g old new cause refused = record {
-  cause = cause;
-  is = refl;
-  refused = refused;
-  left = new;
-  survives = survives_itself (state g new) _;
-  same = λ clean opened rest. same_itself (state g new) opened;
-}

@@ -5,14 +5,15 @@ use Rattle.sqlite_trees.specs.Tree.{Trees}
 use Rattle.sqlite.specs.State.{State, HasCleanDisk, Survives}
 use Rattle.sqlite.specs.Held.{Held, state}
 use Rattle.dq_tables.specs.declared.row.Row.{Row}
+use Rattle.dq_tables.specs.Sound.{IsSound}
 use Rattle.dq_sql.specs.declared.fault.StoreFault.{StoreFault}
 use Rattle.dq_sql.specs.declared.fault.StoreFault.TheVariants as store
 use Rattle.dq_sql.specs.declared.migrate_fault.MigrateFault.{MigrateFault}
 use Rattle.dq_sql.specs.declared.migrate_fault.MigrateFault.TheVariants.{NoMemory, Store, WrongVersion, BadRows}
 use Rattle.dq_sql.specs.declared.version.Version.TheVariants.{One}
-use Rattle.dq_sql.specs.Tie.{HasRows, IsAtRest, IsSame, Stays}
+use Rattle.dq_sql.specs.Tie.{IsOfVersion, HasRowsOf, HasRows, IsAtRest, IsSame, Stays}
 use Rattle.dq_sql.specs.Keeping.{under_schema}
-use Rattle.dq_sql.specs.Adopting.{IsFound, IsRefused}
+use Rattle.dq_sql.specs.Adopting.{IsFound}
 use Rattle.dq_sql.specs.Migrating.{migrated}
 
 abbrev pub fault_number : MigrateFault → ℕ
@@ -47,18 +48,28 @@ pub record Migrates {S : Type 0} (g : Ghosts S) (old : Held S) (rows : List Row)
   pub stays : Stays (state g old) (state g left)
   pub are : HasCleanDisk (state g left) → IsMigrated (state g old) rows
 
--- A migration is refused by a fault, and both connections are dropped as they are left. Of the old
--- store the fault is true as where it is refused itself, and it stays as it is. The new one shows
--- what it showed, and a crash leaves of it what it could leave before, or all rows, migrated.
+-- The old store is not taken by a fault, which is true of it as far as its disk returned what was
+-- written: one of a wrong version is not of version 1, and one with bad rows is, and no rows that it
+-- has are sound.
+pub record IsNotTaken (old left : State) (fault : MigrateFault) : Type 0 where
+  pub wrong : HasCleanDisk left → fault ≡ WrongVersion → ¬ IsOfVersion One old.now
+  pub said : HasCleanDisk left → fault ≡ BadRows → IsOfVersion One old.now
+  pub bad
+      : HasCleanDisk left → fault ≡ BadRows
+      → (rows : List Row) → HasRowsOf One old.now rows → ¬ IsSound rows
+
+-- A migration is refused by a fault, and both connections are dropped as they are left. The old
+-- store stays as it is. The new one shows what it showed, and a crash leaves of it what it could
+-- leave before, or all rows, migrated.
 pub record IsNotMigrated {S : Type 0} (g : Ghosts S) (old new : Held S) (fault : MigrateFault)
     : Type 0 where
-  pub cause : StoreFault
-  pub is : fault ≡ fault_of cause
-  pub refused : IsRefused g One old cause
-  pub left : Held S
+  pub old_left : Held S
+  pub stays : Stays (state g old) (state g old_left)
+  pub not_taken : IsNotTaken (state g old) (state g old_left) fault
+  pub new_left : Held S
   pub survives
-      : Survives (state g new) (state g left)
-      (λ trees. HasCleanDisk (state g refused.left) → HasMigrated (state g old) trees)
+      : Survives (state g new) (state g new_left)
+      (λ trees. HasCleanDisk (state g old_left) → HasMigrated (state g old) trees)
   pub same
-      : HasCleanDisk (state g left) → IsTrue (state g left).is_open
-      → IsAtRest (state g new) → IsSame (state g new) (state g left)
+      : HasCleanDisk (state g new_left) → IsTrue (state g new_left).is_open
+      → IsAtRest (state g new) → IsSame (state g new) (state g new_left)

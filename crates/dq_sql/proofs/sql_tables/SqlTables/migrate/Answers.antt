@@ -1,56 +1,49 @@
-use Rattle.std.proofs.Common.{Err, inl, inr, ◌∙◌, refl, sym, ap, subst}
+use Rattle.std.proofs.Common.{inr, ◌∙◌, refl, sym, subst}
 use Rattle.sqlite.specs.State.{HasCleanDisk}
 use Rattle.sqlite.specs.Held.{state}
-use Rattle.dq_sql.specs.declared.fault.StoreFault.TheVariants.{NoMemory, Store}
+use Rattle.dq_sql.specs.declared.migrate_fault.MigrateFault.TheVariants.{Store}
 use Rattle.dq_sql.specs.Filling.{IsFilled}
 use Rattle.dq_sql.specs.Keeping.{MayLeave}
-use Rattle.dq_sql.specs.Migration.{IsNotMigrated}
+use Rattle.dq_sql.specs.Migration.{IsMigrated, IsNotMigrated}
 use Rattle.dq_sql.proofs.Keeping.{filled_keeps, filled_settled}
-use Rattle.dq_sql.proofs.Migrated.{stays_itself, by_fault, not_blamed, migrates, not_filled, untouched}
+use Rattle.dq_sql.proofs.Migrated.{stays_itself, by_fault, not_blamed, untouched, not_filled}
 use Rattle.dq_sql.proofs.sql_tables.SqlTables.migrate.Goals as goal
 
 pub returns-then-not-is_new_store-clause-refused : goal.returns-then-not-is_new_store-clause-refused
 returns-then-not-is_new_store-clause-refused g c =
-    ∣ untouched g.S.Store c.args.old c.args.new Store
-    (not_blamed g.S.Store c.args.old c.args.old (stays_itself (state g.S.Store c.args.old)) Store (inr refl)) ∣₁
+    let old = state g.S.Store c.args.old in
+    ∣ untouched g.S.Store c.args.old c.args.old (stays_itself old) c.args.new Store (not_blamed old old Store (inr refl)) ∣₁
 
 pub returns-in_err-rows-clause-refused : goal.returns-in_err-rows-clause-refused
 returns-in_err-rows-clause-refused g c =
     by_fault c.from_residual.result (λ e. ∥ IsNotMigrated g.S.Store c.args.old c.args.new e ∥₁) c.from_residual.ensures.1
-    (∣ untouched g.S.Store c.args.old c.args.new c.in_err-rows.field-0.0 (record {
-      left = c.kept_rows.new.conn;
-      stays = c.kept_rows.ensures.stays;
-      wrong = λ clean is. c.in_err-rows.ensures.wrong clean (ap Err is);
-      said = λ clean is. c.in_err-rows.ensures.said clean (ap Err is);
-      bad = λ clean is. c.in_err-rows.ensures.bad clean (ap Err is);
-    }) ∣₁)
-
-pub returns-in_err-start_named-clause-refused : goal.returns-in_err-start_named-clause-refused
-returns-in_err-start_named-clause-refused g c =
-    by_fault c.from_residual-in_err-start_named.result (λ e. ∥ IsNotMigrated g.S.Store c.args.old c.args.new e ∥₁)
-    c.from_residual-in_err-start_named.ensures.1
-    (∣ untouched g.S.Store c.args.old c.args.new NoMemory
-    (not_blamed g.S.Store c.args.old c.kept_rows.new.conn c.kept_rows.ensures.stays NoMemory (inl refl)) ∣₁)
+    (∣ untouched g.S.Store c.args.old c.rows_migrated.new.old c.rows_migrated.ensures.stays c.args.new c.in_err-rows.field-0.0
+    c.in_err-rows.ensures.refused ∣₁)
 
 pub returns-in_err-fill_store-clause-refused : goal.returns-in_err-fill_store-clause-refused
 returns-in_err-fill_store-clause-refused g c =
     by_fault c.from_residual-in_err-fill_store.result (λ e. ∥ IsNotMigrated g.S.Store c.args.old c.args.new e ∥₁)
     c.from_residual-in_err-fill_store.ensures.1
-    (∣ not_filled g.S.Store c.args.old c.kept_rows.new.conn c.kept_rows.ensures.stays c.in_ok-rows.rows.items c.as_slice.result.now
-    c.in_ok-rows.ensures.found (c.as_slice.ensures.value ∙ c.in_ok-start_named.ensures.done) c.args.new c.fill_store.new.conn
-    c.in_err-fill_store.field-0.0 c.in_err-fill_store.ensures.fault c.fill_store.ensures.survives c.in_err-fill_store.ensures.same ∣₁)
+    (∣ not_filled g.S.Store c.args.old c.rows_migrated.new.old c.rows_migrated.ensures.stays c.as_slice.result.now
+    (λ clean. subst (IsMigrated (state g.S.Store c.args.old)) (sym c.as_slice.ensures.value) (c.in_ok-rows.ensures.migrated clean))
+    c.args.new c.fill_store.new.conn c.in_err-fill_store.field-0.0 c.in_err-fill_store.ensures.fault c.fill_store.ensures.survives
+    c.in_err-fill_store.ensures.same ∣₁)
 
 pub over-requires-clause-keeps : goal.over-requires-clause-keeps
 over-requires-clause-keeps g c clean =
     let s = state g.S.Store c.fill_store.new.conn in
     rw c.from_inner.ensures
-    (filled_keeps s c.start_named.new.rows.items (λ trees opened left. g.met.S.Store.settled c.fill_store.new.conn.store trees opened left)
-    c.in_ok-start_named.ensures.sound (subst (IsFilled s) c.as_slice.ensures.value (c.in_ok-fill_store.ensures.made clean)))
+    (filled_keeps s c.in_ok-rows.rows.items (λ trees opened left. g.met.S.Store.settled c.fill_store.new.conn.store trees opened left)
+    c.in_ok-rows.ensures.sound (subst (IsFilled s) c.as_slice.ensures.value (c.in_ok-fill_store.ensures.made clean)))
 
 pub returns-clause-rows : goal.returns-clause-rows
 returns-clause-rows g c =
-    ∣ migrates g.S.Store c.args.old c.kept_rows.new.conn c.kept_rows.ensures.stays c.in_ok-rows.rows.items c.over-2.result.history.rows
-    c.in_ok-rows.ensures.found (c.over-2.ensures.rows ∙ c.from_inner.ensures ∙ c.in_ok-start_named.ensures.done) ∣₁
+    ∣ record {
+      left = c.rows_migrated.new.old;
+      stays = c.rows_migrated.ensures.stays;
+      are = λ clean. subst (IsMigrated (state g.S.Store c.args.old)) (sym (c.over-2.ensures.rows ∙ c.from_inner.ensures))
+          (c.in_ok-rows.ensures.migrated clean);
+    } ∣₁
 
 pub returns-clause-settled : goal.returns-clause-settled
 returns-clause-settled g c clean = record {
