@@ -16,6 +16,8 @@ sys.path.insert(0, str(TOP / "suite" / "model"))
 
 import compose  # noqa: E402
 import data_sets  # noqa: E402
+import matching  # noqa: E402
+import stores  # noqa: E402
 from messages import C_ECHO, C_FIND, C_STORE, DATA_SET, NO_DATA_SET, command_set, padded, sent, two  # noqa: E402
 from upper_layer import EXPLICIT, pdu, request_pdu  # noqa: E402
 
@@ -53,6 +55,34 @@ def store(context, study, series, image, **elements):
     elements = {"SOPClassUID": compose.CLASSES["CT"], "SOPInstanceUID": image, "StudyInstanceUID": study,
                 "SeriesInstanceUID": series, "Modality": b"CT", **elements}
     return message(context, C_STORE, "CT", elements, image)
+
+
+def row(kind, elements, key, above=b""):
+    """A row of DEMO, as the program keeps it; elements are tags with their VRs and values."""
+    elements = sorted((tag, vr, data_sets.padded(vr, value)) for tag, vr, value in elements)
+    octets = data_sets.canonical(elements, data_sets.EXPLICIT)
+    return (kind, "DEMO", key, above, *stores.labels(kind, elements), octets, 0)
+
+
+def instance_rows(study, series, image, **elements):
+    """The three rows of an instance."""
+    elements = {"SOPClassUID": compose.CLASSES["CT"], "SOPInstanceUID": image, "StudyInstanceUID": study,
+                "SeriesInstanceUID": series, "Modality": b"CT", **elements}
+    tagged = [(*compose.tag_of(name), value) for name, value in elements.items()]
+    parts = ((stores.STUDY, "STUDY", study, b""), (stores.SERIES, "SERIES", series, study), (stores.IMAGE, "IMAGE", image, series))
+    return [row(kind, [one for one in tagged if one[0] in matching.KEPT[level]], key, above)
+            for kind, level, key, above in parts]
+
+
+def filled(path, rows):
+    """A store of these rows, written by the C library."""
+    made = stores.new(str(path))
+    made.execute("BEGIN")
+    made.executemany(stores.INSERT, rows)
+    made.execute("COMMIT")
+    made.execute("PRAGMA wal_checkpoint(TRUNCATE)")
+    made.close()
+    return path
 
 
 def find(context, **elements):
