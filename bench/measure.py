@@ -26,6 +26,20 @@ ECHO = sent(1, command_set([(0x0002, padded(compose.CLASSES["echo"])), (0x0100, 
                             (0x0800, two(NO_DATA_SET))]), None, 0)
 
 
+# the keys that most viewers ask for
+VIEWERS = ("StudyDate", "StudyTime", "AccessionNumber", "ModalitiesInStudy", "ReferringPhysicianName", "StudyDescription",
+           "PatientName", "PatientID", "PatientBirthDate", "PatientSex", "StudyInstanceUID", "StudyID",
+           "NumberOfStudyRelatedSeries", "NumberOfStudyRelatedInstances")
+
+
+def entry_words(at):
+    """The words of a worklist entry: one of a hundred stations, on one of 31 days."""
+    return (f"PatientName=DOE^{at} PatientID=P{at} StudyInstanceUID=1.2.{at} RequestedProcedureID=R{at} "
+            f"ScheduledProcedureStepSequence= {{ Modality=CT ScheduledStationAETitle=ST{at % 100} "
+            f"ScheduledProcedureStepStartDate=202407{at % 31 + 1:02d} ScheduledProcedureStepStartTime=0900 "
+            f"ScheduledProcedureStepID=S{at} }}")
+
+
 def check_program(program=PROGRAM):
     if not program.exists():
         sys.exit(f"{sys.argv[0]}: build the program first, by tools/build {program.name}")
