@@ -1,3 +1,4 @@
+//! An association: what each PDU leads to, by the table of states (PS3.8 section 9.2).
 ghost use Rattle.std.specs.Prelude.{◌≡◌, ◌∷◌, [], ◌++◌, List, Option, true, false, if◌then◌else◌, IfOk, OnOk, Some, None, is_some};
 ghost use Rattle.std.specs.Option.{ForSome, option_copied};
 ghost use Rattle.dq_pdu.specs.declared.fault.PduFault.{PduFault};

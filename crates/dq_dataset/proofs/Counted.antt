@@ -60,7 +60,7 @@ un_header tag vr n form lt =
 pub long_header : (tag : Tag) (vr : Vr) (n : ℕ) → length_form_of vr ≡ Four → length (header_of Explicit tag vr n) ≡ 12
 long_header tag vr n form = explicit_header tag vr n ∙ ap (λ (f : LengthForm). 4 + after_tag f n) form
 
-item_header : (n : ℕ) → length (item_header_of n) ≡ 8
+pub item_header : (n : ℕ) → length (item_header_of n) ≡ 8
 unfolding item_header_of
 item_header n = refl
 

@@ -1,145 +1,15 @@
 -- Headers before it is known whether their values fit.
-use Rattle.std.proofs.Common.{◌≡◌, ◌≢◌, ℕ, ◌≤◌, ◌<◌, ◌^◌, Bool, true, false, not, cond, ltb, eqb, ◌&&◌, List, [], ◌∷◌, ◌++◌, length, Option, Some, None, Result, Ok, Err, refl, sym, ap, subst, ◌∙◌, append_assoc, lit<, arith, inl, inr, ◌⊎◌}
-use Rattle.std.proofs.lemmas.Bool.{eqb-true, eqb-false, ne_eqb, not-true}
+use Rattle.std.proofs.Common.{◌≡◌, ◌≢◌, ℕ, ◌<◌, ◌^◌, Bool, true, false, not, cond, ltb, eqb, ◌&&◌, List, [], ◌∷◌, ◌++◌, length, Option, Some, None, Result, Ok, Err, refl, sym, ap, ◌∙◌, arith, inl, inr, ◌⊎◌}
+use Rattle.std.proofs.lemmas.Bool.{eqb-true, ne_eqb}
 use Rattle.std.proofs.lemmas.List.{length-append}
-use Rattle.dq_dataset.proofs.Types.{Tag, Vr, ReadFault, Truncated, BadItem, TagOrder, TooDeep, Syntax, Bound, Filled, Delimited, Content, Header}
-use Rattle.dq_vr.specs.Dictionary.{known_vr}
-use Rattle.dq_dataset.specs.Rules.{content_of, vr_of}
-use Rattle.dq_dataset.specs.Reading.{◌>>=◌, check, tag_at, long_length_at, spelling_at, follows, may_nest, length_of, fits, header_at, item_header_at, end_at}
-use Rattle.dq_dataset.specs.Fronts.{front_at, item_front_at}
-use Rattle.dq_dataset.specs.Canonical.{tag_octets}
+use Rattle.dq_dataset.proofs.Types.{Tag, ReadFault, Truncated, BadItem, Syntax, Bound, Filled, Delimited, Content, Header}
+use Rattle.dq_dataset.specs.Reading.{◌>>=◌, check, header_at, item_header_at, may_nest, length_of, fits, front_at, item_front_at, end_at}
 use Rattle.dq_dataset.specs.Grammar.{IsHeader, IsPlaced, IsItemHeader}
 use Rattle.dq_dataset.specs.Faults.{tag_in, first_of, header_faults, item_faults, ends_here, HasFault, at_header, ItemsHaveFault, at_item}
-use Rattle.dq_dataset.proofs.Fields.{IsBytes, bind_ok, check_ok, ok_is, no_fault, Takes, Takes-then, tag_takes, tag_again, length_takes, length_again, length_four}
-use Rattle.dq_dataset.proofs.Headers.{spelling_takes, spelling_again, spelling_long, item_length_step, delimiter_is, no_end_before, no_end_before_item, end_takes, end_again}
+use Rattle.dq_dataset.proofs.Fields.{IsBytes, no_fault}
+use Rattle.dq_dataset.proofs.Headers.{header_of, fits_step, front_takes, front_again, item_length_step, item_front_takes, item_front_again, no_end_before, no_end_before_item, end_takes, end_again}
 use Rattle.dq_dataset.proofs.HeaderFaults.{fault_of, header_faults_are, item_faults_are, an_end_here, no_end_here}
 use Rattle.dq_dataset.proofs.FaultStays.{elements_stay, items_stay}
-
-abbrev header_of : Tag → Content → Header
-header_of tag content = record { tag = tag; vr = vr_of (known_vr tag) content; content = content }
-
-bind_bind : {A B C : Type 0} (r : Result A ReadFault) (f : A → Result B ReadFault) (g : B → Result C ReadFault)
-    → ((r >>= f) >>= g) ≡ (r >>= λ x. f x >>= g)
-bind_bind (Ok x) f g = refl
-bind_bind (Err e) f g = refl
-
--- ---- the header of an element
-
-abbrev content_step : ℕ → Tag → List ℕ → Content → Result (Header × List ℕ) ReadFault
-content_step levels tag rest content = check (may_nest levels content) TooDeep >>= λ shallow. Ok (header_of tag content, rest)
-
-abbrev spelling_step : ℕ → Tag → (Option Vr × Option ℕ) × List ℕ → Result (Header × List ℕ) ReadFault
-spelling_step levels tag spelling = content_of (known_vr tag) spelling.0.0 spelling.0.1 >>= content_step levels tag spelling.1
-
-abbrev rises_step : Syntax → ℕ → Tag → List ℕ → Unit {0} → Result (Header × List ℕ) ReadFault
-rises_step syntax levels tag rest rises = spelling_at syntax (known_vr tag) rest >>= spelling_step levels tag
-
-abbrev placed_step : Syntax → ℕ → Option Tag → Tag → List ℕ → Unit {0} → Result (Header × List ℕ) ReadFault
-placed_step syntax levels last tag rest placed = check (follows last tag) TagOrder >>= rises_step syntax levels tag rest
-
-abbrev tag_step : Syntax → ℕ → Option Tag → Tag × List ℕ → Result (Header × List ℕ) ReadFault
-tag_step syntax levels last tag = check (not (eqb tag.0.group 0xFFFE)) BadItem >>= placed_step syntax levels last tag.0 tag.1
-
-abbrev pub fits_step : Header × List ℕ → Result (Header × List ℕ) ReadFault
-fits_step h = check (fits (length_of h.0.content) h.1) Truncated >>= λ whole. Ok h
-
--- whether the value fits is tested last
-pub header_by_front : (syntax : Syntax) (levels : ℕ) (last : Option Tag) (octets : List ℕ)
-    → header_at syntax levels last octets ≡ (front_at syntax levels last octets >>= fits_step)
-unfolding header_at front_at
-header_by_front syntax levels last octets = simp bind_bind
-
--- a front that was read
-pub record ReadsFront (syntax : Syntax) (levels : ℕ) (last : Option Tag) (bytes : List ℕ) (read : Header) (rest : List ℕ) : Type 0 where
-  pub octets : List ℕ
-  pub takes : Takes bytes octets rest
-  pub placed : IsPlaced last read.tag
-  pub header : IsHeader syntax read.tag read.content octets
-  pub vr : read.vr ≡ vr_of (known_vr read.tag) read.content
-  pub nests : may_nest levels read.content ≡ true
-
-pub front_takes : (syntax : Syntax) (levels : ℕ) (last : Option Tag) (bytes : List ℕ) (header : Header) (rest : List ℕ) → IsBytes bytes
-    → front_at syntax levels last bytes ≡ Ok (header, rest) → ReadsFront syntax levels last bytes header rest
-unfolding front_at
-front_takes syntax levels last bytes header rest ok e =
-    let a = bind_ok (tag_at bytes) (tag_step syntax levels last) (header, rest) e in
-    let tag = a.0.0 in
-    let b = check_ok (not (eqb tag.group 0xFFFE)) BadItem (placed_step syntax levels last tag a.0.1) (header, rest) a.2 in
-    let c = check_ok (follows last tag) TagOrder (rises_step syntax levels tag a.0.1) (header, rest) b.1 in
-    let d = bind_ok (spelling_at syntax (known_vr tag) a.0.1) (spelling_step levels tag) (header, rest) c.1 in
-    let f = bind_ok (content_of (known_vr tag) d.0.0.0 d.0.0.1) (content_step levels tag d.0.1) (header, rest) d.2 in
-    let g = check_ok (may_nest levels f.0) TooDeep (λ shallow. Ok (header_of tag f.0, d.0.1)) (header, rest) f.2 in
-    let t = tag_takes bytes tag a.0.1 ok a.1 in
-    let s = spelling_takes syntax (known_vr tag) a.0.1 d.0.0.0 d.0.0.1 d.0.1 t.0.rest_fits d.1 in
-    let found : ReadsFront syntax levels last bytes (header_of tag f.0) d.0.1 = record {
-      octets = tag_octets tag ++ s.0;
-      takes = Takes-then bytes (tag_octets tag) a.0.1 s.0 d.0.1 t.0 s.2;
-      placed = record { rises = c.0; no_delimiter = eqb-false tag.group 0xFFFE (not-true _ b.0); group = t.1; number = t.2 };
-      header = record { spelled = d.0.0.0; extent = d.0.0.1; allowed = f.1; behind = s.0; spelling = s.1; whole = refl };
-      vr = refl;
-      nests = g.0;
-    } in
-    subst (λ (p : Header × List ℕ). ReadsFront syntax levels last bytes p.0 p.1) (ok_is (header_of tag f.0, d.0.1) (header, rest) g.1) found
-
-pub front_again : (syntax : Syntax) (levels : ℕ) (last : Option Tag) (tag : Tag) (content : Content) (octets rest : List ℕ)
-    → IsPlaced last tag → IsHeader syntax tag content octets → may_nest levels content ≡ true
-    → front_at syntax levels last (octets ++ rest) ≡ Ok (header_of tag content, rest)
-unfolding front_at
-front_again syntax levels last tag content octets rest placed header nests =
-    let long : 4 ≤ length (header.behind ++ rest) =
-    omega (arith, length-append header.behind rest, spelling_long syntax (known_vr tag) header.spelled header.extent header.behind header.spelling) in
-    let e : octets ++ rest ≡ tag_octets tag ++ (header.behind ++ rest) = ap (λ (x : List ℕ). x ++ rest) header.whole
-    ∙ append_assoc (tag_octets tag) header.behind rest in
-    let other : eqb tag.group 0xFFFE ≡ false = ne_eqb tag.group 0xFFFE placed.no_delimiter in
-    let allowed = header.allowed in
-    rw (
-      e,
-      tag_again tag (header.behind ++ rest) placed.group placed.number long,
-      other,
-      placed.rises,
-      spelling_again syntax (known_vr tag) header.spelled header.extent header.behind rest header.spelling,
-      allowed,
-      nests,
-    ) refl
-
--- ---- the header of an item
-
-pub item_by_front : (octets : List ℕ) → item_header_at octets ≡ (item_front_at octets >>= item_length_step)
-unfolding item_header_at item_front_at
-item_by_front octets = simp bind_bind
-
-pub record ReadsItemFront (bytes : List ℕ) (extent : Option ℕ) (rest : List ℕ) : Type 0 where
-  pub octets : List ℕ
-  pub takes : Takes bytes octets rest
-  pub header : IsItemHeader extent octets
-
-abbrev item_step : Tag × List ℕ → Result (Option ℕ × List ℕ) ReadFault
-item_step tag = check (eqb tag.0.group 0xFFFE && eqb tag.0.element 0xE000) BadItem >>= λ is_item. long_length_at tag.1
-
-pub item_front_takes : (bytes : List ℕ) (extent : Option ℕ) (rest : List ℕ) → IsBytes bytes → item_front_at bytes ≡ Ok (extent, rest)
-    → ReadsItemFront bytes extent rest
-unfolding item_front_at
-item_front_takes bytes extent rest ok e =
-    let a = bind_ok (tag_at bytes) item_step (extent, rest) e in
-    let c = check_ok (eqb a.0.0.group 0xFFFE && eqb a.0.0.element 0xE000) BadItem (λ is_item. long_length_at a.0.1) (extent, rest) a.2 in
-    let t = tag_takes bytes a.0.0 a.0.1 ok a.1 in
-    let l = length_takes a.0.1 extent rest t.0.rest_fits c.1 in
-    let is = delimiter_is a.0.0 0xE000 c.0 in
-    record {
-      octets = tag_octets a.0.0 ++ l.0;
-      takes = Takes-then bytes (tag_octets a.0.0) a.0.1 l.0 rest t.0 l.2;
-      header = record { four = l.0; is_length = l.1; whole = ap (λ (x : Tag). tag_octets x ++ l.0) is };
-    }
-
-pub item_front_again : (extent : Option ℕ) (octets rest : List ℕ) → IsItemHeader extent octets
-    → item_front_at (octets ++ rest) ≡ Ok (extent, rest)
-unfolding item_front_at
-item_front_again extent octets rest header =
-    let item : Tag = record { group = 0xFFFE; element = 0xE000 } in
-    let long : 4 ≤ length (header.four ++ rest) = omega (arith, length-append header.four rest, length_four extent header.four header.is_length) in
-    let e : octets ++ rest ≡ tag_octets item ++ (header.four ++ rest) = ap (λ (x : List ℕ). x ++ rest) header.whole
-    ∙ append_assoc (tag_octets item) header.four rest in
-    rw (e, tag_again item (header.four ++ rest) (lit< tt) (lit< tt) long, length_again extent header.four rest header.is_length) refl
 
 -- ---- a header takes all that came
 
@@ -199,11 +69,13 @@ no_rest octets rest bound element none some =
 
 pub front_fault : (syntax : Syntax) (levels : ℕ) (last : Option Tag) (octets : List ℕ) (f : ReadFault) → front_at syntax levels last octets ≡ Err f
     → first_of (header_faults syntax levels last octets) ≡ Some f
+unfolding header_at
 front_fault syntax levels last octets f e =
-    sym (header_faults_are syntax levels last octets) ∙ ap fault_of (header_by_front syntax levels last octets ∙ ap (λ r. r >>= fits_step) e)
+    sym (header_faults_are syntax levels last octets) ∙ ap (λ r. fault_of (r >>= fits_step)) e
 
 pub item_front_fault : (octets : List ℕ) (f : ReadFault) → item_front_at octets ≡ Err f → first_of (item_faults octets) ≡ Some f
-item_front_fault octets f e = sym (item_faults_are octets) ∙ ap fault_of (item_by_front octets ∙ ap (λ r. r >>= item_length_step) e)
+unfolding item_header_at
+item_front_fault octets f e = sym (item_faults_are octets) ∙ ap (λ r. fault_of (r >>= item_length_step)) e
 
 -- a fault of the front stays
 pub front_fault_stays : (bound : Bound) (syntax : Syntax) (levels : ℕ) (last : Option Tag) (front t : List ℕ) (f : ReadFault)
@@ -274,21 +146,22 @@ over_is x false e = refl
 pub unfit : (bound : Bound) (syntax : Syntax) (levels : ℕ) (last : Option Tag) (tag : Tag) (content : Content) (header t : List ℕ)
     → IsPlaced last tag → IsHeader syntax tag content header → may_nest levels content ≡ true → fits (length_of content) t ≡ false
     → HasFault bound syntax levels last (header ++ t) Truncated
+unfolding header_at
 unfit bound syntax levels last tag content header t placed is_header nests over =
     at_header bound syntax levels last (header ++ t) Truncated
     (open_here bound 0xE00D (header ++ t)
     (λ rest. no_rest (header ++ t) rest bound 0xE00D (no_end_before bound last syntax tag content header t placed is_header)))
-    (sym (header_faults_are syntax levels last (header ++ t)) ∙ ap fault_of (header_by_front syntax levels last (header ++ t)
-    ∙ ap (λ r. r >>= fits_step) (front_again syntax levels last tag content header t placed is_header nests))
+    (sym (header_faults_are syntax levels last (header ++ t)) ∙ ap (λ r. fault_of (r >>= fits_step))
+    (front_again syntax levels last tag content header t placed is_header nests)
     ∙ over_is (header_of tag content, t) (fits (length_of content) t) over)
 
 pub item_unfit : (bound : Bound) (syntax : Syntax) (levels : ℕ) (extent : Option ℕ) (header t : List ℕ) → IsItemHeader extent header
     → fits extent t ≡ false → ItemsHaveFault bound syntax levels (header ++ t) Truncated
+unfolding item_header_at
 item_unfit bound syntax levels extent header t is_header over =
     at_item bound syntax levels (header ++ t) Truncated
     (open_here bound 0xE0DD (header ++ t) (λ rest. no_rest (header ++ t) rest bound 0xE0DD (no_end_before_item bound extent header t is_header)))
-    (sym (item_faults_are (header ++ t)) ∙ ap fault_of (item_by_front (header ++ t)
-    ∙ ap (λ r. r >>= item_length_step) (item_front_again extent header t is_header))
+    (sym (item_faults_are (header ++ t)) ∙ ap (λ r. fault_of (r >>= item_length_step)) (item_front_again extent header t is_header)
     ∙ over_is (extent, t) (fits extent t) over)
 
 -- ---- an end takes all that came

@@ -7,10 +7,10 @@ use Rattle.dq_dataset.proofs.Types.{Tag, Vr, LengthForm, Two, Four, ReadFault, T
 use Rattle.dq_vr.specs.Dictionary.{known_vr}
 use Rattle.dq_vr.specs.Vr.{length_form_of, vr_with_letters}
 use Rattle.dq_dataset.specs.Rules.{is_sequence, is_unknown, agrees, content_of}
-use Rattle.dq_dataset.specs.Reading.{◌>>=◌, check, number_at, tag_at, long_length_at, length_at, vr_or_fault, vr_at, spelling_at, follows, fits, header_at, item_header_at, end_at}
+use Rattle.dq_dataset.specs.Reading.{◌>>=◌, check, number_at, tag_at, long_length_at, length_at, vr_or_fault, vr_at, spelling_at, follows, fits, front_at, header_at, item_front_at, item_header_at, end_at}
 use Rattle.dq_dataset.specs.Faults.{number_in, tag_in, vr_in, defined, size_by, header_size, extent_by, extent_in, first_of, is_allowed, faults_of_content, header_faults, item_faults, ends_here}
 use Rattle.dq_dataset.proofs.Fields.{done}
-use Rattle.dq_dataset.proofs.Headers.{content_step, spelling_step, rises_step, placed_step}
+use Rattle.dq_dataset.proofs.Headers.{fits_step, content_step, spelling_step, rises_step, placed_step, item_length_step}
 
 abbrev pub fault_of : {X : Type 0} → Result X ReadFault → Option ReadFault
 fault_of (Ok x) = None
@@ -55,7 +55,7 @@ fits_fault x true = refl
 fits_fault x false = refl
 
 nest_faults : (levels : ℕ) (tag : Tag) (syntax : Syntax) (extent : Option ℕ) (rest : List ℕ)
-    → fault_of (content_step levels tag rest (Sequence syntax extent)) ≡ first_of ((eqb levels 0, TooDeep) ∷ (not (fits extent rest), Truncated) ∷ [])
+    → fault_of (content_step levels tag rest (Sequence syntax extent) >>= fits_step) ≡ first_of ((eqb levels 0, TooDeep) ∷ (not (fits extent rest), Truncated) ∷ [])
 nest_faults zero tag syntax extent rest = refl
 nest_faults (suc n) tag syntax extent rest =
     let some : ltb 0 (suc n) ≡ true = lt-ltb 0 (suc n) (omega arith) in
@@ -63,7 +63,7 @@ nest_faults (suc n) tag syntax extent rest =
     rw (some, other) (fits_fault _ (fits extent rest))
 
 some_faults : (levels : ℕ) (tag : Tag) (n : ℕ) (rest : List ℕ) (a b : Bool)
-    → fault_of (cond a (done (Sequence Explicit (Some n))) (cond b (Ok (Sequence Implicit (Some n))) (Ok (Plain n))) >>= content_step levels tag rest)
+    → fault_of (cond a (done (Sequence Explicit (Some n))) (cond b (Ok (Sequence Implicit (Some n))) (Ok (Plain n))) >>= content_step levels tag rest >>= fits_step)
     ≡ first_of (((a || (b || false)) && eqb levels 0, TooDeep) ∷ (not (fits (Some n) rest), Truncated) ∷ [])
 some_faults levels tag n rest true b = nest_faults levels tag Explicit (Some n) rest
 some_faults levels tag n rest false true = nest_faults levels tag Implicit (Some n) rest
@@ -71,7 +71,7 @@ some_faults levels tag n rest false false = fits_fault _ (fits (Some n) rest)
 
 none_faults : (levels : ℕ) (tag : Tag) (rest : List ℕ) (a b c : Bool)
     → fault_of (cond a (done (Sequence Explicit None)) (cond b (Ok (Sequence Implicit None)) (cond c (Ok (Sequence Implicit None)) (Err BadUndefined)))
-    >>= content_step levels tag rest)
+    >>= content_step levels tag rest >>= fits_step)
     ≡ first_of ((not (a || (b || c)), BadUndefined) ∷ ((a || (b || c)) && eqb levels 0, TooDeep) ∷ (false, Truncated) ∷ [])
 none_faults levels tag rest true b c = nest_faults levels tag Explicit None rest
 none_faults levels tag rest false true c = nest_faults levels tag Implicit None rest
@@ -79,7 +79,7 @@ none_faults levels tag rest false false true = nest_faults levels tag Implicit N
 none_faults levels tag rest false false false = refl
 
 content_faults : (levels : ℕ) (tag : Tag) (spelled : Option Vr) (extent : Option ℕ) (rest : List ℕ)
-    → fault_of (content_of (known_vr tag) spelled extent >>= content_step levels tag rest)
+    → fault_of (content_of (known_vr tag) spelled extent >>= content_step levels tag rest >>= fits_step)
     ≡ first_of (faults_of_content levels (known_vr tag) spelled extent rest)
 unfolding content_of
 content_faults levels tag spelled (Some n) rest = some_faults levels tag n rest (is_sequence spelled) (is_sequence (known_vr tag))
@@ -88,15 +88,16 @@ content_faults levels tag spelled None rest =
 
 -- ---- the header of an element
 
-gate : {Y : Type 0} (b : Bool) (f : ReadFault) (k : Unit {0} → Result Y ReadFault) (others : List (Bool × ReadFault)) → fault_of (k tt) ≡ first_of others
-    → fault_of (check b f >>= k) ≡ first_of ((not b, f) ∷ others)
-gate true f k others h = h
-gate false f k others h = refl
+-- a test, what follows it, and whether the value fits
+gate : {Y : Type 0} (b : Bool) (f : ReadFault) (k : Unit {0} → Result Y ReadFault) (last : Y → Result Y ReadFault) (others : List (Bool × ReadFault))
+    → fault_of (k tt >>= last) ≡ first_of others → fault_of (check b f >>= k >>= last) ≡ first_of ((not b, f) ∷ others)
+gate true f k last others h = h
+gate false f k last others h = refl
 
-gate_not : {Y : Type 0} (b : Bool) (f : ReadFault) (k : Unit {0} → Result Y ReadFault) (others : List (Bool × ReadFault)) → fault_of (k tt) ≡ first_of others
-    → fault_of (check (not b) f >>= k) ≡ first_of ((b, f) ∷ others)
-gate_not true f k others h = refl
-gate_not false f k others h = h
+gate_not : {Y : Type 0} (b : Bool) (f : ReadFault) (k : Unit {0} → Result Y ReadFault) (last : Y → Result Y ReadFault) (others : List (Bool × ReadFault))
+    → fault_of (k tt >>= last) ≡ first_of others → fault_of (check (not b) f >>= k >>= last) ≡ first_of ((b, f) ∷ others)
+gate_not true f k last others h = refl
+gate_not false f k last others h = h
 
 abbrev from_vr : Syntax → ℕ → Tag → List ℕ → List (Bool × ReadFault)
 from_vr syntax levels tag octets =
@@ -111,7 +112,7 @@ module _ (levels : ℕ) (tag : Tag) (a b c d e f g h : ℕ) (rest : List ℕ) wh
   eight_at_least : ltb (length all) 8 ≡ false
   eight_at_least = le-ltb (length all) 8 (omega arith)
 
-  implicit_faults : fault_of (spelling_at Implicit (known_vr tag) (e ∷ f ∷ g ∷ h ∷ rest) >>= spelling_step levels tag)
+  implicit_faults : fault_of (spelling_at Implicit (known_vr tag) (e ∷ f ∷ g ∷ h ∷ rest) >>= spelling_step levels tag >>= fits_step)
       ≡ first_of ((not true, BadVr) ∷ (ltb (length all) 8, Truncated) ∷ faults_of_content levels (known_vr tag) None (defined (number_in w32 4 all)) rest)
   unfolding spelling_at
   implicit_faults = rw (long_length (e ∷ f ∷ g ∷ h ∷ rest) (omega arith), eight_at_least) (content_faults levels tag None (defined (number_in w32 4 all)) rest)
@@ -120,7 +121,7 @@ module _ (levels : ℕ) (tag : Tag) (a b c d e f g h : ℕ) (rest : List ℕ) wh
   explicit_step vr n = Ok ((Some vr, n.0), n.1)
 
   short_rest : (vr : Vr) (short : Bool) → ltb (length rest) 4 ≡ short
-      → fault_of ((long_length_at rest >>= explicit_step vr) >>= spelling_step levels tag)
+      → fault_of ((long_length_at rest >>= explicit_step vr) >>= spelling_step levels tag >>= fits_step)
       ≡ first_of ((ltb (length all) 12, Truncated) ∷ faults_of_content levels (known_vr tag) (Some vr) (defined (number_in w32 8 all)) (drop 4 rest))
   unfolding long_length_at
   short_rest vr true is =
@@ -131,7 +132,7 @@ module _ (levels : ℕ) (tag : Tag) (a b c d e f g h : ℕ) (rest : List ℕ) wh
       rw (is, long) (content_faults levels tag (Some vr) (defined (number_in w32 8 all)) (drop 4 rest))
 
   by_form : (vr : Vr) (agreed : Bool) (form : LengthForm)
-      → fault_of ((check agreed BadVr >>= λ ok. length_at form (g ∷ h ∷ rest) >>= explicit_step vr) >>= spelling_step levels tag)
+      → fault_of ((check agreed BadVr >>= λ ok. length_at form (g ∷ h ∷ rest) >>= explicit_step vr) >>= spelling_step levels tag >>= fits_step)
       ≡ first_of ((not agreed, BadVr) ∷ (ltb (length all) (size_by form), Truncated) ∷ faults_of_content levels (known_vr tag) (Some vr) (extent_by form all)
       (drop (size_by form) all))
   unfolding length_at
@@ -142,7 +143,7 @@ module _ (levels : ℕ) (tag : Tag) (a b c d e f g h : ℕ) (rest : List ℕ) wh
   explicit_faults : (o : Option Vr)
       → fault_of
       ((vr_or_fault o (g ∷ h ∷ rest) >>= λ vr. check (agrees (known_vr tag) vr.0) BadVr >>= λ ok. length_at (length_form_of vr.0) vr.1 >>= explicit_step vr.0)
-      >>= spelling_step levels tag)
+      >>= spelling_step levels tag >>= fits_step)
       ≡ first_of ((not (is_allowed Explicit (known_vr tag) o), BadVr) ∷ (ltb (length all) (header_size o), Truncated)
       ∷ faults_of_content levels (known_vr tag) o (extent_in o all) (drop (header_size o) all))
   unfolding vr_or_fault
@@ -150,7 +151,7 @@ module _ (levels : ℕ) (tag : Tag) (a b c d e f g h : ℕ) (rest : List ℕ) wh
   explicit_faults (Some vr) = by_form vr (agrees (known_vr tag) vr) (length_form_of vr)
 
   spelling_faults : (syntax : Syntax)
-      → fault_of (spelling_at syntax (known_vr tag) (e ∷ f ∷ g ∷ h ∷ rest) >>= spelling_step levels tag)
+      → fault_of (spelling_at syntax (known_vr tag) (e ∷ f ∷ g ∷ h ∷ rest) >>= spelling_step levels tag >>= fits_step)
       ≡ first_of (from_vr syntax levels tag all)
   unfolding spelling_at vr_at
   spelling_faults Implicit = implicit_faults
@@ -158,18 +159,18 @@ module _ (levels : ℕ) (tag : Tag) (a b c d e f g h : ℕ) (rest : List ℕ) wh
 
 long_header : (syntax : Syntax) (levels : ℕ) (last : Option Tag) (a b c d e f g h : ℕ) (rest : List ℕ)
     → fault_of (header_at syntax levels last (eight a b c d e f g h rest)) ≡ first_of (header_faults syntax levels last (eight a b c d e f g h rest))
-unfolding header_at
+unfolding header_at front_at
 long_header syntax levels last a b c d e f g h rest =
     let tag = tag_in (eight a b c d e f g h rest) in
     rw (tag_of a b c d e f g h rest, le-ltb (length (eight a b c d e f g h rest)) 8 (omega arith))
-    (gate_not (eqb tag.group 0xFFFE) BadItem (placed_step syntax levels last tag (e ∷ f ∷ g ∷ h ∷ rest))
+    (gate_not (eqb tag.group 0xFFFE) BadItem (placed_step syntax levels last tag (e ∷ f ∷ g ∷ h ∷ rest)) fits_step
     ((not (follows last tag), TagOrder) ∷ from_vr syntax levels tag (eight a b c d e f g h rest))
-    (gate (follows last tag) TagOrder (rises_step syntax levels tag (e ∷ f ∷ g ∷ h ∷ rest)) (from_vr syntax levels tag (eight a b c d e f g h rest))
+    (gate (follows last tag) TagOrder (rises_step syntax levels tag (e ∷ f ∷ g ∷ h ∷ rest)) fits_step (from_vr syntax levels tag (eight a b c d e f g h rest))
     (spelling_faults levels tag a b c d e f g h rest syntax)))
 
 pub header_faults_are : (syntax : Syntax) (levels : ℕ) (last : Option Tag) (octets : List ℕ)
     → fault_of (header_at syntax levels last octets) ≡ first_of (header_faults syntax levels last octets)
-unfolding header_at
+unfolding header_at front_at
 header_faults_are syntax levels last =
     by_eight (λ octets. fault_of (header_at syntax levels last octets) ≡ first_of (header_faults syntax levels last octets))
     (λ octets short. rw (no_tag octets short, short) refl) (long_header syntax levels last)
@@ -177,15 +178,15 @@ header_faults_are syntax levels last =
 -- ---- the header of an item
 
 long_item : (a b c d e f g h : ℕ) (rest : List ℕ) → fault_of (item_header_at (eight a b c d e f g h rest)) ≡ first_of (item_faults (eight a b c d e f g h rest))
-unfolding item_header_at
+unfolding item_header_at item_front_at
 long_item a b c d e f g h rest =
     let tag = tag_in (eight a b c d e f g h rest) in
     let extent = defined (number_in w32 4 (eight a b c d e f g h rest)) in
     rw (tag_of a b c d e f g h rest, le-ltb (length (eight a b c d e f g h rest)) 8 (omega arith), long_length (e ∷ f ∷ g ∷ h ∷ rest) (omega arith))
-    (gate (eqb tag.group 0xFFFE && eqb tag.element 0xE000) BadItem _ ((not (fits extent rest), Truncated) ∷ []) (fits_fault _ (fits extent rest)))
+    (gate (eqb tag.group 0xFFFE && eqb tag.element 0xE000) BadItem _ item_length_step ((not (fits extent rest), Truncated) ∷ []) (fits_fault _ (fits extent rest)))
 
 pub item_faults_are : (octets : List ℕ) → fault_of (item_header_at octets) ≡ first_of (item_faults octets)
-unfolding item_header_at
+unfolding item_header_at item_front_at
 item_faults_are =
     by_eight (λ octets. fault_of (item_header_at octets) ≡ first_of (item_faults octets)) (λ octets short. rw (no_tag octets short, short) refl) long_item
 

@@ -1,13 +1,13 @@
 -- Headers, and the ends of elements and items: what is read is spelled so, and what is spelled so is read.
 use Rattle.std.proofs.Common.{◌≡◌, ℕ, suc, ◌^◌, ◌<◌, ◌≤◌, Bool, true, false, not, cond, ltb, eqb, eq-eqb, ◌&&◌, List, [], ◌∷◌, ◌++◌, length, take, Option, Some, None, Result, Ok, refl, sym, ap, subst, ◌∙◌, append_assoc, lit<, arith}
 use Rattle.std.specs.Int.{w16, w32, from_le_bytes, to_le_bytes}
-use Rattle.std.proofs.lemmas.Bool.{le-ltb, eqb-true, eqb-false, ne_eqb, not-true}
+use Rattle.std.proofs.lemmas.Bool.{le-ltb, eqb-true, eqb-false, ne_eqb, not-true, and_parts}
 use Rattle.std.proofs.lemmas.List.{drop_at, length-append, nil_from_length}
 use Rattle.dq_dataset.proofs.Types.{Tag, Vr, LengthForm, Two, Four, ReadFault, Truncated, BadVr, TagOrder, BadItem, TooDeep, Syntax, Implicit, Explicit, Bound, Filled, Delimited, Content, Header}
 use Rattle.dq_vr.specs.Dictionary.{known_vr}
 use Rattle.dq_vr.specs.Vr.{length_form_of, vr_with_letters}
 use Rattle.dq_dataset.specs.Rules.{agrees, content_of, vr_of}
-use Rattle.dq_dataset.specs.Reading.{◌>>=◌, check, number_at, tag_at, long_length_at, length_at, vr_or_fault, vr_at, spelling_at, follows, may_nest, length_of, fits, header_at, item_header_at, end_at}
+use Rattle.dq_dataset.specs.Reading.{◌>>=◌, check, number_at, tag_at, long_length_at, length_at, vr_or_fault, vr_at, spelling_at, follows, may_nest, length_of, fits, front_at, header_at, item_front_at, item_header_at, end_at}
 use Rattle.dq_dataset.specs.Canonical.{tag_octets}
 use Rattle.dq_dataset.specs.Grammar.{IsLengthBehind, IsSpelling, IsHeader, IsPlaced, IsItemHeader, IsEnd, delimiter}
 use Rattle.dq_dataset.proofs.Fields.{IsBytes, bind_ok, check_ok, ok_is, Takes, Takes-then, wide16, wide32, number_takes, number_again, length_takes, length_again, length_four, tag_takes, tag_again}
@@ -120,14 +120,11 @@ spelling_long Explicit known (Some vr) extent behind (agreed, a, b, named, more,
 
 -- ---- the header of an element
 
-abbrev header_of : Tag → Content → Header
+abbrev pub header_of : Tag → Content → Header
 header_of tag content = record { tag = tag; vr = vr_of (known_vr tag) content; content = content }
 
-abbrev pub whole_step : Tag → Content → List ℕ → Unit {0} → Result (Header × List ℕ) ReadFault
-whole_step tag content rest shallow = check (fits (length_of content) rest) Truncated >>= λ whole. Ok (header_of tag content, rest)
-
 abbrev pub content_step : ℕ → Tag → List ℕ → Content → Result (Header × List ℕ) ReadFault
-content_step levels tag rest content = check (may_nest levels content) TooDeep >>= whole_step tag content rest
+content_step levels tag rest content = check (may_nest levels content) TooDeep >>= λ shallow. Ok (header_of tag content, rest)
 
 abbrev pub spelling_step : ℕ → Tag → (Option Vr × Option ℕ) × List ℕ → Result (Header × List ℕ) ReadFault
 spelling_step levels tag spelling = content_of (known_vr tag) spelling.0.0 spelling.0.1 >>= content_step levels tag spelling.1
@@ -141,6 +138,9 @@ placed_step syntax levels last tag rest placed = check (follows last tag) TagOrd
 abbrev pub tag_step : Syntax → ℕ → Option Tag → Tag × List ℕ → Result (Header × List ℕ) ReadFault
 tag_step syntax levels last tag = check (not (eqb tag.0.group 0xFFFE)) BadItem >>= placed_step syntax levels last tag.0 tag.1
 
+abbrev pub fits_step : Header × List ℕ → Result (Header × List ℕ) ReadFault
+fits_step h = check (fits (length_of h.0.content) h.1) Truncated >>= λ whole. Ok h
+
 -- a header that was read
 pub record ReadsHeader (syntax : Syntax) (levels : ℕ) (last : Option Tag) (bytes : List ℕ) (read : Header) (rest : List ℕ) : Type 0 where
   pub octets : List ℕ
@@ -149,20 +149,18 @@ pub record ReadsHeader (syntax : Syntax) (levels : ℕ) (last : Option Tag) (byt
   pub header : IsHeader syntax read.tag read.content octets
   pub vr : read.vr ≡ vr_of (known_vr read.tag) read.content
   pub nests : may_nest levels read.content ≡ true
-  pub whole : fits (length_of read.content) rest ≡ true
 
-pub header_takes : (syntax : Syntax) (levels : ℕ) (last : Option Tag) (bytes : List ℕ) (header : Header) (rest : List ℕ) → IsBytes bytes
-    → header_at syntax levels last bytes ≡ Ok (header, rest) → ReadsHeader syntax levels last bytes header rest
-unfolding header_at
-header_takes syntax levels last bytes header rest ok e =
+pub front_takes : (syntax : Syntax) (levels : ℕ) (last : Option Tag) (bytes : List ℕ) (header : Header) (rest : List ℕ) → IsBytes bytes
+    → front_at syntax levels last bytes ≡ Ok (header, rest) → ReadsHeader syntax levels last bytes header rest
+unfolding front_at
+front_takes syntax levels last bytes header rest ok e =
     let a = bind_ok (tag_at bytes) (tag_step syntax levels last) (header, rest) e in
     let tag = a.0.0 in
     let b = check_ok (not (eqb tag.group 0xFFFE)) BadItem (placed_step syntax levels last tag a.0.1) (header, rest) a.2 in
     let c = check_ok (follows last tag) TagOrder (rises_step syntax levels tag a.0.1) (header, rest) b.1 in
     let d = bind_ok (spelling_at syntax (known_vr tag) a.0.1) (spelling_step levels tag) (header, rest) c.1 in
     let f = bind_ok (content_of (known_vr tag) d.0.0.0 d.0.0.1) (content_step levels tag d.0.1) (header, rest) d.2 in
-    let g = check_ok (may_nest levels f.0) TooDeep (whole_step tag f.0 d.0.1) (header, rest) f.2 in
-    let h = check_ok (fits (length_of f.0) d.0.1) Truncated (λ whole. Ok (header_of tag f.0, d.0.1)) (header, rest) g.1 in
+    let g = check_ok (may_nest levels f.0) TooDeep (λ shallow. Ok (header_of tag f.0, d.0.1)) (header, rest) f.2 in
     let t = tag_takes bytes tag a.0.1 ok a.1 in
     let s = spelling_takes syntax (known_vr tag) a.0.1 d.0.0.0 d.0.0.1 d.0.1 t.0.rest_fits d.1 in
     let found : ReadsHeader syntax levels last bytes (header_of tag f.0) d.0.1 = record {
@@ -172,15 +170,14 @@ header_takes syntax levels last bytes header rest ok e =
       header = record { spelled = d.0.0.0; extent = d.0.0.1; allowed = f.1; behind = s.0; spelling = s.1; whole = refl };
       vr = refl;
       nests = g.0;
-      whole = h.0;
     } in
-    subst (λ (p : Header × List ℕ). ReadsHeader syntax levels last bytes p.0 p.1) (ok_is (header_of tag f.0, d.0.1) (header, rest) h.1) found
+    subst (λ (p : Header × List ℕ). ReadsHeader syntax levels last bytes p.0 p.1) (ok_is (header_of tag f.0, d.0.1) (header, rest) g.1) found
 
-pub header_again : (syntax : Syntax) (levels : ℕ) (last : Option Tag) (tag : Tag) (content : Content) (octets rest : List ℕ)
-    → IsPlaced last tag → IsHeader syntax tag content octets → may_nest levels content ≡ true → fits (length_of content) rest ≡ true
-    → header_at syntax levels last (octets ++ rest) ≡ Ok (header_of tag content, rest)
-unfolding header_at
-header_again syntax levels last tag content octets rest placed header nests whole =
+pub front_again : (syntax : Syntax) (levels : ℕ) (last : Option Tag) (tag : Tag) (content : Content) (octets rest : List ℕ)
+    → IsPlaced last tag → IsHeader syntax tag content octets → may_nest levels content ≡ true
+    → front_at syntax levels last (octets ++ rest) ≡ Ok (header_of tag content, rest)
+unfolding front_at
+front_again syntax levels last tag content octets rest placed header nests =
     let long : 4 ≤ length (header.behind ++ rest) =
     omega (arith, length-append header.behind rest, spelling_long syntax (known_vr tag) header.spelled header.extent header.behind header.spelling) in
     let e : octets ++ rest ≡ tag_octets tag ++ (header.behind ++ rest) = ap (λ (x : List ℕ). x ++ rest) header.whole
@@ -195,8 +192,24 @@ header_again syntax levels last tag content octets rest placed header nests whol
       spelling_again syntax (known_vr tag) header.spelled header.extent header.behind rest header.spelling,
       allowed,
       nests,
-      whole,
     ) refl
+
+pub header_takes : (syntax : Syntax) (levels : ℕ) (last : Option Tag) (bytes : List ℕ) (header : Header) (rest : List ℕ) → IsBytes bytes
+    → header_at syntax levels last bytes ≡ Ok (header, rest)
+    → ReadsHeader syntax levels last bytes header rest × (fits (length_of header.content) rest ≡ true)
+unfolding header_at
+header_takes syntax levels last bytes header rest ok e =
+    let a = bind_ok (front_at syntax levels last bytes) fits_step (header, rest) e in
+    let b = check_ok (fits (length_of a.0.0.content) a.0.1) Truncated (λ whole. Ok a.0) (header, rest) a.2 in
+    subst (λ (p : Header × List ℕ). ReadsHeader syntax levels last bytes p.0 p.1 × (fits (length_of p.0.content) p.1 ≡ true))
+    (ok_is a.0 (header, rest) b.1) (front_takes syntax levels last bytes a.0.0 a.0.1 ok a.1, b.0)
+
+pub header_again : (syntax : Syntax) (levels : ℕ) (last : Option Tag) (tag : Tag) (content : Content) (octets rest : List ℕ)
+    → IsPlaced last tag → IsHeader syntax tag content octets → may_nest levels content ≡ true → fits (length_of content) rest ≡ true
+    → header_at syntax levels last (octets ++ rest) ≡ Ok (header_of tag content, rest)
+unfolding header_at
+header_again syntax levels last tag content octets rest placed header nests whole =
+    rw (front_again syntax levels last tag content octets rest placed header nests, whole) refl
 
 -- a header has at least 8 octets
 pub header_long : (syntax : Syntax) (tag : Tag) (content : Content) (octets : List ℕ) → IsHeader syntax tag content octets → 8 ≤ length octets
@@ -209,16 +222,12 @@ header_long syntax tag content octets header =
 abbrev pub item_length_step : Option ℕ × List ℕ → Result (Option ℕ × List ℕ) ReadFault
 item_length_step n = check (fits n.0 n.1) Truncated >>= λ whole. Ok n
 
-abbrev pub item_step : Tag × List ℕ → Result (Option ℕ × List ℕ) ReadFault
-item_step tag = check (eqb tag.0.group 0xFFFE && eqb tag.0.element 0xE000) BadItem >>= λ is_item. long_length_at tag.1 >>= item_length_step
-
-both_true : (a b : Bool) → (a && b) ≡ true → (a ≡ true) × (b ≡ true)
-both_true true b e = (refl, e)
-both_true false b e = absurd cc
+abbrev item_step : Tag × List ℕ → Result (Option ℕ × List ℕ) ReadFault
+item_step tag = check (eqb tag.0.group 0xFFFE && eqb tag.0.element 0xE000) BadItem >>= λ is_item. long_length_at tag.1
 
 pub delimiter_is : (tag : Tag) (element : ℕ) → (eqb tag.group 0xFFFE && eqb tag.element element) ≡ true → tag ≡ record { group = 0xFFFE; element = element }
 delimiter_is tag element e =
-    let both = both_true _ _ e in
+    let both = and_parts _ _ e in
     let g = eqb-true tag.group 0xFFFE both.0 in
     let n = eqb-true tag.element element both.1 in
     λ i. record { group = g i; element = n i }
@@ -227,35 +236,45 @@ pub record ReadsItem (bytes : List ℕ) (extent : Option ℕ) (rest : List ℕ) 
   pub octets : List ℕ
   pub takes : Takes bytes octets rest
   pub header : IsItemHeader extent octets
-  pub whole : fits extent rest ≡ true
 
-pub item_takes : (bytes : List ℕ) (extent : Option ℕ) (rest : List ℕ) → IsBytes bytes → item_header_at bytes ≡ Ok (extent, rest) → ReadsItem bytes extent rest
-unfolding item_header_at
-item_takes bytes extent rest ok e =
+pub item_front_takes : (bytes : List ℕ) (extent : Option ℕ) (rest : List ℕ) → IsBytes bytes → item_front_at bytes ≡ Ok (extent, rest)
+    → ReadsItem bytes extent rest
+unfolding item_front_at
+item_front_takes bytes extent rest ok e =
     let a = bind_ok (tag_at bytes) item_step (extent, rest) e in
-    let c = check_ok (eqb a.0.0.group 0xFFFE && eqb a.0.0.element 0xE000) BadItem (λ is_item. long_length_at a.0.1 >>= item_length_step) (extent, rest) a.2 in
-    let b = bind_ok (long_length_at a.0.1) item_length_step (extent, rest) c.1 in
-    let w = check_ok (fits b.0.0 b.0.1) Truncated (λ whole. Ok b.0) (extent, rest) b.2 in
+    let c = check_ok (eqb a.0.0.group 0xFFFE && eqb a.0.0.element 0xE000) BadItem (λ is_item. long_length_at a.0.1) (extent, rest) a.2 in
     let t = tag_takes bytes a.0.0 a.0.1 ok a.1 in
-    let l = length_takes a.0.1 b.0.0 b.0.1 t.0.rest_fits b.1 in
+    let l = length_takes a.0.1 extent rest t.0.rest_fits c.1 in
     let is = delimiter_is a.0.0 0xE000 c.0 in
-    let found : ReadsItem bytes b.0.0 b.0.1 = record {
+    record {
       octets = tag_octets a.0.0 ++ l.0;
-      takes = Takes-then bytes (tag_octets a.0.0) a.0.1 l.0 b.0.1 t.0 l.2;
+      takes = Takes-then bytes (tag_octets a.0.0) a.0.1 l.0 rest t.0 l.2;
       header = record { four = l.0; is_length = l.1; whole = ap (λ (x : Tag). tag_octets x ++ l.0) is };
-      whole = w.0;
-    } in
-    subst (λ (p : Option ℕ × List ℕ). ReadsItem bytes p.0 p.1) (ok_is b.0 (extent, rest) w.1) found
+    }
 
-pub item_again : (extent : Option ℕ) (octets rest : List ℕ) → IsItemHeader extent octets → fits extent rest ≡ true
-    → item_header_at (octets ++ rest) ≡ Ok (extent, rest)
-unfolding item_header_at
-item_again extent octets rest header whole =
+pub item_front_again : (extent : Option ℕ) (octets rest : List ℕ) → IsItemHeader extent octets
+    → item_front_at (octets ++ rest) ≡ Ok (extent, rest)
+unfolding item_front_at
+item_front_again extent octets rest header =
     let item : Tag = record { group = 0xFFFE; element = 0xE000 } in
     let long : 4 ≤ length (header.four ++ rest) = omega (arith, length-append header.four rest, length_four extent header.four header.is_length) in
     let e : octets ++ rest ≡ tag_octets item ++ (header.four ++ rest) = ap (λ (x : List ℕ). x ++ rest) header.whole
     ∙ append_assoc (tag_octets item) header.four rest in
-    rw (e, tag_again item (header.four ++ rest) (lit< tt) (lit< tt) long, length_again extent header.four rest header.is_length, whole) refl
+    rw (e, tag_again item (header.four ++ rest) (lit< tt) (lit< tt) long, length_again extent header.four rest header.is_length) refl
+
+pub item_takes : (bytes : List ℕ) (extent : Option ℕ) (rest : List ℕ) → IsBytes bytes → item_header_at bytes ≡ Ok (extent, rest)
+    → ReadsItem bytes extent rest × (fits extent rest ≡ true)
+unfolding item_header_at
+item_takes bytes extent rest ok e =
+    let a = bind_ok (item_front_at bytes) item_length_step (extent, rest) e in
+    let b = check_ok (fits a.0.0 a.0.1) Truncated (λ whole. Ok a.0) (extent, rest) a.2 in
+    subst (λ (p : Option ℕ × List ℕ). ReadsItem bytes p.0 p.1 × (fits p.0 p.1 ≡ true)) (ok_is a.0 (extent, rest) b.1)
+    (item_front_takes bytes a.0.0 a.0.1 ok a.1, b.0)
+
+pub item_again : (extent : Option ℕ) (octets rest : List ℕ) → IsItemHeader extent octets → fits extent rest ≡ true
+    → item_header_at (octets ++ rest) ≡ Ok (extent, rest)
+unfolding item_header_at
+item_again extent octets rest header whole = rw (item_front_again extent octets rest header, whole) refl
 
 pub item_long : (extent : Option ℕ) (octets : List ℕ) → IsItemHeader extent octets → 8 ≤ length octets
 item_long extent octets header =

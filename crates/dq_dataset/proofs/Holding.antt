@@ -13,12 +13,9 @@ use Rattle.dq_dataset.proofs.Edits.{facts-parts}
 use Rattle.dq_dataset.proofs.Views.{as_elements-elements_of}
 use Rattle.dq_dataset.specs.Same.{same_element, has_element}
 use Rattle.dq_dataset.proofs.Same.{element_is}
+pub use Rattle.dq_dataset.proofs.SpelledIsSound.{below_then}
 
 -- ---- tags
-
-pub below_then : (a b c : Tag) → is_below a b ≡ true → is_below b c ≡ true → is_below a c ≡ true
-unfolding is_below
-below_then a b c h k = grind (arith, nat_tests)
 
 not_below_then : (a b c : Tag) → is_below a b ≡ true → is_below a c ≡ false → is_below b c ≡ false
 unfolding is_below

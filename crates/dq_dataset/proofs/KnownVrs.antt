@@ -1,14 +1,14 @@
 -- An element of octets that is read has the dictionary's VR.
-use Rattle.std.proofs.Common.{◌≡◌, ℕ, zero, suc, ◌+◌, ◌-◌, Bool, true, false, not, eqb, List, [], ◌∷◌, length, take, drop, Option, Some, None, Result, Ok, Err, refl, sym, ap, subst, ◌∙◌, cond, unwrap_or}
+use Rattle.std.proofs.Common.{◌≡◌, ℕ, zero, suc, ◌+◌, ◌-◌, Bool, true, false, not, eqb, List, [], ◌∷◌, length, take, drop, Option, Some, None, Result, Ok, refl, sym, ap, subst, ◌∙◌, cond, unwrap_or}
 use Rattle.std.specs.List.{AllByRecursion}
 use Rattle.dq_vr.specs.Dictionary.{known_vr}
 use Rattle.dq_dataset.specs.Rules.{vr_of, content_of, padded}
 use Rattle.dq_dataset.proofs.Types.{Tag, Vr, UN, ReadFault, Truncated, TagOrder, BadItem, TooDeep, Syntax, Bound, Filled, Delimited, Content, Plain, Sequence, Header, Element, Value, Octets, Items, ElementList, no_elements, element, sequence, ItemList, no_items, item}
 use Rattle.dq_dataset.specs.Facts.{AreElements, AreItems}
 use Rattle.dq_dataset.specs.View.{as_elements, elements_of, list_of}
-use Rattle.dq_dataset.specs.Reading.{◌>>=◌, Readers, check, may_nest, length_of, kept, unless_ended, tag_at, spelling_at, follows, fits, header_at, item_header_at, end_at, value_by, element_by, elements_after, elements_by, content_by, item_by, items_after, items_by, readers, reading}
+use Rattle.dq_dataset.specs.Reading.{◌>>=◌, Readers, check, may_nest, length_of, kept, unless_ended, tag_at, spelling_at, follows, fits, front_at, header_at, item_header_at, end_at, value_by, element_by, elements_after, elements_by, content_by, item_by, items_after, items_by, readers, reading}
 use Rattle.dq_dataset.proofs.Fields.{bind_ok, ok_is}
-use Rattle.dq_dataset.proofs.Headers.{whole_step, content_step, spelling_step, rises_step, placed_step, tag_step}
+use Rattle.dq_dataset.proofs.Headers.{fits_step, content_step, spelling_step, rises_step, placed_step, tag_step}
 use Rattle.dq_dataset.proofs.Views.{elements_of-as_elements}
 
 abbrev pub HasKnownVr : Element → Type 0
@@ -17,18 +17,19 @@ HasKnownVr e = (octets : List ℕ) → e.value ≡ Octets octets → e.vr ≡ un
 -- the VR of a header
 header_vr : (syntax : Syntax) (levels : ℕ) (last : Option Tag) (octets rest : List ℕ) (h : Header) → header_at syntax levels last octets ≡ Ok (h, rest)
     → h.vr ≡ vr_of (known_vr h.tag) h.content
-unfolding header_at
+unfolding header_at front_at
 header_vr syntax levels last octets rest h e =
-    let a = bind_ok (tag_at octets) (tag_step syntax levels last) (h, rest) e in
+    let whole = bind_ok (front_at syntax levels last octets) fits_step (h, rest) e in
+    let fit = bind_ok (check (fits (length_of whole.0.0.content) whole.0.1) Truncated) (λ ok. Ok whole.0) (h, rest) whole.2 in
+    let a = bind_ok (tag_at octets) (tag_step syntax levels last) (h, rest) (whole.1 ∙ fit.2) in
     let tag = a.0.0 in
     let b = bind_ok (check (not (eqb tag.group 0xFFFE)) BadItem) (placed_step syntax levels last tag a.0.1) (h, rest) a.2 in
     let c = bind_ok (check (follows last tag) TagOrder) (rises_step syntax levels tag a.0.1) (h, rest) b.2 in
     let d = bind_ok (spelling_at syntax (known_vr tag) a.0.1) (spelling_step levels tag) (h, rest) c.2 in
     let f = bind_ok (content_of (known_vr tag) d.0.0.0 d.0.0.1) (content_step levels tag d.0.1) (h, rest) d.2 in
-    let g = bind_ok (check (may_nest levels f.0) TooDeep) (whole_step tag f.0 d.0.1) (h, rest) f.2 in
     let made : Header = record { tag = tag; vr = vr_of (known_vr tag) f.0; content = f.0 } in
-    let k = bind_ok (check (fits (length_of f.0) d.0.1) Truncated) (λ whole. Ok (made, d.0.1)) (h, rest) g.2 in
-    subst (λ (p : Header × List ℕ). p.0.vr ≡ vr_of (known_vr p.0.tag) p.0.content) (ok_is (made, d.0.1) (h, rest) k.2) refl
+    let g = bind_ok (check (may_nest levels f.0) TooDeep) (λ shallow. Ok (made, d.0.1)) (h, rest) f.2 in
+    subst (λ (p : Header × List ℕ). p.0.vr ≡ vr_of (known_vr p.0.tag) p.0.content) (ok_is (made, d.0.1) (h, rest) g.2) refl
 
 abbrev pub made_of : Header → Value → Element
 made_of h v = record { tag = h.tag; vr = h.vr; value = v }

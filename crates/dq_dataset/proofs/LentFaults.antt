@@ -1,9 +1,9 @@
 -- Where the next element cannot be lent, the first fault is met in it.
-use Rattle.std.proofs.Common.{◌≡◌, ℕ, suc, ◌+◌, false, eqb, List, ◌++◌, length, Option, Ok, Err, refl, sym, ap, ◌∙◌, arith, inl, inr}
+use Rattle.std.proofs.Common.{◌≡◌, ℕ, suc, ◌+◌, true, false, eqb, List, ◌++◌, length, Option, Ok, Err, refl, sym, ap, ◌∙◌, arith, inl, inr}
 use Rattle.dq_dataset.proofs.Types.{Tag, ReadFault, Syntax, Filled, Content, Header, Value}
 use Rattle.dq_vr.specs.Dictionary.{known_vr}
 use Rattle.dq_dataset.specs.Rules.{vr_of}
-use Rattle.dq_dataset.specs.Reading.{length_of, header_at, value_by, readers}
+use Rattle.dq_dataset.specs.Reading.{length_of, fits, header_at, value_by, readers}
 use Rattle.dq_dataset.specs.Grammar.{AreOctets, IsPlaced, IsHeader, SpellsValue}
 use Rattle.dq_dataset.specs.Faults.{HasFault, at_header}
 use Rattle.dq_dataset.specs.Lending.{value_octets, next_at}
@@ -14,8 +14,8 @@ use Rattle.dq_dataset.proofs.SpelledOrFaulty.{in_a_value}
 use Rattle.dq_dataset.proofs.LentLemmas.{found_step, header_step}
 use Rattle.dq_dataset.proofs.Fields.{bind_err, no_fault}
 
-value_failed : (syntax : Syntax) (last : Option Tag) (octets : List ℕ) (f : ReadFault) (h : Header × List ℕ) → ReadsHeader syntax 16 last octets h.0 h.1
-    → header_step h ≡ Err f
+value_failed : (syntax : Syntax) (last : Option Tag) (octets : List ℕ) (f : ReadFault) (h : Header × List ℕ)
+    → ReadsHeader syntax 16 last octets h.0 h.1 × (fits (length_of h.0.content) h.1 ≡ true) → header_step h ≡ Err f
     → HasFault Filled syntax 16 last octets f
 value_failed syntax last octets f h reads e =
     elim (bind_err (value_by (readers (length h.1 + 1)) 16 h.0.vr h.0.content h.1) (found_step h) f e) [

@@ -31,8 +31,8 @@ next_reads syntax last octets found ok e =
     let h = bind_ok (header_at syntax 16 last octets) header_step found e in
     let behind = h.0.1 in
     let v = bind_ok (value_by (readers (length behind + 1)) 16 h.0.0.vr h.0.0.content behind) (found_step h.0) found h.2 in
-    let header = header_takes syntax 16 last octets h.0.0 behind ok h.1 in
-    let value = value_takes 16 h.0.0.vr h.0.0.content behind header.nests header.whole header.takes.rest_fits v.0.0 v.0.1 v.1 in
+    let (header, whole) = header_takes syntax 16 last octets h.0.0 behind ok h.1 in
+    let value = value_takes 16 h.0.0.vr h.0.0.content behind header.nests whole header.takes.rest_fits v.0.0 v.0.1 v.1 in
     let one : NextReads syntax last octets ((h.0.0, value_octets (length_of h.0.0.content) h.0.1 v.0.1), v.0.1) = (h.0.1, header, v.0.0, value, refl) in
     let same = ok_is ((h.0.0, value_octets (length_of h.0.0.content) h.0.1 v.0.1), v.0.1) found v.2 in
     subst (λ (x : Found). NextReads syntax last octets x) same one

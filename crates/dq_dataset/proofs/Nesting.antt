@@ -5,8 +5,7 @@ use Rattle.dq_dataset.specs.declared.sieve.walk.Reach.{Reach}
 use Rattle.dq_dataset.specs.declared.sieve.walk.Reach.TheVariants.{Measured, Within, Endless}
 use Rattle.dq_dataset.specs.declared.sieve.walk.Place.{Place}
 use Rattle.dq_dataset.specs.declared.sieve.walk.Place.TheVariants.{InOctets, InItems, InElements}
-use Rattle.dq_dataset.specs.Fronts.{front_at, item_front_at}
-use Rattle.dq_dataset.specs.Reading.{tag_at}
+use Rattle.dq_dataset.specs.Reading.{tag_at, front_at, item_front_at}
 use Rattle.dq_dataset.specs.Sifting.{reach_of, opened_reach, opened_left, HasRoom, EndsAt, IsUntil, LiesIn, left_around, AreNested, IsPart, HasMore}
 use Rattle.dq_dataset.proofs.Walks.{Around}
 use Rattle.dq_dataset.proofs.Entering.{Behind}

@@ -10,21 +10,20 @@ use Rattle.dq_dataset.specs.declared.sieve.Sifted.TheVariants.{Fault}
 use Rattle.dq_dataset.specs.declared.sieve.Outer.{Outer}
 use Rattle.dq_dataset.specs.declared.sieve.Stage.{Stage}
 use Rattle.dq_dataset.specs.declared.sieve.Stage.TheVariants.{Between, Past, Into, Stopped}
-use Rattle.dq_dataset.specs.declared.sieve.Held.{Held}
-use Rattle.dq_dataset.specs.declared.sieve.Held.TheVariants.{Sifting}
+use Rattle.dq_dataset.specs.declared.sieve.SieveState.{SieveState}
+use Rattle.dq_dataset.specs.declared.sieve.SieveState.TheVariants.{Sifting}
 use Rattle.dq_dataset.specs.declared.sieve.walk.Walk.{Walk}
 use Rattle.dq_dataset.specs.declared.sieve.walk.Walked.{Walked}
 use Rattle.dq_dataset.specs.declared.sieve.walk.Walked.TheVariants.{Over}
 use Rattle.dq_dataset.specs.declared.sieve.walk.Reach.TheVariants.{Endless}
 use Rattle.dq_dataset.specs.declared.sieve.walk.Place.TheVariants.{InElements}
 use Rattle.dq_dataset.specs.Editing.{is_listed}
-use Rattle.dq_dataset.specs.Sieve.{has_other, is_large}
+use Rattle.dq_dataset.specs.Sieve.{has_other, is_over_limit}
 use Rattle.dq_dataset.specs.View.{as_elements, elements_of}
-use Rattle.dq_dataset.specs.Reading.{end_at, may_nest}
-use Rattle.dq_dataset.specs.Fronts.{front_at}
+use Rattle.dq_dataset.specs.Reading.{front_at, end_at, may_nest}
 use Rattle.dq_dataset.specs.Grammar.{IsPlaced, IsHeader, IsSpelled}
 use Rattle.dq_dataset.specs.Sifting.{WalkedLeads, LeadsOn}
-use Rattle.dq_dataset.specs.Sieving.{tag_is_listed, is_too_long, held_of, Keeps, SiftsFrom, OuterSifts, FollowsPast, FollowsInto, IsStage, GoesOn, HasFed, HeldAfter, SieveAfter, IsSieve, PastBy, IntoBy}
+use Rattle.dq_dataset.specs.Sieving.{tag_is_listed, is_header_over_limit, kept_unless_over, Keeps, SiftsFrom, OuterSifts, FollowsPast, FollowsInto, IsStage, GoesOn, HasFed, StateAfter, SieveAfter, IsSieve, PastBy, IntoBy}
 use Rattle.dq_dataset.proofs.Nesting.{none_is_part}
 use Rattle.dq_dataset.proofs.Fronts.{open_here, front_fault_stays}
 use Rattle.dq_dataset.proofs.Large.{judged_on, within_on, within_by, starts_within}
@@ -93,7 +92,7 @@ module _ (tags : List Tag) (outer : Outer) (front : Vec ℕ) (tag : Tag) (conten
   }
 
   -- of what is too large nothing is held
-  pub goes_over : tag_is_listed tags tag ≡ true → (outer.large || is_too_long tag content) ≡ true → (next : Outer) → next.syntax ≡ outer.syntax
+  pub goes_over : tag_is_listed tags tag ≡ true → (outer.large || is_header_over_limit tag content) ≡ true → (next : Outer) → next.syntax ≡ outer.syntax
       → next.last ≡ Some tag → next.large ≡ true → next.kept.items ≡ [] → (stage : Stage) → IsStage next stage
       → PastBy walked stage → GoesOn tags outer (Between front) [] next stage
   goes_over listed long next syntax_is last_is large_is none stage sound past = record {
@@ -155,11 +154,11 @@ steps_into tags outer walk taken walked on came now is next then into = record {
 
 -- what is held no more adds as it did
 sifts_on : (syntax : Syntax) (tags : List Tag) (last : Option Tag) (large next : Bool) (ks held : List Element) (other : Bool) (octets : List ℕ)
-    (answer : Sifted) → next ≡ (large || is_large (as_elements ks)) → held ≡ held_of next ks
+    (answer : Sifted) → next ≡ (large || is_over_limit (as_elements ks)) → held ≡ kept_unless_over next ks
     → SiftsFrom syntax tags last next held other octets answer → SiftsFrom syntax tags last large ks other octets answer
-sifts_on syntax tags last large next ks held other octets answer next_is held_is (inl (d, spells, is)) =
-    inl (d, spells, is ∙ judged_on large next ks held (filter (is_listed tags) (elements_of d)) (other || has_other tags d) next_is held_is)
-sifts_on syntax tags last large next ks held other octets answer next_is held_is (inr (f, faulty, is)) = inr (f, faulty, is)
+sifts_on syntax tags last large next ks held other octets answer next_is state_is (inl (d, spells, is)) =
+    inl (d, spells, is ∙ judged_on large next ks held (filter (is_listed tags) (elements_of d)) (other || has_other tags d) next_is state_is)
+sifts_on syntax tags last large next ks held other octets answer next_is state_is (inr (f, faulty, is)) = inr (f, faulty, is)
 
 -- all of a value that is kept: the element is kept
 pub keeps_one : (outer next : Outer) (came : List ℕ) (front : Vec ℕ) (one : ElementList)
@@ -199,19 +198,19 @@ pub is_fed_on : (tags : List Tag) (piece : List ℕ) (a b : Outer) (x y : Stage)
 is_fed_on tags piece a b x y (fed, f) g =
     (fed ++ piece, subst (λ (z : Syntax). HasFed z tags (fed ++ piece) b y) (sym g.syntax) (fed_on a.syntax tags fed piece a b x y f g))
 
-pub held_is : (syntax : Syntax) (tags listed : List Tag) (fed : List ℕ) (held : Held) (sieve : List Tag × Held) (a : Outer) (x : Stage) → (listed, held) ≡ sieve
+pub state_is : (syntax : Syntax) (tags listed : List Tag) (fed : List ℕ) (held : SieveState) (sieve : List Tag × SieveState) (a : Outer) (x : Stage) → (listed, held) ≡ sieve
     → held ≡ Sifting a x → SieveAfter syntax tags fed sieve → HasFed syntax tags fed a x
-held_is syntax tags listed fed held sieve a x view is after =
-    let now : sieve.1 ≡ Sifting a x = sym (ap (λ (s : List Tag × Held). s.1) view) ∙ is in
-    subst (λ (h : Held). HeldAfter syntax tags fed h) now after.after
+state_is syntax tags listed fed held sieve a x view is after =
+    let now : sieve.1 ≡ Sifting a x = sym (ap (λ (s : List Tag × SieveState). s.1) view) ∙ is in
+    subst (λ (h : SieveState). StateAfter syntax tags fed h) now after.after
 
-pub fed_after : (syntax : Syntax) (tags listed : List Tag) (fed piece : List ℕ) (held : Held) (sieve : List Tag × Held) (a b : Outer) (x y : Stage)
+pub fed_after : (syntax : Syntax) (tags listed : List Tag) (fed piece : List ℕ) (held : SieveState) (sieve : List Tag × SieveState) (a b : Outer) (x y : Stage)
     → (listed, held) ≡ sieve → held ≡ Sifting a x → GoesOn listed a x piece b y → SieveAfter syntax tags fed sieve
     → SieveAfter syntax tags (fed ++ piece) (listed, Sifting b y)
 fed_after syntax tags listed fed piece held sieve a b x y view is g after =
-    let same : listed ≡ tags = ap (λ (s : List Tag × Held). s.0) view ∙ after.tags_are in
+    let same : listed ≡ tags = ap (λ (s : List Tag × SieveState). s.0) view ∙ after.tags_are in
     record {
       tags_are = same;
-      after = fed_on syntax tags fed piece a b x y (held_is syntax tags listed fed held sieve a x view is after)
+      after = fed_on syntax tags fed piece a b x y (state_is syntax tags listed fed held sieve a x view is after)
           (subst (λ (ts : List Tag). GoesOn ts a x piece b y) same g);
     }

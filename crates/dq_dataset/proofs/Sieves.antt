@@ -18,7 +18,7 @@ use Rattle.dq_dataset.specs.Editing.{is_listed}
 use Rattle.dq_dataset.specs.Grammar.{IsPlaced, IsHeader, no_more, more, SpellsValue, kept_value, IsSpelled}
 use Rattle.dq_dataset.specs.Faults.{HasFault, after_element}
 use Rattle.dq_dataset.specs.Sifting.{Stops, WalkLeads, WalkedLeads, LeadsOn, LeadsTo, opened_left}
-use Rattle.dq_dataset.specs.Sieving.{tag_is_listed, is_too_long, judged, SiftsFrom, SiftsOn}
+use Rattle.dq_dataset.specs.Sieving.{tag_is_listed, is_header_over_limit, judged, SiftsFrom, SiftsOn}
 use Rattle.dq_dataset.proofs.SpelledIsRead.{kept_elements}
 use Rattle.dq_dataset.proofs.Fronts.{unfit}
 use Rattle.dq_dataset.proofs.Large.{judged_long}
@@ -129,7 +129,7 @@ module _ (syntax : Syntax) (last : Option Tag) (tag : Tag) (content : Content) (
 
   -- a value that is over the limit, or behind others that are
   pub drop_header : (tags : List Tag) (large : Bool) (kept : List Element) (other : Bool) (octets : List ℕ) (answer : Sifted)
-      → tag_is_listed tags tag ≡ true → (large || is_too_long tag content) ≡ true
+      → tag_is_listed tags tag ≡ true → (large || is_header_over_limit tag content) ≡ true
       → SiftsOn Inside (λ v rest. SiftsFrom syntax tags (Some tag) true [] other rest answer) octets answer
       → SiftsFrom syntax tags last large kept other (header ++ octets) answer
   drop_header tags large kept other octets answer listed long (inl (f, leads, is)) = inr (f, inside_fault octets f leads, is)

@@ -1,42 +1,28 @@
 -- The canonical spelling of a data set is at most twice as long as any other.
-use Rattle.std.proofs.Common.{◌≡◌, ℕ, ◌+◌, ◌*◌, ◌%◌, ◌^◌, ◌<◌, ◌≤◌, Bool, true, false, cond, ltb, List, [], ◌∷◌, ◌++◌, length, Option, Some, None, refl, sym, ap, subst, arith}
+use Rattle.std.proofs.Common.{◌≡◌, ℕ, ◌+◌, ◌*◌, ◌%◌, ◌^◌, ◌<◌, ◌≤◌, Bool, true, false, cond, ltb, List, [], ◌∷◌, ◌++◌, length, Option, Some, None, sym, subst, arith}
 use Rattle.std.specs.Prelude.{nat_eq}
-use Rattle.std.specs.Int.{w16, w32, to_le_bytes}
 use Rattle.std.proofs.lemmas.List.{length-append}
-use Rattle.dq_dataset.proofs.Types.{Tag, Vr, UN, LengthForm, Two, Four, Syntax, Implicit, Explicit, Bound, Content, Value, Octets, Items, ElementList, ItemList, item}
+use Rattle.dq_dataset.proofs.Types.{Tag, Vr, LengthForm, Two, Four, Syntax, Implicit, Explicit, Bound, Content, Value, Octets, Items, ElementList, ItemList, item}
 use Rattle.dq_vr.specs.Dictionary.{known_vr}
-use Rattle.dq_vr.specs.Vr.{length_form_of, letters_of}
+use Rattle.dq_vr.specs.Vr.{length_form_of}
 use Rattle.dq_dataset.specs.View.{items_of, with_value}
 use Rattle.dq_dataset.specs.Rules.{vr_of, padded, pad_of}
-use Rattle.dq_dataset.specs.Canonical.{tag_octets, long_length, vr_and_length, header_of, item_header_of, canonical, canonical_items, HasLengths, ItemsHaveLengths}
+use Rattle.dq_dataset.specs.Canonical.{header_of, item_header_of, canonical, canonical_items, HasLengths, ItemsHaveLengths}
 use Rattle.dq_dataset.specs.Grammar.{Spells, no_more, more, SpellsValue, plain, nested, SpellsItems, no_item, one_item, bound_of, IsSpelled}
 use Rattle.dq_dataset.proofs.Headers.{header_long, item_long}
-use Rattle.dq_dataset.proofs.WrittenIsSpelled.{two_letters}
+use Rattle.dq_dataset.proofs.Counted.{after_tag, implicit_header, explicit_header, item_header}
 
-length-letters : (vr : Vr) → length (letters_of vr) ≡ 2
-length-letters vr = ap length (two_letters vr).are
+short_choice : (b : Bool) → cond b 8 4 ≤ 8
+short_choice true = omega arith
+short_choice false = omega arith
 
-length-long : (n : ℕ) → length (long_length n) ≡ 6
-length-long n = refl
-
-length-choice : (b : Bool) (vr : Vr) (n : ℕ) → length (cond b (letters_of UN ++ long_length n) (letters_of vr ++ to_le_bytes w16 n)) ≤ 8
-length-choice true vr n = omega (arith, length-append (letters_of UN) (long_length n), length-letters UN, length-long n)
-length-choice false vr n = omega (arith, length-append (letters_of vr) (to_le_bytes w16 n), length-letters vr)
-
-length-vr_and_length : (form : LengthForm) (vr : Vr) (n : ℕ) → length (vr_and_length form vr n) ≤ 8
-unfolding vr_and_length
-length-vr_and_length Two vr n = length-choice (ltb 65534 n) vr n
-length-vr_and_length Four vr n = omega (arith, length-append (letters_of vr) (long_length n), length-letters vr, length-long n)
+after_tag_short : (form : LengthForm) (n : ℕ) → after_tag form n ≤ 8
+after_tag_short Two n = short_choice (ltb 65534 n)
+after_tag_short Four n = omega arith
 
 length-header_of : (syntax : Syntax) (tag : Tag) (vr : Vr) (n : ℕ) → length (header_of syntax tag vr n) ≤ 12
-unfolding header_of
-length-header_of Implicit tag vr n = omega (arith, length-append (tag_octets tag) (to_le_bytes w32 n))
-length-header_of Explicit tag vr n =
-    omega (arith, length-append (tag_octets tag) (vr_and_length (length_form_of vr) vr n), length-vr_and_length (length_form_of vr) vr n)
-
-length-item_header_of : (n : ℕ) → length (item_header_of n) ≡ 8
-unfolding item_header_of
-length-item_header_of n = refl
+length-header_of Implicit tag vr n = omega (arith, implicit_header tag vr n)
+length-header_of Explicit tag vr n = omega (arith, explicit_header tag vr n, after_tag_short (length_form_of vr) n)
 
 length-padded_by : (b : Bool) (octets : List ℕ) (pad : ℕ) → length (cond b octets (octets ++ pad ∷ [])) ≤ length octets + 1
 length-padded_by true octets pad = omega arith
@@ -99,7 +85,7 @@ one_item_short : (to : Syntax) (first : ElementList) (others : ItemList) (header
 one_item_short to first others header value rest long short tail =
     let octets = canonical to first in
     let all = three header value rest in
-    let h = length-item_header_of (length octets) in
+    let h = item_header (length octets) in
     let written = three_left (item_header_of (length octets)) octets (canonical_items to others) in
     record {
       twice = omega (arith, all, h, written, tail.twice, short.twice);

@@ -16,13 +16,13 @@ use Rattle.dq_dataset.specs.Facts.{IsElementTag, IsPlain, IsSequence, AreElement
 
 -- ---- the order of tags
 
-is_below-trans : (a b c : Tag) → is_below a b ≡ true → is_below b c ≡ true → is_below a c ≡ true
+pub below_then : (a b c : Tag) → is_below a b ≡ true → is_below b c ≡ true → is_below a c ≡ true
 unfolding is_below
-is_below-trans a b c e f = grind (arith, nat_tests)
+below_then a b c e f = grind (arith, nat_tests)
 
 pub follows-trans : (last : Option Tag) (tag next : Tag) → follows last tag ≡ true → follows (Some tag) next ≡ true → follows last next ≡ true
 follows-trans None tag next e f = refl
-follows-trans (Some last) tag next e f = is_below-trans last tag next e f
+follows-trans (Some last) tag next e f = below_then last tag next e f
 
 -- an element's tag, behind another one
 pub behind_another : (last next : Option Tag) (tag : Tag) → follows next tag ≡ true → IsElementTag last tag → IsElementTag next tag

@@ -146,11 +146,12 @@ module _ (n : ℕ) (told : AreTold n) where
               inr (f.0, faulty)
         ]
 
-    after_header : (h : Header) (behind : List ℕ) → ReadsHeader syntax levels last bytes h behind → ElementsTold syntax levels last bound bytes
-    after_header h behind header =
+    after_header : (h : Header) (behind : List ℕ) → ReadsHeader syntax levels last bytes h behind × (fits (length_of h.content) behind ≡ true)
+        → ElementsTold syntax levels last bound bytes
+    after_header h behind (header, whole) =
         let shorter : length behind < n =
         omega (arith, ap length header.takes.parts, length-append header.octets behind, header_long syntax h.tag h.content header.octets header.header) in
-        elim (value_told levels h.vr h.content behind header.nests header.whole header.takes.rest_fits shorter) [
+        elim (value_told levels h.vr h.content behind header.nests whole header.takes.rest_fits shorter) [
           | inl v ↦ after_value h behind header v.0 v.1 v.2
           | inr bad ↦ inr (bad.body.fault, faulty_value bound syntax levels last bytes h behind header bad)
         ]
@@ -196,10 +197,10 @@ module _ (n : ℕ) (told : AreTold n) where
         inl ([], end.0, t.trails, reads t.octets t.takes (no_item bound syntax levels t.octets t.is_end))
     items_told false is (Err f) e = inr (f, at_item bound syntax levels bytes f is (sym (item_faults_are bytes) ∙ ap fault_of e))
     items_told false is (Ok h) e =
-        let header = item_takes bytes h.0 h.1 ok e in
+        let (header, whole) = item_takes bytes h.0 h.1 ok e in
         let shorter : length h.1 < n =
         omega (arith, ap length header.takes.parts, length-append header.octets h.1, item_long h.0 header.octets header.header) in
-        elim (body_told _ _ _ n (told.elements syntax levels None) h.0 h.1 header.whole header.takes.rest_fits shorter) [
+        elim (body_told _ _ _ n (told.elements syntax levels None) h.0 h.1 whole header.takes.rest_fits shorter) [
           | inl v ↦ after_content h.0 h.1 header v.0 v.1 v.2
           | inr bad ↦
               let parts = header.takes.parts ∙ ap (λ (x : List ℕ). header.octets ++ x) bad.parts in
@@ -285,8 +286,9 @@ module _ (levels : ℕ) (vr : Vr) (content : Content) (bytes : List ℕ)
       ]
 
 pub in_a_value : (bound : Bound) (syntax : Syntax) (levels : ℕ) (last : Option Tag) (bytes : List ℕ) (h : Header) (behind : List ℕ) (f : ReadFault)
-    → ReadsHeader syntax levels last bytes h behind → value_by (readers (length behind + 1)) levels h.vr h.content behind ≡ Err f
+    → ReadsHeader syntax levels last bytes h behind × (fits (length_of h.content) behind ≡ true)
+    → value_by (readers (length behind + 1)) levels h.vr h.content behind ≡ Err f
     → HasFault bound syntax levels last bytes f
-in_a_value bound syntax levels last bytes h behind f header e =
-    let v = value_faulty levels h.vr h.content behind header.nests header.whole header.takes.rest_fits f e in
+in_a_value bound syntax levels last bytes h behind f (header, whole) e =
+    let v = value_faulty levels h.vr h.content behind header.nests whole header.takes.rest_fits f e in
     subst (λ (x : ReadFault). HasFault bound syntax levels last bytes x) v.1 (faulty_value bound syntax levels last bytes h behind header v.0)

@@ -10,14 +10,13 @@ use Rattle.dq_dataset.specs.declared.sieve.walk.Place.TheVariants.{InItems, InEl
 use Rattle.dq_dataset.specs.declared.sieve.walk.Walk.{Walk}
 use Rattle.dq_dataset.specs.declared.sieve.walk.Walked.TheVariants.{Failed}
 use Rattle.dq_dataset.specs.Rules.{fits}
-use Rattle.dq_dataset.specs.Reading.{end_at, may_nest, length_of}
-use Rattle.dq_dataset.specs.Fronts.{front_at, item_front_at}
+use Rattle.dq_dataset.specs.Reading.{front_at, item_front_at, end_at, may_nest, length_of}
 use Rattle.dq_dataset.specs.Grammar.{IsPlaced, IsHeader, IsItemHeader, no_more, no_item, IsEnd}
 use Rattle.dq_dataset.specs.Faults.{ends_here}
 use Rattle.dq_dataset.specs.Sifting.{bound_by, until_of, Finishes, IsLimit, LeadsTo, WalkLeads, AreNested, HasCome, HasEnd, LeadsOn, opened_reach, opened_left, HasRoom, HasNoRoom, place_in}
 use Rattle.dq_dataset.proofs.Fields.{IsBytes}
-use Rattle.dq_dataset.proofs.Headers.{end_takes}
-use Rattle.dq_dataset.proofs.Fronts.{front_takes, front_is_all, item_front_takes, item_front_is_all, open_here, front_fault_stays, item_fault_stays, part_is_open, item_part_is_open, unfit, item_unfit, not_some, end_is_all}
+use Rattle.dq_dataset.proofs.Headers.{front_takes, item_front_takes, end_takes}
+use Rattle.dq_dataset.proofs.Fronts.{front_is_all, item_front_is_all, open_here, front_fault_stays, item_fault_stays, part_is_open, item_part_is_open, unfit, item_unfit, not_some, end_is_all}
 use Rattle.dq_dataset.proofs.Walks.{Around, failed, cut_off}
 use Rattle.dq_dataset.proofs.Entering.{element_entered, item_entered, value_place, value_reach}
 use Rattle.dq_dataset.proofs.Nesting.{nested_inside, left_after}
@@ -184,7 +183,11 @@ whole_header syntax levels last before octet front header rest is part ok e =
     }
 
 module _ (walk : Walk) (syntax : Syntax) (levels : ℕ) (last : Option Tag) (reach : Reach) (come : HasCome walk)
-    (place_is : walk.place ≡ InElements syntax levels last reach) (header : Header) (whole : WholeHeader syntax levels last walk.front.items header) where
+    (place_is : walk.place ≡ InElements syntax levels last reach) (ok : IsBytes walk.front.items) (header : Header) (rest : List ℕ)
+    (e : front_at syntax levels last walk.front.items ≡ Ok (header, rest)) where
+  whole : WholeHeader syntax levels last walk.front.items header
+  whole = whole_header syntax levels last come.before come.octet walk.front.items header rest come.is (rw place_is at come.part) ok e
+
   abbrev octets_of_header : List ℕ
   octets_of_header = walk.front.items
 

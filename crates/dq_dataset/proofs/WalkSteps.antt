@@ -52,10 +52,9 @@ has_more_by (Within until) left front within other =
 has_more_by Endless left front within other = tt
 
 -- nothing is left for the rest of a header
-pub waits : (walk : Walk) (count : ℕ) → HasCome walk → IsPart walk.place walk.front.items → count ≡ length walk.front.items
-    → is_full (reach_of walk.place) (walk.left - count) ≡ true → LeadsOn walk [] (Failed Truncated 0)
-waits walk count come part is_count is_full_there =
-    let full = rw is_count at is_full_there in
+pub waits : (walk : Walk) → HasCome walk → IsPart walk.place walk.front.items
+    → is_full (reach_of walk.place) (walk.left - length walk.front.items) ≡ true → LeadsOn walk [] (Failed Truncated 0)
+waits walk come part full =
     let within = come_within walk come in
     let some = come_some walk come in
     record {
@@ -68,10 +67,9 @@ waits walk count come part is_count is_full_there =
       ];
     }
 
-pub waits_on : (walk : Walk) (count : ℕ) → HasCome walk → IsPart walk.place walk.front.items → count ≡ length walk.front.items
-    → is_full (reach_of walk.place) (walk.left - count) ≡ false → LeadsOn walk [] (On walk)
-waits_on walk count come part is_count is_open =
-    let other = rw is_count at is_open in
+pub waits_on : (walk : Walk) → HasCome walk → IsPart walk.place walk.front.items
+    → is_full (reach_of walk.place) (walk.left - length walk.front.items) ≡ false → LeadsOn walk [] (On walk)
+waits_on walk come part other =
     record {
       sound = record { nested = come.nested; part = part; more = has_more_by (reach_of walk.place) walk.left walk.front.items (come_within walk come) other };
       leads = λ octets end leads. leads;

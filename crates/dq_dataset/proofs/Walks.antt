@@ -141,6 +141,15 @@ part_is_cut_off place around left missing until front octets end is (inr (measur
     (λ t beyond limit. subst (λ (x : List ℕ). Stops place x Truncated) (sym (nothing_near front t beyond until left (rw measured at limit) full))
     (stops_in_part place front is (inr some))) leads
 
+-- with no defined length around, all that came is within reach
+unfinished_endless : (place : Place) (around : List Place) (left : ℕ) (front : List ℕ) → reach_of place ≡ Endless → left ≡ 0 → Stops place front Truncated
+    → LeadsTo left (place ∷ around) front (Some Truncated)
+unfinished_endless place around left front endless none stops =
+    inr (
+      omega arith,
+      inl (record { near = front; beyond = []; parts = sym (append-nil front); limit = rw endless refl; fault = Truncated; stops = stops; is = refl }),
+    )
+
 -- a walk that ends with octets missing is Truncated
 pub unfinished : (place : Place) (around : List Place) (left : ℕ) (front : List ℕ) → AreNested left (place ∷ around) → IsPart place front
     → HasMore (reach_of place) left front → LeadsTo left (place ∷ around) front (Some Truncated)
@@ -148,35 +157,12 @@ unfinished (InOctets until) around left front lies part left_over = inl (omega a
 unfinished (InItems syntax levels (Measured until)) around left front lies part left_over = inl (omega arith, refl)
 unfinished (InItems syntax levels (Within until)) around left front lies part left_over = inl (omega arith, refl)
 unfinished (InItems syntax levels Endless) around left front lies part left_over =
-    let none : left ≡ 0 = lies.0 in
-    inr (
-      omega arith,
-      inl (record {
-        near = front;
-        beyond = [];
-        parts = sym (append-nil front);
-        limit = refl;
-        fault = Truncated;
-        stops = item_truncated Delimited syntax levels front (inl refl) part;
-        is = refl;
-      }),
-    )
+    unfinished_endless (InItems syntax levels Endless) around left front refl lies.0 (item_truncated Delimited syntax levels front (inl refl) part)
 unfinished (InElements syntax levels last (Measured until)) around left front lies part left_over = inl (omega arith, refl)
 unfinished (InElements syntax levels last (Within until)) around left front lies part left_over = inl (omega arith, refl)
 unfinished (InElements syntax levels last Endless) around left front lies part left_over =
-    let none : left ≡ 0 = lies.0 in
-    inr (
-      omega arith,
-      inl (record {
-        near = front;
-        beyond = [];
-        parts = sym (append-nil front);
-        limit = refl;
-        fault = Truncated;
-        stops = truncated Delimited syntax levels last front (inl refl) part;
-        is = refl;
-      }),
-    )
+    unfinished_endless (InElements syntax levels last Endless) around left front refl lies.0
+    (truncated Delimited syntax levels last front (inl refl) part)
 
 -- ---- closing
 

@@ -17,7 +17,6 @@ pub mod LentView
 pub mod Agreement
 pub mod Editing
 pub mod Same
-pub mod Fronts
 pub mod Sifting
 pub mod Sieve
 pub mod Sieving

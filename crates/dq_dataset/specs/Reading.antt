@@ -103,24 +103,36 @@ abbrev pub length_of : Content → Option ℕ
 length_of (Plain n) = Some n
 length_of (Sequence syntax n) = n
 
--- The header of an element after the tag last, where so many more levels of sequences are allowed.
-unfoldable pub header_at : Syntax → ℕ → Option Tag → List ℕ → Result (Header × List ℕ) ReadFault
-header_at syntax levels last octets = do
+-- The header of an element after the tag last, where so many more levels of sequences are allowed,
+-- before it is known whether its value fits.
+unfoldable pub front_at : Syntax → ℕ → Option Tag → List ℕ → Result (Header × List ℕ) ReadFault
+front_at syntax levels last octets = do
   tag ← tag_at octets
   placed ← check (not (tag.0.group == 0xFFFE)) BadItem
   rises ← check (follows last tag.0) TagOrder
   spelling ← spelling_at syntax (known_vr tag.0) tag.1
   content ← content_of (known_vr tag.0) spelling.0.0 spelling.0.1
   shallow ← check (may_nest levels content) TooDeep
-  whole ← check (fits (length_of content) spelling.1) Truncated
   Ok (record { tag = tag.0; vr = vr_of (known_vr tag.0) content; content = content }, spelling.1)
 
--- The header of an item, and its length.
-unfoldable pub item_header_at : List ℕ → Result (Option ℕ × List ℕ) ReadFault
-item_header_at octets = do
+-- The header of an element whose value fits.
+unfoldable pub header_at : Syntax → ℕ → Option Tag → List ℕ → Result (Header × List ℕ) ReadFault
+header_at syntax levels last octets = do
+  header ← front_at syntax levels last octets
+  whole ← check (fits (length_of header.0.content) header.1) Truncated
+  Ok header
+
+-- The header of an item, and its length, before it is known whether the item fits.
+unfoldable pub item_front_at : List ℕ → Result (Option ℕ × List ℕ) ReadFault
+item_front_at octets = do
   tag ← tag_at octets
   is_item ← check ((tag.0.group == 0xFFFE) && (tag.0.element == 0xE000)) BadItem
-  n ← long_length_at tag.1
+  long_length_at tag.1
+
+-- The header of an item that fits, and its length.
+unfoldable pub item_header_at : List ℕ → Result (Option ℕ × List ℕ) ReadFault
+item_header_at octets = do
+  n ← item_front_at octets
   whole ← check (fits n.0 n.1) Truncated
   Ok n
 

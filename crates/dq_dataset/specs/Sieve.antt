@@ -24,12 +24,12 @@ has_other tags d = list_any (λ (e : Element). not (is_listed tags e)) (elements
 abbrev pub kept_limit : ℕ
 kept_limit = 67108864
 
-unfoldable pub is_large : ElementList → Bool
-is_large kept = nat_lt kept_limit (length (canonical Explicit kept))
+unfoldable pub is_over_limit : ElementList → Bool
+is_over_limit kept = nat_lt kept_limit (length (canonical Explicit kept))
 
 -- what is answered of the listed elements, where there is another or not
 abbrev pub sifted_of : ElementList → Bool → Sifted
-sifted_of kept other = if is_large kept then Large else Kept kept other
+sifted_of kept other = if is_over_limit kept then Large else Kept kept other
 
 -- Of the data set that the octets spell: its listed elements, and whether it has another, unless
 -- the listed ones are too large. Where they spell none: the first fault of the octets.

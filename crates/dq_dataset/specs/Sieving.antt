@@ -16,16 +16,16 @@ use Rattle.dq_dataset.specs.declared.sieve.Outer.{Outer}
 use Rattle.dq_dataset.specs.declared.sieve.Stage.{Stage}
 use Rattle.dq_dataset.specs.declared.sieve.Stage.TheVariants.{Between, Past, Into, Stopped}
 use Rattle.dq_dataset.specs.declared.sieve.walk.Walked.{Walked}
-use Rattle.dq_dataset.specs.declared.sieve.Held.{Held}
-use Rattle.dq_dataset.specs.declared.sieve.Held.TheVariants.{Sifting, Spent}
+use Rattle.dq_dataset.specs.declared.sieve.SieveState.{SieveState}
+use Rattle.dq_dataset.specs.declared.sieve.SieveState.TheVariants.{Sifting, Spent}
 use Rattle.dq_dataset.specs.Tree.{ElementList}
 use Rattle.dq_dataset.specs.View.{as_elements, elements_of}
 use Rattle.dq_dataset.specs.Grammar.{Spells, IsSpelled}
 use Rattle.dq_dataset.specs.Faults.{HasFault}
 use Rattle.dq_dataset.specs.Editing.{is_listed}
-use Rattle.dq_dataset.specs.Fronts.{front_at}
+use Rattle.dq_dataset.specs.Reading.{front_at}
 use Rattle.dq_dataset.specs.Sifting.{FaultLeads, WalkLeads, WalkedLeads, IsWalk}
-use Rattle.dq_dataset.specs.Sieve.{has_other, kept_limit, is_large, sifted_of, IsSifted}
+use Rattle.dq_dataset.specs.Sieve.{has_other, kept_limit, is_over_limit, sifted_of, IsSifted}
 
 abbrev pub tag_is_listed : List Tag → Tag → Bool
 tag_is_listed tags tag =
@@ -50,20 +50,20 @@ OuterSifts tags outer octets answer =
     SiftsFrom outer.syntax tags outer.last outer.large outer.kept.items outer.other octets answer
 
 -- What is held is within the limit. Of elements that passed it nothing is held.
-abbrev pub HoldsWithin : Bool → List Element → Type 0
-HoldsWithin true held = held ≡ []
-HoldsWithin false held = is_large (as_elements held) ≡ false
+abbrev pub KeepsWithinLimit : Bool → List Element → Type 0
+KeepsWithinLimit true held = held ≡ []
+KeepsWithinLimit false held = is_over_limit (as_elements held) ≡ false
 
-abbrev pub IsWithin : Outer → Type 0
-IsWithin outer = HoldsWithin outer.large outer.kept.items
+abbrev pub IsWithinLimit : Outer → Type 0
+IsWithinLimit outer = KeepsWithinLimit outer.large outer.kept.items
 
 -- Whether a header alone says that its element is over the limit. A group length is none.
-abbrev pub is_long : Content → Bool
-is_long (Plain n) = nat_lt kept_limit n
-is_long (Sequence syntax extent) = false
+abbrev pub is_length_over_limit : Content → Bool
+is_length_over_limit (Plain n) = nat_lt kept_limit n
+is_length_over_limit (Sequence syntax extent) = false
 
-abbrev pub is_too_long : Tag → Content → Bool
-is_too_long tag content = not (tag.element == 0) && is_long content
+abbrev pub is_header_over_limit : Tag → Content → Bool
+is_header_over_limit tag content = not (tag.element == 0) && is_length_over_limit content
 
 -- The octets lead to a fault of a value, or to its end, and what follows it sifts on.
 abbrev pub SiftsOn : (List ℕ → Option ReadFault → Type 0) → (List ℕ → List ℕ → Type 0) → List ℕ
@@ -103,7 +103,7 @@ IsStage outer (Stopped fault missing) = Unit {0}
 pub record GoesOn (tags : List Tag) (outer : Outer) (stage : Stage) (taken : List ℕ)
     (next : Outer) (then : Stage) : Type 0 where
   pub sound : IsStage next then
-  pub within : IsWithin outer → IsWithin next
+  pub within : IsWithinLimit outer → IsWithinLimit next
   pub syntax : next.syntax ≡ outer.syntax
   pub sifts : (octets : List ℕ) (answer : Sifted) → StageSifts tags next then octets answer
       → StageSifts tags outer stage (taken ++ octets) answer
@@ -113,24 +113,24 @@ pub record HasFed (syntax : Syntax) (tags : List Tag) (octets : List ℕ) (outer
     (stage : Stage) : Type 0 where
   pub is : outer.syntax ≡ syntax
   pub sound : IsStage outer stage
-  pub within : IsWithin outer
+  pub within : IsWithinLimit outer
   pub sifts : (rest : List ℕ) (answer : Sifted) → StageSifts tags outer stage rest answer
       → IsSifted syntax tags (octets ++ rest) answer
 
-abbrev pub HeldAfter : Syntax → List Tag → List ℕ → Held → Type 0
-HeldAfter syntax tags octets (Sifting outer stage) = HasFed syntax tags octets outer stage
-HeldAfter syntax tags octets Spent = ⊥
+abbrev pub StateAfter : Syntax → List Tag → List ℕ → SieveState → Type 0
+StateAfter syntax tags octets (Sifting outer stage) = HasFed syntax tags octets outer stage
+StateAfter syntax tags octets Spent = ⊥
 
 -- A sieve for the syntax and the tags that was fed the octets, in pieces of any length. Of this
 -- nothing is to be believed: a new sieve is one after no octets, a piece is added to them, and what
 -- such a sieve gives at the end is IsSifted.
 pub record SieveAfter (syntax : Syntax) (tags : List Tag) (octets : List ℕ)
-    (sieve : List Tag × Held) : Type 0 where
+    (sieve : List Tag × SieveState) : Type 0 where
   pub tags_are : sieve.0 ≡ tags
-  pub after : HeldAfter syntax tags octets sieve.1
+  pub after : StateAfter syntax tags octets sieve.1
 
 -- What is true of every sieve: it was fed some octets, or memory ran out.
-abbrev pub IsSieve : List Tag → Held → Type 0
+abbrev pub IsSieve : List Tag → SieveState → Type 0
 IsSieve tags (Sifting outer stage) = (octets : List ℕ) × HasFed outer.syntax tags octets outer stage
 IsSieve tags Spent = Unit {0}
 
@@ -144,24 +144,24 @@ PastBy walked stage =
 pub record IntoBy (outer : Outer) (walked : Walked) (came : List ℕ) (next : Outer) (then : Stage)
     : Type 0 where
   pub sound : IsStage next then
-  pub within : IsWithin outer → IsWithin next
+  pub within : IsWithinLimit outer → IsWithinLimit next
   pub syntax : next.syntax ≡ outer.syntax
   pub sifts : (tags : List Tag) (octets : List ℕ) (answer : Sifted)
       → StageSifts tags next then octets answer
       → SiftsOn (WalkedLeads walked) (FollowsInto tags outer came answer) octets answer
 
 -- What is held of elements, by whether they passed the limit.
-abbrev pub held_of : Bool → List Element → List Element
-held_of true es = []
-held_of false es = es
+abbrev pub kept_unless_over : Bool → List Element → List Element
+kept_unless_over true es = []
+kept_unless_over false es = es
 
 -- The elements join those that are kept. Once they pass the limit nothing is held.
 pub record Keeps (outer : Outer) (es : List Element) (next : Outer) : Type 0 where
   pub syntax : next.syntax ≡ outer.syntax
   pub last : next.last ≡ outer.last
   pub other : next.other ≡ outer.other
-  pub large : next.large ≡ (outer.large || is_large (as_elements (outer.kept.items ++ es)))
-  pub kept : next.kept.items ≡ held_of next.large (outer.kept.items ++ es)
+  pub large : next.large ≡ (outer.large || is_over_limit (as_elements (outer.kept.items ++ es)))
+  pub kept : next.kept.items ≡ kept_unless_over next.large (outer.kept.items ++ es)
 
 -- What octets that end at a stage are: the data set that was kept, or faulty.
 abbrev pub EndsBy : Stage → Option ReadFault → Type 0

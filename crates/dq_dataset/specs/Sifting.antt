@@ -19,11 +19,10 @@ use Rattle.dq_dataset.specs.declared.sieve.walk.Walked.TheVariants.{On, Over, Fa
 use Rattle.dq_dataset.specs.declared.sieve.walk.Met.{Met}
 use Rattle.dq_dataset.specs.declared.sieve.walk.Met.TheVariants.{Part, End, Whole, Bad}
 use Rattle.dq_dataset.specs.declared.header.Header.{Header}
-use Rattle.dq_dataset.specs.Reading.{end_at}
+use Rattle.dq_dataset.specs.Reading.{front_at, item_front_at, end_at}
 use Rattle.dq_dataset.specs.Tree.{ElementList}
 use Rattle.dq_dataset.specs.Grammar.{Spells, SpellsItems}
 use Rattle.dq_dataset.specs.Faults.{HasFault, ItemsHaveFault}
-use Rattle.dq_dataset.specs.Fronts.{front_at, item_front_at}
 
 -- ---- places
 

@@ -3,8 +3,7 @@ ghost use Rattle.std.specs.Prelude.{◌≡◌, true, ◌+◌, ◌≤◌, length,
 ghost use Rattle.std.specs.Int.{w16, w32};
 ghost use Rattle.std.specs.Option.{option_copied};
 ghost use Rattle.dq_dataset.specs.Rules.{is_sequence, is_unknown, agrees, content_of, vr_of};
-ghost use Rattle.dq_dataset.specs.Fronts.{front_at, item_front_at};
-ghost use Rattle.dq_dataset.specs.Reading.{Answers, tag_at, number_at, long_length_at, length_at, vr_at, spelling_at, header_at, item_header_at, end_at, follows, may_nest, length_of, fits};
+ghost use Rattle.dq_dataset.specs.Reading.{Answers, tag_at, number_at, long_length_at, length_at, vr_at, spelling_at, front_at, header_at, item_front_at, item_header_at, end_at, follows, may_nest, length_of, fits};
 
 use crate::fault::ReadFault;
 use dq_vr::{LengthForm, Tag, Vr, length_form, lookup};
@@ -263,7 +262,7 @@ fn fits(length: Option<u32>, octets: &[u8]) -> bool
 
 /// The header of an element after the tag `last`, with so many more levels of sequences allowed,
 /// whether or not its value is there.
-#[tactic(auto, unfolding(crate::specs::Fronts::front_at))]
+#[tactic(auto, unfolding(crate::specs::Reading::front_at))]
 pub fn front_at(
     syntax: Syntax,
     levels: u8,
@@ -292,7 +291,7 @@ pub fn front_at(
 }
 
 /// The header of an element after the tag `last`, with so many more levels of sequences allowed.
-#[tactic(auto, using(crate::proofs::Fronts::header_by_front))]
+#[tactic(auto, unfolding(crate::specs::Reading::header_at))]
 pub fn header_at(
     syntax: Syntax,
     levels: u8,
@@ -312,7 +311,7 @@ pub fn header_at(
 }
 
 /// The header of an item, and its length, whether or not the item is there.
-#[tactic(auto, unfolding(crate::specs::Fronts::item_front_at))]
+#[tactic(auto, unfolding(crate::specs::Reading::item_front_at))]
 pub fn item_front_at(octets: &[u8]) -> Result<(Option<u32>, &[u8]), ReadFault>
     ensures value { Answers (λ x. (x.0, x.1.now)) result (item_front_at octets.now) }
     ensures shorter { IfOk result (λ x. length x.1.now + 8 ≤ length octets.now) }
@@ -325,7 +324,7 @@ pub fn item_front_at(octets: &[u8]) -> Result<(Option<u32>, &[u8]), ReadFault>
 }
 
 /// The header of an item, and its length.
-#[tactic(auto, using(crate::proofs::Fronts::item_by_front))]
+#[tactic(auto, unfolding(crate::specs::Reading::item_header_at))]
 pub fn item_header_at(octets: &[u8]) -> Result<(Option<u32>, &[u8]), ReadFault>
     ensures value { Answers (λ x. (x.0, x.1.now)) result (item_header_at octets.now) }
     ensures shorter { IfOk result (λ x. length x.1.now + 8 ≤ length octets.now) }

@@ -8,8 +8,8 @@ ghost use Rattle.dq_dataset.specs.Reading.{may_nest};
 ghost use Rattle.dq_dataset.specs.Grammar.{IsPlaced, IsHeader};
 ghost use Rattle.dq_dataset.specs.Sifting.{IsWalked};
 ghost use Rattle.dq_dataset.specs.View.{as_elements, elements_of};
-ghost use Rattle.dq_dataset.specs.Sieve.{is_large, IsSifted};
-ghost use Rattle.dq_dataset.specs.Sieving.{GoesOn, SieveAfter, IsStage, PastBy, IntoBy, Keeps, tag_is_listed, is_too_long, EndsBy};
+ghost use Rattle.dq_dataset.specs.Sieve.{is_over_limit, IsSifted};
+ghost use Rattle.dq_dataset.specs.Sieving.{GoesOn, SieveAfter, IsStage, PastBy, IntoBy, Keeps, tag_is_listed, is_header_over_limit, kept_unless_over, EndsBy};
 
 mod walk;
 
@@ -67,9 +67,9 @@ pub(crate) enum Stage {
     Stopped(ReadFault, usize),
 }
 
-/// What a sieve holds.
+/// What a sieve holds between two pieces.
 #[derive(Debug, Drop)]
-pub(crate) enum Held {
+pub(crate) enum SieveState {
     Sifting(Outer, Stage),
     /// Memory ran out.
     Spent,
@@ -82,25 +82,25 @@ pub(crate) enum Held {
 pub struct Sieve {
     alloc: Global,
     tags: &'static [Tag],
-    held: Held,
+    state: SieveState,
 }
 
 impl Model for Sieve {
     ghost use Rattle.std.specs.Prelude.{List};
     ghost use Rattle.std.specs.Coded.{codes};
     ghost use Rattle.dq_vr.specs.declared.Tag.{Tag};
-    ghost use Rattle.dq_dataset.specs.declared.sieve.Held.{Held};
+    ghost use Rattle.dq_dataset.specs.declared.sieve.SieveState.{SieveState};
     ghost use Rattle.dq_dataset.specs.contracts.data_set.DataSet as data_set;
 
-    ghost Value = { List Tag × Held };
+    ghost Value = { List Tag × SieveState };
 
     ghost coded = { Prim.hlevel (codes, data_set.the_row.coded) };
 
     ghost use Rattle.dq_dataset.specs.Sieving.{IsSieve};
 
-    ghost view = { λ a. (a.tags.now, a.held) };
+    ghost view = { λ a. (a.tags.now, a.state) };
 
-    ghost invariant = { λ a. IsSieve a.tags.now a.held };
+    ghost invariant = { λ a. IsSieve a.tags.now a.state };
 }
 
 impl Sieve {
@@ -119,7 +119,7 @@ impl Sieve {
         Sieve {
             alloc,
             tags,
-            held: Held::Sifting(outer, stage),
+            state: SieveState::Sifting(outer, stage),
         }
     }
 
@@ -134,13 +134,13 @@ impl Sieve {
             → SieveAfter syntax tags fed self.old
             → OnOk result (SieveAfter syntax tags (fed ++ octets.now) self.new) }
     {
-        match mem::replace(&mut self.held, Held::Spent) {
-            Held::Sifting(outer, stage) => {
+        match mem::replace(&mut self.state, SieveState::Spent) {
+            SieveState::Sifting(outer, stage) => {
                 let (outer, stage) = sifted_on(self.alloc, self.tags, outer, stage, octets)?;
-                self.held = Held::Sifting(outer, stage);
+                self.state = SieveState::Sifting(outer, stage);
                 Ok(())
             }
-            Held::Spent => Err(AllocError),
+            SieveState::Spent => Err(AllocError),
         }
     }
 
@@ -151,14 +151,14 @@ impl Sieve {
         ensures { (syntax : Syntax) (tags : List Tag) (fed : List ℕ)
             → SieveAfter syntax tags fed self → IsSifted syntax tags fed result }
     {
-        let Sieve { held, .. } = self;
-        match held {
-            Held::Sifting(outer, stage) => match fault_at_end(&stage) {
+        let Sieve { state, .. } = self;
+        match state {
+            SieveState::Sifting(outer, stage) => match fault_at_end(&stage) {
                 Some(fault) => Sifted::Fault(fault),
                 None if outer.large => Sifted::Large,
                 None => Sifted::Kept(DataSet::from_elements(outer.kept), outer.other),
             },
-            Held::Spent => Sifted::Fault(ReadFault::NoMemory),
+            SieveState::Spent => Sifted::Fault(ReadFault::NoMemory),
         }
     }
 }
@@ -288,15 +288,8 @@ fn keep(alloc: Global, outer: Outer, one: DataSet) -> Result<Outer, AllocError>
 {
     let mut kept = outer.kept;
     kept.append(&mut one.into_elements())?;
-    let large = outer.large | are_large(&kept);
-    if large {
-        let kept = Vec::new(alloc);
-        return Ok(Outer {
-            large,
-            kept,
-            ..outer
-        });
-    }
+    let large = outer.large | are_over_limit(&kept);
+    let kept = kept_unless_over(alloc, large, kept);
     Ok(Outer {
         large,
         kept,
@@ -304,17 +297,24 @@ fn keep(alloc: Global, outer: Outer, one: DataSet) -> Result<Outer, AllocError>
     })
 }
 
+/// The elements, or none where they are over the limit.
+fn kept_unless_over(alloc: Global, over: bool, elements: Vec<Element>) -> Vec<Element>
+    ensures { result.items ≡ kept_unless_over over elements.items }
+{
+    if over { Vec::new(alloc) } else { elements }
+}
+
 /// Whether the elements are over the limit.
-fn are_large(elements: &[Element]) -> bool
-    ensures { result ≡ is_large (as_elements elements.now) }
+fn are_over_limit(elements: &[Element]) -> bool
+    ensures { result ≡ is_over_limit (as_elements elements.now) }
 {
     elements_length(elements, Syntax::Explicit) > KEPT_LIMIT
 }
 
 /// Whether nothing is to be held of an element that is listed: the limit was passed, or the header
 /// says that its element passes it. That of a group length says nothing, which is never kept.
-fn passes_limit(large: bool, tag: Tag, content: Content) -> bool
-    ensures { result ≡ (large || is_too_long tag content) }
+fn is_discarded(large: bool, tag: Tag, content: Content) -> bool
+    ensures { result ≡ (large || is_header_over_limit tag content) }
 {
     match content {
         Content::Plain(length) => large || (tag.element != 0 && length > KEPT_LIMIT),
@@ -363,7 +363,7 @@ fn begun(
         outer.other |= tag.element != 0;
         return Ok((outer, past(alloc, walked)));
     }
-    if passes_limit(outer.large, tag, content) {
+    if is_discarded(outer.large, tag, content) {
         outer.large = true;
         outer.kept = Vec::new(alloc);
         return Ok((outer, past(alloc, walked)));

@@ -1,3 +1,4 @@
+//! A vector that contracts see as a list.
 ghost use Rattle.std.specs.Prelude.{◌≡◌, [], ◌∷◌, ◌++◌, length, IfOk, OnOk, OnErr};
 ghost use Rattle.dq_list.specs.Lengths.{is_empty};
 

@@ -4,10 +4,7 @@ use Rattle.std.specs.Prelude.{option_map}
 use Rattle.std.proofs.lemmas.List.{append-nil}
 use Rattle.dq_list.specs.Readers.{◌>>=◌}
 use Rattle.dq_pdu.specs.Octets.{parts, parts_of}
-
--- what a reader of a part leaves is shorter
-abbrev pub Shrinks : {A : Type 0} → (List ℕ → Option (A × List ℕ)) → Type 0
-Shrinks {A} part = (octets : List ℕ) (x : A × List ℕ) → part octets ≡ Some x → length x.1 < length octets
+use Rattle.dq_pdu.specs.Shrinking.{Shrinks}
 
 -- what was read before, and what is still read
 abbrev pub with_front : {A : Type 0} → List A → Option (List A) → Option (List A)

@@ -4,8 +4,8 @@ use Rattle.std.proofs.lemmas.List.{append-nil}
 use Rattle.dq_pdu.specs.declared.fault.PduFault.{PduFault}
 use Rattle.dq_pdu.specs.declared.reading.Front.{Front}
 use Rattle.dq_pdu.specs.declared.reading.Front.TheVariants.{Partial, Faulty, Whole}
-use Rattle.dq_pdu.specs.declared.inbox.Held.{Held}
-use Rattle.dq_pdu.specs.declared.inbox.Held.TheVariants.{Reading, Stopped, Spent}
+use Rattle.dq_pdu.specs.declared.inbox.InboxState.{InboxState}
+use Rattle.dq_pdu.specs.declared.inbox.InboxState.TheVariants.{Reading, Stopped, Spent}
 use Rattle.dq_pdu.specs.Reading.{front}
 use Rattle.dq_pdu.specs.Stream.{pdus_in, with_list, continued, fault_of}
 use Rattle.dq_pdu.specs.Holding.{held_at, holding, HoldsPart}
@@ -82,7 +82,7 @@ fault_held stream = fault_held_at (pdus_in stream).fault (pdus_in stream).rest
 
 -- ---- how much is held
 
-pub part_is_short : (held : Held) → HoldsPart held → length (octets_in held) < 6 + 65536
+pub part_is_short : (held : InboxState) → HoldsPart held → length (octets_in held) < 6 + 65536
 part_is_short (Reading rest) part = partial_is_short rest part
 part_is_short (Stopped fault) part = omega arith
 part_is_short Spent part = omega arith

@@ -9,7 +9,7 @@ use Rattle.dq_pdu.specs.declared.pdu.Pdv.{Pdv}
 use Rattle.dq_pdu.specs.Octets.{Fills, parts_of}
 use Rattle.dq_pdu.specs.Spelling.{IsItem, IsPdv}
 use Rattle.dq_pdu.specs.Reading.{item_at, pdv_at}
-use Rattle.dq_pdu.proofs.Readers.{guarded, item_shrinks, pdv_shrinks}
+use Rattle.dq_pdu.specs.Shrinking.{guarded, item_shrinks, pdv_shrinks}
 use Rattle.dq_pdu.proofs.PartLaws.{Sound, Complete, fills_from, parts_from, fills_once}
 
 abbrev pub IsSpelledAt : {A : Type 0} → (A → List ℕ → Type 0) → List ℕ → A × List ℕ → Type 0

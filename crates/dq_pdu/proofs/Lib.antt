@@ -1,7 +1,6 @@
 pub mod Lists
 pub mod Spelled
 pub mod Filling
-pub mod Readers
 pub mod Given
 pub mod ItemBodies
 pub mod Fronts

@@ -3,7 +3,8 @@ use Rattle.std.proofs.Common.{◌≡◌, ℕ, zero, suc, ◌<◌, List, [], ◌�
 use Rattle.dq_list.specs.Readers.{◌>>=◌}
 use Rattle.dq_list.proofs.Readers.{bind_some}
 use Rattle.dq_pdu.specs.Octets.{Fills, parts, parts_of}
-use Rattle.dq_pdu.proofs.Filling.{Shrinks, parts_step}
+use Rattle.dq_pdu.specs.Shrinking.{Shrinks}
+use Rattle.dq_pdu.proofs.Filling.{parts_step}
 
 pub some_is : {A : Type 0} (x y : A) → Some x ≡ Some y → x ≡ y
 some_is x y e = cc

@@ -2,21 +2,21 @@
 use Rattle.std.specs.Prelude.{◌≡◌, ℕ, List, Option, Some, None}
 use Rattle.dq_pdu.specs.declared.fault.PduFault.{PduFault}
 use Rattle.dq_pdu.specs.declared.reading.Front.TheVariants.{Partial}
-use Rattle.dq_pdu.specs.declared.inbox.Held.{Held}
-use Rattle.dq_pdu.specs.declared.inbox.Held.TheVariants.{Reading, Stopped, Spent}
+use Rattle.dq_pdu.specs.declared.inbox.InboxState.{InboxState}
+use Rattle.dq_pdu.specs.declared.inbox.InboxState.TheVariants.{Reading, Stopped, Spent}
 use Rattle.dq_pdu.specs.Reading.{front}
 use Rattle.dq_pdu.specs.Stream.{pdus_in}
 
 -- what an inbox holds: the rest after the last PDU, or the fault
-abbrev pub held_at : Option PduFault → List ℕ → Held
+abbrev pub held_at : Option PduFault → List ℕ → InboxState
 held_at None rest = Reading rest
 held_at (Some fault) rest = Stopped fault
 
-abbrev pub holding : List ℕ → Held
+abbrev pub holding : List ℕ → InboxState
 holding stream = held_at (pdus_in stream).fault (pdus_in stream).rest
 
 -- an inbox holds no whole PDU
-abbrev pub HoldsPart : Held → Type 0
+abbrev pub HoldsPart : InboxState → Type 0
 HoldsPart (Reading rest) = front rest ≡ Partial
 HoldsPart (Stopped fault) = Unit {0}
 HoldsPart Spent = Unit {0}

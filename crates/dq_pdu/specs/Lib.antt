@@ -3,6 +3,7 @@ pub mod Faults
 pub mod Octets
 pub mod Spelling
 pub mod Reading
+pub mod Shrinking
 pub mod Stream
 pub mod Holding
 pub mod Inboxes

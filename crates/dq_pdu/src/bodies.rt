@@ -4,8 +4,9 @@ ghost use Rattle.dq_list.specs.Readers.{Gives};
 ghost use Rattle.dq_pdu.specs.Numbers.{associate_fields};
 ghost use Rattle.dq_pdu.specs.Octets.{parts_of, bodies, each, unpadded};
 ghost use Rattle.dq_pdu.specs.Reading.{Fails, item_at, maximum_in, user_information_of, proposed_of, answered_of, fields_of, associate_of, request_of, accept_of, pdv_at, values_of, pdu_of};
+ghost use Rattle.dq_pdu.specs.Shrinking.{pdv_shrinks};
 
-use crate::items::{at_most_one, exactly_one, items_of, name_of, names_of};
+use crate::items::{ReadPart, at_most_one, exactly_one, name_of, names_of, parts_of};
 use crate::numbers::{
     ASSOCIATE_FIELDS, CONTEXT_FIELDS, PDV_FIELDS, PDV_HEADER, RESERVED_LENGTH, TITLE_LENGTH,
     item_type, pdu_type,
@@ -36,7 +37,7 @@ fn user_information_of(alloc: Global, user: Option<&[u8]>) -> Result<Option<u32>
     match user {
         None => Ok(None),
         Some(body) => {
-            let items = items_of(alloc, body)?;
+            let items = parts_of(alloc, body)?;
             maximum_in(at_most_one(&items, item_type::MAXIMUM_LENGTH)?)
         }
     }
@@ -59,7 +60,7 @@ impl Context for ProposedContext {
             return Err(ReadError::Malformed);
         }
         let (fields, rest) = body.split_at(CONTEXT_FIELDS);
-        let items = items_of(alloc, rest)?;
+        let items = parts_of(alloc, rest)?;
         let abstract_syntax = exactly_one(&items, item_type::ABSTRACT_SYNTAX)?;
         let transfer_syntaxes = names_of(alloc, &items, item_type::TRANSFER_SYNTAX)?;
         if fields[0] % 2 == 0 || transfer_syntaxes.is_empty() {
@@ -82,7 +83,7 @@ impl Context for AnsweredContext {
             return Err(ReadError::Malformed);
         }
         let (fields, rest) = body.split_at(CONTEXT_FIELDS);
-        let items = items_of(alloc, rest)?;
+        let items = parts_of(alloc, rest)?;
         let transfer_syntax = exactly_one(&items, item_type::TRANSFER_SYNTAX)?;
         if fields[0] % 2 == 0 {
             return Err(ReadError::Malformed);
@@ -176,7 +177,7 @@ fn associate_of<C: Context>(
     if body.len() < ASSOCIATE_FIELDS {
         return Err(ReadError::Malformed);
     }
-    let items = items_of(alloc, body.split_at(ASSOCIATE_FIELDS).1)?;
+    let items = parts_of(alloc, body.split_at(ASSOCIATE_FIELDS).1)?;
     let fields = fields_of(alloc, body, &items)?;
     let contexts = contexts_of(alloc, &items, kind)?;
     if !are_distinct(&contexts) {
@@ -235,41 +236,31 @@ fn accept_of(alloc: Global, body: &[u8]) -> Result<Accept, ReadError>
     })
 }
 
-/// The presentation data value at the front, and the octets after it (PS3.8 section 9.3.5.1).
-#[tactic(auto, unfolding(crate::specs::Reading::pdv_at))]
-fn value_at(alloc: Global, octets: &[u8]) -> Result<(Pdv, &[u8]), ReadError>
-    ensures { Gives Fails (λ x. (x.0, x.1.now)) result (pdv_at octets.now) }
-{
-    if octets.len() < PDV_HEADER {
-        return Err(ReadError::Malformed);
-    }
-    let (header, behind) = octets.split_at(PDV_HEADER);
-    let size = u32::from_be_bytes([header[0], header[1], header[2], header[3]]) as usize;
-    if size < PDV_FIELDS || behind.len() < size - PDV_FIELDS {
-        return Err(ReadError::Malformed);
-    }
-    let (fragment, rest) = behind.split_at(size - PDV_FIELDS);
-    let value = Pdv {
-        context: header[4],
-        command: header[5] % 2 == 1,
-        last: header[5] / 2 % 2 == 1,
-        octets: Listed::from_inner(Vec::from_slice(alloc, fragment)?),
-    };
-    Ok((value, rest))
-}
+/// A presentation data value (PS3.8 section 9.3.5.1).
+impl ReadPart for Pdv {
+    ghost part_at = { pdv_at };
 
-/// The presentation data values that fill the octets.
-fn all_values(alloc: Global, octets: &[u8]) -> Result<Vec<Pdv>, ReadError>
-    ensures { Gives Fails (λ v. v.items) result (parts_of pdv_at octets.now) }
-{
-    let mut values = Vec::new(alloc);
-    let mut rest = octets;
-    while !rest.is_empty() {
-        let (value, behind) = value_at(alloc, rest)?;
-        values.push(value)?;
-        rest = behind;
+    ghost shrinks = { pdv_shrinks };
+
+    #[tactic(auto, unfolding(crate::specs::Reading::pdv_at))]
+    fn read(alloc: Global, octets: &[u8]) -> Result<(Pdv, &[u8]), ReadError> {
+        if octets.len() < PDV_HEADER {
+            return Err(ReadError::Malformed);
+        }
+        let (header, behind) = octets.split_at(PDV_HEADER);
+        let size = u32::from_be_bytes([header[0], header[1], header[2], header[3]]) as usize;
+        if size < PDV_FIELDS || behind.len() < size - PDV_FIELDS {
+            return Err(ReadError::Malformed);
+        }
+        let (fragment, rest) = behind.split_at(size - PDV_FIELDS);
+        let value = Pdv {
+            context: header[4],
+            command: header[5] % 2 == 1,
+            last: header[5] / 2 % 2 == 1,
+            octets: Listed::from_inner(Vec::from_slice(alloc, fragment)?),
+        };
+        Ok((value, rest))
     }
-    Ok(values)
 }
 
 /// A P-DATA-TF PDU, from its body.
@@ -277,7 +268,7 @@ fn all_values(alloc: Global, octets: &[u8]) -> Result<Vec<Pdv>, ReadError>
 fn values_of(alloc: Global, body: &[u8]) -> Result<Pdu, ReadError>
     ensures { Gives Fails (λ x. x) result (values_of body.now) }
 {
-    let values = all_values(alloc, body)?;
+    let values = parts_of(alloc, body)?;
     if values.is_empty() {
         return Err(ReadError::Malformed);
     }

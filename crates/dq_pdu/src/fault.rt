@@ -1,3 +1,4 @@
+//! What is wrong with a stream, and why a piece is not taken.
 ghost use Rattle.std.specs.Prelude.{◌≡◌};
 ghost use Rattle.dq_pdu.specs.declared.fault.InboxError.TheVariants.{NoMemory};
 

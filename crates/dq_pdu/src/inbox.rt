@@ -1,3 +1,4 @@
+//! A stream that is taken in pieces.
 ghost use Rattle.std.specs.Prelude.{◌≡◌, List, ℕ, ◌++◌, [], ◌↔◌, IfOk, IfErr, OnOk, OnErr, IsErrOf, IsOk, IsOkUnless, ◌<◌, ◌+◌, length};
 ghost use Rattle.dq_pdu.specs.Stream.{pdus_in};
 ghost use Rattle.dq_pdu.specs.Holding.{holding};
@@ -18,7 +19,7 @@ const MOST_ROOM: usize = 2 * (PDU_HEADER + LONGEST_BODY);
 
 /// What an inbox holds between two pieces.
 #[derive(Debug, Drop)]
-pub(crate) enum Held {
+pub(crate) enum InboxState {
     /// The octets after the last PDU.
     Reading(Listed<u8>),
     /// The stream has a fault.
@@ -31,18 +32,18 @@ pub(crate) enum Held {
 #[derive(Debug, Drop)]
 pub struct Inbox {
     alloc: Global,
-    held: Held,
+    state: InboxState,
 }
 
 impl Model for Inbox {
-    ghost use Rattle.dq_pdu.specs.declared.inbox.Held.{Held};
+    ghost use Rattle.dq_pdu.specs.declared.inbox.InboxState.{InboxState};
     ghost use Rattle.dq_pdu.specs.Holding.{HoldsPart};
 
-    ghost Value = { Held };
+    ghost Value = { InboxState };
 
-    ghost view = { λ a. a.held };
+    ghost view = { λ a. a.state };
 
-    ghost invariant = { λ a. HoldsPart a.held };
+    ghost invariant = { λ a. HoldsPart a.state };
 }
 
 /// What a piece added to a stream: the PDUs that it completed, and the fault after them.
@@ -60,7 +61,7 @@ impl Inbox {
     {
         Inbox {
             alloc,
-            held: Held::Reading(Listed::empty(alloc)),
+            state: InboxState::Reading(Listed::empty(alloc)),
         }
     }
 
@@ -70,11 +71,11 @@ impl Inbox {
     pub fn reset(&mut self)
         ensures { InboxAfter [] self.new }
     {
-        let rest = match mem::replace(&mut self.held, Held::Spent) {
-            Held::Reading(rest) => rest.into_inner(),
-            Held::Stopped(_) | Held::Spent => Vec::new(self.alloc),
+        let rest = match mem::replace(&mut self.state, InboxState::Spent) {
+            InboxState::Reading(rest) => rest.into_inner(),
+            InboxState::Stopped(_) | InboxState::Spent => Vec::new(self.alloc),
         };
-        self.held = Held::Reading(Listed::from_inner(emptied(self.alloc, rest)));
+        self.state = InboxState::Reading(Listed::from_inner(emptied(self.alloc, rest)));
     }
 
     /// Takes the next piece of the stream. However a stream is cut into pieces, their PDUs are
@@ -89,42 +90,42 @@ impl Inbox {
         ensures stands { (stream : List ℕ) → InboxAfter stream self.old
             → OnOk result (InboxAfter (stream ++ piece.now) self.new) }
         // What is held and the piece after it.
-        ensures exact { (rest : List ℕ) → self.old ≡ Held.Reading rest → IfOk result (λ fed.
+        ensures exact { (rest : List ℕ) → self.old ≡ InboxState.Reading rest → IfOk result (λ fed.
             ((pdus_in (rest ++ piece.now)).list ≡ fed.pdus)
             × ((pdus_in (rest ++ piece.now)).fault ≡ fed.fault)
             × (self.new ≡ holding (rest ++ piece.now))) }
         // A fault stays, and no PDU comes after it.
-        ensures stopped { (fault : PduFault) → self.old ≡ Held.Stopped fault
+        ensures stopped { (fault : PduFault) → self.old ≡ InboxState.Stopped fault
             → IfOk result (λ fed. (fed.pdus ≡ []) × (fed.fault ≡ Some fault)) }
-        ensures stays { (fault : PduFault) → self.old ≡ Held.Stopped fault
-            → IsOk result × (self.new ≡ Held.Stopped fault) }
+        ensures stays { (fault : PduFault) → self.old ≡ InboxState.Stopped fault
+            → IsOk result × (self.new ≡ InboxState.Stopped fault) }
         // No octets take no memory.
         ensures quiet { piece.now ≡ [] → IsOkUnless result InboxError.Spent }
-        ensures spent { IsErrOf result InboxError.Spent ↔ (self.old ≡ Held.Spent) }
+        ensures spent { IsErrOf result InboxError.Spent ↔ (self.old ≡ InboxState.Spent) }
         ensures not_spent { (stream : List ℕ) → InboxAfter stream self.old
             → IfErr result (λ e. e ≡ InboxError.NoMemory) }
-        ensures err { OnErr result (self.new ≡ Held.Spent) }
+        ensures err { OnErr result (self.new ≡ InboxState.Spent) }
         // Whatever it was fed, it holds less than a PDU of the greatest length.
         ensures few { length (octets_in self.new) < pdu_header + longest_body }
     {
-        match mem::replace(&mut self.held, Held::Spent) {
-            Held::Spent => Err(InboxError::Spent),
-            Held::Stopped(fault) => {
-                self.held = Held::Stopped(fault);
+        match mem::replace(&mut self.state, InboxState::Spent) {
+            InboxState::Spent => Err(InboxError::Spent),
+            InboxState::Stopped(fault) => {
+                self.state = InboxState::Stopped(fault);
                 let pdus = Listed::empty(self.alloc);
                 Ok(Fed {
                     pdus,
                     fault: Some(fault),
                 })
             }
-            Held::Reading(rest) => {
+            InboxState::Reading(rest) => {
                 if piece.is_empty() {
-                    self.held = Held::Reading(rest);
+                    self.state = InboxState::Reading(rest);
                     let pdus = Listed::empty(self.alloc);
                     return Ok(Fed { pdus, fault: None });
                 }
                 let (held, fed) = read_on(self.alloc, rest, piece)?;
-                self.held = held;
+                self.state = held;
                 Ok(fed)
             }
         }
@@ -143,7 +144,7 @@ fn emptied(alloc: Global, mut octets: Vec<u8>) -> Vec<u8>
 }
 
 /// Reads a rest and the piece after it, and gives what is held from then on.
-fn read_on(alloc: Global, rest: Listed<u8>, piece: &[u8]) -> Result<(Held, Fed), AllocError>
+fn read_on(alloc: Global, rest: Listed<u8>, piece: &[u8]) -> Result<(InboxState, Fed), AllocError>
     ensures held { IfOk result (λ x. x.0 ≡ holding (rest ++ piece.now)) }
     ensures fed { IfOk result (λ x. ((pdus_in (rest ++ piece.now)).list ≡ x.1.pdus)
         × ((pdus_in (rest ++ piece.now)).fault ≡ x.1.fault)) }
@@ -154,10 +155,10 @@ fn read_on(alloc: Global, rest: Listed<u8>, piece: &[u8]) -> Result<(Held, Fed),
     let count = octets.len() - left.len();
     let pdus = Listed::from_inner(pdus);
     let held = match fault {
-        Some(fault) => Held::Stopped(fault),
+        Some(fault) => InboxState::Stopped(fault),
         None => {
             cut_front(&mut octets, count);
-            Held::Reading(Listed::from_inner(octets))
+            InboxState::Reading(Listed::from_inner(octets))
         }
     };
     Ok((held, Fed { pdus, fault }))

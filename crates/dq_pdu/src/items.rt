@@ -1,8 +1,9 @@
 //! Items and sub-items, as they are read (PS3.8 section 9.3.2).
-ghost use Rattle.std.specs.Prelude.{◌≡◌, map, length, option_map, IfOk, Some};
+ghost use Rattle.std.specs.Prelude.{◌≡◌, ℕ, List, Option, map, length, option_map, IfOk, Some};
 ghost use Rattle.dq_pdu.specs.Octets.{parts_of, bodies, at_most_one, exactly_one, unpadded};
 ghost use Rattle.dq_list.specs.Readers.{Gives};
 ghost use Rattle.dq_pdu.specs.Reading.{Fails, item_at};
+ghost use Rattle.dq_pdu.specs.Shrinking.{Shrinks, item_shrinks};
 
 use crate::numbers::ITEM_HEADER;
 use crate::reading::{Item, ReadError};
@@ -10,39 +11,53 @@ use crate::rules::is_padding;
 use dq_list::Listed;
 use std::alloc::{AllocError, Global};
 
-/// The item at the front, and the octets after it.
-#[tactic(auto, unfolding(crate::specs::Reading::item_at))]
-fn item_at(alloc: Global, octets: &[u8]) -> Result<(Item, &[u8]), ReadError>
-    ensures { Gives Fails (λ x. (x.0, x.1.now)) result (item_at octets.now) }
-{
-    if octets.len() < ITEM_HEADER {
-        return Err(ReadError::Malformed);
-    }
-    let (header, rest) = octets.split_at(ITEM_HEADER);
-    let size = u16::from_be_bytes([header[2], header[3]]) as usize;
-    if rest.len() < size {
-        return Err(ReadError::Malformed);
-    }
-    let (body, rest) = rest.split_at(size);
-    let item = Item {
-        kind: header[0],
-        octets: Listed::from_inner(Vec::from_slice(alloc, body)?),
-    };
-    Ok((item, rest))
+/// A part of a body that stands in a row of its kind, as it is read.
+pub(crate) trait ReadPart: Drop {
+    ghost part_at: { List ℕ → Option (Self × List ℕ) };
+
+    /// The part at the front, and the octets after it.
+    fn read(alloc: Global, octets: &[u8]) -> Result<(Self, &[u8]), ReadError>
+        ensures { Gives Fails (λ x. (x.0, x.1.now)) result (part_at octets.now) };
+
+    ghost shrinks: { Shrinks part_at };
 }
 
-/// The items that fill the octets.
-pub(crate) fn items_of(alloc: Global, octets: &[u8]) -> Result<Vec<Item>, ReadError>
-    ensures { Gives Fails (λ v. v.items) result (parts_of item_at octets.now) }
+impl ReadPart for Item {
+    ghost part_at = { item_at };
+
+    ghost shrinks = { item_shrinks };
+
+    #[tactic(auto, unfolding(crate::specs::Reading::item_at))]
+    fn read(alloc: Global, octets: &[u8]) -> Result<(Item, &[u8]), ReadError> {
+        if octets.len() < ITEM_HEADER {
+            return Err(ReadError::Malformed);
+        }
+        let (header, rest) = octets.split_at(ITEM_HEADER);
+        let size = u16::from_be_bytes([header[2], header[3]]) as usize;
+        if rest.len() < size {
+            return Err(ReadError::Malformed);
+        }
+        let (body, rest) = rest.split_at(size);
+        let item = Item {
+            kind: header[0],
+            octets: Listed::from_inner(Vec::from_slice(alloc, body)?),
+        };
+        Ok((item, rest))
+    }
+}
+
+/// The parts that fill the octets.
+pub(crate) fn parts_of<P: ReadPart>(alloc: Global, octets: &[u8]) -> Result<Vec<P>, ReadError>
+    ensures { Gives Fails (λ v. v.items) result (parts_of P.part_at octets.now) }
 {
-    let mut items = Vec::new(alloc);
+    let mut parts = Vec::new(alloc);
     let mut rest = octets;
     while !rest.is_empty() {
-        let (item, behind) = item_at(alloc, rest)?;
-        items.push(item)?;
+        let (part, behind) = P::read(alloc, rest)?;
+        parts.push(part)?;
         rest = behind;
     }
-    Ok(items)
+    Ok(parts)
 }
 
 /// The body of the only item of a type, if there is one.

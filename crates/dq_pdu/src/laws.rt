@@ -2,8 +2,8 @@
 ghost use Rattle.std.specs.Prelude.{◌≡◌, ◌≤◌, ◌<◌, ◌+◌, ℕ, Bool, List, [], ◌++◌, length, take, Some, None, IsTrue};
 ghost use Rattle.std.specs.List.{flat_map, list_all};
 ghost use Rattle.dq_pdu.specs.declared.fault.PduFault.{PduFault};
-ghost use Rattle.dq_pdu.specs.declared.inbox.Held.{Held};
-ghost use Rattle.dq_pdu.specs.declared.inbox.Held.TheVariants.{Spent};
+ghost use Rattle.dq_pdu.specs.declared.inbox.InboxState.{InboxState};
+ghost use Rattle.dq_pdu.specs.declared.inbox.InboxState.TheVariants.{Spent};
 ghost use Rattle.dq_pdu.specs.declared.pdu.Pdu.{Pdu};
 ghost use Rattle.dq_pdu.specs.declared.pdu.Pdu.TheVariants.{Request as request_pdu, Accept as accept_pdu};
 ghost use Rattle.dq_pdu.specs.declared.pdu.Request.{Request};
@@ -97,10 +97,10 @@ pub fn a_longer_stream_adds()
 /// An inbox stands for the stream that it was fed, whatever its pieces were: it is the only one
 /// that does, it is not spent, and it has the fault of the stream.
 pub fn an_inbox_stands_for_its_stream()
-    ensures only { (stream : List ℕ) (inbox other : Held)
+    ensures only { (stream : List ℕ) (inbox other : InboxState)
         → InboxAfter stream inbox → InboxAfter stream other → inbox ≡ other }
     ensures not_spent { (stream : List ℕ) → InboxAfter stream Spent → ⊥ }
-    ensures fault { (stream : List ℕ) (inbox : Held)
+    ensures fault { (stream : List ℕ) (inbox : InboxState)
         → InboxAfter stream inbox → fault_in inbox ≡ (pdus_in stream).fault }
 {}
 
@@ -109,7 +109,7 @@ pub fn an_inbox_stands_for_its_stream()
 pub fn a_rest_is_less_than_a_pdu()
     ensures rest { (stream : List ℕ) → (pdus_in stream).fault ≡ None
         → length (pdus_in stream).rest < pdu_header + longest_body }
-    ensures held { (stream : List ℕ) (inbox : Held) → InboxAfter stream inbox
+    ensures held { (stream : List ℕ) (inbox : InboxState) → InboxAfter stream inbox
         → length (octets_in inbox) < pdu_header + longest_body }
 {}
 

@@ -1,3 +1,4 @@
+//! The PDUs and their parts (PS3.8 section 9.3).
 use crate::numbers::{RESERVED_LENGTH, TITLE_LENGTH};
 use dq_list::Listed;
 

@@ -1,3 +1,4 @@
+//! What octets begin with (PS3.8 section 9.3.1), and why a body cannot be read.
 ghost use Rattle.std.specs.Prelude.{◌≡◌, IfOk};
 ghost use Rattle.dq_pdu.specs.declared.reading.ReadError.TheVariants.{Memory};
 ghost use Rattle.dq_pdu.specs.Reading.{front};

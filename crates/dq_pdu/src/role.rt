@@ -1,3 +1,4 @@
+//! What PDUs are to an association (PS3.8 section 9.2).
 ghost use Rattle.std.specs.Prelude.{◌≡◌};
 ghost use Rattle.dq_pdu.specs.Roles.{role_of};
 

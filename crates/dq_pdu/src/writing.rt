@@ -1,3 +1,4 @@
+//! PDUs as they are written (PS3.8 section 9.3).
 ghost use Rattle.std.specs.Prelude.{◌≡◌, ◌≤◌, ◌+◌, ◌^◌, ◌<◌, ◌++◌, ◌∷◌, ℕ, List, length, Some, IsTrue, ◌↔◌, IfOk, OnOk};
 ghost use Rattle.std.specs.Int.{w32, to_be_bytes};
 ghost use Rattle.dq_pdu.specs.Numbers.{longest_body, pdv_header};
@@ -29,10 +30,9 @@ fn size_of_request(request: &Request) -> usize
     ensures widths { let r = request.now in
         AreWide r.version r.called r.calling r.reserved r.maximum_length }
 {
-    // Read, so that the clause knows its width.
-    let _version = request.version;
+    let version = request.version.to_be_bytes().len() + 2;
     let titles = request.called.len() + request.calling.len();
-    let fixed = 4 + titles + request.reserved.len();
+    let fixed = version + titles + request.reserved.len();
     let name = size_of_name(&request.application_context);
     let contexts = size_of_parts(request.contexts.as_slice());
     let information = match request.maximum_length {
@@ -49,10 +49,9 @@ fn size_of_accept(accept: &Accept) -> usize
     ensures widths { let a = accept.now in
         AreWide a.version a.called a.calling a.reserved a.maximum_length }
 {
-    // Read, so that the clause knows its width.
-    let _version = accept.version;
+    let version = accept.version.to_be_bytes().len() + 2;
     let titles = accept.called.len() + accept.calling.len();
-    let fixed = 4 + titles + accept.reserved.len();
+    let fixed = version + titles + accept.reserved.len();
     let name = size_of_name(&accept.application_context);
     let contexts = size_of_parts(accept.contexts.as_slice());
     let information = match accept.maximum_length {

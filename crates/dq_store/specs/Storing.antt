@@ -15,7 +15,7 @@ use Rattle.dq_dataset.specs.Reading.{reading}
 use Rattle.dq_dataset.specs.Canonical.{canonical}
 use Rattle.dq_dataset.specs.Editing.{cut_out}
 use Rattle.dq_dataset.specs.Same.{has_element}
-use Rattle.dq_dataset.specs.Sieve.{is_large}
+use Rattle.dq_dataset.specs.Sieve.{is_over_limit}
 use Rattle.dq_dimse.specs.Attributes.{kept_attributes}
 use Rattle.dq_dimse.specs.declared.command.Command.{Command}
 use Rattle.dq_dimse.specs.Received.{Message}
@@ -65,7 +65,7 @@ data_set_limit = 0xFFFFFFFF
 
 -- The canonical Explicit spelling of the elements kept of the data set is over the limit of a sieve.
 abbrev pub keeps_too_much : ElementList → Bool
-keeps_too_much d = is_large (cut_out kept_attributes d)
+keeps_too_much d = is_over_limit (cut_out kept_attributes d)
 
 -- ---- what is kept already
 

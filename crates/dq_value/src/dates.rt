@@ -1,3 +1,4 @@
+//! Dates (PS3.5 section 6.2).
 ghost use Rattle.std.specs.Prelude.{◌≡◌, ℕ, List, Some, option_map};
 ghost use Rattle.jiff.specs.Words.{epoch_day};
 ghost use Rattle.dq_value.specs.Day.{Ymd, SpellsDate, ymd_of, date_in, day};

@@ -1,3 +1,4 @@
+//! Numbers in decimal digits.
 ghost use Rattle.std.specs.Prelude.{◌≡◌, ◌<◌, ◌^◌, ◌*◌, length, IfSome, Some, ℕ, List};
 ghost use Rattle.dq_value.specs.Digits.{number, number_after, digits};
 

@@ -1,3 +1,4 @@
+//! Padding at the ends of values (PS3.5 section 6.2).
 ghost use Rattle.std.specs.Prelude.{◌≡◌, ℕ, List};
 ghost use Rattle.dq_vr.specs.declared.Vr.{Vr};
 ghost use Rattle.dq_value.specs.Trimming.{is_padded, ignores_leading_spaces, is_space, is_padding, without_leading, without_trailing, unpadded, trimmed, IsTrimming};

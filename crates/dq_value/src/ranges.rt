@@ -1,3 +1,4 @@
+//! Ranges of values (PS3.4 section C.2.2.2.5).
 ghost use Rattle.std.specs.Prelude.{◌≡◌, ◌==◌, ℕ, List, Some, option_map, position};
 ghost use Rattle.std.specs.List.{list_any};
 ghost use Rattle.std.specs.Option.{option_copied};

@@ -1,3 +1,4 @@
+//! Times of the day (PS3.5 section 6.2).
 ghost use Rattle.std.specs.Prelude.{◌≡◌, ℕ, List, ◌<◌, ◌≤◌, ◌+◌, ◌^◌, length, IfSome, Some};
 ghost use Rattle.dq_value.specs.Time.{Span, SpellsTime, span, span_from, field, hour_start, minute_start, second_start, hour_span, minute_span, second_span, fraction_span};
 

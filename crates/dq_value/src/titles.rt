@@ -1,3 +1,4 @@
+//! AE titles (PS3.5 section 6.2).
 ghost use Rattle.std.specs.Prelude.{◌≡◌, ℕ, List};
 ghost use Rattle.dq_value.specs.Title.{IsStripped, stripped};
 

@@ -1,3 +1,4 @@
+//! Unique identifiers (PS3.5 section 9.1).
 ghost use Rattle.std.specs.Prelude.{◌≡◌};
 ghost use Rattle.std.specs.List.{list_all};
 ghost use Rattle.dq_value.specs.Uid.{is_uid, is_uid_octet};

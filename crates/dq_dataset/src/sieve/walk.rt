@@ -252,13 +252,20 @@ impl Walk {
         (self.settled(), count)
     }
 
+    /// How many octets of the outermost defined length are left behind those that came of a header.
+    fn left_behind(&self) -> usize
+        ensures { result ≡ self.now.left - length self.now.front.items }
+    {
+        self.left.saturating_sub(self.front.len())
+    }
+
     /// Waits for more of a header, which is missing where nothing is left for it.
     fn waiting(self) -> Walked
         requires come { HasCome self }
         requires part { IsPart self.place self.front.items }
         ensures { LeadsOn self [] result }
     {
-        let left = self.left.saturating_sub(self.front.len());
+        let left = self.left_behind();
         if self.place.reach().is_full(left) {
             return Walked::Failed(ReadFault::Truncated, 0);
         }
@@ -271,7 +278,7 @@ impl Walk {
         requires ends { HasEnd self.place self.front.items }
         ensures { LeadsOn self [] result }
     {
-        self.left = self.left.saturating_sub(self.front.len());
+        self.left = self.left_behind();
         self.front.clear();
         match self.around.pop() {
             Some(place) => {
@@ -303,7 +310,7 @@ impl Walk {
         requires place { self.place ≡ Place.InItems syntax levels reach }
         ensures { IfOk result (λ walked. LeadsOn self [] walked) }
     {
-        let left = self.left.saturating_sub(self.front.len());
+        let left = self.left_behind();
         match item_met(reach.bound(), &self.front) {
             Met::Part => Ok(self.waiting()),
             Met::End => Ok(self.ended()),
@@ -330,7 +337,7 @@ impl Walk {
         requires place { self.place ≡ Place.InElements syntax levels last reach }
         ensures { IfOk result (λ walked. LeadsOn self [] walked) }
     {
-        let left = self.left.saturating_sub(self.front.len());
+        let left = self.left_behind();
         match element_met(syntax, levels, last, reach.bound(), &self.front) {
             Met::Part => Ok(self.waiting()),
             Met::End => Ok(self.ended()),

@@ -72,4 +72,4 @@ item_of-from_elements-requires t c =
     c.in_ok-elements.elements.items c.in_ok-elements.rest.now
     c.requires c.in_ok-length.ensures.whole
     (item_takes c.args.octets.now c.in_ok-length.length c.in_ok-length.rest.now (λ i. omega (arith, c.type_inv.octets i))
-    c.in_ok-length.ensures.value).takes.rest_fits c.in_ok-elements.ensures.value
+    c.in_ok-length.ensures.value).0.takes.rest_fits c.in_ok-elements.ensures.value

@@ -19,15 +19,15 @@ returns-then-not-is_listed c =
     goes_past c.args.tags.now c.args.outer c.args.front h.tag h.content c.requires.placed c.requires.header c.requires.nests c.of_value-walked.result
     c.of_value-walked.ensures.leads listed c.past.result (c.past.ensures.sound next) c.past.ensures.sifts
 
-pub returns-then-passes_limit : goal.returns-then-passes_limit
-returns-then-passes_limit c =
+pub returns-then-is_discarded : goal.returns-then-is_discarded
+returns-then-is_discarded c =
     let h = c.args.header in
     let outer = c.args.outer in
     let next : Outer = record { syntax = outer.syntax; last = Some h.tag; large = true; kept = c.new.result; other = outer.other } in
     let listed : tag_is_listed c.args.tags.now h.tag ≡ true = (let e = c.if-not-is_listed.false in let l = c.is_listed.ensures in cc) in
     goes_over c.args.tags.now c.args.outer c.args.front h.tag h.content c.requires.placed c.requires.header c.requires.nests c.of_value-walked.result
-    c.of_value-walked.ensures.leads listed (sym c.passes_limit.ensures ∙ c.if-passes_limit.true) next refl refl refl c.new.ensures.items
-    c.past-then-passes_limit.result (c.past-then-passes_limit.ensures.sound next) c.past-then-passes_limit.ensures.sifts
+    c.of_value-walked.ensures.leads listed (sym c.is_discarded.ensures ∙ c.if-is_discarded.true) next refl refl refl c.new.ensures.items
+    c.past-then-is_discarded.result (c.past-then-is_discarded.ensures.sound next) c.past-then-is_discarded.ensures.sifts
 
 pub returns : goal.returns
 returns c =

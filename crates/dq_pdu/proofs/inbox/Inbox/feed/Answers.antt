@@ -3,7 +3,7 @@ use Rattle.std.proofs.lemmas.List.{append-nil}
 use Rattle.std.proofs.lemmas.Bool.{eqb-true}
 use Rattle.dq_pdu.specs.Stream.{Pdus, pdus_in}
 use Rattle.dq_pdu.specs.Inboxes.{octets_in}
-use Rattle.dq_pdu.specs.declared.inbox.Held.TheVariants.{Reading}
+use Rattle.dq_pdu.specs.declared.inbox.InboxState.TheVariants.{Reading}
 use Rattle.dq_pdu.specs.Holding.{held_at, HoldsPart}
 use Rattle.dq_pdu.proofs.InboxLaws.{reading_on, stopped_on, holding-part, idle_exact, none_by_length, reading_is, part_is_short, held_is_short}
 use Rattle.dq_pdu.proofs.inbox.Inbox.feed.Goals as goal

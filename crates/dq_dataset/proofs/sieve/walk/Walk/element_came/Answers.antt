@@ -1,4 +1,4 @@
-use Rattle.std.proofs.Common.{◌≡◌, ℕ, ◌-◌, length, sym, subst, ap, ◌∙◌, arith}
+use Rattle.std.proofs.Common.{sym, subst}
 use Rattle.dq_dataset.specs.declared.sieve.walk.Place.{Place}
 use Rattle.dq_dataset.specs.Sifting.{IsPart}
 use Rattle.dq_dataset.proofs.WalkHeaders.{whole_header, element_ends_here, element_fails, element_too_long, element_nested, element_leads}
@@ -16,62 +16,43 @@ ended-requires-clause-ends c =
 
 pub returns-in-Bad : goal.returns-in-Bad
 returns-in-Bad c =
-    let w = c.args.self in
     let met = rw (c.deref.ensures.value, c.bound.ensures) at c.in-Bad.ensures.met in
     let ok = rw c.deref.ensures.value at c.in-Bad.ensures.octets in
-    let count : c.len.result ≡ length w.front.items = omega (arith, c.len.ensures, w.front.ok.0) in
-    let missing = c.saturating_sub-left.ensures ∙ ap (λ (n : ℕ). w.left - n) count in
-    element_fails w c.args.syntax c.args.levels c.args.last c.args.reach c.requires.come c.requires.place ok c.in-Bad.fault c.saturating_sub-left.result
-    missing met.0 met.1 met.2
+    element_fails c.args.self c.args.syntax c.args.levels c.args.last c.args.reach c.requires.come c.requires.place ok c.in-Bad.fault c.left_behind-left.result
+    c.left_behind-left.ensures met.0 met.1 met.2
 
 pub of_value-requires : goal.of_value-requires
 of_value-requires c =
-    let w = c.args.self in
     let come = c.requires.come in
     let met = rw c.deref.ensures.value at c.in-Whole.ensures.met in
     let ok = rw c.deref.ensures.value at c.in-Whole.ensures.octets in
     let part = rw c.requires.place at come.part in
-    (whole_header c.args.syntax c.args.levels c.args.last come.before come.octet w.front.items c.in-Whole.field-0 met.0 come.is part ok met.1).nests
+    (whole_header c.args.syntax c.args.levels c.args.last come.before come.octet c.args.self.front.items c.in-Whole.field-0 met.0 come.is part ok met.1).nests
 
 pub entered-requires-clause-nested : goal.entered-requires-clause-nested
 entered-requires-clause-nested c =
-    let w = c.args.self in
-    let come = c.requires.come in
     let met = rw c.deref.ensures.value at c.in-Whole.ensures.met in
     let ok = rw c.deref.ensures.value at c.in-Whole.ensures.octets in
-    let part = rw c.requires.place at come.part in
-    let whole = whole_header c.args.syntax c.args.levels c.args.last come.before come.octet w.front.items c.in-Whole.field-0 met.0 come.is part ok met.1 in
-    let count : c.len.result ≡ length w.front.items = omega (arith, c.len.ensures, w.front.ok.0) in
-    let after = c.saturating_sub-left.ensures ∙ ap (λ (n : ℕ). w.left - n) count in
     let opened = rw c.length_of.ensures at c.in-Some.ensures.some in
     rw c.of_value.ensures
-    (element_nested w c.args.syntax c.args.levels c.args.last c.args.reach come c.requires.place c.in-Whole.field-0 whole c.saturating_sub-left.result after
+    (element_nested c.args.self c.args.syntax c.args.levels c.args.last c.args.reach c.requires.come c.requires.place ok c.in-Whole.field-0 met.0 met.1
+    c.left_behind-left.result c.left_behind-left.ensures
     opened.2 c.in-Some.inner c.in-Some.left opened.0 opened.1)
 
 pub entered-requires-clause-leads : goal.entered-requires-clause-leads
 entered-requires-clause-leads c =
-    let w = c.args.self in
-    let come = c.requires.come in
     let met = rw c.deref.ensures.value at c.in-Whole.ensures.met in
     let ok = rw c.deref.ensures.value at c.in-Whole.ensures.octets in
-    let part = rw c.requires.place at come.part in
-    let whole = whole_header c.args.syntax c.args.levels c.args.last come.before come.octet w.front.items c.in-Whole.field-0 met.0 come.is part ok met.1 in
-    let count : c.len.result ≡ length w.front.items = omega (arith, c.len.ensures, w.front.ok.0) in
-    let after = c.saturating_sub-left.ensures ∙ ap (λ (n : ℕ). w.left - n) count in
     let opened = rw c.length_of.ensures at c.in-Some.ensures.some in
     rw c.of_value.ensures
-    (element_leads w c.args.syntax c.args.levels c.args.last c.args.reach come c.requires.place c.in-Whole.field-0 whole c.saturating_sub-left.result after
+    (element_leads c.args.self c.args.syntax c.args.levels c.args.last c.args.reach c.requires.come c.requires.place ok c.in-Whole.field-0 met.0 met.1
+    c.left_behind-left.result c.left_behind-left.ensures
     opened.2 c.in-Some.inner c.in-Some.left opened.0 opened.1)
 
 pub returns-in-None : goal.returns-in-None
 returns-in-None c =
-    let w = c.args.self in
-    let come = c.requires.come in
     let met = rw c.deref.ensures.value at c.in-Whole.ensures.met in
     let ok = rw c.deref.ensures.value at c.in-Whole.ensures.octets in
-    let part = rw c.requires.place at come.part in
-    let whole = whole_header c.args.syntax c.args.levels c.args.last come.before come.octet w.front.items c.in-Whole.field-0 met.0 come.is part ok met.1 in
-    let count : c.len.result ≡ length w.front.items = omega (arith, c.len.ensures, w.front.ok.0) in
-    let after = c.saturating_sub-left.ensures ∙ ap (λ (n : ℕ). w.left - n) count in
-    element_too_long w c.args.syntax c.args.levels c.args.last c.args.reach come c.requires.place c.in-Whole.field-0 whole c.saturating_sub-left.result after
+    element_too_long c.args.self c.args.syntax c.args.levels c.args.last c.args.reach c.requires.come c.requires.place ok c.in-Whole.field-0 met.0 met.1
+    c.left_behind-left.result c.left_behind-left.ensures
     (rw c.length_of.ensures at c.in-None.ensures.none)

@@ -1,4 +1,4 @@
-use Rattle.std.proofs.Common.{◌≡◌, ℕ, ◌-◌, length, sym, subst, ap, ◌∙◌, arith}
+use Rattle.std.proofs.Common.{sym, subst}
 use Rattle.dq_dataset.specs.declared.sieve.walk.Place.{Place}
 use Rattle.dq_dataset.specs.Sifting.{IsPart}
 use Rattle.dq_dataset.proofs.WalkHeaders.{item_ends, item_fails, item_too_long, item_nested, item_leads}
@@ -16,42 +16,30 @@ ended-requires-clause-ends c =
 
 pub returns-in-Bad : goal.returns-in-Bad
 returns-in-Bad c =
-    let w = c.args.self in
     let met = rw (c.deref.ensures.value, c.bound.ensures) at c.in-Bad.ensures.met in
     let ok = rw c.deref.ensures.value at c.in-Bad.ensures.octets in
-    let count : c.len.result ≡ length w.front.items = omega (arith, c.len.ensures, w.front.ok.0) in
-    let missing = c.saturating_sub-left.ensures ∙ ap (λ (n : ℕ). w.left - n) count in
-    item_fails w c.args.syntax c.args.levels c.args.reach c.requires.come c.requires.place ok c.in-Bad.fault c.saturating_sub-left.result missing
+    item_fails c.args.self c.args.syntax c.args.levels c.args.reach c.requires.come c.requires.place ok c.in-Bad.fault c.left_behind-left.result c.left_behind-left.ensures
     met.0 met.1 met.2
 
 pub entered-requires-clause-nested : goal.entered-requires-clause-nested
 entered-requires-clause-nested c =
-    let w = c.args.self in
     let met = rw c.deref.ensures.value at c.in-Whole.ensures.met in
     let ok = rw c.deref.ensures.value at c.in-Whole.ensures.octets in
-    let count : c.len.result ≡ length w.front.items = omega (arith, c.len.ensures, w.front.ok.0) in
-    let after = c.saturating_sub-left.ensures ∙ ap (λ (n : ℕ). w.left - n) count in
     let opened = c.in-Some.ensures.some in
-    item_nested w c.args.syntax c.args.levels c.args.reach c.requires.come c.requires.place ok c.in-Whole.extent met.0 c.saturating_sub-left.result met.1
-    after opened.2 c.in-Some.inner c.in-Some.left opened.0 opened.1
+    item_nested c.args.self c.args.syntax c.args.levels c.args.reach c.requires.come c.requires.place ok c.in-Whole.extent met.0 c.left_behind-left.result met.1
+    c.left_behind-left.ensures opened.2 c.in-Some.inner c.in-Some.left opened.0 opened.1
 
 pub entered-requires-clause-leads : goal.entered-requires-clause-leads
 entered-requires-clause-leads c =
-    let w = c.args.self in
     let met = rw c.deref.ensures.value at c.in-Whole.ensures.met in
     let ok = rw c.deref.ensures.value at c.in-Whole.ensures.octets in
-    let count : c.len.result ≡ length w.front.items = omega (arith, c.len.ensures, w.front.ok.0) in
-    let after = c.saturating_sub-left.ensures ∙ ap (λ (n : ℕ). w.left - n) count in
     let opened = c.in-Some.ensures.some in
-    item_leads w c.args.syntax c.args.levels c.args.reach c.requires.come c.requires.place ok c.in-Whole.extent met.0 c.saturating_sub-left.result met.1
-    after opened.2 c.in-Some.inner c.in-Some.left opened.0 opened.1
+    item_leads c.args.self c.args.syntax c.args.levels c.args.reach c.requires.come c.requires.place ok c.in-Whole.extent met.0 c.left_behind-left.result met.1
+    c.left_behind-left.ensures opened.2 c.in-Some.inner c.in-Some.left opened.0 opened.1
 
 pub returns-in-None : goal.returns-in-None
 returns-in-None c =
-    let w = c.args.self in
     let met = rw c.deref.ensures.value at c.in-Whole.ensures.met in
     let ok = rw c.deref.ensures.value at c.in-Whole.ensures.octets in
-    let count : c.len.result ≡ length w.front.items = omega (arith, c.len.ensures, w.front.ok.0) in
-    let after = c.saturating_sub-left.ensures ∙ ap (λ (n : ℕ). w.left - n) count in
-    item_too_long w c.args.syntax c.args.levels c.args.reach c.requires.come c.requires.place ok c.in-Whole.extent met.0 c.saturating_sub-left.result met.1
-    after c.in-None.ensures.none
+    item_too_long c.args.self c.args.syntax c.args.levels c.args.reach c.requires.come c.requires.place ok c.in-Whole.extent met.0 c.left_behind-left.result met.1
+    c.left_behind-left.ensures c.in-None.ensures.none

@@ -1,5 +1,5 @@
--- What a reader leaves is shorter than what it read.
-use Rattle.std.proofs.Common.{◌≡◌, ℕ, ◌-◌, ◌<◌, ◌≤◌, Bool, true, false, cond, ltb, List, length, take, drop, Some, None, refl, ap, arith, length-drop}
+-- A device of the proofs: what a reader of a part leaves is shorter than what it read.
+use Rattle.std.proofs.Common.{◌≡◌, ℕ, ◌-◌, ◌<◌, ◌≤◌, Bool, true, false, cond, ltb, List, length, take, drop, Option, Some, None, refl, ap, arith, length-drop}
 use Rattle.std.specs.Prelude.{◌||◌}
 use Rattle.std.specs.Int.{w16, w32, from_be_bytes}
 use Rattle.std.proofs.lemmas.Bool.{ltb-false, or_parts}
@@ -7,12 +7,16 @@ use Rattle.dq_pdu.specs.declared.reading.Item.{Item}
 use Rattle.dq_pdu.specs.declared.pdu.Pdv.{Pdv}
 use Rattle.dq_pdu.specs.Reading.{item_at, pdv_at}
 
+abbrev pub Shrinks : {A : Type 0} → (List ℕ → Option (A × List ℕ)) → Type 0
+Shrinks {A} part =
+    (octets : List ℕ) (x : A × List ℕ) → part octets ≡ Some x → length x.1 < length octets
+
 -- a test that did not fail
 pub guarded : {A : Type 0} (b : Bool) (x y : A) → cond b None (Some x) ≡ Some y → (b ≡ false) × (x ≡ y)
 guarded true x y e = absurd cc
 guarded false x y e = (refl, cc)
 
-pub item_shrinks : (octets : List ℕ) (x : Item × List ℕ) → item_at octets ≡ Some x → length x.1 < length octets
+pub item_shrinks : Shrinks item_at
 unfolding item_at
 item_shrinks octets x e =
     let size = from_be_bytes w16 (take 2 (drop 2 octets)) in
@@ -22,7 +26,7 @@ item_shrinks octets x e =
     let rest-is : drop size (drop 4 octets) ≡ x.1 = ap (λ (p : Item × List ℕ). p.1) g.1 in
     rw (← rest-is) (omega (arith, length-drop size (drop 4 octets), length-drop 4 octets))
 
-pub pdv_shrinks : (octets : List ℕ) (x : Pdv × List ℕ) → pdv_at octets ≡ Some x → length x.1 < length octets
+pub pdv_shrinks : Shrinks pdv_at
 unfolding pdv_at
 pdv_shrinks octets x e =
     let size = from_be_bytes w32 (take 4 octets) in
