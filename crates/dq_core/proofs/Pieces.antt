@@ -6,7 +6,7 @@ use Rattle.dq_pdu.specs.declared.pdu.Pdu.TheVariants.{Request as request_pdu}
 use Rattle.std.proofs.lemmas.Bool.{false≢true}
 use Rattle.dq_pdu.specs.declared.pdu.Pdu.{Pdu}
 use Rattle.dq_pdu.specs.declared.fault.PduFault.{PduFault}
-use Rattle.dq_pdu.specs.declared.inbox.Held.{Held as Inbox}
+use Rattle.dq_pdu.specs.declared.inbox.InboxState.{InboxState as Inbox}
 use Rattle.dq_pdu.specs.Inboxes.{InboxAfter}
 use Rattle.dq_pdu.specs.Stream.{pdus_in}
 use Rattle.dq_assoc.specs.declared.agreement.Agreement.{Agreement}

@@ -1,18 +1,19 @@
 -- A query that is held, and what of it was sent.
-use Rattle.std.proofs.Common.{◌≡◌, ℕ, ◌+◌, ◌≤◌, Some, List, [], ◌∷◌, ◌++◌, length, map, take, drop, refl, sym, ap, ◌∙◌, arith, append_assoc, length-append, append-nil}
+use Rattle.std.proofs.Common.{◌≡◌, ℕ, ◌+◌, ◌≤◌, true, false, List, [], ◌∷◌, ◌++◌, length, map, take, drop, refl, sym, ap, ◌∙◌, arith, append_assoc, length-append, append-nil}
 use Rattle.std.specs.List.{flat_map}
 use Rattle.std.proofs.lemmas.List.{flat_map_more, map-append, take-map, drop-map, take_all, drop_all}
 use Rattle.std.proofs.lemmas.Grind.{flat_map-append}
 use Rattle.std.proofs.Math.Seq.{take-append_seam, drop-append_seam}
 use Rattle.dq_dataset.specs.Tree.{ElementList}
 use Rattle.dq_dataset.specs.Canonical.{canonical}
+use Rattle.dq_dimse.specs.Sending.{cut}
 use Rattle.dq_assoc.specs.declared.agreement.AgreedContext.{AgreedContext}
 use Rattle.dq_match.specs.declared.responses.Found.{Found}
 use Rattle.dq_find.specs.Pages.{HasGiven}
 use Rattle.dq_core.specs.declared.pages.OpenQuery.{OpenQuery as HeldQuery}
-use Rattle.dq_core.specs.Services.{Response, response, pending_status, pending_response}
+use Rattle.dq_core.specs.Services.{Response, pending_status, pending_response}
 use Rattle.dq_core.specs.Pages.{OpenQuery, response_octets, octets_of, rest, without_first}
-use Rattle.dq_core.specs.Queries.{query_of}
+use Rattle.dq_core.specs.Queries.{query_of, command_octets}
 
 -- the pending responses that were left were sent, and the final one
 pub rest-sent : (query now : OpenQuery) (count : ℕ) (x0 x1 x2 : List ℕ) → count ≡ length query.left.pending
@@ -52,19 +53,17 @@ none-sent q x = record {
 }
 
 module _ {q now : HeldQuery} {count : ℕ} {x0 x1 : List ℕ} (has : HasSent q now count x0 x1) where
-  -- one more was sent
-  pub one-sent : (pages : Found) (answer : ElementList) (status : ℕ) (octets x2 : List ℕ) → HasGiven now.pages (answer ∷ []) pages
-      → status ≡ pending_status q.pages.optional → octets ≡ canonical now.context.syntax answer
-      → x2 ≡ x1 ++ response_octets now.context.id now.limit (response now.context.class now.command status (Some octets))
-      → HasSent q (record now { pages = pages }) (count + 1) x0 x2
-  one-sent pages answer status octets x2 next status_is octets_are added =
+  -- one more was sent: the octets before its data set, and then that
+  pub one-sent : (pages : Found) (answer : ElementList) (command x2 x3 : List ℕ) → HasGiven now.pages (answer ∷ []) pages
+      → command ≡ command_octets q.context q.limit q.command (pending_status q.pages.optional) true
+      → x2 ≡ x1 ++ command → x3 ≡ x2 ++ cut now.context.id false now.limit (canonical now.context.syntax answer)
+      → HasSent q (record now { pages = pages }) (count + 1) x0 x3
+  one-sent pages answer command x2 x3 next command_is begun added =
       let f = response_octets q.context.id q.limit in
-      let is_pending : response now.context.class now.command status (Some octets) ≡ pending_of q answer =
-      rw (octets_are, status_is, has.context, has.command) refl in
-      let sent : x2 ≡ x1 ++ f (pending_of q answer) =
-      added ∙ ap (λ (r : Response). x1 ++ response_octets now.context.id now.limit r) is_pending
-      ∙ ap (λ (k : AgreedContext). x1 ++ response_octets k.id now.limit (pending_of q answer)) has.context
-      ∙ ap (λ (n : ℕ). x1 ++ response_octets q.context.id n (pending_of q answer)) has.limit in
+      let octets : List ℕ = cut now.context.id false now.limit (canonical now.context.syntax answer) in
+      let both : command ++ octets ≡ f (pending_of q answer) = rw (command_is, has.context, has.limit) refl in
+      let sent : x3 ≡ x1 ++ f (pending_of q answer) =
+      added ∙ ap (λ (x : List ℕ). x ++ octets) begun ∙ append_assoc x1 command octets ∙ ap (λ (x : List ℕ). x1 ++ x) both in
       record {
         given = has.given ++ answer ∷ [];
         counted = length-append has.given (answer ∷ []) ∙ ap (λ n. n + 1) has.counted;
@@ -112,3 +111,7 @@ module _ {q now : HeldQuery} {count : ℕ} {x0 x1 : List ℕ} (has : HasSent q n
         octets-are n (sym all ∙ sym (take_all n q.pages.answers within)),
         left-is n (none ∙ sym (drop_all n q.pages.answers within)),
       )
+
+-- a response without a data set was sent
+pub final-sent : (x0 x1 command : List ℕ) → x1 ≡ x0 ++ command → x1 ≡ x0 ++ ((command ++ []) ++ [])
+final-sent x0 x1 command added = rw (append-nil (command ++ []), append-nil command) added

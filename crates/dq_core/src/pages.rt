@@ -1,15 +1,16 @@
 //! The responses to a message, a page at a time (PS3.4 sections C.4.1 and K.4.1).
-ghost use Rattle.std.specs.Prelude.{◌≡◌, ◌++◌, ◌∷◌, [], take, None, IfOk, OnOk, option_map};
+ghost use Rattle.std.specs.Prelude.{◌≡◌, ◌++◌, ◌∷◌, [], take, true, false, None, IfOk, OnOk};
 ghost use Rattle.dq_dataset.specs.Canonical.{canonical};
+ghost use Rattle.dq_dimse.specs.LentCommands.{said_by};
+ghost use Rattle.dq_dimse.specs.Sending.{cut};
 ghost use Rattle.dq_core.specs.Services.{is_of_instance, named_instance, response_command, response, pending_status, responses};
-ghost use Rattle.dq_core.specs.Pages.{response_octets, octets_of, rest, without_first, page, cancel_reaction};
-ghost use Rattle.dq_core.specs.Queries.{query_of, query_in};
+ghost use Rattle.dq_core.specs.Pages.{octets_of, rest, without_first, page, cancel_reaction};
+ghost use Rattle.dq_core.specs.Queries.{query_of, query_in, command_octets};
 
 use dq_assoc::{AgreedContext, Agreement, PeerLimit, SopClass};
 use dq_dataset::{DataSet, Syntax, can_be_written, write};
-use dq_dimse::{Command, command_field, status, write_message};
+use dq_dimse::{Command, LentCommand, append_command, append_data_set, command_field, status};
 use dq_find::Pages;
-use dq_list::Listed;
 use dq_match::Found;
 use std::alloc::{AllocError, Global};
 
@@ -37,34 +38,32 @@ fn is_of_instance(code: u16) -> bool
 }
 
 /// The instance that a response names: that of the command, or none.
-fn named_instance(alloc: Global, command: &Command, status: u16) -> Result<Listed<u8>, AllocError>
-    ensures { IfOk result (λ instance. instance ≡ named_instance command.now status) }
+fn named_instance(command: &Command, status: u16) -> &[u8]
+    ensures { result.now ≡ named_instance command.now status }
 {
     if status == status::UNRECOGNIZED_OPERATION || !is_of_instance(command.code) {
-        return Ok(Listed::empty(alloc));
+        return &[];
     }
-    Listed::copy_of(alloc, command.sop_instance.as_slice())
+    command.sop_instance.as_slice()
 }
 
 /// The command of a response of a context's class (PS3.7 section 9.3).
 fn response_command(
-    alloc: Global,
     class: SopClass,
     command: &Command,
     status: u16,
     with_data: bool,
-) -> Result<Command, AllocError>
-    ensures { IfOk result (λ response.
-        response ≡ response_command class command.now status with_data) }
+) -> LentCommand<'_>
+    ensures { said_by result ≡ response_command class command.now status with_data }
 {
-    Ok(Command {
+    LentCommand {
         code: command.code | command_field::RESPONSE_BIT,
         id: command.id,
-        sop_class: Listed::copy_of(alloc, class.uid())?,
-        sop_instance: named_instance(alloc, command, status)?,
+        sop_class: class.uid(),
+        sop_instance: named_instance(command, status),
         with_data,
         status,
-    })
+    }
 }
 
 /// The status of the responses before the last (PS3.4 section C.4.1.1.4).
@@ -99,17 +98,10 @@ struct Recipient<'a> {
 }
 
 impl Recipient<'_> {
-    /// Adds a response with a status, and with a data set where there is one.
-    fn respond(
-        self,
-        status: u16,
-        data_set: Option<&[u8]>,
-        out: &mut Vec<u8>,
-    ) -> Result<(), AllocError>
-        ensures { OnOk result (out.new.items ≡ out.old.items
-            ++ response_octets self.entry.context.id self.entry.limit
-            (response self.entry.context.class self.entry.command.now status
-            (option_map (λ o. o.now) data_set.entry))) }
+    /// Adds the command set of a response with a status.
+    fn put_command(self, status: u16, with_data: bool, out: &mut Vec<u8>) -> Result<(), AllocError>
+        ensures { OnOk result (out.new.items ≡ out.old.items ++ command_octets self.entry.context
+            self.entry.limit self.entry.command.now status with_data) }
     {
         let Recipient {
             alloc,
@@ -117,10 +109,24 @@ impl Recipient<'_> {
             command,
             limit,
         } = self;
-        let with_data = data_set.is_some();
-        let response = response_command(alloc, context.class, command, status, with_data)?;
-        let octets = write_message(alloc, context.id, &response, data_set, limit.octets())?;
-        out.extend_from_slice(octets.as_slice())?;
+        let response = response_command(context.class, command, status, with_data);
+        append_command(alloc, out, context.id, response, limit.octets())?;
+        Ok(())
+    }
+
+    /// Adds the data set of a response with an answer.
+    fn put_answer(self, answer: &DataSet, out: &mut Vec<u8>) -> Result<(), AllocError>
+        ensures { OnOk result (out.new.items ≡ out.old.items ++ cut self.entry.context.id false
+            self.entry.limit (canonical self.entry.context.syntax answer.now)) }
+    {
+        let Recipient {
+            alloc,
+            context,
+            command: _,
+            limit,
+        } = self;
+        let octets = answer_octets(alloc, answer, context.syntax)?;
+        append_data_set(out, context.id, &octets, limit.octets())?;
         Ok(())
     }
 }
@@ -171,14 +177,20 @@ impl OpenQuery {
         ensures left { OnOk result
             (query_of self.new ≡ without_first count (query_of self.old)) }
     {
+        if count == 0 {
+            return Ok(());
+        }
         let status = pending_status(self.pages.optional());
+        // The same before each answer.
+        let mut command = Vec::new(alloc);
+        self.recipient(alloc)
+            .put_command(status, true, &mut command)?;
         for _ in 0..count {
             let Some(answer) = self.pages.next() else {
                 return Ok(());
             };
-            let octets = answer_octets(alloc, &answer, self.context.syntax)?;
-            self.recipient(alloc)
-                .respond(status, Some(octets.as_slice()), out)?;
+            out.extend_from_slice(&command)?;
+            self.recipient(alloc).put_answer(&answer, out)?;
         }
         Ok(())
     }
@@ -189,7 +201,7 @@ impl OpenQuery {
             ++ octets_of (query_of self.now)
             (response self.now.context.class self.now.command status None ∷ [])) }
     {
-        self.recipient(alloc).respond(status, None, out)?;
+        self.recipient(alloc).put_command(status, false, out)?;
         Ok(())
     }
 

@@ -1,3 +1,4 @@
+//! Messages assembled from presentation data values (PS3.7 section 6.3.1, PS3.8 annex E).
 ghost use Rattle.std.specs.Prelude.{◌≡◌, ◌≤◌, ℕ, false, not, ◌&&◌, List, [], ◌∷◌, ◌++◌, length};
 ghost use Rattle.std.specs.Prelude.{Some, None, IfOk, OnOk, IfErr, OnErr};
 ghost use Rattle.dq_dimse.specs.Received.{Message as Received};

@@ -1,3 +1,4 @@
+//! The attributes that are kept of a stored object.
 use dq_vr::{Tag, tags};
 
 /// The attributes that are kept of what is stored, at any level of the Study Root model (PS3.4

@@ -1,3 +1,4 @@
+//! Messages, and the command sets that they begin with (PS3.7 section 6.3).
 ghost use Rattle.std.specs.Prelude.{◌≡◌};
 
 use dq_dataset::Sifted;
@@ -19,6 +20,35 @@ pub struct Command {
     pub with_data: bool,
     /// Status (0000,0900) of a response; 0 in what was read.
     pub status: u16,
+}
+
+/// A command whose identifiers are lent.
+#[derive(Clone, Copy)]
+pub struct LentCommand<'a> {
+    pub code: u16,
+    pub id: u16,
+    pub sop_class: &'a [u8],
+    pub sop_instance: &'a [u8],
+    pub with_data: bool,
+    pub status: u16,
+}
+
+impl Command {
+    ghost use Rattle.dq_dimse.specs.LentCommands.{said_by};
+
+    /// It, without copies.
+    pub(crate) fn lent(&self) -> LentCommand<'_>
+        ensures { said_by result ≡ self.now }
+    {
+        LentCommand {
+            code: self.code,
+            id: self.id,
+            sop_class: self.sop_class.as_slice(),
+            sop_instance: self.sop_instance.as_slice(),
+            with_data: self.with_data,
+            status: self.status,
+        }
+    }
 }
 
 /// The data set of a message.

@@ -1,3 +1,4 @@
+//! Why presentation data values are no messages.
 ghost use Rattle.std.specs.Prelude.{◌≡◌};
 ghost use Rattle.dq_dimse.specs.declared.fault.DimseFault.TheVariants.{NoMemory};
 ghost use Rattle.dq_dimse.specs.Reading.{fault_of};

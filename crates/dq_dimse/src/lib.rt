@@ -16,6 +16,6 @@ pub mod status;
 
 pub use assembler::{Accepted, Assembler};
 pub use attributes::KEPT_ATTRIBUTES;
-pub use command::{Body, Command, Message};
+pub use command::{Body, Command, LentCommand, Message};
 pub use fault::DimseFault;
-pub use sending::write_message;
+pub use sending::{append_command, append_data_set, write_message};

@@ -1,13 +1,15 @@
 //! Messages as they are sent (PS3.7 section 6.3.1 and annex E, PS3.8 annex E).
-ghost use Rattle.std.specs.Prelude.{◌≡◌, ℕ, ◌+◌, ◌<◌, ◌≤◌, ◌++◌, ◌⊎◌, ◌↔◌, length, IsTrue, IsSome};
+ghost use Rattle.std.specs.Prelude.{◌≡◌, ℕ, ◌+◌, ◌-◌, ◌<◌, ◌≤◌, ◌∷◌, ◌++◌, ◌⊎◌, ◌↔◌, length, IsTrue, IsSome, true, false, take, drop, vec_len};
 ghost use Rattle.std.specs.Prelude.{IfOk, OnOk, option_map};
+ghost use Rattle.std.specs.Int.{w16, w32, to_le_bytes};
+ghost use Rattle.dq_dimse.specs.LentCommands.{said_by};
 ghost use Rattle.dq_dimse.specs.Sending.{padded, element, short_element, instance_element};
 ghost use Rattle.dq_pdu.specs.Numbers.{pdv_header};
 ghost use Rattle.dq_dimse.specs.Sending.{command_elements, command_set, fragment_size};
 ghost use Rattle.dq_dimse.specs.Sending.{IsLimit, own_limit};
 ghost use Rattle.dq_dimse.specs.Sending.{cut_within, cut, data_cut, sent};
 
-use crate::command::Command;
+use crate::command::{Command, LentCommand};
 use crate::numbers;
 use dq_pdu::{PDV_HEADER, append_p_data};
 use std::alloc::{AllocError, Global};
@@ -15,16 +17,31 @@ use std::alloc::{AllocError, Global};
 /// The longest body of a PDU that is sent.
 const PDU_LIMIT: usize = 16_384;
 
+/// The octets before the elements that a group length counts, and where its value stands among them.
+const COUNTED_FROM: usize = 12;
+
+const GROUP_LENGTH_VALUE: usize = 8;
+
+/// The most octets of a command set whose identifiers have at most 64 (PS3.5 section 9.1).
+const USUAL_LENGTH: usize = 196;
+
+/// Writes the number of an element of group 0000, and the length of its value.
+fn put_header(out: &mut Vec<u8>, number: u16, length: usize) -> Result<(), AllocError>
+    ensures { OnOk result (out.new.items ≡ out.old.items
+        ++ 0 ∷ 0 ∷ (to_le_bytes w16 number ++ to_le_bytes w32 length)) }
+{
+    let length = length.to_le_bytes();
+    out.extend_from_slice(&[0, 0])?;
+    out.extend_from_slice(&number.to_le_bytes())?;
+    out.extend_from_slice(&length[..4])
+}
+
 /// Writes an element of group 0000.
 fn put_element(out: &mut Vec<u8>, number: u16, value: &[u8]) -> Result<(), AllocError>
     ensures { OnOk result (out.new.items ≡ out.old.items ++ element number value.now) }
 {
-    let length = value.len().to_le_bytes();
-    out.extend_from_slice(&[0, 0])?;
-    out.extend_from_slice(&number.to_le_bytes())?;
-    out.extend_from_slice(&length[..4])?;
-    out.extend_from_slice(value)?;
-    Ok(())
+    put_header(out, number, value.len())?;
+    out.extend_from_slice(value)
 }
 
 /// Writes an element whose value is a number of two octets.
@@ -34,57 +51,65 @@ fn put_short(out: &mut Vec<u8>, number: u16, value: u16) -> Result<(), AllocErro
     put_element(out, number, &value.to_le_bytes())
 }
 
-/// The octets, with a zero octet after an odd number of them.
-fn padded(alloc: Global, octets: &[u8]) -> Result<Vec<u8>, AllocError>
-    ensures { IfOk result (λ written. written.items ≡ padded octets.now) }
+/// Writes an element whose value is an identifier, with a zero octet after an odd number of them.
+fn put_identifier(out: &mut Vec<u8>, number: u16, value: &[u8]) -> Result<(), AllocError>
+    ensures { OnOk result (out.new.items ≡ out.old.items ++ element number (padded value.now)) }
 {
-    let mut written = Vec::from_slice(alloc, octets)?;
-    if octets.len() % 2 == 1 {
-        written.push(0)?;
+    if value.len() % 2 == 0 {
+        return put_element(out, number, value);
     }
-    Ok(written)
+    put_header(out, number, value.len() + 1)?;
+    out.extend_from_slice(value)?;
+    out.push(0)?;
+    Ok(())
 }
 
 /// Writes the instance, where there is one.
-fn put_instance(alloc: Global, out: &mut Vec<u8>, instance: &[u8]) -> Result<(), AllocError>
+fn put_instance(out: &mut Vec<u8>, instance: &[u8]) -> Result<(), AllocError>
     ensures { OnOk result (out.new.items ≡ out.old.items ++ instance_element instance.now) }
 {
     if instance.is_empty() {
         return Ok(());
     }
-    let value = padded(alloc, instance)?;
-    put_element(out, numbers::AFFECTED_SOP_INSTANCE_UID, &value)
+    put_identifier(out, numbers::AFFECTED_SOP_INSTANCE_UID, instance)
 }
 
-/// The elements of a response after its group length.
-fn command_elements(alloc: Global, command: &Command) -> Result<Vec<u8>, AllocError>
-    ensures { IfOk result (λ written. written.items ≡ command_elements command.now) }
+/// Writes the elements of a response after its group length.
+fn put_command_elements(out: &mut Vec<u8>, command: LentCommand<'_>) -> Result<(), AllocError>
+    ensures { OnOk result
+        (out.new.items ≡ out.old.items ++ command_elements (said_by command.entry)) }
 {
-    let class = padded(alloc, command.sop_class.inner())?;
     let data_set_type = if command.with_data {
         numbers::DATA_SET
     } else {
         numbers::NO_DATA_SET
     };
-    let mut out = Vec::new(alloc);
-    put_element(&mut out, numbers::AFFECTED_SOP_CLASS_UID, &class)?;
-    put_short(&mut out, numbers::COMMAND_FIELD, command.code)?;
-    put_short(&mut out, numbers::MESSAGE_ID_BEING_RESPONDED_TO, command.id)?;
-    put_short(&mut out, numbers::COMMAND_DATA_SET_TYPE, data_set_type)?;
-    put_short(&mut out, numbers::STATUS, command.status)?;
-    put_instance(alloc, &mut out, command.sop_instance.inner())?;
-    Ok(out)
+    put_identifier(out, numbers::AFFECTED_SOP_CLASS_UID, command.sop_class)?;
+    put_short(out, numbers::COMMAND_FIELD, command.code)?;
+    put_short(out, numbers::MESSAGE_ID_BEING_RESPONDED_TO, command.id)?;
+    put_short(out, numbers::COMMAND_DATA_SET_TYPE, data_set_type)?;
+    put_short(out, numbers::STATUS, command.status)?;
+    put_instance(out, command.sop_instance)
 }
 
-/// The command set of a response.
-fn command_set(alloc: Global, command: &Command) -> Result<Vec<u8>, AllocError>
-    ensures { IfOk result (λ written. written.items ≡ command_set command.now) }
+/// Writes how many octets stand after the group length into its value.
+fn put_group_length(set: &mut Vec<u8>)
+    requires { 12 ≤ vec_len set.old }
+    ensures { set.new.items ≡ take 8 set.old.items
+        ++ (to_le_bytes w32 (vec_len set.old - 12) ++ drop 12 set.old.items) }
 {
-    let elements = command_elements(alloc, command)?;
-    let length = elements.len().to_le_bytes();
-    let mut out = Vec::new(alloc);
-    put_element(&mut out, numbers::COMMAND_GROUP_LENGTH, &length[..4])?;
-    out.extend_from_slice(&elements)?;
+    let length = (set.len() - COUNTED_FROM).to_le_bytes();
+    set[GROUP_LENGTH_VALUE..COUNTED_FROM].copy_from_slice(&length[..4]);
+}
+
+/// The command set of a response. Its group length is put in place last.
+fn command_set(alloc: Global, command: LentCommand<'_>) -> Result<Vec<u8>, AllocError>
+    ensures { IfOk result (λ written. written.items ≡ command_set (said_by command.entry)) }
+{
+    let mut out = Vec::with_capacity(alloc, USUAL_LENGTH)?;
+    put_element(&mut out, numbers::COMMAND_GROUP_LENGTH, &[0; 4])?;
+    put_command_elements(&mut out, command)?;
+    put_group_length(&mut out);
     Ok(out)
 }
 
@@ -140,6 +165,38 @@ fn put_cut(
     put_fragments(out, context, command, fragment_size(limit), octets)
 }
 
+/// Adds the command set of a response on a context at the end, cut into PDUs of at most the peer's
+/// limit, where 0 is no limit (PS3.8 annex E).
+pub fn append_command(
+    alloc: Global,
+    out: &mut Vec<u8>,
+    context: u8,
+    command: LentCommand<'_>,
+    limit: u32,
+) -> Result<(), AllocError>
+    requires { IsLimit limit }
+    ensures { OnOk result (out.new.items
+        ≡ out.old.items ++ cut context true limit (command_set (said_by command.entry))) }
+{
+    let set = command_set(alloc, command)?;
+    put_cut(out, context, true, limit, &set)
+}
+
+/// Adds the octets of a response's data set at the end, cut into PDUs of at most the peer's limit,
+/// where 0 is no limit (PS3.8 annex E).
+pub fn append_data_set(
+    out: &mut Vec<u8>,
+    context: u8,
+    octets: &[u8],
+    limit: u32,
+) -> Result<(), AllocError>
+    requires { IsLimit limit }
+    ensures { OnOk result (out.new.items
+        ≡ out.old.items ++ cut context false limit octets.now) }
+{
+    put_cut(out, context, false, limit, octets)
+}
+
 /// Writes a data set, where there is one.
 fn put_data(
     out: &mut Vec<u8>,
@@ -153,7 +210,7 @@ fn put_data(
 {
     match octets {
         None => Ok(()),
-        Some(octets) => put_cut(out, context, false, limit, octets),
+        Some(octets) => append_data_set(out, context, octets, limit),
     }
 }
 
@@ -171,9 +228,8 @@ pub fn write_message(
     ensures { IfOk result (λ written. written.items
         ≡ sent context command.now (option_map (λ o. o.now) octets.entry) limit) }
 {
-    let set = command_set(alloc, command)?;
     let mut written = Vec::new(alloc);
-    put_cut(&mut written, context, true, limit, &set)?;
+    append_command(alloc, &mut written, context, command.lent(), limit)?;
     put_data(&mut written, context, limit, octets)?;
     Ok(written)
 }

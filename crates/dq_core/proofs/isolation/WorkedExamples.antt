@@ -12,9 +12,9 @@ use Rattle.dq_value.specs.Parts as value
 use Rattle.dq_dimse.specs.Assembling.{messages_from}
 use Rattle.dq_dimse.specs.Receiving.{identifier_in}
 use Rattle.dq_dataset.specs.Rules.{content_of, agrees}
-use Rattle.dq_dataset.specs.Reading.{tag_at, vr_at, vr_or_fault, length_at, long_length_at, spelling_at, header_at, end_at, value_by, element_by, elements_after, elements_by, item_by, items_after, items_by, readers, reading}
+use Rattle.dq_dataset.specs.Reading.{tag_at, vr_at, vr_or_fault, length_at, long_length_at, spelling_at, front_at, header_at, end_at, value_by, element_by, elements_after, elements_by, item_by, items_after, items_by, readers, reading}
 use Rattle.dq_dataset.specs.Canonical.{header_of, vr_and_length}
-use Rattle.dq_dataset.specs.Sieve.{is_large}
+use Rattle.dq_dataset.specs.Sieve.{is_over_limit}
 use Rattle.dq_dataset.specs.Values.{sole_at}
 use Rattle.dq_dimse.specs.Commands.{command_from, command_of}
 use Rattle.dq_assoc.specs.Classes.{class_of}
@@ -236,7 +236,7 @@ an_association :
     × (replies built_in [] (history ((request ++ echo ++ release) ∷ [])) ≡ Done ∷ closed (accepted ++ echoed ++ released) ∷ [])
 unfolding pdus_within front pdu_of associate_of fields_of request_of item_at pdv_at proposed_of user_information_of values_of parts routed has_route joins built_in class_of
     stripped without_leading without_trailing kept_before messages_from command_from command_of reading readers elements_by element_by elements_after value_by
-    items_by item_by items_after header_at end_at is_below tag_at spelling_at long_length_at content_of known_vr vr_in dictionary trimmed unpadded is_padded
+    items_by item_by items_after front_at header_at end_at is_below tag_at spelling_at long_length_at content_of known_vr vr_in dictionary trimmed unpadded is_padded
     ignores_leading_spaces served reaction
 an_association = (refl, refl)
 
@@ -247,7 +247,7 @@ command_sets :
     × (replies built_in [] (history (request_from 1 modality 1 8 ∷ echo ∷ [])) ≡ Done ∷ answered accepted ∷ answered (in_twos echoed_set) ∷ [])
 unfolding pdus_within front pdu_of associate_of fields_of request_of item_at pdv_at proposed_of user_information_of values_of parts routed has_route joins built_in class_of
     stripped without_leading without_trailing kept_before messages_from command_from command_of reading readers elements_by element_by elements_after value_by
-    items_by item_by items_after header_at end_at is_below tag_at spelling_at long_length_at content_of known_vr vr_in dictionary trimmed unpadded is_padded
+    items_by item_by items_after front_at header_at end_at is_below tag_at spelling_at long_length_at content_of known_vr vr_in dictionary trimmed unpadded is_padded
     ignores_leading_spaces served reaction
 command_sets = (refl, refl, refl)
 
@@ -260,7 +260,7 @@ statuses :
     × (replies built_in [] (history (request ∷ cancel ∷ echo ∷ [])) ≡ Done ∷ answered accepted ∷ answered [] ∷ answered echoed ∷ [])
 unfolding pdus_within front pdu_of associate_of fields_of request_of item_at pdv_at proposed_of user_information_of values_of parts routed has_route joins built_in class_of
     stripped without_leading without_trailing kept_before messages_from command_from command_of reading readers elements_by element_by elements_after value_by
-    items_by item_by items_after header_at end_at is_below tag_at spelling_at long_length_at content_of known_vr vr_in dictionary trimmed unpadded is_padded
+    items_by item_by items_after front_at header_at end_at is_below tag_at spelling_at long_length_at content_of known_vr vr_in dictionary trimmed unpadded is_padded
     ignores_leading_spaces served reaction
 statuses = (refl, refl, refl)
 
@@ -309,7 +309,7 @@ in_mid_message :
     × (replies built_in [] (history (request ∷ (echo ++ 8 ∷ 0 ∷ 0 ∷ 0 ∷ 0 ∷ 0 ∷ []) ∷ [])) ≡ Done ∷ answered accepted ∷ closed (echoed ++ short 7 0 2 1) ∷ [])
 unfolding pdus_within front pdu_of associate_of fields_of request_of item_at pdv_at proposed_of user_information_of values_of parts routed has_route joins built_in class_of
     stripped without_leading without_trailing kept_before messages_from command_from command_of reading readers elements_by element_by elements_after value_by
-    items_by item_by items_after header_at end_at is_below tag_at spelling_at long_length_at content_of known_vr vr_in dictionary trimmed unpadded is_padded
+    items_by item_by items_after front_at header_at end_at is_below tag_at spelling_at long_length_at content_of known_vr vr_in dictionary trimmed unpadded is_padded
     ignores_leading_spaces served reaction
 in_mid_message = (refl, refl)
 
@@ -319,7 +319,7 @@ two_institutions : replies (two 4) [] (Open 1 ∷ Open 2 ∷ Piece 2 (request_of
     false ∷ Octets 2 echoed false ∷ Octets 1 echoed false ∷ Octets 1 released true ∷ Ignored ∷ Done ∷ Ignored ∷ Ignored ∷ Ignored ∷ []
 unfolding pdus_within front pdu_of associate_of fields_of request_of item_at pdv_at proposed_of user_information_of values_of parts routed has_route joins built_in class_of
     stripped without_leading without_trailing kept_before messages_from command_from command_of reading readers elements_by element_by elements_after value_by
-    items_by item_by items_after header_at end_at is_below tag_at spelling_at long_length_at content_of known_vr vr_in dictionary trimmed unpadded is_padded
+    items_by item_by items_after front_at header_at end_at is_below tag_at spelling_at long_length_at content_of known_vr vr_in dictionary trimmed unpadded is_padded
     ignores_leading_spaces served reaction
 two_institutions = refl
 
@@ -379,13 +379,13 @@ not_understood = find_status 0xc000
 a_query : replies built_in [] (history (four_contexts ∷ find ∷ [])) ≡ Done ∷ answered four_results ∷ answered not_understood ∷ []
 unfolding pdus_within front pdu_of associate_of fields_of request_of item_at pdv_at proposed_of user_information_of values_of parts routed has_route joins built_in class_of
     stripped without_leading without_trailing kept_before messages_from command_from command_of reading readers elements_by element_by elements_after value_by
-    items_by item_by items_after header_at end_at is_below tag_at spelling_at long_length_at content_of known_vr vr_in dictionary trimmed unpadded is_padded
+    items_by item_by items_after front_at header_at end_at is_below tag_at spelling_at long_length_at content_of known_vr vr_in dictionary trimmed unpadded is_padded
     ignores_leading_spaces served reaction found query_of identifier_in
 a_query = refl
 
 -- an entry that can't be read, and one that is not there
 orders_of_the_worklist : replies (two 4) [] (Schedule north (8 ∷ 0 ∷ []) ∷ Withdraw south [] ∷ []) ≡ Refused 1 ∷ Refused 5 ∷ []
-unfolding reading readers elements_by element_by elements_after value_by items_by item_by items_after header_at end_at is_below tag_at spelling_at
+unfolding reading readers elements_by element_by elements_after value_by items_by item_by items_after front_at header_at end_at is_below tag_at spelling_at
     long_length_at content_of known_vr vr_in dictionary named of record_at ordered scheduled withdrawn
 orders_of_the_worklist = refl
 
@@ -404,7 +404,7 @@ a_query_over_no_rows :
     (find_status 0xa900) ∷ [])
 unfolding pdus_within front pdu_of associate_of fields_of request_of item_at pdv_at proposed_of user_information_of values_of parts routed has_route joins built_in class_of
     stripped without_leading without_trailing kept_before messages_from command_from command_of reading readers elements_by element_by elements_after value_by
-    items_by item_by items_after header_at end_at is_below tag_at spelling_at long_length_at content_of known_vr vr_in dictionary trimmed unpadded is_padded
+    items_by item_by items_after front_at header_at end_at is_below tag_at spelling_at long_length_at content_of known_vr vr_in dictionary trimmed unpadded is_padded
     ignores_leading_spaces served reaction found query_of identifier_in level_named has_keys_above is_supported keys_of leaves answers records_asked records_of of
     vr_at vr_or_fault vr_with_letters vr_among every_vr letters_of agrees length_at length_form_of is_text are_well_formed is_universal matching_of value.parts
     value.pieces_of value.has_separator value.pieces value.joined uid_at sole_at
@@ -436,8 +436,8 @@ stores :
     × (replies built_in [] (history (request ∷ store_on 1 ∷ [])) ≡ Done ∷ answered accepted ∷ answered (response 0x8001 0x0211) ∷ [])
 unfolding pdus_within front pdu_of associate_of fields_of request_of item_at pdv_at proposed_of user_information_of values_of parts routed has_route joins built_in class_of
     stripped without_leading without_trailing kept_before messages_from command_from command_of reading readers elements_by element_by elements_after value_by
-    items_by item_by items_after header_at end_at is_below tag_at spelling_at long_length_at content_of known_vr vr_in dictionary trimmed unpadded is_padded
-    ignores_leading_spaces served reaction stored is_large is_named uid_at sole_at
+    items_by item_by items_after front_at header_at end_at is_below tag_at spelling_at long_length_at content_of known_vr vr_in dictionary trimmed unpadded is_padded
+    ignores_leading_spaces served reaction stored is_over_limit is_named uid_at sole_at
 stores = (refl, refl)
 
 -- the server of one institution alone, which has no routes: a pair of titles that nobody has, a search and an order
@@ -449,8 +449,8 @@ alone : alone_replies limits [] (Open 1 ∷ Piece 1 (request_of_title ct9) ∷ P
     false ∷ Octets 2 (find_status 0) false ∷ Octets 2 (store_status 3 0xa900) false ∷ Refused 5 ∷ []
 unfolding pdus_within front pdu_of associate_of fields_of request_of item_at pdv_at proposed_of user_information_of values_of parts
     stripped without_leading without_trailing kept_before messages_from command_from command_of reading readers elements_by element_by elements_after value_by
-    items_by item_by items_after header_at end_at is_below tag_at spelling_at long_length_at content_of known_vr vr_in dictionary trimmed unpadded is_padded
-    ignores_leading_spaces served reaction found query_of identifier_in level_named has_keys_above is_supported keys_of leaves answers records_asked records_of stored is_large
+    items_by item_by items_after front_at header_at end_at is_below tag_at spelling_at long_length_at content_of known_vr vr_in dictionary trimmed unpadded is_padded
+    ignores_leading_spaces served reaction found query_of identifier_in level_named has_keys_above is_supported keys_of leaves answers records_asked records_of stored is_over_limit
     is_named ordered withdrawn record_at class_of
     vr_at vr_or_fault vr_with_letters vr_among every_vr letters_of agrees length_at length_form_of is_text are_well_formed is_universal matching_of value.parts
     value.pieces_of value.has_separator value.pieces value.joined uid_at sole_at
@@ -491,7 +491,7 @@ a_kept_study :
     × (replies (two 4) (kept_study ∷ []) (history (find_request ct2 ∷ find_uids ∷ [])) ≡ Done ∷ answered (find_accepted ct2) ∷ answered (find_status 0) ∷ [])
 unfolding pdus_within front pdu_of associate_of fields_of request_of item_at pdv_at proposed_of user_information_of values_of parts routed has_route joins built_in class_of
     stripped without_leading without_trailing kept_before messages_from command_from command_of reading readers elements_by element_by elements_after value_by
-    items_by item_by items_after header_at end_at is_below tag_at spelling_at long_length_at content_of known_vr vr_in dictionary trimmed unpadded is_padded
+    items_by item_by items_after front_at header_at end_at is_below tag_at spelling_at long_length_at content_of known_vr vr_in dictionary trimmed unpadded is_padded
     ignores_leading_spaces served reaction found query_of identifier_in level_named has_keys_above is_supported keys_of leaves answers records_asked records_of of
     vr_at vr_or_fault vr_with_letters vr_among every_vr letters_of agrees length_at length_form_of is_text are_well_formed is_universal matching_of value.parts
     value.pieces_of value.has_separator value.pieces value.joined uid_at sole_at data_set_of about_answers shown octets_meet asked_days asked_times

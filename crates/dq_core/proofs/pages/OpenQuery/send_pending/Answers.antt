@@ -1,13 +1,39 @@
-use Rattle.std.proofs.Common.{refl, ◌∙◌, arith}
-use Rattle.dq_core.proofs.Sending.{one-sent}
+use Rattle.std.proofs.Common.{List, ℕ, ◌++◌, refl, ap, ◌∙◌, arith}
+use Rattle.dq_match.specs.declared.responses.Found.{Found}
+use Rattle.dq_core.specs.Queries.{query_of}
+use Rattle.dq_core.proofs.Sending.{none-sent, one-sent, so-many, all-sent}
 use Rattle.dq_core.proofs.pages.OpenQuery.send_pending.Goals as goal
 
 pub loop-preserved : goal.loop-preserved
 loop-preserved c = (
-  one-sent c.loop.invariant.0 c.next.new.self c.in-Some.answer c.pending_status-status.result c.as_slice.result.now c.respond.new.out.items
-      c.in-Some.ensures c.loop.invariant.3 (c.as_slice.ensures.value ∙ c.in_ok-octets.ensures)
-      (rw (c.recipient.ensures.0, c.recipient.ensures.1, c.recipient.ensures.2) at c.in_ok-respond.ensures),
+  one-sent c.loop.invariant.0 c.next.new.self c.in-Some.answer c.put_command.new.out.items c.extend_from_slice.new.self.items c.put_answer.new.out.items
+      c.in-Some.ensures c.loop.invariant.3
+      (c.in_ok-extend_from_slice.ensures.items ∙ ap (λ (x : List ℕ). c.loop.out.items ++ x) c.deref.ensures.value)
+      (rw (c.recipient-in-loop.ensures.0, c.recipient-in-loop.ensures.2) at c.in_ok-put_answer.ensures),
   omega (arith, c.loop-test.true),
   refl,
   c.loop.invariant.3,
 )
+
+pub loop-init : goal.loop-init
+loop-init c = (
+  none-sent c.args.self.now c.args.out.now.items,
+  omega (arith),
+  refl,
+  rw (
+    c.new-command.ensures.items,
+    c.recipient.ensures.0,
+    c.recipient.ensures.1,
+    c.recipient.ensures.2,
+    c.pending_status-status.ensures,
+    c.optional.ensures,
+  ) at c.in_ok-put_command.ensures,
+)
+
+pub returns-in_default-clause-left : goal.returns-in_default-clause-left
+returns-in_default-clause-left c =
+    ap (λ (pages : Found). query_of (record c.loop.self { pages = pages })) c.in_default.ensures.1
+    ∙ (all-sent c.loop.invariant.0 c.args.count c.in_default.ensures.0 (omega (arith, c.loop-test.true))).1
+
+pub returns-clause-left : goal.returns-clause-left
+returns-clause-left c = (so-many c.loop.invariant.0 c.args.count (omega (arith, c.loop.auto.counter-end, c.loop-test.false))).1
