@@ -11,6 +11,7 @@ use Rattle.dq_dataset.specs.Editing.{elements_below, elements_above, merged_elem
 use Rattle.dq_dataset.specs.Values.{element_at}
 use Rattle.dq_dataset.proofs.Views.{elements_of-as_elements}
 use Rattle.dq_match.specs.Keys.{is_tag}
+use Rattle.dq_match.proofs.OneValue.{same_tag}
 
 abbrev or_else : Option Element → Option Element → Option Element
 or_else None other = other
@@ -46,12 +47,6 @@ dropped_by false false test keep x xs e f h k = k
 find_dropped : (test keep : Element → Bool) (xs : List Element) → ((x : Element) → test x ≡ true → keep x ≡ false) → find test (filter keep xs) ≡ None
 find_dropped test keep [] h = refl
 find_dropped test keep (x ∷ xs) h = dropped_by (test x) (keep x) test keep x xs refl refl (h x) (find_dropped test keep xs h)
-
-pub same_tag : (a b : Tag) → is_tag a b ≡ true → a ≡ b
-same_tag a b h =
-    let group : a.group ≡ b.group = grind (arith, nat_tests) in
-    let number : a.element ≡ b.element = grind (arith, nat_tests) in
-    λ i. record { group = group i; element = number i }
 
 -- two tags that differ are in order
 above_unless : (a b : Tag) → is_tag b a ≡ false → is_below a b ≡ false → is_below b a ≡ true

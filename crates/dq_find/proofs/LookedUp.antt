@@ -32,7 +32,7 @@ use Rattle.dq_match.specs.declared.keys.Place.TheVariants.{Outer}
 use Rattle.dq_match.specs.Matching.{fits}
 use Rattle.dq_match.specs.Fitting.{EachIsMet}
 use Rattle.dq_match.specs.Responses.{shown}
-use Rattle.dq_match.proofs.Answering.{given_of_each}
+use Rattle.dq_match.proofs.Answering.{given_of_each, given_skipped}
 use Rattle.dq_tables.specs.declared.row.Kind.{Kind}
 use Rattle.dq_tables.specs.declared.row.Kind.TheVariants as kind
 use Rattle.dq_tables.specs.declared.row.Row.{Row}
@@ -56,20 +56,9 @@ use Rattle.dq_find.proofs.Answered.{IsUnder, asked_from, asked_to, asked_in_orde
 use Rattle.dq_find.proofs.Answering.{stays}
 use Rattle.dq_find.proofs.Asked.{value_from}
 use Rattle.dq_find.proofs.Naming.{IsKeyOf, sole_of_uid, named_among}
-use Rattle.dq_find.proofs.Chosen.{DaysAreInOrder, Stay, fit_is_chosen}
+use Rattle.dq_tables.proofs.Taken.{DaysAreInOrder}
+use Rattle.dq_find.proofs.Chosen.{Stay, fit_is_chosen}
 use Rattle.dq_find.proofs.Modalities.{IsInOrder, IsBefore, all_stays, all_from, all_to}
-
--- ---- what is given by those that pass alone
-
-skip_step : {X Y : Type 0} (f : X → Option Y) (p : X → Bool) (x : X) (xs : List X) (b : Bool) → p x ≡ b → (p x ≡ false → f x ≡ None)
-    → filter_map f (filter p xs) ≡ filter_map f xs → filter_map f (if b then x ∷ filter p xs else filter p xs) ≡ cons_option (f x) (filter_map f xs)
-skip_step f p x xs true is none rest = ap (cons_option (f x)) rest
-skip_step f p x xs false is none rest = rest ∙ ap (λ (o : Option _). cons_option o (filter_map f xs)) (sym (none is))
-
-given_skipped : {X Y : Type 0} (f : X → Option Y) (p : X → Bool) (xs : List X) → ((x : X) → IsAmong x xs → p x ≡ false → f x ≡ None)
-    → filter_map f (filter p xs) ≡ filter_map f xs
-given_skipped f p [] none = refl
-given_skipped f p (x ∷ xs) none = skip_step f p x xs (p x) refl (none x (inl refl)) (given_skipped f p xs (λ y h. none y (inr h)))
 
 -- ---- the record that has a key
 

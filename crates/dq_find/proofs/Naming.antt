@@ -1,5 +1,5 @@
 -- Where a query gives its level's own unique key values, no record with another matches.
-use Rattle.std.proofs.Common.{◌≡◌, ℕ, Bool, true, false, ◌||◌, ◌&&◌, not, List, [], ◌∷◌, find, Option, Some, None, is_some, unwrap_or, inl, inr, refl, sym, ap, subst, ◌∙◌, cond, if◌then◌else◌}
+use Rattle.std.proofs.Common.{◌≡◌, ℕ, Bool, true, false, ◌||◌, ◌&&◌, not, List, [], ◌∷◌, Option, Some, None, is_some, unwrap_or, inl, inr, refl, sym, ap, ◌∙◌, if◌then◌else◌}
 use Rattle.std.specs.List.{AllByRecursion, list_any}
 use Rattle.std.specs.Str.{bytes_eq}
 use Rattle.std.proofs.lemmas.Slice.Eq.{bytes_eq-Decides}
@@ -9,7 +9,7 @@ use Rattle.dq_vr.specs.declared.Tag.{Tag}
 use Rattle.dq_vr.specs.declared.Vr.{Vr}
 use Rattle.dq_vr.specs.declared.Vr.TheVariants.{UI, UN}
 use Rattle.dq_vr.specs.Dictionary.{known_vr}
-use Rattle.dq_value.specs.Parts.{parts, sole}
+use Rattle.dq_value.specs.Parts.{parts}
 use Rattle.dq_value.specs.Trimming.{is_padded, ignores_leading_spaces, without_leading, without_trailing, unpadded, trimmed}
 use Rattle.dq_value.specs.Uid.{is_uid}
 use Rattle.dq_dataset.specs.declared.data_set.Element.{Element}
@@ -17,71 +17,18 @@ use Rattle.dq_dataset.specs.declared.data_set.Value.{Value}
 use Rattle.dq_dataset.specs.declared.data_set.Value.TheVariants.{Octets, Items}
 use Rattle.dq_dataset.specs.Tree.{ElementList}
 use Rattle.dq_dataset.specs.View.{elements_of, has_tag}
-use Rattle.dq_dataset.specs.Values.{element_at, octets_in, values_of, values_in, sole_at}
+use Rattle.dq_dataset.specs.Values.{element_at, octets_in, sole_at}
 use Rattle.dq_dataset.proofs.KnownVrs.{HasKnownVr}
 use Rattle.dq_match.specs.declared.keys.Place.TheVariants.{Outer}
 use Rattle.dq_match.specs.Keys.{is_key}
-use Rattle.dq_match.specs.Values.{is_same, is_asterisk, is_universal, octets_meet, some_meet, value_meets, matching_of}
+use Rattle.dq_match.specs.Values.{is_asterisk, is_universal, octets_meet, some_meet, matching_of}
 use Rattle.dq_match.specs.Wildcards.{any_run}
 use Rattle.dq_match.specs.Matching.{period, is_passed, is_start, meets}
 use Rattle.dq_match.specs.Fitting.{EachIsMet}
 use Rattle.dq_tables.specs.Keys.{passing, uid_at}
 use Rattle.dq_find.specs.Candidates.{names_records}
-use Rattle.dq_find.proofs.Completing.{same_tag}
-
--- ---- an element with one value
-
--- the element with a tag has a VR, and octets that hold exactly one value
-pub record HasOne (vr : Vr) (tag : Tag) (d : ElementList) (value : List ℕ) : Type 0 where
-  pub element : Element
-  pub octets : List ℕ
-  pub there : element_at tag d ≡ Some element
-  pub among : IsAmong element (elements_of d)
-  pub tagged : element.tag ≡ tag
-  pub vr_is : element.vr ≡ vr
-  pub holds : element.value ≡ Octets octets
-  pub one : parts vr octets ≡ value ∷ []
-
-sole_is : (values : List (List ℕ)) (uid : List ℕ) → sole values ≡ Some uid → values ≡ uid ∷ []
-sole_is [] uid h = absurd cc
-sole_is (x ∷ []) uid h = cc
-sole_is (x ∷ (y ∷ others)) uid h = absurd cc
-
-found_by : (P : Element → Type 0) (p : Element → Bool) (x e : Element) (xs : List Element) (b : Bool) → p x ≡ b → P x
-    → (find p xs ≡ Some e → IsAmong e xs × P e × (p e ≡ true)) → cond b (Some x) (find p xs) ≡ Some e → IsAmong e (x ∷ xs) × P e × (p e ≡ true)
-found_by P p x e xs true is here rest h = (let same : x ≡ e = cc in (inl same, subst P same here, ap p (sym same) ∙ is))
-found_by P p x e xs false is here rest h = let found = rest h in (inr found.0, found.1, found.2)
-
-found_has : (P : Element → Type 0) (p : Element → Bool) (e : Element) (xs : List Element) → AllByRecursion P xs → find p xs ≡ Some e
-    → IsAmong e xs × P e × (p e ≡ true)
-found_has P p e [] all h = absurd cc
-found_has P p e (x ∷ xs) all h = found_by P p x e xs (p x) refl all.0 (found_has P p e xs all.1) h
-
-module _ (vr : Vr) (tag : Tag) (known : known_vr tag ≡ Some vr) (d : ElementList) (all : AllByRecursion HasKnownVr (elements_of d)) (value : List ℕ) where
-  one_by : (e : Element) (v : Value) → element_at tag d ≡ Some e → e.value ≡ v → sole (values_of e.vr v) ≡ Some value → HasOne vr tag d value
-  one_by e (Octets octets) there holds is =
-      let facts = found_has HasKnownVr (has_tag tag) e (elements_of d) all there in
-      let tagged = same_tag e.tag tag facts.2 in
-      let vr_is : e.vr ≡ vr = facts.1 octets holds ∙ ap (λ (t : Tag). unwrap_or (known_vr t) UN) tagged ∙ ap (λ (v : Option Vr). unwrap_or v UN) known in
-      record {
-        element = e;
-        octets = octets;
-        there = there;
-        among = facts.0;
-        tagged = tagged;
-        vr_is = vr_is;
-        holds = holds;
-        one = ap (λ (v : Vr). parts v octets) (sym vr_is) ∙ sole_is (parts e.vr octets) value is;
-      }
-  one_by e (Items items) there holds is = absurd cc
-
-  one_in : (found : Option Element) → element_at tag d ≡ found → sole (values_in found) ≡ Some value → HasOne vr tag d value
-  one_in None there is = absurd cc
-  one_in (Some e) there is = one_by e e.value there refl is
-
-  pub one_at : sole_at tag d ≡ Some value → HasOne vr tag d value
-  unfolding sole_at
-  one_at = one_in (element_at tag d) refl
+use Rattle.dq_match.proofs.Alone.{not_passed}
+use Rattle.dq_match.proofs.OneValue.{same_tag, found_has, one_at, is_met_by, meets_octets, one_met}
 
 -- one UID is the only value
 passed_by : (value uid : List ℕ) (b : Bool) → (if b then Some value else None) ≡ Some uid → value ≡ uid
@@ -131,14 +78,6 @@ met_among key held other (first ∷ others) one two named h =
     among_met values other
     (ap (λ (b : Bool). ((false || (true && b)) || false) || list_any (λ key. bytes_eq key other || false) values) (sym (no_asterisk first others named)) ∙ reduced)
 
-meets_octets : (key : Element) (held : Option Element) (octets : List ℕ) → key.value ≡ Octets octets
-    → meets key held ≡ octets_meet key.vr octets (octets_in held)
-meets_octets key held octets is = rw is refl
-
-not_passed : (joined : Bool) (tag : Tag) → is_key Outer tag ≡ true → is_start tag ≡ false → is_passed Outer joined tag ≡ false
-not_passed true tag is none = rw (is, none) refl
-not_passed false tag is none = rw (is) refl
-
 -- the element of a key that names records
 pub record HasValues (tag : Tag) (keys : ElementList) (values : List (List ℕ)) : Type 0 where
   pub element : Element
@@ -180,7 +119,7 @@ named_among tag keys d held values other of_uid known_keys known_held same asked
     let key_vr : key.element.vr ≡ UI =
     facts.1 key.octets key.holds ∙ ap (λ (t : Tag). unwrap_or (known_vr t) UN) key_tag ∙ ap (λ (v : Option Vr). unwrap_or v UN) of_uid.0 in
     let alone : is_passed Outer (is_some (period keys held)) key.element.tag ≡ false =
-    ap (is_passed Outer (is_some (period keys held))) key_tag ∙ not_passed (is_some (period keys held)) tag of_uid.1 of_uid.2 in
+    ap (is_passed Outer (is_some (period keys held))) key_tag ∙ not_passed (is_some (period keys held)) Outer tag of_uid.1 of_uid.2 in
     let met = each key.element facts.0 alone in
     let at : element_at key.element.tag held ≡ Some one.element = ap (λ (t : Tag). element_at t held) key_tag ∙ same ∙ one.there in
     let octets : octets_in (Some one.element) ≡ one.octets = rw one.holds refl in
@@ -190,33 +129,9 @@ named_among tag keys d held values other of_uid known_keys known_held same asked
 
 -- ---- one value that is asked for, against one value
 
-abbrev pub is_met_by : Vr → List ℕ → List ℕ → Bool
-is_met_by vr key value = (is_padded vr && is_same key (any_run ∷ [])) || value_meets (matching_of vr) key value
-
-met_alike : (vr : Vr) (asked said key value : List ℕ) → parts vr asked ≡ key ∷ [] → parts vr said ≡ value ∷ []
-    → octets_meet vr asked said ≡ is_met_by vr key value
-unfolding octets_meet is_universal
-met_alike vr asked said key value one two =
-    (λ i. ((is_empty (one i) || (is_padded vr && is_asterisk (one i))) || is_empty (two i)) || some_meet (matching_of vr) (one i) (two i))
-    ∙ alone (is_padded vr && is_same key (any_run ∷ [])) (value_meets (matching_of vr) key value)
-  where
-    alone : (a b : Bool) → (((false || a) || false) || ((b || false) || false)) ≡ (a || b)
-    alone true b = refl
-    alone false true = refl
-    alone false false = refl
-
-pub one_met : (vr : Vr) (tag : Tag) → IsKeyOf vr tag → (keys d held : ElementList)
+pub one_alone : (vr : Vr) (tag : Tag) → IsKeyOf vr tag → (keys d held : ElementList)
     → AllByRecursion HasKnownVr (elements_of keys) → AllByRecursion HasKnownVr (elements_of d) → element_at tag held ≡ element_at tag d
     → EachIsMet Outer keys held → (asked said : List ℕ) → sole_at tag keys ≡ Some asked → sole_at tag d ≡ Some said
     → is_met_by vr asked said ≡ true
-one_met vr tag is keys d held known_keys known_held same each asked said wanted there =
-    let key = one_at vr tag is.0 keys known_keys asked wanted in
-    let one = one_at vr tag is.0 d known_held said there in
-    let alone : is_passed Outer (is_some (period keys held)) key.element.tag ≡ false =
-    ap (is_passed Outer (is_some (period keys held))) key.tagged ∙ not_passed (is_some (period keys held)) tag is.1 is.2 in
-    let met = each key.element key.among alone in
-    let at : element_at key.element.tag held ≡ Some one.element = ap (λ (t : Tag). element_at t held) key.tagged ∙ same ∙ one.there in
-    let octets : octets_in (Some one.element) ≡ one.octets = rw one.holds refl in
-    sym (met_alike vr key.octets one.octets asked said key.one one.one)
-    ∙ sym (ap (λ (o : Option Element). meets key.element o) at ∙ meets_octets key.element (Some one.element) key.octets key.holds
-    ∙ (λ i. octets_meet (key.vr_is i) key.octets (octets i))) ∙ met
+one_alone vr tag is keys d held known_keys known_held same each =
+    one_met vr tag is.0 Outer keys d held known_keys known_held same each (not_passed (is_some (period keys held)) Outer tag is.1 is.2)

@@ -7,7 +7,7 @@ use Rattle.dq_value.specs.Parts.{has_separator, joined, pieces, pieces_of, parts
 use Rattle.dq_value.specs.Trimming.{is_padded, ignores_leading_spaces, kept_before, without_leading, without_trailing, unpadded, trimmed}
 use Rattle.dq_value.specs.Title.{stripped}
 use Rattle.dq_dataset.specs.Rules.{agrees, content_of}
-use Rattle.dq_dataset.specs.Reading.{tag_at, long_length_at, length_at, vr_or_fault, vr_at, spelling_at, header_at, end_at, value_by, element_by, elements_after, elements_by, readers, reading}
+use Rattle.dq_dataset.specs.Reading.{tag_at, long_length_at, length_at, vr_or_fault, vr_at, spelling_at, front_at, header_at, end_at, value_by, element_by, elements_after, elements_by, readers, reading}
 use Rattle.dq_dataset.specs.Canonical.{header_of, vr_and_length}
 use Rattle.dq_dataset.specs.Values.{sole_at}
 use Rattle.dq_dataset.specs.declared.header.Syntax.TheVariants.{Explicit}
@@ -26,14 +26,14 @@ use Rattle.dq_find.specs.Queries.{query_of, about_answers, records_asked, answer
 use Rattle.dq_find.specs.Examples.{request, identifier, kept, answer, found_with}
 
 pub nothing_found : found [] (codes "ARCHIVE") (request identifier) Explicit ≡ found_with []
-unfolding found query_of identifier_in reading readers elements_by element_by elements_after value_by header_at end_at tag_at spelling_at vr_at vr_or_fault
+unfolding found query_of identifier_in reading readers elements_by element_by elements_after value_by front_at header_at end_at tag_at spelling_at vr_at vr_or_fault
     length_at long_length_at is_below known_vr vr_in dictionary length_form_of vr_with_letters vr_among every_vr letters_of is_text agrees content_of
     level_named trimmed unpadded is_padded ignores_leading_spaces without_leading without_trailing kept_before keys_of leaves is_supported below
     has_keys_above is_universal are_well_formed matching_of parts pieces_of pieces joined has_separator answers records_asked records_of header_of vr_and_length
 nothing_found = refl
 
 pub one_found : found kept (codes "ARCHIVE") (request identifier) Explicit ≡ found_with (answer ∷ [])
-unfolding found query_of identifier_in reading readers elements_by element_by elements_after value_by header_at end_at tag_at spelling_at vr_at vr_or_fault
+unfolding found query_of identifier_in reading readers elements_by element_by elements_after value_by front_at header_at end_at tag_at spelling_at vr_at vr_or_fault
     length_at long_length_at is_below known_vr vr_in dictionary length_form_of vr_with_letters vr_among every_vr letters_of is_text agrees content_of
     level_named trimmed unpadded is_padded ignores_leading_spaces without_leading without_trailing kept_before keys_of leaves is_supported below
     has_keys_above is_universal are_well_formed matching_of parts pieces_of pieces joined has_separator answers records_asked records_of

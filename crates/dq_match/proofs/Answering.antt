@@ -1,5 +1,5 @@
 -- The answers that some data sets give to keys.
-use Rattle.std.proofs.Common.{◌≡◌, Bool, true, false, inl, inr, List, [], ◌∷◌, map, filter, Option, Some, None, refl, ap, ◌∙◌, if◌then◌else◌}
+use Rattle.std.proofs.Common.{◌≡◌, Bool, true, false, inl, inr, List, [], ◌∷◌, map, filter, Option, Some, None, refl, sym, ap, ◌∙◌, if◌then◌else◌}
 use Rattle.std.specs.List.{filter_map, cons_option}
 use Rattle.dq_list.specs.Among.{IsAmong}
 use Rattle.dq_dataset.specs.Tree.{ElementList}
@@ -47,6 +47,17 @@ pub given_where : {X Y : Type 0} (f : X → Option Y) (p : X → Bool) (g : X �
     → filter_map f xs ≡ map g (filter p xs)
 given_where f p g is [] = refl
 given_where f p g is (x ∷ xs) = (λ i. cons_option (is x i) (given_where f p g is xs i)) ∙ given_one g x (filter p xs) (p x)
+
+-- where what does not pass gives nothing, it may be left out
+skip_step : {X Y : Type 0} (f : X → Option Y) (p : X → Bool) (x : X) (xs : List X) (b : Bool) → p x ≡ b → (p x ≡ false → f x ≡ None)
+    → filter_map f (filter p xs) ≡ filter_map f xs → filter_map f (if b then x ∷ filter p xs else filter p xs) ≡ cons_option (f x) (filter_map f xs)
+skip_step f p x xs true is none rest = ap (cons_option (f x)) rest
+skip_step f p x xs false is none rest = rest ∙ ap (λ (o : Option _). cons_option o (filter_map f xs)) (sym (none is))
+
+pub given_skipped : {X Y : Type 0} (f : X → Option Y) (p : X → Bool) (xs : List X) → ((x : X) → IsAmong x xs → p x ≡ false → f x ≡ None)
+    → filter_map f (filter p xs) ≡ filter_map f xs
+given_skipped f p [] none = refl
+given_skipped f p (x ∷ xs) none = skip_step f p x xs (p x) refl (none x (inl refl)) (given_skipped f p xs (λ y h. none y (inr h)))
 
 -- ---- the answer to keys
 

@@ -15,5 +15,7 @@ mod Struck
 mod Universal
 mod WildFits
 mod WordsInText
+pub mod Alone
 pub mod Answering
+pub mod OneValue
 pub mod SeveralValues

@@ -14,6 +14,7 @@ pub mod Members
 pub mod OneOrder
 pub mod Rising
 pub mod Days
+pub mod Taken
 pub mod Keyed
 pub mod Indexed
 pub mod ByKeys

@@ -7,10 +7,10 @@ use Rattle.std.proofs.lemmas.Slice.Eq.{bytes_eq-Decides}
 use Rattle.std.proofs.lemmas.List.{length-map}
 use Rattle.dq_tables.specs.declared.choice.Choice.{Choice}
 use Rattle.dq_tables.specs.declared.row.Kind.{Kind}
-use Rattle.dq_tables.specs.declared.row.Kind.TheVariants.{Study}
+use Rattle.dq_tables.specs.declared.row.Kind.TheVariants.{Study, Entry}
 use Rattle.dq_tables.specs.declared.row.Row.{Row}
 use Rattle.dq_tables.specs.Rows.{Record, of, row_of, record_of}
-use Rattle.dq_tables.specs.Choosing.{is_chosen, studies_in, studies_among}
+use Rattle.dq_tables.specs.Choosing.{is_chosen, is_waiting, studies_in, studies_among, waiting_in, waiting_among}
 use Rattle.dq_tables.specs.Finding.{record_at, records_of, records_above, row_at, rows_of, rows_above, same_kind}
 
 own_row : (h : List ℕ) (row : Row) → bytes_eq row.inst h ≡ true → row ≡ row_of h (record_of row)
@@ -76,6 +76,11 @@ pub chosen_own : (choice : Choice) (h : List ℕ) (rows : List Row) → studies_
 unfolding studies_in studies_among
 chosen_own choice h rows = ap (filter (λ (row : Row). is_chosen choice (record_of row))) (listed_own Study h rows)
     ∙ filter_map_row h (λ (row : Row). is_chosen choice (record_of row)) (records_of Study (of h rows))
+
+pub waiting_own : (choice : Choice) (h : List ℕ) (rows : List Row) → waiting_in choice h rows ≡ map (row_of h) (waiting_among choice (of h rows))
+unfolding waiting_in waiting_among
+waiting_own choice h rows = ap (filter (λ (row : Row). is_waiting choice (record_of row))) (listed_own Entry h rows)
+    ∙ filter_map_row h (λ (row : Row). is_waiting choice (record_of row)) (records_of Entry (of h rows))
 
 pub counted_own : (kind : Kind) (h : List ℕ) (rows : List Row) → length (rows_of kind h rows) ≡ length (records_of kind (of h rows))
 counted_own kind h rows = ap length (listed_own kind h rows) ∙ length-map (records_of kind (of h rows)) (row_of h)

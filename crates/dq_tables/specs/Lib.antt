@@ -6,6 +6,7 @@ pub mod Starting
 pub mod Faults
 pub mod Labels
 pub mod Choosing
+pub mod Asked
 pub mod Sound
 pub mod Indexed
 pub mod Keeping

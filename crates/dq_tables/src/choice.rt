@@ -1,7 +1,7 @@
-//! Studies chosen by what is kept of them beside their octets.
+//! Studies and worklist entries chosen by what is kept of them beside their octets.
 ghost use Rattle.std.specs.Prelude.{◌≡◌, true, pos, int_le, IsFalse, IfOk};
 ghost use Rattle.std.specs.Str.{bytes_eq};
-ghost use Rattle.dq_tables.specs.Choosing.{is_none_or, is_open_or, has_labels, is_chosen};
+ghost use Rattle.dq_tables.specs.Choosing.{has_asked_key, is_open_or, has_labels, is_chosen};
 ghost use Rattle.dq_tables.specs.Rows.{record_of};
 
 use crate::labels::Labels;
@@ -9,22 +9,24 @@ use crate::row::Row;
 use dq_list::Listed;
 use std::alloc::{AllocError, Global};
 
-/// Which studies of an institution are asked for. A part that is `None` asks nothing, and a study
-/// that does not say its patient, or its day, by one value meets what is asked of it.
+/// Which studies, or worklist entries, of an institution are asked for. A part that is `None` asks
+/// nothing, and one that does not say its patient, or its day, by one value meets what is asked of
+/// it.
 #[derive(Debug, Drop)]
 pub struct Choice {
     /// The key.
     pub uid: Option<Listed<u8>>,
     /// The only value of Patient ID (0010,0020), trimmed.
     pub patient: Option<Listed<u8>>,
-    /// The first day of the only value of Study Date (0008,0020), YYYYMMDD as a number.
+    /// The first day of the only value of Study Date (0008,0020), or of the Scheduled Procedure Step
+    /// Start Date (0040,0002) of the only scheduled procedure step: YYYYMMDD as a number.
     pub first_day: Option<u32>,
     /// The last day, itself included.
     pub last_day: Option<u32>,
 }
 
 impl Choice {
-    /// Whether the choice takes a study. What asks no more than the key reads no data set.
+    /// Whether the choice takes a study or an entry. What asks no more than the key reads no data set.
     #[tactic(auto, unfolding(crate::specs::Choosing::is_chosen, crate::specs::Labels::patient_of, crate::specs::Labels::day_of))]
     pub(crate) fn takes(&self, alloc: Global, row: &Row) -> Result<bool, AllocError>
         ensures { IfOk result (λ taken. taken ≡ is_chosen self.now (record_of row.now)) }
@@ -40,7 +42,7 @@ impl Choice {
     }
 
     fn has_key(&self, key: &[u8]) -> bool
-        ensures { result ≡ is_none_or (bytes_eq key.now) self.now.uid }
+        ensures { result ≡ has_asked_key self.now key.now }
     {
         match &self.uid {
             Some(uid) => key == uid.as_slice(),

@@ -8,7 +8,7 @@ ghost use Rattle.dq_tables.specs.declared.row.Row.{Row};
 ghost use Rattle.dq_tables.specs.declared.change.Change.{Change};
 ghost use Rattle.dq_tables.specs.Rows.{Record, Edit, Put, Remove, record_of, row_place_of, place, rows_elsewhere, after_edit, edited, edited_all, of, IsRising, Operation, by, after, after_all, own_edits, operation_of, row_of};
 ghost use Rattle.dq_tables.specs.Finding.{row_at, rows_of, rows_above, record_at, records_of, records_above};
-ghost use Rattle.dq_tables.specs.Choosing.{studies_in, studies_among};
+ghost use Rattle.dq_tables.specs.Choosing.{studies_in, studies_among, waiting_in, waiting_among};
 ghost use Rattle.dq_tables.specs.Labels.{date_number, day_named};
 ghost use Rattle.dq_tables.specs.Records.{AreInOrder};
 ghost use Rattle.dq_tables.specs.Sound.{IsSound, Fits};
@@ -60,7 +60,7 @@ pub fn sound_rows_stay_sound()
 {}
 
 /// What is found among the rows by an institution's name is what is found among its records.
-#[tactic(auto, using(crate::proofs::Seen::found_own, crate::proofs::Seen::listed_own, crate::proofs::Seen::above_own, crate::proofs::Seen::chosen_own, crate::proofs::Seen::counted_own))]
+#[tactic(auto, using(crate::proofs::Seen::found_own, crate::proofs::Seen::listed_own, crate::proofs::Seen::above_own, crate::proofs::Seen::chosen_own, crate::proofs::Seen::waiting_own, crate::proofs::Seen::counted_own))]
 pub fn rows_are_found_among_records()
     ensures found { (kind : Kind) (h key : List ℕ) (rows : List Row)
         → row_at kind h key rows ≡ option_map (row_of h) (record_at kind key (of h rows)) }
@@ -70,6 +70,8 @@ pub fn rows_are_found_among_records()
         → rows_above kind h above rows ≡ map (row_of h) (records_above kind above (of h rows)) }
     ensures chosen { (choice : Choice) (h : List ℕ) (rows : List Row)
         → studies_in choice h rows ≡ map (row_of h) (studies_among choice (of h rows)) }
+    ensures waiting { (choice : Choice) (h : List ℕ) (rows : List Row)
+        → waiting_in choice h rows ≡ map (row_of h) (waiting_among choice (of h rows)) }
     ensures counted { (kind : Kind) (h : List ℕ) (rows : List Row)
         → length (rows_of kind h rows) ≡ length (records_of kind (of h rows)) }
 {}

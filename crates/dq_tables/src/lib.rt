@@ -1,6 +1,7 @@
 //! What is kept of several institutions: rows, their changes, and the trait of what keeps them.
 #![tactic(auto)]
 
+mod asked;
 mod change;
 mod choice;
 mod fault;

@@ -6,13 +6,13 @@ ghost use Rattle.dq_tables.specs.declared.row.Row.{Row};
 ghost use Rattle.dq_tables.specs.Rows.{IsRising, Put, Remove, Start, record_of, after_edit, after_edits, after, operation_of};
 ghost use Rattle.dq_tables.specs.Finding.{rows_above};
 ghost use Rattle.dq_tables.specs.Indexed.{ListsEach, ListsEach-prop, Grows, is_listed, is_listed_if};
-ghost use Rattle.dq_tables.specs.Choosing.{studies_in};
+ghost use Rattle.dq_tables.specs.Choosing.{studies_in, waiting_in};
 ghost use Rattle.dq_tables.specs.Sound.{is_own, is_held, FitsStored, FitsStep, OwnEach, HeldEach, IsRising-prop, OwnEach-prop, HeldEach-prop};
 
 use crate::choice::Choice;
 use crate::put::{put, put_if, remove, start};
 use crate::row::{Kind, Row};
-use crate::search::{copies_chosen, copies_under, count_under, group, studies_near};
+use crate::search::{copies_chosen, copies_under, copies_waiting, count_under, group, rows_with};
 use crate::under::{
     Index, Under, copies_chosen_listed, copies_listed, count_listed, keys_under, list_row,
 };
@@ -106,7 +106,7 @@ impl PlainTables {
             ≡ studies_in choice.now institution.now self.now.kept.items) }
     {
         if choice.uid.is_some() || choice.patient.is_none() {
-            let studies = studies_near(self.kept(), institution, choice);
+            let studies = rows_with(self.kept(), Kind::Study, institution, choice);
             return copies_chosen(alloc, studies, choice);
         }
         let none = BTreeSet::new(alloc);
@@ -115,6 +115,21 @@ impl PlainTables {
         let keys = keys_under(&self.index, &of_patient, &none);
         let others = keys_under(&self.index, &of_none, &none);
         copies_chosen_listed(alloc, self.kept(), institution, choice, keys, others)
+    }
+
+    /// Copies of the institution's worklist entries that wait and that a choice takes. Its key is
+    /// looked up.
+    pub(crate) fn waiting(
+        &self,
+        alloc: Global,
+        institution: &[u8],
+        choice: &Choice,
+    ) -> Result<Listed<Row>, AllocError>
+        ensures { IfOk result (λ list. list
+            ≡ waiting_in choice.now institution.now self.now.kept.items) }
+    {
+        let entries = rows_with(self.kept(), Kind::Entry, institution, choice);
+        copies_waiting(alloc, entries, choice)
     }
 
     /// Lists a row that is to be kept under all that it stands under. No row changes.

@@ -61,6 +61,15 @@ impl Tables for PlainTables {
         Ok(self.chosen(alloc, institution, choice)?)
     }
 
+    fn waiting_in(
+        &mut self,
+        alloc: Global,
+        institution: &[u8],
+        choice: &Choice,
+    ) -> Result<Listed<Row>, TableFault> {
+        Ok(self.waiting(alloc, institution, choice)?)
+    }
+
     fn count(&mut self, _alloc: Global, kind: Kind, institution: &[u8]) -> Result<u64, TableFault> {
         Ok(group(self.kept(), kind, institution).len() as u64)
     }

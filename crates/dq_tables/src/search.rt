@@ -3,8 +3,7 @@ ghost use Rattle.std.specs.Prelude.{◌≡◌, ◌+◌, ◌<◌, ◌≤◌, None
 ghost use Rattle.std.specs.Str.{bytes_eq};
 ghost use Rattle.dq_tables.specs.Rows.{number_of, IsRising, row_place_of, row_place_order, place, group_order, record_of, rows_before, rows_past};
 ghost use Rattle.dq_tables.specs.Finding.{rows_of, row_at, IsThere, IsFree};
-ghost use Rattle.dq_tables.specs.Choosing.{is_chosen, studies_in};
-ghost use Rattle.dq_tables.specs.declared.row.Kind.TheVariants.{Study};
+ghost use Rattle.dq_tables.specs.Choosing.{has_asked_key, is_chosen, is_waiting};
 
 use crate::choice::Choice;
 use crate::row::{Kind, Row};
@@ -84,27 +83,32 @@ pub(crate) fn copies_under(
     Ok(copies)
 }
 
-/// The study with a key, in rows of its own.
-fn study_with<'a>(rows: &'a [Row], institution: &[u8], uid: &[u8]) -> &'a [Row]
+/// The row with a key, in rows of its own.
+fn row_with<'a>(rows: &'a [Row], kind: Kind, institution: &[u8], key: &[u8]) -> &'a [Row]
     requires { IsRising rows.now }
     ensures { result.now
-        ≡ filter (λ row. bytes_eq row.key uid.now) (rows_of Study institution.now rows.now) }
+        ≡ filter (λ row. bytes_eq row.key key.now) (rows_of kind institution.now rows.now) }
 {
-    match search(rows, Kind::Study, institution, uid) {
+    match search(rows, kind, institution, key) {
         Ok(at) => rows.split_at(at).1.split_at(1).0,
         Err(_) => &[],
     }
 }
 
-/// Studies among which are those that a choice takes. A key that it asks is looked up.
-pub(crate) fn studies_near<'a>(rows: &'a [Row], institution: &[u8], choice: &Choice) -> &'a [Row]
+/// The rows of a kind with the key that a choice asks, which is looked up, or all of them.
+pub(crate) fn rows_with<'a>(
+    rows: &'a [Row],
+    kind: Kind,
+    institution: &[u8],
+    choice: &Choice,
+) -> &'a [Row]
     requires { IsRising rows.now }
-    ensures { filter (λ row. is_chosen choice.now (record_of row)) result.now
-        ≡ studies_in choice.now institution.now rows.now }
+    ensures { result.now
+        ≡ filter (λ row. has_asked_key choice.now row.key) (rows_of kind institution.now rows.now) }
 {
     match &choice.uid {
-        Some(uid) => study_with(rows, institution, uid.as_slice()),
-        None => group(rows, Kind::Study, institution),
+        Some(uid) => row_with(rows, kind, institution, uid.as_slice()),
+        None => group(rows, kind, institution),
     }
 }
 
@@ -120,6 +124,24 @@ pub(crate) fn copies_chosen(
     let mut copies = Listed::empty(alloc);
     for row in rows {
         if choice.takes(alloc, row)? {
+            copies.push(row.copied(alloc)?)?;
+        }
+    }
+    Ok(copies)
+}
+
+/// Copies of the rows that no performed procedure step has started and that a choice takes.
+pub(crate) fn copies_waiting(
+    alloc: Global,
+    rows: &[Row],
+    choice: &Choice,
+) -> Result<Listed<Row>, AllocError>
+    ensures { IfOk result (λ copies.
+        copies ≡ filter (λ row. is_waiting choice.now (record_of row)) rows.now) }
+{
+    let mut copies = Listed::empty(alloc);
+    for row in rows {
+        if !row.started && choice.takes(alloc, row)? {
             copies.push(row.copied(alloc)?)?;
         }
     }

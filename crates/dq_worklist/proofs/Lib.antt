@@ -1,7 +1,10 @@
 mod Afterwards
+mod Chosen
 mod LookedUp
 mod Matching
+mod MetFirst
 mod Orders
 mod Queries
 mod Records
+mod Steps
 mod WorkedExamples

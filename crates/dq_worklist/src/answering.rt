@@ -1,9 +1,11 @@
 //! The answers to a worklist query (PS3.4 section K.4.1.3).
-ghost use Rattle.std.specs.Prelude.{◌≡◌, List, [], map, IfOk};
+ghost use Rattle.std.specs.Prelude.{◌≡◌, false, List, [], map, IfOk};
 ghost use Rattle.std.specs.Option.{option_copied, option_to_list};
 ghost use Rattle.std.specs.List.{filter_map};
 ghost use Rattle.dq_dimse.specs.Holding.{plain_message};
 ghost use Rattle.dq_match.specs.Identifiers.{HasKnownTags};
+ghost use Rattle.dq_match.specs.Matching.{fits};
+ghost use Rattle.dq_tables.specs.Records.{data_set_of};
 ghost use Rattle.dq_tables.specs.declared.row.Row.{Row as TheRow};
 ghost use Rattle.dq_tables.specs.Rows.{Record, of, record_of, row_of};
 ghost use Rattle.dq_tables.specs.Keeping.{Reads};
@@ -12,25 +14,37 @@ ghost use Rattle.dq_tables.specs.Serving.{Serves};
 ghost use Rattle.dq_worklist.specs.Queries.{listed};
 
 use crate::asking::{Query, query_of};
+use crate::choosing::choice_in;
 use dq_config::Institution;
 use dq_dataset::{DataSet, Syntax};
 use dq_dimse::Message;
 use dq_dimse::status::SUCCESS;
 use dq_list::Listed;
 use dq_match::laws::keys_are_met_alone_and_as_a_period;
-use dq_match::{Found, answer, is_plain};
-use dq_tables::laws::honest_rows_are_sound;
+use dq_match::{Found, answer, is_plain, lent_meets};
+use dq_tables::laws::{day_numbers_are_in_order, honest_rows_are_sound};
 use dq_tables::{Row, TableFault, Tables, sole_item_at};
-use dq_vr::tags::{SCHEDULED_PROCEDURE_STEP_ID, SCHEDULED_PROCEDURE_STEP_SEQUENCE};
+use dq_vr::{Tag, tags};
 use std::alloc::{AllocError, Global};
+
+/// What an element does not meet alone: what tells how a query is answered, and the start of a
+/// procedure step, which may be met as a period.
+static MET_LATER: [Tag; 6] = [
+    tags::SPECIFIC_CHARACTER_SET,
+    tags::QUERY_RETRIEVE_LEVEL,
+    tags::RETRIEVE_AE_TITLE,
+    tags::INSTANCE_AVAILABILITY,
+    tags::SCHEDULED_PROCEDURE_STEP_START_DATE,
+    tags::SCHEDULED_PROCEDURE_STEP_START_TIME,
+];
 
 /// The id of the step that the keys ask for, where it is one value without wild cards.
 #[tactic(auto, unfolding(crate::specs::Candidates::id_asked))]
 fn id_asked(keys: &DataSet) -> Option<&[u8]>
     ensures { option_copied result ≡ id_asked keys.now }
 {
-    let step = sole_item_at(keys, SCHEDULED_PROCEDURE_STEP_SEQUENCE)?;
-    let id = step.sole_value(SCHEDULED_PROCEDURE_STEP_ID)?;
+    let step = sole_item_at(keys, tags::SCHEDULED_PROCEDURE_STEP_SEQUENCE)?;
+    let id = step.sole_value(tags::SCHEDULED_PROCEDURE_STEP_ID)?;
     if is_plain(id) { Some(id) } else { None }
 }
 
@@ -45,7 +59,8 @@ fn listed(alloc: Global, row: Option<Row>) -> Result<Listed<Row>, AllocError>
     Ok(rows)
 }
 
-/// The entries that are looked at: where the keys ask for one step's id, no other entry can match.
+/// The entries that are looked at: where the keys ask for one step's id, no other entry can match,
+/// and where they do not, none that is started or that the choice does not take.
 fn candidates<T: Tables>(
     alloc: Global,
     tables: &mut T,
@@ -58,10 +73,19 @@ fn candidates<T: Tables>(
     ensures reads { Reads (T.state tables.old) (T.state tables.new) result }
 {
     let Some(id) = id_asked(keys) else {
-        return tables.entries(alloc, institution);
+        let choice = choice_in(alloc, keys)?;
+        return tables.waiting_in(alloc, institution, &choice);
     };
     let row = tables.entry(alloc, institution, id)?;
     Ok(listed(alloc, row)?)
+}
+
+/// Whether an entry can fit the keys, as far as its octets tell before they are read.
+fn may_fit(keys: &DataSet, row: &Row) -> bool
+    ensures { result ≡ false → fits keys.now (data_set_of row.now.octets) ≡ false }
+{
+    keys_are_met_alone_and_as_a_period();
+    lent_meets(keys.elements(), &MET_LATER, row.octets.as_slice())
 }
 
 /// The answers that rows give to the keys. An entry that a performed procedure step has started is
@@ -73,7 +97,7 @@ fn answers_of(alloc: Global, keys: &DataSet, rows: &[Row]) -> Result<Listed<Data
 {
     let mut answers = Listed::empty(alloc);
     for row in rows {
-        if row.started {
+        if row.started || !may_fit(keys, row) {
             continue;
         }
         let held = row.data_set(alloc)?;
@@ -104,6 +128,7 @@ pub fn query<T: Tables>(
     };
     query.keys.has_facts();
     honest_rows_are_sound::<T>();
+    day_numbers_are_in_order();
     keys_are_met_alone_and_as_a_period();
     let rows = candidates(alloc, tables, institution.name.as_slice(), &query.keys)?;
     let answers = answers_of(alloc, &query.keys, rows.as_slice())?;

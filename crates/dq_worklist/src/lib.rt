@@ -4,6 +4,7 @@
 
 mod answering;
 mod asking;
+mod choosing;
 mod completeness;
 pub mod laws;
 mod refusal;

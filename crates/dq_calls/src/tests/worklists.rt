@@ -116,3 +116,41 @@ fn a_step_is_listed_by_its_id(rt: HostRuntime) -> Result<(), Fail> {
     }
     Ok(())
 }
+
+/// Queries by a patient, by a day and by a range of days, in Explicit, and how many steps they list.
+const BY_PATIENT_AND_DAY: [(&[u8], usize); 7] = [
+    (b"\x10\0\x20\0LO\x02\0P1", 1),
+    (b"\x10\0\x20\0LO\x02\0P2", 0),
+    (b"\x10\0\x20\0LO\x02\0P*", 1),
+    (
+        b"\x40\0\0\x01SQ\0\0\x18\0\0\0\xfe\xff\0\xe0\x10\0\0\0\x40\0\x02\0DA\x08\x0020261122",
+        1,
+    ),
+    (
+        b"\x40\0\0\x01SQ\0\0\x18\0\0\0\xfe\xff\0\xe0\x10\0\0\0\x40\0\x02\0DA\x08\x0020261121",
+        0,
+    ),
+    (
+        b"\x40\0\0\x01SQ\0\0\x1a\0\0\0\xfe\xff\0\xe0\x12\0\0\0\x40\0\x02\0DA\x0a\x0020261122- ",
+        1,
+    ),
+    (
+        b"\x40\0\0\x01SQ\0\0\x1a\0\0\0\xfe\xff\0\xe0\x12\0\0\0\x40\0\x02\0DA\x0a\0-20261121 ",
+        0,
+    ),
+];
+
+#[test]
+fn a_step_is_listed_by_its_patient_and_its_day(rt: HostRuntime) -> Result<(), Fail> {
+    let alloc = rt.alloc();
+    let config = Config::read(alloc, CONFIG)?;
+    let north = config.institution(b"NORTH").ok_or("NORTH")?;
+    let mut tables = PlainTables::new(alloc);
+    assert_eq!(rt; ordered(alloc, &mut tables, north, *b"P21")?, None);
+    for (identifier, wanted) in BY_PATIENT_AND_DAY {
+        let message = request(alloc, command_field::C_FIND, WORKLIST, b"", identifier)?;
+        let found = query(alloc, &mut tables, north, &message, Syntax::Explicit)?;
+        assert_eq!(rt; found.answers.len(), wanted);
+    }
+    Ok(())
+}
