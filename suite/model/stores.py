@@ -2,9 +2,10 @@
 keeper, over Python's own sqlite3.
 
 A row is (kind, inst, id, above, patient, day, octets, started): kind 1 study, 2 series, 3 image, 4 entry, 5 step; the
-institution's name; the key, and the key of the row above it; of a study the only value of Patient ID, and the only value of
-Study Date as a number where it is a date; the data set in Explicit VR Little Endian; and 1 of an entry that a step has started,
-else 0. Version 1 of a store has not the last column.
+institution's name; the key, and the key of the row above it; of a study and of an entry the only value of Patient ID, and of a
+study the only value of Study Date, of an entry that of the start date of its only step, as a number where it is a date; the data
+set in Explicit VR Little Endian; and 1 of an entry that a step has started, else 0. Version 1 of a store has not the last column,
+nor an entry's patient and day.
 """
 import os
 import sqlite3
@@ -26,8 +27,10 @@ CREATE TABLE kept (kind INTEGER NOT NULL CHECK (kind BETWEEN 1 AND 5), inst TEXT
     PRIMARY KEY (kind, inst, id)) STRICT;
 CREATE TABLE version (number INTEGER NOT NULL) STRICT;
 CREATE INDEX kept_above ON kept (kind, inst, above, id);
+CREATE INDEX kept_patient ON kept (kind, inst, patient, id);
+CREATE INDEX kept_day ON kept (kind, inst, started, day, id);
 """
-OLD_TABLES = TABLES.replace(" started INTEGER NOT NULL,", "")
+OLD_TABLES = TABLES.replace(" started INTEGER NOT NULL,", "").partition("CREATE INDEX kept_patient")[0]
 COLUMNS = "kind, inst, id, above, patient, day, octets"
 INSERT = f"INSERT INTO kept ({COLUMNS}, started) VALUES (?, ?, ?, ?, ?, ?, ?, ?)"
 OLD_INSERT = f"INSERT INTO kept ({COLUMNS}) VALUES (?, ?, ?, ?, ?, ?, ?)"
@@ -47,11 +50,18 @@ def connect(path):
     return store
 
 
-def labels(kind, data_set):
-    """The patient and the day of a study."""
-    if kind != STUDY:
+def scheduled_step(data_set):
+    """The only scheduled step of an entry; without elements where there is no such."""
+    steps = element_of(data_set, services.SCHEDULED_STEP)
+    return steps[2][0] if steps is not None and len(steps[2]) == 1 else []
+
+
+def labels(kind, data_set, version=VERSION):
+    """The patient and the day of a study, and in version 2 of an entry."""
+    if kind != STUDY and (kind, version) != (ENTRY, VERSION):
         return None, None
-    date = only_value(element_of(data_set, DATE))
+    date = only_value(element_of(data_set, DATE) if kind == STUDY
+                      else element_of(scheduled_step(data_set), matching.START_DATE))
     is_day = date is not None and matching.day_of(date) is not None
     return only_value(element_of(data_set, PATIENT)), int(date) if is_day else None
 
@@ -113,22 +123,20 @@ def own_key(kind, key, data_set):
     if kind == STEP:
         return services.is_uid(key)
     if kind == ENTRY:
-        steps = element_of(data_set, services.SCHEDULED_STEP)
-        step = steps[2][0] if steps is not None and len(steps[2]) == 1 else []
-        identity = only_value(element_of(step, services.STEP_ID))
+        identity = only_value(element_of(scheduled_step(data_set), services.STEP_ID))
         return identity == key and 1 <= len(key) <= 16
     tags = {STUDY: services.STUDY, SERIES: services.SERIES, IMAGE: services.IMAGE}
     return services.only_uid(data_set, tags[kind]) == key
 
 
-def check_row(row, keys):
+def check_row(row, keys, version):
     kind, name, key, above, patient, day, octets, started = row
     if not STUDY <= kind <= STEP or started not in ((0, 1) if kind == ENTRY else (0,)):
         raise Refused(BAD_ROWS)
     data_set = data_set_of(octets)
     tags = {SERIES: services.STUDY, IMAGE: services.SERIES}
     own_above = services.only_uid(data_set, tags[kind]) if kind in tags else b""
-    if not own_key(kind, key, data_set) or above != own_above or (patient, day) != labels(kind, data_set):
+    if not own_key(kind, key, data_set) or above != own_above or (patient, day) != labels(kind, data_set, version):
         raise Refused(BAD_ROWS)
     if kind in tags and (kind - 1, name, above) not in keys:
         raise Refused(BAD_ROWS)
@@ -150,15 +158,23 @@ def empty(path):
     return store
 
 
+def as_of_old(row):
+    """The columns of version 1 of a row."""
+    kind, name, key, above, patient, day, octets, _ = row
+    return (kind, name, key, above, *((None, None) if kind == ENTRY else (patient, day)), octets)
+
+
 def fill(store, rows, version=VERSION):
     """Makes a store of a version that has these rows."""
-    tables, insert, width = (TABLES, INSERT, 8) if version == VERSION else (OLD_TABLES, OLD_INSERT, 7)
+    tables, insert = (TABLES, INSERT) if version == VERSION else (OLD_TABLES, OLD_INSERT)
+    if version == OLD_VERSION:
+        rows = map(as_of_old, rows)
     try:
         store.execute("BEGIN")
         for statement in tables.strip().rstrip(";").split(";"):
             store.execute(statement)
         store.execute("INSERT INTO version VALUES (?)", (version,))
-        store.executemany(insert, [(kind, name.decode(), *rest)[:width] for kind, name, *rest in rows])
+        store.executemany(insert, [(kind, name.decode(), *rest) for kind, name, *rest in rows])
         store.execute("COMMIT")
     except sqlite3.Error:
         raise Refused(STORE) from None
@@ -191,14 +207,14 @@ def adopt(path, version=VERSION):
     if shaped != [version] or versions != [(version,)]:
         raise Refused(WRONG_VERSION)
     keys = {row[:3] for row in rows}
-    return store, [(row, check_row(row, keys)) for row in rows]
+    return store, [(row, check_row(row, keys, version)) for row in rows]
 
 
 def migrated(found):
-    """Rows of version 1 with their data sets, as rows of version 2: an entry is started where a kept step of its institution names
-    it, whenever it was scheduled."""
+    """Rows of version 1 with their data sets, as rows of version 2: an entry says its patient and its day, and is started where a
+    kept step of its institution names it, whenever it was scheduled."""
     named = {(row[1], key) for row, data_set in found if row[0] == STEP for key in services.ids_named(data_set)}
-    return [(*row[:7], int(row[0] == ENTRY and row[1:3] in named)) for row, _ in found]
+    return [(*row[:4], *labels(row[0], data_set), row[6], int(row[0] == ENTRY and row[1:3] in named)) for row, data_set in found]
 
 
 def migrate(old, new_one):

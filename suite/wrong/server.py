@@ -424,7 +424,17 @@ def old_store_is_taken():
 
 def store_without_patients():
     right = stores.labels
-    stores.labels = lambda kind, data_set: (None, right(kind, data_set)[1])
+    stores.labels = lambda *words: (None, right(*words)[1])
+
+
+def store_without_entry_days():
+    right = stores.labels
+
+    def labels(kind, *words):
+        patient, day = right(kind, *words)
+        return patient, None if kind == stores.ENTRY else day
+
+    stores.labels = labels
 
 
 def store_without_an_index():
@@ -746,6 +756,7 @@ FAULTS = {"stop-at-unreadable": stop_at_unreadable, "limit-over-all": limit_over
           "migrates-without-a-row": migrates_without_a_row, "migrates-any-version": migrates_any_version,
           "migrates-over-rows": migrates_over_rows, "migrates-and-empties": migrates_and_empties,
           "migrates-row-by-row": migrates_row_by_row, "old-store-is-taken": old_store_is_taken,
+          "store-without-entry-days": store_without_entry_days,
           "store-without-an-index": store_without_an_index, "socket-drops-an-octet": socket_drops_an_octet,
           "socket-answers-another": socket_answers_another, "socket-never-closes": socket_never_closes,
           "socket-drops-what-waits": socket_drops_what_waits, "socket-waits-for-one": socket_waits_for_one,

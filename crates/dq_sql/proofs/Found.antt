@@ -30,7 +30,7 @@ use Rattle.dq_sql.proofs.Selecting.{with_row, passes, chosen, IsSelection, selec
 abbrev IsKeyed : Output → Type 0
 IsKeyed o = o.0 ≡ Blob (bytes (column o.1 0)) ∷ []
 
-at_most_last : (o : Ordering) → is_lt (ordering_then o Equal) ≡ is_lt o
+pub at_most_last : (o : Ordering) → is_lt (ordering_then o Equal) ≡ is_lt o
 at_most_last Less = refl
 at_most_last Equal = refl
 at_most_last Greater = refl
@@ -40,7 +40,7 @@ by_keys : (kind : Kind) (inst : List ℕ) (a b : Values)
     → row_place_order (row_place_of (row_shown kind inst a)) (row_place_of (row_shown kind inst b)) ≡ octet_order (bytes (column a 0)) (bytes (column b 0))
 by_keys kind inst a b = rw (tied_itself nat_cmp_total (number_of kind), tied_itself nat_list_cmp_total inst) refl
 
-sorted_tail : {X : Type 0} (cmp : X → X → Ordering) (x : X) (xs : List X) → IsSorted cmp (x ∷ xs) → IsSorted cmp xs
+pub sorted_tail : {X : Type 0} (cmp : X → X → Ordering) (x : X) (xs : List X) → IsSorted cmp (x ∷ xs) → IsSorted cmp xs
 sorted_tail cmp x xs s i d low high =
     let next : suc i + 1 ≡ suc (i + 1) = omega arith in
     subst (λ n. is_lt (cmp (slice_index_or (x ∷ xs) n d) (slice_index_or xs i d)) ≡ false) next (s (suc i) d (omega arith) (omega arith))

@@ -19,6 +19,11 @@ mod SchemaTest
 mod Selected
 mod Selecting
 mod Silent
+mod ChoiceTexts
+mod Chosen
+mod Firsts
+mod KeyOrder
+mod Taken
 pub mod Statements
 mod Started
 mod Starting

@@ -1,5 +1,5 @@
 -- From the clause of a call to the rows that it reads.
-use Rattle.std.proofs.Common.{◌≡◌, ℕ, ℤ, int_cmp, int_le, is_eq, is_le, min, slice_index_or, pos, Option, Bool, true, false, ◌&&◌, List, [], ◌∷◌, None, Some, map, filter, length, slice_get, refl, sym, ◌∙◌, ap, subst, arith}
+use Rattle.std.proofs.Common.{◌≡◌, ℕ, min, slice_index_or, pos, Bool, true, false, ◌&&◌, List, [], ◌∷◌, None, map, filter, length, slice_get, refl, sym, ◌∙◌, ap, subst, arith}
 use Rattle.std.specs.List.{AllByRecursion}
 use Rattle.std.specs.List.Sorted.{IsPermutation}
 use Rattle.std.specs.Str.{bytes_eq}
@@ -9,50 +9,37 @@ use Rattle.std.proofs.lemmas.List.Sorted.{length_permutation}
 use Rattle.std.proofs.lemmas.Map.Text.{is_eq-slice_cmp}
 use Rattle.std.proofs.lemmas.Slice.Eq.{bytes_eq-Decides}
 use Rattle.std.proofs.lemmas.Bool.{and_parts}
-use Rattle.std.proofs.lemmas.Int.{ints}
 use Rattle.sqlite_value.specs.declared.value.Value.{Value}
 use Rattle.sqlite_value.specs.declared.value.Value.TheVariants.{Int, Text, Blob, Null}
 use Rattle.sqlite_value.specs.Order.{Row as Values, column}
-use Rattle.sqlite_value.specs.declared.keys.Collation.TheVariants.{Binary}
-use Rattle.sqlite_value.proofs.OrderLemmas.{value_cmp-Int, value_cmp-Blob}
 use Rattle.sqlite_schema.specs.declared.command.Command.TheVariants.{Select}
 use Rattle.sqlite_value.specs.declared.keys.Key.{Key}
-use Rattle.sqlite_sql.specs.declared.ops.BinaryOp.TheVariants.{Compare, Coalesce}
-use Rattle.sqlite_sql.specs.declared.ops.CompareOp.{CompareOp}
-use Rattle.sqlite_sql.specs.declared.ops.CompareOp.TheVariants.{Eq, Le}
-use Rattle.sqlite_sql.specs.Ops.{binary, is_true, from_truth}
 use Rattle.sqlite_sql.specs.Aggregate.{count as stored_count}
 use Rattle.sqlite_sql.specs.Term.{Term, col, eval_all}
 use Rattle.sqlite_sql.specs.Query.{Query, IsAnswer}
 use Rattle.sqlite_sql.specs.Program.{overlay}
 use Rattle.sqlite.specs.State.{State, Shown}
-use Rattle.sqlite.specs.Values.{or_null, bound_value}
 use Rattle.sqlite.proofs.Callers.{reads_as, one_permutation}
-use Rattle.dq_tables.specs.declared.choice.Choice.{Choice}
 use Rattle.dq_tables.specs.declared.row.Kind.{Kind}
-use Rattle.dq_tables.specs.declared.row.Kind.TheVariants.{Study}
 use Rattle.dq_tables.specs.declared.row.Row.{Row}
-use Rattle.dq_tables.specs.Rows.{RowPlace, place, number_of, IsRising, row_place_of, row_place_order, record_of}
-use Rattle.dq_tables.specs.Labels.{patient_of, day_of}
-use Rattle.dq_tables.specs.Choosing.{is_none_or, is_open_or, has_labels, is_chosen, studies_in}
+use Rattle.dq_tables.specs.Rows.{RowPlace, place, number_of, IsRising, row_place_of, row_place_order}
 use Rattle.dq_tables.specs.Finding.{same_kind, is_of, row_at, rows_of, rows_above}
 use Rattle.dq_tables.proofs.InOrder.{is_eq_nat}
 use Rattle.dq_tables.proofs.Listing.{one_kind}
 use Rattle.dq_tables.proofs.Keyed.{both_tests}
 use Rattle.dq_tables.proofs.Order.{rows_total, each_passed, filter_all, IsRising-filter}
-use Rattle.dq_sql.specs.Cells as cells
 use Rattle.dq_sql.specs.declared.version.Version.{Version}
 use Rattle.dq_sql.specs.declared.version.Version.TheVariants.{One, Two}
 use Rattle.dq_sql.specs.Schema.{schema_of}
 use Rattle.dq_sql.specs.Tie.{kept_of, IsKept, unstarted}
 use Rattle.dq_sql.specs.Reading.{ShowsNoWrite, HoldsOf, Shows, kept_shown, numbers_shown, IsCount, columns, row_shown}
-use Rattle.dq_sql.proofs.Queries.{Means, selecting, of_tests, at_tests, above_tests, chosen_tests, named_tests, shown_columns, by_id, row_text, of_text, above_text, chosen_text, named_text, row_means, of_means, above_means, chosen_means, named_means, count_text, count_above_text, count_means, count_above_means, all_text, all_columns, by_place, all_means, version_text, version_means}
+use Rattle.dq_sql.proofs.Queries.{Means, selecting, of_tests, at_tests, above_tests, shown_columns, by_id, row_text, of_text, above_text, row_means, of_means, above_means, count_text, count_above_text, count_means, count_above_means, all_text, all_columns, by_place, all_means, version_text, version_means}
 use Rattle.dq_sql.proofs.Selecting.{with_row, passes, chosen, selection, selection_rows}
 use Rattle.dq_sql.proofs.Found.{found_rows, listed_rows}
 use Rattle.dq_sql.proofs.Counting.{count_answer, size_found}
 use Rattle.dq_sql.proofs.Selected.{first_kept}
 use Rattle.dq_sql.proofs.Placed.{equals, equals-Int, equals-Text, equals-Blob}
-use Rattle.dq_sql.proofs.Silent.{row_silent, of_silent, above_silent, chosen_silent, named_silent, count_silent, count_above_silent, all_one_silent, all_two_silent, version_silent}
+use Rattle.dq_sql.proofs.Silent.{row_silent, of_silent, above_silent, count_silent, count_above_silent, all_one_silent, all_two_silent, version_silent}
 use Rattle.dq_sql.proofs.Staying.{shown_unchanged}
 
 pub answer_of : (version : Version) (text : List ℕ) (q : Query) → Means version text q → (params : Values) (old new : State) → old.now.schema ≡ schema_of version
@@ -65,13 +52,13 @@ answer_of version text q m params old new has answer h =
 abbrev pub of_params : Kind → List ℕ → Values → Values
 of_params kind inst more = Int (pos (number_of kind)) ∷ Text inst ∷ more
 
-kind_test : (v : Value) (a b : Kind) → v ≡ Int (pos (number_of a)) → equals v (Int (pos (number_of b))) ≡ same_kind a b
+pub kind_test : (v : Value) (a b : Kind) → v ≡ Int (pos (number_of a)) → equals v (Int (pos (number_of b))) ≡ same_kind a b
 kind_test v a b e = ap (λ w. equals w (Int (pos (number_of b)))) e ∙ equals-Int (number_of a) (number_of b) ∙ is_eq_nat (number_of a) (number_of b)
 
-text_test : (v : Value) (s t : List ℕ) → v ≡ Text s → equals v (Text t) ≡ bytes_eq s t
+pub text_test : (v : Value) (s t : List ℕ) → v ≡ Text s → equals v (Text t) ≡ bytes_eq s t
 text_test v s t e = ap (λ w. equals w (Text t)) e ∙ equals-Text s t ∙ is_eq-slice_cmp s t
 
-blob_test : (v : Value) (s t : List ℕ) → v ≡ Blob s → equals v (Blob t) ≡ bytes_eq s t
+pub blob_test : (v : Value) (s t : List ℕ) → v ≡ Blob s → equals v (Blob t) ≡ bytes_eq s t
 blob_test v s t e = ap (λ w. equals w (Blob t)) e ∙ equals-Blob s t ∙ is_eq-slice_cmp s t
 
 two : (a b : Bool) → (a && (b && true)) ≡ (a && b)
@@ -102,133 +89,12 @@ above_finds kind inst above r h =
     rw (kind_test (column r 1) (kept_of r).kind kind h.kind, text_test (column r 2) (kept_of r).inst inst h.inst, blob_test (column r 4) (kept_of r).above above h.above)
     (three (same_kind (kept_of r).kind kind) (bytes_eq (kept_of r).inst inst) (bytes_eq (kept_of r).above above))
 
--- a comparison in which what is null lets the row through
-abbrev open_test : CompareOp → Value → Value → Bool
-open_test how a b = is_true (binary Coalesce (binary (Compare how Binary) a b) (Int (pos 1)))
-
-coalesced : (b : Bool) → is_true (binary Coalesce (from_truth (Some b)) (Int (pos 1))) ≡ b
-unfolding binary
-coalesced true = refl
-coalesced false = refl
-
-patient_test : (asked said : Option (List ℕ)) → open_test Eq (or_null Blob asked) (or_null Blob said) ≡ is_open_or bytes_eq asked said
-unfolding binary
-patient_test None said = refl
-patient_test (Some a) None = refl
-patient_test (Some a) (Some s) = coalesced _ ∙ ap is_eq (value_cmp-Blob a s) ∙ is_eq-slice_cmp a s
-
-is_le_int : (a b : ℤ) → is_le (int_cmp a b) ≡ int_le a b
-is_le_int a b = grind (arith, ints)
-
-abbrev pub day_param : Option ℕ → Value
-day_param = or_null (λ n. Int (pos n))
-
-first_test : (asked : Option ℕ) (said : Option ℤ) → open_test Le (day_param asked) (or_null Int said) ≡ is_open_or (λ first day. int_le (pos first) day) asked said
-unfolding binary
-first_test None said = refl
-first_test (Some n) None = refl
-first_test (Some n) (Some z) = coalesced _ ∙ ap is_le (value_cmp-Int (pos n) z) ∙ is_le_int (pos n) z
-
-last_test : (asked : Option ℕ) (said : Option ℤ) → open_test Le (or_null Int said) (day_param asked) ≡ is_open_or (λ last day. int_le day (pos last)) asked said
-unfolding binary
-last_test None None = refl
-last_test None (Some z) = refl
-last_test (Some n) None = refl
-last_test (Some n) (Some z) = coalesced _ ∙ ap is_le (value_cmp-Int z (pos n)) ∙ is_le_int z (pos n)
-
-abbrev pub chosen_params : Choice → List ℕ → Values → Values
-chosen_params choice inst more =
-    of_params Study inst (or_null Blob choice.patient ∷ day_param choice.first_day ∷ day_param choice.last_day ∷ more)
-
--- values are bound as they are
-pub bound_octets : (o : Option (List ℕ)) → bound_value (or_null Blob o) ≡ or_null Blob o
-bound_octets None = refl
-bound_octets (Some octets) = refl
-
-pub bound_day : (o : Option ℕ) → bound_value (day_param o) ≡ day_param o
-bound_day None = refl
-bound_day (Some n) = refl
-
-five : (k i p f l : Bool) → (k && (i && (p && (f && (l && true))))) ≡ ((k && i) && (p && (f && l)))
-five true true true true true = refl
-five true true true true false = refl
-five true true true false l = refl
-five true true false f l = refl
-five true false p f l = refl
-five false i p f l = refl
-
-six : (k i u p f l : Bool) → (k && (i && (u && (p && (f && (l && true)))))) ≡ ((k && i) && (u && (p && (f && l))))
-six true true true true true true = refl
-six true true true true true false = refl
-six true true true true false l = refl
-six true true true false f l = refl
-six true true false p f l = refl
-six true false u p f l = refl
-six false i u p f l = refl
-
-abbrev takes : Choice → Row → Bool
-takes choice row = is_chosen choice (record_of row)
-
--- what a choice asks, where it asks no key and where it asks one
-asked_is : (choice : Choice) (row : Row) → choice.uid ≡ None → has_labels choice (patient_of row) (day_of row) ≡ takes choice row
-unfolding is_chosen patient_of day_of
-asked_is choice row none = ap (λ (u : Option (List ℕ)). is_none_or (bytes_eq row.key) u && has_labels choice (patient_of row) (day_of row)) (sym none)
-
-named_is : (choice : Choice) (uid : List ℕ) (row : Row) → choice.uid ≡ Some uid
-    → (bytes_eq row.key uid && has_labels choice (patient_of row) (day_of row)) ≡ takes choice row
-unfolding is_chosen patient_of day_of
-named_is choice uid row some = ap (λ (u : Option (List ℕ)). is_none_or (bytes_eq row.key) u && has_labels choice (patient_of row) (day_of row)) (sym some)
-
-module _ (choice : Choice) (inst : List ℕ) (r : Values) (h : IsKept r) where
-  abbrev row : Row
-  row = kept_of r
-
-  patient_is : column r 5 ≡ or_null Blob (patient_of row)
-  unfolding cells.patient_of
-  patient_is = h.patient
-
-  day_is : column r 6 ≡ or_null Int (day_of row)
-  unfolding cells.day_of
-  day_is = h.day
-
-  chosen_finds : choice.uid ≡ None → passes chosen_tests (chosen_params choice inst []) r ≡ (is_of Study inst row && takes choice row)
-  chosen_finds none =
-      rw (
-        kind_test (column r 1) row.kind Study h.kind,
-        text_test (column r 2) row.inst inst h.inst,
-        patient_is,
-        day_is,
-        patient_test choice.patient (patient_of row),
-        first_test choice.first_day (day_of row),
-        last_test choice.last_day (day_of row),
-      )
-      (five (same_kind row.kind Study) (bytes_eq row.inst inst) (is_open_or bytes_eq choice.patient (patient_of row))
-      (is_open_or (λ first day. int_le (pos first) day) choice.first_day (day_of row)) (is_open_or (λ last day. int_le day (pos last)) choice.last_day (day_of row)))
-      ∙ ap (λ b. is_of Study inst row && b) (asked_is choice row none)
-
-  named_finds : (uid : List ℕ) → choice.uid ≡ Some uid
-      → passes named_tests (chosen_params choice inst (Blob uid ∷ [])) r ≡ (is_of Study inst row && takes choice row)
-  named_finds uid some =
-      rw (
-        kind_test (column r 1) row.kind Study h.kind,
-        text_test (column r 2) row.inst inst h.inst,
-        blob_test (column r 3) row.key uid h.key,
-        patient_is,
-        day_is,
-        patient_test choice.patient (patient_of row),
-        first_test choice.first_day (day_of row),
-        last_test choice.last_day (day_of row),
-      )
-      (six (same_kind row.kind Study) (bytes_eq row.inst inst) (bytes_eq row.key uid) (is_open_or bytes_eq choice.patient (patient_of row))
-      (is_open_or (λ first day. int_le (pos first) day) choice.first_day (day_of row)) (is_open_or (λ last day. int_le day (pos last)) choice.last_day (day_of row)))
-      ∙ ap (λ b. is_of Study inst row && b) (named_is choice uid row some)
-
-of_own : (kind : Kind) (inst : List ℕ) (row : Row) → is_of kind inst row ≡ true → (row.kind ≡ kind) × (row.inst ≡ inst)
+pub of_own : (kind : Kind) (inst : List ℕ) (row : Row) → is_of kind inst row ≡ true → (row.kind ≡ kind) × (row.inst ≡ inst)
 of_own kind inst row h =
     let parts = and_parts (same_kind row.kind kind) (bytes_eq row.inst inst) h in
     (one_kind row.kind kind parts.0, (bytes_eq-Decides row.inst inst).0 parts.1)
 
-and_own : (kind : Kind) (inst : List ℕ) (test : Row → Bool) (row : Row) → (is_of kind inst row && test row) ≡ true → (row.kind ≡ kind) × (row.inst ≡ inst)
+pub and_own : (kind : Kind) (inst : List ℕ) (test : Row → Bool) (row : Row) → (is_of kind inst row && test row) ≡ true → (row.kind ≡ kind) × (row.inst ≡ inst)
 and_own kind inst test row h = of_own kind inst row (and_parts (is_of kind inst row) (test row) h).0
 
 -- ---- the row at a place
@@ -292,33 +158,6 @@ module _ (old new : State) (kind : Kind) (inst : List ℕ) (answer : List Values
         let s = selection 0 above_tests shown_columns by_id old.now.trees params answer refl (answer_of Two above_text _ above_means params old new has.version_is.schema answer h) in
         listed_rows above_tests params kind inst (λ row. is_of kind inst row && under row) (above_finds kind inst above) (and_own kind inst under) old.now rows answer has s
         ∙ sym (both_tests (is_of kind inst) under rows);
-  }
-
-module _ (old new : State) (choice : Choice) (inst : List ℕ) (answer : List Values) where
-  pub found_chosen : choice.uid ≡ None → Shown chosen_text (chosen_params choice inst []) old new answer
-      → HoldsOf old (λ rows. map (row_shown Study inst) answer ≡ studies_in choice inst rows)
-  unfolding rows_of studies_in
-  found_chosen none h = record {
-    is_open = (shown_unchanged chosen_text (chosen_params choice inst []) old new chosen_silent answer h).0.was_open;
-    of_rows = λ rows has.
-        let params = chosen_params choice inst [] in
-        let s = selection 0 chosen_tests shown_columns by_id old.now.trees params answer refl (answer_of Two chosen_text _ chosen_means params old new has.version_is.schema answer h) in
-        listed_rows chosen_tests params Study inst (λ row. is_of Study inst row && takes choice row) (λ r kept. chosen_finds choice inst r kept none)
-        (and_own Study inst (takes choice)) old.now rows answer has s
-        ∙ sym (both_tests (is_of Study inst) (takes choice) rows);
-  }
-
-  pub found_named : (uid : List ℕ) → choice.uid ≡ Some uid → Shown named_text (chosen_params choice inst (Blob uid ∷ [])) old new answer
-      → HoldsOf old (λ rows. map (row_shown Study inst) answer ≡ studies_in choice inst rows)
-  unfolding rows_of studies_in
-  found_named uid some h = record {
-    is_open = (shown_unchanged named_text (chosen_params choice inst (Blob uid ∷ [])) old new named_silent answer h).0.was_open;
-    of_rows = λ rows has.
-        let params = chosen_params choice inst (Blob uid ∷ []) in
-        let s = selection 0 named_tests shown_columns by_id old.now.trees params answer refl (answer_of Two named_text _ named_means params old new has.version_is.schema answer h) in
-        listed_rows named_tests params Study inst (λ row. is_of Study inst row && takes choice row) (λ r kept. named_finds choice inst r kept uid some)
-        (and_own Study inst (takes choice)) old.now rows answer has s
-        ∙ sym (both_tests (is_of Study inst) (takes choice) rows);
   }
 
 count_is : (n number : ℕ) (answer : List Values) → answer ≡ (stored_count n ∷ []) ∷ [] → IsCount answer number → number ≡ n

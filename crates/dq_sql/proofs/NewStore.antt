@@ -1,5 +1,5 @@
 -- What each statement that makes a store makes of the database.
-use Rattle.std.proofs.Common.{◌≡◌, ◌≢◌, IsTrue, OnOk, arith, ◌⊎◌, inl, inr, ℕ, List, [], ◌∷◌, map, Bool, false, true, None, Ok, Err, Result, refl, sym, ap, subst, ◌∙◌, cond, pos}
+use Rattle.std.proofs.Common.{◌≡◌, ◌≢◌, IsTrue, OnOk, arith, ◌⊎◌, inl, inr, ℕ, List, [], ◌∷◌, ◌++◌, map, Bool, false, true, None, Ok, Err, Result, refl, sym, ap, subst, ◌∙◌, cond, pos}
 use Rattle.sqlite.specs.declared.types.Value.TheVariants.{Int, Null}
 use Rattle.sqlite.specs.Ops.{unary}
 use Rattle.sqlite.specs.Source.TheVariants.{Values}
@@ -11,6 +11,7 @@ use Rattle.sqlite.specs.Rowids.TheVariants.{Chosen}
 use Rattle.sqlite.specs.Kind.TheVariants.{Integer}
 use Rattle.sqlite.specs.Change.{created, indexed, next_tree}
 use Rattle.sqlite_catalog.specs.Change.{KeepsRows}
+use Rattle.sqlite_schema.specs.declared.schema.Index.{Index}
 use Rattle.sqlite_schema.specs.declared.schema.Schema.{Schema}
 use Rattle.sqlite_value.specs.declared.value.Value.{Value}
 use Rattle.sqlite_value.specs.Order.{Row, column}
@@ -27,9 +28,9 @@ use Rattle.dq_tables.specs.Rows.{IsRising}
 use Rattle.dq_sql.specs.Tie.{HasRows}
 use Rattle.sqlite.proofs.Callers.{statement_of, runs_as, one_step}
 use Rattle.dq_sql.specs.declared.version.Version.TheVariants.{Two}
-use Rattle.dq_sql.specs.Schema.{schema_of, kept_table, version_table, above_index, kept_schema}
-use Rattle.dq_sql.specs.Making.{no_schema, with_kept, with_version, MakesKept, MakesVersion, MakesIndex, SaysVersion, GoesOn}
-use Rattle.dq_sql.proofs.Texts.{kept_text, version_text, above_text, number_text, number_terms, kept_is, version_is, above_is, number_is, all_made, kept_plain, version_plain, above_plain, number_plain}
+use Rattle.dq_sql.specs.Schema.{schema_of, kept_table, version_table, above_index, patient_index, day_index, kept_schema}
+use Rattle.dq_sql.specs.Making.{no_schema, with_kept, with_indexes, MakesKept, MakesVersion, TakesSchema, MakesIndex, MakesIndexes, SaysVersion, GoesOn}
+use Rattle.dq_sql.proofs.Texts.{kept_text, version_text, number_text, number_terms, MakesIt, kept_is, version_is, number_is, both_made, all_made, kept_plain, version_plain, number_plain}
 
 -- a part that gave a value did not stop on the way
 went : {B E R : Type 0} {b : B} {Stops : E → Type 0} → ((stop : E) × Stops stop × (Ok b ≡ Err stop)) ⊎ R → R
@@ -63,7 +64,7 @@ makes_version old new count h has =
     let made = first.1 in
     let both : Ok made.table ≡ Ok (record version_table { tree = 0 }) = sym made.defined ∙ version_is.2 in
     let same : made.table ≡ record version_table { tree = 0 } = cc in
-    let schema : first.0.schema ≡ with_version = made.is ∙ ap (λ s. created s made.table) has ∙ ap (created with_kept) same in
+    let schema : first.0.schema ≡ with_indexes [] = made.is ∙ ap (λ s. created s made.table) has ∙ ap (created with_kept) same ∙ both_made in
     let plain : lacks_sequence first.0.schema ≡ false = ap lacks_sequence schema in
     let now : new.now ≡ first.0 = ap (λ (p : Tally × Database). p.1) (same_value all.2) ∙ same_value (rw plain at first.2) in
     let others = subst (λ (s : Schema). KeepsRows s.tables old.now.trees first.0.trees) has made.others in (
@@ -72,16 +73,27 @@ makes_version old new count h has =
       ap (λ (d : Database). d.trees 2) now ∙ subst (λ s. first.0.trees (next_tree s) ≡ []) has made.empty,
     )
 
-pub makes_index : (old new : State) (count : ℕ) → ExecutesInside 0 above_text [] old new (Ok count) → MakesIndex old.now new.now
-makes_index old new count h has =
-    let w = subst (λ t. Writes old new None (CreateIndex 0) t [] count) above_is.1 (runs_as above_text [] old new with_version has (CreateIndex 0) above_is.0 above_plain count h.0) in
-    let all = went (subst (λ s. Does old.step_limit (mode_of old) [] (record old.now { schema = s }) above_text None (CreateIndex 0) (Ok (w.tally, new.now))) has w.changed) in
+pub makes_index : (indexes : List Index) (text : List ℕ) (index : Index) → MakesIt indexes text index → indexed (with_indexes indexes) (kept_table Two) index ≡ with_indexes (indexes ++ index ∷ [])
+    → (old new : State) (count : ℕ) → ExecutesInside 0 text [] old new (Ok count) → MakesIndex indexes index old.now new.now
+makes_index indexes text index it next old new count h has =
+    let before = with_indexes indexes in
+    let w = subst (λ t. Writes old new None (CreateIndex 0) t [] count) it.whole (runs_as text [] old new before has (CreateIndex 0) it.command it.plain count h.0) in
+    let all = went (subst (λ s. Does old.step_limit (mode_of old) [] (record old.now { schema = s }) text None (CreateIndex 0) (Ok (w.tally, new.now))) has w.changed) in
     let made = all.1 in
-    let both : Ok made.index ≡ Ok (record above_index { tree = 0 }) = sym made.defined ∙ above_is.2 in
-    let same : made.index ≡ record above_index { tree = 0 } = cc in
-    let schema : all.0.schema ≡ kept_schema = made.is ∙ ap (indexed with_version (kept_table Two)) same ∙ all_made in
+    let both : Ok made.index ≡ Ok (record index { tree = 0 }) = sym made.defined ∙ it.defines in
+    let same : made.index ≡ record index { tree = 0 } = cc in
+    let schema : all.0.schema ≡ with_indexes (indexes ++ index ∷ []) = made.is ∙ ap (indexed before (kept_table Two)) same ∙ next in
     let now : new.now ≡ all.0 = ap (λ (p : Tally × Database). p.1) (same_value all.2) in
     (ap (λ (d : Database). d.schema) now ∙ schema, ap (λ (d : Database). d.trees 0) now ∙ made.rows.0, ap (λ (d : Database). d.trees 2) now ∙ made.rows.1.0)
+
+pub then_takes : (a b c : Database) (mid schema : Schema) → TakesSchema a b mid → (b.schema ≡ mid → TakesSchema b c schema) → TakesSchema a c schema
+then_takes a b c mid schema one two = let next = two one.0 in (next.0, next.1 ∙ one.1, next.2 ∙ one.2)
+
+-- the three indexes in turn
+pub makes_indexes : (a b c d : Database) → MakesIndex [] above_index a b → MakesIndex (above_index ∷ []) patient_index b c
+    → MakesIndex (above_index ∷ patient_index ∷ []) day_index c d → MakesIndexes a d
+makes_indexes a b c d one two three has =
+    subst (TakesSchema a d) all_made (then_takes a c d _ _ (then_takes a b c _ _ (one has) two) three)
 
 either : (b : Bool) (x : Value) → cond b x x ≡ x
 either true x = refl
@@ -159,8 +171,8 @@ keeps_then a b c one two = record {
   committed = λ up. two.committed up ∙ one.committed (two.was_open up);
 }
 
--- the four statements in turn
-pub whole_store : (a b c d e : Database) → MakesKept a b → MakesVersion b c → MakesIndex c d → SaysVersion d e → a.schema ≡ no_schema → HasRows e []
+-- the tables, the indexes and the version in turn
+pub whole_store : (a b c d e : Database) → MakesKept a b → MakesVersion b c → MakesIndexes c d → SaysVersion d e → a.schema ≡ no_schema → HasRows e []
 unfolding IsRising IsDistinct
 whole_store a b c d e one two three four has =
     let kept = one has in

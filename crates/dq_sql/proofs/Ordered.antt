@@ -17,6 +17,7 @@ use Rattle.dq_tables.proofs.InOrder.{row_at_is}
 use Rattle.dq_tables.proofs.OneOrder.{rising_distinct}
 use Rattle.dq_tables.proofs.Members.{added_has}
 use Rattle.dq_sql.specs.declared.fault.StoreFault.{StoreFault}
+use Rattle.dq_sql.specs.declared.version.Version.{Version}
 use Rattle.dq_sql.specs.Tie.{kept_of}
 use Rattle.dq_sql.specs.Adopting.{IsTaken, IsGood, AreGood}
 
@@ -128,30 +129,30 @@ last_first : (done : List Values) (x : Values) → IsPermutation (map kept_of (d
 last_first done x = subst (λ l. IsPermutation l (kept_of x ∷ map kept_of done)) (sym (map_split done x [])) (IsPermutation-to_front (map kept_of done) (kept_of x))
 
 -- a good row that is added
-pub good_next : (found : List Values) (i : ℕ) (x : Values) (rows new : List Row) → i < length found → x ≡ get_or found i x → AreGood (take i found) rows → IsGood x
-    → IsPermutation (kept_of x ∷ rows) new → IsRising new → AreGood (take (i + 1) found) new
-good_next found i x rows new near is good is_good added rising =
+pub good_next : (version : Version) (found : List Values) (i : ℕ) (x : Values) (rows new : List Row) → i < length found → x ≡ get_or found i x → AreGood version (take i found) rows → IsGood version x
+    → IsPermutation (kept_of x ∷ rows) new → IsRising new → AreGood version (take (i + 1) found) new
+good_next version found i x rows new near is good is_good added rising =
     let one_more : i + 1 ≡ suc i = omega arith in
     let longer : take (i + 1) found ≡ take i found ++ x ∷ [] =
     ap (λ n. take n found) one_more ∙ (take_next found i x near ∙ ap (λ y. take i found ++ y ∷ []) (sym is)) in
-    subst (λ l. AreGood l new) (sym longer) (record {
-      each = each_and IsGood (take i found) x good.each is_good;
+    subst (λ l. AreGood version l new) (sym longer) (record {
+      each = each_and (IsGood version) (take i found) x good.each is_good;
       same = IsPermutation-trans _ (kept_of x ∷ rows) new
           (IsPermutation-trans _ (kept_of x ∷ map kept_of (take i found)) _ (last_first (take i found) x) (IsPermutation-cons (kept_of x) _ rows good.same)) added;
       rising = rising;
     })
 
 -- a row that is bad, or whose place is taken, is none of good ones
-pub bad_next : (found : List Values) (i : ℕ) (x : Values) (rows : List Row) → i < length found → x ≡ get_or found i x → AreGood (take i found) rows
-    → (IsGood x → IsTaken rows (kept_of x)) → (all : List Row) → ¬ AreGood found all
-bad_next found i x rows near is good bad all every =
+pub bad_next : (version : Version) (found : List Values) (i : ℕ) (x : Values) (rows : List Row) → i < length found → x ≡ get_or found i x → AreGood version (take i found) rows
+    → (IsGood version x → IsTaken rows (kept_of x)) → (all : List Row) → ¬ AreGood version found all
+bad_next version found i x rows near is good bad all every =
     let whole : take i found ++ x ∷ drop (suc i) found ≡ found = ap (λ y. take i found ++ y ∷ drop (suc i) found) is ∙ split_at found i x near in
-    let is_good = at_middle IsGood (take i found) x (drop (suc i) found) (subst (AllByRecursion IsGood) (sym whole) every.each) in
+    let is_good = at_middle (IsGood version) (take i found) x (drop (suc i) found) (subst (AllByRecursion (IsGood version)) (sym whole) every.each) in
     free_before (take i found) (drop (suc i) found) x rows all good.same (subst (λ l. IsPermutation (map kept_of l) all) (sym whole) every.same) every.rising (bad is_good)
 
-pub none_good : AreGood [] []
+pub none_good : (version : Version) → AreGood version [] []
 unfolding IsRising
-none_good = record { each = tt; same = IsPermutation-refl []; rising = tt }
+none_good version = record { each = tt; same = IsPermutation-refl []; rising = tt }
 
 pub same_fault : {A : Type 0} (a b : StoreFault) → ◌≡◌ {A = Result A StoreFault} (Err a) (Err b) → a ≡ b
 same_fault a b e = cc

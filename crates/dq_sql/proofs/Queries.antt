@@ -4,9 +4,8 @@ use Rattle.sqlite_value.specs.declared.value.Value.TheVariants.{Int, Null}
 use Rattle.sqlite_value.specs.declared.keys.Collation.TheVariants.{Binary}
 use Rattle.sqlite_value.specs.declared.keys.Key.{Key}
 use Rattle.sqlite_value.specs.Keys.{ascending}
-use Rattle.sqlite_sql.specs.declared.ops.BinaryOp.TheVariants.{Compare, Coalesce}
-use Rattle.sqlite_sql.specs.declared.ops.CompareOp.{CompareOp}
-use Rattle.sqlite_sql.specs.declared.ops.CompareOp.TheVariants.{Eq, Le}
+use Rattle.sqlite_sql.specs.declared.ops.BinaryOp.TheVariants.{Compare}
+use Rattle.sqlite_sql.specs.declared.ops.CompareOp.TheVariants.{Eq}
 use Rattle.sqlite_sql.specs.declared.aggregate.AggregateOp.TheVariants.{CountRows}
 use Rattle.sqlite_sql.specs.Term.{Term, lit, col, op2}
 use Rattle.sqlite_sql.specs.Group.{Grouping}
@@ -47,20 +46,6 @@ at_tests = column_is 1 0 ∷ column_is 2 1 ∷ column_is 3 2 ∷ []
 abbrev pub above_tests : List Term
 above_tests = column_is 1 0 ∷ column_is 2 1 ∷ column_is 4 2 ∷ []
 
--- a comparison that holds where a side of it is null
-abbrev pub is_null_or : CompareOp → Term → Term → Term
-is_null_or how a b = op2 Coalesce (op2 (Compare how Binary) a b) (lit (Int (pos 1)))
-
--- the patient and the day of a study are those that are asked for
-abbrev pub label_tests : List Term
-label_tests = is_null_or Eq (col 0 2) (col 1 5) ∷ is_null_or Le (col 0 3) (col 1 6) ∷ is_null_or Le (col 1 6) (col 0 4) ∷ []
-
-abbrev pub chosen_tests : List Term
-chosen_tests = column_is 1 0 ∷ column_is 2 1 ∷ label_tests
-
-abbrev pub named_tests : List Term
-named_tests = column_is 1 0 ∷ column_is 2 1 ∷ column_is 3 5 ∷ label_tests
-
 abbrev pub shown_columns : List Term
 shown_columns = col 1 3 ∷ col 1 4 ∷ col 1 7 ∷ col 1 8 ∷ []
 
@@ -94,12 +79,6 @@ of_text = codes "SELECT id, above, octets, started FROM kept WHERE kind = ?1 AND
 abbrev pub above_text : List ℕ
 above_text = codes "SELECT id, above, octets, started FROM kept WHERE kind = ?1 AND inst = ?2 AND above = ?3 ORDER BY id"
 
-abbrev pub chosen_text : List ℕ
-chosen_text = codes "SELECT id, above, octets, started FROM kept WHERE kind = ?1 AND inst = ?2 AND coalesce(?3 = patient, 1) AND coalesce(?4 <= day, 1) AND coalesce(day <= ?5, 1) ORDER BY id"
-
-abbrev pub named_text : List ℕ
-named_text = codes "SELECT id, above, octets, started FROM kept WHERE kind = ?1 AND inst = ?2 AND id = ?6 AND coalesce(?3 = patient, 1) AND coalesce(?4 <= day, 1) AND coalesce(day <= ?5, 1) ORDER BY id"
-
 abbrev pub count_text : List ℕ
 count_text = codes "SELECT count(*) FROM kept WHERE kind = ?1 AND inst = ?2"
 
@@ -125,7 +104,7 @@ all_columns version =
 abbrev pub by_place : List (Term × Key)
 by_place = (col 1 1, ascending Binary) ∷ (col 1 2, ascending Binary) ∷ (col 1 3, ascending Binary) ∷ []
 
-abbrev names : List (List ℕ)
+abbrev pub names : List (List ℕ)
 names = codes "id" ∷ codes "above" ∷ codes "octets" ∷ codes "started" ∷ []
 
 abbrev last_name : Version → List ℕ
@@ -147,14 +126,6 @@ of_means = record { names = names; is = refl; plain = (refl, refl); unlisted = r
 pub above_means : Means Two above_text (selecting 0 above_tests None shown_columns by_id)
 unfolding understood everything schema_of
 above_means = record { names = names; is = refl; plain = (refl, refl); unlisted = refl }
-
-pub chosen_means : Means Two chosen_text (selecting 0 chosen_tests None shown_columns by_id)
-unfolding understood everything schema_of
-chosen_means = record { names = names; is = refl; plain = (refl, refl); unlisted = refl }
-
-pub named_means : Means Two named_text (selecting 0 named_tests None shown_columns by_id)
-unfolding understood everything schema_of
-named_means = record { names = names; is = refl; plain = (refl, refl); unlisted = refl }
 
 pub count_means : Means Two count_text (selecting 0 of_tests counted (col 1 0 ∷ []) [])
 unfolding understood everything schema_of

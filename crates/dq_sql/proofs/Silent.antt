@@ -13,14 +13,14 @@ use Rattle.sqlite_tied.specs.Compute.{everything}
 use Rattle.sqlite.specs.Listing.{understood, if_select, is_select, reads_listing, listing_schema}
 use Rattle.dq_sql.specs.declared.version.Version.TheVariants.{One, Two}
 use Rattle.dq_sql.specs.Reading.{ShowsNoWrite}
-use Rattle.dq_sql.proofs.Queries.{row_text, of_text, above_text, chosen_text, named_text, count_text, count_above_text, all_text, version_text}
+use Rattle.dq_sql.proofs.Queries.{row_text, of_text, above_text, count_text, count_above_text, all_text, version_text}
 
 abbrev returning_in : Schema → ℕ → Checked Parsed → Checked (Option Returning)
 returning_in schema base (Ok p) = returning schema base p.statement
 returning_in schema base (Err e) = Ok None
 
 -- the text has no RETURNING
-abbrev IsBare : List ℕ → Type 0
+abbrev pub IsBare : List ℕ → Type 0
 IsBare sql = (schema : Schema) (base : ℕ) → returning_in schema base (first sql) ≡ Ok None
 
 abbrev IsSilent : Checked Compiled → Type 0
@@ -51,7 +51,7 @@ selected (Ok c) h = either (is_select c.command)
     either false = tt
 selected (Err e) h = tt
 
-bare_shows : (sql : List ℕ) → IsBare sql → ShowsNoWrite sql
+pub bare_shows : (sql : List ℕ) → IsBare sql → ShowsNoWrite sql
 unfolding understood
 bare_shows sql bare schema = either (reads_listing schema sql)
   where
@@ -79,20 +79,6 @@ above_bare schema base = refl
 
 pub above_silent : ShowsNoWrite above_text
 above_silent = bare_shows above_text above_bare
-
-chosen_bare : IsBare chosen_text
-unfolding everything
-chosen_bare schema base = refl
-
-pub chosen_silent : ShowsNoWrite chosen_text
-chosen_silent = bare_shows chosen_text chosen_bare
-
-named_bare : IsBare named_text
-unfolding everything
-named_bare schema base = refl
-
-pub named_silent : ShowsNoWrite named_text
-named_silent = bare_shows named_text named_bare
 
 count_bare : IsBare count_text
 unfolding everything

@@ -1,13 +1,14 @@
 -- A query that shows no rows of a write leaves what the store holds.
-use Rattle.std.proofs.Common.{◌≡◌, inl, inr, ℕ, List, None, IfOk, IsTrue, false, sym, subst, ◌∙◌}
+use Rattle.std.proofs.Common.{◌≡◌, inl, inr, ℕ, List, None, IfOk, IsTrue, false, refl, sym, subst, ◌∙◌, arith}
 use Rattle.sqlite_value.specs.Order.{Row as Values}
 use Rattle.sqlite_trees.specs.Tree.{Trees}
 use Rattle.sqlite_resolve.specs.declared.compiled.Compiled.{Compiled}
 use Rattle.sqlite.specs.declared.error.Error.{Error}
 use Rattle.sqlite.specs.State.{State, HasCleanDisk, IsStatement, IsUnchanged, IsRolledBack, Fails, Survives, Shown, FailsToQuery, IsNotRun, CommitsShowing}
-use Rattle.sqlite.proofs.StateLemmas.{survives_weaker}
-use Rattle.dq_sql.specs.Tie.{IsAtRest, IsSame, Stays}
-use Rattle.dq_sql.specs.Reading.{ShowsNoWrite}
+use Rattle.sqlite.proofs.StateLemmas.{survives_weaker, survives_then}
+use Rattle.dq_tables.specs.declared.row.Row.{Row}
+use Rattle.dq_sql.specs.Tie.{IsAtRest, IsSame, Stays, HasRows}
+use Rattle.dq_sql.specs.Reading.{ShowsNoWrite, ShowsSame, HoldsOf}
 
 pub unchanged_same : (old new : State) → IsUnchanged old new → IsSame old new
 unchanged_same old new h = record { was_open = h.0.was_open; now = h.0.now_is; committed = h.0.committed_is }
@@ -60,3 +61,44 @@ module _ (sql : List ℕ) (params : Values) (old new : State) (silent : ShowsNoW
     mode = mode;
     same = λ clean live rest. failed_same e (err clean) live rest;
   }
+
+-- ---- calls in turn
+
+pub shows_same : (old new : State) → IsUnchanged old new → ShowsSame old new
+shows_same old new h = record { was_open = λ live. h.0.was_open; now = h.0.now_is }
+
+pub same_itself : (s : State) → ShowsSame s s
+same_itself s = record { was_open = λ live. live; now = refl }
+
+pub same_then : (a b c : State) → ShowsSame a b → ShowsSame b c → ShowsSame a c
+same_then a b c one two = record { was_open = λ live. one.was_open (two.was_open live); now = two.now ∙ one.now }
+
+pub holds_before : (a b : State) (P : List Row → Type 0) → ShowsSame a b → HoldsOf b P → HoldsOf a P
+holds_before a b P same h = record {
+  is_open = same.was_open h.is_open;
+  of_rows = λ rows has. h.of_rows rows (subst (λ d. HasRows d rows) (sym same.now) has);
+}
+
+pub stays_itself : (s : State) → Stays s s
+stays_itself s = record {
+  survives = record { clean = omega arith; shield = λ h. h; counts = omega arith; limit = refl; closes = λ clean live. inl live; crash = λ clean db left. inl left };
+  mode = λ h. h;
+  same = λ clean live rest. record { was_open = live; now = refl; committed = refl };
+}
+
+rests : (a b : State) → Stays a b → HasCleanDisk b → IsAtRest a → IsAtRest b
+rests a b stays clean rest = record {
+  autocommit = stays.mode rest.autocommit;
+  settled = λ live. let it = stays.same clean live rest in it.now ∙ rest.settled it.was_open ∙ sym it.committed;
+}
+
+pub stays_then : (a b c : State) → Stays a b → Stays b c → Stays a c
+stays_then a b c one two = record {
+  survives = survives_then a b c _ _ _ (λ clean db none. none) (λ clean db none. none) one.survives two.survives;
+  mode = λ h. two.mode (one.mode h);
+  same = λ clean live rest.
+      let between : HasCleanDisk b = omega (arith, two.survives.clean) in
+      let later = two.same clean live (rests a b one between rest) in
+      let sooner = one.same between later.was_open rest in
+      record { was_open = sooner.was_open; now = later.now ∙ sooner.now; committed = later.committed ∙ sooner.committed };
+}

@@ -17,11 +17,11 @@ use Rattle.dq_tables.specs.Sound.{is_own, HeldEach, IsSound}
 use Rattle.dq_sql.specs.declared.fault.StoreFault.{StoreFault}
 use Rattle.dq_sql.specs.declared.fault.StoreFault.TheVariants.{WrongVersion, BadRows}
 use Rattle.dq_sql.specs.declared.version.Version.{Version}
-use Rattle.dq_sql.specs.Cells.{patient_of, day_of, flag}
+use Rattle.dq_sql.specs.Cells.{patient_cell, day_cell, flag}
 use Rattle.dq_sql.specs.Schema.{version_number, schema_of}
-use Rattle.dq_sql.specs.Tie.{IsKept, kept_of, same_id, IsOfVersion, HasRowsOf, IsAtRest, Stays}
+use Rattle.dq_sql.specs.Tie.{IsKeptIn, kept_of, same_id, IsOfVersion, HasRowsOf, IsAtRest, Stays}
 
--- The columns hold the row, but for what they say of a study's patient and day.
+-- The columns hold the row, but for what they say of its patient and its day.
 pub record HoldsRecord (row : Row) (r : Values) : Type 0 where
   pub kind : column r 1 ≡ Int (pos (number_of row.kind))
   pub inst : column r 2 ≡ Text row.inst
@@ -30,14 +30,14 @@ pub record HoldsRecord (row : Row) (r : Values) : Type 0 where
   pub octets : column r 7 ≡ Blob row.octets
   pub started : column r 8 ≡ flag row.started
 
--- the columns say of a study's patient and day what its record says
-pub record HasCells (row : Row) (r : Values) : Type 0 where
-  pub patient : column r 5 ≡ patient_of row
-  pub day : column r 6 ≡ day_of row
+-- the columns say of the row's patient and its day what a version has of them
+pub record HasCells (version : Version) (row : Row) (r : Values) : Type 0 where
+  pub patient : column r 5 ≡ patient_cell version row
+  pub day : column r 6 ≡ day_cell version row
 
--- The columns hold a row that is its record's own.
-pub record IsGood (r : Values) : Type 0 where
-  pub kept : IsKept r
+-- The columns hold a row that is its record's own, as a version has it.
+pub record IsGood (version : Version) (r : Values) : Type 0 where
+  pub kept : IsKeptIn version r
   pub own : is_own (kept_of r) ≡ true
 
 -- a row of the same place is there
@@ -45,8 +45,8 @@ abbrev pub IsTaken : List Row → Row → Type 0
 IsTaken rows row = is_some (row_at row.kind row.inst row.key rows) ≡ true
 
 -- All are good, and no two are of one place.
-pub record AreGood (found : List Values) (rows : List Row) : Type 0 where
-  pub each : AllByRecursion IsGood found
+pub record AreGood (version : Version) (found : List Values) (rows : List Row) : Type 0 where
+  pub each : AllByRecursion (IsGood version) found
   pub same : IsPermutation (map kept_of found) rows
   pub rising : IsRising rows
 
@@ -70,15 +70,15 @@ SaysNumber version found = map (λ r. column r 0) found ≡ Int (pos (version_nu
 abbrev pub IsOther : Schema → Type 0
 IsOther schema = (version : Version) → schema ≢ schema_of version
 
--- No transaction is open, and the store has the tables and the index of the version alone.
+-- No transaction is open, and the store has the tables and the indexes of the version alone.
 pub record IsShaped (version : Version) (s : State) : Type 0 where
   pub rest : IsAtRest s
   pub schema : s.now.schema ≡ schema_of version
 
 -- Found rows are those of a store of sound rows.
-pub record AreSound (found : List Values) (rows : List Row) : Type 0 where
+pub record AreSound (version : Version) (found : List Values) (rows : List Row) : Type 0 where
   pub apart : AreApart found
-  pub good : AreGood found rows
+  pub good : AreGood version found rows
   pub held : HeldEach rows rows
 
 -- The store was open, of the version, and had the rows, which are sound.

@@ -2,6 +2,7 @@ pub mod Schema
 pub mod Cells
 pub mod Tie
 pub mod Reading
+pub mod Choosing
 pub mod Opening
 pub mod Making
 pub mod SchemaTest

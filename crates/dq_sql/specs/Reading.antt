@@ -21,6 +21,11 @@ pub record HoldsOf (s : State) (P : List Row → Type 0) : Type 0 where
   pub is_open : IsTrue s.is_open
   pub of_rows : (rows : List Row) → HasRows s.now rows → P rows
 
+-- The store is open only where it was, and shows the same.
+pub record ShowsSame (old new : State) : Type 0 where
+  pub was_open : IsTrue new.is_open → IsTrue old.is_open
+  pub now : new.now ≡ old.now
+
 -- The rowid and the columns of a row of the table `kept`.
 abbrev pub columns : Values → Values
 columns r =

@@ -107,10 +107,23 @@ key_index = kept_index (codes "sqlite_autoindex_kept_1") 1 (1 ∷ 2 ∷ 3 ∷ []
 abbrev pub above_index : Index
 above_index = kept_index (codes "kept_above") 3 (1 ∷ 2 ∷ 4 ∷ 3 ∷ []) false
 
+-- that by which the rows of a patient are found
+abbrev pub patient_index : Index
+patient_index = kept_index (codes "kept_patient") 4 (1 ∷ 2 ∷ 5 ∷ 3 ∷ []) false
+
+-- that by which the rows of a day are found, what is started apart
+abbrev pub day_index : Index
+day_index = kept_index (codes "kept_day") 5 (1 ∷ 2 ∷ 8 ∷ 6 ∷ 3 ∷ []) false
+
+-- Version 2 has two indexes more.
+abbrev pub further_indexes : Version → List Index
+further_indexes One = []
+further_indexes Two = patient_index ∷ day_index ∷ []
+
 unfoldable pub schema_of : Version → Schema
 schema_of version = record {
   tables = kept_table version ∷ version_table ∷ [];
-  indexes = key_index ∷ above_index ∷ [];
+  indexes = key_index ∷ above_index ∷ further_indexes version;
   views = [];
 }
 

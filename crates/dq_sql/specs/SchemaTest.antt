@@ -9,7 +9,8 @@ use Rattle.sqlite_schema.specs.declared.code.Op.{Op}
 use Rattle.sqlite_schema.specs.declared.code.Op.TheVariants.{Column, Literal, Binary}
 use Rattle.sqlite_schema.specs.declared.schema.Table.{Table}
 use Rattle.sqlite_schema.specs.declared.schema.Schema.{Schema}
-use Rattle.dq_sql.specs.Schema.{kind_checks, key_index, above_index}
+use Rattle.dq_sql.specs.declared.version.Version.{Version}
+use Rattle.dq_sql.specs.Schema.{kind_checks, key_index, above_index, further_indexes}
 
 -- what a table of a store of rows does not have
 pub record HasNoMore (table : Table) : Type 0 where
@@ -40,8 +41,8 @@ pub record IsKept (table : Table) : Type 0 where
   pub more : HasNoMore table
 
 -- what a store of rows has beside its tables
-pub record HasOthers (schema : Schema) : Type 0 where
-  pub indexes : schema.indexes ≡ key_index ∷ above_index ∷ []
+pub record HasOthers (version : Version) (schema : Schema) : Type 0 where
+  pub indexes : schema.indexes ≡ key_index ∷ above_index ∷ further_indexes version
   pub views : schema.views ≡ []
 
 -- The nodes are the column `kind`, the number, and that the one compares so to the other.

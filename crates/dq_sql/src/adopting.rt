@@ -21,7 +21,7 @@ impl<S: Alter + Drop> SqlTables<S> {
     /// Tables over a store of rows of version 2, which have the rows that it has, as `kept_rows`
     /// reads and tests them. A crash leaves nothing that it could not leave before.
     ///
-    /// It answers `Store` where the store has not the tables and the index of a version, or more,
+    /// It answers `Store` where the store has not the tables and the indexes of a version, or more,
     /// where a transaction is open, and where the store fails; `WrongVersion` and `BadRows` only of
     /// a store that is so, as far as its disk returned what was written until the connection was
     /// dropped. A refusal drops it, and changes no value of the store.

@@ -13,7 +13,7 @@ pub enum StoreFault {
     #[error("out of memory")]
     NoMemory = 1,
     /// The store failed, or is not one of those that are taken: `open` takes an empty one, `adopt`
-    /// and `kept_rows` one that has the tables and the index of a version, and nothing else.
+    /// and `kept_rows` one that has the tables and the indexes of a version, and nothing else.
     #[error("the store failed, or is not a store of rows")]
     Store = 2,
     /// The store is of another version than 2, or than the one that `kept_rows` is to read.

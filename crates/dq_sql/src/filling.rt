@@ -40,7 +40,7 @@ fn put_rows<S: Alter>(
     Ok(())
 }
 
-/// Makes the tables and the index, and adds the rows.
+/// Makes the tables and the indexes, and adds the rows.
 fn make_and_put<S: Alter>(
     tx: &mut Transaction<'_, S>,
     alloc: Global,

@@ -22,7 +22,7 @@ use sqlite::types::ValueRef;
 use sqlite::{Alter, Connection};
 use std::alloc::Global;
 
-/// The version whose tables and index a store has alone, where no transaction is open.
+/// The version whose tables and indexes a store has alone, where no transaction is open.
 fn version_found<S: Alter>(conn: &Connection<S>) -> Option<Version>
     ensures { IfSome result (λ version. IsShaped version (state S.Store conn.now)) }
 {
@@ -68,17 +68,21 @@ fn is_of_version<S: Alter>(conn: &mut Connection<S>, version: Version) -> Result
     Ok(says_number(found.as_slice(), version))
 }
 
-/// The rows that are found, where they are those of a store of sound rows.
+/// The rows that are found, where they are those of a store of the version with sound rows.
 #[tactic(auto, using(crate::proofs::Sounding::one_good))]
-fn sound_rows(alloc: Global, found: &[sqlite::Row]) -> Result<Vec<Row>, StoreFault>
-    ensures sound { IfOk result (λ rows. AreSound found.now rows.items) }
-    ensures bad { result ≡ Err BadRows → (rows : _) → ¬ AreSound found.now rows }
+fn sound_rows(
+    alloc: Global,
+    found: &[sqlite::Row],
+    version: Version,
+) -> Result<Vec<Row>, StoreFault>
+    ensures sound { IfOk result (λ rows. AreSound version found.now rows.items) }
+    ensures bad { result ≡ Err BadRows → (rows : _) → ¬ AreSound version found.now rows }
     ensures version { result ≢ Err WrongVersion }
 {
     if !ids_apart(alloc, found)? {
         return Err(StoreFault::BadRows);
     }
-    let rows = rows_found(alloc, found)?;
+    let rows = rows_found(alloc, found, version)?;
     if are_held(rows.as_slice()) {
         Ok(rows)
     } else {
@@ -86,8 +90,8 @@ fn sound_rows(alloc: Global, found: &[sqlite::Row]) -> Result<Vec<Row>, StoreFau
     }
 }
 
-/// All rows of a store of rows of a version, in order. A store without the tables and the index of a
-/// version, or with more, is refused by `Store`, one of another version by `WrongVersion`, and one
+/// All rows of a store of rows of a version, in order. A store without the tables and the indexes of
+/// a version, or with more, is refused by `Store`, one of another version by `WrongVersion`, and one
 /// with a row that is not its record's own, or without the row above it, by `BadRows`. Nothing
 /// changes.
 #[tactic(auto, using(crate::proofs::Sounding::found_sound, crate::proofs::Sounding::stays_then))]
@@ -119,5 +123,5 @@ pub fn kept_rows<S: Alter>(
         return Err(StoreFault::WrongVersion);
     }
     let found = rows_read(conn, version)?;
-    sound_rows(alloc, found.as_slice())
+    sound_rows(alloc, found.as_slice(), version)
 }

@@ -3,6 +3,7 @@
 
 mod adopting;
 mod cells;
+mod choosing;
 mod counts;
 mod fault;
 mod filling;

@@ -44,7 +44,7 @@ impl<S: Alter + Drop> SqlTables<S> {
     /// alone.
     ///
     /// It answers `Store` where the new store has anything already or a transaction is open, where
-    /// the old one has not the tables and the index of a version, or more, and where one of them
+    /// the old one has not the tables and the indexes of a version, or more, and where one of them
     /// fails; `WrongVersion` and `BadRows` only of an old store that is so, as far as its disk
     /// returned what was written until its connection was dropped. A refusal drops both
     /// connections, and changes no value of either store.

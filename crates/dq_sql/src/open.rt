@@ -1,8 +1,9 @@
 //! What a new store is made of.
-ghost use Rattle.std.specs.Prelude.{◌≡◌, ◌≢◌, [], OnOk, MatchBool};
+ghost use Rattle.std.specs.Prelude.{◌≡◌, ◌≢◌, [], ◌∷◌, OnOk, MatchBool};
 ghost use Rattle.sqlite.specs.State.{HasCleanDisk, Survives, KeepsCommit};
 ghost use Rattle.sqlite.specs.Held.{state};
-ghost use Rattle.dq_sql.specs.Making.{no_schema, MakesKept, MakesVersion, MakesIndex, SaysVersion, GoesOn};
+ghost use Rattle.dq_sql.specs.Making.{no_schema, MakesKept, MakesVersion, MakesIndex, MakesIndexes, SaysVersion, GoesOn};
+ghost use Rattle.dq_sql.specs.Schema.{above_index, patient_index, day_index};
 ghost use Rattle.dq_sql.specs.Tie.{HasRows};
 
 use sqlite::{Alter, Error, Transaction};
@@ -19,9 +20,10 @@ pub(crate) fn is_empty(schema: &Schema) -> bool
 
 /// Makes the table `kept`, of a row for each row that is kept: `kind` is a `Kind`'s number, `inst`
 /// the institution's name, `id` the key, `above` the key of the row above, and `octets` the record.
-/// `patient` is the only value of a study's Patient ID, `day` its Study Date as a number; both are
-/// null where there is no such value, and in other rows. `started` is 1 for an entry that is
-/// started, and else 0.
+/// `patient` is the only value of the Patient ID of a study or an entry, and `day` the Study Date,
+/// or the start date of the entry's only scheduled procedure step, as a number; both are null where
+/// there is no such value, and in other rows. `started` is 1 for an entry that is started, and else
+/// 0.
 fn make_kept<S: Alter>(tx: &mut Transaction<'_, S>) -> Result<usize, Error>
     ensures same_reference { tx.new.conn.ghost_name ≡ tx.old.conn.ghost_name }
     ensures goes_on { HasCleanDisk (state S.Store tx.new.conn.now)
@@ -57,12 +59,12 @@ fn make_version<S: Alter>(tx: &mut Transaction<'_, S>) -> Result<usize, Error>
 }
 
 /// Makes the index by which the rows under another are found.
-fn make_index<S: Alter>(tx: &mut Transaction<'_, S>) -> Result<usize, Error>
+fn make_above_index<S: Alter>(tx: &mut Transaction<'_, S>) -> Result<usize, Error>
     ensures same_reference { tx.new.conn.ghost_name ≡ tx.old.conn.ghost_name }
     ensures goes_on { HasCleanDisk (state S.Store tx.new.conn.now)
         → OnOk result (GoesOn (state S.Store tx.old.conn.now) (state S.Store tx.new.conn.now)) }
     ensures makes { HasCleanDisk (state S.Store tx.new.conn.now)
-        → OnOk result (MakesIndex (state S.Store tx.old.conn.now).now
+        → OnOk result (MakesIndex [] above_index (state S.Store tx.old.conn.now).now
         (state S.Store tx.new.conn.now).now) }
     ensures kept { HasCleanDisk (state S.Store tx.new.conn.now)
         → KeepsCommit (state S.Store tx.old.conn.now) (state S.Store tx.new.conn.now) }
@@ -73,6 +75,63 @@ fn make_index<S: Alter>(tx: &mut Transaction<'_, S>) -> Result<usize, Error>
         "CREATE INDEX kept_above ON kept (kind, inst, above, id)",
         &[],
     )
+}
+
+/// Makes the index by which the rows of a patient are found.
+fn make_patient_index<S: Alter>(tx: &mut Transaction<'_, S>) -> Result<usize, Error>
+    ensures same_reference { tx.new.conn.ghost_name ≡ tx.old.conn.ghost_name }
+    ensures goes_on { HasCleanDisk (state S.Store tx.new.conn.now)
+        → OnOk result (GoesOn (state S.Store tx.old.conn.now) (state S.Store tx.new.conn.now)) }
+    ensures makes { HasCleanDisk (state S.Store tx.new.conn.now)
+        → OnOk result (MakesIndex (above_index ∷ []) patient_index (state S.Store tx.old.conn.now).now
+        (state S.Store tx.new.conn.now).now) }
+    ensures kept { HasCleanDisk (state S.Store tx.new.conn.now)
+        → KeepsCommit (state S.Store tx.old.conn.now) (state S.Store tx.new.conn.now) }
+    ensures survives { Survives (state S.Store tx.old.conn.now) (state S.Store tx.new.conn.now)
+        (λ _. ⊥) }
+{
+    tx.execute(
+        "CREATE INDEX kept_patient ON kept (kind, inst, patient, id)",
+        &[],
+    )
+}
+
+/// Makes the index by which the rows of a day are found, what is started apart.
+fn make_day_index<S: Alter>(tx: &mut Transaction<'_, S>) -> Result<usize, Error>
+    ensures same_reference { tx.new.conn.ghost_name ≡ tx.old.conn.ghost_name }
+    ensures goes_on { HasCleanDisk (state S.Store tx.new.conn.now)
+        → OnOk result (GoesOn (state S.Store tx.old.conn.now) (state S.Store tx.new.conn.now)) }
+    ensures makes { HasCleanDisk (state S.Store tx.new.conn.now)
+        → OnOk result (MakesIndex (above_index ∷ patient_index ∷ []) day_index (state S.Store tx.old.conn.now).now
+        (state S.Store tx.new.conn.now).now) }
+    ensures kept { HasCleanDisk (state S.Store tx.new.conn.now)
+        → KeepsCommit (state S.Store tx.old.conn.now) (state S.Store tx.new.conn.now) }
+    ensures survives { Survives (state S.Store tx.old.conn.now) (state S.Store tx.new.conn.now)
+        (λ _. ⊥) }
+{
+    tx.execute(
+        "CREATE INDEX kept_day ON kept (kind, inst, started, day, id)",
+        &[],
+    )
+}
+
+/// Makes the indexes, in the order of their trees.
+fn make_indexes<S: Alter>(tx: &mut Transaction<'_, S>) -> Result<(), Error>
+    ensures same_reference { tx.new.conn.ghost_name ≡ tx.old.conn.ghost_name }
+    ensures goes_on { HasCleanDisk (state S.Store tx.new.conn.now)
+        → OnOk result (GoesOn (state S.Store tx.old.conn.now) (state S.Store tx.new.conn.now)) }
+    ensures makes { HasCleanDisk (state S.Store tx.new.conn.now)
+        → OnOk result (MakesIndexes (state S.Store tx.old.conn.now).now
+        (state S.Store tx.new.conn.now).now) }
+    ensures kept { HasCleanDisk (state S.Store tx.new.conn.now)
+        → KeepsCommit (state S.Store tx.old.conn.now) (state S.Store tx.new.conn.now) }
+    ensures survives { Survives (state S.Store tx.old.conn.now) (state S.Store tx.new.conn.now)
+        (λ _. ⊥) }
+{
+    make_above_index(tx)?;
+    make_patient_index(tx)?;
+    make_day_index(tx)?;
+    Ok(())
 }
 
 /// Says that the store is of version 2.
@@ -91,7 +150,7 @@ fn say_version<S: Alter>(tx: &mut Transaction<'_, S>) -> Result<usize, Error>
     tx.execute("INSERT INTO version (number) VALUES (2)", &[])
 }
 
-/// Makes the tables and the index, and says the version.
+/// Makes the tables and the indexes, and says the version.
 pub(crate) fn make_tables<S: Alter>(tx: &mut Transaction<'_, S>) -> Result<(), Error>
     ensures same_reference { tx.new.conn.ghost_name ≡ tx.old.conn.ghost_name }
     ensures goes_on { HasCleanDisk (state S.Store tx.new.conn.now)
@@ -106,7 +165,7 @@ pub(crate) fn make_tables<S: Alter>(tx: &mut Transaction<'_, S>) -> Result<(), E
 {
     make_kept(tx)?;
     make_version(tx)?;
-    make_index(tx)?;
+    make_indexes(tx)?;
     say_version(tx)?;
     Ok(())
 }

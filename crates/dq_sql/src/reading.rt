@@ -1,5 +1,5 @@
 //! What the tables of a connection hold, read.
-ghost use Rattle.std.specs.Prelude.{◌≡◌, [], ◌∷◌, None, Some, IfOk, map, length, slice_get};
+ghost use Rattle.std.specs.Prelude.{◌≡◌, [], ◌∷◌, None, Some, IfOk, OnOk, map, length, slice_get};
 ghost use Rattle.sqlite_value.specs.Order.{column, bytes};
 ghost use Rattle.sqlite_value.specs.declared.value.Value.TheVariants.{Blob};
 ghost use Rattle.sqlite_value.specs.Value.{owned};
@@ -9,11 +9,11 @@ ghost use Rattle.sqlite.specs.Held.{state};
 ghost use Rattle.dq_tables.specs.Finding.{row_at, rows_of, rows_above};
 ghost use Rattle.dq_tables.specs.Choosing.{studies_in};
 ghost use Rattle.dq_sql.specs.Tie.{is_set, Stays};
-ghost use Rattle.dq_sql.specs.Reading.{ShowsNoWrite, HoldsOf, Shows, kept_shown, numbers_shown, IsCount, row_shown};
+ghost use Rattle.dq_sql.specs.Reading.{ShowsNoWrite, ShowsSame, HoldsOf, Shows, kept_shown, numbers_shown, IsCount, row_shown};
 
 use crate::version::Version;
 use dq_list::Listed;
-use dq_tables::{Choice, Kind, Row, TableFault};
+use dq_tables::{Kind, Row, TableFault};
 use sqlite::types::{ToSql, ValueRef};
 use sqlite::{Alter, Connection, Error, ErrorCode};
 use std::alloc::Global;
@@ -35,6 +35,8 @@ pub(crate) fn answered<S: Alter>(
     ensures shown { HasCleanDisk (state S.Store conn.new) → IfOk result (λ rows.
         Shown query.now (bound params.now) (state S.Store conn.old) (state S.Store conn.new)
         rows.items) }
+    ensures same { ShowsNoWrite query.now → HasCleanDisk (state S.Store conn.new) → OnOk result
+        (ShowsSame (state S.Store conn.old) (state S.Store conn.new)) }
     ensures stays { ShowsNoWrite query.now → Stays (state S.Store conn.old) (state S.Store conn.new) }
 {
     match conn.query_all(query, params) {
@@ -84,7 +86,7 @@ fn row_shown(
 }
 
 /// The rows that a query shows so.
-fn rows_shown(
+pub(crate) fn rows_shown(
     alloc: Global,
     kind: Kind,
     institution: &[u8],
@@ -188,93 +190,6 @@ pub(crate) fn rows_above<S: Alter>(
         ],
     )?;
     rows_shown(alloc, kind, institution, answer.as_slice())
-}
-
-/// Octets, or null where there are none.
-fn octets_or_null(octets: &Option<Listed<u8>>) -> ValueRef<'_>
-    ensures { owned result ≡ or_null Blob octets.now }
-{
-    match octets {
-        Some(octets) => ValueRef::Blob(octets.as_slice()),
-        None => ValueRef::Null,
-    }
-}
-
-/// The institution's studies that a choice takes, in the order of their keys, where the choice asks
-/// no key. A test of what is null is null, and then holds.
-#[tactic(auto, using(crate::proofs::Silent::chosen_silent))]
-fn studies_asked<S: Alter>(
-    conn: &mut Connection<S>,
-    alloc: Global,
-    institution: &[u8],
-    choice: &Choice,
-) -> Result<Listed<Row>, TableFault>
-    requires { choice.now.uid ≡ None }
-    ensures found { HasCleanDisk (state S.Store conn.new) → IfOk result (λ list.
-        HoldsOf (state S.Store conn.old) (λ rows.
-        list ≡ studies_in choice.now institution.now rows)) }
-    ensures stays { Stays (state S.Store conn.old) (state S.Store conn.new) }
-{
-    let answer = answered(
-        conn,
-        "SELECT id, above, octets, started FROM kept WHERE kind = ?1 AND inst = ?2 AND coalesce(?3 = patient, 1) AND coalesce(?4 <= day, 1) AND coalesce(day <= ?5, 1) ORDER BY id",
-        &[
-            u32::from(Kind::Study.number()).to_sql(),
-            ValueRef::Text(institution),
-            octets_or_null(&choice.patient),
-            choice.first_day.to_sql(),
-            choice.last_day.to_sql(),
-        ],
-    )?;
-    rows_shown(alloc, Kind::Study, institution, answer.as_slice())
-}
-
-/// The same where it asks a key.
-#[tactic(auto, using(crate::proofs::Silent::named_silent))]
-fn studies_named<S: Alter>(
-    conn: &mut Connection<S>,
-    alloc: Global,
-    institution: &[u8],
-    choice: &Choice,
-    uid: &[u8],
-) -> Result<Listed<Row>, TableFault>
-    requires { choice.now.uid ≡ Some uid.now }
-    ensures found { HasCleanDisk (state S.Store conn.new) → IfOk result (λ list.
-        HoldsOf (state S.Store conn.old) (λ rows.
-        list ≡ studies_in choice.now institution.now rows)) }
-    ensures stays { Stays (state S.Store conn.old) (state S.Store conn.new) }
-{
-    let answer = answered(
-        conn,
-        "SELECT id, above, octets, started FROM kept WHERE kind = ?1 AND inst = ?2 AND id = ?6 AND coalesce(?3 = patient, 1) AND coalesce(?4 <= day, 1) AND coalesce(day <= ?5, 1) ORDER BY id",
-        &[
-            u32::from(Kind::Study.number()).to_sql(),
-            ValueRef::Text(institution),
-            octets_or_null(&choice.patient),
-            choice.first_day.to_sql(),
-            choice.last_day.to_sql(),
-            ValueRef::Blob(uid),
-        ],
-    )?;
-    rows_shown(alloc, Kind::Study, institution, answer.as_slice())
-}
-
-/// The institution's studies that a choice takes, in the order of their keys.
-pub(crate) fn studies_in<S: Alter>(
-    conn: &mut Connection<S>,
-    alloc: Global,
-    institution: &[u8],
-    choice: &Choice,
-) -> Result<Listed<Row>, TableFault>
-    ensures found { HasCleanDisk (state S.Store conn.new) → IfOk result (λ list.
-        HoldsOf (state S.Store conn.old) (λ rows.
-        list ≡ studies_in choice.now institution.now rows)) }
-    ensures stays { Stays (state S.Store conn.old) (state S.Store conn.new) }
-{
-    match &choice.uid {
-        Some(uid) => studies_named(conn, alloc, institution, choice, uid.as_slice()),
-        None => studies_asked(conn, alloc, institution, choice),
-    }
 }
 
 /// The number that a count shows. A count stops at the greatest whole number of SQL, which is

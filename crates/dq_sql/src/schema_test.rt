@@ -1,4 +1,4 @@
-//! Of which version the tables and the index of a store are, where it has nothing else.
+//! Of which version the tables and the indexes of a store are, where it has nothing else.
 ghost use Rattle.std.specs.Prelude.{◌≡◌, ◌<◌, [], ◌∷◌, false, pos, None, codes, IsTrue, IfSome};
 ghost use Rattle.sqlite_value.specs.declared.value.Value.TheVariants.{Int};
 ghost use Rattle.sqlite_value.specs.declared.keys.Collation.TheVariants.{Binary};
@@ -6,7 +6,7 @@ ghost use Rattle.sqlite_value.specs.Keys.{plain};
 ghost use Rattle.sqlite_sql.specs.declared.ops.BinaryOp.TheVariants.{And, Compare};
 ghost use Rattle.sqlite_schema.specs.declared.code.Op.TheVariants as node;
 ghost use Rattle.sqlite_schema.specs.Code.{terms_in};
-ghost use Rattle.dq_sql.specs.Schema.{optional, record_columns, further_columns, kept_columns, version_columns, kind_checks, kept_table, version_table, kept_index, schema_of};
+ghost use Rattle.dq_sql.specs.Schema.{optional, record_columns, further_columns, kept_columns, version_columns, kind_checks, kept_table, version_table, kept_index, key_index, above_index, further_indexes, schema_of};
 ghost use Rattle.dq_sql.specs.SchemaTest.{HasNoMore, HasNoRules, HasKey, BoundsKind, IsKept, HasOthers};
 
 use crate::version::Version;
@@ -236,28 +236,60 @@ fn is_index(index: &Index, name: &[u8], tree: u32, columns: &[usize], is_unique:
         && index.is_unique == is_unique
 }
 
-/// Whether a store has the indexes of a store of rows, and no views.
-fn has_others(schema: &Schema) -> bool
-    ensures { IsTrue result → HasOthers schema.now }
+/// Whether the indexes are those that every store of rows has.
+fn are_first_indexes(indexes: &[Index]) -> bool
+    ensures { IsTrue result → indexes.now ≡ key_index ∷ above_index ∷ [] }
 {
-    let [key, above] = schema.indexes.as_slice() else {
+    let [key, above] = indexes else {
         return false;
     };
     is_index(key, b"sqlite_autoindex_kept_1", 1, &[1, 2, 3], true)
         && is_index(above, b"kept_above", 3, &[1, 2, 4, 3], false)
-        && schema.views.as_slice().is_empty()
 }
 
-/// The version whose tables and index a store has, where it has nothing else.
+/// Whether the indexes are those that the version has further.
+fn are_further_indexes(indexes: &[Index], version: Version) -> bool
+    ensures { IsTrue result → indexes.now ≡ further_indexes version }
+{
+    match (version, indexes) {
+        (Version::One, []) => true,
+        (Version::Two, [patient, day]) => {
+            is_index(patient, b"kept_patient", 4, &[1, 2, 5, 3], false)
+                && is_index(day, b"kept_day", 5, &[1, 2, 8, 6, 3], false)
+        }
+        _ => false,
+    }
+}
+
+/// Whether the indexes are those of a store of the version.
+fn are_indexes(indexes: &[Index], version: Version) -> bool
+    ensures { IsTrue result → indexes.now ≡ key_index ∷ above_index ∷ further_indexes version }
+{
+    if indexes.len() < 2 {
+        return false;
+    }
+    let (first, further) = indexes.split_at(2);
+    are_first_indexes(first) && are_further_indexes(further, version)
+}
+
+/// Whether a store has the indexes of a store of the version, and no views.
+fn has_others(schema: &Schema, version: Version) -> bool
+    ensures { IsTrue result → HasOthers version schema.now }
+{
+    are_indexes(schema.indexes.as_slice(), version) && schema.views.as_slice().is_empty()
+}
+
+/// The version whose tables and indexes a store has, where it has nothing else.
 #[tactic(auto, unfolding(crate::specs::Schema::schema_of))]
 pub(crate) fn version_shaped(schema: &Schema) -> Option<Version>
     ensures { IfSome result (λ version. schema.now ≡ schema_of version) }
 {
-    let [kept, version] = schema.tables.as_slice() else {
+    let [kept, says] = schema.tables.as_slice() else {
         return None;
     };
-    if is_version(version) && has_others(schema) {
-        kept_version(kept)
+    let version = kept_version(kept)?;
+    if is_version(says) && has_others(schema, version) {
+        Some(version)
     } else {
         None
     }

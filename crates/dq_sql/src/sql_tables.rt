@@ -11,7 +11,7 @@ ghost use Rattle.dq_sql.specs.Counts.{AreRight};
 
 use crate::counts::Counts;
 use crate::history::History;
-use crate::{reading, writing};
+use crate::{choosing, reading, writing};
 use dq_list::Listed;
 use dq_tables::{Change, Choice, Kind, Row, TableFault, Tables};
 use sqlite::{Alter, Connection};
@@ -135,7 +135,17 @@ impl<S: Alter> Tables for SqlTables<S> {
         institution: &[u8],
         choice: &Choice,
     ) -> Result<Listed<Row>, TableFault> {
-        let answer = reading::studies_in(&mut self.conn, alloc, institution, choice);
+        let answer = choosing::waiting_of(&mut self.conn, alloc, Kind::Study, institution, choice);
+        noted(&mut self.failed, answer)
+    }
+
+    fn waiting_in(
+        &mut self,
+        alloc: Global,
+        institution: &[u8],
+        choice: &Choice,
+    ) -> Result<Listed<Row>, TableFault> {
+        let answer = choosing::waiting_of(&mut self.conn, alloc, Kind::Entry, institution, choice);
         noted(&mut self.failed, answer)
     }
 

@@ -1,0 +1,11 @@
+use Rattle.sqlite.specs.Held.{state}
+use Rattle.dq_sql.proofs.Taken.{found_without_day, some_weaker}
+use Rattle.dq_sql.proofs.choosing.without_day_within.Goals as goal
+
+pub returns-clause-found : goal.returns-clause-found
+returns-clause-found g c clean =
+    let choice = c.args.choice.now in
+    let shown = rw (c.to_sql.ensures, c.from.ensures, c.number.ensures, c.to_sql-2.ensures) at (c.in_ok-answer.ensures.shown clean) in
+    some_weaker c.silent_shown.result _ _ (λ silent ends.
+    found_without_day (state g.S.Store c.args.conn.now) (state g.S.Store c.answered.new.conn) c.args.kind c.args.institution.now c.args.most c.in_ok-answer.answer.items silent.items choice c.requires.uid ends c.requires.patient shown)
+    c.silent_shown.ensures
