@@ -263,3 +263,7 @@ HasConfig held file = (institutions : List Institution) × IsConfigured held fil
 -- a stop is told by its line, unless that fails
 abbrev pub IsTold : Type 0 → Option (List ℕ) → Option (List ℕ) → Stop → Type 0
 IsTold may_fail before after cause = may_fail ⊎ Appends before after (stop_text cause)
+
+-- what is told of a word that is no text
+abbrev pub no_text_line : List ℕ
+no_text_line = codes "a word of the command line is not UTF-8" ++ line_feed ∷ []

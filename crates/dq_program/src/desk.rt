@@ -1,5 +1,5 @@
 //! The console: orders of the worklist, and reports, that come as lines over wires of their own.
-ghost use Rattle.std.specs.Prelude.{◌≡◌, ◌++◌, length, IfOk, IfErr, OnOk, MatchBool};
+ghost use Rattle.std.specs.Prelude.{◌≡◌, [], ◌++◌, length, IfOk, IfErr, OnOk, MatchBool};
 ghost use Rattle.dq_core.specs.Looking.{Looked};
 ghost use Rattle.dq_wires.specs.Turners.{IsOrder};
 ghost use Rattle.dq_program.specs.declared.desk.Line.{Line};
@@ -297,7 +297,11 @@ pub struct Desk<W> {
 
 impl<W: Wires + Drop> Desk<W> {
     /// Over wires, for institutions of these names.
-    pub fn new(alloc: Global, wires: W, names: Vec<Listed<u8>>) -> Result<Self, AllocError> {
+    pub fn new(alloc: Global, wires: W, names: Vec<Listed<u8>>) -> Result<Self, AllocError>
+        ensures wires { IfOk result (λ desk. desk.wires ≡ wires) }
+        ensures names { IfOk result (λ desk. desk.names.items ≡ names.items) }
+        ensures callers { IfOk result (λ desk. desk.callers.items ≡ []) }
+    {
         let mut buffer = Vec::new(alloc);
         buffer.resize(READ_MOST, 0)?;
         Ok(Desk {
@@ -310,7 +314,9 @@ impl<W: Wires + Drop> Desk<W> {
     }
 
     /// The wires over which it is called.
-    pub fn wires(&mut self) -> &mut W {
+    pub fn wires(&mut self) -> &mut W
+        ensures { result.now ≡ self.old.wires }
+    {
         &mut self.wires
     }
 

@@ -13,7 +13,7 @@ ghost use Rattle.dq_wires.specs.Looping.{sent_number};
 ghost use Rattle.dq_program.specs.Printing.{sent_text};
 ghost use Rattle.dq_program.specs.Surroundings.{AppendsPart};
 ghost use Rattle.dq_program.specs.Words.{Request, Serving, Migrating, Plays, Serves, Loops, Migrates, asked, place_in};
-ghost use Rattle.dq_program.specs.Program.{no_memory, status_of, IsTold, IsBadConfig, IsBadCapture, RefusesFile, RefusesCapture, RefusesStore, AreHonest, IsRunFault, EndsTask, CutsTask, EndsLoop, migrated_line, EndsMigration, rows_at, text_of, IsBy, IsConfigured, HasConfig, PrintsFirst};
+ghost use Rattle.dq_program.specs.Program.{no_memory, status_of, IsTold, no_text_line, IsBadConfig, IsBadCapture, RefusesFile, RefusesCapture, RefusesStore, AreHonest, IsRunFault, EndsTask, CutsTask, EndsLoop, migrated_line, EndsMigration, rows_at, text_of, IsBy, IsConfigured, HasConfig, PrintsFirst};
 ghost use Rattle.dq_program.specs.Serving.{ready_text, turn_count, IsUncalled, Served, StopsService};
 
 use crate::answering::answer;
@@ -280,7 +280,9 @@ pub fn unworded<E: Sink>(error: &io::Error, errors: &mut E) -> u8
     ensures memory { error_kind error.now ≡ IoKind.OutOfMemory → (result ≡ 4)
         × IsTold (E.may_fail errors.old) (E.written errors.old) (E.written errors.new)
         (Stop.Fault no_memory) }
-    ensures usage { error_kind error.now ≢ IoKind.OutOfMemory → result ≡ 1 }
+    ensures usage { error_kind error.now ≢ IoKind.OutOfMemory → (result ≡ 1)
+        × (E.may_fail errors.old
+        ⊎ Appends (E.written errors.old) (E.written errors.new) no_text_line) }
 {
     if error.kind() == io::ErrorKind::OutOfMemory {
         return stopped(Stop::from(AllocError), errors);
