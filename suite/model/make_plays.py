@@ -1,7 +1,8 @@
 #!/usr/bin/env python3
 """Scenes that are too long to be kept: make_plays.py KIND > SCENE
 
-    studies         a thousand studies, of which a query finds one, some, none and all
+    studies         a thousand studies, none of which says its day, and a tenth not its patient: a query finds one, some,
+                    none and all
     connections     three hundred associations at a time, ten of each of thirty hospitals, and one too many of each
     events          five thousand events and more, while one association stays
 """
@@ -12,7 +13,7 @@ HOSPITALS, EACH = 30, 10
 # a thousand answers are a page and fifteen more
 PULLS = 15
 QUERIES = ["StudyInstanceUID=1.2.77", "PatientID=P7 StudyInstanceUID=", "PatientName=doe^1* StudyInstanceUID=",
-           "PatientName=ROE StudyInstanceUID=", "StudyInstanceUID="]
+           "PatientName=ROE StudyInstanceUID=", "StudyInstanceUID=", "StudyDate=20240705 StudyInstanceUID="]
 
 
 def store(number, context, identity, study, **elements):
@@ -25,7 +26,8 @@ def studies():
     yield "open 1"
     yield "associate 1 ARCHIVE CT1 1=CT:explicit 3=study:implicit"
     for at in range(1, 1001):
-        yield store(1, 1, 1, f"1.2.{at}", PatientName=f"DOE^{at}", PatientID=f"P{at % 10}")
+        patient = {"PatientID": f"P{at % 10}"} if at % 10 else {}
+        yield store(1, 1, 1, f"1.2.{at}", PatientName=f"DOE^{at}", **patient)
     for keys in QUERIES:
         yield f"find 1 3 2 study QueryRetrieveLevel=STUDY {keys}"
         yield from ["pull 1"] * PULLS

@@ -133,6 +133,24 @@ def key_not_met(tag):
     matching.meets = meets
 
 
+def silent_at_most(tag, most):
+    """Where a search asks for a value of the attribute, so many records that do not have it are found, and no more."""
+    right_find, right_meets, left = services.find, matching.meets, [0]
+
+    def find(*words):
+        left[0] = int(most)
+        return right_find(*words)
+
+    def meets(key, held):
+        is_met = right_meets(key, held)
+        if is_met and not held and key[2] and key[0] == (int(tag[:4], 16), int(tag[5:], 16)):
+            left[0] -= 1
+            return left[0] >= 0
+        return is_met
+
+    services.find, matching.meets = find, meets
+
+
 def attribute_dropped(level, tag):
     del matching.KEPT[level][int(tag[:4], 16), int(tag[5:], 16)]
 
@@ -743,7 +761,7 @@ def nothing():
 
 FAULTS = {"stop-at-unreadable": stop_at_unreadable, "limit-over-all": limit_over_all, "answers-at-most": answers_at_most,
           "answers-in-turn": answers_in_turn, "events-at-most": events_at_most, "shares-rows": shares_rows,
-          "key-struck": key_struck, "key-taken": key_taken, "key-not-met": key_not_met,
+          "key-struck": key_struck, "key-taken": key_taken, "key-not-met": key_not_met, "silent-at-most": silent_at_most,
           "attribute-dropped": attribute_dropped, "report-stops-above-one": report_stops_above_one,
           "report-counts-to-one": report_counts_to_one, "store-kept-late": store_kept_late,
           "store-kept-by-row": store_kept_by_row, "store-fault-passed-over": store_fault_passed_over,
