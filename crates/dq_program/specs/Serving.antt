@@ -3,6 +3,8 @@ use Rattle.std.specs.Prelude.{◌≡◌, ◌⊎◌, ◌^◌, ◌-◌, ℕ, List,
 use Rattle.std.specs.List.{flat_map}
 use Rattle.std.specs.Io.KnownBytes.{Keeps, Appends}
 use Rattle.dq_config.specs.declared.config.Institution.{Institution}
+use Rattle.dq_core.specs.declared.fault.Fault.TheVariants as fault
+use Rattle.dq_core.specs.Faults.{number_of as fault_number}
 use Rattle.dq_core.specs.Shared.{replies}
 use Rattle.dq_core.specs.Standing.{Standing}
 use Rattle.dq_tables.specs.declared.row.Row.{Row}
@@ -16,7 +18,7 @@ use Rattle.dq_wires.specs.Servings.{Act, act_calls, act_steps, nothing_held, Are
 use Rattle.dq_wires.specs.Servings.Act.{Turned, Ordered}
 use Rattle.dq_program.specs.declared.stop.Stop.{Stop}
 use Rattle.dq_program.specs.declared.stop.Stop.TheVariants as stop
-use Rattle.dq_program.specs.Program.{numbered_line, HasConfig, RefusesFile, RefusesStore}
+use Rattle.dq_program.specs.Program.{numbered_line, HasConfig, IsRunFault, RefusesFile, RefusesStore}
 use Rattle.dq_program.specs.Surroundings.{AppendsPart}
 
 -- the line that is printed once connections can come in
@@ -54,9 +56,13 @@ abbrev pub Attended : {Tables : Type 0} → (Tables → State) → Turning Table
     → Type 0
 Attended state old new = (log : Option (List Call)) → WentOn state log log old new 0
 
+-- the fault of a service: that of a run, or that the server had stopped before
+abbrev pub IsServiceFault : ℕ → Type 0
+IsServiceFault number = IsRunFault number ⊎ (number ≡ fault_number fault.Stopped)
+
 -- a fault, or the want of connections
 abbrev pub IsServiceStop : Stop → Type 0
-IsServiceStop (stop.Fault number) = Unit {0}
+IsServiceStop (stop.Fault number) = IsServiceFault number
 IsServiceStop stop.Network = Unit {0}
 IsServiceStop other = ⊥
 
@@ -76,7 +82,7 @@ pub record Served (institutions : List Institution) (rows : List Row) (count : �
 -- or because the output fails, after some octets of its line.
 abbrev pub EndsService : Type 0 → Option (List ℕ) → Option (List ℕ) → ℕ → Stop → Type 0
 EndsService may_fail before after port (stop.Fault number) =
-    Keeps before after ⊎ Appends before after (ready_text port)
+    IsServiceFault number × (Keeps before after ⊎ Appends before after (ready_text port))
 EndsService may_fail before after port stop.Network =
     Keeps before after ⊎ Appends before after (ready_text port)
 EndsService may_fail before after port stop.Output =

@@ -20,6 +20,11 @@ pub enum Unheard {
 }
 
 impl From<AllocError> for Unheard {
+    ghost use Rattle.std.specs.Prelude.{◌≡◌};
+    ghost use Rattle.dq_program.specs.declared.network.Unheard.TheVariants.{NoMemory};
+
+    ghost from_gives = { λ _ unheard. unheard ≡ NoMemory };
+
     fn from(_error: AllocError) -> Unheard {
         Unheard::NoMemory
     }

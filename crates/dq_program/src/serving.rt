@@ -31,6 +31,21 @@ struct Reception<W> {
     desk: Option<Desk<W>>,
 }
 
+/// The console at a port of the machine itself, beside other wires.
+fn desk_beside<N: Network>(
+    alloc: Global,
+    network: &N,
+    port: u16,
+    institutions: &[Institution],
+    wires: &mut N::Wired,
+) -> Result<Desk<N::Wired>, Stop>
+    ensures same { N.Wired.log wires.new ≡ N.Wired.log wires.old }
+    ensures stops { IfErr result IsServiceStop }
+{
+    let beside = network.listen_beside(alloc, port, wires)?;
+    Ok(Desk::new(alloc, beside, names_of(alloc, institutions)?)?)
+}
+
 /// Listens where the words of a service say.
 fn listen<N: Network>(
     alloc: Global,
@@ -55,8 +70,7 @@ fn listen<N: Network>(
     let Some(port) = service.console else {
         return Ok(Reception { wires, desk: None });
     };
-    let beside = network.listen_beside(alloc, port, &mut wires)?;
-    let desk = Desk::new(alloc, beside, names_of(alloc, institutions)?)?;
+    let desk = desk_beside(alloc, network, port, institutions, &mut wires)?;
     Ok(Reception {
         wires,
         desk: Some(desk),
