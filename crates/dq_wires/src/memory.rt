@@ -60,9 +60,10 @@ pub struct MemoryWires {
 impl MemoryWires {
     ghost use Rattle.dq_wires.specs.Scripts.{told};
 
-    /// Wires that were not called.
+    /// Wires that were not called, and that play the script.
     pub fn new(alloc: Global, script: Script) -> Self
-        ensures { told result ≡ Some [] }
+        ensures uncalled { told result ≡ Some [] }
+        ensures plays { result.script ≡ script }
     {
         MemoryWires {
             alloc,
