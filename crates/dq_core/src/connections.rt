@@ -1,6 +1,6 @@
 //! The connections that are held.
 
-ghost use Rattle.std.specs.Prelude.{◌≡◌, ◌≢◌, ◌<◌, ◌^◌, ◌⊎◌, ℕ, List, [], Option, None, false, IfOk, IfErr, OnErr, IsOk, IsTrue, is_some, length, ◌&&◌, not};
+ghost use Rattle.std.specs.Prelude.{◌≡◌, ◌≢◌, ◌<◌, ◌^◌, ◌⊎◌, List, [], Option, None, false, IfOk, IfErr, OnErr, IsOk, IsTrue, is_some, length, ◌&&◌, not};
 ghost use Rattle.std.specs.Option.{option_copied};
 ghost use Rattle.std.specs.Ordering.{nat_cmp};
 ghost use Rattle.std.specs.Map.{remove_entry};

@@ -1,6 +1,6 @@
 //! What messages are answered with, by the service of their context.
 
-ghost use Rattle.std.specs.Prelude.{◌≡◌, ◌≢◌, ◌++◌, [], List, true, IfOk, OnOk, IfErr, OnErr, None, Some};
+ghost use Rattle.std.specs.Prelude.{◌≡◌, ◌≢◌, ◌++◌, [], List, true, IfOk, IfErr, OnErr, None, Some};
 ghost use Rattle.dq_dimse.specs.Holding.{StandForAll, StandsFor, StandsOn, plain_message};
 ghost use Rattle.dq_dimse.specs.Received.{Message as Received};
 ghost use Rattle.dq_assoc.specs.Classes.{service_of};

@@ -1,5 +1,5 @@
 //! Checking the octets of nested data sets, as reading does, with no memory.
-ghost use Rattle.std.specs.Prelude.{◌≡◌, ℕ, ◌+◌, ◌<◌, ◌≤◌, true, None, length, IfOk, OnSome};
+ghost use Rattle.std.specs.Prelude.{◌≡◌, ℕ, ◌<◌, ◌≤◌, true, None, length, IfOk, OnSome};
 ghost use Rattle.dq_vr.specs.declared.Vr.{Vr};
 ghost use Rattle.dq_dataset.specs.Reading.{Answers, readers, may_nest, length_of, fits, value_by, element_by, content_by, item_by};
 ghost use Rattle.dq_dataset.specs.Lending.{rest_of, header_of, item_of};

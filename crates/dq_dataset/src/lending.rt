@@ -1,5 +1,5 @@
 //! The elements of one level, lent from the octets that spell them (PS3.5 section 7.1).
-ghost use Rattle.std.specs.Prelude.{◌≡◌, ◌+◌, ◌<◌, length, IfOk};
+ghost use Rattle.std.specs.Prelude.{◌≡◌, ◌<◌, length, IfOk};
 ghost use Rattle.dq_dataset.specs.Reading.{Answers};
 ghost use Rattle.dq_dataset.specs.Agreement.{AgreesWith};
 ghost use Rattle.dq_dataset.specs.Lending.{next_at, inner_syntax, lent};

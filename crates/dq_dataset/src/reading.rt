@@ -1,5 +1,5 @@
 //! Reading data sets (PS3.5 section 7).
-ghost use Rattle.std.specs.Prelude.{◌≡◌, ℕ, ◌+◌, ◌<◌, ◌≤◌, ◌^◌, ◌++◌, ◌∷◌, [], true, None, length, option_map, IfOk, IfErr, OnOk, OnSome, ◌⊎◌};
+ghost use Rattle.std.specs.Prelude.{◌≡◌, ℕ, ◌+◌, ◌<◌, ◌≤◌, ◌++◌, ◌∷◌, [], true, None, length, IfOk, IfErr, OnOk, OnSome, ◌⊎◌};
 ghost use Rattle.dq_dataset.specs.Reading.{Gives, readers, reading, may_nest, length_of, fits, value_by, element_by, content_by, item_by};
 ghost use Rattle.dq_dataset.specs.Rules.{padded};
 ghost use Rattle.dq_dataset.specs.Tree.{ElementList};

@@ -1,5 +1,5 @@
 //! Messages as they are sent (PS3.7 section 6.3.1 and annex E, PS3.8 annex E).
-ghost use Rattle.std.specs.Prelude.{◌≡◌, ℕ, ◌+◌, ◌-◌, ◌<◌, ◌≤◌, ◌∷◌, ◌++◌, ◌⊎◌, ◌↔◌, length, IsTrue, IsSome, true, false, take, drop, vec_len};
+ghost use Rattle.std.specs.Prelude.{◌≡◌, ◌+◌, ◌-◌, ◌<◌, ◌≤◌, ◌∷◌, ◌++◌, ◌↔◌, length, IsTrue, IsSome, true, false, take, drop, vec_len};
 ghost use Rattle.std.specs.Prelude.{IfOk, OnOk, option_map};
 ghost use Rattle.std.specs.Int.{w16, w32, to_le_bytes};
 ghost use Rattle.dq_dimse.specs.LentCommands.{said_by};
@@ -51,7 +51,7 @@ fn put_short(out: &mut Vec<u8>, number: u16, value: u16) -> Result<(), AllocErro
     put_element(out, number, &value.to_le_bytes())
 }
 
-/// Writes an element whose value is an identifier, with a zero octet after an odd number of them.
+/// Writes an element whose value is an identifier, with a zero octet after an odd number of octets.
 fn put_identifier(out: &mut Vec<u8>, number: u16, value: &[u8]) -> Result<(), AllocError>
     ensures { OnOk result (out.new.items ≡ out.old.items ++ element number (padded value.now)) }
 {

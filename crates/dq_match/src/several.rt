@@ -1,6 +1,6 @@
 //! Several values of a key against several of a record, without comparing each with each.
 ghost use Rattle.std.specs.Prelude.{◌≡◌, ℕ, List, IfOk};
-ghost use Rattle.std.specs.List.{list_any, list_all};
+ghost use Rattle.std.specs.List.{list_all};
 ghost use Rattle.dq_value.specs.Parts.{parts};
 ghost use Rattle.dq_match.specs.Several.{is_among, some_equal, is_plain_octet, is_plain, octets_of};
 

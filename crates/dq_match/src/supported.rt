@@ -13,7 +13,7 @@ use dq_vr::{Tag, tags};
 use std::alloc::{AllocError, Global};
 
 /// Which identifier a list of keys is for: of a Study Root query at one of its levels, or of a
-/// worklist query (PS3.4 tables C.6-2 to C.6-4 and K.6-1).
+/// worklist query (PS3.4 tables C.6-3 to C.6-5 and K.6-1).
 #[derive(Clone, Copy, Debug, PartialEq, Eq)]
 pub enum KeyList {
     Study,

@@ -1,5 +1,5 @@
 //! Words of a pattern, which are looked for in time linear in the word and the text.
-ghost use Rattle.std.specs.Prelude.{◌≡◌, ◌≢◌, ℕ, ◌+◌, ◌<◌, ◌≤◌, length, slice_index, IfSome, drop, true};
+ghost use Rattle.std.specs.Prelude.{◌≡◌, ◌≢◌, ℕ, ◌+◌, ◌<◌, ◌≤◌, length, slice_index, IfSome, true};
 ghost use Rattle.dq_match.specs.Wildcards.{any_run, any_one, stands_for};
 ghost use Rattle.dq_match.specs.Words.{IsWord, IsStretchOf, StandsAtFront};
 

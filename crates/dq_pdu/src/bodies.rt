@@ -1,9 +1,9 @@
 //! The bodies of PDUs, as they are read (PS3.8 sections 9.3.2 to 9.3.8).
-ghost use Rattle.std.specs.Prelude.{◌≡◌, ◌≤◌, ◌+◌, ℕ, List, Option, length, take, drop, option_map, map, IfOk};
+ghost use Rattle.std.specs.Prelude.{◌≡◌, ◌≤◌, ◌+◌, ℕ, List, Option, length, take, drop, option_map, IfOk};
 ghost use Rattle.dq_list.specs.Readers.{Gives};
 ghost use Rattle.dq_pdu.specs.Numbers.{associate_fields};
 ghost use Rattle.dq_pdu.specs.Octets.{parts_of, bodies, each, unpadded};
-ghost use Rattle.dq_pdu.specs.Reading.{Fails, item_at, maximum_in, user_information_of, proposed_of, answered_of, fields_of, associate_of, request_of, accept_of, pdv_at, values_of, pdu_of};
+ghost use Rattle.dq_pdu.specs.Reading.{Fails, maximum_in, user_information_of, proposed_of, answered_of, fields_of, associate_of, request_of, accept_of, pdv_at, values_of, pdu_of};
 ghost use Rattle.dq_pdu.specs.Shrinking.{pdv_shrinks};
 
 use crate::items::{ReadPart, at_most_one, exactly_one, name_of, names_of, parts_of};

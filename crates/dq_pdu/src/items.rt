@@ -1,5 +1,6 @@
-//! Items and sub-items, as they are read (PS3.8 section 9.3.2).
-ghost use Rattle.std.specs.Prelude.{◌≡◌, ℕ, List, Option, map, length, option_map, IfOk, Some};
+//! Parts of a body that stand one after the other, as they are read, and items among them (PS3.8
+//! section 9.3.2).
+ghost use Rattle.std.specs.Prelude.{◌≡◌, ℕ, List, Option, map, option_map, IfOk, Some};
 ghost use Rattle.dq_pdu.specs.Octets.{parts_of, bodies, at_most_one, exactly_one, unpadded};
 ghost use Rattle.dq_list.specs.Readers.{Gives};
 ghost use Rattle.dq_pdu.specs.Reading.{Fails, item_at};
@@ -11,7 +12,7 @@ use crate::rules::is_padding;
 use dq_list::Listed;
 use std::alloc::{AllocError, Global};
 
-/// A part of a body that stands in a row of its kind, as it is read.
+/// A part of a body, of which others of its kind follow until the body ends.
 pub(crate) trait ReadPart: Drop {
     ghost part_at: { List ℕ → Option (Self × List ℕ) };
 

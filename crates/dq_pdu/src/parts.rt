@@ -1,9 +1,9 @@
 //! The parts of a PDU, as they are written.
-ghost use Rattle.std.specs.Prelude.{◌≡◌, ◌≤◌, ◌<◌, ◌+◌, ◌^◌, ◌∷◌, ◌++◌, ℕ, List, length, OnOk};
+ghost use Rattle.std.specs.Prelude.{◌≡◌, ◌≤◌, ◌<◌, ◌+◌, ◌∷◌, ◌++◌, ℕ, List, length, OnOk};
 ghost use Rattle.std.specs.Int.{w16, to_be_bytes};
 ghost use Rattle.std.specs.List.{flat_map};
 ghost use Rattle.dq_pdu.specs.Numbers.{transfer_syntax_item, longest_body};
-ghost use Rattle.dq_pdu.specs.Writing.{item, proposed, proposed_body, answered, answered_body, control_header, pdv};
+ghost use Rattle.dq_pdu.specs.Writing.{item, proposed, proposed_body, answered, control_header, pdv};
 ghost use Rattle.dq_pdu.specs.Widths.{counted};
 
 use crate::numbers::{CONTEXT_FIELDS, ITEM_HEADER, PDV_FIELDS, PDV_HEADER, item_type};

@@ -1,5 +1,5 @@
 //! What the parts of a PDU have to keep (PS3.8 section 9.3).
-ghost use Rattle.std.specs.Prelude.{◌≡◌, ℕ, map, not};
+ghost use Rattle.std.specs.Prelude.{◌≡◌, ℕ, map};
 ghost use Rattle.std.specs.List.{list_all};
 ghost use Rattle.dq_pdu.specs.Octets.{is_padding, is_among, are_distinct};
 ghost use Rattle.dq_pdu.specs.Writing.{is_bare, is_name, is_proposable, is_answerable, has_parts};

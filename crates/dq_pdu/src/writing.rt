@@ -1,8 +1,8 @@
 //! PDUs as they are written (PS3.8 section 9.3).
-ghost use Rattle.std.specs.Prelude.{◌≡◌, ◌≤◌, ◌+◌, ◌^◌, ◌<◌, ◌++◌, ◌∷◌, ℕ, List, length, Some, IsTrue, ◌↔◌, IfOk, OnOk};
+ghost use Rattle.std.specs.Prelude.{◌≡◌, ◌≤◌, ◌+◌, ◌<◌, ◌++◌, ◌∷◌, length, Some, IsTrue, ◌↔◌, IfOk, OnOk};
 ghost use Rattle.std.specs.Int.{w32, to_be_bytes};
 ghost use Rattle.dq_pdu.specs.Numbers.{longest_body, pdv_header};
-ghost use Rattle.dq_pdu.specs.Writing.{item, application_context, maximum_length, request_information, implementation, accept_information, associate, request as request_body, accept as accept_body, kind, body, spelling, p_data, is_writable, IsWritable};
+ghost use Rattle.dq_pdu.specs.Writing.{application_context, maximum_length, request_information, implementation, accept_information, request as request_body, accept as accept_body, kind, body, spelling, p_data, is_writable, IsWritable};
 ghost use Rattle.dq_pdu.specs.Widths.{counted, AreWide, HasWidths};
 
 use crate::numbers::{

@@ -4,8 +4,9 @@
 //! nulls come first in its order: the rows are read in that order, ever more, up to one that has a
 //! value.
 //!
-//! The index that the most of a statement's equalities bind is taken, so where it is not to be that by
-//! days the statement says `started <> 1`, which binds none, and else `started = 0`.
+//! The index that a statement's tests bind most is taken, and among those that are bound alike one that
+//! has the order of `ORDER BY`. So where it is not to be that by days the statement says `started <> 1`,
+//! which binds none, and else `started = 0`.
 ghost use Rattle.std.specs.Prelude.{◌≡◌, None, Some, IfOk, OnOk, IfSome, IsPermutation, IsSortedByKey, take};
 ghost use Rattle.sqlite_value.specs.declared.value.Value.TheVariants.{Blob};
 ghost use Rattle.sqlite_value.specs.Value.{owned};

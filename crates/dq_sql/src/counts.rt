@@ -1,5 +1,5 @@
 //! How many rows there are, remembered so that a change need not count them again.
-ghost use Rattle.std.specs.Prelude.{◌≡◌, List, ◌∷◌, length, IfSome, OnOk, MatchBool};
+ghost use Rattle.std.specs.Prelude.{◌≡◌, List, ◌∷◌, length, IfSome, MatchBool};
 ghost use Rattle.dq_tables.specs.declared.row.Row.{Row};
 ghost use Rattle.dq_tables.specs.Rows.{IsRising, after, operation_of};
 ghost use Rattle.dq_tables.specs.Finding.{rows_of};

@@ -1,5 +1,5 @@
 //! The rowids of a found table.
-ghost use Rattle.std.specs.Prelude.{◌≡◌, IfOk, MatchBool, MatchOption, map, length};
+ghost use Rattle.std.specs.Prelude.{◌≡◌, IfOk, MatchBool, MatchOption, map};
 ghost use Rattle.std.specs.List.{AllByRecursion, IsAllAdjacentAnswer};
 ghost use Rattle.std.specs.Ordering.{int_cmp, is_lt};
 ghost use Rattle.dq_sql.specs.Adopting.{AreApart, IsNumbered, id_of};

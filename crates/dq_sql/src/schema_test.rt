@@ -1,8 +1,7 @@
 //! Of which version the tables and the indexes of a store are, where it has nothing else.
-ghost use Rattle.std.specs.Prelude.{◌≡◌, ◌<◌, [], ◌∷◌, false, pos, None, codes, IsTrue, IfSome};
+ghost use Rattle.std.specs.Prelude.{◌≡◌, ◌<◌, [], ◌∷◌, false, None, IsTrue, IfSome};
 ghost use Rattle.sqlite_value.specs.declared.value.Value.TheVariants.{Int};
 ghost use Rattle.sqlite_value.specs.declared.keys.Collation.TheVariants.{Binary};
-ghost use Rattle.sqlite_value.specs.Keys.{plain};
 ghost use Rattle.sqlite_sql.specs.declared.ops.BinaryOp.TheVariants.{And, Compare};
 ghost use Rattle.sqlite_schema.specs.declared.code.Op.TheVariants as node;
 ghost use Rattle.sqlite_schema.specs.Code.{terms_in};

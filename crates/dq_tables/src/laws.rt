@@ -6,7 +6,7 @@ ghost use Rattle.dq_tables.specs.declared.choice.Choice.{Choice};
 ghost use Rattle.dq_tables.specs.declared.row.Kind.{Kind};
 ghost use Rattle.dq_tables.specs.declared.row.Row.{Row};
 ghost use Rattle.dq_tables.specs.declared.change.Change.{Change};
-ghost use Rattle.dq_tables.specs.Rows.{Record, Edit, Put, Remove, record_of, row_place_of, place, rows_elsewhere, after_edit, edited, edited_all, of, IsRising, Operation, by, after, after_all, own_edits, operation_of, row_of};
+ghost use Rattle.dq_tables.specs.Rows.{Edit, Put, Remove, record_of, row_place_of, place, rows_elsewhere, after_edit, edited, edited_all, of, IsRising, Operation, by, after, after_all, own_edits, operation_of, row_of};
 ghost use Rattle.dq_tables.specs.Finding.{row_at, rows_of, rows_above, record_at, records_of, records_above};
 ghost use Rattle.dq_tables.specs.Choosing.{studies_in, studies_among, waiting_in, waiting_among};
 ghost use Rattle.dq_tables.specs.Labels.{date_number, day_named};

@@ -1,5 +1,5 @@
 //! Rows that are their records' own.
-ghost use Rattle.std.specs.Prelude.{◌≡◌, ◌<◌, ◌^◌, length, IfOk, option_map};
+ghost use Rattle.std.specs.Prelude.{◌≡◌, ◌<◌, ◌^◌, length, IfOk};
 ghost use Rattle.std.specs.Option.{option_copied};
 ghost use Rattle.dq_tables.specs.Sound.{is_value, has_key, has_above, is_within, may_be_started, is_own};
 

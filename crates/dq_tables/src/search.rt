@@ -1,7 +1,7 @@
 //! Rows in order, searched.
-ghost use Rattle.std.specs.Prelude.{◌≡◌, ◌+◌, ◌<◌, ◌≤◌, None, Some, IfOk, MatchResult, length, take, drop, filter, slice_get};
+ghost use Rattle.std.specs.Prelude.{◌≡◌, ◌<◌, None, Some, IfOk, MatchResult, length, filter};
 ghost use Rattle.std.specs.Str.{bytes_eq};
-ghost use Rattle.dq_tables.specs.Rows.{number_of, IsRising, row_place_of, row_place_order, place, group_order, record_of, rows_before, rows_past};
+ghost use Rattle.dq_tables.specs.Rows.{IsRising, row_place_of, row_place_order, place, group_order, record_of};
 ghost use Rattle.dq_tables.specs.Finding.{rows_of, row_at, IsThere, IsFree};
 ghost use Rattle.dq_tables.specs.Choosing.{has_asked_key, is_chosen, is_waiting};
 

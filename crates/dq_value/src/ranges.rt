@@ -1,6 +1,5 @@
 //! Ranges of values (PS3.4 section C.2.2.2.5).
 ghost use Rattle.std.specs.Prelude.{◌≡◌, ◌==◌, ℕ, List, Some, option_map, position};
-ghost use Rattle.std.specs.List.{list_any};
 ghost use Rattle.std.specs.Option.{option_copied};
 ghost use Rattle.dq_value.specs.Range.{Ends, IsRange, halves, ends, end_of};
 

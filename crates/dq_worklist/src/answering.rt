@@ -27,7 +27,7 @@ use dq_tables::{Row, TableFault, Tables, sole_item_at};
 use dq_vr::{Tag, tags};
 use std::alloc::{AllocError, Global};
 
-/// What an element does not meet alone: what tells how a query is answered, and the start of a
+/// What a kept element does not meet alone: what tells how a query is answered, and the start of a
 /// procedure step, which may be met as a period.
 static MET_LATER: [Tag; 6] = [
     tags::SPECIFIC_CHARACTER_SET,
