@@ -1,8 +1,8 @@
 -- The messages of presentation data values, computed one PDV after the other. That they are the
 -- messages, and the only ones, is said in Messages. What an assembler holds of them is said in
 -- Holding.
-use Rattle.std.specs.Prelude.{◌≡◌, ◌≤◌, ℕ, Bool, true, false, ◌||◌, ◌==◌, nat_lt, if◌then◌else◌}
-use Rattle.std.specs.Prelude.{List, [], ◌∷◌, ◌++◌, length, Option, Some, None, IsTrue}
+use Rattle.std.specs.Prelude.{◌≡◌, ◌≤◌, ℕ, Bool, true, false, ◌||◌, ◌==◌, nat_lt, if◌then◌else◌, []}
+use Rattle.std.specs.Prelude.{List, ◌∷◌, ◌++◌, length, Option, Some, None, IsTrue}
 use Rattle.dq_pdu.specs.declared.pdu.Pdv.{Pdv}
 use Rattle.dq_pdu.specs.Octets.{is_among}
 use Rattle.dq_dimse.specs.declared.command.Command.{Command}

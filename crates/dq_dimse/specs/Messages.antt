@@ -1,8 +1,8 @@
 -- The messages of presentation data values (PS3.7 section 6.3.1, PS3.8 annex E): runs of PDVs of
 -- one accepted context, command fragments to a last one whose join is a command set, and after
 -- them, where the command has a data set, data fragments to a last one whose join is the data set.
-use Rattle.std.specs.Prelude.{◌≡◌, ◌<◌, ◌≤◌, ◌⊎◌, ℕ, Bool, true, false, not, IsTrue, ◌==◌, nat_lt}
-use Rattle.std.specs.Prelude.{if◌then◌else◌, List, [], ◌∷◌, ◌++◌, length, All, Option, Some, None}
+use Rattle.std.specs.Prelude.{◌≡◌, ◌<◌, ◌≤◌, ◌⊎◌, ℕ, Bool, true, false, not, IsTrue, ◌==◌, nat_lt, []}
+use Rattle.std.specs.Prelude.{if◌then◌else◌, List, ◌∷◌, ◌++◌, length, All, Option, Some, None}
 use Rattle.std.specs.List.{flat_map}
 use Rattle.dq_pdu.specs.declared.pdu.Pdv.{Pdv}
 use Rattle.dq_pdu.specs.Octets.{is_among}

@@ -25,7 +25,7 @@ uid_asked keys = passing is_no_asterisk (sole_at tags.study_instance_uid keys)
 abbrev pub patient_asked : ElementList → Option (List ℕ)
 patient_asked keys = passing is_plain (sole_at tags.patient_id keys)
 
--- and one value of Study Date: one date, or one range of dates
+-- the choice by these, and by one value of Study Date: one date, or one range of dates
 unfoldable pub choice_in : ElementList → Choice
 choice_in keys = choice_asking (uid_asked keys) (patient_asked keys) (sole_at tags.study_date keys)
 

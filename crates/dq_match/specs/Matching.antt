@@ -1,10 +1,10 @@
 -- Whether a record meets the keys of an identifier (PS3.4 section C.2.2.2).
+use Rattle.dq_value.specs.Digits.{◌>>=◌}
 use Rattle.std.specs.Prelude.{ℤ, Bool, true, false, not, List, Option, Some, None, ◌||◌, ◌&&◌}
 use Rattle.std.specs.List.{list_any}
 use Rattle.dq_list.specs.Lengths.{is_empty}
 use Rattle.dq_vr.specs.declared.Tag.{Tag}
 use Rattle.dq_vr.specs.Tags.{scheduled_procedure_step_start_date, scheduled_procedure_step_start_time}
-use Rattle.dq_value.specs.Digits.{◌>>=◌}
 use Rattle.dq_value.specs.Day.{day}
 use Rattle.dq_value.specs.Time.{Span, span}
 use Rattle.dq_dataset.specs.Tree.{ElementList, no_elements, element, sequence, ItemList, no_items, item}

@@ -1,7 +1,7 @@
 -- Range matching of dates and of times (PS3.4 section C.2.2.2.5).
+use Rattle.dq_value.specs.Digits.{◌>>=◌}
 use Rattle.std.specs.Prelude.{ℕ, ℤ, Bool, true, false, List, Option, Some, None, option_map, int_le, int_lt, nat_le, ◌||◌, ◌&&◌}
 use Rattle.std.specs.Ordering.{int_eq}
-use Rattle.dq_value.specs.Digits.{◌>>=◌}
 use Rattle.dq_value.specs.Day.{day}
 use Rattle.dq_value.specs.Time.{Span, span}
 use Rattle.dq_value.specs.Range.{Ends, ends}

@@ -1,4 +1,4 @@
--- The keys that are supported at each level (PS3.4 tables C.6-2 to C.6-4 and K.6-1).
+-- The keys that are supported at each level (PS3.4 tables C.6-3 to C.6-5 and K.6-1).
 use Rattle.std.specs.Prelude.{Bool, false, not, List, [], ◌∷◌, ◌||◌, if◌then◌else◌}
 use Rattle.std.specs.List.{list_any}
 use Rattle.dq_vr.specs.declared.Tag.{Tag}

@@ -1,9 +1,9 @@
 -- Octets that follow one another: numbers, parts that fill a body, and unique identifiers (PS3.8
 -- section 9.3.1).
+use Rattle.dq_list.specs.Readers.{◌>>=◌}
 use Rattle.std.specs.Prelude.{◌≡◌, ℕ, zero, suc, Bool, true, false, ◌&&◌, ◌||◌, not, ◌==◌, if◌then◌else◌, List, [], ◌∷◌, ◌++◌, length, Option, Some, None}
 use Rattle.std.specs.Int.{Width, byte_len, from_be_bytes}
 use Rattle.dq_list.specs.Lengths.{is_empty}
-use Rattle.dq_list.specs.Readers.{◌>>=◌}
 use Rattle.dq_pdu.specs.declared.reading.Item.{Item}
 
 -- the octets are the number, the most significant first

@@ -34,7 +34,7 @@ optional name kind = record {
 abbrev pub required : List ℕ → Kind → Column
 required name kind = record (optional name kind) { not_null = true }
 
--- the columns of a record, its place and what it says of a study
+-- the columns of a record, its place and what it says of a study or an entry
 abbrev pub record_columns : List Column
 record_columns =
     required (codes "kind") Integer ∷ required (codes "inst") Text ∷ required (codes "id") Blob

@@ -45,7 +45,8 @@ studies_in choice institution rows =
 unfoldable pub studies_among : Choice → List Record → List Record
 studies_among choice records = filter (is_chosen choice) (records_of Study records)
 
--- an entry waits until a performed procedure step has started it (PS3.4 section K.6.1.2)
+-- an entry waits, which no performed procedure step has started (PS3.4 section K.6.1.2), and a choice
+-- takes it
 abbrev pub is_waiting : Choice → Record → Bool
 is_waiting choice r = not r.started && is_chosen choice r
 

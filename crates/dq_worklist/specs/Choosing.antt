@@ -14,7 +14,7 @@ use Rattle.dq_tables.specs.Labels.{start_date_in}
 abbrev pub patient_asked : ElementList → Option (List ℕ)
 patient_asked keys = passing is_plain (sole_at patient_id keys)
 
--- A query by the id of a step is none by a choice, and one value of the start date is one date or
--- one range of dates.
+-- It names no step's id: a query by one is answered without a choice. One value of the start date is
+-- one date or one range of dates.
 unfoldable pub choice_in : ElementList → Choice
 choice_in keys = choice_asking None (patient_asked keys) (start_date_in keys)
