@@ -1,6 +1,5 @@
 -- The acceptance of a request that octets spell can be written.
-use Rattle.std.proofs.Common.{◌≡◌, ℕ, Bool, true, cond, List, [], ◌∷◌, map, Option, Some, None, refl, sym, ap, subst, ◌∙◌, lit<}
-use Rattle.std.specs.Prelude.{◌&&◌}
+use Rattle.std.proofs.Common.{◌≡◌, ℕ, Bool, true, cond, List, [], ◌∷◌, map, Option, Some, None, refl, sym, ap, subst, ◌∙◌, arith}
 use Rattle.std.specs.List.{list_all}
 use Rattle.dq_dataset.specs.declared.header.Syntax.{Syntax}
 use Rattle.dq_dataset.specs.declared.header.Syntax.TheVariants.{Implicit, Explicit}
@@ -12,8 +11,7 @@ use Rattle.dq_pdu.specs.Widths.{HasWidths}
 use Rattle.dq_pdu.proofs.Answering.{answer_written}
 use Rattle.dq_pdu.proofs.WritableLaws.{writable_is}
 use Rattle.dq_assoc.specs.declared.classes.SopClass.{SopClass}
-use Rattle.dq_assoc.specs.Classes.{class_of}
-use Rattle.dq_assoc.specs.Negotiation.{syntax_uid, preferred_syntax, context_result_of, answer_of, answered_context, acceptance_of, rejection}
+use Rattle.dq_assoc.specs.Negotiation.{syntax_uid, context_result_of, answer_of, answered_context, acceptance_of, rejection}
 use Rattle.dq_assoc.specs.declared.association.State.TheVariants.{Waiting, Open}
 use Rattle.dq_assoc.specs.declared.association.Verdict.{Verdict}
 use Rattle.dq_assoc.specs.Table.{Requested, line, requested_line, goes, stray_line}
@@ -30,19 +28,10 @@ short-answer id (Some class) (Some syntax) = short-syntax syntax
 
 short-answers : (cs : List ProposedContext) → list_all has_identifier (map answered_context cs) ≡ true
 short-answers [] = refl
-short-answers (c ∷ cs) =
-    ap (λ (b : Bool). b && list_all has_identifier (map answered_context cs))
-    (short-answer c.id (class_of c.abstract_syntax) (preferred_syntax c.transfer_syntaxes))
-    ∙ short-answers cs
+short-answers (c ∷ cs) = grind (arith, short-answer, short-answers cs)
 
 acceptance-wide : (request : Request) → IsReceived request → HasWidths (acceptance_of request)
-acceptance-wide request r = record {
-  version_two = lit< tt;
-  called_sixteen = r.called_sixteen;
-  calling_sixteen = r.calling_sixteen;
-  reserved_thirty_two = r.reserved_thirty_two;
-  maximum_four = lit< tt;
-}
+acceptance-wide request r = grind arith
 
 pub acceptance-written : (request : Request) → IsReceived request → IsWritable (acceptance_of request)
 acceptance-written request r = answer_written _ (record {

@@ -1,5 +1,5 @@
 -- Classes, and what contexts are agreed on.
-use Rattle.std.proofs.Common.{◌≡◌, ◌≢◌, ℕ, suc, ◌==◌, ◌⊎◌, Bool, true, false, cond, not, List, [], ◌∷◌, get_or, map, Option, Some, None, refl, sym, ap, ◌∙◌, inl, inr, arith}
+use Rattle.std.proofs.Common.{◌≡◌, ◌≢◌, ℕ, suc, ◌==◌, ◌⊎◌, Bool, true, false, cond, not, List, [], ◌∷◌, map, Option, Some, None, refl, sym, ap, ◌∙◌, inl, inr, arith}
 use Rattle.std.specs.Prelude.{◌||◌, ◌&&◌, filter, find, filter_map, is_some, Contains}
 use Rattle.std.specs.List.{cons_option}
 use Rattle.std.specs.Result.{result_ok}
@@ -54,9 +54,7 @@ contains-offered (first ∷ others) syntax e =
     ]
 
 offers-contained : (syntaxes : List (List ℕ)) (syntax : List ℕ) → Contains syntaxes syntax → offers syntaxes syntax ≡ true
-offers-contained syntaxes syntax found =
-    list_any_at (λ (offered : List ℕ). bytes_eq offered syntax) syntaxes found.0 syntax found.1
-    ((bytes_eq-Decides (get_or syntaxes found.0 syntax) syntax).1 found.2)
+offers-contained syntaxes syntax found = grind (arith, list_any_at, bytes_eq-Decides)
 
 preferred-offered : (syntaxes : List (List ℕ)) (a b : Bool) (syntax : Syntax) → offers syntaxes (syntax_uid Explicit) ≡ a
     → offers syntaxes (syntax_uid Implicit) ≡ b
@@ -101,12 +99,7 @@ agreed-offered c a e =
 
 pub agreed-explicit : (c : ProposedContext) (a : AgreedContext) → agreed_context c ≡ Some a → Contains c.transfer_syntaxes (syntax_uid Explicit)
     → a.syntax ≡ Explicit
-agreed-explicit c a e offered =
-    let is : Some Explicit ≡ Some a.syntax =
-    ap (λ (b : Bool). cond b (Some Explicit) (cond (offers c.transfer_syntaxes (syntax_uid Implicit)) (Some Implicit) None))
-    (sym (offers-contained c.transfer_syntaxes (syntax_uid Explicit) offered))
-    ∙ (agreed-comes c a e).syntax_is in
-    cc
+agreed-explicit c a e offered = grind (arith, offers-contained, agreed-comes)
 
 -- a context of a class that is served is accepted where it offers a syntax that is taken
 either-way : (a b : Bool) → b ≡ true → is_some (cond a (Some Explicit) (cond b (Some Implicit) None)) ≡ true
@@ -124,18 +117,13 @@ some-result id class (Some syntax) e = refl
 
 pub accepted-offered : (c : ProposedContext) (class : SopClass) (syntax : Syntax) → class_of c.abstract_syntax ≡ Some class
     → Contains c.transfer_syntaxes (syntax_uid syntax) → is_accepted c ≡ true
-accepted-offered c class syntax e offered =
-    ap (λ (k : Option SopClass). is_some (result_ok (context_result_of c.id k (preferred_syntax c.transfer_syntaxes)))) e
-    ∙ some-result c.id class (preferred_syntax c.transfer_syntaxes)
-    (preferred-some c.transfer_syntaxes syntax (offers-contained c.transfer_syntaxes (syntax_uid syntax) offered))
+accepted-offered c class syntax e offered = grind (arith, some-result, preferred-some, offers-contained)
 
 answer-ok : (id : ℕ) (class : Option SopClass) (syntax : Option Syntax) (a : AgreedContext) → result_ok (context_result_of id class syntax) ≡ Some a
     → answer_of id (context_result_of id class syntax) ≡ answer_with a.id acceptance a.syntax
 answer-ok id None syntax a e = absurd cc
 answer-ok id (Some class) None a e = absurd cc
-answer-ok id (Some class) (Some syntax) a e =
-    let same : accepted_context id class syntax ≡ a = cc in
-    ap (λ (x : AgreedContext). answer_with x.id acceptance x.syntax) same
+answer-ok id (Some class) (Some syntax) a e = grind arith
 
 pub agreed-answer : (c : ProposedContext) (a : AgreedContext) → agreed_context c ≡ Some a → answered_context c ≡ answer_with a.id acceptance a.syntax
 agreed-answer c a e = answer-ok c.id (class_of c.abstract_syntax) (preferred_syntax c.transfer_syntaxes) a e
@@ -156,10 +144,7 @@ id-stays id (Some class) (Some syntax) = refl
 
 pub ids-stay : (cs : List ProposedContext) → map (λ (a : AnsweredContext). a.id) (map answered_context cs) ≡ map (λ (c : ProposedContext). c.id) cs
 ids-stay [] = refl
-ids-stay (c ∷ cs) =
-    ap (λ (n : ℕ). n ∷ map (λ (a : AnsweredContext). a.id) (map answered_context cs))
-    (id-stays c.id (class_of c.abstract_syntax) (preferred_syntax c.transfer_syntaxes))
-    ∙ ap (λ (l : List ℕ). c.id ∷ l) (ids-stay cs)
+ids-stay (c ∷ cs) = grind (arith, id-stays, ids-stay cs)
 
 -- ---- the contexts of an agreement
 

@@ -1,5 +1,5 @@
 -- What PDUs add to the inputs of an association, and where they leave it.
-use Rattle.std.proofs.Common.{◌≡◌, List, [], ◌∷◌, ◌++◌, map, Option, Some, None, refl, sym, ap, ◌∙◌, append_assoc}
+use Rattle.std.proofs.Common.{◌≡◌, List, [], ◌∷◌, ◌++◌, map, Option, Some, None, refl, sym, ap, ◌∙◌, append_assoc, arith}
 use Rattle.std.proofs.lemmas.List.{append-nil, map-append}
 use Rattle.dq_pdu.specs.declared.pdu.Pdv.{Pdv}
 use Rattle.dq_pdu.specs.declared.role.Role.{Role}
@@ -7,22 +7,20 @@ use Rattle.dq_pdu.specs.declared.role.Role.TheVariants.{Asks, Carries, Ends}
 use Rattle.dq_pdu.specs.declared.fault.PduFault.{PduFault}
 use Rattle.dq_dimse.specs.Received.{Message}
 use Rattle.dq_dimse.specs.declared.fault.DimseFault.{DimseFault}
-use Rattle.dq_dimse.specs.Assembling.{Assembly, Messages, messages_from, assembly_from, followed_by, spent_by}
+use Rattle.dq_dimse.specs.Assembling.{Assembly, Messages, messages_from, followed_by, spent_by}
 use Rattle.dq_dimse.proofs.Assemblies.{messages_from-nil, messages_from-append, messages_from-spent, messages_from-fault, assembly_from-nil, assembly_from-append, assembly_from-spent}
 use Rattle.dq_assoc.specs.declared.agreement.Agreement.{Agreement}
 use Rattle.dq_assoc.specs.Associations.{Held}
 use Rattle.dq_assoc.specs.Associations as held
 use Rattle.dq_assoc.specs.Negotiation.{agreement_of}
-use Rattle.dq_assoc.specs.Table.{Input, Requested, Sent, Bad, invalid_parameter}
+use Rattle.dq_assoc.specs.Table.{Input, Requested, Sent}
 use Rattle.dq_assoc.specs.Inputs.{values, after_values, closing_inputs, inputs_past, inputs_of_messages}
 use Rattle.dq_assoc.specs.After.{open_if, open_with, open_from, assembly_for, association_by, inputs_by}
 
 -- messages after others
 read-others : (list : List Message) (later : Messages) (end : List Input)
     → inputs_of_messages (followed_by list later) end ≡ map Sent list ++ inputs_of_messages later end
-read-others list later end =
-    ap (λ (l : List Input). l ++ inputs_past later.fault end) (map-append Sent list later.list)
-    ∙ append_assoc (map Sent list) (map Sent later.list) (inputs_past later.fault end)
+read-others list later end = grind (arith, map-append, append_assoc)
 
 -- after messages an association goes on, or was closed by the fault of its values
 go_on : (a : Agreement) (s : Assembly) (f : Option DimseFault) → spent_by s ≡ f → (list : List Message) (roles : List Role) (fault : Option PduFault)
@@ -30,17 +28,12 @@ go_on : (a : Agreement) (s : Assembly) (f : Option DimseFault) → spent_by s �
     ≡ (map Sent list ++ inputs_past f []) ++ inputs_by (open_if f a s) roles fault
 go_on a s None e list roles fault =
     ap (λ (l : List Input). l ++ inputs_by (held.Open a s) roles fault) (sym (append-nil (map Sent list)))
-go_on a s (Some d) e list roles fault =
-    ap (λ (m : Messages). map Sent list ++ inputs_of_messages m (closing_inputs (after_values roles) fault)) (messages_from-spent s (values roles) d e)
-    ∙ sym (append-nil (map Sent list ++ Bad invalid_parameter ∷ []))
+go_on a s (Some d) e list roles fault = grind (arith, messages_from-spent, append-nil)
 
 -- no PDUs, and those after them
 nil-open : (a : Agreement) (s : Assembly) (roles : List Role) (fault : Option PduFault)
     → inputs_by (held.Open a s) roles fault ≡ inputs_by (held.Open a s) [] None ++ inputs_by (association_by (held.Open a s) []) roles fault
-nil-open a s roles fault =
-    go_on a s (spent_by s) refl [] roles fault
-    ∙ ap (λ (m : Messages). inputs_of_messages m [] ++ inputs_by (open_if (spent_by s) a s) roles fault) (sym (messages_from-nil s))
-    ∙ ap (λ (t : Assembly). inputs_of_messages (messages_from s []) [] ++ inputs_by (open_if (spent_by t) a t) roles fault) (sym (assembly_from-nil s))
+nil-open a s roles fault = grind (arith, go_on, messages_from-nil, assembly_from-nil)
 
 inputs-nil : (h : Held) (roles : List Role) (fault : Option PduFault)
     → inputs_by h roles fault ≡ inputs_by h [] None ++ inputs_by (association_by h []) roles fault
@@ -52,17 +45,7 @@ inputs-nil (held.Closed agreed) roles fault = refl
 carries : (a : Agreement) (s : Assembly) (pdvs : List Pdv) (roles : List Role) (fault : Option PduFault)
     → inputs_by (held.Open a s) (Carries pdvs ∷ roles) fault
     ≡ inputs_by (held.Open a s) (Carries pdvs ∷ []) None ++ inputs_by (association_by (held.Open a s) (Carries pdvs ∷ [])) roles fault
-carries a s pdvs roles fault =
-    let next = assembly_from s pdvs in
-    let read = messages_from s pdvs in
-    let end = closing_inputs (after_values roles) fault in
-    ap (λ (m : Messages). inputs_of_messages m end) (messages_from-append s pdvs (values roles))
-    ∙ read-others read.list (messages_from next (values roles)) end
-    ∙ go_on a next (spent_by next) refl read.list roles fault
-    ∙ ap (λ (f : Option DimseFault). (map Sent read.list ++ inputs_past f []) ++ inputs_by (open_if (spent_by next) a next) roles fault)
-    (sym (messages_from-fault s pdvs))
-    ∙ ap (λ (v : List Pdv). inputs_of_messages (messages_from s v) [] ++ inputs_by (open_if (spent_by (assembly_from s v)) a (assembly_from s v)) roles fault)
-    (sym (append-nil pdvs))
+carries a s pdvs roles fault = grind (arith, messages_from-append, read-others, go_on, messages_from-fault, append-nil)
 
 -- one PDU, and those after it
 pub inputs-cons : (h : Held) (role : Role) (roles : List Role) (fault : Option PduFault)
@@ -97,10 +80,7 @@ pub association-cons : (h : Held) (role : Role) (roles : List Role) → associat
 association-cons held.Waiting (Asks request) roles = association-nil (held.Open (agreement_of request) (assembly_for request)) roles
 association-cons held.Waiting (Carries pdvs) roles = refl
 association-cons held.Waiting (Ends ending) roles = refl
-association-cons (held.Open a s) (Carries pdvs) roles =
-    ap (λ (t : Assembly). open_with a t (after_values roles)) (assembly_from-append s pdvs (values roles))
-    ∙ leave a (assembly_from s pdvs) (spent_by (assembly_from s pdvs)) refl roles
-    ∙ ap (λ (v : List Pdv). association_by (open_if (spent_by (assembly_from s v)) a (assembly_from s v)) roles) (sym (append-nil pdvs))
+association-cons (held.Open a s) (Carries pdvs) roles = grind (arith, assembly_from-append, leave, append-nil)
 association-cons (held.Open a s) (Asks request) roles = refl
 association-cons (held.Open a s) (Ends ending) roles = refl
 association-cons (held.Closed agreed) role roles = refl

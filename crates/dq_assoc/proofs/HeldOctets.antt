@@ -11,12 +11,11 @@ use Rattle.dq_dimse.specs.Holding.{Holding, Assembles, WasGiven as WasGivenPdvs,
 use Rattle.dq_dimse.proofs.HeldOctets.{held_within}
 use Rattle.dq_assoc.specs.declared.agreement.Agreement.{Agreement}
 use Rattle.dq_assoc.specs.declared.association.Held.TheVariants as code
-use Rattle.dq_assoc.specs.Associations.{Held}
 use Rattle.dq_assoc.specs.Associations as held
 use Rattle.dq_assoc.specs.Negotiation.{agreement_of, ids_of}
 use Rattle.dq_assoc.specs.Inputs.{values, after_values}
-use Rattle.dq_assoc.specs.After.{association_by, association_from, assembly_for, open_if, open_with}
-use Rattle.dq_assoc.specs.Holding.{Stands, WasGiven, accepted_by}
+use Rattle.dq_assoc.specs.After.{association_by, assembly_for, open_if, open_with}
+use Rattle.dq_assoc.specs.Holding.{WasGiven, accepted_by}
 use Rattle.dq_assoc.proofs.Standing.{ids_same}
 
 opened_if : (fault : Option DimseFault) (a agreement : Agreement) (x assembly : Assembly) → open_if fault a x ≡ held.Open agreement assembly

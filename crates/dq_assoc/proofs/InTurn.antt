@@ -1,6 +1,6 @@
 -- PDUs that an open association takes in turn, and what they have led to so far.
-use Rattle.std.proofs.Common.{◌≡◌, true, false, IsTrue, List, [], ◌∷◌, ◌++◌, map, Option, None, Result, Ok, Err, IfOk, refl, sym, ap, subst, ◌∙◌, append_assoc}
-use Rattle.std.proofs.lemmas.List.{append-nil, map-append}
+use Rattle.std.proofs.Common.{◌≡◌, true, false, IsTrue, List, [], ◌∷◌, ◌++◌, map, Option, None, Result, Ok, Err, IfOk, refl, sym, ap, subst, ◌∙◌, append_assoc, arith}
+use Rattle.std.proofs.lemmas.List.{map-append}
 use Rattle.std.specs.declared.alloc.AllocError.{AllocError}
 use Rattle.dq_pdu.specs.declared.pdu.Pdu.{Pdu}
 use Rattle.dq_pdu.specs.declared.fault.PduFault.{PduFault}
@@ -16,7 +16,6 @@ use Rattle.dq_dimse.proofs.Holdings.{stand_append}
 use Rattle.dq_assoc.specs.declared.agreement.Agreement.{Agreement}
 use Rattle.dq_assoc.specs.declared.association.Held.{Held as HeldAssociation}
 use Rattle.dq_assoc.specs.declared.association.Held.TheVariants as code
-use Rattle.dq_assoc.specs.declared.association.State.{State}
 use Rattle.dq_assoc.specs.declared.association.State.TheVariants.{Open}
 use Rattle.dq_assoc.specs.declared.association.Step.{Step as HeldStep}
 use Rattle.dq_assoc.specs.Associations.{Held}
@@ -116,10 +115,7 @@ stays_open (code.Closed agreed) new o u e = absurd cc
 one_leads : (now new : HeldAssociation) (pdu : Pdu) (step : HeldStep) (old_agreement : Option Agreement) (a : Held) → held_state now ≡ Open
     → held_agreement now ≡ old_agreement → TookOne now new pdu step → Stands now a
     → IsStep (accepted_in old_agreement) step (open_outcome (inputs_from a (pdu ∷ []) None))
-one_leads now new pdu step agreement a opens agrees t h =
-    subst (λ (o : Option Agreement). IsStep (accepted_in o) step (open_outcome (inputs_from a (pdu ∷ []) None))) agrees
-    (subst (λ (s : State). IsStep (accepted_in (held_agreement now)) step (outcome s (inputs_from a (pdu ∷ []) None)))
-    (sym (stands_state now a h) ∙ opens) (t.leads a h))
+one_leads now new pdu step agreement a opens agrees t h = grind (arith, stands_state)
 
 pub took_more : (old now new : HeldAssociation) (helds longer : List HeldMessage) (fault : Option PduFault) (all done left later : List Pdu) (pdu : Pdu)
     (step : HeldStep) → TookSome old now helds fault all done left → left ≡ pdu ∷ later → TookOne now new pdu step → step.close ≡ false
@@ -158,45 +154,5 @@ pub took_last : (old now new : HeldAssociation) (helds : List HeldMessage) (faul
     → IfOk result (λ (held : HeldStep). held ≡ record { messages = helds ++ step.messages; octets = step.octets; close = step.close })
     → (a : Held) → Stands old a → IfOk result (λ (held : HeldStep). IsStep (accepted_in (held_agreement old)) held (open_outcome (inputs_from a all fault)))
 took_last old now new helds fault all done left later pdu step (Ok held) so l t c e a h =
-    let k = so.takes a h in
-    let here = k.association in
-    let first = inputs_from here (pdu ∷ []) None in
-    let next = association_from here (pdu ∷ []) in
-    let accepted = accepted_in (held_agreement old) in
-    let is = one_leads now new pdu step (held_agreement old) here so.is_open so.agrees t k.stands in
-    let total = ap (after_messages k.list) (sym (closes first (inputs_from next later fault) (sym is.close ∙ c)))
-    ∙ ap (λ (inputs : List Input). after_messages k.list (open_outcome inputs)) (sym (inputs-cons here (role_of pdu) (map role_of later) fault))
-    ∙ ap (λ (pdus : List Pdu). after_messages k.list (open_outcome (inputs_from here pdus fault))) (sym l)
-    ∙ k.leads in
-    subst (IsStep accepted held) total (subst (λ (x : HeldStep). IsStep accepted x (after_messages k.list (open_outcome first))) (sym e)
-    (after_stands accepted helds k.list step (open_outcome first) k.stand is))
+    grind (arith, one_leads, closes, inputs-cons, after_stands)
 took_last old now new helds fault all done left later pdu step (Err error) so l t c e a h = tt
-
--- all PDUs were taken
-pub took_all : (old now : HeldAssociation) (helds : List HeldMessage) (fault : Option PduFault) (all done left : List Pdu)
-    (result : Result HeldStep AllocError) → TookSome old now helds fault all done left → left ≡ []
-    → ((a : Held) (before : List Message) → Stands now a → StandForAll (accepted_in (held_agreement now)) helds before
-    → IfOk result (λ (held : HeldStep). IsStep (accepted_in (held_agreement now)) held (after_messages before (open_outcome (inputs_from a [] fault)))))
-    → (a : Held) → Stands old a → IfOk result (λ (held : HeldStep). IsStep (accepted_in (held_agreement old)) held (open_outcome (inputs_from a all fault)))
-took_all old now helds fault all done left result so l ends a h =
-    let k = so.takes a h in
-    let accepted = accepted_in (held_agreement old) in
-    let back = sym (ap accepted_in so.agrees) in
-    let there = ends k.association k.list k.stands (subst (λ (xs : List Accepted). StandForAll xs helds k.list) back k.stand) in
-    subst (λ (s : Step). IfOk result (λ (held : HeldStep). IsStep accepted held s))
-    (ap (λ (pdus : List Pdu). after_messages k.list (open_outcome (inputs_from k.association pdus fault))) (sym l) ∙ k.leads)
-    (subst (λ (xs : List Accepted). IfOk result (λ (held : HeldStep). IsStep xs held
-    (after_messages k.list (open_outcome (inputs_from k.association [] fault))))) (sym back) there)
-
-pub next_all : (old now new : HeldAssociation) (helds : List HeldMessage) (fault : Option PduFault) (all done left : List Pdu)
-    (result : Result HeldStep AllocError) → TookSome old now helds fault all done left → left ≡ []
-    → IfOk result (λ (step : HeldStep). step.close ≡ false → (fault ≡ None) × (new ≡ now))
-    → (a : Held) → Stands old a → IfOk result (λ (step : HeldStep). step.close ≡ false → (fault ≡ None) × Stands new (association_from a all))
-next_all old now new helds fault all done left (Ok step) so l kept a h = λ c.
-    let k = so.takes a h in
-    let whole : done ≡ all = sym (append-nil done) ∙ ap (λ (pdus : List Pdu). done ++ pdus) (sym l) ∙ sym so.parts in (
-      (kept c).0,
-      subst (λ (x : HeldAssociation). Stands x (association_from a all)) (sym (kept c).1)
-          (subst (Stands now) (k.is ∙ ap (association_from a) whole) k.stands),
-    )
-next_all old now new helds fault all done left (Err error) so l kept a h = tt

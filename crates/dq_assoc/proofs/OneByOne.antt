@@ -1,5 +1,5 @@
 -- PDUs that are taken one by one lead to what their inputs lead to together.
-use Rattle.std.proofs.Common.{◌≡◌, ◌≢◌, Bool, true, false, IsTrue, cond, List, [], ◌∷◌, ◌++◌, map, Option, Some, None, refl, sym, ap, ◌∙◌}
+use Rattle.std.proofs.Common.{◌≡◌, ◌≢◌, Bool, true, false, IsTrue, cond, List, [], ◌∷◌, ◌++◌, map, Option, Some, None, refl, sym, ap, ◌∙◌, arith}
 use Rattle.dq_pdu.specs.declared.pdu.Pdu.{Pdu}
 use Rattle.dq_pdu.specs.declared.role.Role.{Role}
 use Rattle.dq_pdu.specs.declared.role.Role.TheVariants.{Asks, Carries, Ends}
@@ -7,7 +7,7 @@ use Rattle.dq_pdu.specs.declared.role.Ending.TheVariants.{ReleaseAsked, AbortSen
 use Rattle.dq_pdu.specs.Roles.{role_of}
 use Rattle.dq_dimse.specs.Received.{Message}
 use Rattle.dq_dimse.specs.declared.fault.DimseFault.{DimseFault}
-use Rattle.dq_dimse.specs.Assembling.{Assembly, messages_from, assembly_from, spent_by}
+use Rattle.dq_dimse.specs.Assembling.{Assembly, assembly_from, spent_by}
 use Rattle.dq_dimse.proofs.Assemblies.{messages_from-fault}
 use Rattle.dq_assoc.specs.declared.agreement.Agreement.{Agreement}
 use Rattle.dq_assoc.specs.Associations.{Held}
@@ -33,22 +33,14 @@ messages-then : (a : Agreement) (s : Assembly) (list : List Message) (f : Option
     ≡ open_outcome ((map Sent list ++ inputs_past f []) ++ later)
 messages-then a s [] None later = refl
 messages-then a s [] (Some d) later = refl
-messages-then a s (message ∷ list) f later =
-    let first = open_outcome (map Sent list ++ inputs_past f []) in
-    with-then first.close message first (outcome (state_of (open_if f a s)) later) ∙ ap (with_message message) (messages-then a s list f later)
+messages-then a s (message ∷ list) f later = grind (arith, with-then, messages-then a s list f later)
 
 -- one PDU, and the inputs that come later
 one-then : (h : Held) (role : Role) (later : List Input) → IsTrue (is_sound h) → state_of h ≢ Waiting
     → then_step (outcome (state_of h) (inputs_by h (role ∷ []) None)) (outcome (state_of (association_by h (role ∷ []))) later)
     ≡ outcome (state_of h) (inputs_by h (role ∷ []) None ++ later)
 one-then held.Waiting role later sound begun = absurd (begun refl)
-one-then (held.Open a s) (Carries pdvs) later sound begun =
-    let all = pdvs ++ [] in
-    let read = messages_from s all in
-    let next = assembly_from s all in
-    ap (λ (f : Option DimseFault). then_step (open_outcome (map Sent read.list ++ inputs_past read.fault [])) (outcome (state_of (open_if f a next)) later))
-    (sym (messages_from-fault s all))
-    ∙ messages-then a next read.list read.fault later
+one-then (held.Open a s) (Carries pdvs) later sound begun = grind (arith, messages_from-fault, messages-then)
 one-then (held.Open a s) (Asks request) later sound begun =
     rw (read-nil s sound (closing_input (Asks request) ∷ [])) refl
 one-then (held.Open a s) (Ends ReleaseAsked) later sound begun =

@@ -7,7 +7,7 @@ use Rattle.dq_pdu.specs.Roles.{role_of}
 use Rattle.dq_pdu.specs.Writing.{is_writable}
 use Rattle.dq_assoc.specs.Associations.{Held}
 use Rattle.dq_assoc.specs.Associations as held
-use Rattle.dq_assoc.specs.declared.association.State.TheVariants.{Open, Closed}
+use Rattle.dq_assoc.specs.declared.association.State.TheVariants.{Open}
 use Rattle.dq_assoc.specs.Negotiation.{acceptance_of}
 use Rattle.dq_assoc.specs.Table.{requested_line, goes, stray_line}
 use Rattle.dq_assoc.specs.After.{AssociationAfter, is_closed, association_by}
@@ -35,11 +35,3 @@ writable-open false answer e = absurd cc
 pub requested-open : (request : Request) (o : Option Pdu) → is_closed (requested_line request o).next ≡ false → (requested_line request o).next ≡ Open
 requested-open request None e = writable-open (is_writable (acceptance_of request)) (acceptance_of request) e
 requested-open request (Some answer) e = absurd cc
-
-writable-closed : (b : Bool) (answer : Pdu) → let l = cond b (goes (Some answer) Open) stray_line in is_closed l.next ≡ true → l.next ≡ Closed
-writable-closed true answer e = absurd cc
-writable-closed false answer e = refl
-
-pub requested-closed : (request : Request) (o : Option Pdu) → is_closed (requested_line request o).next ≡ true → (requested_line request o).next ≡ Closed
-requested-closed request None e = writable-closed (is_writable (acceptance_of request)) (acceptance_of request) e
-requested-closed request (Some answer) e = refl

@@ -1,5 +1,5 @@
 -- Associations that are open only while their values are messages, and the state that PDUs leave.
-use Rattle.std.proofs.Common.{◌≡◌, true, false, IsTrue, List, [], ◌∷◌, ◌++◌, map, Option, Some, None, refl, sym, ap, subst, ◌∙◌}
+use Rattle.std.proofs.Common.{◌≡◌, true, false, IsTrue, List, [], ◌∷◌, ◌++◌, map, Option, Some, None, refl, sym, ap, subst, ◌∙◌, arith}
 use Rattle.std.specs.Prelude.{is_none, is_some}
 use Rattle.std.proofs.lemmas.List.{append-nil}
 use Rattle.dq_pdu.specs.declared.pdu.Pdv.{Pdv}
@@ -9,7 +9,7 @@ use Rattle.dq_pdu.specs.declared.role.Ending.TheVariants.{ReleaseAsked, AbortSen
 use Rattle.dq_pdu.specs.declared.fault.PduFault.{PduFault}
 use Rattle.dq_dimse.specs.Received.{Message}
 use Rattle.dq_dimse.specs.declared.fault.DimseFault.{DimseFault}
-use Rattle.dq_dimse.specs.Assembling.{Assembly, Messages, messages_from, assembly_from, spent_by}
+use Rattle.dq_dimse.specs.Assembling.{Assembly, messages_from, assembly_from, spent_by}
 use Rattle.dq_dimse.proofs.Assemblies.{messages_from-nil, messages_from-fault}
 use Rattle.dq_assoc.specs.declared.agreement.Agreement.{Agreement}
 use Rattle.dq_assoc.specs.Associations.{Held}
@@ -19,7 +19,7 @@ use Rattle.dq_assoc.specs.declared.association.Verdict.TheVariants.{Accept}
 use Rattle.dq_assoc.specs.Negotiation.{agreement_of}
 use Rattle.dq_assoc.specs.Table.{Input, Sent, Bad, line, answer_octets}
 use Rattle.dq_assoc.specs.Inputs.{values, after_values, reason_of, closing_input, inputs_past, inputs_of_messages}
-use Rattle.dq_assoc.specs.After.{state_of, agreement_in, is_sound, TakesRole, open_if, open_with, assembly_for, association_by, inputs_by}
+use Rattle.dq_assoc.specs.After.{state_of, is_sound, open_if, open_with, assembly_for, association_by, inputs_by}
 use Rattle.dq_assoc.specs.Steps.{with_message, open_outcome, outcome, fault_inputs, fault_answer, values_step}
 
 pub none_is : (o : Option DimseFault) → IsTrue (is_none o) → o ≡ None
@@ -42,10 +42,6 @@ kept-if : (a : Agreement) (s : Assembly) (f : Option DimseFault) → is_some f �
 kept-if a s None e = refl
 kept-if a s (Some d) e = absurd cc
 
-none-if : (f : Option DimseFault) → is_some f ≡ false → IsTrue (is_none f)
-none-if None e = refl
-none-if (Some d) e = absurd cc
-
 -- PDUs leave an association that is sound
 pub sound-by : (h : Held) (roles : List Role) → IsTrue (is_sound h) → IsTrue (is_sound (association_by h roles))
 sound-by held.Waiting [] sound = refl
@@ -58,9 +54,7 @@ sound-by (held.Closed agreed) roles sound = refl
 
 -- what comes where no values came before it
 pub read-nil : (s : Assembly) → IsTrue (is_none (spent_by s)) → (later : List Input) → inputs_of_messages (messages_from s []) later ≡ later
-read-nil s sound later =
-    ap (λ (m : Messages). inputs_of_messages m later) (messages_from-nil s)
-    ∙ ap (λ (f : Option DimseFault). inputs_past f later) (none_is (spent_by s) sound)
+read-nil s sound later = grind (arith, messages_from-nil, none_is)
 
 pub nothing-added : (h : Held) → IsTrue (is_sound h) → inputs_by h [] None ≡ []
 nothing-added held.Waiting sound = refl
@@ -88,9 +82,6 @@ pub values-open : (a : Agreement) (s : Assembly) (pdvs : List Pdv) → is_some (
     → let next = assembly_from s pdvs in held.Open a next ≡ open_if (spent_by next) a next
 values-open a s pdvs e = kept-if a (assembly_from s pdvs) (spent_by (assembly_from s pdvs)) (ap is_some (sym (messages_from-fault s pdvs)) ∙ e)
 
-pub values-sound : (s : Assembly) (pdvs : List Pdv) → is_some (messages_from s pdvs).fault ≡ false → IsTrue (is_none (spent_by (assembly_from s pdvs)))
-values-sound s pdvs e = none-if (spent_by (assembly_from s pdvs)) (ap is_some (sym (messages_from-fault s pdvs)) ∙ e)
-
 -- the messages of values, and the end where they are none
 pub values-outcome : (list : List Message) (f : Option DimseFault)
     → open_outcome (map Sent list ++ inputs_past f []) ≡ values_step (record { list = list; fault = f })
@@ -98,29 +89,11 @@ values-outcome [] None = refl
 values-outcome [] (Some d) = refl
 values-outcome (message ∷ list) f = ap (with_message message) (values-outcome list f)
 
-agreement-if : (a : Agreement) (s : Assembly) (f : Option DimseFault)
-    → agreement_in (open_if f a s) ≡ Some a
-agreement-if a s None = refl
-agreement-if a s (Some d) = refl
-
--- an association keeps its agreement
-pub agreement-stays : (h : Held) (role : Role) → TakesRole (state_of h) role → let next = association_by h (role ∷ []) in
-    agreement_in next ≡ agreement_in h
-agreement-stays held.Waiting (Asks request) takes = absurd takes
-agreement-stays held.Waiting (Carries pdvs) takes = refl
-agreement-stays held.Waiting (Ends ending) takes = refl
-agreement-stays (held.Open a s) (Carries pdvs) takes = agreement-if a (assembly_from s (pdvs ++ [])) (spent_by (assembly_from s (pdvs ++ [])))
-agreement-stays (held.Open a s) (Asks request) takes = refl
-agreement-stays (held.Open a s) (Ends ending) takes = refl
-agreement-stays (held.Closed agreed) role takes = absurd takes
-
 -- ---- a PDU that an open association takes
 
 pub values-carried : (a : Agreement) (s : Assembly) (pdvs : List Pdv)
     → values_step (messages_from s pdvs) ≡ outcome Open (inputs_by (held.Open a s) (Carries pdvs ∷ []) None)
-values-carried a s pdvs =
-    ap (λ (v : List Pdv). values_step (messages_from s v)) (sym (append-nil pdvs))
-    ∙ sym (values-outcome (messages_from s (pdvs ++ [])).list (messages_from s (pdvs ++ [])).fault)
+values-carried a s pdvs = grind (arith, append-nil, values-outcome)
 
 pub role-closes : (a : Agreement) (s : Assembly) (role : Role) → IsTrue (is_sound (held.Open a s)) → ((pdvs : List Pdv) → role ≡ Carries pdvs → ⊥)
     → record { messages = []; octets = answer_octets (line Open Accept (closing_input role)).answer; close = true }

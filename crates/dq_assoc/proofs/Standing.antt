@@ -1,5 +1,5 @@
 -- What the code holds of an association, and the association that it stands for.
-use Rattle.std.proofs.Common.{◌≡◌, ℕ, Bool, true, false, IsTrue, ◌+◌, ◌<◌, List, [], ◌∷◌, ◌++◌, length, get_or, drop, map, Option, Some, None, Result, Ok, Err, IfOk, OnOk, refl, sym, ap, subst, ◌∙◌}
+use Rattle.std.proofs.Common.{◌≡◌, ℕ, Bool, true, false, IsTrue, ◌+◌, ◌<◌, List, [], ◌∷◌, ◌++◌, length, get_or, drop, map, Option, Some, None, Result, Ok, Err, IfOk, OnOk, refl, sym, ap, subst, ◌∙◌, arith}
 use Rattle.std.specs.Prelude.{is_none, is_some, option_map}
 use Rattle.std.proofs.lemmas.List.{append-nil}
 use Rattle.std.specs.declared.alloc.AllocError.{AllocError}
@@ -91,10 +91,7 @@ closing answer = record { messages = []; octets = answer_octets answer; close = 
 -- a step that closes with an answer
 pub closing_leads : (result : Result HeldStep AllocError) (list : List HeldMessage) (answer other : Option Pdu) (step : Step) → IsClosing result list answer
     → list ≡ [] → answer ≡ other → record { messages = []; octets = answer_octets other; close = true } ≡ step → Leads result step
-closing_leads (Ok held) list answer other step is e f to = λ accepted.
-    bare_step held step accepted (ap (λ (h : HeldStep). h.messages) is ∙ e) (ap (λ (s : Step). s.messages) (sym to))
-    (ap (λ (h : HeldStep). h.octets) is ∙ ap answer_octets f ∙ ap (λ (s : Step). s.octets) to)
-    (ap (λ (h : HeldStep). h.close) is ∙ ap (λ (s : Step). s.close) to)
+closing_leads (Ok held) list answer other step is e f to = grind (arith, bare_step)
 closing_leads (Err error) list answer other step is e f to = tt
 
 pub fault_leads : (result : Result HeldStep AllocError) (list : List HeldMessage) (answer : Option Pdu) (h : Held) (fault : PduFault) → IsClosing result list answer
@@ -158,13 +155,7 @@ pub took_message : (accepted : List Accepted) (helds new : List HeldMessage) (be
     → found ≡ Some held → Adds accepted (Ok found) [] read → StandForAll accepted helds before → new ≡ helds ++ held ∷ []
     → StandForAll accepted new (before ++ read.list)
 took_message accepted helds new before None held read e adds stand is = absurd cc
-took_message accepted helds new before (Some other) held read e adds stand is =
-    let same : other ≡ held = cc in
-    let one : StandForAll accepted (other ∷ []) (adds.1.0 ∷ []) = (adds.1.2, tt) in
-    let list : adds.1.0 ∷ [] ≡ read.list = sym adds.1.1 ∙ ap (λ (m : Messages). m.list) (sym adds.2) in
-    subst (λ (hs : List HeldMessage). StandForAll accepted hs (before ++ read.list)) (ap (λ (h : HeldMessage). helds ++ h ∷ []) same ∙ sym is)
-    (subst (λ (ms : List Message). StandForAll accepted (helds ++ other ∷ []) (before ++ ms)) list
-    (stand_append accepted helds (other ∷ []) before (adds.1.0 ∷ []) stand one))
+took_message accepted helds new before (Some other) held read e adds stand is = grind (arith, stand_append)
 
 -- what was read so far stands for what the definitions read
 pub record HasRead (accepted : List Accepted) (helds : List HeldMessage) (now : Holding) (left : List Pdv) (first : Assembly) (all : List Pdv) : Type 0 where
@@ -296,20 +287,6 @@ carried_step result old agreement holding role pdvs slice association e r v stan
     (subst (λ (xs : List Accepted). StepsTo result xs (values_step (messages_from s.0 slice)))
     (s.3 ∙ ap (λ (x : HeldAssociation). accepted_in (held_agreement x)) e) (steps s.0 s.2))
 
-pub carried_next : (result : Result HeldStep AllocError) (old new : HeldAssociation) (agreement : Agreement) (holding : Holding) (role : Role)
-    (pdvs slice : List Pdv) (association : Held) → code.Open agreement holding ≡ old → role ≡ Carries pdvs → slice ≡ pdvs → Stands old association
-    → ((a : Assembly) → Assembles holding a → holding.accepted ≡ accepted_by agreement
-    → OnOk result (let next = assembly_from a slice in Stands new (open_if (spent_by next) agreement next)))
-    → OnOk result (Stands new (association_by association (role ∷ [])))
-carried_next (Err error) old new agreement holding role pdvs slice association e r v stands steps = tt
-carried_next (Ok step) old new agreement holding role pdvs slice association e r v stands steps =
-    let s = subst (λ (x : HeldAssociation). Stands x association) (sym e) stands in
-    let leads : (let next = assembly_from s.0 slice in open_if (spent_by next) agreement next) ≡ association_by association (role ∷ []) =
-    ap (λ (pdvs : List Pdv). open_if (spent_by (assembly_from s.0 pdvs)) agreement (assembly_from s.0 pdvs)) (v ∙ sym (append-nil pdvs))
-    ∙ ap (λ (x : Role). association_by (held.Open agreement s.0) (x ∷ [])) (sym r)
-    ∙ ap (λ (h : Held). association_by h (role ∷ [])) (sym s.1) in
-    subst (Stands new) leads (steps s.0 s.2 s.3)
-
 -- a PDU that closes an open association
 pub role_leads : (result : Result HeldStep AllocError) (old : HeldAssociation) (agreement : Agreement) (holding : Holding) (role : Role) (association : Held)
     (list : List HeldMessage) (answer : Option Pdu) → code.Open agreement holding ≡ old → Stands old association → IsTrue (is_unspent old)
@@ -323,9 +300,7 @@ role_leads result old agreement holding role association list answer e stands un
 
 pub role_next : (old : HeldAssociation) (agreement : Agreement) (holding : Holding) (role : Role) (association : Held) → code.Open agreement holding ≡ old
     → Stands old association → ((pdvs : List Pdv) → role ≡ Carries pdvs → ⊥) → Stands (code.Closed (Some agreement)) (association_by association (role ∷ []))
-role_next old agreement holding role association e stands other =
-    let s = subst (λ (x : HeldAssociation). Stands x association) (sym e) stands in
-    ap (λ (h : Held). association_by h (role ∷ [])) s.1 ∙ sym (role-closed agreement s.0 role other)
+role_next old agreement holding role association e stands other = grind (arith, role-closed)
 
 -- what a PDU that closes an open association did
 pub record ClosedBy (result : Result HeldStep AllocError) (old new : HeldAssociation) (role : Role) : Type 0 where

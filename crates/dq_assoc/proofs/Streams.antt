@@ -1,5 +1,5 @@
 -- Associations that were given PDUs, and the inputs of streams.
-use Rattle.std.proofs.Common.{◌≡◌, ◌≢◌, ℕ, IsTrue, List, [], ◌∷◌, ◌++◌, map, Option, Some, None, refl, sym, ap, subst, ◌∙◌}
+use Rattle.std.proofs.Common.{◌≡◌, ◌≢◌, ℕ, IsTrue, List, [], ◌∷◌, ◌++◌, map, Option, Some, None, refl, sym, ap, subst, ◌∙◌, arith}
 use Rattle.std.proofs.lemmas.List.{append-nil, map-append}
 use Rattle.dq_pdu.specs.declared.pdu.Pdu.{Pdu}
 use Rattle.dq_pdu.specs.declared.pdu.Pdu.TheVariants.{Request as request_pdu, Accept as accept_pdu, Reject, PData, ReleaseRq, ReleaseRp, Abort}
@@ -73,13 +73,7 @@ Opens pdus h = (request : Request) × (later : List Pdu) × (pdus ≡ request_pd
 
 opens-by : (pdus : List Pdu) → let h = association_by held.Waiting (map role_of pdus) in state_of h ≡ Open → Opens pdus h
 opens-by [] e = absurd cc
-opens-by (request_pdu request ∷ pdus) e = (
-  request,
-  pdus,
-  refl,
-  opens-with (agreement_of request)
-      (assembly_from (assembly_for request) (values (map role_of pdus))) (after_values (map role_of pdus)) e,
-)
+opens-by (request_pdu request ∷ pdus) e = grind (arith, opens-with)
 opens-by (accept_pdu accept ∷ pdus) e = absurd cc
 opens-by (Reject result source reason ∷ pdus) e = absurd cc
 opens-by (PData pdvs ∷ pdus) e = absurd cc
@@ -114,10 +108,7 @@ stream-adds all fault list rest more e =
 -- a stream without a fault that goes on
 pub stream-further : (first all : Pdus) (pdus : List Pdu) (h : Held) → first.fault ≡ None → AssociationAfter first.list h → all.list ≡ first.list ++ pdus
     → inputs_of all.list all.fault ≡ inputs_of first.list first.fault ++ inputs_from h pdus all.fault
-stream-further first all pdus h faultless after e =
-    ap (λ (list : List Pdu). inputs_of list all.fault) e
-    ∙ after-inputs first.list pdus all.fault h after
-    ∙ ap (λ (f : Option PduFault). inputs_of first.list f ++ inputs_from h pdus all.fault) (sym faultless)
+stream-further first all pdus h faultless after e = grind (arith, after-inputs)
 
 -- one that has a fault
 pub stream-stops : (first all : Pdus) (fault : PduFault) → first.fault ≡ Some fault → all.list ≡ first.list → all.fault ≡ Some fault

@@ -1,11 +1,10 @@
 -- Values that an assembler takes one after the other.
-use Rattle.std.proofs.Common.{◌≡◌, ◌≢◌, ℕ, suc, ◌+◌, ◌<◌, ◌⊎◌, true, false, List, [], ◌∷◌, ◌++◌, length, get_or, drop, Option, Some, None, refl, sym, ap, subst, ◌∙◌, inl, inr, add-one, append_assoc, drop-cons}
+use Rattle.std.proofs.Common.{◌≡◌, ℕ, suc, ◌+◌, ◌<◌, true, false, List, [], ◌∷◌, ◌++◌, length, get_or, drop, Option, Some, None, refl, sym, ap, subst, ◌∙◌, add-one, append_assoc, drop-cons}
 use Rattle.std.specs.Prelude.{is_some}
 use Rattle.std.proofs.lemmas.List.{append-nil}
 use Rattle.dq_pdu.specs.declared.pdu.Pdv.{Pdv}
 use Rattle.dq_dimse.specs.Received.{Message}
 use Rattle.dq_dimse.specs.declared.fault.DimseFault.{DimseFault}
-use Rattle.dq_dimse.specs.declared.fault.DimseFault.TheVariants.{NoMemory}
 use Rattle.dq_dimse.specs.Assembling.{Assembly, Messages, messages_from, assembly_from, followed_by, spent_by}
 use Rattle.dq_dimse.proofs.Assemblies.{messages_from-nil, messages_from-append, messages_from-spent, messages_from-fault, assembly_from-nil, assembly_from-append}
 
@@ -13,14 +12,6 @@ use Rattle.dq_dimse.proofs.Assemblies.{messages_from-nil, messages_from-append, 
 pub record IsFaulty (list : List Message) (read : Messages) : Type 0 where
   pub messages_are : list ≡ list ++ read.list
   pub fault_is : true ≡ is_some read.fault
-
-pub is-faulty : (list : List Message) (read : Messages) (fault : DimseFault) → fault ≢ NoMemory
-    → (fault ≡ NoMemory) ⊎ (read ≡ record { list = []; fault = Some fault }) → IsFaulty list read
-is-faulty list read fault other (inl e) = absurd (other e)
-is-faulty list read fault other (inr e) = record {
-  messages_are = sym (append-nil list) ∙ ap (λ (m : Messages). list ++ m.list) (sym e);
-  fault_is = ap (λ (m : Messages). is_some m.fault) (sym e);
-}
 
 -- what was read so far, and what the values that are left add to it
 pub record ReadSo (list : List Message) (s : Assembly) (left : List Pdv) (first : Assembly) (all : List Pdv) : Type 0 where

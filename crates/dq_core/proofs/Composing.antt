@@ -15,9 +15,7 @@ use Rattle.dq_core.specs.Pages.{OpenQuery}
 use Rattle.dq_core.specs.Answers.{Answer, then_answer}
 use Rattle.dq_core.specs.Shared.{operations_by}
 use Rattle.dq_core.specs.Stepping.{IsPartOf}
-use Rattle.dq_core.specs.declared.slot.Taken.{Taken as HeldTaken}
-use Rattle.dq_core.specs.Doing.{Did, DidPart, Taken, served_answer, messages_answer, taken_answer}
-use Rattle.dq_core.specs.Slots.{IsTaken}
+use Rattle.dq_core.specs.Doing.{Did, DidPart, served_answer, messages_answer}
 use Rattle.dq_core.proofs.Going.{part-left}
 
 pub after-append : (xs ys : List Operation) (rows : List Row) → after_all (xs ++ ys) rows ≡ after_all ys (after_all xs rows)
@@ -194,27 +192,4 @@ module _ {i : Institution} {a : Agreement} {helds : List HeldMessage} {all : Lis
         → DidPart (Some i) (messages_answer (limits_of i) a (of i.name r0) q0 all) r0 r2 IsLeft
     held-part IsLeft part = serves-part has.serves next-held.parts IsLeft (part next-held.message next-held.on)
 
-pub none_served : (i : Institution) (a : Agreement) (helds : List HeldMessage) (all : List Message) (r0 : List Row) (x0 : List ℕ)
-    (q0 : Option OpenQuery) → StandForAll (accepted_by a) helds all → HasServed i a helds all r0 r0 x0 x0 q0 q0
-none_served i a helds all r0 x0 q0 stand = record {
-  left = all;
-  stand = stand;
-  serves = record { rest = record { did = λ r2 x2 q2 did. did; part = λ r2 begun. widest begun } };
-}
-
 -- ---- what was taken
-
--- the answer to messages, with what comes before it and after it
-pub answer_between : (i : Institution) (a : Agreement) (held : HeldTaken) (t : Taken) (r0 r1 : List Row) (start out octets : List ℕ)
-    (q0 q1 : Option OpenQuery)
-    → IsTaken (Some a) held t → start ≡ held.opening
-    → Did (Some i) (messages_answer (limits_of i) a (of i.name r0) q0 t.step.messages) r0 r1 start out q1 → octets ≡ out ++ held.step.octets
-    → Did (Some i) (taken_answer (limits_of i) (of i.name r0) (Some a) q0 t) r0 r1 [] octets q1
-answer_between i a held t r0 r1 start out octets q0 q1 is s did e =
-    let served = messages_answer (limits_of i) a (of i.name r0) q0 t.step.messages in
-    record {
-      octets = e ∙ ap (λ (x : List ℕ). out ++ x) is.step.octets ∙ ap (λ (x : List ℕ). x ++ t.step.octets) did.octets
-          ∙ ap (λ (x : List ℕ). (x ++ served.octets) ++ t.step.octets) (s ∙ is.opening) ∙ append_assoc t.opening served.octets t.step.octets;
-      rows = did.rows;
-      query = did.query;
-    }

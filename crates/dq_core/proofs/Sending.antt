@@ -7,7 +7,6 @@ use Rattle.std.proofs.Math.Seq.{take-append_seam, drop-append_seam}
 use Rattle.dq_dataset.specs.Tree.{ElementList}
 use Rattle.dq_dataset.specs.Canonical.{canonical}
 use Rattle.dq_dimse.specs.Sending.{cut}
-use Rattle.dq_assoc.specs.declared.agreement.AgreedContext.{AgreedContext}
 use Rattle.dq_match.specs.declared.responses.Found.{Found}
 use Rattle.dq_find.specs.Pages.{HasGiven}
 use Rattle.dq_core.specs.declared.pages.OpenQuery.{OpenQuery as HeldQuery}

@@ -12,7 +12,7 @@ use Rattle.dq_config.specs.declared.config.Institution.{Institution}
 use Rattle.dq_core.specs.Connections.{Connection, new_connection, connection_in, without, with_connection}
 use Rattle.dq_core.specs.Owners.{owner, is_of, live_of}
 use Rattle.dq_core.specs.Slots.{home_of, is_home}
-use Rattle.dq_core.specs.Tallies.{place_in, count_in, tallied, IsTallied, one_more, one_less, retallied_by}
+use Rattle.dq_core.specs.Tallies.{place_in, count_in, tallied, one_more, one_less, retallied_by}
 
 abbrev most : ℕ
 most = 18446744073709551615
@@ -50,18 +50,6 @@ module _ (institutions : List Institution) (name : List ℕ) where
 
 abbrev zeros : ℕ → List ℕ
 zeros n = replicate n 0
-
-none-at : (n k : ℕ) → get_or (zeros n) k 0 ≡ 0
-none-at zero k = refl
-none-at (suc n) zero = refl
-none-at (suc n) (suc k) = none-at n k
-
-none-counted : (n : ℕ) (o : Option ℕ) → count_in (zeros n) o ≡ 0
-none-counted n None = refl
-none-counted n (Some place) = none-at n place
-
-pub none-tallied : (institutions : List Institution) (n : ℕ) → IsTallied institutions (zeros n) []
-none-tallied institutions n name = none-counted n (place_in institutions name)
 
 has-first : {X : Type 0} (p : X → Bool) (xs : List X) (k : ℕ) (d : X) → k < length xs → p (get_or xs k d) ≡ true → position_or_len p xs < length xs
 has-first p [] k d h t = absurd (omega (arith, h))

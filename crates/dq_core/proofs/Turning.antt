@@ -1,10 +1,10 @@
 -- The turns of the plain server, over the slots of the connections that are held.
-use Rattle.std.proofs.Common.{◌≡◌, ◌≢◌, ℕ, ◌+◌, ◌<◌, ◌^◌, ◌==◌, Bool, true, false, ◌&&◌, not, List, [], ◌∷◌, ◌++◌, length, replicate, Option, Some, None, is_some, ◌⊎◌, inl, inr, refl, sym, ap, ◌∙◌, arith, length-set}
+use Rattle.std.proofs.Common.{◌≡◌, ◌≢◌, ℕ, ◌+◌, ◌<◌, ◌^◌, ◌==◌, Bool, true, false, ◌&&◌, not, List, [], ◌∷◌, ◌++◌, length, Option, Some, None, is_some, ◌⊎◌, inl, inr, refl, sym, ap, ◌∙◌, arith, length-set}
 use Rattle.std.specs.Map.{lookup, remove_entry}
 use Rattle.std.specs.Ordering.{nat_cmp}
-use Rattle.std.specs.BTreeMap.{BTreeMap, IsEmpty, IsOrdered, insert_entry}
+use Rattle.std.specs.BTreeMap.{BTreeMap, IsOrdered, insert_entry}
 use Rattle.std.specs.Str.{bytes_eq}
-use Rattle.std.proofs.lemmas.List.{append-nil, length-replicate}
+use Rattle.std.proofs.lemmas.List.{append-nil}
 use Rattle.std.proofs.lemmas.Slice.Eq.{bytes_eq-Decides}
 use Rattle.slab.specs.Slab.{Slab, get, ContainsKey, Updates, with_value}
 use Rattle.slab.proofs.SlabLemmas.{Updates-with_value}
@@ -40,7 +40,7 @@ use Rattle.dq_core.specs.Shared.{World, turn, owner_turn, answer_by}
 use Rattle.dq_core.specs.Slots.{StandsAt, IsHeld, AreHeld, Turned, IsTaken, Took, answer_of, home_of, is_home}
 use Rattle.dq_core.proofs.Owning.{Waits, no-home, counted-held}
 use Rattle.dq_core.proofs.Slotted.{has_number, Found, found, found-none, left, changed, opened, inserts-last, all-below, none-above, all-left, same-length}
-use Rattle.dq_core.proofs.Tallying.{bit, live-left, live-changed, live-opened, live-within, none-tallied, ended-anywhere, retally}
+use Rattle.dq_core.proofs.Tallying.{bit, live-left, live-changed, live-opened, live-within, ended-anywhere, retally}
 
 -- a slot of a connection that was just opened
 new-held : (institutions : List Institution) (slot : Slot) (number : ℕ) → slot.number ≡ number → InboxAfter [] slot.inbox
@@ -124,17 +124,6 @@ and-false false = refl
 and-true : (b : Bool) → (b && true) ≡ b
 and-true true = refl
 and-true false = refl
-
--- a server that has no connections
-pub none-held : (institutions : List Institution) (held : Connections) → IsEmpty held.places → IsOrdered nat_cmp held.places
-    → held.tally.counts.items ≡ replicate (length institutions) 0 → AreHeld institutions held []
-none-held institutions held e o t = record {
-  at = rw e tt;
-  ordered = o;
-  below = rw e tt;
-  tallied = rw t (none-tallied institutions (length institutions));
-  counted = rw t (length-replicate (length institutions) 0);
-}
 
 module _ (institutions : List Institution) (world : World) (number : ℕ) where
   pub opens : (before after : Connections) (place : ℕ) (slot : Slot) → AreHeld institutions before world.connections

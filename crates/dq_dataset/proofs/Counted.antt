@@ -1,5 +1,5 @@
 -- Lengths of canonical spellings, counted up to FFFFFFFFH.
-use Rattle.std.proofs.Common.{◌≡◌, ℕ, ◌+◌, ◌<◌, ◌≤◌, min, Bool, true, false, cond, ltb, List, ◌++◌, length, get_or, drop, refl, sym, ap, ◌∙◌, subst, arith, ◌↔◌}
+use Rattle.std.proofs.Common.{◌≡◌, ℕ, ◌+◌, ◌<◌, ◌≤◌, min, Bool, true, false, cond, ltb, List, ◌++◌, length, get_or, drop, refl, sym, ap, ◌∙◌, arith, ◌↔◌}
 use Rattle.std.specs.Int.{w16, to_le_bytes}
 use Rattle.std.proofs.lemmas.List.{length-append}
 use Rattle.std.proofs.lemmas.Bool.Decides.{nat_tests}
@@ -48,14 +48,10 @@ unfolding header_of
 explicit_header tag vr n = omega (arith, length-append (tag_octets tag) (vr_and_length (length_form_of vr) vr n), after_tag_is (length_form_of vr) vr n)
 
 pub short_header : (tag : Tag) (vr : Vr) (n : ℕ) → length_form_of vr ≡ Two → n ≤ 65534 → length (header_of Explicit tag vr n) ≡ 8
-short_header tag vr n form le =
-    let few : ltb 65534 n ≡ false = grind (arith, nat_tests) in
-    explicit_header tag vr n ∙ ap (λ (f : LengthForm). 4 + after_tag f n) form ∙ ap (λ (b : Bool). 4 + cond b 8 4) few
+short_header tag vr n form le = grind (arith, nat_tests, explicit_header)
 
 pub un_header : (tag : Tag) (vr : Vr) (n : ℕ) → length_form_of vr ≡ Two → 65534 < n → length (header_of Explicit tag vr n) ≡ 12
-un_header tag vr n form lt =
-    let many : ltb 65534 n ≡ true = grind (arith, nat_tests) in
-    explicit_header tag vr n ∙ ap (λ (f : LengthForm). 4 + after_tag f n) form ∙ ap (λ (b : Bool). 4 + cond b 8 4) many
+un_header tag vr n form lt = grind (arith, nat_tests, explicit_header)
 
 pub long_header : (tag : Tag) (vr : Vr) (n : ℕ) → length_form_of vr ≡ Four → length (header_of Explicit tag vr n) ≡ 12
 long_header tag vr n form = explicit_header tag vr n ∙ ap (λ (f : LengthForm). 4 + after_tag f n) form
@@ -66,9 +62,7 @@ item_header n = refl
 
 -- a length past FFFFFFFFH has the header of FFFFFFFFH
 after_tag_cut : (form : LengthForm) (n : ℕ) → after_tag form (min n 0xFFFFFFFF) ≡ after_tag form n
-after_tag_cut Two n =
-    let same : ltb 65534 (min n 0xFFFFFFFF) ≡ ltb 65534 n = grind (arith, nat_tests) in
-    ap (λ (b : Bool). cond b 8 4) same
+after_tag_cut Two n = grind (arith, nat_tests)
 after_tag_cut Four n = refl
 
 header_cut : (syntax : Syntax) (tag : Tag) (vr : Vr) (n : ℕ) → length (header_of syntax tag vr (min n 0xFFFFFFFF)) ≡ length (header_of syntax tag vr n)
@@ -83,11 +77,7 @@ one tag vr value = record { tag = tag; vr = vr; value = value }
 
 pub value_length : (s : Syntax) (t : Tag) (v : Vr) (x : Value) (rest : ElementList)
     → length (canonical s (with_value (one t v x) x rest)) ≡ length (header_of s t v (value_octets s x)) + value_octets s x + length (canonical s rest)
-value_length s t v (Octets o) rest =
-    omega (arith, length-append (header_of s t v (length o) ++ o) (canonical s rest), length-append (header_of s t v (length o)) o)
-value_length s t v (Items ds) rest =
-    let body = canonical_items s (items_of ds) in
-    omega (arith, length-append (header_of s t v (length body) ++ body) (canonical s rest), length-append (header_of s t v (length body)) body)
+value_length s t v x rest = grind (arith, nat_tests, length-append)
 
 pub element_counted : (s : Syntax) (all : List Element) (i total : ℕ) (e : Element) (header octets : ℕ) → i < length all → e ≡ get_or all i e
     → octets ≡ min (value_octets s e.value) 0xFFFFFFFF → header ≡ length (header_of s e.tag e.vr octets)
@@ -95,26 +85,14 @@ pub element_counted : (s : Syntax) (all : List Element) (i total : ℕ) (e : Ele
     → min (min (min (total + header) 0xFFFFFFFF + octets) 0xFFFFFFFF + length (canonical s (as_elements (drop (i + 1) all)))) 0xFFFFFFFF
     ≡ min (length (canonical s (as_elements all))) 0xFFFFFFFF
 element_counted s all i total e header octets lt is cut head so_far =
-    let rest = as_elements (drop (i + 1) all) in
-    let parts : length (canonical s (as_elements (drop i all))) ≡ length (header_of s e.tag e.vr (value_octets s e.value)) + value_octets s e.value
-    + length (canonical s rest) =
-    ap (λ (x : List Element). length (canonical s (as_elements x))) (from_place all i e lt is) ∙ value_length s e.tag e.vr e.value rest in
-    let header_is : header ≡ length (header_of s e.tag e.vr (value_octets s e.value)) =
-    head ∙ ap (λ (n : ℕ). length (header_of s e.tag e.vr n)) cut ∙ header_cut s e.tag e.vr (value_octets s e.value) in
-    omega (arith, parts, header_is, cut, so_far)
+    grind (arith, nat_tests, from_place, value_length, header_cut)
 
 pub item_counted : (s : Syntax) (all : List ElementList) (i total : ℕ) (d : ElementList) (octets : ℕ) → i < length all → d ≡ get_or all i d
     → octets ≡ min (length (canonical s d)) 0xFFFFFFFF
     → min (total + length (canonical_items s (items_of (drop i all)))) 0xFFFFFFFF ≡ min (length (canonical_items s (items_of all))) 0xFFFFFFFF
     → min (min (min (total + 8) 0xFFFFFFFF + octets) 0xFFFFFFFF + length (canonical_items s (items_of (drop (i + 1) all)))) 0xFFFFFFFF
     ≡ min (length (canonical_items s (items_of all))) 0xFFFFFFFF
-item_counted s all i total d octets lt is cut so_far =
-    let body = canonical s d in
-    let rest = canonical_items s (items_of (drop (i + 1) all)) in
-    let parts : length (canonical_items s (items_of (drop i all))) ≡ 8 + length body + length rest =
-    ap (λ (x : List ElementList). length (canonical_items s (items_of x))) (from_place all i d lt is)
-    ∙ omega (arith, length-append (item_header_of (length body) ++ body) rest, length-append (item_header_of (length body)) body, item_header (length body)) in
-    omega (arith, parts, cut, so_far)
+item_counted s all i total d octets lt is cut so_far = grind (arith, nat_tests, from_place, length-append, item_header)
 
 -- ---- what is short as a whole is short in its parts
 
@@ -154,9 +132,4 @@ all_have_lengths s t v (Items ds) rest lt h = (lt, short_items s (items_of ds) l
 module _ (s : Syntax) (all : List Element) (i : ℕ) (e : Element) (lt : i < length all) (is : e ≡ get_or all i e)
     (so_far : HasLengths s (as_elements (drop i all)) ↔ HasLengths s (as_elements all)) where
   pub lengths_from : value_octets s e.value < 0xFFFFFFFF → HasLengths s (as_elements (drop (i + 1) all)) ↔ HasLengths s (as_elements all)
-  lengths_from short =
-      let parts = from_place all i e lt is in
-      let rest = as_elements (drop (i + 1) all) in (
-        λ h. so_far.0 (subst (λ (x : List Element). HasLengths s (as_elements x)) (sym parts) (all_have_lengths s e.tag e.vr e.value rest short h)),
-        λ h. (first_has_length s e.tag e.vr e.value rest (subst (λ (x : List Element). HasLengths s (as_elements x)) parts (so_far.1 h))).1,
-      )
+  lengths_from short = grind (arith, nat_tests, from_place, all_have_lengths, first_has_length)

@@ -1,5 +1,5 @@
 -- What is cut out of a data set, and what is merged from two.
-use Rattle.std.proofs.Common.{◌≡◌, ℕ, ◌-◌, ◌<◌, Bool, true, false, cond, ◌&&◌, List, [], ◌∷◌, ◌++◌, length, get_or, take, drop, Option, Some, None, refl, sym, ap, subst, ◌∙◌, append_assoc, ◌+◌, arith}
+use Rattle.std.proofs.Common.{◌≡◌, ℕ, ◌-◌, ◌<◌, Bool, true, false, cond, ◌&&◌, List, [], ◌∷◌, ◌++◌, length, get_or, take, drop, Option, Some, None, refl, sym, ap, ◌∙◌, append_assoc, ◌+◌, arith}
 use Rattle.std.specs.Prelude.{filter, nat_eq}
 use Rattle.std.proofs.lemmas.List.{take_all, take_more}
 use Rattle.std.proofs.lemmas.Bool.Decides.{nat_tests}
@@ -28,10 +28,7 @@ unfolding is_below
 below-other a b h k = grind (arith, nat_tests)
 
 same_tags : (a b : Tag) → same_tag a b ≡ true → a ≡ b
-same_tags a b h =
-    let group : a.group ≡ b.group = grind (arith, nat_tests) in
-    let number : a.element ≡ b.element = grind (arith, nat_tests) in
-    λ i. record { group = group i; element = number i }
+same_tags a b h = grind (arith, nat_tests)
 
 -- ---- one element before others
 
@@ -118,12 +115,7 @@ irreflexive a = grind (arith, nat_tests)
 next_replaces : (first : Element) (rest : List Element) (new : Element) (others : List Element) → IsDataSet (as_elements (first ∷ rest))
     → same_tag first.tag new.tag ≡ true → merged_elements (first ∷ rest) (new ∷ others) ≡ new ∷ merged_elements rest others
 next_replaces first rest new others h same =
-    let one : first.tag ≡ new.tag = same_tags first.tag new.tag same in
-    let rises = facts-parts 16 None first rest h in
-    let above = all_above 16 new.tag rest (subst (λ (t : Tag). Are 16 (Some t) rest) one rises.2) in
-    let no : is_below first.tag new.tag ≡ false = rw one (irreflexive new.tag) in
-    let no' : is_below new.tag first.tag ≡ false = rw one (irreflexive new.tag) in
-    rw (no, no') (next_is_new_by new rest others (elements_below new.tag rest) (elements_above new.tag rest) above.0 above.1)
+    grind (arith, nat_tests, same_tags, facts-parts, all_above, irreflexive, next_is_new_by)
 
 next_joins : (first : Element) (rest : List Element) (new : Element) (others : List Element) → IsDataSet (as_elements (first ∷ rest))
     → is_below first.tag new.tag ≡ false
@@ -138,9 +130,7 @@ next_joins first rest new others h not_below other =
 -- the first of a slice, and the others
 pub first_and_rest : {A : Type 0} (xs : List A) (x : A) → 0 < length xs → x ≡ get_or xs 0 x → xs ≡ x ∷ take (length xs - 1) (drop 1 xs)
 first_and_rest [] x lt is = absurd (omega arith)
-first_and_rest (y ∷ ys) x lt is =
-    let one_less : length (y ∷ ys) - 1 ≡ length ys = omega arith in
-    rw (one_less, take_all (length ys) ys (omega arith)) (ap (λ (z : _). z ∷ ys) (sym is))
+first_and_rest (y ∷ ys) x lt is = grind (arith, nat_tests, take_all)
 
 -- comparing goes on behind two that are the same
 pub same_so_far : {A : Type 0} (items others left rest : List A) (i : ℕ) (x y : A) → i < length items → x ≡ get_or items i x → others ≡ take i items ++ left

@@ -1,7 +1,7 @@
 -- Checking elements or items one after the other, as a loop does.
-use Rattle.std.proofs.Common.{◌≡◌, ℕ, ◌≤◌, ◌<◌, List, ◌∷◌, length, Option, Some, None, Result, Ok, Err, refl, ap, ◌∙◌, arith}
+use Rattle.std.proofs.Common.{◌≡◌, ℕ, ◌≤◌, ◌<◌, List, ◌∷◌, length, Option, Some, None, Result, Ok, Err, refl, ◌∙◌, arith}
 use Rattle.dq_dataset.proofs.Types.{Tag, ReadFault, Syntax, Bound, Header, Element, Value, ElementList}
-use Rattle.dq_dataset.specs.Reading.{◌>>=◌, Readers, readers, kept, element_by, elements_by, elements_after, item_by, items_by, items_after}
+use Rattle.dq_dataset.specs.Reading.{◌>>=◌, Readers, readers, element_by, elements_by, elements_after, item_by, items_by, items_after}
 use Rattle.dq_dataset.specs.Lending.{rest_of, header_of, item_of}
 use Rattle.dq_dataset.proofs.Loops.{a_step_left}
 use Rattle.dq_dataset.proofs.Fields.{ok_is}
@@ -28,26 +28,12 @@ after_header : (r : Readers) (bound : Bound) (syntax : Syntax) (levels : ℕ) (r
     → header_of read ≡ Ok (Some h, after) → rest_of (read >>= λ first. elements_after r bound syntax levels first.0 first.1)
     ≡ rest_of (r.elements bound syntax levels (Some h.tag) after)
 unfolding elements_after
-after_header r bound syntax levels (Ok (None, rest)) h after e =
-    let bad : None ≡ Some h = ap (λ (x : Option Header × List ℕ). x.0) (ok_is (None, rest) (Some h, after) e) in
-    absurd cc
-after_header r bound syntax levels (Ok (Some first, rest)) h after e =
-    let both = ok_is (Some first.0, rest) (Some h, after) e in
-    let header_is : Some first.0 ≡ Some h = ap (λ (x : Option Header × List ℕ). x.0) both in
-    let same : first.0 ≡ h = cc in
-    let rest_is : rest ≡ after = ap (λ (x : Option Header × List ℕ). x.1) both in
-    rest_of-kept (kept first.0 first.1) (r.elements bound syntax levels (Some first.0.tag) rest)
-    ∙ (λ i. rest_of (r.elements bound syntax levels (Some (same i).tag) (rest_is i)))
-after_header r bound syntax levels (Err f) h after e = absurd cc
+after_header r bound syntax levels read h after e = grind (arith, ok_is, rest_of-kept)
 
 after_none : (r : Readers) (bound : Bound) (syntax : Syntax) (levels : ℕ) (read : Result (Option (Header × Value) × List ℕ) ReadFault) (after : List ℕ)
     → header_of read ≡ Ok (None, after) → rest_of (read >>= λ first. elements_after r bound syntax levels first.0 first.1) ≡ Ok after
 unfolding elements_after
-after_none r bound syntax levels (Ok (None, rest)) after e = ap (λ (x : Option Header × List ℕ). Ok x.1) (ok_is (None, rest) (None, after) e)
-after_none r bound syntax levels (Ok (Some first, rest)) after e =
-    let bad : Some first.0 ≡ None = ap (λ (x : Option Header × List ℕ). x.0) (ok_is (Some first.0, rest) (None, after) e) in
-    absurd cc
-after_none r bound syntax levels (Err f) after e = absurd cc
+after_none r bound syntax levels read after e = grind (arith, ok_is)
 
 -- a fault of what is read first is the fault of it all
 first_fault : {A B X : Type 0} (read : Result A ReadFault) (seen : A → B) (more : A → Result (X × List ℕ) ReadFault) (f : ReadFault)
@@ -103,22 +89,12 @@ after_item : (r : Readers) (bound : Bound) (syntax : Syntax) (levels : ℕ) (rea
     → item_of read ≡ Ok (Some tt, after) → rest_of (read >>= λ first. items_after r bound syntax levels first.0 first.1)
     ≡ rest_of (r.items bound syntax levels after)
 unfolding items_after
-after_item r bound syntax levels (Ok (None, rest)) after e =
-    let bad : None ≡ Some tt = ap (λ (x : Option (Unit {0}) × List ℕ). x.0) (ok_is (None, rest) (Some tt, after) e) in
-    absurd cc
-after_item r bound syntax levels (Ok (Some first, rest)) after e =
-    let same : rest ≡ after = ap (λ (x : Option (Unit {0}) × List ℕ). x.1) (ok_is (Some tt, rest) (Some tt, after) e) in
-    rest_of-first first (r.items bound syntax levels rest) ∙ ap (λ (p : List ℕ). rest_of (r.items bound syntax levels p)) same
-after_item r bound syntax levels (Err f) after e = absurd cc
+after_item r bound syntax levels read after e = grind (arith, ok_is, rest_of-first)
 
 no_item_after : (r : Readers) (bound : Bound) (syntax : Syntax) (levels : ℕ) (read : Result (Option ElementList × List ℕ) ReadFault) (after : List ℕ)
     → item_of read ≡ Ok (None, after) → rest_of (read >>= λ first. items_after r bound syntax levels first.0 first.1) ≡ Ok after
 unfolding items_after
-no_item_after r bound syntax levels (Ok (None, rest)) after e = ap (λ (x : Option (Unit {0}) × List ℕ). Ok x.1) (ok_is (None, rest) (None, after) e)
-no_item_after r bound syntax levels (Ok (Some first, rest)) after e =
-    let bad : Some tt ≡ None = ap (λ (x : Option (Unit {0}) × List ℕ). x.0) (ok_is (Some tt, rest) (None, after) e) in
-    absurd cc
-no_item_after r bound syntax levels (Err f) after e = absurd cc
+no_item_after r bound syntax levels read after e = grind (arith, ok_is)
 
 module _ (bound : Bound) (syntax : Syntax) (levels : ℕ) (all : List ℕ) where
   module _ (rest : List ℕ) where

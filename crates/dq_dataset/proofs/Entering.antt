@@ -25,10 +25,7 @@ Behind (Within until) left header after = header + after ≡ left
 
 pub value_extent : (reach : Reach) (extent : Option ℕ) (after : ℕ) (v : List ℕ) → HasRoom reach extent after
     → Extends (opened_reach reach extent after) (opened_left reach extent after) v → HasExtent extent v
-value_extent reach None after v room extends = tt
-value_extent (Measured until) (Some n) after v room extends = omega arith
-value_extent (Within until) (Some n) after v room extends = omega arith
-value_extent Endless (Some n) after v room extends = omega arith
+value_extent reach extent after v room extends = grind arith
 
 module _ (header v w : List ℕ) where
   parts_length : length (header ++ (v ++ w)) ≡ length header + length v + length w
@@ -37,30 +34,17 @@ module _ (header v w : List ℕ) where
   extends_around : (reach : Reach) (extent : Option ℕ) (left after : ℕ) → Behind reach left (length header) after → HasRoom reach extent after
       → Extends (opened_reach reach extent after) (opened_left reach extent after) v → Extends reach (opened_left reach extent after - length v) w
       → Extends reach left (header ++ (v ++ w))
-  extends_around (Measured until) None left after behind room value others = omega (arith, parts_length)
-  extends_around (Measured until) (Some n) left after behind room value others = omega (arith, parts_length)
-  extends_around (Within until) None left after behind room value others = omega (arith, parts_length)
-  extends_around (Within until) (Some n) left after behind room value others = omega (arith, parts_length)
-  extends_around Endless extent left after behind room value others = tt
+  extends_around reach extent left after behind room value others = grind (arith, parts_length)
 
   limit_around : (reach : Reach) (extent : Option ℕ) (left after : ℕ) (beyond : List ℕ) → Behind reach left (length header) after → HasRoom reach extent after
       → Extends (opened_reach reach extent after) (opened_left reach extent after) v → IsLimit reach (opened_left reach extent after - length v) w beyond
       → IsLimit reach left (header ++ (v ++ w)) beyond
-  limit_around (Measured until) None left after beyond behind room value others = omega (arith, parts_length)
-  limit_around (Measured until) (Some n) left after beyond behind room value others = omega (arith, parts_length)
-  limit_around (Within until) None left after beyond behind room value others = omega (arith, parts_length)
-  limit_around (Within until) (Some n) left after beyond behind room value others = omega (arith, parts_length)
-  limit_around Endless extent left after beyond behind room value others = others
+  limit_around reach extent left after beyond behind room value others = grind (arith, parts_length)
 
   left_behind : (reach : Reach) (extent : Option ℕ) (left after : ℕ) → Behind reach left (length header) after → HasRoom reach extent after
       → Extends (opened_reach reach extent after) (opened_left reach extent after) v
       → opened_left reach extent after - length v - length w ≡ left - length (header ++ (v ++ w))
-  left_behind (Measured until) None left after behind room value = omega (arith, parts_length)
-  left_behind (Measured until) (Some n) left after behind room value = omega (arith, parts_length)
-  left_behind (Within until) None left after behind room value = omega (arith, parts_length)
-  left_behind (Within until) (Some n) left after behind room value = omega (arith, parts_length)
-  left_behind Endless None left after behind room value = omega (arith, parts_length)
-  left_behind Endless (Some n) left after behind room value = omega (arith, parts_length)
+  left_behind reach extent left after behind room value = grind (arith, parts_length)
 
 -- what of the octets behind a faulty value is within reach around it
 pub record Reached (reach : Reach) (extent : Option ℕ) (left : ℕ) (header v beyond : List ℕ) : Type 0 where
@@ -111,18 +95,13 @@ parts_behind header octets v rest w others p q = rw (p, q) (simp append_assoc)
 
 enough_around : (reach : Reach) (extent : Option ℕ) (left after : ℕ) (header octets : List ℕ) → Behind reach left (length header) after
     → opened_left reach extent after ≤ length octets → left ≤ length (header ++ octets)
-enough_around (Measured until) extent left after header octets behind enough = omega (arith, length-append header octets)
-enough_around (Within until) extent left after header octets behind enough = omega (arith, length-append header octets)
-enough_around Endless extent left after header octets behind enough = omega arith
+enough_around reach extent left after header octets behind enough = grind (arith, length-append)
 
 -- a value of which octets are missing, and then they are missing around it, or the length does not fit
 short_value : (reach : Reach) (extent : Option ℕ) (left after : ℕ) (header octets : List ℕ) → Behind reach left (length header) after
     → length octets < opened_left reach extent after
     → (length (header ++ octets) < left) ⊎ ((left ≡ 0) × (reach ≡ Endless) × (fits extent octets ≡ false))
-short_value (Measured until) extent left after header octets behind short = inl (omega (arith, length-append header octets))
-short_value (Within until) extent left after header octets behind short = inl (omega (arith, length-append header octets))
-short_value Endless None left after header octets behind short = absurd (omega arith)
-short_value Endless (Some n) left after header octets behind short = inr (behind.0, refl, lt-leb n (length octets) short)
+short_value reach extent left after header octets behind short = grind (arith, length-append, lt-leb)
 
 -- a value behind a header, with what follows it
 module _ (reach : Reach) (extent : Option ℕ) (header : List ℕ) (left after : ℕ) (around behind inner : Place)
@@ -194,17 +173,10 @@ module _ (reach : Reach) (extent : Option ℕ) (header : List ℕ) (left after :
 -- ---- behind the header of an element
 
 opened_bound : (reach : Reach) (extent : Option ℕ) (after : ℕ) → bound_by (opened_reach reach extent after) ≡ bound_of extent
-opened_bound (Measured until) None after = refl
-opened_bound (Measured until) (Some n) after = refl
-opened_bound (Within until) None after = refl
-opened_bound (Within until) (Some n) after = refl
-opened_bound Endless None after = refl
-opened_bound Endless (Some n) after = refl
+opened_bound reach extent after = grind arith
 
 opened_until : (reach : Reach) (n after : ℕ) → Measured (until_of (opened_reach reach (Some n) after)) ≡ opened_reach reach (Some n) after
-opened_until (Measured until) n after = refl
-opened_until (Within until) n after = refl
-opened_until Endless n after = refl
+opened_until reach n after = grind arith
 
 abbrev pub value_place : Content → ℕ → Reach → ℕ → Place
 value_place content levels reach after = place_in content levels (opened_reach reach (length_of content) after)

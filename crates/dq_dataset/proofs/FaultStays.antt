@@ -1,5 +1,5 @@
 -- A fault other than that octets are missing stays, whatever octets follow.
-use Rattle.std.proofs.Common.{◌≡◌, ℕ, ◌-◌, ◌≤◌, Bool, true, false, not, cond, ltb, leb, List, [], ◌∷◌, ◌++◌, length, drop, Option, Some, None, refl, ap, ◌∙◌, append_assoc, arith, inl, inr, ◌⊎◌}
+use Rattle.std.proofs.Common.{◌≡◌, ℕ, ◌-◌, ◌≤◌, Bool, true, false, not, cond, ltb, List, [], ◌∷◌, ◌++◌, length, drop, Option, Some, None, refl, ap, ◌∙◌, append_assoc, arith, inl, inr, ◌⊎◌}
 use Rattle.std.specs.Int.{w32, from_le_bytes}
 use Rattle.std.proofs.lemmas.Bool.{ltb-false, le-ltb, leb-true, le-leb, ne_eqb, not-false, not_from_true}
 use Rattle.std.proofs.lemmas.List.{length-append, take-append-le, drop-append-le, append-nil}
@@ -31,12 +31,7 @@ longer n octets t e = le-ltb (length (octets ++ t)) n (omega (arith, ltb-false (
 fits_stays : (extent : Option ℕ) (octets t : List ℕ)
     → Stays (first_of ((not (fits extent octets), Truncated) ∷ [])) (first_of ((not (fits extent (octets ++ t)), Truncated) ∷ []))
 fits_stays None octets t = λ f e. absurd cc
-fits_stays (Some n) octets t =
-    short_test (not (leb n (length octets))) (not (leb n (length (octets ++ t)))) None None
-    (λ is. (
-      not_from_true _ (le-leb n (length (octets ++ t)) (omega (arith, leb-true n (length octets) (not-false _ is), length-append octets t))),
-      λ f e. absurd cc,
-    ))
+fits_stays (Some n) octets t = grind (arith, short_test, not_from_true, le-leb, leb-true, not-false, length-append)
 
 content_stays : (levels : ℕ) (known spelled : Option Vr) (extent : Option ℕ) (rest t : List ℕ)
     → Stays (first_of (faults_of_content levels known spelled extent rest)) (first_of (faults_of_content levels known spelled extent (rest ++ t)))

@@ -1,13 +1,13 @@
 -- Reading answers the first fault.
-use Rattle.std.proofs.Common.{◌≡◌, false, eqb, ℕ, zero, suc, ◌+◌, ◌-◌, ◌≤◌, true, List, ◌++◌, length, Option, Some, None, Result, Ok, Err, refl, sym, ap, subst, ◌∙◌, arith, inl, inr}
+use Rattle.std.proofs.Common.{◌≡◌, ℕ, zero, suc, ◌+◌, ◌-◌, ◌≤◌, true, List, ◌++◌, length, Option, Some, None, Result, Ok, Err, refl, sym, ap, subst, ◌∙◌, arith, inl, inr}
 use Rattle.std.proofs.lemmas.Bool.{lt-ltb, eqb-true, ne_eqb}
 use Rattle.std.proofs.lemmas.List.{take_at, length-append, append-nil}
-use Rattle.dq_dataset.proofs.Types.{Truncated, BadItem, Tag, Vr, ReadFault, Syntax, Bound, Filled, Content, Sequence, Value, ElementList}
+use Rattle.dq_dataset.proofs.Types.{Tag, Vr, ReadFault, Syntax, Bound, Filled, Content, Sequence, Value, ElementList}
 use Rattle.dq_vr.specs.Dictionary.{known_vr}
 use Rattle.dq_dataset.specs.Rules.{vr_of}
 use Rattle.dq_dataset.specs.Reading.{may_nest, length_of, fits, header_at, item_header_at, end_at, value_by, element_by, elements_after, elements_by, content_by, item_by, items_after, items_by, readers, reading}
 use Rattle.dq_dataset.specs.Grammar.{IsHeader, IsPlaced, IsItemHeader, bound_of}
-use Rattle.dq_dataset.specs.Faults.{tag_in, first_of, header_faults, item_faults, HasReach, HasFault, at_header, in_value, after_element, ItemsHaveFault, at_item, in_item, after_item, IsFaulty}
+use Rattle.dq_dataset.specs.Faults.{first_of, header_faults, item_faults, HasReach, HasFault, at_header, in_value, after_element, ItemsHaveFault, at_item, in_item, after_item, IsFaulty}
 use Rattle.dq_dataset.proofs.Headers.{header_again, header_long, item_again, item_long, no_end_before, no_end_before_item}
 use Rattle.dq_dataset.proofs.HeaderFaults.{fault_of, header_faults_are, item_faults_are, NoEnd, no_end_here}
 use Rattle.dq_dataset.proofs.SpelledIsRead.{extent_fits, value_nests, value_fits, value_again, elements_again, content_again}
@@ -30,30 +30,16 @@ header_fails : (bound : Bound) (syntax : Syntax) (levels : ℕ) (last : Option T
 unfolding readers elements_by element_by
 header_fails bound syntax levels last octets f (inl none) first m le =
     rw (none, some_fault (header_at syntax levels last octets) f (header_faults_are syntax levels last octets ∙ first)) refl
-header_fails bound syntax levels last octets f (inr (inl short)) first m le =
-    let is = rw short.1 at first in
-    let same : Truncated ≡ f = cc in
-    rw (short.0, same) refl
-header_fails bound syntax levels last octets f (inr (inr bad)) first m le =
-    let is = rw (bad.1, bad.2) at first in
-    let same : BadItem ≡ f = cc in
-    rw (bad.0, same) refl
+header_fails bound syntax levels last octets f (inr (inl short)) first m le = grind arith
+header_fails bound syntax levels last octets f (inr (inr bad)) first m le = grind arith
 
 item_fails : (bound : Bound) (syntax : Syntax) (levels : ℕ) (octets : List ℕ) (f : ReadFault) → NoEnd bound 0xE0DD octets
     → first_of (item_faults octets) ≡ Some f → ItemsFail bound syntax levels octets f
 unfolding readers items_by item_by
 item_fails bound syntax levels octets f (inl none) first m le =
     rw (none, some_fault (item_header_at octets) f (item_faults_are octets ∙ first)) refl
-item_fails bound syntax levels octets f (inr (inl short)) first m le =
-    let is = rw short.1 at first in
-    let same : Truncated ≡ f = cc in
-    rw (short.0, same) refl
-item_fails bound syntax levels octets f (inr (inr bad)) first m le =
-    let end : (tag_in octets).element ≡ 0xE0DD = eqb-true (tag_in octets).element 0xE0DD bad.3 in
-    let no_item : eqb (tag_in octets).element 0xE000 ≡ false = ne_eqb (tag_in octets).element 0xE000 (λ item. omega (arith, end, item)) in
-    let is = rw (bad.1, bad.2, no_item) at first in
-    let same : BadItem ≡ f = cc in
-    rw (bad.0, same) refl
+item_fails bound syntax levels octets f (inr (inl short)) first m le = grind arith
+item_fails bound syntax levels octets f (inr (inr bad)) first m le = grind (arith, eqb-true, ne_eqb)
 
 -- ---- behind a header
 
@@ -71,18 +57,14 @@ module _ (bound : Bound) (syntax : Syntax) (levels : ℕ) (last : Option Tag) (t
       → ElementsFail bound syntax levels last (header ++ behind) f
   unfolding readers elements_by element_by
   value_fails f fails zero le = absurd (omega (arith, header_long syntax tag content header is_header, length-append header behind))
-  value_fails f fails (suc m) le =
-      let shorter : length behind ≤ m = omega (arith, header_long syntax tag content header is_header, length-append header behind) in
-      rw (no_end, the_header, fails m shorter) refl
+  value_fails f fails (suc m) le = grind (arith, header_long, length-append, no_end, the_header)
 
   others_fail : (f : ReadFault) (held : Value) (rest : List ℕ) → length rest ≤ length behind
       → ((m : ℕ) → length behind ≤ m → value_by (readers (suc m)) levels (vr_of (known_vr tag) content) content behind ≡ Ok (held, rest))
       → ElementsFail bound syntax levels (Some tag) rest f → ElementsFail bound syntax levels last (header ++ behind) f
   unfolding readers elements_by element_by elements_after
   others_fail f held rest le' read fails zero le = absurd (omega (arith, header_long syntax tag content header is_header, length-append header behind))
-  others_fail f held rest le' read fails (suc m) le =
-      let shorter : length behind ≤ m = omega (arith, header_long syntax tag content header is_header, length-append header behind) in
-      rw (no_end, the_header, read m shorter, fails m (omega arith)) refl
+  others_fail f held rest le' read fails (suc m) le = grind (arith, header_long, length-append, no_end, the_header)
 
 reach_fits : (extent : Option ℕ) (value rest : List ℕ) → HasReach extent value rest → fits extent (value ++ rest) ≡ true
 reach_fits None value rest has = refl
@@ -92,9 +74,7 @@ pub items_in_value : (levels : ℕ) (vr : Vr) (inner : Syntax) (extent : Option 
     → ItemsFail (bound_of extent) inner (levels - 1) value f → (m : ℕ) → length (value ++ rest) ≤ m
     → value_by (readers (suc m)) levels vr (Sequence inner extent) (value ++ rest) ≡ Err f
 unfolding value_by
-items_in_value levels vr inner None value rest f has fails m le =
-    let all : value ++ rest ≡ value = ap (λ (x : List ℕ). value ++ x) has ∙ append-nil value in
-    rw (all, fails m (omega (arith, length-append value rest))) refl
+items_in_value levels vr inner None value rest f has fails m le = grind (arith, append-nil, length-append)
 items_in_value levels vr inner (Some n) value rest f has fails m le =
     rw (take_at value rest n has, fails m (omega (arith, length-append value rest))) refl
 
@@ -125,9 +105,7 @@ pub elements_in_item : (syntax : Syntax) (levels : ℕ) (extent : Option ℕ) (v
     → ElementsFail (bound_of extent) syntax levels None value f → (m : ℕ) → length (value ++ rest) ≤ m
     → content_by (readers (suc m)) syntax levels extent (value ++ rest) ≡ Err f
 unfolding content_by
-elements_in_item syntax levels None value rest f has fails m le =
-    let all : value ++ rest ≡ value = ap (λ (x : List ℕ). value ++ x) has ∙ append-nil value in
-    rw (all, fails m (omega (arith, length-append value rest))) refl
+elements_in_item syntax levels None value rest f has fails m le = grind (arith, append-nil, length-append)
 elements_in_item syntax levels (Some n) value rest f has fails m le =
     rw (take_at value rest n has, fails m (omega (arith, length-append value rest))) refl
 

@@ -16,11 +16,7 @@ pub IsBytes-drop : (n : ℕ) (bytes : List ℕ) → IsBytes bytes → IsBytes (d
 IsBytes-drop n bytes h i = rw get_or-drop (h (n + i))
 
 pub IsBytes-take : (n : ℕ) (bytes : List ℕ) → IsBytes bytes → IsBytes (take n bytes)
-IsBytes-take n bytes h i =
-    elim (cases_lt i n) [
-      | inl lt ↦ rw (get_or-take n bytes i 0 lt) (h i)
-      | inr le ↦ rw (get_or_past (take n bytes) i 0 (omega (arith, length-take n bytes))) (omega arith)
-    ]
+IsBytes-take n bytes h i = grind (arith, cases_lt, get_or-take, get_or_past, length-take)
 
 -- the value of a step that did not fail
 pub bind_ok : {A B : Type 0} (r : Result A ReadFault) (f : A → Result B ReadFault) (y : B) → (r >>= f) ≡ Ok y → (x : A) × (r ≡ Ok x) × (f x ≡ Ok y)
@@ -131,9 +127,7 @@ length_takes bytes extent rest fits e =
 pub length_again : (extent : Option ℕ) (four rest : List ℕ) → IsLength extent four → long_length_at (four ++ rest) ≡ Ok (extent, rest)
 unfolding long_length_at
 length_again None four rest e = rw (e, number_again w32 (2 ^ 32) wide32 0xFFFFFFFF rest (lit< tt)) refl
-length_again (Some n) four rest (lt, e) =
-    let other : eqb n 0xFFFFFFFF ≡ false = ne_eqb n 0xFFFFFFFF (λ same. omega arith) in
-    rw (e, number_again w32 (2 ^ 32) wide32 n rest (omega arith), other) refl
+length_again (Some n) four rest (lt, e) = grind (arith, ne_eqb, number_again, wide32)
 
 pub length_four : (extent : Option ℕ) (four : List ℕ) → IsLength extent four → length four ≡ 4
 length_four None four e = ap length e
@@ -162,6 +156,4 @@ tag_takes bytes tag rest fits e =
 
 pub tag_again : (tag : Tag) (rest : List ℕ) → tag.group < 2 ^ 16 → tag.element < 2 ^ 16 → 4 ≤ length rest → tag_at (tag_octets tag ++ rest) ≡ Ok (tag, rest)
 unfolding tag_at
-tag_again tag rest g e long =
-    let enough : ltb (length (tag_octets tag ++ rest)) 8 ≡ false = le-ltb _ _ (omega (arith, length-append (tag_octets tag) rest)) in
-    rw (enough, number_again w16 (2 ^ 16) wide16 tag.group (to_le_bytes w16 tag.element ++ rest) g, number_again w16 (2 ^ 16) wide16 tag.element rest e) refl
+tag_again tag rest g e long = grind (arith, le-ltb, length-append, number_again, wide16)

@@ -98,17 +98,11 @@ item_fault_stays bound syntax levels front t f none e other =
 -- a front that is not whole is no end
 no_end_by : (short group number zero : Bool) (others : Option ReadFault)
     → cond short (Some Truncated) (cond group (Some BadItem) others) ≡ Some Truncated → (not short && ((group && number) && zero)) ≡ false
-no_end_by true group number zero others e = refl
-no_end_by false true number zero others e = absurd cc
-no_end_by false false number zero others e = refl
+no_end_by short group number zero others e = grind arith
 
 no_item_end_by : (short group number zero item : Bool) (others : Option ReadFault) → (number ≡ true → item ≡ false)
     → cond short (Some Truncated) (cond (not (group && item)) (Some BadItem) others) ≡ Some Truncated → (not short && ((group && number) && zero)) ≡ false
-no_item_end_by true group number zero item others other e = refl
-no_item_end_by false false number zero item others other e = refl
-no_item_end_by false true false zero item others other e = refl
-no_item_end_by false true true zero true others other e = absurd (let no = other refl in cc)
-no_item_end_by false true true zero false others other e = absurd cc
+no_item_end_by short group number zero item others other e = grind arith
 
 -- what is not whole is no end
 pub part_is_open : (bound : Bound) (syntax : Syntax) (levels : ℕ) (last : Option Tag) (front : List ℕ) → (bound ≡ Delimited) ⊎ (0 < length front)
@@ -120,12 +114,7 @@ part_is_open Delimited syntax levels last front h e =
 
 pub item_part_is_open : (bound : Bound) (front : List ℕ) → (bound ≡ Delimited) ⊎ (0 < length front)
     → item_front_at front ≡ Err Truncated → ends_here bound 0xE0DD front ≡ false
-item_part_is_open Filled front (inl same) e = absurd cc
-item_part_is_open Filled front (inr some) e = ne_eqb (length front) 0 (λ none. omega arith)
-item_part_is_open Delimited front h e =
-    no_item_end_by (ltb (length front) 8) (eqb (tag_in front).group 0xFFFE) (eqb (tag_in front).element 0xE0DD) _ (eqb (tag_in front).element 0xE000) _
-    (λ end. ne_eqb (tag_in front).element 0xE000 (λ item. omega (arith, eqb-true (tag_in front).element 0xE0DD end, item)))
-    (item_front_fault front Truncated e)
+item_part_is_open bound front h e = grind (arith, ne_eqb, no_item_end_by, eqb-true, item_front_fault)
 
 -- what is not whole is Truncated
 pub truncated : (bound : Bound) (syntax : Syntax) (levels : ℕ) (last : Option Tag) (front : List ℕ) → (bound ≡ Delimited) ⊎ (0 < length front)
@@ -167,12 +156,7 @@ item_unfit bound syntax levels extent header t is_header over =
 -- ---- an end takes all that came
 
 pub not_some : (bound : Bound) (element : ℕ) (octets rest : List ℕ) → ends_here bound element octets ≡ false → end_at bound element octets ≡ Ok (Some rest) → ⊥
-not_some bound element octets rest none some =
-    elim (no_end_here bound element octets none) [
-      | inl e ↦ let same : ok_none ≡ Ok (Some rest) = sym e ∙ some in absurd cc
-      | inr (inl e) ↦ let same : Err Truncated ≡ ok_some rest = sym e.0 ∙ some in absurd cc
-      | inr (inr e) ↦ let same : Err BadItem ≡ ok_some rest = sym e.0 ∙ some in absurd cc
-    ]
+not_some bound element octets rest none some = grind (arith, no_end_here)
 
 pub end_is_all : (element : ℕ) (before : List ℕ) (b : ℕ) (rest : List ℕ) → element < 2 ^ 16 → IsBytes (before ++ b ∷ [])
     → ends_here Delimited element before ≡ false → end_at Delimited element (before ++ b ∷ []) ≡ Ok (Some rest) → rest ≡ []

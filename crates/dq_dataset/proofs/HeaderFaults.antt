@@ -1,13 +1,12 @@
 -- The faults at a header, in their order, are those that reading meets.
-use Rattle.std.proofs.Common.{◌≡◌, ℕ, zero, suc, ◌≤◌, Bool, true, false, not, cond, ltb, eqb, ◌&&◌, ◌||◌, List, [], ◌∷◌, length, take, drop, Option, Some, None, Result, Ok, Err, refl, subst, arith, inl, inr, ◌⊎◌}
-use Rattle.std.specs.Prelude.{is_none}
+use Rattle.std.proofs.Common.{◌≡◌, ℕ, zero, suc, ◌≤◌, Bool, true, false, not, cond, ltb, eqb, ◌&&◌, ◌||◌, List, [], ◌∷◌, length, take, drop, Option, Some, None, Result, Ok, Err, refl, subst, arith, inl, ◌⊎◌}
 use Rattle.std.specs.Int.{Width, w16, w32, byte_len, from_le_bytes}
 use Rattle.std.proofs.lemmas.Bool.{ltb-true, ltb-false, lt-ltb, le-ltb, ne_eqb}
-use Rattle.dq_dataset.proofs.Types.{Tag, Vr, LengthForm, Two, Four, ReadFault, Truncated, BadVr, TagOrder, BadItem, BadUndefined, TooDeep, Syntax, Implicit, Explicit, Bound, Filled, Delimited, Plain, Sequence}
+use Rattle.dq_dataset.proofs.Types.{Tag, Vr, LengthForm, Two, Four, ReadFault, Truncated, BadVr, BadItem, BadUndefined, TooDeep, Syntax, Implicit, Explicit, Bound, Filled, Delimited, Plain, Sequence}
 use Rattle.dq_vr.specs.Dictionary.{known_vr}
 use Rattle.dq_vr.specs.Vr.{length_form_of, vr_with_letters}
-use Rattle.dq_dataset.specs.Rules.{is_sequence, is_unknown, agrees, content_of}
-use Rattle.dq_dataset.specs.Reading.{◌>>=◌, check, number_at, tag_at, long_length_at, length_at, vr_or_fault, vr_at, spelling_at, follows, fits, front_at, header_at, item_front_at, item_header_at, end_at}
+use Rattle.dq_dataset.specs.Rules.{agrees, content_of}
+use Rattle.dq_dataset.specs.Reading.{◌>>=◌, check, number_at, tag_at, long_length_at, length_at, vr_or_fault, vr_at, spelling_at, fits, front_at, header_at, item_front_at, item_header_at, end_at}
 use Rattle.dq_dataset.specs.Faults.{number_in, tag_in, vr_in, defined, size_by, header_size, extent_by, extent_in, first_of, is_allowed, faults_of_content, header_faults, item_faults, ends_here}
 use Rattle.dq_dataset.proofs.Fields.{done}
 use Rattle.dq_dataset.proofs.Headers.{fits_step, content_step, spelling_step, rises_step, placed_step, item_length_step}
@@ -33,12 +32,7 @@ number_of w octets le = rw (le-ltb (length octets) (byte_len w) le) refl
 
 tag_of : (a b c d e f g h : ℕ) (rest : List ℕ) → tag_at (eight a b c d e f g h rest) ≡ Ok (tag_in (eight a b c d e f g h rest), e ∷ f ∷ g ∷ h ∷ rest)
 unfolding tag_at
-tag_of a b c d e f g h rest =
-    rw (
-      le-ltb (length (eight a b c d e f g h rest)) 8 (omega arith),
-      number_of w16 (eight a b c d e f g h rest) (omega arith),
-      number_of w16 (c ∷ d ∷ e ∷ f ∷ g ∷ h ∷ rest) (omega arith),
-    ) refl
+tag_of a b c d e f g h rest = grind (arith, le-ltb, number_of)
 
 no_tag : (octets : List ℕ) → ltb (length octets) 8 ≡ true → tag_at octets ≡ Err Truncated
 unfolding tag_at
@@ -57,34 +51,24 @@ fits_fault x false = refl
 nest_faults : (levels : ℕ) (tag : Tag) (syntax : Syntax) (extent : Option ℕ) (rest : List ℕ)
     → fault_of (content_step levels tag rest (Sequence syntax extent) >>= fits_step) ≡ first_of ((eqb levels 0, TooDeep) ∷ (not (fits extent rest), Truncated) ∷ [])
 nest_faults zero tag syntax extent rest = refl
-nest_faults (suc n) tag syntax extent rest =
-    let some : ltb 0 (suc n) ≡ true = lt-ltb 0 (suc n) (omega arith) in
-    let other : eqb (suc n) 0 ≡ false = ne_eqb (suc n) 0 (λ e. omega (arith, e)) in
-    rw (some, other) (fits_fault _ (fits extent rest))
+nest_faults (suc n) tag syntax extent rest = grind (arith, lt-ltb, ne_eqb, fits_fault)
 
 some_faults : (levels : ℕ) (tag : Tag) (n : ℕ) (rest : List ℕ) (a b : Bool)
     → fault_of (cond a (done (Sequence Explicit (Some n))) (cond b (Ok (Sequence Implicit (Some n))) (Ok (Plain n))) >>= content_step levels tag rest >>= fits_step)
     ≡ first_of (((a || (b || false)) && eqb levels 0, TooDeep) ∷ (not (fits (Some n) rest), Truncated) ∷ [])
-some_faults levels tag n rest true b = nest_faults levels tag Explicit (Some n) rest
-some_faults levels tag n rest false true = nest_faults levels tag Implicit (Some n) rest
-some_faults levels tag n rest false false = fits_fault _ (fits (Some n) rest)
+some_faults levels tag n rest a b = grind (arith, nest_faults, fits_fault)
 
 none_faults : (levels : ℕ) (tag : Tag) (rest : List ℕ) (a b c : Bool)
     → fault_of (cond a (done (Sequence Explicit None)) (cond b (Ok (Sequence Implicit None)) (cond c (Ok (Sequence Implicit None)) (Err BadUndefined)))
     >>= content_step levels tag rest >>= fits_step)
     ≡ first_of ((not (a || (b || c)), BadUndefined) ∷ ((a || (b || c)) && eqb levels 0, TooDeep) ∷ (false, Truncated) ∷ [])
-none_faults levels tag rest true b c = nest_faults levels tag Explicit None rest
-none_faults levels tag rest false true c = nest_faults levels tag Implicit None rest
-none_faults levels tag rest false false true = nest_faults levels tag Implicit None rest
-none_faults levels tag rest false false false = refl
+none_faults levels tag rest a b c = grind (arith, nest_faults)
 
 content_faults : (levels : ℕ) (tag : Tag) (spelled : Option Vr) (extent : Option ℕ) (rest : List ℕ)
     → fault_of (content_of (known_vr tag) spelled extent >>= content_step levels tag rest >>= fits_step)
     ≡ first_of (faults_of_content levels (known_vr tag) spelled extent rest)
 unfolding content_of
-content_faults levels tag spelled (Some n) rest = some_faults levels tag n rest (is_sequence spelled) (is_sequence (known_vr tag))
-content_faults levels tag spelled None rest =
-    none_faults levels tag rest (is_sequence spelled) (is_sequence (known_vr tag)) (is_none (known_vr tag) && (is_none spelled || is_unknown spelled))
+content_faults levels tag spelled extent rest = grind (arith, some_faults, none_faults)
 
 -- ---- the header of an element
 
@@ -124,9 +108,7 @@ module _ (levels : ℕ) (tag : Tag) (a b c d e f g h : ℕ) (rest : List ℕ) wh
       → fault_of ((long_length_at rest >>= explicit_step vr) >>= spelling_step levels tag >>= fits_step)
       ≡ first_of ((ltb (length all) 12, Truncated) ∷ faults_of_content levels (known_vr tag) (Some vr) (defined (number_in w32 8 all)) (drop 4 rest))
   unfolding long_length_at
-  short_rest vr true is =
-      let short : ltb (length all) 12 ≡ true = lt-ltb (length all) 12 (omega (arith, ltb-true (length rest) 4 is)) in
-      rw (is, short) refl
+  short_rest vr true is = grind (arith, lt-ltb, ltb-true)
   short_rest vr false is =
       let long : ltb (length all) 12 ≡ false = le-ltb (length all) 12 (omega (arith, ltb-false (length rest) 4 is)) in
       rw (is, long) (content_faults levels tag (Some vr) (defined (number_in w32 8 all)) (drop 4 rest))
@@ -161,12 +143,7 @@ long_header : (syntax : Syntax) (levels : ℕ) (last : Option Tag) (a b c d e f 
     → fault_of (header_at syntax levels last (eight a b c d e f g h rest)) ≡ first_of (header_faults syntax levels last (eight a b c d e f g h rest))
 unfolding header_at front_at
 long_header syntax levels last a b c d e f g h rest =
-    let tag = tag_in (eight a b c d e f g h rest) in
-    rw (tag_of a b c d e f g h rest, le-ltb (length (eight a b c d e f g h rest)) 8 (omega arith))
-    (gate_not (eqb tag.group 0xFFFE) BadItem (placed_step syntax levels last tag (e ∷ f ∷ g ∷ h ∷ rest)) fits_step
-    ((not (follows last tag), TagOrder) ∷ from_vr syntax levels tag (eight a b c d e f g h rest))
-    (gate (follows last tag) TagOrder (rises_step syntax levels tag (e ∷ f ∷ g ∷ h ∷ rest)) fits_step (from_vr syntax levels tag (eight a b c d e f g h rest))
-    (spelling_faults levels tag a b c d e f g h rest syntax)))
+    grind (arith, tag_of, le-ltb, gate_not, placed_step, fits_step, gate, rises_step, spelling_faults)
 
 pub header_faults_are : (syntax : Syntax) (levels : ℕ) (last : Option Tag) (octets : List ℕ)
     → fault_of (header_at syntax levels last octets) ≡ first_of (header_faults syntax levels last octets)
@@ -179,11 +156,7 @@ header_faults_are syntax levels last =
 
 long_item : (a b c d e f g h : ℕ) (rest : List ℕ) → fault_of (item_header_at (eight a b c d e f g h rest)) ≡ first_of (item_faults (eight a b c d e f g h rest))
 unfolding item_header_at item_front_at
-long_item a b c d e f g h rest =
-    let tag = tag_in (eight a b c d e f g h rest) in
-    let extent = defined (number_in w32 4 (eight a b c d e f g h rest)) in
-    rw (tag_of a b c d e f g h rest, le-ltb (length (eight a b c d e f g h rest)) 8 (omega arith), long_length (e ∷ f ∷ g ∷ h ∷ rest) (omega arith))
-    (gate (eqb tag.group 0xFFFE && eqb tag.element 0xE000) BadItem _ item_length_step ((not (fits extent rest), Truncated) ∷ []) (fits_fault _ (fits extent rest)))
+long_item a b c d e f g h rest = grind (arith, tag_of, le-ltb, long_length, gate, item_length_step, fits_fault)
 
 pub item_faults_are : (octets : List ℕ) → fault_of (item_header_at octets) ≡ first_of (item_faults octets)
 unfolding item_header_at item_front_at
@@ -219,15 +192,10 @@ module _ (element a b c d e f g h : ℕ) (rest : List ℕ) where
   ending_by : (x y z : Bool) → end_at Delimited element whole ≡ end_says rest x y z → eqb (tag_in whole).group 0xFFFE ≡ x
       → eqb (tag_in whole).element element ≡ y
       → Ending ((x && y) && z) Delimited element whole
-  ending_by true true true is p q = (rest, is)
-  ending_by true true false is p q = inr (inr (is, le-ltb (length whole) 8 (omega arith), p, q))
-  ending_by true false z is p q = inl is
-  ending_by false y z is p q = inl is
+  ending_by x y z is p q = grind (arith, le-ltb)
 
   long_ending : Ending (ends_here Delimited element whole) Delimited element whole
-  long_ending =
-      rw (le-ltb (length whole) 8 (omega arith))
-      (ending_by (eqb (tag_in whole).group 0xFFFE) (eqb (tag_in whole).element element) (eqb (number_in w32 4 whole) 0) end_is_said refl refl)
+  long_ending = grind (arith, le-ltb, ending_by, end_is_said)
 
 filled_by : (element : ℕ) (octets : List ℕ) (b : Bool) → end_at Filled element octets ≡ Ok (cond b (Some octets) None) → Ending b Filled element octets
 filled_by element octets true is = (octets, is)
@@ -236,9 +204,7 @@ filled_by element octets false is = inl is
 ending : (bound : Bound) (element : ℕ) (octets : List ℕ) → Ending (ends_here bound element octets) bound element octets
 unfolding end_at
 ending Filled element octets = filled_by element octets (eqb (length octets) 0) refl
-ending Delimited element octets =
-    by_eight (λ octets. Ending (ends_here Delimited element octets) Delimited element octets)
-    (λ octets short. rw short (inr (inl (rw (no_tag octets short) refl, short)))) (long_ending element) octets
+ending Delimited element octets = grind (arith, by_eight, no_tag, long_ending)
 
 pub no_end_here : (bound : Bound) (element : ℕ) (octets : List ℕ) → ends_here bound element octets ≡ false → NoEnd bound element octets
 no_end_here bound element octets other = subst (λ (b : Bool). Ending b bound element octets) other (ending bound element octets)

@@ -50,16 +50,12 @@ vr_named : (a b : ℕ) (bytes : List ℕ) (vr : Vr) (rest : List ℕ) (o : Optio
     → (x : ℕ) × (y : ℕ) × (vr_with_letters (x ∷ y ∷ []) ≡ Some vr) × (a ∷ b ∷ bytes ≡ x ∷ y ∷ rest)
 unfolding vr_or_fault
 vr_named a b bytes vr rest None i h = absurd cc
-vr_named a b bytes vr rest (Some v) i h =
-    let same : (v, bytes) ≡ (vr, rest) = ok_is (v, bytes) (vr, rest) h in
-    (a, b, i ∙ ap (λ (p : Vr × List ℕ). Some p.0) same, ap (λ (p : Vr × List ℕ). a ∷ b ∷ p.1) same)
+vr_named a b bytes vr rest (Some v) i h = grind (arith, ok_is)
 
 vr_takes : (bytes : List ℕ) (vr : Vr) (rest : List ℕ) → vr_at bytes ≡ Ok (vr, rest) → (a : ℕ) × (b : ℕ) × (vr_with_letters (a ∷ b ∷ []) ≡ Some vr)
     × (bytes ≡ a ∷ b ∷ rest)
 unfolding vr_at
-vr_takes [] vr rest e = absurd cc
-vr_takes (a ∷ []) vr rest e = absurd cc
-vr_takes (a ∷ b ∷ bytes) vr rest e = vr_named a b bytes vr rest (vr_with_letters (a ∷ b ∷ [])) refl e
+vr_takes bytes vr rest e = grind (arith, vr_named)
 
 vr_again : (a b : ℕ) (rest : List ℕ) (vr : Vr) → vr_with_letters (a ∷ b ∷ []) ≡ Some vr → vr_at (a ∷ b ∷ rest) ≡ Ok (vr, rest)
 unfolding vr_at vr_or_fault
@@ -106,17 +102,11 @@ spelling_again Explicit known (Some vr) extent behind rest (agreed, a, b, named,
     rw (e, vr_again a b (more ++ rest) vr named, agreed, after_again (length_form_of vr) extent more rest is) refl
 
 after_long : (form : LengthForm) (extent : Option ℕ) (behind : List ℕ) → IsLengthBehind form extent behind → 2 ≤ length behind
-after_long Two None behind h = absurd h
-after_long Two (Some n) behind (lt, e) = omega (arith, ap length e)
-after_long Four extent behind (reserved, two, four, is, e) = omega (arith, ap length e, length-append reserved four, two)
+after_long form extent behind h = grind (arith, length-append)
 
 pub spelling_long : (syntax : Syntax) (known spelled : Option Vr) (extent : Option ℕ) (behind : List ℕ) → IsSpelling syntax known spelled extent behind
     → 4 ≤ length behind
-spelling_long Implicit known None extent behind h = omega (arith, length_four extent behind h)
-spelling_long Implicit known (Some vr) extent behind h = absurd h
-spelling_long Explicit known None extent behind h = absurd h
-spelling_long Explicit known (Some vr) extent behind (agreed, a, b, named, more, is, e) =
-    omega (arith, ap length e, after_long (length_form_of vr) extent more is)
+spelling_long syntax known spelled extent behind h = grind (arith, length_four, after_long)
 
 -- ---- the header of an element
 
@@ -178,31 +168,13 @@ pub front_again : (syntax : Syntax) (levels : ℕ) (last : Option Tag) (tag : Ta
     → front_at syntax levels last (octets ++ rest) ≡ Ok (header_of tag content, rest)
 unfolding front_at
 front_again syntax levels last tag content octets rest placed header nests =
-    let long : 4 ≤ length (header.behind ++ rest) =
-    omega (arith, length-append header.behind rest, spelling_long syntax (known_vr tag) header.spelled header.extent header.behind header.spelling) in
-    let e : octets ++ rest ≡ tag_octets tag ++ (header.behind ++ rest) = ap (λ (x : List ℕ). x ++ rest) header.whole
-    ∙ append_assoc (tag_octets tag) header.behind rest in
-    let other : eqb tag.group 0xFFFE ≡ false = ne_eqb tag.group 0xFFFE placed.no_delimiter in
-    let allowed = header.allowed in
-    rw (
-      e,
-      tag_again tag (header.behind ++ rest) placed.group placed.number long,
-      other,
-      placed.rises,
-      spelling_again syntax (known_vr tag) header.spelled header.extent header.behind rest header.spelling,
-      allowed,
-      nests,
-    ) refl
+    grind (arith, length-append, spelling_long, append_assoc, ne_eqb, tag_again, spelling_again)
 
 pub header_takes : (syntax : Syntax) (levels : ℕ) (last : Option Tag) (bytes : List ℕ) (header : Header) (rest : List ℕ) → IsBytes bytes
     → header_at syntax levels last bytes ≡ Ok (header, rest)
     → ReadsHeader syntax levels last bytes header rest × (fits (length_of header.content) rest ≡ true)
 unfolding header_at
-header_takes syntax levels last bytes header rest ok e =
-    let a = bind_ok (front_at syntax levels last bytes) fits_step (header, rest) e in
-    let b = check_ok (fits (length_of a.0.0.content) a.0.1) Truncated (λ whole. Ok a.0) (header, rest) a.2 in
-    subst (λ (p : Header × List ℕ). ReadsHeader syntax levels last bytes p.0 p.1 × (fits (length_of p.0.content) p.1 ≡ true))
-    (ok_is a.0 (header, rest) b.1) (front_takes syntax levels last bytes a.0.0 a.0.1 ok a.1, b.0)
+header_takes syntax levels last bytes header rest ok e = grind (arith, bind_ok, check_ok, ok_is, front_takes)
 
 pub header_again : (syntax : Syntax) (levels : ℕ) (last : Option Tag) (tag : Tag) (content : Content) (octets rest : List ℕ)
     → IsPlaced last tag → IsHeader syntax tag content octets → may_nest levels content ≡ true → fits (length_of content) rest ≡ true
@@ -213,9 +185,7 @@ header_again syntax levels last tag content octets rest placed header nests whol
 
 -- a header has at least 8 octets
 pub header_long : (syntax : Syntax) (tag : Tag) (content : Content) (octets : List ℕ) → IsHeader syntax tag content octets → 8 ≤ length octets
-header_long syntax tag content octets header =
-    let four = spelling_long syntax (known_vr tag) header.spelled header.extent header.behind header.spelling in
-    omega (arith, ap length header.whole, length-append (tag_octets tag) header.behind, four)
+header_long syntax tag content octets header = grind (arith, spelling_long, length-append)
 
 -- ---- the header of an item
 
@@ -226,11 +196,7 @@ abbrev item_step : Tag × List ℕ → Result (Option ℕ × List ℕ) ReadFault
 item_step tag = check (eqb tag.0.group 0xFFFE && eqb tag.0.element 0xE000) BadItem >>= λ is_item. long_length_at tag.1
 
 pub delimiter_is : (tag : Tag) (element : ℕ) → (eqb tag.group 0xFFFE && eqb tag.element element) ≡ true → tag ≡ record { group = 0xFFFE; element = element }
-delimiter_is tag element e =
-    let both = and_parts _ _ e in
-    let g = eqb-true tag.group 0xFFFE both.0 in
-    let n = eqb-true tag.element element both.1 in
-    λ i. record { group = g i; element = n i }
+delimiter_is tag element e = grind (arith, and_parts, eqb-true)
 
 pub record ReadsItem (bytes : List ℕ) (extent : Option ℕ) (rest : List ℕ) : Type 0 where
   pub octets : List ℕ
@@ -265,11 +231,7 @@ item_front_again extent octets rest header =
 pub item_takes : (bytes : List ℕ) (extent : Option ℕ) (rest : List ℕ) → IsBytes bytes → item_header_at bytes ≡ Ok (extent, rest)
     → ReadsItem bytes extent rest × (fits extent rest ≡ true)
 unfolding item_header_at
-item_takes bytes extent rest ok e =
-    let a = bind_ok (item_front_at bytes) item_length_step (extent, rest) e in
-    let b = check_ok (fits a.0.0 a.0.1) Truncated (λ whole. Ok a.0) (extent, rest) a.2 in
-    subst (λ (p : Option ℕ × List ℕ). ReadsItem bytes p.0 p.1 × (fits p.0 p.1 ≡ true)) (ok_is a.0 (extent, rest) b.1)
-    (item_front_takes bytes a.0.0 a.0.1 ok a.1, b.0)
+item_takes bytes extent rest ok e = grind (arith, bind_ok, check_ok, ok_is, item_front_takes)
 
 pub item_again : (extent : Option ℕ) (octets rest : List ℕ) → IsItemHeader extent octets → fits extent rest ≡ true
     → item_header_at (octets ++ rest) ≡ Ok (extent, rest)
@@ -348,19 +310,14 @@ end_again Delimited end octets rest lt is trails =
 end_other : (bound : Bound) (end : ℕ) (tag : Tag) (behind : List ℕ) → tag.group < 2 ^ 16 → tag.element < 2 ^ 16 → 4 ≤ length behind
     → (eqb tag.group 0xFFFE && eqb tag.element end) ≡ false → end_at bound end (tag_octets tag ++ behind) ≡ Ok None
 unfolding end_at
-end_other Filled end tag behind g n long other =
-    let some : eqb (length (tag_octets tag ++ behind)) 0 ≡ false = ne_eqb _ _ (λ e. omega (arith, length-append (tag_octets tag) behind)) in
-    rw some refl
+end_other Filled end tag behind g n long other = grind (arith, ne_eqb, length-append)
 end_other Delimited end tag behind g n long other = rw (tag_again tag behind g n long, other) refl
 
 -- where a header stands, nothing ends
 pub no_end_before : (bound : Bound) (last : Option Tag) (syntax : Syntax) (tag : Tag) (content : Content) (header behind : List ℕ)
     → IsPlaced last tag → IsHeader syntax tag content header → end_at bound 0xE00D (header ++ behind) ≡ Ok None
 no_end_before bound last syntax tag content header behind placed h =
-    let four = spelling_long syntax (known_vr tag) h.spelled h.extent h.behind h.spelling in
-    let group : eqb tag.group 0xFFFE ≡ false = ne_eqb tag.group 0xFFFE placed.no_delimiter in
-    ap (end_at bound 0xE00D) (ap (λ (x : List ℕ). x ++ behind) h.whole ∙ append_assoc (tag_octets tag) h.behind behind)
-    ∙ end_other bound 0xE00D tag (h.behind ++ behind) placed.group placed.number (omega (arith, length-append h.behind behind, four)) (rw group refl)
+    grind (arith, spelling_long, ne_eqb, append_assoc, end_other, length-append)
 
 pub no_end_before_item : (bound : Bound) (extent : Option ℕ) (header behind : List ℕ)
     → IsItemHeader extent header → end_at bound 0xE0DD (header ++ behind) ≡ Ok None

@@ -1,12 +1,12 @@
 -- An element of octets that is read has the dictionary's VR.
-use Rattle.std.proofs.Common.{◌≡◌, ℕ, zero, suc, ◌+◌, ◌-◌, Bool, true, false, not, eqb, List, [], ◌∷◌, length, take, drop, Option, Some, None, Result, Ok, refl, sym, ap, subst, ◌∙◌, cond, unwrap_or}
+use Rattle.std.proofs.Common.{◌≡◌, ℕ, zero, suc, ◌-◌, Bool, true, false, not, eqb, List, ◌∷◌, take, drop, Option, Some, None, Result, Ok, refl, subst, ◌∙◌, cond, unwrap_or, arith}
 use Rattle.std.specs.List.{AllByRecursion}
 use Rattle.dq_vr.specs.Dictionary.{known_vr}
 use Rattle.dq_dataset.specs.Rules.{vr_of, content_of, padded}
 use Rattle.dq_dataset.proofs.Types.{Tag, Vr, UN, ReadFault, Truncated, TagOrder, BadItem, TooDeep, Syntax, Bound, Filled, Delimited, Content, Plain, Sequence, Header, Element, Value, Octets, Items, ElementList, no_elements, element, sequence, ItemList, no_items, item}
 use Rattle.dq_dataset.specs.Facts.{AreElements, AreItems}
 use Rattle.dq_dataset.specs.View.{as_elements, elements_of, list_of}
-use Rattle.dq_dataset.specs.Reading.{◌>>=◌, Readers, check, may_nest, length_of, kept, unless_ended, tag_at, spelling_at, follows, fits, front_at, header_at, item_header_at, end_at, value_by, element_by, elements_after, elements_by, content_by, item_by, items_after, items_by, readers, reading}
+use Rattle.dq_dataset.specs.Reading.{◌>>=◌, Readers, check, may_nest, length_of, unless_ended, tag_at, spelling_at, follows, fits, front_at, header_at, item_header_at, end_at, value_by, element_by, elements_after, elements_by, content_by, item_by, items_after, items_by, readers, reading}
 use Rattle.dq_dataset.proofs.Fields.{bind_ok, ok_is}
 use Rattle.dq_dataset.proofs.Headers.{fits_step, content_step, spelling_step, rises_step, placed_step, tag_step}
 use Rattle.dq_dataset.proofs.Views.{elements_of-as_elements}
@@ -41,15 +41,7 @@ no_octets tag vr items octets same = absurd cc
 value_of : (next : Readers) (levels : ℕ) (vr : Vr) (content : Content) (octets rest : List ℕ) (tag : Tag) (v : Value) → vr ≡ vr_of (known_vr tag) content
     → value_by next levels vr content octets ≡ Ok (v, rest) → HasKnownVr (record { tag = tag; vr = vr; value = v })
 unfolding value_by
-value_of next levels vr (Plain n) octets rest tag v is e = λ held same. is
-value_of next levels vr (Sequence syntax (Some n)) octets rest tag v is e =
-    let items = bind_ok (next.items Filled syntax (levels - 1) (take n octets)) (λ (x : List ElementList × List ℕ). Ok (Items x.0, drop n octets)) (v, rest) e in
-    subst (λ (p : Value × List ℕ). HasKnownVr (record { tag = tag; vr = vr; value = p.0 })) (ok_is (Items items.0.0, drop n octets) (v, rest) items.2)
-    (no_octets tag vr items.0.0)
-value_of next levels vr (Sequence syntax None) octets rest tag v is e =
-    let items = bind_ok (next.items Delimited syntax (levels - 1) octets) (λ (x : List ElementList × List ℕ). Ok (Items x.0, x.1)) (v, rest) e in
-    subst (λ (p : Value × List ℕ). HasKnownVr (record { tag = tag; vr = vr; value = p.0 })) (ok_is (Items items.0.0, items.0.1) (v, rest) items.2)
-    (no_octets tag vr items.0.0)
+value_of next levels vr content octets rest tag v is e = grind (arith, bind_ok, ok_is, no_octets)
 
 abbrev Read : Type 0
 Read = Option (Header × Value) × List ℕ
@@ -73,12 +65,7 @@ module _ (P : Element → Type 0)
 
   more_read : (n : ℕ) (syntax : Syntax) (levels : ℕ) (last : Option Tag) (octets rest : List ℕ) (first : Option (Header × Value))
       → (header_at syntax levels last octets >>= header_step (readers n) levels) ≡ Ok (first, rest) → IfRead first
-  more_read n syntax levels last octets rest first e =
-      let header = bind_ok (header_at syntax levels last octets) (header_step (readers n) levels) (first, rest) e in
-      let h = header.0.0 in
-      let value = bind_ok (value_by (readers n) levels h.vr h.content header.0.1) (value_step h) (first, rest) header.2 in
-      subst (λ (p : Read). IfRead p.0) (ok_is (Some (h, value.0.0), value.0.1) (first, rest) value.2)
-      (gives n levels syntax last octets header.0.1 value.0.1 h value.0.0 header.1 value.1)
+  more_read n syntax levels last octets rest first e = grind (arith, bind_ok, ok_is)
 
   unless_read : (end : Option (List ℕ)) (more : Result Read ReadFault) (first : Option (Header × Value)) (rest : List ℕ)
       → (more ≡ Ok (first, rest) → IfRead first) → unless_ended end more ≡ Ok (first, rest) → IfRead first
@@ -88,10 +75,7 @@ module _ (P : Element → Type 0)
   element_read : (n : ℕ) (bound : Bound) (syntax : Syntax) (levels : ℕ) (last : Option Tag) (octets rest : List ℕ) (first : Option (Header × Value))
       → element_by (readers n) bound syntax levels last octets ≡ Ok (first, rest) → IfRead first
   unfolding element_by
-  element_read n bound syntax levels last octets rest first e =
-      let more = header_at syntax levels last octets >>= header_step (readers n) levels in
-      let end = bind_ok (end_at bound 0xE00D octets) (λ (x : Option (List ℕ)). unless_ended x more) (first, rest) e in
-      unless_read end.0 more first rest (more_read n syntax levels last octets rest first) end.2
+  element_read n bound syntax levels last octets rest first e = grind (arith, bind_ok, unless_read, more_read)
 
   kept_by : (b : Bool) (e : Element) (others : List Element) → P e → AllByRecursion P others → AllByRecursion P (cond b others (e ∷ others))
   kept_by true e others one all = all
@@ -103,13 +87,7 @@ module _ (P : Element → Type 0)
       → AllByRecursion P others)
       → IfRead first → elements_after next bound syntax levels first octets ≡ Ok (es, rest) → AllByRecursion P es
   unfolding elements_after
-  after_read next bound syntax levels None octets rest es reads is e =
-      subst (λ (p : Elements). AllByRecursion P p.0) (ok_is ([], octets) (es, rest) e) tt
-  after_read next bound syntax levels (Some first) octets rest es reads is e =
-      let others = bind_ok (next.elements bound syntax levels (Some first.0.tag) octets) (λ (x : Elements). Ok (kept first.0 first.1 x.0, x.1)) (es, rest) e in
-      subst (λ (p : Elements). AllByRecursion P p.0) (ok_is (kept first.0 first.1 others.0.0, others.0.1) (es, rest) others.2)
-      (kept_by (eqb first.0.tag.element 0) (made_of first.0 first.1) others.0.0 is
-      (reads (Some first.0.tag) octets others.0.0 others.0.1 others.1))
+  after_read next bound syntax levels first octets rest es reads is e = grind (arith, ok_is, bind_ok, kept_by)
 
   elements_read : (n : ℕ) (bound : Bound) (syntax : Syntax) (levels : ℕ) (last : Option Tag) (octets : List ℕ) (es : List Element) (rest : List ℕ)
       → (readers n).elements bound syntax levels last octets ≡ Ok (es, rest) → AllByRecursion P es
@@ -123,10 +101,7 @@ module _ (P : Element → Type 0)
 
   all_read : (syntax : Syntax) (octets : List ℕ) (d : ElementList) → reading syntax octets ≡ Ok d → AllByRecursion P (elements_of d)
   unfolding reading
-  all_read syntax octets d e =
-      let found = bind_ok ((readers (length octets + 1)).elements Filled syntax 16 None octets) (λ (x : Elements). Ok (as_elements x.0)) d e in
-      let same : elements_of d ≡ found.0.0 = ap elements_of (sym (ok_is (as_elements found.0.0) d found.2)) ∙ elements_of-as_elements found.0.0 in
-      subst (AllByRecursion P) (sym same) (elements_read (length octets + 1) Filled syntax 16 None octets found.0.0 found.0.1 found.1)
+  all_read syntax octets d e = grind (arith, bind_ok, ok_is, elements_of-as_elements, elements_read)
 
 known_given : (n levels : ℕ) (syntax : Syntax) (last : Option Tag) (octets left rest : List ℕ) (h : Header) (v : Value)
     → header_at syntax levels last octets ≡ Ok (h, left) → value_by (readers n) levels h.vr h.content left ≡ Ok (v, rest) → HasKnownVr (made_of h v)
@@ -170,12 +145,7 @@ item_step x = Ok (Some (as_elements x.0), x.1)
 
 more_items : (n levels : ℕ) (syntax : Syntax) (octets rest : List ℕ) (first : Option ElementList)
     → (item_header_at octets >>= λ header. content_by (readers n) syntax levels header.0 header.1 >>= item_step) ≡ Ok (first, rest) → IfItem first
-more_items n levels syntax octets rest first e =
-    let header = bind_ok (item_header_at octets) (λ (x : Option ℕ × List ℕ). content_by (readers n) syntax levels x.0 x.1 >>= item_step) (first, rest) e in
-    let content = bind_ok (content_by (readers n) syntax levels header.0.0 header.0.1) item_step (first, rest) header.2 in
-    subst (λ (p : ItemRead). IfItem p.0) (ok_is (Some (as_elements content.0.0), content.0.1) (first, rest) content.2)
-    (subst (AllByRecursion HasKnownVr) (sym (elements_of-as_elements content.0.0))
-    (content_read n levels syntax header.0.0 header.0.1 content.0.1 content.0.0 content.1))
+more_items n levels syntax octets rest first e = grind (arith, bind_ok, ok_is, elements_of-as_elements, content_read)
 
 unless_item : (end : Option (List ℕ)) (more : Result ItemRead ReadFault) (first : Option ElementList) (rest : List ℕ)
     → (more ≡ Ok (first, rest) → IfItem first) → unless_ended end more ≡ Ok (first, rest) → IfItem first
@@ -186,12 +156,7 @@ items_from : (next : Readers) (bound : Bound) (syntax : Syntax) (levels : ℕ) (
     → ((left : List ℕ) (others : List ElementList) (behind : List ℕ) → next.items bound syntax levels left ≡ Ok (others, behind) → AllByRecursion HaveKnownVrs others)
     → IfItem first → items_after next bound syntax levels first octets ≡ Ok (ds, rest) → AllByRecursion HaveKnownVrs ds
 unfolding items_after
-items_from next bound syntax levels None octets rest ds reads is e =
-    subst (λ (p : ItemsRead). AllByRecursion HaveKnownVrs p.0) (ok_is ([], octets) (ds, rest) e) tt
-items_from next bound syntax levels (Some first) octets rest ds reads is e =
-    let others = bind_ok (next.items bound syntax levels octets) (λ (x : ItemsRead). Ok (first ∷ x.0, x.1)) (ds, rest) e in
-    subst (λ (p : ItemsRead). AllByRecursion HaveKnownVrs p.0) (ok_is (first ∷ others.0.0, others.0.1) (ds, rest) others.2)
-    (is, reads octets others.0.0 others.0.1 others.1)
+items_from next bound syntax levels first octets rest ds reads is e = grind (arith, ok_is, bind_ok)
 
 items_read : (n : ℕ) (bound : Bound) (syntax : Syntax) (levels : ℕ) (octets : List ℕ) (ds : List ElementList) (rest : List ℕ)
     → (readers n).items bound syntax levels octets ≡ Ok (ds, rest) → AllByRecursion HaveKnownVrs ds

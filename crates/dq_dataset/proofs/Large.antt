@@ -7,11 +7,9 @@ use Rattle.std.proofs.lemmas.List.{length-append, append-nil}
 use Rattle.dq_dataset.proofs.Types.{Tag, Vr, Syntax, Explicit, ReadFault, Content, Element, Value, Octets, ElementList}
 use Rattle.dq_dataset.specs.declared.sieve.Outer.{Outer}
 use Rattle.dq_dataset.specs.declared.sieve.Sifted.TheVariants.{Kept, Large, Fault}
-use Rattle.dq_dataset.specs.Rules.{padded}
 use Rattle.dq_dataset.specs.View.{as_elements}
 use Rattle.dq_dataset.specs.Canonical.{canonical, HasLengths}
-use Rattle.dq_dataset.specs.Lengths.{value_octets}
-use Rattle.dq_dataset.specs.Grammar.{SpellsValue, plain, nested}
+use Rattle.dq_dataset.specs.Grammar.{SpellsValue}
 use Rattle.dq_dataset.specs.Sieve.{kept_limit, is_over_limit, sifted_of}
 use Rattle.dq_dataset.specs.Sieving.{judged, kept_unless_over, is_length_over_limit, KeepsWithinLimit, IsWithinLimit}
 use Rattle.dq_dataset.proofs.Counted.{value_length, short_elements}
@@ -47,28 +45,18 @@ none_large = refl
 
 -- what is over the limit stays so, whatever joins it
 more_large : (xs ys : List Element) → is_over_limit (as_elements xs) ≡ true → is_over_limit (as_elements (xs ++ ys)) ≡ true
-more_large xs ys large =
-    let over = over_limit (as_elements xs) large in
-    limit_passed (as_elements (xs ++ ys)) (omega (arith, over, joined_length Explicit xs ys))
+more_large xs ys large = grind (arith, nat_tests, over_limit, limit_passed, joined_length)
 
 -- one value over the limit is enough
 one_large : (xs ys : List Element) (e : Element) (octets : List ℕ) → e.value ≡ Octets octets → kept_limit < length octets
     → is_over_limit (as_elements (xs ++ e ∷ ys)) ≡ true
-one_large xs ys e octets is over =
-    let here = ap (value_octets Explicit) is in
-    limit_passed (as_elements (xs ++ e ∷ ys))
-    (omega (arith, over, here, joined_length Explicit xs (e ∷ ys), value_length Explicit e.tag e.vr e.value (as_elements ys)))
+one_large xs ys e octets is over = grind (arith, nat_tests, limit_passed, joined_length, value_length)
 
 -- ---- what is answered
 
 kept_on : (large next b : Bool) (ks held more : List Element) (other : Bool) → is_over_limit (as_elements ks) ≡ b → next ≡ (large || b)
     → held ≡ kept_unless_over next ks → judged next (held ++ more) other ≡ judged large (ks ++ more) other
-kept_on true true b ks held more other is next_is state_is = refl
-kept_on true false b ks held more other is next_is state_is = absurd cc
-kept_on false true true ks held more other is next_is state_is = rw (more_large ks more is) refl
-kept_on false true false ks held more other is next_is state_is = absurd cc
-kept_on false false true ks held more other is next_is state_is = absurd cc
-kept_on false false false ks held more other is next_is state_is = ap (λ (h : List Element). judged false (h ++ more) other) state_is
+kept_on large next b ks held more other is next_is state_is = grind (arith, nat_tests, more_large)
 
 pub judged_on : (large next : Bool) (ks held more : List Element) (other : Bool) → next ≡ (large || is_over_limit (as_elements ks))
     → held ≡ kept_unless_over next ks → judged next (held ++ more) other ≡ judged large (ks ++ more) other
@@ -133,16 +121,10 @@ length-padded_by false octets pad = omega (arith, length-append octets (pad ∷ 
 
 pub long_value : (levels : ℕ) (vr : Vr) (content : Content) (octets : List ℕ) (held : Value) → SpellsValue levels vr content octets held
     → is_length_over_limit content ≡ true → (o : List ℕ) × (held ≡ Octets o) × (kept_limit < length o)
-long_value levels vr content octets held (plain _ _ n _ len) long =
-    let more : kept_limit < n = grind (arith, nat_tests) in
-    let pads : length octets ≤ length (padded vr octets) = length-padded_by _ octets _ in
-    (padded vr octets, refl, omega (arith, more, pads, len))
-long_value levels vr content octets held (nested fewer _ syntax extent _ items has spells) long = absurd cc
+long_value levels vr content octets held h5 long = grind (arith, nat_tests, length-padded_by)
 
 both : (a b : Bool) → (not a && b) ≡ true → (a ≡ false) × (b ≡ true)
-both false true e = (refl, refl)
-both false false e = absurd cc
-both true b e = absurd cc
+both a b e = grind (arith, nat_tests)
 
 -- what is too long by its header is answered as too large
 module _ (levels : ℕ) (tag : Tag) (vr : Vr) (content : Content) (octets : List ℕ) (held : Value) (spells : SpellsValue levels vr content octets held) where
@@ -151,10 +133,7 @@ module _ (levels : ℕ) (tag : Tag) (vr : Vr) (content : Content) (octets : List
 
   judged_over : (dropped : Bool) (kept es : List Element) (other : Bool) → (not dropped && is_length_over_limit content) ≡ true
       → judged false (kept ++ cond dropped es (held_as ∷ es)) other ≡ Large
-  judged_over dropped kept es other long =
-      let parts = both dropped (is_length_over_limit content) long in
-      let value = long_value levels vr content octets held spells parts.1 in
-      rw (parts.0, one_large kept es held_as value.0 value.1 value.2) refl
+  judged_over dropped kept es other long = grind (arith, nat_tests, both, long_value, one_large)
 
   pub judged_long : (large dropped : Bool) (kept es : List Element) (other : Bool) → (large || (not dropped && is_length_over_limit content)) ≡ true
       → judged large (kept ++ cond dropped es (held_as ∷ es)) other ≡ Large

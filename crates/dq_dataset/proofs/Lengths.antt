@@ -4,8 +4,8 @@ use Rattle.std.specs.Int.{w32, to_le_bytes}
 use Rattle.std.proofs.lemmas.List.{take_at, drop_at, length-append, append-nil}
 use Rattle.dq_dataset.proofs.Types.{Tag, Vr, SQ, Syntax, Implicit, Explicit, Element, Value, Octets, Items, ElementList, no_elements}
 use Rattle.dq_vr.specs.Vr.{length_form_of, letters_of}
-use Rattle.dq_dataset.specs.View.{as_elements, with_value, items_of}
-use Rattle.dq_dataset.specs.Canonical.{tag_octets, vr_and_length, header_of, item_header_of, canonical, canonical_items}
+use Rattle.dq_dataset.specs.View.{as_elements, items_of}
+use Rattle.dq_dataset.specs.Canonical.{tag_octets, vr_and_length, header_of, item_header_of, canonical_items}
 use Rattle.dq_dataset.specs.Grammar.{delimiter}
 use Rattle.dq_dataset.specs.Facts.{AreElements}
 use Rattle.dq_dataset.specs.Parts.{canonical_element, has_sequence_vr, HasSequenceVr}
@@ -29,12 +29,7 @@ item_parts n = refl
 -- four octets before a place are replaced
 closing : (front place body out four : List ℕ) (start : ℕ) → out ≡ (front ++ place) ++ body → length place ≡ 4 → start ≡ length (front ++ place)
     → take (start - 4) out ++ (four ++ drop start out) ≡ front ++ (four ++ body)
-closing front place body out four start parts four_long at =
-    let before : length front ≡ start - 4 = omega (arith, length-append front place, at, four_long) in
-    let first : take (start - 4) out ≡ front = ap (take (start - 4)) (parts ∙ append_assoc front place body)
-    ∙ take_at front (place ++ body) (start - 4) before in
-    let last : drop start out ≡ body = ap (drop start) parts ∙ drop_at (front ++ place) body start (sym at) in
-    λ i. first i ++ (four ++ last i)
+closing front place body out four start parts four_long at = grind (arith, length-append, append_assoc, take_at, drop_at)
 
 -- a header with the length of what stands after it, in place of 0
 module _ (header : ℕ → List ℕ) (front : List ℕ) (parts : (n : ℕ) → header n ≡ front ++ to_le_bytes w32 n)
@@ -87,6 +82,4 @@ vr_is vr x items h is = subst (λ (y : Value). has_sequence_vr vr y) is h
 
 pub canonical-sequence : (s : Syntax) (e : Element) (items : List ElementList) → e.value ≡ Items items → e.vr ≡ SQ
     → canonical_element s e ≡ header_of s e.tag SQ (length (canonical_items s (items_of items))) ++ canonical_items s (items_of items)
-canonical-sequence s e items is vr =
-    ap (λ (x : Value). canonical s (with_value (record { tag = e.tag; vr = e.vr; value = x }) x no_elements)) is
-    ∙ rw vr (simp (append_assoc, append-nil))
+canonical-sequence s e items is vr = grind (arith, no_elements, append_assoc, append-nil)

@@ -1,5 +1,5 @@
 -- Reading elements or items one after the other, as a loop does.
-use Rattle.std.proofs.Common.{◌≡◌, ◌≢◌, eq-eqb, ℕ, zero, suc, ◌≤◌, ◌<◌, List, [], ◌∷◌, ◌++◌, length, Option, Some, None, Result, Ok, Err, cond, eqb, true, false, refl, sym, ap, ◌∙◌, append_assoc, arith, inl, inr, ◌⊎◌}
+use Rattle.std.proofs.Common.{◌≡◌, ◌≢◌, eq-eqb, ℕ, zero, suc, ◌≤◌, ◌<◌, List, [], ◌∷◌, ◌++◌, length, Option, Some, None, Result, Ok, Err, true, refl, sym, ap, ◌∙◌, append_assoc, arith, inl, inr, ◌⊎◌}
 use Rattle.std.proofs.lemmas.List.{append-nil}
 use Rattle.std.proofs.lemmas.Bool.{ltb-true, ne_eqb}
 use Rattle.dq_dataset.proofs.Types.{Tag, ReadFault, NoMemory, Syntax, Bound, Content, Sequence, Header, Element, Value, ElementList}
@@ -32,15 +32,11 @@ with_front-nil (Err e) = refl
 -- ---- elements
 
 kept-append : (h : Header) (v : Value) (others : List Element) → kept h v others ≡ kept h v [] ++ others
-kept-append h v others =
-    elim (eqb h.tag.element 0) as (λ b. cond b others (record { tag = h.tag; vr = h.vr; value = v } ∷ others)
-    ≡ cond b [] (record { tag = h.tag; vr = h.vr; value = v } ∷ []) ++ others) [ true ↦ refl | false ↦ refl ]
+kept-append h v others = grind arith
 
 after_kept : (done : List Element) (h : Header) (v : Value) (read : Result (List Element × List ℕ) ReadFault)
     → with_front done (read >>= λ x. Ok (kept h v x.0, x.1)) ≡ with_front (done ++ kept h v []) read
-after_kept done h v (Ok x) =
-    ap (λ (es : List Element). Ok (es, x.1)) (ap (λ (es : List Element). done ++ es) (kept-append h v x.0) ∙ sym (append_assoc done (kept h v []) x.0))
-after_kept done h v (Err e) = refl
+after_kept done h v read = grind (arith, kept-append, append_assoc)
 
 module _ (bound : Bound) (syntax : Syntax) (levels : ℕ) (all : List ℕ) where
   pub elements_start : ElementsLeft bound syntax levels all [] None all

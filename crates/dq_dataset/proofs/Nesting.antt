@@ -1,10 +1,9 @@
 -- Places lie within what is around them, whatever is taken, entered or left.
-use Rattle.std.proofs.Common.{◌≡◌, ℕ, ◌-◌, ◌≤◌, List, [], ◌∷◌, ◌++◌, length, Option, Some, None, refl, ap, subst, arith, inl, inr, ◌⊎◌}
+use Rattle.std.proofs.Common.{◌≡◌, ℕ, ◌-◌, ◌≤◌, List, [], ◌∷◌, ◌++◌, length, Option, Some, None, refl, subst, arith, inl, inr, ◌⊎◌}
 use Rattle.std.proofs.lemmas.List.{length-append}
 use Rattle.dq_dataset.specs.declared.sieve.walk.Reach.{Reach}
 use Rattle.dq_dataset.specs.declared.sieve.walk.Reach.TheVariants.{Measured, Within, Endless}
 use Rattle.dq_dataset.specs.declared.sieve.walk.Place.{Place}
-use Rattle.dq_dataset.specs.declared.sieve.walk.Place.TheVariants.{InOctets, InItems, InElements}
 use Rattle.dq_dataset.specs.Reading.{tag_at, front_at, item_front_at}
 use Rattle.dq_dataset.specs.Sifting.{reach_of, opened_reach, opened_left, HasRoom, EndsAt, IsUntil, LiesIn, left_around, AreNested, IsPart, HasMore}
 use Rattle.dq_dataset.proofs.Walks.{Around}
@@ -13,9 +12,7 @@ use Rattle.dq_dataset.proofs.Entering.{Behind}
 shrunk_by : (reach : Reach) (until left less : ℕ) (around : List Place) → LiesIn reach left around → AreNested (left_around reach left) around
     → IsUntil reach until → until ≤ less → ((n : ℕ) → EndsAt around n → n ≤ less → AreNested left around → AreNested less around)
     → LiesIn reach less around × AreNested (left_around reach less) around
-shrunk_by (Measured n) until left less around lies others is le on = (omega arith, others)
-shrunk_by (Within n) until left less around lies others is le on = ((omega arith, lies.1), on n lies.1 (omega arith) others)
-shrunk_by Endless until left less around lies others is le on = absurd is
+shrunk_by reach until left less around lies others is le on = grind arith
 
 -- octets are taken, up to no further than where a place ends
 pub shrunk : (until left less : ℕ) (places : List Place) → AreNested left places → EndsAt places until → until ≤ less → AreNested less places
@@ -37,9 +34,7 @@ module _ (left after taken : ℕ) (inner behind : Place) (outside : List Place) 
       rw (inner_is, behind_is) ((omega arith, refl), ((omega arith, lies.1), shrunk until left after outside others lies.1 (omega arith)))
   nested_inside (Within until) (Some n) inner_is behind_is header_behind room within lies others =
       rw (inner_is, behind_is) (omega arith, ((omega arith, lies.1), shrunk until left (after - n) outside others lies.1 (omega arith)))
-  nested_inside Endless None inner_is behind_is header_behind room within lies others =
-      let same : left ≡ after = omega arith in
-      rw (inner_is, behind_is) (header_behind.1, (header_behind.1, subst (λ (n : ℕ). AreNested n outside) same others))
+  nested_inside Endless None inner_is behind_is header_behind room within lies others = grind arith
   nested_inside Endless (Some n) inner_is behind_is header_behind room within lies others =
       rw (inner_is, behind_is) (omega arith, (refl, subst (λ (n : ℕ). AreNested n outside) header_behind.0 others))
 
@@ -49,31 +44,21 @@ pub nested_behind : (reach : Reach) (left taken : ℕ) (around : List Place) →
 nested_behind (Measured n) left taken around lies others within until (inl e) = absurd cc
 nested_behind (Measured n) left taken around lies others within until (inr e) = absurd cc
 nested_behind (Within n) left taken around lies others within until h = shrunk n left (left - taken) around others lies.1 (omega arith)
-nested_behind Endless left taken around lies others within until h =
-    let same : left ≡ left - taken = omega arith in
-    subst (λ (n : ℕ). AreNested n around) same others
+nested_behind Endless left taken around lies others within until h = grind arith
 
 -- where nothing came, nothing is whole
 pub none_is_part : (place : Place) → IsPart place []
 unfolding front_at item_front_at tag_at
-none_is_part (InOctets until) = refl
-none_is_part (InItems syntax levels reach) = refl
-none_is_part (InElements syntax levels last reach) = refl
+none_is_part place = grind arith
 
 -- how much is around what came with its last octet
 pub comes_within : (reach : Reach) (left : ℕ) (before : List ℕ) (octet : ℕ) (front : List ℕ) → front ≡ before ++ octet ∷ [] → HasMore reach left before
     → (reach ≡ Endless → left ≡ 0) → Around reach left (length front)
-comes_within (Measured until) left before octet front is room none = omega (arith, ap length is, length-append before (octet ∷ []))
-comes_within (Within until) left before octet front is room none = omega (arith, ap length is, length-append before (octet ∷ []))
-comes_within Endless left before octet front is room none = none refl
+comes_within reach left before octet front is room none = grind (arith, length-append)
 
 pub endless_is_none : (reach : Reach) (left : ℕ) (around : List Place) → LiesIn reach left around → reach ≡ Endless → left ≡ 0
-endless_is_none (Measured until) left around lies e = absurd cc
-endless_is_none (Within until) left around lies e = absurd cc
-endless_is_none Endless left around lies e = lies
+endless_is_none reach left around lies e = grind arith
 
 -- what is left after a header
 pub left_after : (reach : Reach) (left taken : ℕ) → Around reach left taken → Behind reach left taken (left - taken)
-left_after (Measured until) left taken within = omega arith
-left_after (Within until) left taken within = omega arith
-left_after Endless left taken within = (within, omega arith)
+left_after reach left taken within = grind arith

@@ -1,5 +1,5 @@
 -- The steps of a sieve.
-use Rattle.std.proofs.Common.{◌≡◌, ℕ, ◌<◌, true, false, ◌||◌, List, [], ◌++◌, length, reverse, Some, refl, sym, subst, ◌∙◌, append_assoc, inl, inr, ◌⊎◌}
+use Rattle.std.proofs.Common.{◌≡◌, ℕ, ◌<◌, true, false, ◌||◌, List, [], ◌++◌, length, reverse, Some, refl, subst, append_assoc, inl, inr, ◌⊎◌, arith}
 use Rattle.std.specs.Global.{Vec}
 use Rattle.std.proofs.lemmas.List.{append-nil}
 use Rattle.dq_dataset.proofs.Types.{Tag, Truncated, Syntax, Filled, no_elements}
@@ -12,9 +12,8 @@ use Rattle.dq_dataset.specs.declared.sieve.walk.Walk.{Walk}
 use Rattle.dq_dataset.specs.View.{as_elements}
 use Rattle.dq_dataset.specs.Grammar.{no_more}
 use Rattle.dq_dataset.specs.Facts.{IsDataSet}
-use Rattle.dq_dataset.specs.Editing.{cut_out}
 use Rattle.dq_dataset.specs.Sifting.{WalkLeads, IsWalk}
-use Rattle.dq_dataset.specs.Sieve.{has_other, IsSifted}
+use Rattle.dq_dataset.specs.Sieve.{IsSifted}
 use Rattle.dq_dataset.specs.Sieving.{judged, OuterSifts, StageSifts, IsStage, GoesOn, HasFed}
 use Rattle.dq_dataset.proofs.SpelledIsSound.{spelled_is_sound}
 use Rattle.dq_dataset.proofs.Edits.{cut_is}
@@ -24,27 +23,14 @@ use Rattle.dq_dataset.proofs.Large.{judged_kept, sifted_kept}
 
 pub goes_then : (tags : List Tag) (a b c : Outer) (x y z : Stage) (first second : List ℕ) → GoesOn tags a x first b y → GoesOn tags b y second c z
     → GoesOn tags a x (first ++ second) c z
-goes_then tags a b c x y z first second p q = record {
-  sound = q.sound;
-  within = λ w. q.within (p.within w);
-  syntax = q.syntax ∙ p.syntax;
-  sifts = λ octets answer m.
-      subst (λ (o : List ℕ). StageSifts tags a x o answer) (sym (append_assoc first second octets))
-      (p.sifts (second ++ octets) answer (q.sifts octets answer m));
-}
+goes_then tags a b c x y z first second p q = grind (arith, append_assoc)
 
 pub goes_nowhere : (tags : List Tag) (a : Outer) (x : Stage) → IsStage a x → GoesOn tags a x [] a x
 goes_nowhere tags a x sound = record { sound = sound; within = λ w. w; syntax = refl; sifts = λ octets answer m. m }
 
 pub fed_on : (syntax : Syntax) (tags : List Tag) (fed piece : List ℕ) (a b : Outer) (x y : Stage) → HasFed syntax tags fed a x → GoesOn tags a x piece b y
     → HasFed syntax tags (fed ++ piece) b y
-fed_on syntax tags fed piece a b x y f g = record {
-  is = g.syntax ∙ f.is;
-  sound = g.sound;
-  within = g.within f.within;
-  sifts = λ rest answer m.
-      subst (λ (o : List ℕ). IsSifted syntax tags o answer) (sym (append_assoc fed piece rest)) (f.sifts (piece ++ rest) answer (g.sifts rest answer m));
-}
+fed_on syntax tags fed piece a b x y f g = grind (arith, append_assoc)
 
 -- ---- the end
 
@@ -73,9 +59,7 @@ module _ (syntax : Syntax) (tags : List Tag) (fed : List ℕ) (outer : Outer) wh
       (between [] Large (inl (no_elements, no_more Filled outer.syntax 16 outer.last [] refl, same)))
 
   kept_is : IsSifted syntax tags fed kept_here → IsDataSet (as_elements outer.kept.items)
-  kept_is (inl (d, spells, e)) =
-      let same = sifted_kept (as_elements outer.kept.items) (cut_out tags d) outer.other (has_other tags d) e in
-      subst IsDataSet (sym same.0) (cut_is tags d (spelled_is_sound syntax fed d spells))
+  kept_is (inl (d, spells, e)) = grind (arith, sifted_kept, cut_is, spelled_is_sound)
   kept_is (inr (f, faulty, e)) = absurd cc
 
   pub kept_is_data_set : (stage : Stage)

@@ -1,7 +1,6 @@
 -- What the octets of a header and of a value make of a sieve.
 use Rattle.std.proofs.Common.{◌≡◌, ◌≢◌, ℕ, Bool, true, false, not, eqb, ◌||◌, List, [], ◌∷◌, ◌++◌, Option, Some, None, Result, Ok, Err, refl, sym, ap, subst, ◌∙◌, append_assoc, arith, inl, inr}
 use Rattle.std.specs.Global.{Vec}
-use Rattle.std.specs.Prelude.{filter}
 use Rattle.std.specs.Result.{IfOk}
 use Rattle.std.proofs.lemmas.List.{append-nil}
 use Rattle.dq_dataset.proofs.Types.{Tag, ReadFault, Truncated, Syntax, Filled, Content, Element, ElementList}
@@ -17,13 +16,12 @@ use Rattle.dq_dataset.specs.declared.sieve.walk.Walked.{Walked}
 use Rattle.dq_dataset.specs.declared.sieve.walk.Walked.TheVariants.{Over}
 use Rattle.dq_dataset.specs.declared.sieve.walk.Reach.TheVariants.{Endless}
 use Rattle.dq_dataset.specs.declared.sieve.walk.Place.TheVariants.{InElements}
-use Rattle.dq_dataset.specs.Editing.{is_listed}
-use Rattle.dq_dataset.specs.Sieve.{has_other, is_over_limit}
+use Rattle.dq_dataset.specs.Sieve.{is_over_limit}
 use Rattle.dq_dataset.specs.View.{as_elements, elements_of}
 use Rattle.dq_dataset.specs.Reading.{front_at, end_at, may_nest}
 use Rattle.dq_dataset.specs.Grammar.{IsPlaced, IsHeader, IsSpelled}
 use Rattle.dq_dataset.specs.Sifting.{WalkedLeads, LeadsOn}
-use Rattle.dq_dataset.specs.Sieving.{tag_is_listed, is_header_over_limit, kept_unless_over, Keeps, SiftsFrom, OuterSifts, FollowsPast, FollowsInto, IsStage, GoesOn, HasFed, StateAfter, SieveAfter, IsSieve, PastBy, IntoBy}
+use Rattle.dq_dataset.specs.Sieving.{tag_is_listed, is_header_over_limit, kept_unless_over, Keeps, SiftsFrom, FollowsPast, FollowsInto, IsStage, GoesOn, HasFed, SieveAfter, IsSieve, PastBy, IntoBy}
 use Rattle.dq_dataset.proofs.Nesting.{none_is_part}
 use Rattle.dq_dataset.proofs.Fronts.{open_here, front_fault_stays}
 use Rattle.dq_dataset.proofs.Large.{judged_on, within_on, within_by, starts_within}
@@ -39,15 +37,7 @@ nothing_came outer front none = rw none (none_is_part (InElements outer.syntax 1
 -- an octet of a header: what all of the header makes of the sieve, with the octet added to it
 pub adds_octet : (tags : List Tag) (outer next : Outer) (then : Stage) (before after : Vec ℕ) (octet : ℕ) → after.items ≡ before.items ++ octet ∷ []
     → GoesOn tags outer (Between after) [] next then → GoesOn tags outer (Between before) (octet ∷ []) next then
-adds_octet tags outer next then before after octet is g = record {
-  sound = g.sound;
-  within = g.within;
-  syntax = g.syntax;
-  sifts = λ octets answer m.
-      let all : after.items ++ octets ≡ before.items ++ (octet ∷ octets) =
-      ap (λ (x : List ℕ). x ++ octets) is ∙ append_assoc before.items (octet ∷ []) octets in
-      subst (λ (x : List ℕ). OuterSifts tags outer x answer) all (g.sifts octets answer m);
-}
+adds_octet tags outer next then before after octet is g = grind (arith, append_assoc)
 
 pub adds_octet_ok : {E : Type 0} → (tags : List Tag) (outer : Outer) (before after : Vec ℕ) (octet : ℕ) → after.items ≡ before.items ++ octet ∷ []
     → (r : Result (Outer × Stage) E) → IfOk r (λ x. GoesOn tags outer (Between after) [] x.0 x.1)
@@ -142,23 +132,13 @@ steps_past tags outer walk taken walked on stage sound past = record {
 pub steps_into : (tags : List Tag) (outer : Outer) (walk : Walk) (taken : List ℕ) (walked : Walked) → LeadsOn walk taken walked → (came : Vec ℕ)
     (now : List ℕ) → now ≡ came.items ++ taken → (next : Outer) (then : Stage) → IntoBy outer walked now next then
     → GoesOn tags outer (Into walk came) taken next then
-steps_into tags outer walk taken walked on came now is next then into = record {
-  sound = into.sound;
-  within = into.within;
-  syntax = into.syntax;
-  sifts = λ octets answer m. sifted_step walk taken walked on (FollowsInto tags outer came.items answer) (FollowsInto tags outer now answer)
-      (λ v rest follows one spelled. follows one (subst (λ (x : List ℕ). IsSpelled outer.syntax x one)
-      (sym (append_assoc came.items taken v) ∙ ap (λ (x : List ℕ). x ++ v) (sym is)) spelled)) octets answer
-      (into.sifts tags octets answer m);
-}
+steps_into tags outer walk taken walked on came now is next then into = grind (arith, sifted_step, append_assoc)
 
 -- what is held no more adds as it did
 sifts_on : (syntax : Syntax) (tags : List Tag) (last : Option Tag) (large next : Bool) (ks held : List Element) (other : Bool) (octets : List ℕ)
     (answer : Sifted) → next ≡ (large || is_over_limit (as_elements ks)) → held ≡ kept_unless_over next ks
     → SiftsFrom syntax tags last next held other octets answer → SiftsFrom syntax tags last large ks other octets answer
-sifts_on syntax tags last large next ks held other octets answer next_is state_is (inl (d, spells, is)) =
-    inl (d, spells, is ∙ judged_on large next ks held (filter (is_listed tags) (elements_of d)) (other || has_other tags d) next_is state_is)
-sifts_on syntax tags last large next ks held other octets answer next_is state_is (inr (f, faulty, is)) = inr (f, faulty, is)
+sifts_on syntax tags last large next ks held other octets answer next_is state_is h12 = grind (arith, judged_on)
 
 -- all of a value that is kept: the element is kept
 pub keeps_one : (outer next : Outer) (came : List ℕ) (front : Vec ℕ) (one : ElementList)
@@ -186,12 +166,7 @@ keeps_one outer next came front one only k none = record {
 
 pub starts : (tags : List Tag) (outer : Outer) (front : Vec ℕ) → outer.last ≡ None → outer.large ≡ false → outer.kept.items ≡ [] → outer.other ≡ false → front.items ≡ []
     → HasFed outer.syntax tags [] outer (Between front)
-starts tags outer front last small kept other none = record {
-  is = refl;
-  sound = nothing_came outer front.items none;
-  within = starts_within outer small kept;
-  sifts = λ rest answer m. rw (last, small, kept, other, none) at m;
-}
+starts tags outer front last small kept other none = grind (arith, nothing_came, starts_within)
 
 pub is_fed_on : (tags : List Tag) (piece : List ℕ) (a b : Outer) (x y : Stage) → IsSieve tags (Sifting a x) → GoesOn tags a x piece b y
     → IsSieve tags (Sifting b y)
@@ -200,9 +175,7 @@ is_fed_on tags piece a b x y (fed, f) g =
 
 pub state_is : (syntax : Syntax) (tags listed : List Tag) (fed : List ℕ) (held : SieveState) (sieve : List Tag × SieveState) (a : Outer) (x : Stage) → (listed, held) ≡ sieve
     → held ≡ Sifting a x → SieveAfter syntax tags fed sieve → HasFed syntax tags fed a x
-state_is syntax tags listed fed held sieve a x view is after =
-    let now : sieve.1 ≡ Sifting a x = sym (ap (λ (s : List Tag × SieveState). s.1) view) ∙ is in
-    subst (λ (h : SieveState). StateAfter syntax tags fed h) now after.after
+state_is syntax tags listed fed held sieve a x view is after = grind arith
 
 pub fed_after : (syntax : Syntax) (tags listed : List Tag) (fed piece : List ℕ) (held : SieveState) (sieve : List Tag × SieveState) (a b : Outer) (x y : Stage)
     → (listed, held) ≡ sieve → held ≡ Sifting a x → GoesOn listed a x piece b y → SieveAfter syntax tags fed sieve

@@ -197,9 +197,7 @@ module _ (syntax : Syntax) (last : Option Tag) (tag : Tag) (content : Content) (
 pub sifted_step : (walk : Walk) (taken : List ℕ) (walked : Walked) → LeadsOn walk taken walked → (follows later : List ℕ → List ℕ → Type 0)
     → ((v rest : List ℕ) → later v rest → follows (taken ++ v) rest) → (octets : List ℕ) (answer : Sifted)
     → SiftsOn (WalkedLeads walked) later octets answer → SiftsOn (WalkLeads walk) follows (taken ++ octets) answer
-sifted_step walk taken walked on follows later then octets answer (inl (f, leads, is)) = inl (f, on.leads octets (Some f) leads, is)
-sifted_step walk taken walked on follows later then octets answer (inr (v, rest, parts, leads, next)) =
-    inr (taken ++ v, rest, ap (λ (x : List ℕ). taken ++ x) parts ∙ sym (append_assoc taken v rest), on.leads v None leads, then v rest next)
+sifted_step walk taken walked on follows later then octets answer h9 = grind (arith, append_assoc)
 
 pub sifts_more : (walked : Walked) (leads : List ℕ → Option ReadFault → Type 0)
     → ((octets : List ℕ) (end : Option ReadFault) → WalkedLeads walked octets end → leads octets end)

@@ -41,19 +41,13 @@ pub record ItemsToWrite (s : Syntax) (all : List ElementList) (before out : List
 module _ (s : Syntax) (all : List Element) (before out : List ℕ) (i : ℕ) (left : ElementsToWrite s all before out i) where
   pub next_element : (e : Element) → i < length all → e ≡ get_or all i e
       → ElementHasLengths s e × HasLengths s (as_elements (drop (i + 1) all)) × (count_in e ≤ item_count (as_elements (drop i all)))
-  next_element e lt is =
-      let parts : drop i all ≡ e ∷ drop (i + 1) all = rw add-one (drop-cons all i e lt ∙ ap (λ (x : Element). x ∷ drop (suc i) all) (sym is)) in
-      let h = lengths-cons s e (drop (i + 1) all) (rw parts at left.lengths) in
-      (h.0, h.1, rw parts (omega (arith, count-cons e (drop (i + 1) all))))
+  next_element e lt is = grind (arith, add-one, drop-cons, lengths-cons, count-cons)
 
 module _ (s : Syntax) (all : List ElementList) (before out : List ℕ) (i : ℕ) (left : ItemsToWrite s all before out i) where
   pub next_item : (d : ElementList) → i < length all → d ≡ get_or all i d
       → (length (canonical s d) < 0xFFFFFFFF) × HasLengths s d × ItemsHaveLengths s (items_of (drop (i + 1) all))
       × (item_count d < items_count (items_of (drop i all)))
-  next_item d lt is =
-      let parts : drop i all ≡ d ∷ drop (i + 1) all = rw add-one (drop-cons all i d lt ∙ ap (λ (x : ElementList). x ∷ drop (suc i) all) (sym is)) in
-      let h = rw parts at left.lengths in
-      (h.0, h.1, h.2, rw parts (omega arith))
+  next_item d lt is = grind (arith, add-one, drop-cons)
 
   pub item_written : (d : ElementList) → i < length all → d ≡ get_or all i d
       → ItemsToWrite s all before (out ++ item_header_of (length (canonical s d)) ++ canonical s d) (i + 1)

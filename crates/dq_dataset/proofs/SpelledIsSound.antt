@@ -8,7 +8,7 @@ use Rattle.dq_dataset.proofs.Types.{Tag, Vr, BadUndefined, Syntax, Implicit, Exp
 use Rattle.dq_vr.specs.Dictionary.{known_vr}
 use Rattle.dq_vr.specs.Tag.{is_below}
 use Rattle.dq_dataset.specs.View.{items_of, with_value}
-use Rattle.dq_dataset.specs.Rules.{is_sequence, is_unknown, agrees, content_of, vr_of, padded, pad_of}
+use Rattle.dq_dataset.specs.Rules.{is_sequence, agrees, content_of, vr_of, padded, pad_of}
 use Rattle.dq_dataset.specs.Reading.{follows}
 use Rattle.dq_dataset.specs.Grammar.{IsHeader, IsPlaced, IsSpelling, Spells, no_more, more, SpellsValue, plain, nested, SpellsItems, no_item, one_item, bound_of, IsSpelled}
 use Rattle.dq_dataset.proofs.Fields.{done}
@@ -54,26 +54,16 @@ plain_none a b c m e = absurd cc
 -- octets stand after no known sequence
 plain_is_no_sequence : (known spelled : Option Vr) (extent : Option ℕ) (n : ℕ) → content_of known spelled extent ≡ Ok (Plain n) → is_sequence known ≡ false
 unfolding content_of
-plain_is_no_sequence known spelled (Some m) n e = plain_some (is_sequence spelled) (is_sequence known) m n e
-plain_is_no_sequence known spelled None n e = plain_none (is_sequence spelled) (is_sequence known) (is_none known && (is_none spelled || is_unknown spelled)) n
-    e
+plain_is_no_sequence known spelled extent n e = grind (arith, nat_tests, plain_some, plain_none)
 
 sequence_some : (a b c : Bool) (n : ℕ) (s : Syntax) (x : Option ℕ) → (b ≡ true) ⊎ ((c || not a) ≡ true)
     → cond a (done (Sequence Explicit (Some n))) (cond b (Ok (Sequence Implicit (Some n))) (Ok (Plain n))) ≡ Ok (Sequence s x) → (c || b) ≡ true
-sequence_some a true c n s x h e = or_right c true refl
-sequence_some a false true n s x h e = refl
-sequence_some true false false n s x (inl h) e = absurd cc
-sequence_some true false false n s x (inr h) e = absurd cc
-sequence_some false false false n s x h e = absurd cc
+sequence_some a b c n s x h e = grind (arith, nat_tests, or_right)
 
 sequence_none : (a b c u : Bool) (s : Syntax) (x : Option ℕ) → (b ≡ true) ⊎ ((c || not a) ≡ true)
     → cond a (done (Sequence Explicit None)) (cond b (Ok (Sequence Implicit None)) (cond (c && u) (Ok (Sequence Implicit None)) (Err BadUndefined)))
     ≡ Ok (Sequence s x) → (c || b) ≡ true
-sequence_none a true c u s x h e = or_right c true refl
-sequence_none a false true u s x h e = refl
-sequence_none true false false u s x (inl h) e = absurd cc
-sequence_none true false false u s x (inr h) e = absurd cc
-sequence_none false false false u s x h e = absurd cc
+sequence_none a b c u s x h e = grind (arith, nat_tests, or_right)
 
 agrees_means : (b u c a : Bool) → cond b u (c || not a) ≡ true → (b ≡ true) ⊎ ((c || not a) ≡ true)
 agrees_means true u c a e = inl refl
@@ -82,20 +72,14 @@ agrees_means false u c a e = inr e
 spelling_agrees : (syntax : Syntax) (known spelled : Option Vr) (extent : Option ℕ) (behind : List ℕ) → IsSpelling syntax known spelled extent behind
     → (is_sequence known ≡ true) ⊎ ((is_none known || not (is_sequence spelled)) ≡ true)
 unfolding agrees
-spelling_agrees Implicit known None extent behind h = inr (or_right (is_none known) true refl)
-spelling_agrees Implicit known (Some vr) extent behind h = absurd h
-spelling_agrees Explicit known None extent behind h = absurd h
-spelling_agrees Explicit known (Some vr) extent behind h =
-    agrees_means (is_sequence known) (is_sequence (Some vr) || is_unknown (Some vr)) (is_none known) (is_sequence (Some vr)) h.0
+spelling_agrees syntax known spelled extent behind h = grind (arith, nat_tests, or_right, agrees_means)
 
 -- items stand after a known sequence or an unknown tag
 sequence_is_allowed : (known spelled : Option Vr) (extent : Option ℕ) (s : Syntax) (x : Option ℕ) → (is_sequence known ≡ true)
     ⊎ ((is_none known || not (is_sequence spelled)) ≡ true)
     → content_of known spelled extent ≡ Ok (Sequence s x) → (is_none known || is_sequence known) ≡ true
 unfolding content_of
-sequence_is_allowed known spelled (Some n) s x h e = sequence_some (is_sequence spelled) (is_sequence known) (is_none known) n s x h e
-sequence_is_allowed known spelled None s x h e = sequence_none (is_sequence spelled) (is_sequence known) (is_none known) (is_none spelled || is_unknown spelled)
-    s x h e
+sequence_is_allowed known spelled extent s x h e = grind (arith, nat_tests, sequence_some, sequence_none)
 
 -- ---- values
 
@@ -121,10 +105,7 @@ kept_is : (b : Bool) (levels : ℕ) (last : Option Tag) (tag : Tag) (vr : Vr) (h
     → IsValue levels tag vr held
     → AreElements levels (Some tag) others → AreElements levels last (cond b others (with_value (record { tag = tag; vr = vr; value = held }) held others))
 kept_is true levels last tag vr held others e placed v rest = after_earlier levels last tag others placed.rises rest
-kept_is false levels last tag vr held others e placed v rest =
-    with_value_is levels last tag vr held others
-    (record { rises = placed.rises; no_delimiter = placed.no_delimiter; no_length = eqb-false tag.element 0 e; group = placed.group; number = placed.number }) v
-    rest
+kept_is false levels last tag vr held others e placed v rest = grind (arith, nat_tests, with_value_is, eqb-false)
 
 mutual
   pub elements_are : (bound : Bound) (syntax : Syntax) (levels : ℕ) (last : Option Tag) (octets : List ℕ) (d : ElementList)
@@ -141,11 +122,7 @@ mutual
       → SpellsValue levels vr content octets held
       → IsHeader syntax tag content header → vr ≡ vr_of (known_vr tag) content → IsValue levels tag vr held
   value_is syntax tag header vr levels content octets held (plain _ _ n _ len) is_header e =
-      record {
-        by_dictionary = e;
-        no_sequence = plain_is_no_sequence (known_vr tag) is_header.spelled is_header.extent n is_header.allowed;
-        even = even-padded vr octets;
-      }
+      grind (arith, nat_tests, plain_is_no_sequence, even-padded)
   value_is syntax tag header vr levels content octets held (nested fewer _ inner extent _ items has spells) is_header e =
       let one_less : suc fewer - 1 ≡ fewer = omega arith in (
         record {

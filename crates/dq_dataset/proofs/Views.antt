@@ -1,7 +1,7 @@
 -- The elements of the code and those of the definitions say the same.
-use Rattle.std.proofs.Common.{◌≡◌, List, [], ◌∷◌, ◌++◌, Result, Ok, Err, OnOk, OnErr, refl, sym, ap, subst, ◌∙◌}
+use Rattle.std.proofs.Common.{◌≡◌, List, [], ◌∷◌, ◌++◌, Result, Ok, Err, OnOk, OnErr, refl, sym, ap, subst, ◌∙◌, arith}
 use Rattle.dq_dataset.specs.Facts.{IsDataSet}
-use Rattle.dq_dataset.proofs.Types.{Tag, Vr, Element, Value, Octets, Items, ElementList, no_elements, element, sequence, ItemList, no_items, item}
+use Rattle.dq_dataset.proofs.Types.{Tag, Vr, Element, Value, ElementList, no_elements, element, sequence, ItemList, no_items, item}
 use Rattle.dq_dataset.specs.View.{as_elements, items_of, list_of, with_value, elements_of}
 
 pub list_of-items_of : (ds : List ElementList) → list_of (items_of ds) ≡ ds
@@ -10,9 +10,7 @@ list_of-items_of (d ∷ ds) = ap (λ (xs : List ElementList). d ∷ xs) (list_of
 
 pub elements_of-with_value : (t : Tag) (v : Vr) (x : Value) (rest : ElementList)
     → elements_of (with_value (record { tag = t; vr = v; value = x }) x rest) ≡ record { tag = t; vr = v; value = x } ∷ elements_of rest
-elements_of-with_value t v (Octets o) rest = refl
-elements_of-with_value t v (Items ds) rest = ap (λ (xs : List ElementList). record { tag = t; vr = v; value = Items xs } ∷ elements_of rest)
-    (list_of-items_of ds)
+elements_of-with_value t v x rest = grind (arith, list_of-items_of)
 
 pub elements_of-as_elements : (es : List Element) → elements_of (as_elements es) ≡ es
 elements_of-as_elements [] = refl
@@ -33,13 +31,9 @@ mutual
 pub pushed_facts : {E : Type 0} (r : Result (Unit {0}) E) (old new : List Element) (d : ElementList) (e : Element) → as_elements old ≡ d
     → IsDataSet (as_elements old)
     → IsDataSet (as_elements (elements_of d ++ e ∷ [])) → OnOk r (new ≡ old ++ e ∷ []) → OnErr r (new ≡ old) → IsDataSet (as_elements new)
-pushed_facts (Ok x) old new d e is facts next ok err =
-    let same : elements_of d ≡ old = ap elements_of (sym is) ∙ elements_of-as_elements old in
-    subst (λ (es : List Element). IsDataSet (as_elements es)) (sym (ok ∙ ap (λ (es : List Element). es ++ e ∷ []) (sym same))) next
+pushed_facts (Ok x) old new d e is facts next ok err = grind (arith, elements_of-as_elements)
 pushed_facts (Err x) old new d e is facts next ok err = subst (λ (es : List Element). IsDataSet (as_elements es)) (sym err) facts
 
 pub pushed_elements : {E : Type 0} (r : Result (Unit {0}) E) (old new : List Element) (d : ElementList) (e : Element) → as_elements old ≡ d
     → OnOk r (new ≡ old ++ e ∷ []) → OnOk r (elements_of (as_elements new) ≡ elements_of d ++ e ∷ [])
-pushed_elements (Ok x) old new d e is ok =
-    elements_of-as_elements new ∙ ok ∙ ap (λ (es : List Element). es ++ e ∷ []) (sym (ap elements_of (sym is) ∙ elements_of-as_elements old))
-pushed_elements (Err x) old new d e is ok = tt
+pushed_elements r old new d e is ok = grind (arith, elements_of-as_elements)

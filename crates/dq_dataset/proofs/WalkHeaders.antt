@@ -26,11 +26,7 @@ use Rattle.dq_dataset.proofs.WalkSteps.{come_within, come_some}
 
 no_room_by : (reach : Reach) (extent : Option ℕ) (left : ℕ) (front t beyond : List ℕ) → HasNoRoom reach extent (left - length front)
     → IsLimit reach left (front ++ t) beyond → fits extent t ≡ false
-no_room_by (Measured until) None left front t beyond over limit = absurd over
-no_room_by (Measured until) (Some n) left front t beyond over limit = lt-leb n (length t) (omega (arith, length-append front t))
-no_room_by (Within until) None left front t beyond over limit = absurd over
-no_room_by (Within until) (Some n) left front t beyond over limit = lt-leb n (length t) (omega (arith, length-append front t))
-no_room_by Endless extent left front t beyond over limit = absurd over
+no_room_by reach extent left front t beyond over limit = grind (arith, lt-leb, length-append)
 
 -- ---- ends
 

@@ -18,38 +18,26 @@ use Rattle.dq_dataset.proofs.Nesting.{nested_behind, none_is_part, comes_within,
 
 -- what came is within reach
 pub come_within : (walk : Walk) → HasCome walk → Around (reach_of walk.place) walk.left (length walk.front.items)
-come_within walk come =
-    comes_within (reach_of walk.place) walk.left come.before come.octet walk.front.items come.is come.more
-    (endless_is_none (reach_of walk.place) walk.left (reverse walk.around.items) come.nested.0)
+come_within walk come = grind (arith, comes_within, endless_is_none)
 
 pub come_some : (walk : Walk) → HasCome walk → 0 < length walk.front.items
 come_some walk come = omega (arith, ap length come.is, length-append come.before (come.octet ∷ []))
 
 full_by : (reach : Reach) (left : ℕ) → is_full reach left ≡ true → (reach ≡ Within left) ⊎ (reach ≡ Measured left)
-full_by (Measured until) left full = inr (ap (λ (n : ℕ). Measured n) (eqb-true until left full))
-full_by (Within until) left full = inl (ap (λ (n : ℕ). Within n) (eqb-true until left full))
-full_by Endless left full = absurd cc
+full_by reach left full = grind (arith, eqb-true)
 
 pub full_filled : (reach : Reach) (left : ℕ) → is_full reach left ≡ true → bound_by reach ≡ Filled → reach ≡ Measured left
-full_filled (Measured until) left full bound = ap (λ (n : ℕ). Measured n) (eqb-true until left full)
-full_filled (Within until) left full bound = absurd cc
-full_filled Endless left full bound = absurd cc
+full_filled reach left full bound = grind (arith, eqb-true)
 
 pub full_delimited : (reach : Reach) (left : ℕ) → is_full reach left ≡ true → bound_by reach ≡ Delimited → reach ≡ Within left
-full_delimited (Measured until) left full bound = absurd cc
-full_delimited (Within until) left full bound = ap (λ (n : ℕ). Within n) (eqb-true until left full)
-full_delimited Endless left full bound = absurd cc
+full_delimited reach left full bound = grind (arith, eqb-true)
 
 ne_lt : (a b : ℕ) → a ≤ b → (a ≡ b → ⊥) → a < b
 ne_lt a b le other = elim (cases_lt a b) [ inl lt ↦ lt | inr ge ↦ absurd (other (omega arith)) ]
 
 has_more_by : (reach : Reach) (left : ℕ) (front : List ℕ) → Around reach left (length front) → is_full reach (left - length front) ≡ false
     → HasMore reach left front
-has_more_by (Measured until) left front within other =
-    ne_lt _ _ (omega arith) (λ e. eqb-false until (left - length front) other (omega (arith, e)))
-has_more_by (Within until) left front within other =
-    ne_lt _ _ (omega arith) (λ e. eqb-false until (left - length front) other (omega (arith, e)))
-has_more_by Endless left front within other = tt
+has_more_by reach left front within other = grind (arith, ne_lt, eqb-false)
 
 -- nothing is left for the rest of a header
 pub waits : (walk : Walk) → HasCome walk → IsPart walk.place walk.front.items
@@ -69,31 +57,15 @@ waits walk come part full =
 
 pub waits_on : (walk : Walk) → HasCome walk → IsPart walk.place walk.front.items
     → is_full (reach_of walk.place) (walk.left - length walk.front.items) ≡ false → LeadsOn walk [] (On walk)
-waits_on walk come part other =
-    record {
-      sound = record { nested = come.nested; part = part; more = has_more_by (reach_of walk.place) walk.left walk.front.items (come_within walk come) other };
-      leads = λ octets end leads. leads;
-    }
+waits_on walk come part other = grind (arith, has_more_by, come_within)
 
 -- ---- settling
 
 lies_within : (reach : Reach) (left : ℕ) (around : List Place) → LiesIn reach left around → Around reach left 0
-lies_within (Measured until) left around lies = omega arith
-lies_within (Within until) left around lies = omega arith
-lies_within Endless left around lies = lies
+lies_within reach left around lies = grind arith
 
 pub settled_on : (walk : Walk) → IsSettling walk → is_full (reach_of walk.place) walk.left ≡ false → IsWalk walk
-settled_on walk s other =
-    let none : length walk.front.items ≡ 0 = ap length s.empty in
-    let same : walk.left ≡ walk.left - length walk.front.items = omega arith in
-    record {
-      nested = s.nested;
-      part = subst (λ (x : List ℕ). IsPart walk.place x) (sym s.empty) (none_is_part walk.place);
-      more = has_more_by (reach_of walk.place) walk.left walk.front.items
-          (subst (λ (n : ℕ). Around (reach_of walk.place) walk.left n) (sym none)
-          (lies_within (reach_of walk.place) walk.left (reverse walk.around.items) s.nested.0))
-          (subst (λ (n : ℕ). is_full (reach_of walk.place) n ≡ false) same other);
-    }
+settled_on walk s other = grind (arith, none_is_part, has_more_by, lies_within)
 
 pub settled_cut : (walk : Walk) → IsSettling walk → reach_of walk.place ≡ Within walk.left → (octets : List ℕ) (end : Option ReadFault)
     → FaultLeads Truncated 0 octets end → WalkLeads walk octets end
@@ -143,14 +115,7 @@ pub value_leads : (content : Content) (reach : Reach) (walk : Walk) (walked : Wa
     → walk.left ≡ opened_left Endless (length_of content) 0 → walk.place ≡ place_in content 16 reach → walk.around.items ≡ []
     → walk.front.items ≡ [] → LeadsOn walk [] walked → (octets : List ℕ) (end : Option ReadFault) → WalkedLeads walked octets end
     → LeadsTo (opened_left Endless (length_of content) 0) (place_in content 16 (opened_reach Endless (length_of content) 0) ∷ []) octets end
-value_leads content reach walk walked reach_is left_is place_is around_is front_is on octets end m =
-    let left = opened_left Endless (length_of content) 0 in
-    let place : walk.place ≡ place_in content 16 (opened_reach Endless (length_of content) 0) = place_is ∙ ap (λ (r : Reach). place_in content 16 r) reach_is in
-    let places : places_of walk ≡ place_in content 16 (opened_reach Endless (length_of content) 0) ∷ [] = λ i. place i ∷ reverse (around_is i) in
-    subst (λ (x : List ℕ). LeadsTo left (place_in content 16 (opened_reach Endless (length_of content) 0) ∷ []) x end)
-    (ap (λ (x : List ℕ). x ++ octets) front_is)
-    (subst (λ (ps : List Place). LeadsTo left ps (walk.front.items ++ octets) end) places
-    (subst (λ (n : ℕ). LeadsTo n (places_of walk) (walk.front.items ++ octets) end) left_is (on.leads octets end m)))
+value_leads content reach walk walked reach_is left_is place_is around_is front_is on octets end m = grind arith
 
 -- octets of a value are passed over
 pub passes : (walk next : Walk) (until : ℕ) (octets : List ℕ) (count : ℕ) → IsWalk walk → walk.place ≡ InOctets until
@@ -170,10 +135,7 @@ passes walk next until octets count is place_is le enough left_is same_place aro
 
 end_extends : (reach : Reach) (left : ℕ) (front : List ℕ) → Around reach left (length front) → (reach ≡ Within (until_of reach)) ⊎ (reach ≡ Endless)
     → Extends reach left front × ((length front ≤ left) ⊎ (left ≡ 0))
-end_extends (Measured until) left front within (inl e) = absurd cc
-end_extends (Measured until) left front within (inr e) = absurd cc
-end_extends (Within until) left front within h = (within, inl (omega arith))
-end_extends Endless left front within h = (tt, inr within)
+end_extends reach left front within h = grind arith
 
 module _ (walk : Walk) (come : HasCome walk) (has : HasEnd walk.place walk.front.items) where
   abbrev outside : List Place
@@ -190,12 +152,7 @@ module _ (walk : Walk) (come : HasCome walk) (has : HasEnd walk.place walk.front
       (until_of (reach_of walk.place)) has.reach
 
   pub ends_over : walk.around.items ≡ [] → LeadsOn walk [] Over
-  ends_over none = record {
-    sound = tt;
-    leads = λ octets end h.
-        let over : walk.left - length walk.front.items ≡ 0 = rw none at end_nested in
-        end_leads octets end (rw none (inr (omega arith, h)));
-  }
+  ends_over none = grind (arith, end_nested, end_leads)
 
   pub ends_in : (next : Walk) (around : List Place) → walk.around.items ≡ around ++ next.place ∷ [] → next.left ≡ walk.left - length walk.front.items
       → next.around.items ≡ around → next.front.items ≡ [] → Next walk [] next
@@ -225,24 +182,4 @@ pub comes : (walk next : Walk) (octets : List ℕ) (octet : ℕ) → IsWalk walk
     → next.left ≡ walk.left → next.place ≡ walk.place → next.around.items ≡ walk.around.items → next.front.items ≡ walk.front.items ++ octet ∷ []
     → HasCome next × ((walked : Walked) → LeadsOn next [] walked → LeadsOn walk (take 1 octets) walked)
 comes walk next [] octet is some at left_is place_is around_is front_is = absurd (omega arith)
-comes walk next (o ∷ octets) octet is some at left_is place_is around_is front_is =
-    let same : places_of next ≡ places_of walk = λ i. place_is i ∷ reverse (around_is i) in (
-      record {
-        before = walk.front.items;
-        octet = octet;
-        is = front_is;
-        part = subst (λ (p : Place). IsPart p walk.front.items) (sym place_is) is.part;
-        more = subst (λ (p : Place). HasMore (reach_of p) next.left walk.front.items) (sym place_is)
-            (subst (λ (n : ℕ). HasMore (reach_of walk.place) n walk.front.items) (sym left_is) is.more);
-        nested = subst (λ (ps : List Place). AreNested next.left ps) (sym same) (subst (λ (n : ℕ). AreNested n (places_of walk)) (sym left_is) is.nested);
-      },
-      λ walked l. record {
-        sound = l.sound;
-        leads = λ more end m.
-            let all : next.front.items ++ more ≡ walk.front.items ++ (o ∷ more) = ap (λ (x : List ℕ). x ++ more) front_is
-            ∙ append_assoc walk.front.items (octet ∷ []) more ∙ ap (λ (n : ℕ). walk.front.items ++ (n ∷ more)) at in
-            subst (λ (x : List ℕ). LeadsTo walk.left (places_of walk) x end) all
-            (subst (λ (ps : List Place). LeadsTo walk.left ps (next.front.items ++ more) end) same
-            (subst (λ (n : ℕ). LeadsTo n (places_of next) (next.front.items ++ more) end) left_is (l.leads more end m)));
-      },
-    )
+comes walk next (o ∷ octets) octet is some at left_is place_is around_is front_is = grind (arith, append_assoc)

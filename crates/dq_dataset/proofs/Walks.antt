@@ -17,13 +17,7 @@ use Rattle.dq_dataset.proofs.Fronts.{truncated, item_truncated}
 pub finished : (place : Place) (around : List Place) (left : ℕ) (value octets : List ℕ) (end : Option ReadFault) → Finishes place value
     → Extends (reach_of place) left value → length value ≤ left ⊎ (left ≡ 0) → LeadsTo (left - length value) around octets end
     → LeadsTo left (place ∷ around) (value ++ octets) end
-finished place around left value octets end is extends fits_in (inl (short, cut)) =
-    elim fits_in [
-      | inl le ↦ inl (omega (arith, length-append value octets), cut)
-      | inr none ↦ absurd (omega arith)
-    ]
-finished place around left value octets end is extends fits_in (inr (enough, leads)) =
-    inr (omega (arith, length-append value octets), inr (value, octets, refl, extends, is, leads))
+finished place around left value octets end is extends fits_in h9 = grind (arith, length-append)
 
 -- what fills its length is over when nothing is left of it
 pub is_empty : (place : Place) (until : ℕ) → reach_of place ≡ Measured until → Finishes place []
@@ -78,9 +72,7 @@ near Endless left front octets within enough = record { t = octets; beyond = [];
 
 short_of : (reach : Reach) (left : ℕ) (front octets : List ℕ) → Around reach left (length front) → length octets < left - length front
     → length (front ++ octets) < left
-short_of (Measured until) left front octets within short = omega (arith, length-append front octets)
-short_of (Within until) left front octets within short = omega (arith, length-append front octets)
-short_of Endless left front octets within short = absurd (omega arith)
+short_of reach left front octets within short = grind (arith, length-append)
 
 -- a fault of the front and of all that is within reach behind it
 pub failed : (place : Place) (around : List Place) (left : ℕ) (front octets : List ℕ) (fault : ReadFault) (end : Option ReadFault)
@@ -119,10 +111,7 @@ cut_off place around left missing front octets end within stops leads =
 -- what is not whole is Truncated where nothing follows
 pub stops_in_part : (place : Place) (front : List ℕ) → IsPart place front → (bound_by (reach_of place) ≡ Delimited) ⊎ (0 < length front)
     → Stops place front Truncated
-stops_in_part (InOctets n) front is (inl e) = absurd cc
-stops_in_part (InOctets n) front is (inr some) = absurd (omega (arith, ap length is))
-stops_in_part (InItems syntax levels reach) front is h = item_truncated (bound_by reach) syntax levels front h is
-stops_in_part (InElements syntax levels last reach) front is h = truncated (bound_by reach) syntax levels last front h is
+stops_in_part place front is h = grind (arith, item_truncated, truncated)
 
 nothing_near : (front t beyond : List ℕ) (until left : ℕ) → length (front ++ t) + until ≡ left → length front + until ≡ left → front ++ t ≡ front
 nothing_near front t beyond until left limit full =
@@ -132,14 +121,8 @@ nothing_near front t beyond until left limit full =
 pub part_is_cut_off : (place : Place) (around : List Place) (left missing until : ℕ) (front octets : List ℕ) (end : Option ReadFault)
     → IsPart place front → (reach_of place ≡ Within until) ⊎ ((reach_of place ≡ Measured until) × (0 < length front)) → length front + until ≡ left
     → FaultLeads Truncated missing octets end → LeadsTo left (place ∷ around) (front ++ octets) end
-part_is_cut_off place around left missing until front octets end is (inl within) full leads =
-    cut_off place around left missing front octets end (rw within (omega arith))
-    (λ t beyond limit. subst (λ (x : List ℕ). Stops place x Truncated) (sym (nothing_near front t beyond until left (rw within at limit) full))
-    (stops_in_part place front is (inl (rw within refl)))) leads
-part_is_cut_off place around left missing until front octets end is (inr (measured, some)) full leads =
-    cut_off place around left missing front octets end (rw measured (omega arith))
-    (λ t beyond limit. subst (λ (x : List ℕ). Stops place x Truncated) (sym (nothing_near front t beyond until left (rw measured at limit) full))
-    (stops_in_part place front is (inr some))) leads
+part_is_cut_off place around left missing until front octets end is h9 full leads =
+    grind (arith, cut_off, nothing_near, stops_in_part)
 
 -- with no defined length around, all that came is within reach
 unfinished_endless : (place : Place) (around : List Place) (left : ℕ) (front : List ℕ) → reach_of place ≡ Endless → left ≡ 0 → Stops place front Truncated
@@ -169,9 +152,7 @@ unfinished (InElements syntax levels last Endless) around left front lies part l
 -- what is full is closed
 pub closed : (place : Place) (around : List Place) (left until : ℕ) (octets : List ℕ) (end : Option ReadFault) → reach_of place ≡ Measured until
     → until ≡ left → LeadsTo left around octets end → LeadsTo left (place ∷ around) octets end
-closed place around left until octets end is full leads =
-    finished place around left [] octets end (is_empty place until is) (rw is (omega arith)) (inl (omega arith))
-    (let same : left ≡ left - 0 = omega arith in subst (λ (n : ℕ). LeadsTo n around octets end) same leads)
+closed place around left until octets end is full leads = grind (arith, finished, is_empty)
 
 pub popped : (old new : List Place) (place : Place) → old ≡ new ++ place ∷ [] → reverse old ≡ place ∷ reverse new
 popped old new place e = ap reverse e ∙ reverse-append new (place ∷ [])

@@ -1,5 +1,5 @@
 -- What a reader answers, beside the grammar.
-use Rattle.std.proofs.Common.{◌≡◌, ◌⊎◌, ℕ, List, Result, Ok, Err, sym, ◌∙◌, inl, inr}
+use Rattle.std.proofs.Common.{◌≡◌, ◌⊎◌, ℕ, List, Result, Ok, Err, arith}
 use Rattle.std.specs.Prelude.{IfOk, IfErr}
 use Rattle.dq_dataset.proofs.Types.{ReadFault, NoMemory, Syntax, ElementList}
 use Rattle.dq_dataset.specs.Reading.{Gives, reading}
@@ -15,12 +15,8 @@ found_is_spelled syntax octets (Err f) ok e = tt
 
 pub err_is_faulty : (syntax : Syntax) (octets : List ℕ) (r : Result ElementList ReadFault) → AreOctets octets → Gives (λ d. d) r (reading syntax octets)
     → IfErr r (λ f. (f ≡ NoMemory) ⊎ IsFaulty syntax octets f)
-err_is_faulty syntax octets (Ok d) ok e = tt
-err_is_faulty syntax octets (Err f) ok (inl memory) = inl memory
-err_is_faulty syntax octets (Err f) ok (inr e) = inr (read_is_faulty syntax octets f ok e)
+err_is_faulty syntax octets r ok e = grind (arith, read_is_faulty)
 
 pub spelled_is_given : (syntax : Syntax) (octets : List ℕ) (r : Result ElementList ReadFault) (d : ElementList) → IsSpelled syntax octets d
     → Gives (λ d. d) r (reading syntax octets) → Gives (λ d. d) r (Ok d)
-spelled_is_given syntax octets (Ok x) d spells e = sym (spelled_is_read syntax octets d spells) ∙ e
-spelled_is_given syntax octets (Err f) d spells (inl memory) = inl memory
-spelled_is_given syntax octets (Err f) d spells (inr e) = inr (sym (spelled_is_read syntax octets d spells) ∙ e)
+spelled_is_given syntax octets r d spells e = grind (arith, spelled_is_read)

@@ -60,9 +60,7 @@ own_is_no_sequence None e = refl
 own_is_no_sequence (Some vr) e = e
 
 sq_agrees : (b c : Bool) → (c || b) ≡ true → cond b true (c || false) ≡ true
-sq_agrees true c e = refl
-sq_agrees false true e = refl
-sq_agrees false false e = absurd cc
+sq_agrees b c e = grind arith
 
 agrees_sq : (known : Option Vr) → (is_none known || is_sequence known) ≡ true → agrees known SQ ≡ true
 unfolding agrees

@@ -1,11 +1,11 @@
 -- Assemblers, and the messages of PDVs that come in parts: what upper layers prove with.
-use Rattle.std.proofs.Common.{◌≡◌, ℕ, List, [], ◌++◌, Option, Some, refl, sym, ap}
+use Rattle.std.proofs.Common.{◌≡◌, ℕ, List, [], ◌++◌, Some, refl, sym, ap, arith}
 use Rattle.std.proofs.Common.{◌∙◌}
 use Rattle.std.proofs.lemmas.List.{append-nil}
 use Rattle.dq_pdu.specs.declared.pdu.Pdv.{Pdv}
 use Rattle.dq_dimse.specs.Received.{Message}
 use Rattle.dq_dimse.specs.declared.fault.DimseFault.{DimseFault}
-use Rattle.dq_dimse.specs.Assembling.{Gathered, Spent}
+use Rattle.dq_dimse.specs.Assembling.{Gathered}
 use Rattle.dq_dimse.specs.Assembling.{Gathering, gather_all, fault_in, Messages, Assembly, messages_from, assembly_from, new_assembly}
 use Rattle.dq_dimse.specs.Assembling.{messages, followed_by, spent_by, AssemblerAfter}
 use Rattle.dq_dimse.proofs.Gatherings.{gather_all-append, fault_stays, spent_is}
@@ -47,16 +47,9 @@ messages_from-spent a pdvs fault e =
 
 pub assembly_from-spent : (a : Assembly) (pdvs : List Pdv) (fault : DimseFault) → spent_by a ≡ Some fault → assembly_from a pdvs ≡ a
 unfolding assembly_from
-assembly_from-spent a pdvs fault e =
-    let is = spent_is a.gathered fault e in
-    let stays : (gather_all a.ids a.gathered pdvs).gathered ≡ Spent fault = ap (λ (g : Gathered). (gather_all a.ids g pdvs).gathered) is
-    ∙ ap (λ (g : Gathering). g.gathered) (fault_stays a.ids fault pdvs) in
-    ap (λ (g : Gathered). record { ids = a.ids; gathered = g }) (stays ∙ sym is)
+assembly_from-spent a pdvs fault e = grind (arith, spent_is, fault_stays)
 
 -- ---- an assembler that was given PDVs
-
-pub assembler_new : (ids : List ℕ) → AssemblerAfter ids [] (new_assembly ids)
-assembler_new ids = record { stands = sym (assembly_from-nil (new_assembly ids)) }
 
 pub assembler_on : (ids : List ℕ) (xs ys : List Pdv) (a : Assembly) → AssemblerAfter ids xs a → AssemblerAfter ids (xs ++ ys) (assembly_from a ys)
 assembler_on ids xs ys a h = record { stands = ap (λ (b : Assembly). assembly_from b ys) h.stands ∙ sym (assembly_from-append (new_assembly ids) xs ys) }
@@ -80,9 +73,4 @@ messages_add ids xs ys =
     ((messages_from (assembly_from a xs) ys).list, ap (λ (m : Messages). m.list) (messages_from-append a xs ys))
 
 pub messages_stay : (ids : List ℕ) (xs ys : List Pdv) (fault : DimseFault) → (messages ids xs).fault ≡ Some fault → messages ids (xs ++ ys) ≡ messages ids xs
-messages_stay ids xs ys fault e =
-    let a = new_assembly ids in
-    let spent = sym (messages_from-fault a xs) ∙ e in
-    messages_from-append a xs ys ∙ ap (followed_by (messages ids xs).list) (messages_from-spent (assembly_from a xs) ys fault spent)
-    ∙ ap (λ (list : List Message). record { list = list; fault = Some fault }) (append-nil (messages ids xs).list)
-    ∙ ap (λ (f : Option DimseFault). record { list = (messages ids xs).list; fault = f }) (sym e)
+messages_stay ids xs ys fault e = grind (arith, messages_from-fault, messages_from-append, messages_from-spent, append-nil)

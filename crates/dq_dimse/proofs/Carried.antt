@@ -20,7 +20,7 @@ use Rattle.dq_dimse.specs.Messages.{command_limit, joined, AreFragments, AreAllF
 use Rattle.dq_dimse.specs.Assembling.{messages}
 use Rattle.dq_dimse.specs.Sending.{IsLimit, fragment_size, fragments, AreSized, pdus_of, command_set, cut, sent}
 use Rattle.dq_dimse.specs.Carrying.{CarriesData, Carries, pdu_with, IsDataOf}
-use Rattle.dq_dimse.proofs.Runs.{IsOf, no_fragments}
+use Rattle.dq_dimse.proofs.Runs.{no_fragments}
 use Rattle.dq_dimse.proofs.Fragments.{fragments_join, fragments_sized}
 use Rattle.dq_dimse.proofs.Cuts.{has_room}
 use Rattle.dq_dimse.proofs.Uniqueness.{only_messages}
@@ -47,13 +47,7 @@ all_cons P pdv run p h = All-append P (pdv ∷ []) run (All-from_recursion P (pd
 
 fragment_before : (context : ℕ) (command : Bool) (octets : List ℕ) (run : List Pdv) → AreFragments context command run
     → AreFragments context command (pdv_of context command false octets ∷ run)
-fragment_before context command octets run f =
-    let first = pdv_of context command false octets in
-    record {
-      context_is = all_cons (IsOf context) first run refl f.context_is;
-      kind_is = all_cons (λ (x : Pdv). x.command ≡ command) first run refl f.kind_is;
-      unfinished = all_cons (λ (x : Pdv). x.last ≡ false) first run refl f.unfinished;
-    }
+fragment_before context command octets run f = grind (arith, nat_tests, all_cons)
 
 pdvs_of-fragments : (context : ℕ) (command : Bool) (size : ℕ) (run : List (List ℕ)) → AreSized size run
     → AreAllFragments context command (pdvs_of context command run)

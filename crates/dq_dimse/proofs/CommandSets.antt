@@ -1,6 +1,6 @@
 -- What is read of octets is the data set that they spell.
-use Rattle.std.proofs.Common.{◌≡◌, Bool, List, ℕ, Some, Result, Ok, Err, refl, sym, ap, subst, ◌∙◌}
-use Rattle.std.specs.Prelude.{not, ◌==◌, nat_lt}
+use Rattle.std.proofs.Common.{◌≡◌, List, ℕ, Some, Result, Ok, Err, refl, ap, subst, ◌∙◌, arith}
+use Rattle.std.specs.Prelude.{nat_lt}
 use Rattle.std.proofs.lemmas.Bool.{ltb-true, lt-ltb}
 use Rattle.std.specs.List.{list_all}
 use Rattle.dq_dataset.specs.declared.fault.ReadFault.{ReadFault}
@@ -13,8 +13,8 @@ use Rattle.dq_dataset.specs.Grammar.{AreOctets, IsSpelled}
 use Rattle.dq_list.specs.Readers.{◌>>=◌, provided}
 use Rattle.dq_list.proofs.Readers.{bind_some, provided_some}
 use Rattle.dq_dimse.specs.declared.command.Command.{Command}
-use Rattle.dq_dimse.specs.Commands.{belongs, number_of, identifier_of, id_number, class_number, instance_number, command_from, read_set, command_of}
-use Rattle.dq_dimse.specs.CommandElements.{command_field, command_data_set_type, no_data_set}
+use Rattle.dq_dimse.specs.Commands.{belongs, number_of, id_number, command_from, read_set, command_of}
+use Rattle.dq_dimse.specs.CommandElements.{command_field, command_data_set_type}
 use Rattle.dq_dimse.specs.CommandFields.{response_bit}
 use Rattle.dq_dimse.specs.CommandSets.{SaysCommand, IsCommandSet}
 
@@ -45,18 +45,7 @@ says_command set command e =
 
 pub command_said : (set : ElementList) (command : Command) → SaysCommand set command → command_from set ≡ Some command
 unfolding command_from
-command_said set command h =
-    let made : Bool → List ℕ → List ℕ → ℕ → Command =
-    λ with_data sop_class sop_instance status.
-    record { code = command.code; id = command.id; sop_class = sop_class; sop_instance = sop_instance; with_data = with_data; status = status } in
-    let read : command_from set ≡ Some (made (not (h.data_set_type == no_data_set)) (identifier_of (class_number command.code) set)
-    (identifier_of (instance_number command.code) set) 0) =
-    rw (h.code, h.type_is, h.id, lt-ltb command.code response_bit h.is_request) refl in
-    read
-    ∙ ap (λ (b : Bool). Some (made b (identifier_of (class_number command.code) set) (identifier_of (instance_number command.code) set) 0)) (sym h.with_data)
-    ∙ ap (λ (o : List ℕ). Some (made command.with_data o (identifier_of (instance_number command.code) set) 0)) h.sop_class
-    ∙ ap (λ (o : List ℕ). Some (made command.with_data command.sop_class o 0)) h.sop_instance
-    ∙ ap (λ (n : ℕ). Some (made command.with_data command.sop_class command.sop_instance n)) (sym h.no_status)
+command_said set command h = grind (arith, lt-ltb)
 
 -- ---- the octets
 

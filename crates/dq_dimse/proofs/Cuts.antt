@@ -5,8 +5,7 @@ use Rattle.std.specs.List.{flat_map}
 use Rattle.std.proofs.lemmas.Bool.{le-leb, lt-leb}
 use Rattle.std.proofs.lemmas.Bool.Decides.{nat_tests}
 use Rattle.std.proofs.lemmas.List.{append-nil}
-use Rattle.dq_pdu.specs.declared.pdu.Pdv.{Pdv}
-use Rattle.dq_pdu.specs.Writing.{pdv, body, spelling, is_writable, p_data}
+use Rattle.dq_pdu.specs.Writing.{body, spelling, is_writable, p_data}
 use Rattle.dq_dimse.specs.Sending.{IsLimit, pdu_limit, fragment_size, fragments_within, pdus_of}
 use Rattle.dq_dimse.proofs.Fragments.{one_fragment}
 
@@ -14,10 +13,7 @@ abbrev pub pdus_within : ℕ → Bool → ℕ → ℕ → List ℕ → List ℕ
 pdus_within context command fuel size octets = flat_map spelling (pdus_of context command (fragments_within fuel size octets))
 
 pdu_length : (context : ℕ) (command last : Bool) (octets : List ℕ) → length (body (p_data context command last octets)) ≡ length octets + 6
-pdu_length context command last octets =
-    let value : Pdv = record { context = context; command = command; last = last; octets = octets } in
-    let long : length (pdv value) ≡ length octets + 6 = omega arith in
-    ap length (append-nil (pdv value)) ∙ long
+pdu_length context command last octets = grind (arith, nat_tests, append-nil)
 
 pub has_room : (limit : ℕ) → IsLimit limit → (fragment_size limit + 6 ≤ pdu_limit limit) × (pdu_limit limit ≤ 16384)
 has_room limit h = grind (arith, nat_tests)
@@ -72,7 +68,4 @@ goes_on context command size written rest total some long c = one_more context c
 
 pub ends : (context : ℕ) (command : Bool) (size : ℕ) (written rest total : List ℕ) → length rest ≤ size → Cuts context command size written rest total
     → written ++ spelling (p_data context command true rest) ≡ total
-ends context command size written rest total le c =
-    let e : pdus_within context command c.fuel size rest ≡ spelling (p_data context command true rest) ++ [] =
-    ap (λ (fs : List (List ℕ)). flat_map spelling (pdus_of context command fs)) (one_fragment c.fuel size rest le) in
-    ap (λ (xs : List ℕ). written ++ xs) (sym (append-nil _) ∙ sym e) ∙ c.whole
+ends context command size written rest total le c = grind (arith, nat_tests, one_fragment, append-nil)

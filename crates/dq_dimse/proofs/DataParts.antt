@@ -48,8 +48,4 @@ abbrev message_of : ℕ → Command → List ℕ → Bool → Message
 message_of context command octets over = record { context = context; command = command; octets = octets; over = over }
 
 pub message_only : (m n : Message) (octets : List ℕ) → m.context ≡ n.context → m.command ≡ n.command → HasOctets m octets → HasOctets n octets → m ≡ n
-message_only m n octets c k g h =
-    let over = over_only m n octets k g h in
-    let same : m.octets ≡ n.octets = g.octets_are ∙ ap (λ (b : Bool). cond b [] octets) over ∙ sym h.octets_are in
-    ap (λ (x : ℕ). message_of x m.command m.octets m.over) c ∙ ap (λ (x : Command). message_of n.context x m.octets m.over) k
-    ∙ ap (λ (x : List ℕ). message_of n.context n.command x m.over) same ∙ ap (λ (x : Bool). message_of n.context n.command n.octets x) over
+message_only m n octets c k g h = grind (arith, over_only)

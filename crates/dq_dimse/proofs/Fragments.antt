@@ -1,10 +1,9 @@
 -- Fragments of a size.
-use Rattle.std.proofs.Common.{◌≡◌, ℕ, zero, suc, ◌+◌, ◌<◌, ◌≤◌, Bool, true, false, cond, leb, List, [], ◌∷◌, ◌++◌, length, take, drop, refl, sym, ap, ◌∙◌}
+use Rattle.std.proofs.Common.{◌≡◌, ℕ, zero, suc, ◌+◌, ◌<◌, ◌≤◌, Bool, true, false, cond, List, [], ◌∷◌, length, take, drop, refl, sym, ap, ◌∙◌}
 use Rattle.std.proofs.Common.{arith, length-drop, length-take, length-append}
 use Rattle.std.specs.List.{flat_map}
 use Rattle.std.proofs.lemmas.Bool.{le-leb, lt-leb, cases_lt}
 use Rattle.std.proofs.lemmas.List.{append-nil, take-append-drop, take_at, drop_at}
-use Rattle.std.proofs.Common.{inl, inr}
 use Rattle.dq_dimse.specs.Sending.{fragments_within, AreSized, AreFragmentsOf}
 
 abbrev pub together : List (List ℕ) → List ℕ
@@ -21,11 +20,15 @@ more_fragments fuel size octets lt = rw (lt-leb _ _ lt) refl
 pub fragments_join : (fuel size : ℕ) (octets : List ℕ) → together (fragments_within fuel size octets) ≡ octets
 fragments_join zero size octets = append-nil octets
 fragments_join (suc fuel) size octets =
-    elim (cases_lt size (length octets)) [
-      | inl lt ↦ ap together (more_fragments fuel size octets lt) ∙ ap (λ (xs : List ℕ). take size octets ++ xs) (fragments_join fuel size (drop size octets))
-          ∙ take-append-drop size octets
-      | inr le ↦ ap together (one_fragment (suc fuel) size octets le) ∙ append-nil octets
-    ]
+    grind (
+      arith,
+      cases_lt,
+      more_fragments,
+      take-append-drop,
+      one_fragment,
+      append-nil,
+      fragments_join fuel size (drop size octets),
+    )
 
 -- a fragment before others
 sized_cases : (size : ℕ) (f : List ℕ) (b : Bool) (x y : List ℕ) (ys : List (List ℕ)) → length f ≡ size → 0 < length x → 0 < length y
@@ -36,31 +39,27 @@ sized_cases size f false x y ys e p q h = (e, q, h)
 sized_before : (size : ℕ) (f : List ℕ) (fuel : ℕ) (octets : List ℕ) → length f ≡ size → 0 < length octets → 0 < size
     → AreSized size (fragments_within fuel size octets) → AreSized size (f ∷ fragments_within fuel size octets)
 sized_before size f zero octets e some pos h = (e, some, h)
-sized_before size f (suc fuel) octets e some pos h =
-    sized_cases size f (leb (length octets) size) octets (take size octets) (fragments_within fuel size (drop size octets)) e some
-    (omega (arith, length-take size octets)) h
+sized_before size f (suc fuel) octets e some pos h = grind (arith, sized_cases, length-take)
 
 pub fragments_sized : (fuel size : ℕ) (octets : List ℕ) → 0 < size → length octets ≤ fuel → AreSized size (fragments_within fuel size octets)
 fragments_sized zero size octets some enough = omega arith
 fragments_sized (suc fuel) size octets some enough =
-    elim (cases_lt size (length octets)) [
-      | inl lt ↦ rw (more_fragments fuel size octets lt) (sized_before size (take size octets) fuel (drop size octets)
-          (omega (arith, length-take size octets)) (omega (arith, length-drop size octets)) some
-          (fragments_sized fuel size (drop size octets) some (omega (arith, length-drop size octets))))
-      | inr le ↦ rw (one_fragment (suc fuel) size octets le) le
-    ]
+    grind (
+      arith,
+      cases_lt,
+      more_fragments,
+      sized_before,
+      length-take,
+      length-drop,
+      one_fragment,
+      fragments_sized fuel size (drop size octets) some (omega (arith, length-drop size octets)),
+    )
 
 only_within : (fuel size : ℕ) (octets : List ℕ) (run : List (List ℕ)) → 0 < size → length octets ≤ fuel → together run ≡ octets → AreSized size run
     → run ≡ fragments_within fuel size octets
 only_within fuel size octets [] some enough e h = absurd h
-only_within fuel size octets (f ∷ []) some enough e h =
-    let same : f ≡ octets = sym (append-nil f) ∙ e in
-    let le : length octets ≤ size = rw (← same) h in
-    ap (λ (x : List ℕ). x ∷ []) same ∙ sym (one_fragment fuel size octets le)
-only_within zero size octets (f ∷ g ∷ run) some enough e h =
-    let n : length f + length (together (g ∷ run)) ≡ length octets = sym (length-append f (together (g ∷ run))) ∙ ap length e in
-    let k = h.0 in
-    absurd (omega arith)
+only_within fuel size octets (f ∷ []) some enough e h = grind (arith, append-nil, one_fragment)
+only_within zero size octets (f ∷ g ∷ run) some enough e h = grind (arith, length-append)
 only_within (suc fuel) size octets (f ∷ g ∷ run) some enough e h =
     let n : length f + length (together (g ∷ run)) ≡ length octets = sym (length-append f (together (g ∷ run))) ∙ ap length e in
     let m : length (together (g ∷ run)) ≡ length g + length (together run) = length-append g (together run) in

@@ -15,8 +15,8 @@ use Rattle.dq_dimse.specs.declared.fault.DimseFault.TheVariants.{WrongContext, W
 use Rattle.dq_dimse.specs.Assembling.{Gathered, Nothing, CommandPart, DataPart, Spent, stops_at, gathers, completes, command_completed, command_gathered, after_command, with_fragment, begun_with, gather, gather_all, new_assembly, assembly_from}
 use Rattle.dq_dimse.specs.CommandFields.{c_store}
 use Rattle.dq_dimse.specs.Commands.{command_of}
-use Rattle.dq_dimse.specs.Holding.{Holding, HasGathered, PartStandsFor, WasGiven, ids_of, octets_of_part, octets_gathered, gathered_limit, SiftsWithin}
-use Rattle.dq_dimse.specs.Messages.{store_limit, other_limit, data_limit}
+use Rattle.dq_dimse.specs.Holding.{Holding, HasGathered, PartStandsFor, WasGiven, octets_of_part, octets_gathered, gathered_limit, SiftsWithin}
+use Rattle.dq_dimse.specs.Messages.{store_limit, other_limit}
 use Rattle.dq_dimse.specs.Received.{Message}
 
 -- ---- a command set
@@ -96,10 +96,7 @@ stored_limit false = omega arith
 
 part_sifted : (syntax : Syntax) (held : Part) (m : Message) → PartStandsFor syntax held m → SiftsWithin syntax held store_limit
 part_sifted syntax (part.Octets octets) m h = tt
-part_sifted syntax (part.Sifting sieve room) m h =
-    let room_is : room + length m.octets ≡ data_limit m.command = h.2 in
-    let most : data_limit m.command ≤ store_limit = stored_limit (m.command.code == c_store) in
-    (m.octets, h.3, omega (arith, room_is, most))
+part_sifted syntax (part.Sifting sieve room) m h = grind (arith, stored_limit)
 part_sifted syntax part.Over m h = tt
 
 -- ---- what is gathered
@@ -113,9 +110,7 @@ gathered_within accepted (held.Spent fault) g short has = omega arith
 
 pub held_within : (accepted : List Accepted) (pdvs : List Pdv) (holding : Holding) → WasGiven accepted pdvs holding
     → length (octets_gathered holding.gathered) ≤ gathered_limit holding.gathered
-held_within accepted pdvs holding given =
-    gathered_within holding.accepted holding.gathered (assembly_from (new_assembly (ids_of accepted)) pdvs).gathered
-    (given_short (ids_of accepted) pdvs) given.stands.gathered
+held_within accepted pdvs holding given = grind (arith, gathered_within, given_short)
 
 begun_sifted : (accepted : List Accepted) (begun : Begun) (g : Gathered) → HasGathered accepted (held.DataPart begun) g
     → SiftsWithin begun.context.syntax begun.data_set store_limit
@@ -123,6 +118,4 @@ begun_sifted accepted begun g has = part_sifted begun.context.syntax begun.data_
 
 pub sifted_within : (accepted : List Accepted) (pdvs : List Pdv) (holding : Holding) (begun : Begun) → WasGiven accepted pdvs holding
     → holding.gathered ≡ held.DataPart begun → SiftsWithin begun.context.syntax begun.data_set store_limit
-sifted_within accepted pdvs holding begun given e =
-    let g = (assembly_from (new_assembly (ids_of accepted)) pdvs).gathered in
-    begun_sifted holding.accepted begun g (subst (λ (h : HeldGathered). HasGathered holding.accepted h g) e given.stands.gathered)
+sifted_within accepted pdvs holding begun given e = grind (arith, begun_sifted)

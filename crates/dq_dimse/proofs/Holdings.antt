@@ -1,5 +1,5 @@
 -- What an assembler holds, as one PDV after the other comes.
-use Rattle.std.proofs.Common.{◌≡◌, ◌≤◌, ℕ, ◌==◌, Bool, true, false, cond, ltb, eqb, List, [], ◌∷◌, ◌++◌}
+use Rattle.std.proofs.Common.{◌≡◌, ◌≤◌, ℕ, ◌==◌, Bool, true, false, cond, eqb, List, [], ◌∷◌, ◌++◌}
 use Rattle.std.proofs.Common.{length, Option, Some, None, Result, Ok, Err, OnOk, refl, sym, ap, subst, ◌∙◌, ◌⊎◌, inl, inr, arith}
 use Rattle.std.specs.Prelude.{◌||◌, ◌&&◌, not, is_some}
 use Rattle.std.proofs.Math.Bool.{and-false}
@@ -15,11 +15,10 @@ use Rattle.dq_dimse.specs.declared.assembler.Part.{Part}
 use Rattle.dq_dimse.specs.declared.assembler.Part.TheVariants as part
 use Rattle.dq_dimse.specs.declared.command.Body.{Body}
 use Rattle.dq_dimse.specs.declared.command.Body.TheVariants as body
-use Rattle.dq_dimse.specs.declared.command.Command.{Command}
 use Rattle.dq_dimse.specs.declared.command.Message.{Message as HeldMessage}
 use Rattle.dq_dimse.specs.declared.fault.DimseFault.{DimseFault}
 use Rattle.dq_dimse.specs.declared.fault.DimseFault.TheVariants.{WrongContext}
-use Rattle.dq_dimse.specs.Assembling.{Gathered, Nothing, Gathering, stops_at, after_command, IsKept, IsKeptCommand, Assembly, with_fragment}
+use Rattle.dq_dimse.specs.Assembling.{Gathered, Nothing, stops_at, after_command, IsKept, IsKeptCommand, Assembly, with_fragment}
 use Rattle.dq_dimse.specs.Assembling.{gather, fault_in, messages, messages_from, assembly_from, new_assembly, followed_by, spent_by}
 use Rattle.dq_dimse.specs.Holding.{BodyStandsFor, StandsFor, StandForAll, is_sifted, is_stored, octets_held, plain_message, PartStandsFor}
 use Rattle.dq_dimse.specs.Holding.{HasGathered, Holding, Assembles, WasGiven, Makes, Adds, accepted_with, fault_held, ids_of, spent_with}
@@ -45,10 +44,7 @@ abbrev grown : Message → List ℕ → Bool → Message
 grown m fragment over = record { context = m.context; command = m.command; octets = cond over [] (m.octets ++ fragment); over = over }
 
 with_room : (m : Message) (fragment : List ℕ) → m.over ≡ false → length (m.octets ++ fragment) ≤ data_limit m.command → with_fragment m fragment ≡ grown m fragment false
-with_room m fragment e short =
-    let long = ltb (data_limit m.command) (length (m.octets ++ fragment)) in
-    ap (λ (over : Bool). grown m fragment over)
-    (ap (λ (b : Bool). b || long) e ∙ le-ltb (data_limit m.command) (length (m.octets ++ fragment)) short)
+with_room m fragment e short = grind (arith, le-ltb)
 
 pub part_fed : (syntax : Syntax) (next : Part) (m : Message) (fragment : List ℕ) → m.over ≡ false
     → length (m.octets ++ fragment) ≤ data_limit m.command → PartStandsFor syntax next (grown m fragment false)
@@ -62,9 +58,7 @@ is_with id context = context.id == id
 
 has_id : (id : ℕ) (x : Accepted) (found : Option Accepted) (context : Accepted) (same : Bool) → is_with id x ≡ same → (found ≡ Some context → context.id ≡ id)
     → cond same (Some x) found ≡ Some context → context.id ≡ id
-has_id id x found context true e later f =
-    let it : x ≡ context = cc in
-    ap (λ (c : Accepted). c.id) (sym it) ∙ eqb-true x.id id e
+has_id id x found context true e later f = grind (arith, eqb-true)
 has_id id x found context false e later f = later f
 
 pub id_is : (id : ℕ) (accepted : List Accepted) (context : Accepted) → accepted_with id accepted ≡ Some context → context.id ≡ id
@@ -97,26 +91,19 @@ gather_known ids pdv e = ap (λ (b : Bool). cond b (after_command pdv.context []
 
 pub nothing_unknown : (accepted : List Accepted) (h : HeldGathered) (g : Gathered) (pdv : Pdv) → h ≡ held.Nothing → HasGathered accepted h g
     → accepted_with pdv.context accepted ≡ None → gather (ids_of accepted) g pdv ≡ stops_at WrongContext
-nothing_unknown accepted h g pdv e has none =
-    ap (λ (x : Gathered). gather (ids_of accepted) x pdv) (nothing_is accepted h g e has)
-    ∙ gather_unknown (ids_of accepted) pdv (among_is pdv.context accepted ∙ ap is_some none)
+nothing_unknown accepted h g pdv e has none = grind (arith, nothing_is, gather_unknown, among_is)
 
 pub nothing_known : (accepted : List Accepted) (h : HeldGathered) (g : Gathered) (pdv : Pdv) (context : Accepted)
     (result : Result (Option HeldMessage × HeldGathered) DimseFault) (octets : List ℕ) → h ≡ held.Nothing → HasGathered accepted h g
     → accepted_with pdv.context accepted ≡ Some context → octets ≡ [] → Makes accepted result (after_command context.id octets pdv)
     → Makes accepted result (gather (ids_of accepted) g pdv)
 nothing_known accepted h g pdv context result octets e has found none made =
-    let is = ap (λ (x : Gathered). gather (ids_of accepted) x pdv) (nothing_is accepted h g e has)
-    ∙ gather_known (ids_of accepted) pdv (among_is pdv.context accepted ∙ ap is_some found) in
-    subst (Makes accepted result) (ap (λ (id : ℕ). after_command id octets pdv) (id_is pdv.context accepted context found)
-    ∙ ap (λ (xs : List ℕ). after_command pdv.context xs pdv) none ∙ sym is) made
+    grind (arith, nothing_is, gather_known, among_is, id_is)
 
 pub nothing_kept : (accepted : List Accepted) (h : HeldGathered) (g : Gathered) (pdv : Pdv) (context : Accepted) (octets : List ℕ) → h ≡ held.Nothing
     → HasGathered accepted h g → accepted_with pdv.context accepted ≡ Some context → octets ≡ [] → IsKeptCommand octets pdv
     → IsKept (ids_of accepted) g pdv
-nothing_kept accepted h g pdv context octets e has found none kept =
-    subst (λ (x : Gathered). IsKept (ids_of accepted) x pdv) (sym (nothing_is accepted h g e has))
-    (among_is pdv.context accepted ∙ ap is_some found, subst (λ (xs : List ℕ). IsKeptCommand xs pdv) none kept)
+nothing_kept accepted h g pdv context octets e has found none kept = grind (arith, nothing_is, among_is)
 
 -- ---- one PDV
 
@@ -132,13 +119,7 @@ assembles_fault holding a h = fault_same holding.accepted holding.gathered a.gat
 pub one_adds : (accepted : List Accepted) (a : Assembly) (pdv : Pdv) (message : Option HeldMessage) (after : HeldGathered) → fault_held after ≡ None
     → Makes accepted (Ok (message, after)) (gather a.ids a.gathered pdv) → Adds accepted (Ok message) [] (messages_from a (pdv ∷ []))
 unfolding messages_from
-one_adds accepted a pdv message after unspent made =
-    let now = gather a.ids a.gathered pdv in (
-      now.list,
-      made.0,
-      ap read_off (gather_one a.ids a.gathered pdv)
-          ∙ ap (λ (f : Option DimseFault). record { list = now.list; fault = f }) (fault_same accepted after now.gathered made.1 ∙ unspent),
-    )
+one_adds accepted a pdv message after unspent made = grind (arith, read_off, gather_one, fault_same)
 
 pub one_fails : (accepted : List Accepted) (a : Assembly) (pdv : Pdv) (fault : DimseFault)
     → Makes accepted (Err fault) (gather a.ids a.gathered pdv) → Adds accepted (Err fault) [] (messages_from a (pdv ∷ []))
@@ -150,20 +131,12 @@ pub step_made : (old : Holding) (slice : List Accepted) (before : HeldGathered) 
     (result : Result (Option HeldMessage × HeldGathered) DimseFault) → slice ≡ old.accepted → before ≡ old.gathered → Assembles old a
     → ((g : Gathered) → HasGathered slice before g → Makes slice result (gather (ids_of slice) g pdv))
     → Makes old.accepted result (gather a.ids a.gathered pdv)
-step_made old slice before a pdv result e f h made =
-    let has = subst (λ (xs : List Accepted). HasGathered xs before a.gathered) (sym e)
-    (subst (λ (b : HeldGathered). HasGathered old.accepted b a.gathered) (sym f) h.gathered) in
-    subst (λ (ids : List ℕ). Makes old.accepted result (gather ids a.gathered pdv)) (sym h.ids)
-    (subst (λ (xs : List Accepted). Makes xs result (gather (ids_of xs) a.gathered pdv)) e (made a.gathered has))
+step_made old slice before a pdv result e f h made = grind arith
 
 pub one_next : (old new : Holding) (a : Assembly) (pdv : Pdv) → Assembles old a → new.accepted ≡ old.accepted
     → HasGathered old.accepted new.gathered (gather a.ids a.gathered pdv).gathered → Assembles new (assembly_from a (pdv ∷ []))
 unfolding assembly_from
-one_next old new a pdv h e made = record {
-  ids = h.ids ∙ ap ids_of (sym e);
-  gathered = subst (HasGathered new.accepted new.gathered) (sym (ap (λ (g : Gathering). g.gathered) (gather_one a.ids a.gathered pdv)))
-      (subst (λ (xs : List Accepted). HasGathered xs new.gathered (gather a.ids a.gathered pdv).gathered) (sym e) made);
-}
+one_next old new a pdv h e made = grind (arith, gather_one)
 
 -- ---- one PDV after others
 
@@ -173,10 +146,7 @@ one_more_adds : (accepted : List Accepted) (pdvs : List Pdv) (pdv : Pdv) (result
 one_more_adds accepted pdvs pdv (Ok message) h =
     (h.0, h.1, messages_from-append (new_assembly (ids_of accepted)) pdvs (pdv ∷ []) ∙ ap (followed_by (messages (ids_of accepted) pdvs).list) h.2)
 one_more_adds accepted pdvs pdv (Err fault) (inl e) = inl e
-one_more_adds accepted pdvs pdv (Err fault) (inr e) =
-    let before = (messages (ids_of accepted) pdvs).list in
-    inr (messages_from-append (new_assembly (ids_of accepted)) pdvs (pdv ∷ []) ∙ ap (followed_by before) e
-    ∙ ap (λ (list : List Message). record { list = list; fault = Some fault }) (append-nil before))
+one_more_adds accepted pdvs pdv (Err fault) (inr e) = grind (arith, messages_from-append, append-nil)
 
 abbrev AddsOne : Holding → Pdv → Result (Option HeldMessage) DimseFault → Type 0
 AddsOne old pdv result = (a : Assembly) → Assembles old a → Adds old.accepted result [] (messages_from a (pdv ∷ []))
@@ -184,31 +154,20 @@ AddsOne old pdv result = (a : Assembly) → Assembles old a → Adds old.accepte
 pub more_adds : (accepted : List Accepted) (pdvs : List Pdv) (pdv : Pdv) (old : Holding) (result : Result (Option HeldMessage) DimseFault)
     → WasGiven accepted pdvs old → AddsOne old pdv result
     → Adds accepted result (messages (ids_of accepted) pdvs).list (messages (ids_of accepted) (pdvs ++ pdv ∷ []))
-more_adds accepted pdvs pdv old result h adds =
-    let before = assembly_from (new_assembly (ids_of accepted)) pdvs in
-    one_more_adds accepted pdvs pdv result
-    (subst (λ (xs : List Accepted). Adds xs result [] (messages_from before (pdv ∷ []))) h.accepted_are (adds before h.stands))
+more_adds accepted pdvs pdv old result h adds = grind (arith, one_more_adds)
 
 pub more_stands : (accepted : List Accepted) (pdvs : List Pdv) (pdv : Pdv) (old new : Holding) (result : Result (Option HeldMessage) DimseFault)
     → WasGiven accepted pdvs old → new.accepted ≡ old.accepted
     → ((a : Assembly) → Assembles old a → OnOk result (Assembles new (assembly_from a (pdv ∷ []))))
     → OnOk result (WasGiven accepted (pdvs ++ pdv ∷ []) new)
-more_stands accepted pdvs pdv old new (Ok message) h e next = record {
-  accepted_are = e ∙ h.accepted_are;
-  stands = subst (Assembles new) (sym (assembly_from-append (new_assembly (ids_of accepted)) pdvs (pdv ∷ [])))
-      (next (assembly_from (new_assembly (ids_of accepted)) pdvs) h.stands);
-}
+more_stands accepted pdvs pdv old new (Ok message) h e next = grind (arith, assembly_from-append)
 more_stands accepted pdvs pdv old new (Err fault) h e next = tt
 
 -- ---- messages whose octets are held
 
 with_octets : (held : HeldMessage) (m : Message) (octets : List ℕ) → held.context ≡ m.context → held.command ≡ m.command → held.over ≡ m.over
     → octets ≡ m.octets → record { context = held.context; command = held.command; octets = octets; over = held.over } ≡ m
-with_octets held m octets c k o e =
-    ap (λ (x : ℕ). record { context = x; command = held.command; octets = octets; over = held.over }) c
-    ∙ ap (λ (x : Command). record { context = m.context; command = x; octets = octets; over = held.over }) k
-    ∙ ap (λ (x : List ℕ). record { context = m.context; command = m.command; octets = x; over = held.over }) e
-    ∙ ap (λ (x : Bool). record { context = m.context; command = m.command; octets = m.octets; over = x }) o
+with_octets held m octets c k o e = grind arith
 
 octets_are : (syntax : Syntax) (body : Body) (octets : List ℕ) → is_sifted body ≡ false → BodyStandsFor syntax body octets → octets_held body ≡ octets
 octets_are syntax (body.Octets held) octets e h = h

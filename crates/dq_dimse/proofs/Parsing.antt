@@ -62,12 +62,7 @@ is_fault ids context front pdv fault a h = record { fault = fault; made_is = ref
 is_command : (ids : List ℕ) (context : ℕ) (front : List Pdv) (pdv : Pdv) (command : Command) → InPlace ids context front pdv → pdv.command ≡ true
     → length (joined (front ++ pdv ∷ [])) ≤ command_limit → pdv.last ≡ true
     → command_of (joined (front ++ pdv ∷ [])) ≡ Some command → IsCommand ids context (front ++ pdv ∷ []) command
-is_command ids context front pdv command p kind short finished e = record {
-  accepted = p.awaits.accepted;
-  fragments = last_fragment context true front pdv p.awaits.fragments p.context_is kind finished;
-  short = short;
-  command_is = e;
-}
+is_command ids context front pdv command p kind short finished e = grind (arith, last_fragment)
 
 by_data : (ids : List ℕ) (context : ℕ) (front : List Pdv) (pdv : Pdv) (command : Command) → IsCommand ids context (front ++ pdv ∷ []) command
     → (with_data : Bool) → command.with_data ≡ with_data
@@ -87,17 +82,7 @@ by_data ids context front pdv command is true e = inr (inl (
     octets_are = begun_octets context command;
   },
 ))
-by_data ids context front pdv command is false e = inr (inr (
-  begun_with context command,
-  refl,
-  record {
-    commands = front ++ pdv ∷ [];
-    data_part = [];
-    parts = sym (append-nil (front ++ pdv ∷ []));
-    command_is = is;
-    data_is = subst (λ (b : Bool). IsDataPart b (begun_with context command) []) (sym e) (refl, begun_octets context command);
-  },
-))
+by_data ids context front pdv command is false e = grind (arith, append-nil, begun_octets)
 
 by_command_of : (ids : List ℕ) (context : ℕ) (front : List Pdv) (pdv : Pdv) → InPlace ids context front pdv → pdv.command ≡ true
     → length (joined (front ++ pdv ∷ [])) ≤ command_limit → pdv.last ≡ true
@@ -241,9 +226,7 @@ at_data ids front message pdv h false e =
 
 step : (ids : List ℕ) (front : List Pdv) (gathered : Gathered) (pdv : Pdv) → Holds ids front gathered → Made ids front pdv (gather ids gathered pdv)
 step ids front Nothing pdv h = subst (λ (xs : List Pdv). Made ids xs pdv (gather ids Nothing pdv)) (sym h) (at_first ids pdv (is_among pdv.context ids) refl)
-step ids front (CommandPart context octets) pdv h =
-    subst (λ (xs : List ℕ). Made ids front pdv (gather ids (CommandPart context xs) pdv)) h.2
-    (at_command ids context front pdv h.0 h.1 (eqb pdv.context context) refl)
+step ids front (CommandPart context octets) pdv h = grind (arith, at_command)
 step ids front (DataPart message) pdv h = at_data ids front message pdv h (eqb pdv.context message.context) refl
 step ids front (Spent fault) pdv h = absurd h
 
@@ -269,11 +252,7 @@ after ids front gathered pdv pdvs made h (inl f) others =
     (all, refl, record { front = front; pdv = pdv; others = pdvs; parts = refl; command_due = f.command_due; begins = f.begins; fits_not = f.fits_not }) in
     subst (λ (m : Gathering). Parsed ids all (after_others m.list (gather_all ids m.gathered pdvs))) (sym f.made_is)
     (subst (λ (r : Gathering). Parsed ids all (after_others [] r)) (sym (fault_stays ids f.fault pdvs)) left)
-after ids front gathered pdv pdvs made h (inr (inl (e, holds))) others =
-    let r = gather_all ids made.gathered pdvs in
-    let ih : Parsed ids (front ++ pdv ∷ pdvs) (after_others [] r) =
-    subst (λ (xs : List Pdv). Parsed ids xs r) (append_assoc front (pdv ∷ []) pdvs) (others (front ++ pdv ∷ []) made.gathered holds) in
-    subst (λ (list : List Message). Parsed ids (front ++ pdv ∷ pdvs) (after_others list r)) (sym e) ih
+after ids front gathered pdv pdvs made h (inr (inl (e, holds))) others = grind (arith, Parsed, append_assoc)
 after ids front gathered pdv pdvs made h (inr (inr (message, e, is_message))) others =
     let ih = others [] Nothing refl in
     let whole : Parsed ids (front ++ pdv ∷ pdvs) (after_others (message ∷ []) (gather_all ids Nothing pdvs)) =

@@ -56,9 +56,7 @@ by_parts context command [] a b c = tt
 by_parts context command (x ∷ xs) a b c = (record { context_is = a.0; kind_is = b.0; unfinished = c.0 }, by_parts context command xs a.1 b.1 c.1)
 
 pub each_fragment : (context : ℕ) (command : Bool) (run : List Pdv) → AreFragments context command run → AllByRecursion (IsFragment context command) run
-each_fragment context command run f =
-    by_parts context command run (recursion_from_All (IsOf context) run f.context_is) (recursion_from_All (λ (x : Pdv). x.command ≡ command) run f.kind_is)
-    (recursion_from_All (λ (x : Pdv). x.last ≡ false) run f.unfinished)
+each_fragment context command run f = grind (arith, by_parts, recursion_from_All)
 
 -- ---- the context of a run
 
@@ -74,10 +72,7 @@ data_context ids context command run a =
     (all_of context true a.commands a.command_is.fragments) a.fragments.context_is)
 
 pub data_some : (ids : List ℕ) (context : ℕ) (command : Command) (run : List Pdv) → AwaitsData ids context command run → 0 < length run
-data_some ids context command run a =
-    let n = ap length a.parts in
-    let some = some_fragments context true a.commands a.command_is.fragments in
-    omega (arith, length-append a.commands a.data_part)
+data_some ids context command run a = grind (arith, some_fragments, length-append)
 
 -- the context of a run is that of its first PDV
 pub expected_is : (ids : List ℕ) (context : ℕ) (front : List Pdv) (pdv : Pdv) → All (IsOf context) front → 0 < length front → IsExpected ids front pdv

@@ -36,17 +36,12 @@ state context (x ∷ xs) = CommandPart context (joined (x ∷ xs))
 -- a PDV of the right context after command fragments
 at_state : (ids : List ℕ) (context : ℕ) (front : List Pdv) (pdv : Pdv) → is_among context ids ≡ true → pdv.context ≡ context
     → gather ids (state context front) pdv ≡ after_command context (joined front) pdv
-at_state ids context [] pdv a e =
-    let among : is_among pdv.context ids ≡ true = ap (λ (n : ℕ). is_among n ids) e ∙ a in
-    let one : gather ids Nothing pdv ≡ after_command pdv.context [] pdv = rw among refl in
-    one ∙ ap (λ (n : ℕ). after_command n [] pdv) e
+at_state ids context [] pdv a e = grind arith
 at_state ids context (x ∷ xs) pdv a e = rw (eq-eqb pdv.context context e) refl
 
 command_after : (context : ℕ) (front : List Pdv) (pdv : Pdv) → pdv.command ≡ true
     → after_command context (joined front) pdv ≡ command_gathered context (joined (front ++ pdv ∷ [])) pdv.last
-command_after context front pdv e =
-    let one : after_command context (joined front) pdv ≡ command_gathered context (joined front ++ pdv.octets) pdv.last = rw e refl in
-    one ∙ ap (λ (octets : List ℕ). command_gathered context octets pdv.last) (sym (joined-push front pdv))
+command_after context front pdv e = grind (arith, joined-push)
 
 goes_with : (context : ℕ) (octets : List ℕ) (last : Bool) → length octets ≤ command_limit → last ≡ false
     → command_gathered context octets last ≡ gathers (CommandPart context octets)
@@ -66,9 +61,7 @@ state-push context (x ∷ xs) pdv = refl
 one_command : (ids : List ℕ) (context : ℕ) (front : List Pdv) (pdv : Pdv) → is_among context ids ≡ true → IsFragment context true pdv
     → length (joined (front ++ pdv ∷ [])) ≤ command_limit
     → gather ids (state context front) pdv ≡ gathers (state context (front ++ pdv ∷ []))
-one_command ids context front pdv a p short =
-    at_state ids context front pdv a p.context_is ∙ command_after context front pdv p.kind_is
-    ∙ goes_with context (joined (front ++ pdv ∷ [])) pdv.last short p.unfinished ∙ ap gathers (state-push context front pdv)
+one_command ids context front pdv a p short = grind (arith, at_state, command_after, goes_with, state-push)
 
 all_commands : (ids : List ℕ) (context : ℕ) (front run : List Pdv) → is_among context ids ≡ true → AllByRecursion (IsFragment context true) run
     → length (joined (front ++ run)) ≤ command_limit
@@ -90,9 +83,7 @@ commands_gathered ids context run a = all_commands ids context [] run a.accepted
 
 front_short : (front : List Pdv) (final : Pdv) (run : List Pdv) → run ≡ front ++ final ∷ [] → length (joined run) ≤ command_limit
     → length (joined front) ≤ command_limit
-front_short front final run e short =
-    let n : length (joined run) ≡ length (joined front ++ final.octets) = ap length (ap joined e ∙ joined-push front final) in
-    omega (arith, length-append (joined front) final.octets)
+front_short front final run e short = grind (arith, joined-push, length-append)
 
 -- a whole command set
 command_gathered_of : (ids : List ℕ) (context : ℕ) (run : List Pdv) (command : Command) → IsCommand ids context run command
@@ -123,9 +114,7 @@ at_part ids message pdv e = rw (eq-eqb pdv.context message.context e) refl
 
 one_data : (ids : List ℕ) (message : Message) (pdv : Pdv) → IsFragment message.context false pdv
     → gather ids (DataPart message) pdv ≡ gathers (DataPart (with_fragment message pdv.octets))
-one_data ids message pdv p =
-    let one : after_data message pdv ≡ gathers (DataPart (with_fragment message pdv.octets)) = rw (p.kind_is, p.unfinished) refl in
-    at_part ids message pdv p.context_is ∙ one
+one_data ids message pdv p = grind (arith, at_part)
 
 -- a message of which more data fragments were gathered
 record HasGathered (ids : List ℕ) (context : ℕ) (command : Command) (octets : List ℕ) (made : Gathering) : Type 0 where
@@ -172,9 +161,7 @@ data_gathered ids context command run a =
 
 last_data : (ids : List ℕ) (message : Message) (pdv : Pdv) → pdv.context ≡ message.context → pdv.command ≡ false → pdv.last ≡ true
     → gather ids (DataPart message) pdv ≡ completes (with_fragment message pdv.octets)
-last_data ids message pdv c k l =
-    let one : after_data message pdv ≡ completes (with_fragment message pdv.octets) = rw (k, l) refl in
-    at_part ids message pdv c ∙ one
+last_data ids message pdv c k l = grind (arith, at_part)
 
 message_gathered : (ids : List ℕ) (run : List Pdv) (message : Message) (m : IsMessage ids run message) (b : Bool) → message.command.with_data ≡ b
     → IsDataPart b message m.data_part → gather_all ids Nothing run ≡ completes message
@@ -232,10 +219,7 @@ command_misfits : (ids : List ℕ) (context : ℕ) (front : List Pdv) (pdv : Pdv
     → (IsExpected ids front pdv → pdv.context ≡ context) → FitsNot ids true front pdv fault
     → gather ids (state context front) pdv ≡ stops_at fault
 command_misfits ids context front pdv WrongContext a same h = wrong_context ids context front pdv a h
-command_misfits ids context front pdv WrongKind a same h =
-    let e : pdv.command ≡ false = h.1 in
-    let wrong : after_command context (joined front) pdv ≡ stops_at WrongKind = rw e refl in
-    at_state ids context front pdv a.accepted (same h.0) ∙ wrong
+command_misfits ids context front pdv WrongKind a same h = grind (arith, at_state)
 command_misfits ids context front pdv BadCommand a same h =
     at_state ids context front pdv a.accepted (same h.0) ∙ command_after context front pdv h.1 ∙ bad_command context (joined (front ++ pdv ∷ [])) pdv.last h.3
 command_misfits ids context front pdv NoMemory a same h = absurd h

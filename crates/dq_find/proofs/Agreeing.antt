@@ -1,7 +1,7 @@
 -- Records that agree at the keys of an identifier are matched alike, and shown alike.
-use Rattle.std.proofs.Common.{◌≡◌, Bool, true, false, cond, ◌||◌, ◌&&◌, [], Option, Some, None, option_map, refl, ap, ◌∙◌}
+use Rattle.std.proofs.Common.{◌≡◌, Bool, true, false, cond, ◌||◌, ◌&&◌, Option, Some, None, refl, ap, arith}
 use Rattle.dq_vr.specs.Tags.{specific_character_set, scheduled_procedure_step_start_date, scheduled_procedure_step_start_time}
-use Rattle.dq_dataset.specs.declared.data_set.Value.TheVariants.{Octets, Items}
+use Rattle.dq_dataset.specs.declared.data_set.Value.TheVariants.{Octets}
 use Rattle.dq_dataset.specs.Tree.{ElementList, no_elements, element, sequence}
 use Rattle.dq_dataset.specs.Values.{element_at, octets_in, sole_at}
 use Rattle.dq_match.specs.declared.keys.Place.{Place}
@@ -9,7 +9,7 @@ use Rattle.dq_match.specs.declared.keys.Place.TheVariants.{Outer}
 use Rattle.dq_match.specs.Keys.{items_in, is_key}
 use Rattle.dq_match.specs.Values.{octets_meet}
 use Rattle.dq_match.specs.Matching.{period, start_day, start_time, is_passed, with_period, each_met, items_meet, fits}
-use Rattle.dq_match.specs.Responses.{put, or_empty, with_cut, shown_keys, shown_items, unless_empty, put_first, shown}
+use Rattle.dq_match.specs.Responses.{put, or_empty, shown_keys, unless_empty, put_first, shown}
 
 abbrev pub Agree : ElementList → ElementList → ElementList → Type 0
 Agree no_elements a b = Unit {0}
@@ -35,19 +35,13 @@ with_alike (Some b) f g h = ap (λ (x : Bool). b && x) (h true)
 pub fits_alike : (keys a b : ElementList) → Agree keys a b → element_at scheduled_procedure_step_start_date a ≡ element_at scheduled_procedure_step_start_date b
     → element_at scheduled_procedure_step_start_time a ≡ element_at scheduled_procedure_step_start_time b → fits keys a ≡ fits keys b
 unfolding start_day start_time sole_at
-fits_alike keys a b h date time =
-    let day : start_day a ≡ start_day b = rw date refl in
-    let hour : start_time a ≡ start_time b = rw time refl in
-    with_alike (period keys a) (each_met keys Outer a) (each_met keys Outer b) (λ joined. each_alike keys Outer a b joined h)
-    ∙ ap (λ (p : Option Bool). with_period p (each_met keys Outer b)) (period_alike keys a b day hour)
+fits_alike keys a b h date time = grind (arith, with_alike, each_alike, period_alike)
 
 keys_alike : (keys : ElementList) (place : Place) (a b : ElementList) → Agree keys a b → shown_keys keys place a ≡ shown_keys keys place b
 keys_alike no_elements place a b h = refl
 keys_alike (element t v o rest) place a b h =
     λ i. cond (is_key place t) (put (or_empty t v (Octets o) (h.0 i)) (keys_alike rest place a b h.1 i)) (keys_alike rest place a b h.1 i)
-keys_alike (sequence t v items rest) place a b h =
-    λ i. cond (is_key place t) (put (or_empty t v (Items []) (option_map (with_cut (shown_items items)) (h.0 i))) (keys_alike rest place a b h.1 i))
-    (keys_alike rest place a b h.1 i)
+keys_alike (sequence t v items rest) place a b h = grind (arith, keys_alike rest place a b h.1)
 
 pub shown_alike : (keys a b : ElementList) → Agree keys a b → element_at specific_character_set a ≡ element_at specific_character_set b
     → shown keys a ≡ shown keys b

@@ -1,5 +1,5 @@
 -- Laws of queries.
-use Rattle.std.proofs.Common.{◌≡◌, ◌≢◌, ℕ, List, [], ◌∷◌, Option, Some, None, option_map, Result, Ok, Err, refl, ap, codes}
+use Rattle.std.proofs.Common.{◌≡◌, ◌≢◌, ℕ, List, [], ◌∷◌, Option, Some, None, option_map, Result, Ok, Err, refl, ap, codes, arith}
 use Rattle.std.specs.List.{AllByRecursion, filter_map, cons_option}
 use Rattle.std.specs.Str.{bytes_eq}
 use Rattle.std.proofs.lemmas.Slice.Eq.{bytes_eq-Decides}
@@ -17,7 +17,6 @@ use Rattle.dq_dataset.specs.Tree.{ElementList}
 use Rattle.dq_dataset.specs.Values.{octets_in}
 use Rattle.dq_dimse.specs.Statuses.{success}
 use Rattle.dq_dimse.specs.Received.{Message}
-use Rattle.dq_match.specs.Answers.{answer}
 use Rattle.dq_tables.specs.declared.row.Kind.{Kind}
 use Rattle.dq_tables.specs.declared.row.Kind.TheVariants as kind
 use Rattle.dq_tables.specs.declared.row.Row.{Row}
@@ -30,7 +29,6 @@ use Rattle.dq_find.specs.declared.level.Level.{Level}
 use Rattle.dq_find.specs.declared.level.Level.TheVariants.{Study, Series, Image}
 use Rattle.dq_find.specs.declared.query.Query.{Query}
 use Rattle.dq_find.specs.Levels.{kind_of, name_of}
-use Rattle.dq_find.specs.Computed.{completed}
 use Rattle.dq_find.specs.Queries.{query_of, key_above, records_asked, asked_records, told, answer_of, answers, about_answers, found_by, found}
 use Rattle.dq_find.specs.Answers.{Tells}
 use Rattle.dq_find.proofs.Completing.{first_of_three, second_of_three, third_of_three}
@@ -128,9 +126,7 @@ tells_by called query (Some part) others all = (tells called query part, all)
 tells_all : (records : List Record) (called : List ℕ) (query : Query) (rs : List Record)
     → AllByRecursion (Tells called query.level) (filter_map (answer_of records called query) rs)
 tells_all records called query [] = tt
-tells_all records called query (r ∷ rs) =
-    tells_by called query (answer query.keys (completed records query.level r)) (filter_map (answer_of records called query) rs)
-    (tells_all records called query rs)
+tells_all records called query (r ∷ rs) = grind (arith, tells_by, tells_all records called query rs)
 
 pub each_tells : (records : List Record) (called : List ℕ) (query : Query) → AllByRecursion (Tells called query.level) (answers records called query)
 unfolding answers

@@ -87,13 +87,8 @@ first_three false false true d h = absurd cc
 computed_tags_alone : (records : List Record) (level : Level) (key : List ℕ) (tag : Tag) → list_any (λ one. is_tag one tag) all_computed ≡ false
     → list_any (has_tag tag) (elements_of (computed records level key)) ≡ false
 unfolding computed study_values series_values
-computed_tags_alone records Study key tag h =
-    first_three (is_tag tags.modalities_in_study tag) (is_tag tags.number_of_study_related_series tag) (is_tag tags.number_of_study_related_instances tag)
-    (is_tag tags.number_of_series_related_instances tag) h
-computed_tags_alone records Series key tag h =
-    ap (λ (b : Bool). b || false) (last_of (is_tag tags.modalities_in_study tag) (is_tag tags.number_of_study_related_series tag)
-    (is_tag tags.number_of_study_related_instances tag)
-    (is_tag tags.number_of_series_related_instances tag) h)
+computed_tags_alone records Study key tag h = grind (arith, nat_tests, first_three)
+computed_tags_alone records Series key tag h = grind (arith, nat_tests, last_of)
 computed_tags_alone records Image key tag h = refl
 
 pub stays : (records : List Record) (level : Level) (key : List ℕ) (held : ElementList) (tag : Tag) → list_any (λ one. is_tag one tag) all_computed ≡ false

@@ -1,5 +1,5 @@
 -- The records that are asked for, by what their data sets hold.
-use Rattle.std.proofs.Common.{◌≡◌, ◌↔◌, ℕ, Bool, true, false, ◌&&◌, List, [], ◌∷◌, map, filter, Option, Some, None, is_some, unwrap_or, Result, Ok, Err, refl, sym, ap, ◌∙◌, if◌then◌else◌, inl, inr}
+use Rattle.std.proofs.Common.{◌≡◌, ◌↔◌, ℕ, Bool, true, false, List, [], ◌∷◌, map, filter, Option, Some, None, is_some, unwrap_or, Result, Ok, Err, refl, sym, ap, ◌∙◌, if◌then◌else◌, inl, inr, arith}
 use Rattle.std.specs.Str.{bytes_eq}
 use Rattle.std.specs.List.{AllByRecursion}
 use Rattle.std.proofs.lemmas.Bool.{and_parts}
@@ -10,13 +10,11 @@ use Rattle.dq_dataset.specs.declared.fault.ReadFault.{ReadFault}
 use Rattle.dq_dataset.specs.declared.header.Syntax.TheVariants.{Explicit}
 use Rattle.dq_dataset.specs.Tree.{ElementList}
 use Rattle.dq_dataset.specs.Reading.{reading}
-use Rattle.dq_dataset.specs.Canonical.{canonical}
 use Rattle.dq_tables.specs.declared.row.Row.{Row}
 use Rattle.dq_tables.specs.declared.row.Kind.{Kind}
 use Rattle.dq_tables.specs.Rows.{Record, record_of, of}
-use Rattle.dq_tables.specs.Keys.{uid_at}
 use Rattle.dq_tables.specs.Records.{data_set_of}
-use Rattle.dq_tables.specs.Sound.{IsSound, is_own, is_record_of, may_be_started, is_value, has_key, has_above, is_within}
+use Rattle.dq_tables.specs.Sound.{IsSound, is_own, is_record_of, is_value, has_above}
 use Rattle.dq_find.specs.declared.level.Level.{Level}
 use Rattle.dq_find.specs.declared.level.Level.TheVariants.{Study, Series, Image}
 use Rattle.dq_find.specs.declared.query.Query.{Query}
@@ -33,17 +31,11 @@ HasOwnAbove r = has_above r.kind r.above (data_set_of r.octets) ≡ true
 own_by : (read : Result ElementList ReadFault) (row : Row) → reading Explicit row.octets ≡ read → is_record_of read row ≡ true → HasOwnAbove (record_of row)
 unfolding data_set_of
 own_by (Err fault) row is own = absurd (cc)
-own_by (Ok d) row is own =
-    let keys = (and_parts (bytes_eq (canonical Explicit d) row.octets)
-    (has_key row.kind row.key d && (has_above row.kind row.above d && is_within row.kind row.octets)) own).1 in
-    let above = (and_parts (has_key row.kind row.key d) (has_above row.kind row.above d && is_within row.kind row.octets) keys).1 in
-    rw is (and_parts (has_above row.kind row.above d) (is_within row.kind row.octets) above).0
+own_by (Ok d) row is own = grind (arith, and_parts)
 
 row_own : (row : Row) → is_own row ≡ true → HasOwnAbove (record_of row)
 unfolding is_own
-row_own row own =
-    own_by (reading Explicit row.octets) row refl
-    (and_parts (may_be_started row.kind row.started) (is_record_of (reading Explicit row.octets) row) own).1
+row_own row own = grind (arith, own_by, and_parts)
 
 own_step : (r : Record) (row : Row) (b : Bool) (kept : List Row) → is_own row ≡ true → (IsAmong r (map record_of kept) → HasOwnAbove r)
     → IsAmong r (map record_of (if b then row ∷ kept else kept)) → HasOwnAbove r
@@ -85,34 +77,19 @@ under_from : (level : Level) (keys : ElementList) (r : Record) → has_above (ki
     → IsUnder level keys r → HasKeyAbove level keys (data_set_of r.octets)
 unfolding has_above has_keys_above
 under_from Study keys r own there under = tt
-under_from Series keys r own there under =
-    key_from (uid_at tags.study_instance_uid (data_set_of r.octets)) (uid_at tags.study_instance_uid keys) r.above (value_from _ r.above own)
-    (and_parts (is_some (uid_at tags.study_instance_uid keys)) true there).0 under
-under_from Image keys r own there under =
-    let series = (and_parts (is_some (uid_at tags.study_instance_uid keys)) (is_some (uid_at tags.series_instance_uid keys) && true) there).1 in
-    key_from (uid_at tags.series_instance_uid (data_set_of r.octets)) (uid_at tags.series_instance_uid keys) r.above (value_from _ r.above own)
-    (and_parts (is_some (uid_at tags.series_instance_uid keys)) true series).0 under
+under_from Series keys r own there under = grind (arith, key_from, value_from, and_parts)
+under_from Image keys r own there under = grind (arith, and_parts, key_from, value_from)
 
 under_to : (level : Level) (keys : ElementList) (r : Record) → has_above (kind_of level) r.above (data_set_of r.octets) ≡ true
     → has_keys_above level keys ≡ true
     → HasKeyAbove level keys (data_set_of r.octets) → IsUnder level keys r
 unfolding has_above has_keys_above
 under_to Study keys r own there key = tt
-under_to Series keys r own there key =
-    key_to (uid_at tags.study_instance_uid (data_set_of r.octets)) (uid_at tags.study_instance_uid keys) r.above (value_from _ r.above own)
-    (and_parts (is_some (uid_at tags.study_instance_uid keys)) true there).0 key
-under_to Image keys r own there key =
-    let series = (and_parts (is_some (uid_at tags.study_instance_uid keys)) (is_some (uid_at tags.series_instance_uid keys) && true) there).1 in
-    key_to (uid_at tags.series_instance_uid (data_set_of r.octets)) (uid_at tags.series_instance_uid keys) r.above (value_from _ r.above own)
-    (and_parts (is_some (uid_at tags.series_instance_uid keys)) true series).0 key
+under_to Series keys r own there key = grind (arith, key_to, value_from, and_parts)
+under_to Image keys r own there key = grind (arith, and_parts, key_to, value_from)
 
 pub asked_by_key : (institution : List ℕ) (rows : List Row) (query : Query) (r : Record) → IsSound rows → has_keys_above query.level query.keys ≡ true
     → IsAmong r (asked_records (of institution rows) query)
     ↔ (IsAmong r (of institution rows) × (r.kind ≡ kind_of query.level) × HasKeyAbove query.level query.keys (data_set_of r.octets))
-asked_by_key institution rows query r sound there = (
-  λ h. (let asked = asked_from query.level query.keys r (of institution rows) h in
-      let own = own_value query.level r asked.1 (own_above institution rows r sound asked.0) in
-      (asked.0, asked.1, under_from query.level query.keys r own there asked.2)),
-  λ asked. (let own = own_value query.level r asked.1 (own_above institution rows r sound asked.0) in
-      asked_to query.level query.keys r (of institution rows) asked.0 asked.1 (under_to query.level query.keys r own there asked.2)),
-)
+asked_by_key institution rows query r sound there =
+    grind (arith, asked_from, own_value, own_above, under_from, asked_to, under_to)

@@ -1,5 +1,5 @@
 -- A study that fits the keys of a query is one that is chosen.
-use Rattle.std.proofs.Common.{◌≡◌, ℕ, Bool, true, false, ◌||◌, ◌&&◌, not, List, [], ◌∷◌, Option, Some, None, refl, sym, ap, ◌∙◌, if◌then◌else◌}
+use Rattle.std.proofs.Common.{◌≡◌, ℕ, Bool, true, false, ◌&&◌, not, List, Option, Some, None, refl, ap, ◌∙◌, if◌then◌else◌, arith}
 use Rattle.std.specs.List.{AllByRecursion}
 use Rattle.std.specs.Str.{bytes_eq}
 use Rattle.std.proofs.lemmas.Slice.Eq.{bytes_eq-Decides}
@@ -15,7 +15,6 @@ use Rattle.dq_match.specs.declared.keys.Place.TheVariants.{Outer}
 use Rattle.dq_match.specs.Fitting.{EachIsMet}
 use Rattle.dq_match.specs.Several.{is_plain}
 use Rattle.dq_match.specs.Values.{matching_of}
-use Rattle.dq_match.specs.Wildcards.{any_run}
 use Rattle.dq_tables.specs.declared.row.Kind.{Kind}
 use Rattle.dq_tables.specs.declared.row.Kind.TheVariants.{Study}
 use Rattle.dq_tables.specs.Rows.{Record}
@@ -37,9 +36,7 @@ no_asterisk false h = refl
 
 uid_met : (uid key : List ℕ) → is_no_asterisk uid ≡ true → is_met_by UI uid key ≡ true → bytes_eq key uid ≡ true
 unfolding is_padded matching_of
-uid_met uid key plain met =
-    let same : bytes_eq uid key ≡ true = sym (ap (λ (b : Bool). b || bytes_eq uid key) (no_asterisk (bytes_eq uid (any_run ∷ [])) plain)) ∙ met in
-    (bytes_eq-Decides key uid).1 (sym ((bytes_eq-Decides uid key).0 same))
+uid_met uid key plain met = grind (arith, no_asterisk, bytes_eq-Decides)
 
 uid_by : (uid key : List ℕ) (b : Bool) → is_no_asterisk uid ≡ b → is_met_by UI uid key ≡ true → is_none_or (bytes_eq key) (if b then Some uid else None) ≡ true
 uid_by uid key true plain met = uid_met uid key plain met

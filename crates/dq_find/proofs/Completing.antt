@@ -69,12 +69,7 @@ merged_step : (b : Bool) (tag : Tag) (e : Element) (kept sent : List Element) �
     → find (has_tag tag) (merged_elements (elements_above e.tag kept) sent) ≡ find (has_tag tag) (elements_above e.tag kept)
     → or_else (find (has_tag tag) (elements_below e.tag kept)) (find (has_tag tag) (merged_elements (elements_above e.tag kept) sent)) ≡ find (has_tag tag) kept
 merged_step true tag e kept sent below differ rest =
-    let front : find (has_tag tag) (elements_below e.tag kept) ≡ find (has_tag tag) kept =
-    find_kept (has_tag tag) (λ x. is_below x.tag e.tag) kept (λ x same. ap (λ (t : Tag). is_below t e.tag) (same_tag x.tag tag same) ∙ below) in
-    let back : find (has_tag tag) (elements_above e.tag kept) ≡ None =
-    find_dropped (has_tag tag) (λ x. is_below e.tag x.tag) kept (λ x same. ap (λ (t : Tag). is_below e.tag t) (same_tag x.tag tag same)
-    ∙ not_below e.tag tag below) in
-    ap (or_else (find (has_tag tag) (elements_below e.tag kept))) (rest ∙ back) ∙ or_none (find (has_tag tag) (elements_below e.tag kept)) ∙ front
+    grind (arith, nat_tests, find_kept, same_tag, find_dropped, not_below, or_none)
 merged_step false tag e kept sent below differ rest =
     let above : is_below e.tag tag ≡ true = above_unless tag e.tag differ below in
     let front : find (has_tag tag) (elements_below e.tag kept) ≡ None =
@@ -99,9 +94,7 @@ find_merged tag kept (e ∷ sent) h =
 -- an element that is not sent stays
 pub element_stays : (tag : Tag) (kept sent : ElementList) → list_any (has_tag tag) (elements_of sent) ≡ false
     → element_at tag (merged kept sent) ≡ element_at tag kept
-element_stays tag kept sent h =
-    ap (find (has_tag tag)) (elements_of-as_elements (merged_elements (elements_of kept) (elements_of sent)))
-    ∙ find_merged tag (elements_of kept) (elements_of sent) h
+element_stays tag kept sent h = grind (arith, nat_tests, elements_of-as_elements, find_merged)
 
 -- ---- what is sent is there
 
@@ -114,21 +107,11 @@ unfolding is_below
 not_below_itself tag = grind (arith, nat_tests)
 
 sent_here : (tag : Tag) (e : Element) (kept sent : List Element) → is_tag e.tag tag ≡ true → find (has_tag tag) (merged_elements kept (e ∷ sent)) ≡ Some e
-sent_here tag e kept sent is =
-    let front : find (has_tag tag) (elements_below e.tag kept) ≡ None =
-    find_dropped (has_tag tag) (λ x. is_below x.tag e.tag) kept
-    (λ x same. (λ i. is_below (same_tag x.tag tag same i) (same_tag e.tag tag is i)) ∙ not_below_itself tag) in
-    find_append (has_tag tag) (elements_below e.tag kept) (e ∷ merged_elements (elements_above e.tag kept) sent)
-    ∙ (λ i. or_else (front i) (cond (is i) (Some e) (find (has_tag tag) (merged_elements (elements_above e.tag kept) sent))))
+sent_here tag e kept sent is = grind (arith, nat_tests, find_dropped, same_tag, not_below_itself, find_append)
 
 sent_later : (tag : Tag) (e : Element) (kept sent : List Element) → is_tag e.tag tag ≡ false → is_below e.tag tag ≡ true
     → find (has_tag tag) (merged_elements kept (e ∷ sent)) ≡ find (has_tag tag) (merged_elements (elements_above e.tag kept) sent)
-sent_later tag e kept sent differ above =
-    let front : find (has_tag tag) (elements_below e.tag kept) ≡ None =
-    find_dropped (has_tag tag) (λ x. is_below x.tag e.tag) kept (λ x same. ap (λ (t : Tag). is_below t e.tag) (same_tag x.tag tag same)
-    ∙ not_below tag e.tag above) in
-    find_append (has_tag tag) (elements_below e.tag kept) (e ∷ merged_elements (elements_above e.tag kept) sent)
-    ∙ (λ i. or_else (front i) (cond (differ i) (Some e) (find (has_tag tag) (merged_elements (elements_above e.tag kept) sent))))
+sent_later tag e kept sent differ above = grind (arith, nat_tests, find_dropped, same_tag, not_below, find_append)
 
 -- an element that is sent, at the first, the second and the third place
 module _ (kept : ElementList) (e f g : Element) where

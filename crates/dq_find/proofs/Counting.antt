@@ -52,11 +52,7 @@ pub computed_of_found : (institution key : List ℕ) (old mid series first secon
     → modalities ≡ joined values → number ≡ length series → study_values modalities number images ≡ computed (of institution old) Study key
 computed_of_found institution key old mid series first second values modalities number images same_rows series_is first_is second_is images_is
     values_is modalities_is number_is =
-    let told = modalities_is ∙ ap joined (values_is ∙ ap (λ (rows : List Row). modalities_in (map record_of rows)) second_is) in
-    let counted = number_is ∙ sym (length_mapped series) in
-    let all = images_is ∙ (λ i. images_below (of institution (same_rows i)) (map record_of (first_is i))) in
-    (λ i. study_values (told i) (counted i) (all i))
-    ∙ computed_of_study (of institution old) (map record_of series) key (found_above SeriesKind institution key old series series_is)
+    grind (arith, length_mapped, computed_of_study, found_above)
 
 pub computed_of_series : (records : List Record) (key : List ℕ) (images : ℕ) → images ≡ length (records_above ImageKind key records)
     → series_values images ≡ computed records Series key

@@ -1,5 +1,5 @@
 -- The first of some values in order.
-use Rattle.std.proofs.Common.{◌≡◌, ℕ, zero, suc, ◌+◌, ◌≤◌, List, [], ◌∷◌, ◌++◌, take, drop, length, get_or, ◌<◌, refl, sym, ap, subst, ◌∙◌, arith, append_assoc, take-append-drop}
+use Rattle.std.proofs.Common.{◌≡◌, ℕ, zero, suc, ◌+◌, ◌≤◌, List, [], ◌∷◌, ◌++◌, take, drop, length, get_or, ◌<◌, refl, sym, ap, ◌∙◌, arith, append_assoc, take-append-drop}
 use Rattle.std.proofs.lemmas.List.{take_more}
 use Rattle.dq_find.proofs.Looking.{from_place, past_all}
 use Rattle.std.specs.declared.cmp.Ordering.{Ordering}
@@ -77,10 +77,7 @@ module _ (value x : List ℕ) (xs : Values) (at : ℕ) (lt : at < length xs) (is
 pub place_last : (value : List ℕ) (xs : Values) (at : ℕ) → at ≡ length xs → put_in_order value xs ≡ take at xs ++ put_in_order value (drop at xs)
     → put_in_order value xs ≡ take (length xs) xs ++ value ∷ drop (length xs) xs
 unfolding put_in_order
-place_last value xs at all so_far =
-    subst (λ (n : ℕ). put_in_order value xs ≡ take n xs ++ put_in_order value (drop n xs)) all so_far
-    ∙ ap (λ (ys : Values). take (length xs) xs ++ ys) (ap (put_in_order value) (past_all xs (length xs) (omega arith))
-    ∙ ap (λ (ys : Values). value ∷ ys) (sym (past_all xs (length xs) (omega arith))))
+place_last value xs at all so_far = grind (arith, past_all)
 
 -- ---- values of one series after the other
 
@@ -98,6 +95,4 @@ put_more n value values before after whole put so_far =
 
 pub all_more : (n : ℕ) (first others before after whole : Values) → after ≡ take n (all_in_order first before)
     → take n (all_in_order (first ++ others) before) ≡ whole → take n (all_in_order others after) ≡ whole
-all_more n first others before after whole put so_far =
-    ap (λ (ys : Values). take n (all_in_order others ys)) put ∙ all_take n others (all_in_order first before)
-    ∙ ap (take n) (sym (all_append first others before)) ∙ so_far
+all_more n first others before after whole put so_far = grind (arith, all_take, all_append)

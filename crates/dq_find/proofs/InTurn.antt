@@ -8,20 +8,12 @@ use Rattle.dq_match.specs.declared.responses.Found.{Found}
 use Rattle.dq_find.specs.Pages.{HasGiven, GivesInTurn, IsPage, ArePages}
 
 none_given : (before left : Found) → left ≡ before → HasGiven before [] left
-none_given before left e = record {
-  answers = ap (λ (f : Found). f.answers) (sym e);
-  status = ap (λ (f : Found). f.status) e;
-  optional = ap (λ (f : Found). f.optional) e;
-}
+none_given before left e = grind arith
 
 -- some answers and then others are both together
 pub given_then : (before between left : Found) (some others : List ElementList) → HasGiven before some between → HasGiven between others left
     → HasGiven before (some ++ others) left
-given_then before between left some others one two = record {
-  answers = one.answers ∙ ap (λ l. some ++ l) two.answers ∙ sym (append_assoc some others left.answers);
-  status = two.status ∙ one.status;
-  optional = two.optional ∙ one.optional;
-}
+given_then before between left some others one two = grind (arith, append_assoc)
 
 pub given_in_turn : (before left : Found) (given : List ElementList) → GivesInTurn before given left → HasGiven before given left
 given_in_turn before left [] e = none_given before left e

@@ -1,6 +1,6 @@
 -- A record that is looked up by its unique key is the only one that is asked for with that key, and
 -- the answers of the records that are looked at are those of all.
-use Rattle.std.proofs.Common.{◌≡◌, ℕ, Bool, true, false, ◌&&◌, ◌||◌, ◌⊎◌, List, [], ◌∷◌, map, find, filter, Option, Some, None, option_map, Result, Ok, Err, inl, inr, refl, sym, ap, subst, ◌∙◌, cond, if◌then◌else◌}
+use Rattle.std.proofs.Common.{◌≡◌, ℕ, Bool, true, false, ◌&&◌, ◌||◌, ◌⊎◌, List, [], ◌∷◌, map, find, filter, Option, Some, None, option_map, Result, Ok, Err, inl, inr, refl, sym, ap, subst, ◌∙◌, cond, if◌then◌else◌, arith}
 use Rattle.std.specs.Global.{Vec}
 use Rattle.std.specs.BTreeSet.{insert_key}
 use Rattle.std.specs.Option.{option_to_list}
@@ -23,7 +23,6 @@ use Rattle.dq_dataset.specs.declared.header.Syntax.TheVariants.{Explicit}
 use Rattle.dq_dataset.specs.Tree.{ElementList}
 use Rattle.dq_dataset.specs.View.{elements_of}
 use Rattle.dq_dataset.specs.Reading.{reading}
-use Rattle.dq_dataset.specs.Canonical.{canonical}
 use Rattle.dq_dataset.specs.Editing.{merged}
 use Rattle.dq_dataset.specs.Facts.{IsDataSet}
 use Rattle.dq_dataset.specs.Values.{element_at}
@@ -40,7 +39,7 @@ use Rattle.dq_tables.specs.Rows.{Record, IsRising, octet_order, record_of, row_o
 use Rattle.dq_tables.specs.Finding.{same_kind, record_at, row_at, records_of}
 use Rattle.dq_tables.specs.Records.{AreInOrder, data_set_of}
 use Rattle.dq_tables.specs.Keys.{uid_at}
-use Rattle.dq_tables.specs.Sound.{IsSound, is_own, is_record_of, may_be_started, has_key, has_above, is_within}
+use Rattle.dq_tables.specs.Sound.{IsSound, is_own, is_record_of, may_be_started, has_key}
 use Rattle.dq_tables.proofs.Listing.{its_kind, one_kind, of_kind_to, listed_in_order, in_order_filter}
 use Rattle.dq_tables.proofs.Rising.{each_among, one_list}
 use Rattle.dq_tables.proofs.Seen.{found_own}
@@ -51,7 +50,7 @@ use Rattle.dq_find.specs.Levels.{kind_of, unique_key}
 use Rattle.dq_find.specs.Choosing.{is_asked}
 use Rattle.dq_find.specs.Computed.{completed, computed, placed, put_in_order, all_in_order}
 use Rattle.dq_find.specs.Queries.{key_above, told, answer_of, answers, asked_records}
-use Rattle.dq_find.specs.Candidates.{own_values, names_records, looks_up, has_one_of, is_looked_at, candidates, is_under, under, looked_up, named_record, named_rows, octets_of}
+use Rattle.dq_find.specs.Candidates.{own_values, names_records, looks_up, has_one_of, candidates, is_under, under, looked_up, named_record, named_rows, octets_of}
 use Rattle.dq_find.proofs.Answered.{IsUnder, asked_from, asked_to, asked_in_order}
 use Rattle.dq_find.proofs.Answering.{stays}
 use Rattle.dq_find.proofs.Asked.{value_from}
@@ -327,9 +326,7 @@ rows_step institution (Some r) later = refl
 rows_are : (institution : List ℕ) (records : List Record) (query : Query) (uids : List (List ℕ))
     → named_rows institution records query uids ≡ map (row_of institution) (filter_map (named_record records query) uids)
 rows_are institution records query [] = refl
-rows_are institution records query (uid ∷ uids) =
-    ap (cons_option (option_map (row_of institution) (named_record records query uid))) (rows_are institution records query uids)
-    ∙ rows_step institution (named_record records query uid) (filter_map (named_record records query) uids)
+rows_are institution records query (uid ∷ uids) = grind (arith, rows_step, rows_are institution records query uids)
 
 looks_named : (level : Level) (values : List (List ℕ)) → looks_up level values ≡ true → names_records values ≡ true
 looks_named Study [] h = absurd cc
@@ -341,12 +338,7 @@ looks_named Image values h = h
 pub named_candidates : (institution : List ℕ) (rows : List Row) (query : Query) (uids : List (List ℕ)) → IsRising rows
     → uids ≡ all_in_order (own_values query) [] → looks_up query.level (own_values query) ≡ true
     → named_rows institution (of institution rows) query uids ≡ map (row_of institution) (candidates (of institution rows) query)
-named_candidates institution rows query uids rising is looked =
-    rows_are institution (of institution rows) query uids
-    ∙ ap (map (row_of institution)) (ap (filter_map (named_record (of institution rows) query)) is
-    ∙ named_have_one institution rows query rising (own_values query)
-    ∙ ap (λ (b : Bool). filter (λ (r : Record). if b then has_one_of (own_values query) r else is_asked query.level query.keys r)
-    (asked_records (of institution rows) query)) (sym looked))
+named_candidates institution rows query uids rising is looked = grind (arith, rows_are, named_have_one)
 
 -- a row that was looked up
 under_by : (institution : List ℕ) (r : Record) (b : Bool) → (if b then Some (row_of institution r) else None) ≡ option_map (row_of institution) (if b then Some r else None)
@@ -361,10 +353,7 @@ row_under institution level keys (Some r) = under_by institution r (is_under lev
 pub looked_up_is : (institution : List ℕ) (rows : List Row) (query : Query) (uid : List ℕ) (kind : Kind) (found given : Option Row)
     → kind ≡ kind_of query.level → found ≡ row_at kind institution uid rows → given ≡ looked_up query.level query.keys found
     → given ≡ option_map (row_of institution) (named_record (of institution rows) query uid)
-looked_up_is institution rows query uid kind found given is found_is given_is =
-    given_is ∙ ap (looked_up query.level query.keys) (found_is ∙ ap (λ (k : Kind). row_at k institution uid rows) is
-    ∙ found_own (kind_of query.level) institution uid rows)
-    ∙ row_under institution query.level query.keys (record_at (kind_of query.level) uid (of institution rows))
+looked_up_is institution rows query uid kind found given is found_is given_is = grind (arith, found_own, row_under)
 
 -- a value that is put in its place
 placed_octets : (o : Ordering) (value first : Vec ℕ) (others put : List (Vec ℕ))
@@ -378,17 +367,13 @@ put_octets : (value : Vec ℕ) (values : List (Vec ℕ))
     → octets_of (insert_key (λ (a b : Vec ℕ). octet_order a.items b.items) values value) ≡ put_in_order value.items (octets_of values)
 unfolding put_in_order
 put_octets value [] = refl
-put_octets value (first ∷ others) =
-    placed_octets (octet_order value.items first.items) value first others (insert_key (λ (a b : Vec ℕ). octet_order a.items b.items) others value)
-    ∙ ap (placed (octet_order value.items first.items) value.items first.items (octets_of others)) (put_octets value others)
+put_octets value (first ∷ others) = grind (arith, placed_octets, put_octets value others)
 
 pub one_more : (value : Vec ℕ) (before after : List (Vec ℕ)) (octets : List ℕ) (others left whole : List (List ℕ))
     → after ≡ insert_key (λ (a b : Vec ℕ). octet_order a.items b.items) before value → value.items ≡ octets → left ≡ octets ∷ others
     → all_in_order left (octets_of before) ≡ whole → all_in_order others (octets_of after) ≡ whole
 unfolding all_in_order
-one_more value before after octets others left whole put is first so_far =
-    ap (all_in_order others) (ap octets_of put ∙ put_octets value before ∙ ap (λ (o : List ℕ). put_in_order o (octets_of before)) is)
-    ∙ sym (ap (λ (vs : List (List ℕ)). all_in_order vs (octets_of before)) first) ∙ so_far
+one_more value before after octets others left whole put is first so_far = grind (arith, put_octets)
 
 -- ---- no other matches
 
@@ -397,11 +382,7 @@ own_by : (read : Result ElementList ReadFault) (row : Row) → reading Explicit 
     → AllByRecursion HasKnownVr (elements_of (data_set_of row.octets)) × (has_key row.kind row.key (data_set_of row.octets) ≡ true)
 unfolding data_set_of
 own_by (Err fault) row is own = absurd cc
-own_by (Ok d) row is own =
-    let keys = (and_parts (bytes_eq (canonical Explicit d) row.octets)
-    (has_key row.kind row.key d && (has_above row.kind row.above d && is_within row.kind row.octets)) own).1 in
-    let key = (and_parts (has_key row.kind row.key d) (has_above row.kind row.above d && is_within row.kind row.octets) keys).0 in
-    rw is (read_has_known_vrs Explicit row.octets d is, key)
+own_by (Ok d) row is own = grind (arith, and_parts, read_has_known_vrs)
 
 abbrev HasOwnKey : Record → Type 0
 HasOwnKey r = AllByRecursion HasKnownVr (elements_of (data_set_of r.octets)) × (has_key r.kind r.key (data_set_of r.octets) ≡ true)
@@ -497,9 +478,7 @@ module _ (institution : List ℕ) (rows : List Row) (called : List ℕ) (query :
 
   skipped : answers (of institution rows) called query ≡ filter_map (answer_of (of institution rows) called query) (candidates (of institution rows) query)
   unfolding answers
-  skipped =
-      sym (given_skipped (answer_of (of institution rows) called query) (is_looked_at query) (asked_records (of institution rows) query)
-      (λ (r : Record) h other. not_looked_at r (looks_up query.level (own_values query)) refl h other))
+  skipped = grind (arith, given_skipped, not_looked_at)
 
 -- what is answered of the rows that are looked at
 pub answered_of_candidates : (old mid : List Row) (name given called : List ℕ) (query : Query) (found seen : List Row) (answered : List ElementList)
@@ -508,16 +487,10 @@ pub answered_of_candidates : (old mid : List Row) (name given called : List ℕ)
     → answered ≡ filter_map (λ (row : Row). answer_of (of given mid) called query (record_of row)) seen
     → answered ≡ answers (of name old) called query
 answered_of_candidates old mid name given called query found seen answered sound facts alone days same_name same_rows found_is seen_is answered_is =
-    let looked : seen ≡ map (row_of name) (candidates (of name old) query) =
-    seen_is ∙ found_is ∙ ap (λ (n : List ℕ). map (row_of n) (candidates (of n old) query)) same_name in
-    answered_is ∙ (λ i. filter_map (λ (row : Row). answer_of (of (same_name i) (same_rows i)) called query (record_of row)) (looked i))
-    ∙ given_of_each (λ (row : Row). answer_of (of name old) called query (record_of row)) (row_of name) (candidates (of name old) query)
-    ∙ sym (skipped name old called query sound (facts_give_known_vrs 16 None query.keys facts) alone days)
+    grind (arith, given_of_each, skipped, facts_give_known_vrs)
 
 -- where none are looked up, all that are asked for are looked at
 pub all_candidates : (institution : List ℕ) (rows : List Row) (query : Query) → looks_up query.level (own_values query) ≡ false
     → map (row_of institution) (filter (is_asked query.level query.keys) (asked_records (of institution rows) query))
     ≡ map (row_of institution) (candidates (of institution rows) query)
-all_candidates institution rows query none =
-    ap (λ (b : Bool). map (row_of institution) (filter (λ (r : Record). if b then has_one_of (own_values query) r else is_asked query.level query.keys r)
-    (asked_records (of institution rows) query))) (sym none)
+all_candidates institution rows query none = grind arith

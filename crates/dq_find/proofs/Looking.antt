@@ -19,14 +19,8 @@ module _ (institution : List ℕ) where
   -- an answer after calls that read
   pub looks_right : {A B : Type 0} (old new : State) (x : A) (a : B) (does : List Record → B) → Reads old new (Ok x)
       → (new.honest → a ≡ does (of institution old.rows)) → Looks old new institution does (Ok a)
-  looks_right old new x a does reads defined = record {
-    reads = reads_right old new x a reads;
-    answered = defined;
-  }
+  looks_right old new x a does reads defined = grind (arith, reads_right)
 
   pub looks_nothing : {B : Type 0} (it : State) (a : B) (does : List Record → B) → a ≡ does (of institution it.rows)
       → Looks it it institution does (Ok a)
-  looks_nothing it a does defined = record {
-    reads = reads_nothing it a;
-    answered = λ h. defined;
-  }
+  looks_nothing it a does defined = grind (arith, reads_nothing)

@@ -7,13 +7,9 @@ use Rattle.dq_dataset.specs.Tree.{ElementList}
 use Rattle.dq_dimse.specs.Receiving.{identifier_in}
 use Rattle.dq_dimse.specs.Statuses.{success, does_not_match_sop_class}
 use Rattle.dq_dimse.specs.Received.{Message}
-use Rattle.dq_match.specs.Identifiers.{is_query}
 use Rattle.dq_match.specs.Matching.{fits}
-use Rattle.dq_match.specs.Responses.{shown}
-use Rattle.dq_match.specs.Supported.{supported_part, has_unsupported}
 use Rattle.dq_dimse.proofs.Refusing.{identifier_refused}
 use Rattle.dq_match.specs.declared.responses.Found.{Found}
-use Rattle.dq_match.specs.declared.supported.KeyScope.TheVariants.{Identifier}
 use Rattle.dq_match.proofs.Answering.{given_where}
 use Rattle.dq_tables.specs.Rows.{Record, of}
 use Rattle.dq_tables.specs.Sound.{IsSound}
@@ -22,9 +18,9 @@ use Rattle.dq_tables.proofs.Rising.{one_list}
 use Rattle.dq_tables.proofs.Listing.{in_order_filter}
 use Rattle.dq_find.specs.declared.level.Level.{Level}
 use Rattle.dq_find.specs.declared.query.Query.{Query}
-use Rattle.dq_find.specs.Levels.{keys_of, level_of, has_keys_above}
+use Rattle.dq_find.specs.Levels.{level_of, has_keys_above}
 use Rattle.dq_find.specs.Computed.{completed}
-use Rattle.dq_find.specs.Queries.{query_at, query_in, query_of, told, answer_of, answers, asked_records, found_by, found}
+use Rattle.dq_find.specs.Queries.{query_at, query_in, query_of, told, answers, asked_records, found}
 use Rattle.dq_find.specs.Answers.{Matches, told_of, AreAnswers}
 use Rattle.dq_find.proofs.Answered.{answered_query, asked_in_order}
 use Rattle.dq_find.proofs.Asked.{asked_by_key}
@@ -34,19 +30,14 @@ use Rattle.dq_find.proofs.Asked.{asked_by_key}
 query_if : (keys : ElementList) (level : Level) (optional has well : Bool) (query : Query) → has_keys_above level keys ≡ has
     → (if has && well then Ok (record { level = level; keys = keys; optional = optional }) else Err does_not_match_sop_class) ≡ Ok query
     → has_keys_above query.level query.keys ≡ true
-query_if keys level optional true true query has e =
-    let made : Query = record { level = level; keys = keys; optional = optional } in
-    let same : made ≡ query = cc in
-    ap (λ (q : Query). has_keys_above q.level q.keys) (sym same) ∙ has
+query_if keys level optional true true query has e = grind arith
 query_if keys level optional true false query has e = absurd (cc)
 query_if keys level optional false well query has e = absurd (cc)
 
 query_from : (identifier : ElementList) (level : Option Level) (query : Query) → query_at identifier level ≡ Ok query
     → has_keys_above query.level query.keys ≡ true
 query_from identifier None query e = absurd (cc)
-query_from identifier (Some level) query e =
-    let keys = supported_part (Identifier (keys_of level)) identifier in
-    query_if keys level (has_unsupported (Identifier (keys_of level)) identifier) (has_keys_above level keys) (is_query keys) query refl e
+query_from identifier (Some level) query e = grind (arith, query_if)
 
 query_read : (identifier : Result ElementList ℕ) (query : Query) → query_in identifier ≡ Ok query → has_keys_above query.level query.keys ≡ true
 query_read (Err status) query e = absurd (cc)
@@ -69,9 +60,7 @@ module _ (records : List Record) (called : List ℕ) (query : Query) where
 
   all_told : answers records called query ≡ map (told_of records called query) (filter is_fit (asked_records records query))
   unfolding answers
-  all_told =
-      given_where (answer_of records called query) is_fit (told_of records called query)
-      (λ (r : Record). told_if called query (shown query.keys (completed records query.level r)) (is_fit r)) (asked_records records query)
+  all_told = grind (arith, given_where, told_if)
 
 module _ (institution : List ℕ) (rows : List Row) (called : List ℕ) (query : Query) (sound : IsSound rows)
     (there : has_keys_above query.level query.keys ≡ true) where
@@ -85,17 +74,10 @@ module _ (institution : List ℕ) (rows : List Row) (called : List ℕ) (query :
       record { kept = asked.0; level = asked.1; above = asked.2; fit = kept.1 }
 
   match_to : (r : Record) → Matches own query r → IsAmong r (filter (is_fit own called query) (asked_records own query))
-  match_to r matches =
-      among_filter (is_fit own called query) r (asked_records own query)
-      ((asked_by_key institution rows query r sound there).1 (matches.kept, matches.level, matches.above)) matches.fit
+  match_to r matches = grind (arith, among_filter, asked_by_key)
 
   are_answers : AreAnswers own called query (answers own called query)
-  are_answers = record {
-    matching = filter (is_fit own called query) (asked_records own query);
-    in_order = in_order_filter (is_fit own called query) (asked_records own query) (asked_in_order institution rows query sound.rising);
-    exactly = λ r. (match_from r, match_to r);
-    each_told = all_told own called query;
-  }
+  are_answers = grind (arith, in_order_filter, asked_in_order, match_from, match_to, all_told)
 
 pub matching_in_order : (institution : List ℕ) (rows : List Row) (called : List ℕ) (message : Message) (syntax : Syntax) (query : Query) → IsSound rows
     → query_of message syntax ≡ Ok query
@@ -115,10 +97,7 @@ unmade made false status e = wrong_status status (cc)
 
 unmatched : (identifier : ElementList) (level : Option Level) (status : ℕ) → query_at identifier level ≡ Err status → status ≢ success
 unmatched identifier None status e = wrong_status status (cc)
-unmatched identifier (Some level) status e =
-    let keys = supported_part (Identifier (keys_of level)) identifier in
-    let optional = has_unsupported (Identifier (keys_of level)) identifier in
-    unmade (record { level = level; keys = keys; optional = optional }) (has_keys_above level keys && is_query keys) status e
+unmatched identifier (Some level) status e = grind (arith, unmade)
 
 refused_from : (message : Message) (syntax : Syntax) (identifier : Result ElementList ℕ) (status : ℕ) → identifier_in message syntax ≡ identifier
     → query_in identifier ≡ Err status → status ≢ success
@@ -138,9 +117,7 @@ module _ (institution : List ℕ) (rows : List Row) (called : List ℕ) (message
       → (q : Query) × (query_of message syntax ≡ Ok q) × AreAnswers (of institution rows) called q found_own.answers
   unfolding found
   not_refused (Ok query) is e = (query, is, matching_in_order institution rows called message syntax query sound is)
-  not_refused (Err status) is e =
-      absurd (query_refused message syntax status is
-      (sym (ap (λ (q : Result Query ℕ). (found_by (of institution rows) called q).status) is) ∙ e))
+  not_refused (Err status) is e = grind (arith, query_refused)
 
 pub succeeded_in_order : (institution : List ℕ) (rows : List Row) (called : List ℕ) (message : Message) (syntax : Syntax) → IsSound rows
     → (found (of institution rows) called message syntax).status ≡ success

@@ -93,11 +93,7 @@ all_stays (value ∷ values) ys ordered = all_stays values (put_in_order value y
 pub all_from : (x : List ℕ) (values ys : Values) → IsAmong x (all_in_order values ys) → IsAmong x values ⊎ IsAmong x ys
 unfolding all_in_order
 all_from x [] ys h = inr h
-all_from x (value ∷ values) ys h =
-    elim (all_from x values (put_in_order value ys) h) [
-      | inl k ↦ inl (inr k)
-      | inr k ↦ elim (put_from x value ys k) [ inl e ↦ inl (inl e) | inr there ↦ inr there ]
-    ]
+all_from x (value ∷ values) ys h = grind (arith, put_from, all_from x values (put_in_order value ys) h)
 
 pub all_to : (x : List ℕ) (values ys : Values) → IsAmong x values ⊎ IsAmong x ys → IsAmong x (all_in_order values ys)
 unfolding all_in_order

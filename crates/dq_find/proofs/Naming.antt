@@ -1,5 +1,5 @@
 -- Where a query gives its level's own unique key values, no record with another matches.
-use Rattle.std.proofs.Common.{◌≡◌, ℕ, Bool, true, false, ◌||◌, ◌&&◌, not, List, [], ◌∷◌, Option, Some, None, is_some, unwrap_or, inl, inr, refl, sym, ap, ◌∙◌, if◌then◌else◌}
+use Rattle.std.proofs.Common.{◌≡◌, ℕ, Bool, true, false, ◌||◌, ◌&&◌, not, List, [], ◌∷◌, Option, Some, None, is_some, unwrap_or, inl, inr, refl, sym, ap, ◌∙◌, if◌then◌else◌, arith}
 use Rattle.std.specs.List.{AllByRecursion, list_any}
 use Rattle.std.specs.Str.{bytes_eq}
 use Rattle.std.proofs.lemmas.Slice.Eq.{bytes_eq-Decides}
@@ -88,18 +88,14 @@ pub record HasValues (tag : Tag) (keys : ElementList) (values : List (List ℕ))
 
 none_named : (octets : List ℕ) (values : List (List ℕ)) → octets ≡ [] → parts UI octets ≡ values → names_records values ≡ true → ⊥
 unfolding parts trimmed unpadded without_leading without_trailing is_padded ignores_leading_spaces
-none_named octets values none is named =
-    let nothing : names_records (parts UI []) ≡ true = ap (λ (o : List ℕ). names_records (parts UI o)) (sym none) ∙ ap names_records is ∙ named in
-    absurd (cc nothing)
+none_named octets values none is named = grind arith
 
 values_by : (tag : Tag) (keys : ElementList) (values : List (List ℕ)) (e : Element) (v : Value) → element_at tag keys ≡ Some e → e.value ≡ v
     → parts UI (octets_in (Some e)) ≡ values → names_records values ≡ true → HasValues tag keys values
 values_by tag keys values e (Octets octets) there holds is named =
     let same : octets_in (Some e) ≡ octets = rw holds refl in
     record { element = e; octets = octets; there = there; holds = holds; parted = ap (parts UI) (sym same) ∙ is }
-values_by tag keys values e (Items items) there holds is named =
-    let none : octets_in (Some e) ≡ [] = rw holds refl in
-    absurd (none_named (octets_in (Some e)) values none is named)
+values_by tag keys values e (Items items) there holds is named = grind (arith, none_named)
 
 values_in_element : (tag : Tag) (keys : ElementList) (values : List (List ℕ)) (found : Option Element) → element_at tag keys ≡ found
     → parts UI (octets_in found) ≡ values → names_records values ≡ true → HasValues tag keys values

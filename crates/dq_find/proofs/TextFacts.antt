@@ -36,21 +36,11 @@ even_by true vr value h = same_number (length value % 2) 0 h
 even_by false vr value h = rw (length-append value (pad_of vr ∷ [])) (odd_filled (length value) (other_number (length value % 2) 0 h))
 
 plain : (tag : Tag) (vr : Vr) (value : List ℕ) → vr ≡ unwrap_or (known_vr tag) UN → is_sequence (known_vr tag) ≡ false → IsPlain tag vr (padded vr value)
-plain tag vr value known no_sequence = record {
-  by_dictionary = known;
-  no_sequence = no_sequence;
-  even = even_by (nat_eq (length value % 2) 0) vr value refl;
-}
+plain tag vr value known no_sequence = grind (arith, nat_tests, even_by)
 
 placed : (last : Option Tag) (tag : Tag) → follows last tag ≡ true → tag.group ≢ 0xFFFE → tag.element ≢ 0 → tag.group < 2 ^ 16
     → tag.element < 2 ^ 16 → IsElementTag last tag
-placed last tag rises no_delimiter no_length group number = record {
-  rises = rises;
-  no_delimiter = no_delimiter;
-  no_length = no_length;
-  group = group;
-  number = number;
-}
+placed last tag rises no_delimiter no_length group number = grind (arith, nat_tests)
 
 pub study_values_facts : (modalities : List ℕ) (series images : ℕ) → IsDataSet (study_values modalities series images)
 unfolding study_values known_vr vr_in dictionary is_below
@@ -102,11 +92,7 @@ pub study_values_of : (elements : List Element) (modalities series_text images_t
     ∷ (text_element tags.number_of_study_related_series IS series_text ∷ (text_element tags.number_of_study_related_instances IS images_text ∷ []))
     → series_text ≡ decimal series → images_text ≡ decimal images → as_elements elements ≡ study_values modalities series images
 unfolding study_values
-study_values_of elements modalities series_text images_text series images made told_series told_images =
-    ap as_elements made
-    ∙ (λ i. text tags.modalities_in_study CS modalities
-    (text tags.number_of_study_related_series IS (told_series i)
-    (text tags.number_of_study_related_instances IS (told_images i) no_elements)))
+study_values_of elements modalities series_text images_text series images made told_series told_images = grind (arith, nat_tests)
 
 pub series_values_of : (elements : List Element) (images_text : List ℕ) (images : ℕ)
     → elements ≡ text_element tags.number_of_series_related_instances IS images_text ∷ [] → images_text ≡ decimal images
@@ -120,7 +106,4 @@ pub about_answers_of : (elements : List Element) (name title called : List ℕ) 
     ∷ (text_element tags.retrieve_ae_title AE title ∷ (text_element tags.instance_availability CS (codes "UNAVAILABLE") ∷ []))
     → name ≡ name_of level → title ≡ stripped called → as_elements elements ≡ about_answers called level
 unfolding about_answers
-about_answers_of elements name title called level made is_name is_title =
-    ap as_elements made
-    ∙ (λ i. text tags.query_retrieve_level CS (is_name i)
-    (text tags.retrieve_ae_title AE (is_title i) (text tags.instance_availability CS (codes "UNAVAILABLE") no_elements)))
+about_answers_of elements name title called level made is_name is_title = grind (arith, nat_tests)

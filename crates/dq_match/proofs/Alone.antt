@@ -1,6 +1,6 @@
 -- Which keys are met alone: those that are left when what tells how a query is answered, and the
 -- date and the time of a period, are passed over.
-use Rattle.std.proofs.Common.{◌≡◌, Bool, true, false, ◌||◌, ◌&&◌, not, List, [], ◌∷◌, ◌++◌, inl, inr, refl, ap, ◌∙◌}
+use Rattle.std.proofs.Common.{◌≡◌, Bool, true, false, ◌||◌, ◌&&◌, List, [], ◌∷◌, ◌++◌, inl, inr, refl, ◌∙◌, arith}
 use Rattle.std.specs.List.{list_any, list_all}
 use Rattle.dq_list.specs.Among.{IsAmong}
 use Rattle.dq_vr.specs.declared.Tag.{Tag}
@@ -43,7 +43,4 @@ is_among tags tag = list_any (λ one. is_tag one tag) tags
 -- a key that is none of those and none of some others
 pub stands_alone : (joined : Bool) (others : List Tag) (tag : Tag) → is_among (other_than_keys ++ (others ++ starts)) tag ≡ false
     → (is_among others tag ≡ false) × (is_passed Outer joined tag ≡ false)
-stands_alone joined others tag h =
-    let one = none_of (λ wanted. is_tag wanted tag) other_than_keys (others ++ starts) h in
-    let two = none_of (λ wanted. is_tag wanted tag) others starts one.1 in
-    (two.0, not_passed joined Outer tag (ap not one.0) (no_start _ _ two.1))
+stands_alone joined others tag h = grind (arith, none_of, not_passed, no_start)

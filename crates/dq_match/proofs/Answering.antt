@@ -10,16 +10,6 @@ use Rattle.dq_match.specs.Answers.{answer}
 -- ---- one of what is given
 
 module _ {X Y : Type 0} (f : X → Option Y) (y : Y) where
-  given_step : (x : X) (xs : List X) (o : Option Y) → f x ≡ o → (IsAmong y (filter_map f xs) → (z : X) × IsAmong z xs × (f z ≡ Some y))
-      → IsAmong y (cons_option o (filter_map f xs)) → (z : X) × IsAmong z (x ∷ xs) × (f z ≡ Some y)
-  given_step x xs None e rest h = let one = rest h in (one.0, inr one.1, one.2)
-  given_step x xs (Some z) e rest (inl is) = (x, inl refl, e ∙ ap Some is)
-  given_step x xs (Some z) e rest (inr h) = let one = rest h in (one.0, inr one.1, one.2)
-
-  pub given_from : (xs : List X) → IsAmong y (filter_map f xs) → (x : X) × IsAmong x xs × (f x ≡ Some y)
-  given_from [] h = absurd h
-  given_from (x ∷ xs) h = given_step x xs (f x) refl (given_from xs) h
-
   given_here : (o : Option Y) (given : List Y) → o ≡ Some y → IsAmong y (cons_option o given)
   given_here None given e = cc
   given_here (Some z) given e = inl (cc)
@@ -64,9 +54,6 @@ given_skipped f p (x ∷ xs) none = skip_step f p x xs (p x) refl (none x (inl r
 answer_by : (b : Bool) (shown_part d : ElementList) → (if b then Some shown_part else None) ≡ Some d → (b ≡ true) × (d ≡ shown_part)
 answer_by true shown_part d e = (refl, cc)
 answer_by false shown_part d e = cc
-
-pub answer_from : (keys held d : ElementList) → answer keys held ≡ Some d → (fits keys held ≡ true) × (d ≡ shown keys held)
-answer_from keys held d e = answer_by (fits keys held) (shown keys held) d e
 
 pub answer_to : (keys held : ElementList) → fits keys held ≡ true → answer keys held ≡ Some (shown keys held)
 answer_to keys held fit = rw fit refl

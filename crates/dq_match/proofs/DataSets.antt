@@ -18,13 +18,7 @@ follows-trans None tag next e f = refl
 follows-trans (Some last) tag next e f = is_below-trans last tag next e f
 
 earlier : (last : Option Tag) (tag next : Tag) → follows last tag ≡ true → IsElementTag (Some tag) next → IsElementTag last next
-earlier last tag next e h = record {
-  rises = follows-trans last tag next e h.rises;
-  no_delimiter = h.no_delimiter;
-  no_length = h.no_length;
-  group = h.group;
-  number = h.number;
-}
+earlier last tag next e h = grind (arith, nat_tests, follows-trans)
 
 -- elements after a tag are elements after an earlier one
 pub after_earlier : (levels : ℕ) (last : Option Tag) (tag : Tag) (d : ElementList) → follows last tag ≡ true
@@ -45,9 +39,7 @@ mutual
       → AreElements levels last (supported_part scope d)
   part_facts scope levels last no_elements h = tt
   part_facts scope levels last (element t v o rest) h =
-      let others = part_facts scope levels (Some t) rest h.2 in
-      elements_by (is_supported scope t) levels last (element t v o (supported_part scope rest)) (supported_part scope rest)
-      (h.0, h.1, others) (after_earlier levels last t (supported_part scope rest) h.0.rises others)
+      grind (arith, nat_tests, elements_by, after_earlier, part_facts scope levels (Some t) rest h.2)
   part_facts scope levels last (sequence t v items rest) h =
       let others = part_facts scope levels (Some t) rest h.4 in
       elements_by (is_supported scope t) levels last (sequence t v (supported_items (below scope t) items) (supported_part scope rest))

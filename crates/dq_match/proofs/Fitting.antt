@@ -1,5 +1,5 @@
 -- A record fits keys where each that stands alone is met, and the period, if there is one, too.
-use Rattle.std.proofs.Common.{◌≡◌, ◌↔◌, Bool, true, false, ◌||◌, ◌&&◌, inl, inr, List, [], ◌∷◌, Option, Some, None, is_some, refl, sym, ap, ◌∙◌, subst}
+use Rattle.std.proofs.Common.{◌≡◌, ◌↔◌, Bool, true, false, ◌||◌, ◌&&◌, inl, inr, List, [], ◌∷◌, Option, Some, None, is_some, refl, sym, ap, ◌∙◌, arith}
 use Rattle.std.specs.Prelude.{IfSome}
 use Rattle.std.specs.List.{list_any}
 use Rattle.std.proofs.lemmas.Bool.{and_parts}
@@ -15,7 +15,7 @@ use Rattle.dq_match.specs.declared.keys.Place.{Place}
 use Rattle.dq_match.specs.declared.keys.Place.TheVariants.{Inner}
 use Rattle.dq_match.specs.Keys.{items_in}
 use Rattle.dq_match.specs.Values.{octets_meet}
-use Rattle.dq_match.specs.Matching.{period, is_passed, with_period, each_met, items_meet, all_met, meets}
+use Rattle.dq_match.specs.Matching.{is_passed, with_period, each_met, items_meet, all_met, meets}
 use Rattle.dq_match.specs.Fitting.{EachIsMet, PeriodIsMet, SomeItemFits}
 
 -- ---- one key after the other
@@ -38,9 +38,7 @@ and_both false b is h = cc
 module _ (place : Place) (held : ElementList) (joined : Bool) where
   first_met : (key : Element) (rest : ElementList) → (is_passed place joined key.tag || meets key (element_at key.tag held)) ≡ true
       → AllAreMet place held joined (elements_of rest) → AllAreMet place held joined (key ∷ elements_of rest)
-  first_met key rest here later wanted (inl is) =
-      subst (λ (k : Element). is_passed place joined k.tag ≡ false → meets k (element_at k.tag held) ≡ true) is
-      (either (is_passed place joined key.tag) (meets key (element_at key.tag held)) here)
+  first_met key rest here later wanted (inl is) = grind (arith, either)
   first_met key rest here later wanted (inr h) = later wanted h
 
   same_items : (tag : Tag) (items : ItemList) → items_meet items (items_in (element_at tag held))
@@ -81,11 +79,7 @@ with_to None met h in_period = h
 with_to (Some inside) met h in_period = and_both inside (met true) in_period h
 
 pub fits_each : (place : Place) (keys held : ElementList) → (all_met place keys held ≡ true) ↔ (EachIsMet place keys held × PeriodIsMet keys held)
-fits_each place keys held = (
-  λ h. (let parts = with_from (period keys held) (each_met keys place held) h in
-      (each_from place held (is_some (period keys held)) keys parts.0, parts.1)),
-  λ parts. with_to (period keys held) (each_met keys place held) (each_to place held (is_some (period keys held)) keys parts.0) parts.1,
-)
+fits_each place keys held = grind (arith, with_from, each_from, with_to, each_to)
 
 -- ---- items
 

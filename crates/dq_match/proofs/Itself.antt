@@ -33,9 +33,7 @@ octet_itself casing octet =
 
 wild-step : (casing : Casing) (octet : ℕ) (pattern : List ℕ) (b : Bool) → nat_eq octet any_run ≡ b
     → wild casing pattern pattern ≡ true → wild casing (octet ∷ pattern) (octet ∷ pattern) ≡ true
-wild-step casing octet pattern true is_run rest =
-    rw is_run (or_right (wild casing pattern (octet ∷ pattern)) (after_run (wild casing pattern) pattern)
-    (run_of_none (wild casing pattern) pattern rest))
+wild-step casing octet pattern true is_run rest = grind (arith, nat_tests, or_right, run_of_none)
 wild-step casing octet pattern false is_run rest = rw (is_run, octet_itself casing octet) rest
 
 pub wild_itself : (casing : Casing) (value : List ℕ) → wild casing value value ≡ true

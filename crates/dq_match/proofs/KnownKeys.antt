@@ -1,5 +1,5 @@
 -- The data dictionary has every tag that is supported.
-use Rattle.std.proofs.Common.{◌≡◌, Bool, true, false, cond, ◌||◌, ◌&&◌, List, [], ◌∷◌, refl, ap, subst, arith, is_some, inl, inr, ◌⊎◌}
+use Rattle.std.proofs.Common.{◌≡◌, Bool, true, false, cond, ◌||◌, ◌&&◌, List, [], ◌∷◌, refl, subst, arith, is_some, inl, inr, ◌⊎◌}
 use Rattle.std.proofs.lemmas.Bool.Decides.{nat_tests}
 use Rattle.std.specs.List.{list_all}
 use Rattle.dq_vr.specs.declared.Tag.{Tag}
@@ -18,10 +18,7 @@ abbrev are_known : List Tag → Bool
 are_known listed = list_all (λ tag. is_some (known_vr tag)) listed
 
 pub same_tag : (a b : Tag) → is_tag a b ≡ true → a ≡ b
-same_tag a b h =
-    let group : a.group ≡ b.group = grind (arith, nat_tests) in
-    let number : a.element ≡ b.element = grind (arith, nat_tests) in
-    λ i. record { group = group i; element = number i }
+same_tag a b h = grind (arith, nat_tests)
 
 pub both : (a b : Bool) → (a && b) ≡ true → (a ≡ true) × (b ≡ true)
 both true b h = (refl, h)
@@ -68,17 +65,11 @@ unfolding leaves
 left_known Study tag h = among_known tag other_than_keys others_known h
 left_known Series tag h = among_known tag other_than_keys others_known h
 left_known Image tag h = among_known tag other_than_keys others_known h
-left_known Entry tag h =
-    among_known tag other_than_keys others_known
-    (ap (λ (b : Bool). b || is_among tag (tags.query_retrieve_level ∷ tags.retrieve_ae_title ∷ tags.instance_availability ∷ [])) h)
+left_known Entry tag h = grind (arith, nat_tests, among_known, others_known)
 
 supported_known : (scope : KeyScope) (tag : Tag) → is_supported scope tag ≡ true → is_some (known_vr tag) ≡ true
 unfolding is_supported
-supported_known (Identifier list) tag h =
-    elim (either (is_among tag (keys_of list)) (leaves list tag) h) [
-      | inl listed ↦ among_known tag (keys_of list) (keys_known list) listed
-      | inr left ↦ left_known list tag left
-    ]
+supported_known (Identifier list) tag h = grind (arith, nat_tests, either, among_known, keys_known, left_known)
 supported_known Step tag h = among_known tag step_keys step_known h
 supported_known Code tag h = among_known tag code_keys code_known h
 supported_known Reference tag h = among_known tag reference_keys reference_known h
@@ -92,9 +83,7 @@ known_by false tag whole rest known h k = k
 mutual
   pub part_known : (scope : KeyScope) (d : ElementList) → HasKnownTags (supported_part scope d)
   part_known scope no_elements = tt
-  part_known scope (element t v o rest) =
-      known_by (is_supported scope t) t (element t v o (supported_part scope rest)) (supported_part scope rest) (supported_known scope t)
-      (λ h. (h, part_known scope rest)) (part_known scope rest)
+  part_known scope (element t v o rest) = grind (arith, nat_tests, known_by, supported_known, part_known scope rest)
   part_known scope (sequence t v items rest) =
       known_by (is_supported scope t) t (sequence t v (supported_items (below scope t) items) (supported_part scope rest)) (supported_part scope rest)
       (supported_known scope t)

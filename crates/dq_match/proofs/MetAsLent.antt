@@ -17,7 +17,7 @@ use Rattle.dq_dataset.specs.declared.data_set.Value.TheVariants.{Octets, Items}
 use Rattle.dq_dataset.specs.Tree.{ElementList, no_elements, element, sequence}
 use Rattle.dq_dataset.specs.View.{elements_of, has_tag}
 use Rattle.dq_dataset.specs.Values.{element_at, octets_in}
-use Rattle.dq_dataset.specs.Rules.{follows, padded, pad_of, is_sequence}
+use Rattle.dq_dataset.specs.Rules.{follows, padded, pad_of}
 use Rattle.dq_dataset.specs.Facts.{AreElements, IsDataSet}
 use Rattle.dq_dataset.specs.Grammar.{IsSpelled}
 use Rattle.dq_dataset.specs.Reading.{reading}
@@ -101,9 +101,7 @@ no_sequence vr octets seq plain =
 -- the value of an element that is no sequence, and even, is what is lent
 lent_value : (x : Spelled) (e : Element) (v : Value) → e.value ≡ v → IsLentValue x v → IsSequenceAt x.vr v → are_the_value x.vr x.octets ≡ true
     → octets_in (Some e) ≡ x.octets
-lent_value x e (Octets held) is lent seq plain =
-    let even = and_parts (not (is_sequence (Some x.vr))) (length x.octets % 2 == 0) plain in
-    ap (λ (v : Value). octets_in (Some (record e { value = v }))) is ∙ lent ∙ even_padded x.vr x.octets _ refl even.1
+lent_value x e (Octets held) is lent seq plain = grind (arith, nat_tests, and_parts, even_padded)
 lent_value x e (Items items) is lent seq plain = absurd (no_sequence x.vr x.octets seq plain)
 
 asked : (later : List Tag) (x : Spelled) (key : Element) (v : Value) (e : Element) → octets_in (Some e) ≡ x.octets
@@ -153,8 +151,5 @@ module _ (later : List Tag) (keys : List Element) (octets : List ℕ) (xs : List
     (reads : (d : ElementList) → IsSpelled Explicit octets d → reading Explicit octets ≡ Ok d) where
   pub passes : AgreesWith Explicit octets xs → list_all (is_met later (result_unwrap_or (reading Explicit octets) no_elements)) keys ≡ true
       → all_meet later keys true xs ≡ true
-  passes (inl one) met =
-      each_by later one.0 (facts one.0 one.1) keys
-      (ap (λ (r : Result ElementList ReadFault). list_all (is_met later (result_unwrap_or r no_elements)) keys) (sym (reads one.0 one.1)) ∙ met)
-      xs (elements_of one.0) one.2 (λ e a. a)
+  passes (inl one) met = grind (arith, nat_tests, each_by)
   passes (inr none) met = faulty_meets later keys true none.1 xs (elements_of none.0) none.3

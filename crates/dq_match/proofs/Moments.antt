@@ -1,5 +1,5 @@
 -- Ranges of dates as an order of days, and periods as an order of moments.
-use Rattle.std.proofs.Common.{◌≡◌, ℕ, ℤ, ◌≤◌, ◌≤ℤ◌, ◌<ℤ◌, Bool, true, false, cond, nat_le, ◌||◌, ◌&&◌, ◌↔◌, ◌⊎◌, inl, inr, List, [], ◌∷◌, Some, None, refl, ap, subst, arith}
+use Rattle.std.proofs.Common.{◌≡◌, ℕ, ℤ, ◌≤◌, ◌≤ℤ◌, ◌<ℤ◌, Bool, true, false, cond, nat_le, ◌||◌, ◌&&◌, ◌↔◌, ◌⊎◌, List, [], ◌∷◌, Some, None, refl, ap, subst, arith}
 use Rattle.std.specs.Prelude.{int_le, int_lt}
 use Rattle.std.specs.Ordering.{int_eq, is_eq}
 use Rattle.std.specs.declared.cmp.Ordering.TheVariants.{Less, Equal, Greater}
@@ -18,10 +18,7 @@ true_le : (a b : ℤ) → a ≤ℤ b → int_le a b ≡ true
 true_le a b h = grind (arith, ints)
 
 pub has_day_between : (first last date : ℤ) → (has_day (Some first, Some last) date ≡ true) ↔ ((first ≤ℤ date) × (date ≤ℤ last))
-has_day_between first last date = (
-  λ h. (let parts = both (int_le first date) (int_le date last) h in (le_true first date parts.0, le_true date last parts.1)),
-  λ h. (λ i. true_le first date h.0 i && true_le date last h.1 i),
-)
+has_day_between first last date = grind (arith, nat_tests, both, le_true, true_le)
 
 lt_true : (a b : ℤ) → int_lt a b ≡ true → a <ℤ b
 lt_true a b h = grind (arith, ints)
@@ -63,31 +60,13 @@ or_right false b h = h
 -- a moment is at or after another: by day, and then by microsecond
 pub is_from_is_order : (first : ℤ) (time : Span) (date : ℤ) (microsecond : ℕ)
     → (is_from (Some first) (Some time) date microsecond ≡ true) ↔ ((first <ℤ date) ⊎ ((first ≡ date) × (time.0 ≤ microsecond)))
-is_from_is_order first time date microsecond = (
-  λ h. (elim (either (int_lt first date) (int_eq first date && nat_le time.0 microsecond) h) [
-    | inl before ↦ inl (lt_true first date before)
-    | inr on ↦ (let parts = both (int_eq first date) (nat_le time.0 microsecond) on in inr (eq_true first date parts.0, nat_le_true time.0 microsecond parts.1))
-  ]),
-  λ h. (elim h [
-    | inl before ↦ or_left (int_lt first date) (int_eq first date && nat_le time.0 microsecond) (true_lt first date before)
-    | inr on ↦ or_right (int_lt first date) (int_eq first date && nat_le time.0 microsecond)
-        (λ i. true_eq first date on.0 i && true_nat_le time.0 microsecond on.1 i)
-  ]),
-)
+is_from_is_order first time date microsecond =
+    grind (arith, nat_tests, either, lt_true, both, eq_true, nat_le_true, or_left, true_lt, or_right, true_eq, true_nat_le)
 
 pub is_until_is_order : (last : ℤ) (time : Span) (date : ℤ) (microsecond : ℕ)
     → (is_until (Some last) (Some time) date microsecond ≡ true) ↔ ((date <ℤ last) ⊎ ((date ≡ last) × (microsecond ≤ time.1)))
-is_until_is_order last time date microsecond = (
-  λ h. (elim (either (int_lt date last) (int_eq date last && nat_le microsecond time.1) h) [
-    | inl before ↦ inl (lt_true date last before)
-    | inr on ↦ (let parts = both (int_eq date last) (nat_le microsecond time.1) on in inr (eq_true date last parts.0, nat_le_true microsecond time.1 parts.1))
-  ]),
-  λ h. (elim h [
-    | inl before ↦ or_left (int_lt date last) (int_eq date last && nat_le microsecond time.1) (true_lt date last before)
-    | inr on ↦ or_right (int_lt date last) (int_eq date last && nat_le microsecond time.1)
-        (λ i. true_eq date last on.0 i && true_nat_le microsecond time.1 on.1 i)
-  ]),
-)
+is_until_is_order last time date microsecond =
+    grind (arith, nat_tests, either, lt_true, both, eq_true, nat_le_true, or_left, true_lt, or_right, true_eq, true_nat_le)
 
 -- ---- the two halves of a range
 

@@ -1,5 +1,5 @@
 -- What the last octet is to the end of a name.
-use Rattle.std.proofs.Common.{◌≡◌, ℕ, Bool, true, false, cond, List, [], ◌∷◌, ◌++◌, length, refl, sym, ap, ◌∙◌, arith}
+use Rattle.std.proofs.Common.{◌≡◌, ℕ, Bool, true, false, cond, List, [], ◌∷◌, ◌++◌, length, refl, arith}
 use Rattle.dq_value.specs.Trimming.{kept_before, without_trailing}
 
 kept_before-push : (test : ℕ → Bool) (octet last : ℕ) (xs : List ℕ) → kept_before test octet (xs ++ last ∷ []) ≡ octet ∷ (xs ++ last ∷ [])
@@ -21,14 +21,10 @@ without_trailing-push test last (x ∷ xs) = rw (without_trailing-push test last
 
 module _ (test : ℕ → Bool) (kept octets : List ℕ) (same : without_trailing test kept ≡ without_trailing test octets) where
   pub pad_taken : (others : List ℕ) (last : ℕ) → kept ≡ others ++ last ∷ [] → test last ≡ true → without_trailing test others ≡ without_trailing test octets
-  pad_taken others last cut pad =
-      sym (without_trailing-push test last others ∙ ap (λ b. cond b (without_trailing test others) (others ++ last ∷ [])) pad)
-      ∙ ap (without_trailing test) (sym cut) ∙ same
+  pad_taken others last cut pad = grind (arith, without_trailing-push)
 
   pub no_pad_left : (others : List ℕ) (last : ℕ) → kept ≡ others ++ last ∷ [] → test last ≡ false → kept ≡ without_trailing test octets
-  no_pad_left others last cut pad =
-      cut ∙ sym (without_trailing-push test last others ∙ ap (λ b. cond b (without_trailing test others) (others ++ last ∷ [])) pad)
-      ∙ ap (without_trailing test) (sym cut) ∙ same
+  no_pad_left others last cut pad = grind (arith, without_trailing-push)
 
 pub nothing_left : (test : ℕ → Bool) (kept octets : List ℕ) → length kept ≡ 0 → without_trailing test kept ≡ without_trailing test octets
     → kept ≡ without_trailing test octets

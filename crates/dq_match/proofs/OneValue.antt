@@ -34,7 +34,7 @@ use Rattle.dq_match.specs.declared.keys.Place.TheVariants.{Inner}
 use Rattle.dq_match.specs.Fitting.{EachIsMet, PeriodIsMet}
 use Rattle.dq_match.specs.Keys.{is_tag}
 use Rattle.dq_match.specs.Matching.{asked_days, start_day, asked_times, start_time, period, is_passed, meets}
-use Rattle.dq_match.specs.Ranges.{Bounds, bound, bounds_of_ends, range_bounds, bounds_by_ends, bounds, single, unless_open, has_day, both, date_meets, is_from, is_until, is_within}
+use Rattle.dq_match.specs.Ranges.{Bounds, bound, bounds_of_ends, range_bounds, bounds_by_ends, bounds, single, unless_open, has_day, both, date_meets, is_within}
 use Rattle.dq_match.specs.Several.{is_plain}
 use Rattle.dq_match.specs.Values.{is_same, is_asterisk, is_universal, octets_meet, some_meet, value_meets, matching_of}
 use Rattle.dq_match.specs.Wildcards.{any_run}
@@ -175,19 +175,11 @@ lt_or_same a b also h = grind (arith, ints)
 module _ (value : List ℕ) (y : ℤ) (at : day value ≡ Some y) where
   first_by : (end : Option (List ℕ)) (bounded : Option ℤ) → bound day end ≡ Some bounded
       → ((x : ℤ) → bounded ≡ Some x → x ≤ℤ y) → (first : List ℕ) (x z : ℤ) → end ≡ Some first → day first ≡ Some x → day value ≡ Some z → x ≤ℤ z
-  first_by end bounded is le first x z there read found =
-      let same : y ≡ z = cc (sym at ∙ found) in
-      let bounds : option_map Some (day first) ≡ Some bounded = sym (ap (bound day) there) ∙ is in
-      let here : bounded ≡ Some x = cc (sym (ap (option_map Some) read) ∙ bounds) in
-      subst (λ (w : ℤ). x ≤ℤ w) same (le x here)
+  first_by end bounded is le first x z there read found = grind (arith, nat_tests)
 
   last_by : (end : Option (List ℕ)) (bounded : Option ℤ) → bound day end ≡ Some bounded
       → ((x : ℤ) → bounded ≡ Some x → y ≤ℤ x) → (last : List ℕ) (x z : ℤ) → end ≡ Some last → day last ≡ Some x → day value ≡ Some z → z ≤ℤ x
-  last_by end bounded is le last x z there read found =
-      let same : y ≡ z = cc (sym at ∙ found) in
-      let bounds : option_map Some (day last) ≡ Some bounded = sym (ap (bound day) there) ∙ is in
-      let here : bounded ≡ Some x = cc (sym (ap (option_map Some) read) ∙ bounds) in
-      subst (λ (w : ℤ). w ≤ℤ x) same (le x here)
+  last_by end bounded is le last x z there read found = grind (arith, nat_tests)
 
   open_le : (test : ℤ → Bool) (P : ℤ → Type 0) → ((x : ℤ) → test x ≡ true → P x) → (bounded : Option ℤ) → unless_open test bounded ≡ true
       → (x : ℤ) → bounded ≡ Some x → P x
@@ -208,17 +200,11 @@ module _ (value : List ℕ) (y : ℤ) (at : day value ≡ Some y) where
       }
 
   in_days : (found : Ends) (days : Bounds ℤ) → bounds_of_ends day found ≡ Some days → has_day days y ≡ true → IsBetween found value
-  in_days found days is h =
-      let parts = and_parts (unless_open (λ first. int_le first y) days.0) (unless_open (λ last. int_le y last) days.1) h in
-      between_by found (bound day found.0) (bound day found.1) (λ first. int_le first y) (λ last. int_le y last) refl refl
-      (λ x. le_true x y) (λ x. le_true y x) days is parts.0 parts.1
+  in_days found days is h = grind (arith, nat_tests, and_parts, between_by, le_true)
 
   in_period : (found : Ends) (days : Bounds ℤ) (times : Bounds Span) (time : Span) → bounds_of_ends day found ≡ Some days
       → is_within days times y time ≡ true → IsBetween found value
-  in_period found days times time is h =
-      let parts = and_parts (is_from days.0 times.0 y time.0) (is_until days.1 times.1 y time.0) h in
-      between_by found (bound day found.0) (bound day found.1) _ _ refl refl
-      (λ x. lt_or_same x y _) (λ x t. lt_or_same y x _ (t)) days is parts.0 parts.1
+  in_period found days times time is h = grind (arith, nat_tests, and_parts, between_by, lt_or_same)
 
 no_date : (octets : List ℕ) (x : ℤ) → octets ≡ any_run ∷ [] → day octets ≡ Some x → ⊥
 unfolding day date_in

@@ -1,5 +1,5 @@
 -- Where a piece of a pattern stands in a text.
-use Rattle.std.proofs.Common.{◌≡◌, ◌≢◌, ℕ, ◌+◌, ◌<◌, ◌≤◌, zero, suc, Bool, true, false, ◌||◌, List, [], ◌∷◌, length, take, drop, get_or, refl, sym, ◌∙◌, ap, arith}
+use Rattle.std.proofs.Common.{◌≡◌, ◌≢◌, ℕ, ◌+◌, ◌<◌, ◌≤◌, zero, suc, Bool, true, false, List, [], ◌∷◌, length, take, drop, get_or, refl, sym, ◌∙◌, ap, arith}
 use Rattle.std.proofs.lemmas.List.{get_or-drop, get_or-take}
 use Rattle.dq_match.specs.declared.wildcards.Casing.{Casing}
 use Rattle.dq_match.specs.Wildcards.{wild, after_run, stands_for, any_run}
@@ -10,12 +10,7 @@ use Rattle.dq_match.proofs.WordsInText.{fits_at, refuted, passed_over, none_fits
 module _ (casing : Casing) (pattern piece text : List ℕ) (count : ℕ) (within : count ≤ length pattern)
     (free : (k : ℕ) → k < count → get_or pattern k 0 ≢ any_run) (front : piece ≡ take count pattern) (long : length piece ≡ count) where
   no_word : IsWord pattern count []
-  no_word = record {
-    within = omega arith;
-    no_run = λ k h. free k (omega arith);
-    no_one = λ k h. absurd (omega arith);
-    there = λ k h. absurd (omega arith);
-  }
+  no_word = grind arith
 
   differs : (t : ℕ) → Differs casing piece text t → wild casing pattern (drop t text) ≡ false
   differs t one = refuted (wild casing pattern (drop t text)) (λ fits.
@@ -35,9 +30,7 @@ module _ (casing : Casing) (pattern piece text : List ℕ) (count : ℕ) (within
 -- a start at which the pattern does not fit is passed over
 pub gone_by_one : (casing : Casing) (pattern ahead rest : List ℕ) (octet : ℕ) → wild casing pattern ahead ≡ false → ahead ≡ octet ∷ rest
     → after_run (wild casing pattern) ahead ≡ after_run (wild casing pattern) rest
-gone_by_one casing pattern ahead rest octet here is =
-    ap (after_run (wild casing pattern)) is
-    ∙ (λ i. (ap (wild casing pattern) (sym is) ∙ here) i || after_run (wild casing pattern) rest)
+gone_by_one casing pattern ahead rest octet here is = grind arith
 
 pub none_behind : (casing : Casing) (pattern ahead : List ℕ) → wild casing pattern ahead ≡ false → length ahead ≡ 0
     → after_run (wild casing pattern) ahead ≡ false
@@ -60,8 +53,4 @@ none_shut n t shut = let wrong : true ≡ false = sym (open_at_first n t) ∙ sh
 
 pub differs_at : (casing : Casing) (piece text ahead : List ℕ) (at t : ℕ) → at < length piece → ahead ≡ drop at text
     → stands_for casing (get_or piece at 0) (get_or ahead t 0) ≡ false → Differs casing piece text t
-differs_at casing piece text ahead at t less back unlike =
-    let moved : at + t ≡ t + at = omega arith in
-    let octet : get_or ahead t 0 ≡ get_or text (t + at) 0 =
-    ap (λ (xs : List ℕ). get_or xs t 0) back ∙ get_or-drop at text t 0 ∙ ap (λ n. get_or text n 0) moved in
-    (at, less, (λ i. stands_for casing (get_or piece at 0) (sym octet i)) ∙ unlike)
+differs_at casing piece text ahead at t less back unlike = grind (arith, get_or-drop)

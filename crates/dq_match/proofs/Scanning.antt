@@ -1,5 +1,5 @@
 -- A pattern that goes along a text.
-use Rattle.std.proofs.Common.{◌≡◌, ℕ, zero, suc, ◌+◌, ◌≤◌, Bool, true, false, cond, nat_eq, ◌||◌, ◌&&◌, List, [], ◌∷◌, length, drop, refl, sym, ap, ◌∙◌, subst, arith, length-drop}
+use Rattle.std.proofs.Common.{◌≡◌, ℕ, zero, suc, ◌+◌, ◌≤◌, Bool, true, false, nat_eq, ◌||◌, ◌&&◌, List, [], ◌∷◌, length, drop, refl, sym, ap, ◌∙◌, subst, arith, length-drop}
 use Rattle.std.proofs.lemmas.Bool.Decides.{nat_tests}
 use Rattle.dq_match.specs.declared.wildcards.Casing.{Casing}
 use Rattle.dq_match.specs.declared.wildcards.Scan.{Scan}
@@ -25,17 +25,13 @@ not_same a b differ = grind (arith, nat_tests)
 
 pub at_octet : (casing : Casing) (first : ℕ) (others text : List ℕ) → (first ≡ any_run → ⊥)
     → wild casing (first ∷ others) text ≡ after_one (stands_for casing first) (wild casing others) text
-at_octet casing first others text differ =
-    ap (λ (b : Bool). cond b (after_run (wild casing others) text) (after_one (stands_for casing first) (wild casing others) text))
-    (not_same first any_run differ)
+at_octet casing first others text differ = grind (arith, nat_tests, not_same)
 
 drop_one : (count : ℕ) (xs : List ℕ) (x : ℕ) (rest : List ℕ) → drop count xs ≡ x ∷ rest → drop (count + 1) xs ≡ rest
 drop_one zero (y ∷ ys) x rest h = cc
 drop_one zero [] x rest h = cc
 drop_one (suc count) [] x rest h = cc
-drop_one (suc count) (y ∷ ys) x rest h =
-    let same : suc count + 1 ≡ suc (count + 1) = omega arith in
-    ap (λ n. drop n (y ∷ ys)) same ∙ drop_one count ys x rest h
+drop_one (suc count) (y ∷ ys) x rest h = grind (arith, nat_tests, drop_one count ys x rest h)
 
 after_one_rest : (first : ℕ → Bool) (test : List ℕ → Bool) (text : List ℕ) (count : ℕ) → after_one first test (drop count text) ≡ true
     → test (drop (count + 1) text) ≡ true

@@ -1,5 +1,5 @@
 -- Values that are met by equality, and values that are looked up in a set.
-use Rattle.std.proofs.Common.{◌≡◌, ℕ, Bool, true, false, not, nat_eq, nat_cmp, cond, ◌&&◌, ◌||◌, List, [], ◌∷◌, refl, sym, ap, ◌∙◌}
+use Rattle.std.proofs.Common.{◌≡◌, ℕ, Bool, true, false, not, nat_eq, nat_cmp, cond, ◌&&◌, ◌||◌, List, [], ◌∷◌, refl, sym, ap, ◌∙◌, arith}
 use Rattle.std.specs.Global.{Vec}
 use Rattle.std.specs.BTreeSet.{insert_key}
 use Rattle.std.specs.List.{list_any, list_all}
@@ -25,9 +25,7 @@ plain_parts false false c h = (refl, refl, h)
 pub plain_meets : (value text : List ℕ) → is_plain value ≡ true → wild Exact value text ≡ is_same value text
 plain_meets [] [] plain = refl
 plain_meets [] (octet ∷ others) plain = refl
-plain_meets (wanted ∷ value) [] plain =
-    let parts = plain_parts (nat_eq wanted any_run) (nat_eq wanted any_one) (is_plain value) plain in
-    ap (λ (b : Bool). cond b (after_run (wild Exact value) []) (after_one (stands_for Exact wanted) (wild Exact value) [])) parts.0
+plain_meets (wanted ∷ value) [] plain = grind (arith, plain_parts)
 plain_meets (wanted ∷ value) (octet ∷ others) plain =
     let parts = plain_parts (nat_eq wanted any_run) (nat_eq wanted any_one) (is_plain value) plain in
     ap (λ (b : Bool). cond b (after_run (wild Exact value) (octet ∷ others)) (after_one (stands_for Exact wanted) (wild Exact value) (octet ∷ others))) parts.0
@@ -111,6 +109,4 @@ found_in value (first ∷ others) = (λ i. is_eq-slice_cmp value first.items i |
 pub one_looked_up : (b : Bool) (value : List ℕ) (set : List (Vec ℕ)) (rest keys : List (List ℕ)) (whole : Bool)
     → list_any (λ (v : Vec ℕ). is_eq (slice_cmp nat_cmp value v.items)) set ≡ b → keys ≡ value ∷ rest → some_equal keys (octets_of set) ≡ whole
     → (b || some_equal rest (octets_of set)) ≡ whole
-one_looked_up b value set rest keys whole is first so_far =
-    ap (λ (t : Bool). t || some_equal rest (octets_of set)) (sym is ∙ found_in value set)
-    ∙ ap (λ (vs : List (List ℕ)). some_equal vs (octets_of set)) (sym first) ∙ so_far
+one_looked_up b value set rest keys whole is first so_far = grind (arith, found_in)

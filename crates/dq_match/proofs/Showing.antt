@@ -1,17 +1,17 @@
 -- What is shown of a record is a data set, and is put together key by key.
 use Rattle.std.proofs.Common.{◌≡◌, ℕ, ◌-◌, ◌+◌, ◌<◌, Bool, true, false, cond, not, ◌||◌, List, [], ◌∷◌, ◌++◌, Option, Some, None, option_map, map, filter, length, get_or, drop, refl, sym, ap, ◌∙◌, subst, arith, is_some, append_assoc}
-use Rattle.std.specs.List.{list_any, list_all}
+use Rattle.std.specs.List.{list_all}
 use Rattle.dq_vr.specs.declared.Tag.{Tag}
 use Rattle.dq_vr.specs.declared.Vr.{Vr}
 use Rattle.dq_vr.specs.declared.Vr.TheVariants.{CS}
 use Rattle.dq_vr.specs.Tag.{is_below}
-use Rattle.dq_vr.specs.Tags.{specific_character_set, query_retrieve_level, retrieve_ae_title, instance_availability}
+use Rattle.dq_vr.specs.Tags.{specific_character_set}
 use Rattle.dq_vr.specs.Dictionary.{Entry, dictionary, vr_in, known_vr}
 use Rattle.dq_dataset.specs.declared.data_set.Element.{Element}
 use Rattle.dq_dataset.specs.declared.data_set.Value.{Value}
 use Rattle.dq_dataset.specs.declared.data_set.Value.TheVariants.{Octets, Items}
 use Rattle.dq_dataset.specs.Tree.{ElementList, no_elements, element, sequence, ItemList, no_items, item}
-use Rattle.dq_dataset.specs.View.{as_elements, elements_of, items_of, list_of, with_value}
+use Rattle.dq_dataset.specs.View.{as_elements, elements_of, items_of, with_value}
 use Rattle.dq_dataset.specs.Facts.{IsElementTag, IsPlain, IsSequence, AreElements, AreItems, IsDataSet}
 use Rattle.dq_dataset.specs.Values.{element_at, octets_in}
 use Rattle.dq_dataset.proofs.Views.{elements_of-with_value, items_of-list_of}
@@ -47,13 +47,9 @@ found_by false levels tag e others same facts h = h
 
 found_facts : (levels : ℕ) (last : Option Tag) (tag : Tag) (d : ElementList) → AreElements levels last d → IfFound levels tag (element_at tag d)
 found_facts levels last tag no_elements h = tt
-found_facts levels last tag (element t v o rest) h =
-    found_by (is_tag t tag) levels tag (record { tag = t; vr = v; value = Octets o }) (element_at tag rest) (same_tag t tag) h.1
-    (found_facts levels (Some t) tag rest h.2)
+found_facts levels last tag (element t v o rest) h = grind (arith, found_by, same_tag, found_facts levels (Some t) tag rest h.2)
 found_facts levels last tag (sequence t v items rest) h =
-    found_by (is_tag t tag) levels tag (record { tag = t; vr = v; value = Items (list_of items) }) (element_at tag rest) (same_tag t tag)
-    (h.1, h.2, subst (λ (x : ItemList). AreItems (levels - 1) x) (sym (items_of-list_of items)) h.3)
-    (found_facts levels (Some t) tag rest h.4)
+    grind (arith, found_by, same_tag, items_of-list_of, found_facts levels (Some t) tag rest h.4)
 
 put_value : (levels : ℕ) (last : Option Tag) (t : Tag) (v : Vr) (x : Value) (rest : ElementList) → IsElementTag last t → ValueFacts levels t v x
     → AreElements levels (Some t) rest → AreElements levels last (with_value (record { tag = t; vr = v; value = x }) x rest)
@@ -62,9 +58,7 @@ put_value levels last t v (Items items) rest placed facts h = (placed, facts.0, 
 
 put_facts : (levels : ℕ) (last : Option Tag) (tag : Tag) (e : Element) (rest : ElementList) → IsElementTag last tag → FoundFacts levels tag e
     → AreElements levels (Some tag) rest → AreElements levels last (put e rest)
-put_facts levels last tag e rest placed facts h =
-    put_value levels last e.tag e.vr e.value rest (subst (λ (t : Tag). IsElementTag last t) (sym facts.0) placed) facts.1
-    (subst (λ (t : Tag). AreElements levels (Some t) rest) (sym facts.0) h)
+put_facts levels last tag e rest placed facts h = grind (arith, put_value)
 
 -- ---- what is shown
 
@@ -84,9 +78,7 @@ map_cond false f d ds = refl
 cut_facts : (levels : ℕ) (f : ElementList → ElementList) (test : ElementList → Bool) (items : List ElementList) → KeepsFacts levels f
     → AreItems levels (items_of items) → AreItems levels (items_of (map f (filter test items)))
 cut_facts levels f test [] keeps h = tt
-cut_facts levels f test (d ∷ ds) keeps h =
-    subst (λ (x : List ElementList). AreItems levels (items_of x)) (sym (map_cond (test d) f d (filter test ds)))
-    (cut_by_test (test d) levels f d (map f (filter test ds)) (keeps d h.0) (cut_facts levels f test ds keeps h.1))
+cut_facts levels f test (d ∷ ds) keeps h = grind (arith, map_cond, cut_by_test, cut_facts levels f test ds keeps h.1)
 
 items_by : (b : Bool) (levels : ℕ) (whole cut : List ElementList) → AreItems levels (items_of whole) → AreItems levels (items_of cut)
     → AreItems levels (items_of (cond b whole cut))
@@ -116,12 +108,15 @@ mutual
       → AreElements levels None held → AreElements levels last (shown_keys keys place held)
   shown_facts no_elements levels last place held h k = tt
   shown_facts (element t v o rest) levels last place held h k =
-      let others = shown_facts rest levels (Some t) place held h.2 k in
-      let e : Element = or_empty t v (Octets o) (element_at t held) in
-      elements_by (is_key place t) levels last (put e (shown_keys rest place held)) (shown_keys rest place held)
-      (put_facts levels last t e (shown_keys rest place held) h.0 (plain_or_empty levels t v o (element_at t held) h.1 (found_facts levels None t held k))
-      others)
-      (after_earlier levels last t (shown_keys rest place held) h.0.rises others)
+      grind (
+        arith,
+        elements_by,
+        put_facts,
+        plain_or_empty,
+        found_facts,
+        after_earlier,
+        shown_facts rest levels (Some t) place held h.2 k,
+      )
   shown_facts (sequence t v items rest) levels last place held h k =
       let others = shown_facts rest levels (Some t) place held h.4 k in
       let e : Element = or_empty t v (Items []) (option_map (with_cut (shown_items items)) (element_at t held)) in
@@ -176,14 +171,7 @@ neither false b h = refl
 -- every other known tag is above that of the character set
 known_above : (tag : Tag) → is_some (known_vr tag) ≡ true → is_key Outer tag ≡ true → is_below specific_character_set tag ≡ true
 unfolding known_vr vr_in
-known_above tag known key =
-    let others : Option Vr = vr_in (others_of dictionary) tag in
-    let found : is_some (cond (is_tag specific_character_set tag) (Some CS) others) ≡ true =
-    subst (λ (listed : List Entry). is_some (vr_in listed tag) ≡ true) first_of_dictionary known in
-    let other : is_tag specific_character_set tag ≡ false =
-    neither (is_tag specific_character_set tag)
-    (list_any (λ wanted. is_tag wanted tag) (query_retrieve_level ∷ retrieve_ae_title ∷ instance_availability ∷ [])) key in
-    above_all (others_of dictionary) tag rest_above (subst (λ (b : Bool). is_some (cond b (Some CS) others) ≡ true) other found)
+known_above tag known key = grind (arith, first_of_dictionary, neither, above_all, rest_above)
 
 set_by : (b : Bool) (whole rest : ElementList) → (b ≡ true → AreElements 16 (Some specific_character_set) whole)
     → AreElements 16 (Some specific_character_set) rest → AreElements 16 (Some specific_character_set) (cond b whole rest)
@@ -192,30 +180,36 @@ set_by false whole rest h k = k
 
 placed_above : (last : Option Tag) (tag : Tag) → IsElementTag last tag → is_below specific_character_set tag ≡ true
     → IsElementTag (Some specific_character_set) tag
-placed_above last tag placed above = record {
-  rises = above;
-  no_delimiter = placed.no_delimiter;
-  no_length = placed.no_length;
-  group = placed.group;
-  number = placed.number;
-}
+placed_above last tag placed above = grind arith
 
 shown_after_set : (keys : ElementList) (last : Option Tag) (held : ElementList) → AreElements 16 last keys → HasKnownTags keys → IsDataSet held
     → AreElements 16 (Some specific_character_set) (shown_keys keys Outer held)
 shown_after_set no_elements last held h known k = tt
 shown_after_set (element t v o rest) last held h known k =
-    let e : Element = or_empty t v (Octets o) (element_at t held) in
-    set_by (is_key Outer t) (put e (shown_keys rest Outer held)) (shown_keys rest Outer held)
-    (λ key. put_facts 16 (Some specific_character_set) t e (shown_keys rest Outer held) (placed_above last t h.0 (known_above t known.0 key))
-    (plain_or_empty 16 t v o (element_at t held) h.1 (found_facts 16 None t held k)) (shown_facts rest 16 (Some t) Outer held h.2 k))
-    (shown_after_set rest (Some t) held h.2 known.1 k)
+    grind (
+      arith,
+      set_by,
+      put_facts,
+      placed_above,
+      known_above,
+      plain_or_empty,
+      found_facts,
+      shown_facts,
+      shown_after_set rest (Some t) held h.2 known.1 k,
+    )
 shown_after_set (sequence t v items rest) last held h known k =
-    let e : Element = or_empty t v (Items []) (option_map (with_cut (shown_items items)) (element_at t held)) in
-    set_by (is_key Outer t) (put e (shown_keys rest Outer held)) (shown_keys rest Outer held)
-    (λ key. put_facts 16 (Some specific_character_set) t e (shown_keys rest Outer held) (placed_above last t h.0 (known_above t known.0 key))
-    (sequence_or_empty 16 t v (shown_items items) (element_at t held) h.1 h.2 (λ its. items_shown_facts items 15 its h.3) (found_facts 16 None t held k))
-    (shown_facts rest 16 (Some t) Outer held h.4 k))
-    (shown_after_set rest (Some t) held h.4 known.2 k)
+    grind (
+      arith,
+      set_by,
+      put_facts,
+      placed_above,
+      known_above,
+      sequence_or_empty,
+      items_shown_facts,
+      found_facts,
+      shown_facts,
+      shown_after_set rest (Some t) held h.4 known.2 k,
+    )
 
 set_facts : (found : Option Element) → IfFound 16 specific_character_set found → IfFound 16 specific_character_set (unless_empty found)
 set_facts None h = tt
@@ -226,13 +220,7 @@ set_facts (Some e) h = kept (is_empty (parts e.vr (octets_in (Some e))))
     kept false = h
 
 set_tag : IsElementTag None specific_character_set
-set_tag = record {
-  rises = refl;
-  no_delimiter = omega arith;
-  no_length = omega arith;
-  group = omega arith;
-  number = omega arith;
-}
+set_tag = grind arith
 
 first_facts : (first : Option Element) (rest : ElementList) → IfFound 16 specific_character_set first → IsDataSet rest
     → AreElements 16 (Some specific_character_set) rest → IsDataSet (put_first first rest)
@@ -241,10 +229,7 @@ first_facts (Some e) rest h k above = put_facts 16 None specific_character_set e
 
 pub shown_is_whole : (identifier held : ElementList) → IsDataSet identifier → HasKnownTags identifier → IsDataSet held
     → IsDataSet (put_first (character_set held) (shown_keys identifier Outer held))
-shown_is_whole identifier held h known k =
-    first_facts (character_set held) (shown_keys identifier Outer held)
-    (set_facts (element_at specific_character_set held) (found_facts 16 None specific_character_set held k))
-    (shown_is_data_set identifier Outer held h k) (shown_after_set identifier None held h known k)
+shown_is_whole identifier held h known k = grind (arith, first_facts, set_facts, found_facts, shown_is_data_set, shown_after_set)
 
 -- ---- key by key
 
@@ -285,10 +270,7 @@ shown_by : (t : Tag) (v : Vr) (x : Value) (place : Place) (rest held : ElementLi
     → elements_of (shown_keys (with_value (record { tag = t; vr = v; value = x }) x rest) place held)
     ≡ cond (is_key place t) (shown_element (record { tag = t; vr = v; value = x }) (element_at t held) ∷ elements_of (shown_keys rest place held))
     (elements_of (shown_keys rest place held))
-shown_by t v (Octets o) place rest held =
-    put_by (is_key place t) (or_empty t v (Octets o) (element_at t held)) (shown_keys rest place held)
-    ∙ ap (λ (e : Element). cond (is_key place t) (e ∷ elements_of (shown_keys rest place held)) (elements_of (shown_keys rest place held)))
-    (plain_shown t v o (element_at t held))
+shown_by t v (Octets o) place rest held = grind (arith, put_by, plain_shown)
 shown_by t v (Items items) place rest held =
     put_by (is_key place t) (or_empty t v (Items []) (option_map (with_cut (shown_items (items_of items))) (element_at t held))) (shown_keys rest place held)
     ∙ ap (λ (e : Element). cond (is_key place t) (e ∷ elements_of (shown_keys rest place held)) (elements_of (shown_keys rest place held)))
@@ -301,10 +283,7 @@ module _ (keys : List Element) (place : Place) (held : ElementList) (done : List
       → elements_of (shown_keys (as_elements (drop i keys)) place held)
       ≡ cond b (shown_element key (element_at key.tag held) ∷ elements_of (shown_keys (as_elements (drop (i + 1) keys)) place held))
       (elements_of (shown_keys (as_elements (drop (i + 1) keys)) place held))
-  here b test = ap (λ (es : List Element). elements_of (shown_keys (as_elements es) place held)) (from_place keys i key lt is)
-      ∙ shown_by key.tag key.vr key.value place (as_elements (drop (i + 1) keys)) held
-      ∙ ap (λ (x : Bool). cond x (shown_element key (element_at key.tag held) ∷ elements_of (shown_keys (as_elements (drop (i + 1) keys)) place held))
-      (elements_of (shown_keys (as_elements (drop (i + 1) keys)) place held))) test
+  here b test = grind (arith, from_place, shown_by)
 
   pub key_shown : (e : Element) (after : List Element) → is_key place key.tag ≡ true → e ≡ shown_element key (element_at key.tag held) → after ≡ done ++ e ∷ []
       → after ++ elements_of (shown_keys (as_elements (drop (i + 1) keys)) place held) ≡ elements_of (shown_keys (as_elements keys) place held)
@@ -319,9 +298,7 @@ module _ (keys : ElementList) (items done : List ElementList) (i : ℕ) (d : Ele
   item_here : (b : Bool) → all_met Inner keys d ≡ b → map (λ d. shown_keys keys Inner d) (filter (λ d. all_met Inner keys d) (drop i items))
       ≡ map (λ d. shown_keys keys Inner d) (cond b (d ∷ filter (λ d. all_met Inner keys d) (drop (i + 1) items))
       (filter (λ d. all_met Inner keys d) (drop (i + 1) items)))
-  item_here b test = ap (λ (ds : List ElementList). map (λ d. shown_keys keys Inner d) (filter (λ d. all_met Inner keys d) ds)) (from_place items i d lt is)
-      ∙ ap (λ (x : Bool). map (λ d. shown_keys keys Inner d) (cond x (d ∷ filter (λ d. all_met Inner keys d) (drop (i + 1) items))
-      (filter (λ d. all_met Inner keys d) (drop (i + 1) items)))) test
+  item_here b test = grind (arith, from_place)
 
   pub item_shown : (cut : ElementList) (after : List ElementList) → all_met Inner keys d ≡ true → cut ≡ shown_keys keys Inner d → after ≡ done ++ cut ∷ []
       → after ++ map (λ d. shown_keys keys Inner d) (filter (λ d. all_met Inner keys d) (drop (i + 1) items))

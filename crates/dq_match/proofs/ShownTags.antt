@@ -1,18 +1,18 @@
 -- The tags of what is shown.
-use Rattle.std.proofs.Common.{◌≡◌, Bool, true, false, cond, List, [], ◌∷◌, Option, Some, None, option_map, find, filter, refl, ap, ◌∙◌}
+use Rattle.std.proofs.Common.{◌≡◌, Bool, true, false, cond, List, [], ◌∷◌, Option, Some, None, option_map, find, filter, refl, ap, ◌∙◌, arith}
 use Rattle.dq_vr.specs.declared.Tag.{Tag}
 use Rattle.dq_vr.specs.declared.Vr.{Vr}
 use Rattle.dq_dataset.specs.declared.data_set.Element.{Element}
 use Rattle.dq_dataset.specs.declared.data_set.Value.{Value}
 use Rattle.dq_dataset.specs.declared.data_set.Value.TheVariants.{Octets, Items}
 use Rattle.dq_dataset.specs.Tree.{ElementList, no_elements, element, sequence}
-use Rattle.dq_dataset.specs.View.{elements_of, has_tag, with_value}
-use Rattle.dq_dataset.specs.Values.{element_at, octets_in}
+use Rattle.dq_dataset.specs.View.{has_tag, with_value}
+use Rattle.dq_dataset.specs.Values.{octets_in}
 use Rattle.dq_vr.specs.Tags.{specific_character_set}
 use Rattle.dq_match.specs.declared.keys.Place.{Place}
 use Rattle.dq_match.specs.declared.keys.Place.TheVariants.{Outer}
 use Rattle.dq_match.specs.Keys.{is_tag, is_key}
-use Rattle.dq_match.specs.Responses.{put, or_empty, with_cut, shown_keys, shown_items, unless_empty, character_set, put_first, shown}
+use Rattle.dq_match.specs.Responses.{put, or_empty, with_cut, shown_keys, unless_empty, character_set, put_first, shown}
 use Rattle.dq_match.specs.ShownTags.{tags_of, set_tags}
 use Rattle.dq_match.proofs.KnownKeys.{same_tag}
 use Rattle.dq_value.specs.Parts.{parts}
@@ -49,15 +49,9 @@ tags_by false tag e rest tags same h = h
 
 keys_shown : (keys : ElementList) (place : Place) (held : ElementList) → tags_of (shown_keys keys place held) ≡ filter (is_key place) (tags_of keys)
 keys_shown no_elements place held = refl
-keys_shown (element t v o rest) place held =
-    tags_by (is_key place t) t (or_empty t v (Octets o) (element_at t held)) (shown_keys rest place held) (filter (is_key place) (tags_of rest))
-    (empty_tag t v (Octets o) (element_at t held) (found_tag t (elements_of held))) (keys_shown rest place held)
+keys_shown (element t v o rest) place held = grind (arith, tags_by, empty_tag, found_tag, keys_shown rest place held)
 keys_shown (sequence t v items rest) place held =
-    tags_by (is_key place t) t (or_empty t v (Items []) (option_map (with_cut (shown_items items)) (element_at t held))) (shown_keys rest place held)
-    (filter (is_key place) (tags_of rest))
-    (empty_tag t v (Items []) (option_map (with_cut (shown_items items)) (element_at t held))
-    (cut_tag t (shown_items items) (element_at t held) (found_tag t (elements_of held))))
-    (keys_shown rest place held)
+    grind (arith, tags_by, empty_tag, cut_tag, found_tag, keys_shown rest place held)
 
 set_by : (b : Bool) (e : Element) → HasTag specific_character_set (Some e) → HasTag specific_character_set (cond b None (Some e))
 set_by true e h = tt
@@ -74,7 +68,4 @@ first_tags (Some e) rest h = put_tag e.tag e.vr e.value rest ∙ ap (λ (t : Tag
 
 pub tags_shown : (identifier held : ElementList) → tags_of (shown identifier held) ≡ set_tags (character_set held) (filter (is_key Outer) (tags_of identifier))
 unfolding shown
-tags_shown identifier held =
-    first_tags (character_set held) (shown_keys identifier Outer held)
-    (set_tag (element_at specific_character_set held) (found_tag specific_character_set (elements_of held)))
-    ∙ ap (set_tags (character_set held)) (keys_shown identifier Outer held)
+tags_shown identifier held = grind (arith, first_tags, set_tag, found_tag, keys_shown)

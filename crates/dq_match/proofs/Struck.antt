@@ -1,5 +1,5 @@
 -- What is left of an identifier is supported.
-use Rattle.std.proofs.Common.{◌≡◌, Bool, true, false, cond, not, ◌||◌, ◌↔◌, refl, ap, ◌∙◌, subst}
+use Rattle.std.proofs.Common.{◌≡◌, Bool, true, false, cond, not, ◌||◌, ◌↔◌, refl, ap, ◌∙◌, subst, arith}
 use Rattle.dq_dataset.specs.Tree.{ElementList, no_elements, element, sequence, ItemList, no_items, item}
 use Rattle.dq_match.specs.declared.supported.KeyScope.{KeyScope}
 use Rattle.dq_match.specs.Supported.{is_supported, below, supported_part, supported_items, has_unsupported, have_unsupported}
@@ -20,9 +20,7 @@ none_by false scope whole rest h k = k
 mutual
   pub nothing_left : (scope : KeyScope) (d : ElementList) → has_unsupported scope (supported_part scope d) ≡ false
   nothing_left scope no_elements = refl
-  nothing_left scope (element t v o rest) =
-      none_by (is_supported scope t) scope (element t v o (supported_part scope rest)) (supported_part scope rest)
-      (λ h. λ i. not (h i) || nothing_left scope rest i) (nothing_left scope rest)
+  nothing_left scope (element t v o rest) = grind (arith, none_by, nothing_left scope rest)
   nothing_left scope (sequence t v items rest) =
       none_by (is_supported scope t) scope (sequence t v (supported_items (below scope t) items) (supported_part scope rest)) (supported_part scope rest)
       (λ h. λ i. (not (h i) || nothing_left_inside (below scope t) items i) || nothing_left scope rest i) (nothing_left scope rest)

@@ -20,7 +20,7 @@ use Rattle.dq_match.specs.declared.keys.Place.{Place}
 use Rattle.dq_match.specs.declared.keys.Place.TheVariants.{Inner}
 use Rattle.dq_match.specs.Wildcards.{any_run}
 use Rattle.dq_match.specs.Ranges.{Bounds, range_bounds}
-use Rattle.dq_match.specs.Values.{is_asterisk, is_universal, is_same, octets_meet, some_meet, matching_of}
+use Rattle.dq_match.specs.Values.{is_asterisk, is_universal, is_same, octets_meet}
 use Rattle.dq_match.specs.Keys.{items_in, is_tag}
 use Rattle.dq_match.specs.Matching.{asked_days, period, is_passed, with_period, each_met, items_meet, all_met}
 use Rattle.dq_match.specs.Universal.{all_universal, are_universal}
@@ -38,9 +38,7 @@ true_or false b h = cc
 
 pub universal_octets : (vr : Vr) (key held : List ℕ) → is_universal vr key ≡ true → octets_meet vr key held ≡ true
 unfolding octets_meet
-universal_octets vr key held h =
-    true_or (is_universal vr key || is_empty (parts vr held)) (some_meet (matching_of vr) (parts vr key) (parts vr held))
-    (true_or (is_universal vr key) (is_empty (parts vr held)) h)
+universal_octets vr key held h = grind (arith, nat_tests, true_or)
 
 -- ---- no period
 

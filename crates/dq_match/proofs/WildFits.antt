@@ -1,5 +1,5 @@
 -- The wild card as it is computed, and the relation by its cases.
-use Rattle.std.proofs.Common.{◌≡◌, ◌≢◌, ℕ, Bool, true, false, cond, nat_eq, ◌||◌, ◌&&◌, List, [], ◌∷◌, ◌++◌, ◌↔◌, refl, sym, ap, ◌∙◌, subst, arith}
+use Rattle.std.proofs.Common.{◌≡◌, ◌≢◌, ℕ, Bool, true, false, cond, nat_eq, ◌||◌, List, [], ◌∷◌, ◌++◌, ◌↔◌, refl, sym, ap, subst, arith}
 use Rattle.std.proofs.lemmas.Bool.Decides.{nat_tests}
 use Rattle.dq_match.specs.declared.wildcards.Casing.{Casing}
 use Rattle.dq_match.specs.Wildcards.{Fits, ended, run, one, itself, wild, after_run, after_one, stands_for, same, compared, any_run, any_one}
@@ -57,9 +57,7 @@ by_wanted true casing wanted pattern text e fits h =
     subst (λ w. Fits casing (w ∷ pattern) text) (sym (same_number wanted any_run e))
     (subst (λ (t : List ℕ). Fits casing (any_run ∷ pattern) t) (sym left.whole) (run casing pattern left.before left.after (fits left.after left.passes)))
 by_wanted false casing wanted pattern [] e fits h = absurd cc
-by_wanted false casing wanted pattern (octet ∷ others) e fits h =
-    let parts = both (stands_for casing wanted octet) (wild casing pattern others) h in
-    by_octet (nat_eq wanted any_one) casing wanted octet pattern others refl (other_number wanted any_run e) parts.0 (fits others parts.1)
+by_wanted false casing wanted pattern (octet ∷ others) e fits h = grind (arith, nat_tests, both, by_octet, other_number)
 
 wild_fits : (casing : Casing) (pattern text : List ℕ) → wild casing pattern text ≡ true → Fits casing pattern text
 wild_fits casing [] [] h = ended casing
@@ -72,9 +70,7 @@ fits_wild _ _ _ (ended casing) = refl
 fits_wild _ _ _ (run casing pattern before after fits) = run_from (wild casing pattern) before after (fits_wild casing pattern after fits)
 fits_wild _ _ _ (one casing octet pattern text fits) = fits_wild casing pattern text fits
 fits_wild _ _ _ (itself casing wanted octet pattern text differ same_octet fits) =
-    at_octet casing wanted pattern (octet ∷ text) differ
-    ∙ (λ i. or_true (nat_eq wanted any_one) (same casing wanted octet) (same_test (compared casing wanted) (compared casing octet) same_octet) i
-    && fits_wild casing pattern text fits i)
+    grind (arith, nat_tests, at_octet, or_true, same_test, fits_wild casing pattern text fits)
 
 pub wild_is_fits : (casing : Casing) (pattern text : List ℕ) → (wild casing pattern text ≡ true) ↔ Fits casing pattern text
 wild_is_fits casing pattern text = (wild_fits casing pattern text, fits_wild casing pattern text)

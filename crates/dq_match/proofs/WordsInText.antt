@@ -162,11 +162,7 @@ module _ (casing : Casing) (pattern word text : List ℕ) (before matched period
 
   -- what is still there after the period
   pub agrees_on : (left : ℕ) → (0 < left → left + period ≡ matched) → StandsAtFront casing word (drop before (drop period text)) left
-  agrees_on left less k h =
-      let whole : left + period ≡ matched = less (omega arith) in
-      let moved : before + (k + period) ≡ period + (before + k) = omega arith in
-      sym (stretch.repeats k (omega arith)) ∙ text_at (k + period) (omega arith)
-      ∙ ap (compared casing) (ap (λ n. get_or text n 0) moved ∙ sym (get_or-drop period text (before + k) 0) ∙ sym (get_or-drop before (drop period text) k 0))
+  agrees_on left less k h = grind (arith, nat_tests, text_at, get_or-drop)
 
 pub none_fits : (casing : Casing) (pattern word text : List ℕ) (before : ℕ) → IsWord pattern before word → length text < before + length word
     → after_run (wild casing pattern) text ≡ false
@@ -188,10 +184,7 @@ module _ (casing : Casing) (pattern text : List ℕ) (free : (k : ℕ) → k < l
 
   at_last : (left : List ℕ) → length left ≡ length pattern → after_run (wild casing pattern) left ≡ wild casing pattern left
   at_last [] e = refl
-  at_last (octet ∷ rest) e =
-      ap (λ (b : Bool). wild casing pattern (octet ∷ rest) || b)
-      (none_here (wild casing pattern) rest (λ t h. other_length (drop t rest) (λ g. omega (arith, length-drop t rest))))
-      ∙ or_false (wild casing pattern (octet ∷ rest))
+  at_last (octet ∷ rest) e = grind (arith, nat_tests, none_here, other_length, length-drop, or_false)
 
   end_alone : (at : ℕ) → at + length pattern ≡ length text → after_run (wild casing pattern) text ≡ wild casing pattern (drop at text)
   end_alone at is =
@@ -202,7 +195,4 @@ module _ (casing : Casing) (pattern text : List ℕ) (free : (k : ℕ) → k < l
       → IsFirstFit casing pattern text scan
   fit_at_end at end End is back h = end_alone at is ∙ ap (wild casing pattern) (sym back) ∙ h
   fit_at_end at end Mismatch is back h = end_alone at is ∙ ap (wild casing pattern) (sym back) ∙ h
-  fit_at_end at end (Star others rest) is back h = record {
-    shorter = h.shorter;
-    as_well = end_alone at is ∙ ap (wild casing pattern) (sym back) ∙ h.as_well;
-  }
+  fit_at_end at end (Star others rest) is back h = grind (arith, nat_tests, shorter, end_alone)

@@ -181,10 +181,6 @@ module _ (step : ElementList) (id : List ℕ) where
   and_none true b h = h
   and_none false b h = refl
 
-  or_and : (a b : Bool) → b ≡ true → (a && b) ≡ a
-  or_and true b h = h
-  or_and false b h = refl
-
   flip : (a b : List ℕ) (c : Bool) → bytes_eq a b ≡ c → bytes_eq b a ≡ c
   flip a b true e = (bytes_eq-Decides b a).1 (sym ((bytes_eq-Decides a b).0 e))
   flip a b false e = not_same (bytes_eq b a) refl

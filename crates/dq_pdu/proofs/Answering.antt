@@ -1,15 +1,12 @@
 -- An acceptance that answers the contexts of a request is written.
 use Rattle.std.proofs.Common.{◌≡◌, ℕ, ◌*◌, ◌≤◌, true, leb, List, [], ◌∷◌, ◌++◌, length, map, Option, Some, None, refl, arith, length-append}
-use Rattle.std.specs.Prelude.{◌&&◌}
-use Rattle.std.specs.Int.{w16, to_be_bytes}
 use Rattle.std.specs.List.{flat_map, list_all}
 use Rattle.std.proofs.lemmas.Bool.{and_parts, and_from, leb-true, le-leb}
 use Rattle.dq_pdu.specs.declared.pdu.Pdu.TheVariants.{Accept as accept_pdu}
 use Rattle.dq_pdu.specs.declared.pdu.Accept.{Accept}
 use Rattle.dq_pdu.specs.declared.pdu.AnsweredContext.{AnsweredContext}
-use Rattle.dq_pdu.specs.Octets.{are_distinct}
 use Rattle.dq_pdu.specs.Reading.{is_odd}
-use Rattle.dq_pdu.specs.Writing.{answered, application_context, accept_information, fixed_fields, accept, is_bare, is_name, is_answerable, has_parts, IsWritable}
+use Rattle.dq_pdu.specs.Writing.{answered, application_context, accept_information, fixed_fields, accept, is_bare, is_name, is_answerable, IsWritable}
 use Rattle.dq_pdu.specs.Acceptances.{is_identifier_or_none, has_identifier, IsAnswer}
 use Rattle.dq_pdu.proofs.ContextIds.{few_ids}
 use Rattle.dq_pdu.proofs.WritableLaws.{written}
@@ -41,10 +38,7 @@ ids_length (c ∷ cs) = omega (arith, ids_length cs)
 
 name_length : (name : Option (List ℕ)) → is_identifier_or_none name ≡ true → (length (application_context name) ≤ 68) × (is_name name ≡ true)
 name_length None e = (omega arith, refl)
-name_length (Some name) e =
-    let p = and_parts (is_bare name) (leb (length name) 64) e in
-    let short : length name ≤ 64 = leb-true _ _ p.1 in
-    (omega (arith, short), p.0)
+name_length (Some name) e = grind (arith, and_parts, leb-true)
 
 information_length : (maximum : Option ℕ) → length (accept_information maximum) ≤ 45
 information_length None = omega arith
@@ -52,11 +46,7 @@ information_length (Some n) = omega arith
 
 fields_length : (version : ℕ) (called calling reserved : List ℕ) → length called ≡ 16 → length calling ≡ 16 → length reserved ≡ 32
     → length (fixed_fields version called calling reserved) ≡ 68
-fields_length version called calling reserved h i j =
-    let n1 = length-append ((to_be_bytes w16 version ++ (0 ∷ 0 ∷ called)) ++ calling) reserved in
-    let n2 = length-append (to_be_bytes w16 version ++ (0 ∷ 0 ∷ called)) calling in
-    let n3 = length-append (to_be_bytes w16 version) (0 ∷ 0 ∷ called) in
-    omega (arith, n1, n2, n3, h, i, j)
+fields_length version called calling reserved h i j = grind (arith, length-append)
 
 answer_length : (a : Accept) → IsAnswer a → length (accept a) ≤ 65536
 answer_length a is =
@@ -74,9 +64,4 @@ answer_length a is =
     omega (arith, few, same, contexts, name.0, information, fixed, n1, n2, n3)
 
 pub answer_written : (a : Accept) → IsAnswer a → IsWritable (accept_pdu a)
-answer_written a is =
-    let name = name_length a.application_context is.application in
-    let contexts = answerable a.contexts is.ids.odd is.syntaxes in
-    let both = and_from (is_name a.application_context) (list_all is_answerable a.contexts) name.1 contexts in
-    let parts = and_from (is_name a.application_context && list_all is_answerable a.contexts) (are_distinct (ids a.contexts)) both is.ids.distinct in
-    written (accept_pdu a) is.wide (and_from (has_parts (accept_pdu a)) (leb (length (accept a)) 65536) parts (le-leb _ _ (answer_length a is)))
+answer_written a is = grind (arith, name_length, answerable, and_from, written, le-leb, answer_length)

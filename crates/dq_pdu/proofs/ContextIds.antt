@@ -59,14 +59,7 @@ distinct_without x (y ∷ ys) e =
 -- without the greatest odd number below the bound, the others are below a lower one
 below_without : (k n : ℕ) (xs : List ℕ) → n ≡ k + k + 2 → OddBelow n xs → OddBelow (k + k) (without (k + k + 1) xs)
 below_without k n [] e h = tt
-below_without k n (y ∷ ys) e h =
-    let ih = below_without k n ys e h.2 in
-    elim (cases_Bool (eqb (k + k + 1) y)) [
-      | inl same ↦ rw same ih
-      | inr other ↦
-          let less : y < k + k = omega (arith, e, h.0, h.1, eqb-false (k + k + 1) y other) in
-          rw other (h.0, less, ih)
-    ]
+below_without k n (y ∷ ys) e h = grind (arith, cases_Bool, eqb-false, below_without k n ys e h.2)
 
 few : (k n : ℕ) (xs : List ℕ) → n ≡ k + k → are_distinct xs ≡ true → OddBelow n xs → length xs ≤ k
 few zero n [] e d h = omega arith

@@ -1,7 +1,6 @@
 -- Presentation contexts and user information: what is read is spelled so, and what is spelled so is read.
 use Rattle.std.proofs.Common.{◌≡◌, ◌≢◌, ℕ, ◌%◌, true, eqb, leb, List, [], ◌∷◌, ◌++◌, length, map, Option, Some, None, refl, sym, ap, subst, ◌∙◌, arith}
 use Rattle.std.specs.Prelude.{◌&&◌, not, option_map}
-use Rattle.std.specs.Int.{w32, from_be_bytes}
 use Rattle.std.proofs.lemmas.Bool.{le-leb, eqb-true, eq-eqb, and_parts}
 use Rattle.dq_pdu.specs.declared.reading.Item.{Item}
 use Rattle.dq_pdu.specs.declared.pdu.ProposedContext.{ProposedContext}
@@ -79,19 +78,11 @@ unfolding proposed_of
 proposed_at i [] rest items abstract three odd e1 e2 e3 = absurd (omega arith)
 proposed_at i (a ∷ []) rest items abstract three odd e1 e2 e3 = absurd (omega arith)
 proposed_at i (a ∷ b ∷ []) rest items abstract three odd e1 e2 e3 = absurd (omega arith)
-proposed_at i (a ∷ b ∷ c ∷ []) rest items abstract three odd e1 e2 e3 =
-    let four : leb 4 (length (i ∷ a ∷ b ∷ c ∷ rest)) ≡ true = le-leb _ _ (omega arith) in
-    let one = eq-eqb (i % 2) 1 odd in
-    rw (four, e1, e2, one, e3) refl
+proposed_at i (a ∷ b ∷ c ∷ []) rest items abstract three odd e1 e2 e3 = grind (arith, le-leb, eq-eqb)
 proposed_at i (a ∷ b ∷ c ∷ d ∷ ds) rest items abstract three odd e1 e2 e3 = absurd (omega arith)
 
 pub proposed_read : (context : ProposedContext) (body : List ℕ) → IsProposed context body → proposed_of body ≡ Some context
-proposed_read context body is =
-    let abstract = only (exactly_one (bodies 48 is.items)) context.abstract_syntax is.abstract in
-    let some : bodies 64 is.items ≢ [] = map_nil (bodies 64 is.items) (subst (λ (xs : List (List ℕ)). xs ≢ []) is.transfer is.some) in
-    let read = proposed_at context.id is.reserved is.rest is.items abstract.0 is.three is.odd (items_read is.items is.rest is.fills) abstract.1 (filled
-    (bodies 64 is.items) some) in
-    ap proposed_of is.spelled ∙ read ∙ rw (abstract.2, ← is.transfer) refl
+proposed_read context body is = grind (arith, only, map_nil, proposed_at, items_read, filled)
 
 -- ---- answered contexts
 
@@ -129,16 +120,10 @@ answered_at : (i before result behind : ℕ) (rest : List ℕ) (items : List Ite
     → exactly_one (bodies 64 items) ≡ Some name
     → answered_of (i ∷ before ∷ result ∷ behind ∷ rest) ≡ Some (answer i result name)
 unfolding answered_of
-answered_at i before result behind rest items name odd e1 e2 =
-    let four : leb 4 (length (i ∷ before ∷ result ∷ behind ∷ rest)) ≡ true = le-leb _ _ (omega arith) in
-    let one = eq-eqb (i % 2) 1 odd in
-    rw (four, e1, e2, one) refl
+answered_at i before result behind rest items name odd e1 e2 = grind (arith, le-leb, eq-eqb)
 
 pub answered_read : (context : AnsweredContext) (body : List ℕ) → IsAnswered context body → answered_of body ≡ Some context
-answered_read context body is =
-    let name = only (exactly_one (bodies 64 is.items)) context.transfer_syntax is.transfer in
-    ap answered_of is.spelled ∙ answered_at context.id is.before context.result is.behind is.rest is.items name.0 is.odd
-    (items_read is.items is.rest is.fills) name.1 ∙ rw name.2 refl
+answered_read context body is = grind (arith, only, answered_at, items_read)
 
 -- ---- contexts, one by one
 
@@ -155,44 +140,31 @@ pub each_read : {A : Type 0} (f : List ℕ → Option A) (Is : A → List ℕ �
 each_read f Is complete [] [] h = refl
 each_read f Is complete [] (body ∷ octets) h = absurd h
 each_read f Is complete (x ∷ xs) [] h = absurd h
-each_read f Is complete (x ∷ xs) (body ∷ octets) h =
-    let e1 = complete x body h.0 in
-    let e2 = each_read f Is complete xs octets h.1 in
-    rw (e1, e2) refl
+each_read f Is complete (x ∷ xs) (body ∷ octets) h = grind (arith, each_read f Is complete xs octets h.1)
 
 -- ---- user information
 
 maximum_spelled : (found : List (List ℕ)) (o : Option (List ℕ)) (maximum : Option ℕ) → at_most_one found ≡ Some o → maximum_in o ≡ Some maximum
     → IsMaximumLength maximum found
 maximum_spelled [] o maximum e f = sym (some_is None maximum (ap maximum_in (some_is None o e) ∙ f))
-maximum_spelled (body ∷ []) o maximum e f =
-    let p = provided_some (eqb (length body) 4) (Some (from_be_bytes w32 body)) maximum (ap maximum_in (some_is (Some body) o e) ∙ f) in
-    (from_be_bytes w32 body, sym p.1, record { wide = eqb-true _ _ p.0; value = refl })
+maximum_spelled (body ∷ []) o maximum e f = grind (arith, provided_some, some_is, eqb-true)
 maximum_spelled (a ∷ b ∷ bs) o maximum e f = absurd cc
 
 maximum_read : (found : List (List ℕ)) (maximum : Option ℕ) → IsMaximumLength maximum found → (at_most_one found >>= λ o. maximum_in o) ≡ Some maximum
 maximum_read [] maximum h = ap (λ m. Some m) (sym h)
-maximum_read (body ∷ []) maximum h =
-    let four = eq-eqb (length body) 4 h.2.wide in
-    rw (four, h.2.value, h.1) refl
+maximum_read (body ∷ []) maximum h = grind (arith, eq-eqb)
 maximum_read (a ∷ b ∷ bs) maximum h = absurd h
 
 pub user_spelled : (found : List (List ℕ)) (o : Option (List ℕ)) (maximum : Option ℕ) → at_most_one found ≡ Some o → user_information_of o ≡ Some maximum
     → IsUserInformation maximum found
 unfolding user_information_of
 user_spelled [] o maximum e f = sym (some_is None maximum (ap user_information_of (some_is None o e) ∙ f))
-user_spelled (body ∷ []) o maximum e f =
-    let a = bind_some (parts_of item_at body) (λ items. at_most_one (bodies 81 items) >>= λ found. maximum_in found) maximum (ap user_information_of
-    (some_is (Some body) o e) ∙ f) in
-    let b = bind_some (at_most_one (bodies 81 a.0)) maximum_in maximum a.2 in
-    (a.0, items_fill body a.0 a.1, maximum_spelled (bodies 81 a.0) b.0 maximum b.1 b.2)
+user_spelled (body ∷ []) o maximum e f = grind (arith, bind_some, some_is, items_fill, maximum_spelled)
 user_spelled (a ∷ b ∷ bs) o maximum e f = absurd cc
 
 pub user_read : (found : List (List ℕ)) (maximum : Option ℕ) → IsUserInformation maximum found
     → (at_most_one found >>= λ o. user_information_of o) ≡ Some maximum
 unfolding user_information_of
 user_read [] maximum h = ap (λ m. Some m) (sym h)
-user_read (body ∷ []) maximum h =
-    ap (λ (r : Option (List Item)). r >>= λ items. at_most_one (bodies 81 items) >>= λ found. maximum_in found) (items_read h.0 body h.1) ∙ maximum_read
-    (bodies 81 h.0) maximum h.2
+user_read (body ∷ []) maximum h = grind (arith, items_read, maximum_read)
 user_read (a ∷ b ∷ bs) maximum h = absurd h

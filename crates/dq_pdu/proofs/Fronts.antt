@@ -76,17 +76,10 @@ whole_is s pdu count e =
     ]
 
 pub whole_from : (s : List ℕ) (pdu : Pdu) (count : ℕ) → IsWhole s pdu count → front s ≡ Whole pdu count
-whole_from s pdu count w =
-    let e1 = w.known in
-    let e3 : long s ≡ false = le-ltb 65536 (body_length s) w.fits in
-    let e4 : short s ≡ false = le-ltb (length (drop 6 s)) (body_length s) w.enough in
-    let e5 = w.read in
-    front-enough s w.six ∙ rw (e1, e3, e4, e5, w.count_is) refl
+whole_from s pdu count w = grind (arith, le-ltb, front-enough)
 
 pub count_within : (s : List ℕ) (pdu : Pdu) (count : ℕ) → front s ≡ Whole pdu count → (6 ≤ count) × (count ≤ length s)
-count_within s pdu count e =
-    let w = whole_is s pdu count e in
-    (omega (arith, w.count_is), omega (arith, w.count_is, w.enough, w.six, length-drop 6 s))
+count_within s pdu count e = grind (arith, whole_is, length-drop)
 
 -- ---- a fault, or too few octets
 

@@ -7,7 +7,7 @@ use Rattle.dq_pdu.specs.declared.reading.Front.TheVariants.{Partial, Faulty, Who
 use Rattle.dq_pdu.specs.declared.inbox.InboxState.{InboxState}
 use Rattle.dq_pdu.specs.declared.inbox.InboxState.TheVariants.{Reading, Stopped, Spent}
 use Rattle.dq_pdu.specs.Reading.{front}
-use Rattle.dq_pdu.specs.Stream.{pdus_in, with_list, continued, fault_of}
+use Rattle.dq_pdu.specs.Stream.{pdus_in, with_list, fault_of}
 use Rattle.dq_pdu.specs.Holding.{held_at, holding, HoldsPart}
 use Rattle.dq_pdu.specs.Inboxes.{fault_in, octets_in}
 use Rattle.dq_pdu.proofs.Fronts.{fault_of-faulty, partial_is_short}
@@ -24,16 +24,11 @@ held_stopped (Some found) rest fault e = cc
 
 pub reading_on : (stream piece held : List ℕ) → Reading held ≡ holding stream
     → pdus_in (stream ++ piece) ≡ with_list (pdus_in stream).list (pdus_in (held ++ piece))
-reading_on stream piece held e =
-    let h = held_reading (pdus_in stream).fault (pdus_in stream).rest held e in
-    pdus_in-append stream piece ∙ ap (λ f. continued f (pdus_in stream).list (pdus_in stream).rest piece) h.0 ∙ ap (λ (r : List ℕ). with_list
-    (pdus_in stream).list (pdus_in (r ++ piece))) h.1
+reading_on stream piece held e = grind (arith, held_reading, pdus_in-append)
 
 pub stopped_on : (stream piece : List ℕ) (fault : PduFault) → Stopped fault ≡ holding stream
     → pdus_in (stream ++ piece) ≡ record { list = (pdus_in stream).list; rest = (pdus_in stream).rest ++ piece; fault = Some fault }
-stopped_on stream piece fault e =
-    pdus_in-append stream piece ∙ ap (λ f. continued f (pdus_in stream).list (pdus_in stream).rest piece) (held_stopped (pdus_in stream).fault
-    (pdus_in stream).rest fault e)
+stopped_on stream piece fault e = grind (arith, pdus_in-append, held_stopped)
 
 -- ---- no whole PDU is held
 

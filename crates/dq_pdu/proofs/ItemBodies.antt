@@ -1,5 +1,5 @@
 -- The items of one type, read one after the other.
-use Rattle.std.proofs.Common.{◌≡◌, ℕ, ◌+◌, ◌<◌, List, [], ◌∷◌, ◌++◌, length, get_or, drop, Option, Some, refl, sym, ap, ◌∙◌}
+use Rattle.std.proofs.Common.{◌≡◌, ℕ, ◌+◌, ◌<◌, List, [], ◌∷◌, ◌++◌, length, get_or, drop, Option, Some, refl, sym, ap, ◌∙◌, arith}
 use Rattle.std.proofs.lemmas.Bool.{eq-eqb, ne_eqb}
 use Rattle.std.proofs.lemmas.List.{drop_more}
 use Rattle.dq_pdu.specs.declared.reading.Item.{Item}
@@ -31,9 +31,7 @@ pub each_here : {A : Type 0} (f : List ℕ → Option A) (kind : ℕ) (items : L
     (List A)) → StandsAt items i item → item.kind ≡ kind → f item.octets ≡ Some x
     → with_front front (each f (bodies kind (drop i items))) ≡ total → with_front (front ++ x ∷ []) (each f (bodies kind (drop (i + 1) items))) ≡ total
 each_here f kind items i item front x total at e given so_far =
-    let now = ap (λ bs. with_front front (each f bs)) (bodies_here kind items i item at e) in
-    let read = ap (with_front front) (each_first f item.octets (bodies kind (drop (i + 1) items)) x given) in
-    sym (now ∙ read ∙ with_front-assoc front x (each f (bodies kind (drop (i + 1) items)))) ∙ so_far
+    grind (arith, with_front, bodies_here, each_first, with_front-assoc)
 
 pub each_past : {A : Type 0} (f : List ℕ → Option A) (kind : ℕ) (items : List Item) (i : ℕ) (item : Item) (front : List A) (total : Option (List A))
     → StandsAt items i item → (item.kind ≡ kind → ⊥)

@@ -1,5 +1,5 @@
 -- Items and presentation data values: what is read is spelled so, and what is spelled so is read.
-use Rattle.std.proofs.Common.{◌≡◌, ℕ, ◌+◌, ◌-◌, ◌/◌, ◌%◌, ◌<◌, ◌≤◌, false, eqb, ltb, List, [], ◌∷◌, ◌++◌, length, take, drop, Some, refl, sym, ap, subst, ◌∙◌, arith, length-append}
+use Rattle.std.proofs.Common.{◌≡◌, ℕ, ◌+◌, ◌-◌, ◌/◌, ◌%◌, ◌≤◌, eqb, ltb, List, [], ◌∷◌, ◌++◌, length, take, drop, Some, refl, sym, ap, subst, arith, length-append}
 use Rattle.std.specs.Prelude.{◌||◌}
 use Rattle.std.specs.Int.{w16, w32, from_be_bytes}
 use Rattle.std.proofs.lemmas.Bool.{ltb-false, le-ltb, or_parts}
@@ -42,17 +42,11 @@ item_read : (kind b : ℕ) (size octets behind : List ℕ) → length size ≡ 2
 unfolding item_at
 item_read kind b [] octets behind two n = absurd (omega arith)
 item_read kind b (c ∷ []) octets behind two n = absurd (omega arith)
-item_read kind b (c ∷ d ∷ []) octets behind two n =
-    let four : ltb (length (kind ∷ b ∷ c ∷ d ∷ (octets ++ behind))) 4 ≡ false = le-ltb _ _ (omega arith) in
-    let long : ltb (length (octets ++ behind)) (length octets) ≡ false = le-ltb _ _ (omega (arith, length-append octets behind)) in
-    rw (n, four, long, take_at octets behind (length octets) refl, drop_at octets behind (length octets) refl) refl
+item_read kind b (c ∷ d ∷ []) octets behind two n = grind (arith, le-ltb, length-append, take_at, drop_at)
 item_read kind b (c ∷ d ∷ f ∷ fs) octets behind two n = absurd (omega arith)
 
 pub item_complete : Complete IsItem item_at
-item_complete item front behind is =
-    let read = item_read item.kind is.reserved is.size item.octets behind is.sized.wide is.sized.value in
-    let long : 0 < length front = rw is.spelled (omega arith) in
-    (long, ap (λ (f : List ℕ). item_at (f ++ behind)) is.spelled ∙ read)
+item_complete item front behind is = grind (arith, item_read)
 
 pub items_fill : (octets : List ℕ) (items : List Item) → parts_of item_at octets ≡ Some items → Fills IsItem items octets
 items_fill octets items e = fills_from IsItem item_at item_sound octets items e
@@ -101,20 +95,11 @@ pdv_read context control [] octets behind four n = absurd (omega arith)
 pdv_read context control (a ∷ []) octets behind four n = absurd (omega arith)
 pdv_read context control (a ∷ b ∷ []) octets behind four n = absurd (omega arith)
 pdv_read context control (a ∷ b ∷ c ∷ []) octets behind four n = absurd (omega arith)
-pdv_read context control (a ∷ b ∷ c ∷ d ∷ []) octets behind four n =
-    let six : ltb (length (a ∷ b ∷ c ∷ d ∷ context ∷ control ∷ (octets ++ behind))) 6 ≡ false = le-ltb _ _ (omega arith) in
-    let two : ltb (length octets + 2) 2 ≡ false = le-ltb _ _ (omega arith) in
-    let long : ltb (length (context ∷ control ∷ (octets ++ behind))) (length octets + 2) ≡ false = le-ltb _ _ (omega (arith, length-append octets behind)) in
-    let less : length octets + 2 - 2 ≡ length octets = omega arith in
-    rw (n, six, two, long, less, take_at octets behind (length octets) refl, drop_at octets behind (length octets) refl) refl
+pdv_read context control (a ∷ b ∷ c ∷ d ∷ []) octets behind four n = grind (arith, le-ltb, length-append, take_at, drop_at)
 pdv_read context control (a ∷ b ∷ c ∷ d ∷ f ∷ fs) octets behind four n = absurd (omega arith)
 
 pub pdv_complete : Complete IsPdv pdv_at
-pdv_complete value front behind is =
-    let read = pdv_read value.context is.control is.size value.octets behind is.sized.wide is.sized.value in
-    let bits : value_of value.context is.control value.octets ≡ value = rw (← is.command, ← is.last) refl in
-    let long : 0 < length front = rw is.spelled (omega (arith, length-append is.size (value.context ∷ is.control ∷ value.octets))) in
-    (long, ap (λ (f : List ℕ). pdv_at (f ++ behind)) is.spelled ∙ read ∙ ap (λ v. Some (v, behind)) bits)
+pdv_complete value front behind is = grind (arith, pdv_read, length-append)
 
 pub values_fill : (octets : List ℕ) (values : List Pdv) → parts_of pdv_at octets ≡ Some values → Fills IsPdv values octets
 values_fill octets values e = fills_from IsPdv pdv_at pdv_sound octets values e

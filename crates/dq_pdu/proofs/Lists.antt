@@ -45,9 +45,7 @@ unpadded-other [] octet p = rw p refl
 unpadded-other (x ∷ xs) octet p = rw (unpadded-other xs octet p, not_empty xs octet, and_right (is_padding x) false refl) refl
 
 front_last : (xs : List ℕ) (n : ℕ) (d : ℕ) → length xs ≡ n + 1 → xs ≡ take n xs ++ get_or xs n d ∷ []
-front_last xs n d h =
-    let e = take_more xs n d (omega arith) in
-    sym (take_all (n + 1) xs (omega arith)) ∙ e
+front_last xs n d h = grind (arith, take_more, take_all)
 
 -- one octet at the end of octets, and those before it
 pub unpadded_less : (octets : List ℕ) (n : ℕ) (d : ℕ) → length octets ≡ n + 1 → is_padding (get_or octets n d) ≡ true

@@ -52,11 +52,7 @@ pdus_faulty (o ∷ s) fault e = rw e refl
 pub pdus_whole : (s : List ℕ) (pdu : Pdu) (count : ℕ) → front s ≡ Whole pdu count → pdus_in s ≡ with_first pdu (pdus_in (drop count s))
 unfolding pdus_within
 pdus_whole [] pdu count e = absurd (let p = sym front-nil ∙ e in cc)
-pdus_whole (o ∷ s) pdu count e =
-    let w = count_within (o ∷ s) pdu count e in
-    let le : length (drop count (o ∷ s)) ≤ length s = omega (arith, w.0, w.1, length-drop count (o ∷ s)) in
-    ap (λ f. pdus_from f (o ∷ s) (λ behind. pdus_within (length s) behind)) e ∙ ap (with_first pdu) (pdus_more (length s) (length (drop count (o ∷ s)))
-    (drop count (o ∷ s)) le (omega arith))
+pdus_whole (o ∷ s) pdu count e = grind (arith, count_within, length-drop, pdus_more)
 
 -- ---- a stream that goes on
 
@@ -110,6 +106,4 @@ loop_faulty list s fault total e so_far = sym so_far ∙ rw (pdus_faulty s fault
 -- what is left is an end of the octets, also once more is read
 pub end_again : (octets rest : List ℕ) (count : ℕ) → length rest ≤ length octets → rest ≡ drop (length octets - length rest) octets → count ≤ length rest
     → drop count rest ≡ drop (length octets - length (drop count rest)) octets
-end_again octets rest count le e c =
-    let n : length octets - length rest + count ≡ length octets - length (drop count rest) = omega (arith, length-drop count rest) in
-    ap (drop count) e ∙ drop-drop count (length octets - length rest) octets ∙ ap (λ k. drop k octets) n
+end_again octets rest count le e c = grind (arith, length-drop, drop-drop)

@@ -4,10 +4,9 @@ use Rattle.std.specs.List.{flat_map}
 use Rattle.std.proofs.lemmas.Bool.{and_from, le-leb}
 use Rattle.std.proofs.lemmas.List.{append-nil, drop_at}
 use Rattle.dq_pdu.specs.declared.pdu.Pdu.{Pdu}
-use Rattle.dq_pdu.specs.declared.pdu.Pdv.{Pdv}
 use Rattle.dq_pdu.specs.declared.reading.Front.TheVariants.{Whole}
 use Rattle.dq_pdu.specs.Reading.{front}
-use Rattle.dq_pdu.specs.Writing.{pdv, spelling, p_data, has_parts, body, AreWritable, IsWritable}
+use Rattle.dq_pdu.specs.Writing.{spelling, p_data, AreWritable, IsWritable}
 use Rattle.dq_pdu.specs.Stream.{pdus_in, with_first, with_list}
 use Rattle.dq_pdu.proofs.PduLaws.{pdus_whole}
 use Rattle.dq_pdu.proofs.SpellLaws.{spelled_read}
@@ -30,8 +29,4 @@ read_again pdus w =
     ∙ ap (with_list pdus) pdus_none ∙ ap (λ (list : List Pdu). record { list = list; rest = []; fault = None }) (append-nil pdus)
 
 pub p_data_written : (context : ℕ) (command last : Bool) (octets : List ℕ) → length octets + 6 ≤ 65536 → IsWritable (p_data context command last octets)
-p_data_written context command last octets h =
-    let pdu = p_data context command last octets in
-    let v : Pdv = record { context = context; command = command; last = last; octets = octets } in
-    let size : length (body pdu) ≤ 65536 = omega (arith, h, ap length (append-nil (pdv v))) in
-    written pdu tt (and_from (has_parts pdu) _ refl (le-leb _ _ size))
+p_data_written context command last octets h = grind (arith, append-nil, written, and_from, le-leb)

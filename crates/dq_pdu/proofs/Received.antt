@@ -1,5 +1,5 @@
 -- The ids of the contexts of a request that was read.
-use Rattle.std.proofs.Common.{◌≡◌, ℕ, suc, ◌<◌, true, ltb, eqb, List, [], ◌∷◌, ◌++◌, map, refl, subst, inl, inr}
+use Rattle.std.proofs.Common.{◌≡◌, ℕ, suc, ◌<◌, true, ltb, eqb, List, [], ◌∷◌, ◌++◌, map, refl, subst, inl, inr, arith}
 use Rattle.std.specs.List.{list_all}
 use Rattle.std.proofs.lemmas.Bool.{and_from, eq-eqb, lt-ltb, cases_Bool}
 use Rattle.dq_pdu.specs.declared.reading.Item.{Item}
@@ -22,9 +22,7 @@ small (x ∷ xs) h = (h 0, small xs (λ i. h (suc i)))
 
 small_parts : (xs ys : List ℕ) → Small (xs ++ ys) → Small xs × Small ys
 small_parts [] ys h = (tt, h)
-small_parts (x ∷ xs) ys h =
-    let p = small_parts xs ys h.1 in
-    ((h.0, p.0), p.1)
+small_parts (x ∷ xs) ys h = grind (arith, small_parts xs ys h.1)
 
 abbrev EachSmall : List (List ℕ) → Type 0
 EachSmall [] = Unit {0}
@@ -57,9 +55,7 @@ small_ids : (contexts : List ProposedContext) (octets : List (List ℕ)) → Pai
 small_ids [] [] h s = refl
 small_ids [] (body ∷ octets) h s = absurd h
 small_ids (c ∷ cs) [] h s = absurd h
-small_ids (c ∷ cs) (body ∷ octets) h s =
-    let first = subst Small h.0.spelled s.0 in
-    and_from (ltb c.id 256) (list_all (λ id. ltb id 256) (ids cs)) (lt-ltb c.id 256 first.0) (small_ids cs octets h.1 s.1)
+small_ids (c ∷ cs) (body ∷ octets) h s = grind (arith, and_from, lt-ltb, small_ids cs octets h.1 s.1)
 
 pub received : (octets : List ℕ) (request : Request) → AreOctets octets → Spells (request_pdu request) octets → IsReceived request
 received octets request octets_are s =

@@ -1,6 +1,6 @@
 -- PDUs: what is read is spelled so, what is spelled so is read, and octets spell at most one PDU.
-use Rattle.std.proofs.Common.{◌≡◌, ◌≢◌, ℕ, suc, ◌+◌, ◌≤◌, Bool, true, false, cond, eqb, List, [], ◌∷◌, ◌++◌, length, get_or, take, drop, Option, Some, None, refl, sym, ap, subst, ◌∙◌, append_assoc, arith, length-append, length-drop, inl, inr}
-use Rattle.std.specs.Prelude.{not, option_map, ◌⊎◌}
+use Rattle.std.proofs.Common.{◌≡◌, ◌≢◌, ℕ, ◌+◌, ◌≤◌, Bool, true, false, cond, eqb, List, [], ◌∷◌, ◌++◌, length, get_or, take, drop, Option, Some, None, refl, sym, ap, subst, ◌∙◌, append_assoc, arith, length-append, length-drop, inl, inr}
+use Rattle.std.specs.Prelude.{option_map, ◌⊎◌}
 use Rattle.std.specs.Int.{w32, from_be_bytes}
 use Rattle.std.proofs.lemmas.Bool.{eqb-true}
 use Rattle.std.proofs.lemmas.List.{take_at, drop_at, length-take-le}
@@ -10,8 +10,6 @@ use Rattle.dq_pdu.specs.declared.pdu.Pdv.{Pdv}
 use Rattle.dq_pdu.specs.declared.pdu.Request.{Request}
 use Rattle.dq_pdu.specs.declared.reading.Front.TheVariants.{Whole}
 use Rattle.dq_pdu.specs.declared.pdu.Accept.{Accept}
-use Rattle.dq_list.specs.Lengths.{is_empty}
-use Rattle.dq_list.specs.Readers.{provided}
 use Rattle.dq_list.proofs.Readers.{bind_some, provided_some}
 use Rattle.dq_pdu.specs.Octets.{parts_of}
 use Rattle.dq_pdu.specs.Spelling.{IsBody, Spells}
@@ -44,37 +42,24 @@ four_octets (a ∷ b ∷ c ∷ d ∷ []) h = (a, b, c, d, refl)
 four_octets (a ∷ b ∷ c ∷ d ∷ f ∷ fs) h = absurd (omega arith)
 
 request_body : (body : List ℕ) (pdu : Pdu) → option_map request_pdu (request_of body) ≡ Some pdu → IsBody pdu 1 body
-request_body body pdu e =
-    let r = request_made (request_of body) pdu e in
-    subst (λ (q : Pdu). IsBody q 1 body) r.2 (refl, request_spelled body r.0 r.1)
+request_body body pdu e = grind (arith, request_made, request_spelled)
 
 accept_body : (body : List ℕ) (pdu : Pdu) → option_map accept_pdu (accept_of body) ≡ Some pdu → IsBody pdu 2 body
-accept_body body pdu e =
-    let a = accept_made (accept_of body) pdu e in
-    subst (λ (q : Pdu). IsBody q 2 body) a.2 (refl, accept_spelled body a.0 a.1)
+accept_body body pdu e = grind (arith, accept_made, accept_spelled)
 
 values_body : (body : List ℕ) (pdu : Pdu) → values_of body ≡ Some pdu → IsBody pdu 4 body
 unfolding values_of
-values_body body pdu e =
-    let a = bind_some (parts_of pdv_at body) (λ values. provided (not (is_empty values)) (PData values)) pdu e in
-    let p = provided_some (not (is_empty a.0)) (PData a.0) pdu a.2 in
-    subst (λ (q : Pdu). IsBody q 4 body) p.1 (refl, not_nil a.0 p.0, values_fill body a.0 a.1)
+values_body body pdu e = grind (arith, bind_some, provided_some, not_nil, values_fill)
 
 reject_body : (body : List ℕ) → length body ≡ 4 → IsBody (Reject (get_or body 1 0) (get_or body 2 0) (get_or body 3 0)) 3 body
-reject_body body h =
-    let f = four_octets body h in
-    rw f.4 (refl, f.0, refl)
+reject_body body h = grind (arith, four_octets)
 
 abort_body : (body : List ℕ) → length body ≡ 4 → IsBody (Abort (get_or body 2 0) (get_or body 3 0)) 7 body
-abort_body body h =
-    let f = four_octets body h in
-    rw f.4 (refl, f.0, f.1, refl)
+abort_body body h = grind (arith, four_octets)
 
 -- a PDU whose body has four octets
 four_body : (kind : ℕ) (body : List ℕ) (made pdu : Pdu) → (length body ≡ 4 → IsBody made kind body) → if_short body made ≡ Some pdu → IsBody pdu kind body
-four_body kind body made pdu is e =
-    let p = provided_some (eqb (length body) 4) made pdu e in
-    subst (λ (q : Pdu). IsBody q kind body) p.1 (is (eqb-true _ _ p.0))
+four_body kind body made pdu is e = grind (arith, provided_some, eqb-true)
 
 body_of_kind : (kind n : ℕ) (body : List ℕ) (pdu : Pdu) → eqb kind n ≡ true → IsBody pdu n body → IsBody pdu kind body
 body_of_kind kind n body pdu e is = subst (λ (k : ℕ). IsBody pdu k body) (sym (eqb-true kind n e)) is
@@ -115,9 +100,7 @@ pdu_spelled kind body pdu e =
 
 values_again : (values : List Pdv) (body : List ℕ) → (values ≢ []) → parts_of pdv_at body ≡ Some values → values_of body ≡ Some (PData values)
 unfolding values_of
-values_again values body some e =
-    let full = filled values some in
-    rw (e, full) refl
+values_again values body some e = grind (arith, filled)
 
 pub pdu_read : (pdu : Pdu) (kind : ℕ) (body : List ℕ) → IsBody pdu kind body → pdu_of kind body ≡ Some pdu
 unfolding pdu_of
@@ -184,23 +167,7 @@ front_split (a ∷ b ∷ []) n h = absurd (omega arith)
 front_split (a ∷ b ∷ c ∷ []) n h = absurd (omega arith)
 front_split (a ∷ b ∷ c ∷ d ∷ []) n h = absurd (omega arith)
 front_split (a ∷ b ∷ c ∷ d ∷ f ∷ []) n h = absurd (omega arith)
-front_split (a ∷ b ∷ c ∷ d ∷ f ∷ g ∷ s) n h =
-    let k : n + 6 ≡ suc (suc (suc (suc (suc (suc n))))) = omega arith in
-    rw k refl
+front_split (a ∷ b ∷ c ∷ d ∷ f ∷ g ∷ s) n h = grind arith
 
 pub front_spelled : (s : List ℕ) (pdu : Pdu) (count : ℕ) → front s ≡ Whole pdu count → Spells pdu (take count s)
-front_spelled s pdu count e =
-    let w = whole_is s pdu count e in
-    let n = body_length s in
-    let u = pdu_spelled (get_or s 0 0) (take n (drop 6 s)) pdu w.read in
-    let long : length (take n (drop 6 s)) ≡ n = length-take-le n (drop 6 s) w.enough in
-    rw w.count_is (record {
-      kind = get_or s 0 0;
-      reserved = get_or s 1 0;
-      size = take 4 (drop 2 s);
-      body = take n (drop 6 s);
-      whole = front_split s n w.six;
-      sized = record { wide = length-take-le 4 (drop 2 s) (omega (arith, w.six, length-drop 2 s)); value = sym long };
-      short = rw long w.fits;
-      says = u;
-    })
+front_spelled s pdu count e = grind (arith, whole_is, pdu_spelled, length-take-le, front_split, length-drop)

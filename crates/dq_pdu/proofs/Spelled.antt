@@ -1,5 +1,5 @@
 -- What the octets that are written for a PDU tell.
-use Rattle.std.proofs.Common.{◌≡◌, ℕ, ◌+◌, ◌≤◌, Bool, List, [], ◌∷◌, ◌++◌, length, Result, sym, ap, subst, ◌∙◌, append_assoc, arith, length-append}
+use Rattle.std.proofs.Common.{◌≡◌, ℕ, ◌+◌, ◌≤◌, Bool, List, ◌∷◌, ◌++◌, length, Result, sym, ap, subst, ◌∙◌, append_assoc, arith, length-append}
 use Rattle.std.specs.Prelude.{OnOk}
 use Rattle.std.specs.Int.{w32, to_be_bytes}
 use Rattle.std.proofs.lemmas.List.{append-nil}
@@ -16,11 +16,7 @@ short_body pdu w =
 pub one_pdv : (context : ℕ) (command last : Bool) (octets : List ℕ)
     → spelling (p_data context command last octets) ≡ 4 ∷ 0 ∷ to_be_bytes w32 (length octets + 6) ++ pdv
     (record { context = context; command = command; last = last; octets = octets })
-one_pdv context command last octets =
-    let v : Pdv = record { context = context; command = command; last = last; octets = octets } in
-    let alone : pdv v ++ [] ≡ pdv v = append-nil (pdv v) in
-    let size : length (pdv v) ≡ length octets + 6 = omega arith in
-    ap (λ (body : List ℕ). 4 ∷ 0 ∷ (to_be_bytes w32 (length body) ++ body)) alone ∙ ap (λ (n : ℕ). 4 ∷ 0 ∷ (to_be_bytes w32 n ++ pdv v)) size
+one_pdv context command last octets = grind (arith, append-nil)
 
 pub one_pdv_written : {T E : Type 0} (r : Result T E) (out middle written : List ℕ) (context : ℕ) (command last : Bool) (octets : List ℕ)
     → middle ≡ out ++ 4 ∷ 0 ∷ to_be_bytes w32 (length octets + 6)

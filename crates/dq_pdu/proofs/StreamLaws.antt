@@ -98,9 +98,7 @@ pdus_more stream more =
 
 pub fault_stays : (stream more : List ℕ) (fault : PduFault) → (pdus_in stream).fault ≡ Some fault
     → ((pdus_in (stream ++ more)).list ≡ (pdus_in stream).list) × ((pdus_in (stream ++ more)).fault ≡ Some fault)
-fault_stays stream more fault e =
-    let u = pdus_in-append stream more ∙ ap (λ f. continued f (pdus_in stream).list (pdus_in stream).rest more) e in
-    (ap (λ (v : Pdus). v.list) u, ap (λ (v : Pdus). v.fault) u)
+fault_stays stream more fault e = grind (arith, pdus_in-append)
 
 faultless_if : (fault : Option PduFault) (list : List Pdu) (rest more : List ℕ) → (continued fault list rest more).fault ≡ None → fault ≡ None
 faultless_if None list rest more e = refl

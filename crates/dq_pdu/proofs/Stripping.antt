@@ -1,5 +1,5 @@
 -- An identifier without its padding: nothing but padding is lost, and none is left.
-use Rattle.std.proofs.Common.{◌≡◌, ℕ, true, List, [], ◌∷◌, ◌++◌, refl, ap, ◌∙◌, inl, inr}
+use Rattle.std.proofs.Common.{◌≡◌, ℕ, true, List, [], ◌∷◌, ◌++◌, refl, ap, ◌∙◌, inl, inr, arith}
 use Rattle.std.specs.Prelude.{◌&&◌}
 use Rattle.std.specs.List.{list_all}
 use Rattle.std.proofs.lemmas.Bool.{and_parts, and_from, cases_Bool}
@@ -26,12 +26,7 @@ lost (x ∷ xs) =
 
 pub unpadded_again : (octets : List ℕ) → unpadded (unpadded octets) ≡ unpadded octets
 unpadded_again [] = refl
-unpadded_again (x ∷ xs) =
-    let ih = unpadded_again xs in
-    elim (cases_Bool (is_padding x && is_empty (unpadded xs))) [
-      | inl gone ↦ rw gone refl
-      | inr stays ↦ rw (stays, ih, stays) refl
-    ]
+unpadded_again (x ∷ xs) = grind (arith, cases_Bool, unpadded_again xs)
 
 pub left : (octets : List ℕ) → is_bare (unpadded octets) ≡ true
 left octets = stays_bare (unpadded octets) (unpadded_again octets)

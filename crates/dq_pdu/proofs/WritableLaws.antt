@@ -1,6 +1,6 @@
 -- A PDU has a spelling exactly where the test says so.
-use Rattle.std.proofs.Common.{◌≡◌, ℕ, ◌≤◌, Bool, true, false, leb, List, length, drop, refl, sym, ap, subst, ◌∙◌, arith, inl, inr}
-use Rattle.std.specs.Prelude.{◌&&◌, ◌↔◌, IsTrue}
+use Rattle.std.proofs.Common.{◌≡◌, ℕ, ◌≤◌, Bool, true, false, leb, List, length, drop, refl, sym, ap, subst, ◌∙◌, arith}
+use Rattle.std.specs.Prelude.{◌↔◌, IsTrue}
 use Rattle.std.specs.Int.{w32, to_be_bytes}
 use Rattle.std.proofs.lemmas.Bool.{and_parts, and_from, leb-true, le-leb, lt-leb, cases_lt}
 use Rattle.std.proofs.lemmas.List.{drop_at}
@@ -60,18 +60,11 @@ writable_is pdu w = (written pdu w, tells pdu)
 -- ---- as the test is computed
 
 fits_same : (n : ℕ) → leb (counted n) 65536 ≡ leb n 65536
-fits_same n =
-    elim (cases_lt 65536 n) [
-      | inl long ↦ lt-leb (counted n) 65536 (omega arith) ∙ sym (lt-leb n 65536 long)
-      | inr short ↦ le-leb (counted n) 65536 (omega arith) ∙ sym (le-leb n 65536 short)
-    ]
+fits_same n = grind (arith, cases_lt, lt-leb, le-leb)
 
 pub means_by_size : (pdu : Pdu) (size : ℕ) → HasWidths pdu → has_parts pdu ≡ true → size ≡ counted (length (body pdu))
     → IsTrue (leb size 65536) ↔ IsWritable pdu
-means_by_size pdu size w e n =
-    let same : leb size 65536 ≡ is_writable pdu = ap (λ (k : ℕ). leb k 65536) n ∙ fits_same (length (body pdu)) ∙ sym (ap (λ b. b && leb (length
-    (body pdu)) 65536) e) in
-    subst (λ b. IsTrue b ↔ IsWritable pdu) (sym same) (writable_is pdu w)
+means_by_size pdu size w e n = grind (arith, fits_same, writable_is)
 
 pub means_by_parts : (pdu : Pdu) (b : Bool) → b ≡ has_parts pdu → b ≡ false → IsTrue b ↔ IsWritable pdu
 means_by_parts pdu b e f =

@@ -1,5 +1,5 @@
 -- What is written fills its place with items, and is a spelling where identifiers end without padding.
-use Rattle.std.proofs.Common.{◌≡◌, ℕ, ◌+◌, ◌/◌, ◌%◌, ◌^◌, ◌<◌, ◌≤◌, Bool, true, false, cond, eqb, List, [], ◌∷◌, ◌++◌, length, map, drop, Some, refl, sym, ap, subst, ◌∙◌, append_assoc, arith, length-append, inl, inr}
+use Rattle.std.proofs.Common.{◌≡◌, ℕ, ◌+◌, ◌/◌, ◌%◌, ◌^◌, ◌<◌, ◌≤◌, Bool, true, false, cond, eqb, List, [], ◌∷◌, ◌++◌, length, map, drop, Some, refl, sym, ap, subst, ◌∙◌, append_assoc, arith, length-append}
 use Rattle.std.specs.Prelude.{◌&&◌, not, option_map}
 use Rattle.std.specs.List.{flat_map, list_all}
 use Rattle.std.specs.Int.{w16, w32, to_be_bytes}
@@ -36,12 +36,7 @@ unpadded_once false x xs ys e = (refl, cc)
 
 pub stays_bare : (octets : List ℕ) → unpadded octets ≡ octets → is_bare octets ≡ true
 stays_bare [] e = refl
-stays_bare (x ∷ []) e =
-    let u = unpadded_once (is_padding x && true) x [] [] e in
-    elim (cases_Bool (is_padding x)) [
-      | inl p ↦ absurd (let z : (is_padding x && true) ≡ true = rw p refl in let w = sym z ∙ u.0 in cc)
-      | inr p ↦ rw p refl
-    ]
+stays_bare (x ∷ []) e = grind (arith, unpadded_once, cases_Bool)
 stays_bare (x ∷ y ∷ ys) e = stays_bare (y ∷ ys) (unpadded_once (is_padding x && is_empty (unpadded (y ∷ ys))) x (unpadded (y ∷ ys)) (y ∷ ys) e).1
 
 pub all_stay : (names : List (List ℕ)) → list_all is_bare names ≡ true → map unpadded names ≡ names

@@ -1,11 +1,10 @@
 -- Replies that are cut short.
-use Rattle.std.proofs.Common.{◌≡◌, ◌≢◌, ℕ, ◌≤◌, List, length, take, Option, inl, inr, refl, ap, ◌∙◌, arith}
+use Rattle.std.proofs.Common.{◌≡◌, ℕ, ◌≤◌, List, length, take, Option, inl, inr, refl, ap, ◌∙◌, arith}
 use Rattle.std.specs.Io.KnownBytes.{Keeps, Appends}
 use Rattle.std.proofs.lemmas.List.{length-take, take-take}
 use Rattle.dq_core.specs.declared.event.Reply.{Reply}
 use Rattle.dq_core.specs.declared.fault.Fault.{Fault}
 use Rattle.dq_core.specs.declared.fault.Fault.TheVariants as fault
-use Rattle.dq_core.specs.Faults.{number_of as fault_number}
 use Rattle.dq_program.specs.declared.stop.Stop.TheVariants as stop
 use Rattle.dq_program.specs.declared.printing.PrintFault.{PrintFault}
 use Rattle.dq_program.specs.declared.printing.PrintFault.TheVariants.{NoMemory, Output}
@@ -37,11 +36,6 @@ Cuts-unprinted before after all given end Output are first part = AppendsPart-gi
 pub EndsTask-unprinted : (may_fail : Type 0) (unprinted : PrintFault) → (unprinted ≡ Output → may_fail) → EndsTask may_fail (stop_of_printing unprinted)
 EndsTask-unprinted may_fail NoMemory fails = inl refl
 EndsTask-unprinted may_fail Output fails = fails refl
-
-pub EndsTask-fault : (may_fail : Type 0) (f : Fault) → f ≢ fault.Stopped → EndsTask may_fail (stop.Fault (fault_number f))
-EndsTask-fault may_fail fault.NoMemory other = inl refl
-EndsTask-fault may_fail fault.Store other = inr refl
-EndsTask-fault may_fail fault.Stopped other = absurd (other refl)
 
 -- all lines were written, and not handed on
 pub AppendsPart-unflushed : (before mid after : Option (List ℕ)) (all given : List Reply) (end : Option Fault) → AreGiven all given end

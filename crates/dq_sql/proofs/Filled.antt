@@ -15,8 +15,7 @@ use Rattle.dq_tables.proofs.Edits.{inserts}
 use Rattle.dq_sql.specs.Tie.{HasRows}
 use Rattle.dq_sql.specs.Writing.{Adds, Went}
 use Rattle.dq_sql.specs.Filling.{AddsRows}
-use Rattle.dq_sql.proofs.Migrated.{survives_itself}
-use Rattle.dq_sql.proofs.NewStore.{keeps_then, keeps_itself}
+use Rattle.dq_sql.proofs.NewStore.{keeps_then}
 
 -- ---- one row past all others
 
@@ -68,14 +67,6 @@ pub record HasPut (old new : State) (rows : List Row) : Type 0 where
   pub done : HasCleanDisk new → IsTrue old.in_transaction → IsTrue old.is_open → AddsRows old new rows
   pub kept : HasCleanDisk new → IsTrue old.in_transaction → KeepsCommit old new
   pub survives : Survives old new (λ _. ⊥)
-
-pub put_none : (s : State) → HasPut s s []
-put_none s = record {
-  inside = λ clean inside. inside;
-  done = λ clean inside opened. record { on = record { was_open = opened; is_open = opened; committed = refl; inside = inside }; added = λ has. has };
-  kept = λ clean inside. keeps_itself s;
-  survives = survives_itself s _;
-}
 
 module _ (old mid new : State) (rows : List Row) (i : ℕ) (row : Row) (within : i < length rows) (is : row ≡ get_or rows i row) (rising : IsRising rows) where
   -- one more that was put

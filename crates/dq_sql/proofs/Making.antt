@@ -3,15 +3,15 @@ use Rattle.std.proofs.Common.{◌≡◌, ℕ, List, true, Option, None, Some, sy
 use Rattle.std.specs.Option.{is_some}
 use Rattle.sqlite.specs.Effect.{Database}
 use Rattle.dq_tables.specs.declared.row.Kind.{Kind}
-use Rattle.dq_tables.specs.declared.row.Kind.TheVariants.{Study, Series, Image, Entry, Step}
+use Rattle.dq_tables.specs.declared.row.Kind.TheVariants.{Study, Series, Image, Step}
 use Rattle.dq_tables.specs.declared.row.Row.{Row}
-use Rattle.dq_tables.specs.declared.change.Change.TheVariants.{Stored, EntryAdded, EntryRemoved, StepAdded, StepChanged}
+use Rattle.dq_tables.specs.declared.change.Change.TheVariants.{Stored, StepAdded, StepChanged}
 use Rattle.dq_tables.specs.Rows.{after_edit, after_edits, put_if, Put, record_of, IsOf}
 use Rattle.dq_tables.specs.Finding.{row_at}
 use Rattle.dq_tables.specs.Sound.{IsNew, IsNewIf}
 use Rattle.dq_tables.proofs.Soundness.{stored_is}
 use Rattle.dq_sql.specs.Tie.{HasRows}
-use Rattle.dq_sql.specs.Writing.{Adds, AddsIf, Replaces, Removes, StartsEach, Makes}
+use Rattle.dq_sql.specs.Writing.{Adds, AddsIf, Replaces, StartsEach, Makes}
 
 pub free_place : (rows : List Row) (kind : Kind) (row : Row) → IsNew rows kind row → row_at row.kind row.inst row.key rows ≡ None
 free_place rows kind row new = subst (λ (k : Kind). row_at k row.inst row.key rows ≡ None) (sym new.kind_is) new.free
@@ -32,9 +32,6 @@ module _ (d : Database) where
       let more = after_edits h (put_if series) (after_edits h (put_if study) rows) in
       subst (HasRows e) (sym (stored_is rows study series image)) (third more has2 (free_place more Image image fits.image_new))
 
-  pub entry_made : (e : Database) (row : Row) → Adds d e row → Makes d e (EntryAdded row)
-  entry_made e row adds rows has fits = adds rows has (free_place rows Entry row fits)
-
   pub step_made : (e f : Database) (row : Row) (keys : List (List ℕ)) → Adds d e row → StartsEach e f row.inst keys → Makes d f (StepAdded row keys)
   step_made e f row keys adds starts rows has fits =
       starts (after_edit row.inst (Put (record_of row)) rows) (adds rows has (free_place rows Step row fits.step_new))
@@ -42,6 +39,3 @@ module _ (d : Database) where
   pub step_changed : (e : Database) (row : Row) → Replaces d e row → Makes d e (StepChanged row)
   step_changed e row replaces rows has fits =
       replaces rows has (subst (λ (k : Kind). is_some (row_at k row.inst row.key rows) ≡ true) (sym fits.kind_is) fits.there)
-
-  pub entry_gone : (e : Database) (institution key : List ℕ) → Removes d e Entry institution key → Makes d e (EntryRemoved institution key)
-  entry_gone e institution key removes rows has fits = removes rows has

@@ -12,7 +12,7 @@ use Rattle.sqlite.specs.State.{State, HasCleanDisk}
 use Rattle.sqlite.proofs.StateLemmas.{survives_then}
 use Rattle.sqlite.proofs.Callers.{one_permutation}
 use Rattle.dq_tables.specs.declared.row.Row.{Row}
-use Rattle.dq_tables.specs.Sound.{is_own, HeldEach, IsSound}
+use Rattle.dq_tables.specs.Sound.{is_own, IsSound}
 use Rattle.dq_tables.proofs.OneOrder.{one_order}
 use Rattle.sqlite_schema.specs.declared.schema.Schema.{Schema}
 use Rattle.sqlite_schema.specs.declared.schema.Table.{Table}
@@ -71,9 +71,6 @@ flips a b = both_ways (same_id a b) (same_id b a) (apart_back a b) (apart_back b
 -- found rows have one list of rows
 pub one_good : (version : Version) (found : List Values) (a b : List Row) → AreGood version found a → AreGood version found b → a ≡ b
 one_good version found a b p q = one_order a b p.rising q.rising (IsPermutation-trans _ _ _ (IsPermutation-sym _ _ p.same) q.same)
-
-pub held_other : (version : Version) (found : List Values) (a b : List Row) → AreGood version found a → AreSound version found b → HeldEach a a
-held_other version found a b p q = subst (λ (l : List Row). HeldEach l l) (one_good version found b a q.good p) q.held
 
 each_shown : (P : Values → Type 0) (trees : List Values) → ((r : Values) → P (columns r) → P r) → AllByRecursion P (map columns trees) → AllByRecursion P trees
 each_shown P [] f h = tt

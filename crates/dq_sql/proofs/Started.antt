@@ -191,13 +191,6 @@ steps_more rows i row within is =
     ap steps_among (take_more rows i row within ∙ ap (λ r. take i rows ++ r ∷ []) (sym is))
     ∙ filter-append (λ (r : Row). same_kind r.kind Step) (take i rows) (row ∷ [])
 
-pub next_step : (rows : List Row) (i : ℕ) (row : Row) (all : List NamedEntries) (starts : NamedEntries) → i < length rows → row ≡ get_or rows i row
-    → same_kind row.kind Step ≡ true → map started_by all ≡ map starts_of (steps_among (take i rows)) → started_by starts ≡ starts_of row
-    → map started_by (all ++ starts ∷ []) ≡ map starts_of (steps_among (take (i + 1) rows))
-next_step rows i row all starts within is kind had one =
-    map-append started_by all (starts ∷ []) ∙ ap₂ (λ xs y. xs ++ y ∷ []) had one
-    ∙ sym (ap (map starts_of) (steps_more rows i row within is ∙ rw kind refl) ∙ map-append starts_of (steps_among (take i rows)) (row ∷ []))
-
 pub no_step : (rows : List Row) (i : ℕ) (row : Row) (all : List NamedEntries) → i < length rows → row ≡ get_or rows i row
     → same_kind row.kind Step ≡ false → map started_by all ≡ map starts_of (steps_among (take i rows))
     → map started_by all ≡ map starts_of (steps_among (take (i + 1) rows))

@@ -1,5 +1,5 @@
 -- Entries that are started in turn, in a transaction.
-use Rattle.std.proofs.Common.{◌≡◌, ◌<◌, ◌+◌, ℕ, List, [], map, length, take, get_or, IsTrue, inl, refl, subst, arith}
+use Rattle.std.proofs.Common.{◌≡◌, ◌<◌, ◌+◌, ℕ, List, map, length, take, get_or, IsTrue, refl, subst, arith}
 use Rattle.sqlite.specs.Effect.{Database}
 use Rattle.sqlite.specs.State.{State, HasCleanDisk, Survives, KeepsCommit}
 use Rattle.sqlite.proofs.StateLemmas.{survives_then}
@@ -7,8 +7,8 @@ use Rattle.dq_tables.specs.Rows.{Start, after_edit, after_edits}
 use Rattle.dq_tables.proofs.Soundness.{start_more}
 use Rattle.dq_sql.specs.Tie.{HasRows}
 use Rattle.dq_sql.specs.Writing.{Starts, StartsEach, Went}
-use Rattle.dq_sql.proofs.NewStore.{keeps_itself, keeps_then}
-use Rattle.dq_sql.proofs.Written.{went_further, went_itself}
+use Rattle.dq_sql.proofs.NewStore.{keeps_then}
+use Rattle.dq_sql.proofs.Written.{went_further}
 
 abbrev Untouched : State → State → Type 0
 Untouched old new = HasCleanDisk new → IsTrue old.in_transaction → KeepsCommit old new
@@ -19,14 +19,6 @@ pub record HasStarted (old new : State) (institution : List ℕ) (keys : List (L
   pub kept : Untouched old new
   pub inside : HasCleanDisk new → IsTrue old.in_transaction → IsTrue new.in_transaction
   pub done : HasCleanDisk new → IsTrue old.in_transaction → IsTrue old.is_open → Went old new × StartsEach old.now new.now institution keys
-
-pub none_started : (s : State) (institution : List ℕ) → HasStarted s s institution []
-none_started s institution = record {
-  survives = record { clean = omega arith; shield = λ h. h; counts = omega arith; limit = refl; closes = λ clean h. inl h; crash = λ clean db left. inl left };
-  kept = λ clean inside. keeps_itself s;
-  inside = λ clean inside. inside;
-  done = λ clean inside opened. (went_itself s opened inside, λ rows has. has);
-}
 
 starts_more : (d m e : Database) (institution : List ℕ) (keys : List (List ℕ)) (i : ℕ) (key : List ℕ) → i < length keys → get_or keys i key ≡ key
     → StartsEach d m institution (take i keys) → Starts m e institution key → StartsEach d e institution (take (i + 1) keys)

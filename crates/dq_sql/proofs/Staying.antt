@@ -70,9 +70,6 @@ shows_same old new h = record { was_open = λ live. h.0.was_open; now = h.0.now_
 pub same_itself : (s : State) → ShowsSame s s
 same_itself s = record { was_open = λ live. live; now = refl }
 
-pub same_then : (a b c : State) → ShowsSame a b → ShowsSame b c → ShowsSame a c
-same_then a b c one two = record { was_open = λ live. one.was_open (two.was_open live); now = two.now ∙ one.now }
-
 pub holds_before : (a b : State) (P : List Row → Type 0) → ShowsSame a b → HoldsOf b P → HoldsOf a P
 holds_before a b P same h = record {
   is_open = same.was_open h.is_open;

@@ -1,5 +1,5 @@
 -- What the statements make of the rows, in a transaction.
-use Rattle.std.proofs.Common.{ℕ, pos, List, [], ◌∷◌, Ok, Err, Result, OnOk, IsTrue, refl, ◌∙◌}
+use Rattle.std.proofs.Common.{ℕ, pos, List, [], ◌∷◌, Ok, Err, Result, OnOk, ◌∙◌}
 use Rattle.sqlite_value.specs.declared.value.Value.TheVariants.{Int, Text, Blob}
 use Rattle.sqlite.specs.State.{State, ExecutesInside}
 use Rattle.dq_tables.specs.declared.row.Kind.{Kind}
@@ -23,9 +23,6 @@ gone_further a b c p q = record { was_open = λ h. p.was_open (q.was_open h); co
 
 pub went_further : (a b c : State) → Went a b → Went b c → Went a c
 went_further a b c p q = record { is_open = q.is_open; on = gone_further a b c p.on q.on }
-
-pub went_itself : (a : State) → IsTrue a.is_open → IsTrue a.in_transaction → Went a a
-went_itself a opened inside = record { is_open = opened; on = record { was_open = λ h. h; committed = refl; inside = inside } }
 
 pub gone_on : (a b c : State) → GoesOn a b → Went b c → Went a c
 gone_on a b c p q = record { is_open = q.is_open; on = gone_further a b c p q.on }

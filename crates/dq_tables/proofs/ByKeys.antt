@@ -150,9 +150,7 @@ module _ (rows : List Row) (rising : IsRising rows) (kind : Kind) (institution :
       record { among = at.0; of = tests.0; key_is = (bytes_eq-Decides row.key key).0 tests.1; here = it.1 }
 
   of_parts : (row : Row) → is_of kind institution row ≡ true → (row.kind ≡ kind) × (row.inst ≡ institution)
-  of_parts row of =
-      let parts = and_parts (same_kind row.kind kind) (bytes_eq row.inst institution) of in
-      (one_kind row.kind kind parts.0, (bytes_eq-Decides row.inst institution).0 parts.1)
+  of_parts row of = grind (arith, and_parts, one_kind, bytes_eq-Decides)
 
   in_order : (k l : List ℕ) (a b : Row) → octet_order k l ≡ Less → found k ≡ Some a → found l ≡ Some b → ComesBefore a b
   in_order k l a b less is_a is_b =

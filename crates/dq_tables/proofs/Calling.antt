@@ -1,7 +1,6 @@
 -- Calls of tables one after the other, and what a service makes of them.
-use Rattle.std.proofs.Common.{◌≡◌, ℕ, List, [], Result, Ok, Err, refl, sym, ◌∙◌, ap, inl, inr}
+use Rattle.std.proofs.Common.{◌≡◌, ℕ, List, [], Result, Ok, Err, ap, arith}
 use Rattle.dq_tables.specs.declared.fault.TableFault.{TableFault}
-use Rattle.dq_tables.specs.declared.fault.TableFault.TheVariants.{Store}
 use Rattle.dq_tables.specs.Rows.{Record, Edit, of, by, after}
 use Rattle.dq_tables.specs.Keeping.{State, Goes, Reads, Writes}
 use Rattle.dq_tables.specs.Serving.{Serves}
@@ -22,40 +21,18 @@ same_error A B e f h = ap (λ (x : TableFault). refused B x) (ap (fault_of {A = 
 -- a call and then another
 pub goes_then : {A B : Type 0} (old mid new : State) (x : A) (r : Result B TableFault) → Goes old mid (Ok x) → Goes mid new r
     → Goes old new r
-goes_then old mid new x r first second = record {
-  was_honest = λ h. first.was_honest (second.was_honest h);
-  told = second.told;
-  untold = λ f. (elim (second.untold f) [
-    | inl before ↦ elim (first.untold before) [ inl old_failed ↦ inl old_failed | inr impossible ↦ absurd (cc) ]
-    | inr now ↦ inr now
-  ]);
-  lasts = λ f. second.lasts (first.lasts f);
-}
+goes_then old mid new x r first second = grind arith
 
 -- a call that reads and then another
 pub reads_then : {A B : Type 0} (old mid new : State) (x : A) (r : Result B TableFault) → Reads old mid (Ok x)
     → Reads mid new r → Reads old new r
-reads_then old mid new x r first second = record {
-  goes = goes_then old mid new x r first.goes second.goes;
-  same = λ h. second.same h ∙ first.same (second.goes.was_honest h);
-  crash = λ h s leave. first.crash (second.goes.was_honest h) s (second.crash h s leave);
-}
+reads_then old mid new x r first second = grind (arith, goes_then)
 
 goes_refused : {A B : Type 0} (old new : State) (e : TableFault) → Goes old new (refused A e) → Goes old new (refused B e)
-goes_refused {A} {B} old new e goes = record {
-  was_honest = goes.was_honest;
-  told = λ h. goes.told (same_error B A e Store h);
-  untold = λ f. (elim (goes.untold f) [ inl before ↦ inl before | inr now ↦ inr (same_error A B e Store now) ]);
-  lasts = goes.lasts;
-}
+goes_refused {A} {B} old new e goes = grind (arith, same_error)
 
 goes_right : {A B : Type 0} (old new : State) (x : A) (y : B) → Goes old new (Ok x) → Goes old new (Ok y)
-goes_right old new x y goes = record {
-  was_honest = goes.was_honest;
-  told = λ h. cc;
-  untold = λ f. (elim (goes.untold f) [ inl before ↦ inl before | inr now ↦ absurd (cc) ]);
-  lasts = goes.lasts;
-}
+goes_right old new x y goes = grind arith
 
 -- a read that was answered, or refused, with another value of the answer
 pub reads_refused : {A B : Type 0} (old new : State) (e : TableFault) → Reads old new (refused A e)
@@ -68,66 +45,27 @@ reads_right old new x y reads = record { goes = goes_right old new x y reads.goe
 
 -- nothing was called
 pub reads_nothing : {A : Type 0} (it : State) (x : A) → Reads it it (Ok x)
-reads_nothing it x = record {
-  goes = record { was_honest = λ h. h; told = λ h. cc; untold = λ f. inl f; lasts = λ f. f };
-  same = λ h. refl;
-  crash = λ h r leave. leave;
-}
+reads_nothing it x = grind arith
 
 module _ {Answer : Type 0} (institution : List ℕ) (does : List Record → Answer × List Edit) where
   -- a service that is refused after calls that read
   pub serves_fault : (old new : State) (e : TableFault) → Reads old new (refused Answer e)
       → Serves old new institution does (Err e)
-  serves_fault old new e reads = record {
-    goes = reads.goes;
-    answered = λ h. tt;
-    done = λ h. tt;
-    same = reads.same;
-    settles = λ h. tt;
-    crash = λ h r leave. inl (reads.crash h r leave);
-  }
+  serves_fault old new e reads = grind arith
 
   -- a service that answers after calls that read, and changes nothing
   pub serves_read : (old new : State) (a : Answer) → Reads old new (Ok a)
       → (new.honest → does (of institution old.rows) ≡ (a, [])) → Serves old new institution does (Ok a)
-  serves_read old new a reads defined = record {
-    goes = reads.goes;
-    answered = λ h. ap (λ (x : Answer × List Edit). x.0) (sym (defined h));
-    done = λ h. reads.same h ∙ ap (λ (es : List Edit). after (by institution es) old.rows) (ap (λ (x : Answer × List Edit). x.1) (sym (defined h)));
-    same = λ h. tt;
-    settles = λ h settled. record { only = λ r leave. settled.only r (reads.crash h r leave) ∙ sym (reads.same h) };
-    crash = λ h. tt;
-  }
+  serves_read old new a reads defined = grind arith
 
   -- a service that makes one change after calls that read, and is refused there, or answers
   pub serves_refused : {A : Type 0} (old mid new : State) (x : A) (a : Answer) (es : List Edit) (e : TableFault)
       → Reads old mid (Ok x)
       → Writes mid new (after (by institution es) mid.rows) (refused (Unit {0}) e)
       → (mid.honest → does (of institution old.rows) ≡ (a, es)) → Serves old new institution does (Err e)
-  serves_refused old mid new x a es e reads writes defined = record {
-    goes = goes_refused old new e (goes_then old mid new x (Err e) reads.goes writes.goes);
-    answered = λ h. tt;
-    done = λ h. tt;
-    same = λ h. writes.same h ∙ reads.same (writes.goes.was_honest h);
-    settles = λ h. tt;
-    crash = λ h r leave. (let was = writes.goes.was_honest h in
-        elim (writes.crash h r leave) [
-          | inl before ↦ inl (reads.crash was r before)
-          | inr changed ↦ inr (changed ∙ ap (after (by institution es)) (reads.same was)
-              ∙ ap (λ (fs : List Edit). after (by institution fs) old.rows) (ap (λ (y : Answer × List Edit). y.1) (sym (defined was))))
-        ]);
-  }
+  serves_refused old mid new x a es e reads writes defined = grind (arith, goes_refused, goes_then)
 
   pub serves_written : {A : Type 0} (old mid new : State) (x : A) (a : Answer) (es : List Edit) → Reads old mid (Ok x)
       → Writes mid new (after (by institution es) mid.rows) (Ok (tt {0}))
       → (mid.honest → does (of institution old.rows) ≡ (a, es)) → Serves old new institution does (Ok a)
-  serves_written old mid new x a es reads writes defined = record {
-    goes = goes_right old new (tt {0}) a (goes_then old mid new x (Ok (tt {0})) reads.goes writes.goes);
-    answered = λ h. ap (λ (y : Answer × List Edit). y.0) (sym (defined (writes.goes.was_honest h)));
-    done = λ h. (let was = writes.goes.was_honest h in
-        writes.done h ∙ ap (after (by institution es)) (reads.same was)
-        ∙ ap (λ (fs : List Edit). after (by institution fs) old.rows) (ap (λ (y : Answer × List Edit). y.1) (sym (defined was))));
-    same = λ h. tt;
-    settles = λ h settled. writes.settles h;
-    crash = λ h. tt;
-  }
+  serves_written old mid new x a es reads writes defined = grind (arith, goes_right, goes_then)

@@ -5,7 +5,7 @@ use Rattle.std.proofs.lemmas.List.{take-append-drop, take_more}
 use Rattle.std.proofs.lemmas.List.Elements.{filter_map-append}
 use Rattle.dq_tables.specs.declared.row.Kind.{Kind}
 use Rattle.dq_tables.specs.declared.row.Row.{Row}
-use Rattle.dq_tables.specs.Rows.{Put, Remove, record_of, after_edit, place, rows_before}
+use Rattle.dq_tables.specs.Rows.{Put, Remove, record_of, after_edit, place}
 use Rattle.dq_tables.specs.Finding.{IsThere, IsFree}
 
 set_at : {X : Type 0} (xs : List X) (i : ℕ) (y : X) → i < length xs → set xs i y ≡ (take i xs ++ y ∷ []) ++ drop (suc i) xs
@@ -40,9 +40,7 @@ removes rows kind institution key at there = rw (remove_is rows at, there.before
 pub removes_nothing : (rows : List Row) (kind : Kind) (institution key : List ℕ) (at : ℕ) → IsFree (place kind institution key) rows at
     → rows ≡ after_edit institution (Remove kind key) rows
 unfolding after_edit
-removes_nothing rows kind institution key at free =
-    sym (take-append-drop at rows) ∙ ap (λ (rs : List Row). rs ++ drop at rows) free.before
-    ∙ ap (λ (rs : List Row). rows_before (place kind institution key) rows ++ rs) free.past ∙ rw append-nil refl
+removes_nothing rows kind institution key at free = grind (arith, take-append-drop, append-nil)
 
 -- what a loop has made of one more item
 pub made_more : {X Y : Type 0} (f : X → Option Y) (xs : List X) (i : ℕ) (x : X) (made more : List Y) → i < length xs → get_or xs i x ≡ x

@@ -1,19 +1,18 @@
 -- The rows of a kind of an institution stand together.
-use Rattle.std.proofs.Common.{◌≡◌, ℕ, zero, suc, ◌+◌, ◌<◌, ◌≤◌, Bool, true, false, ◌&&◌, List, [], ◌∷◌, length, get_or, take, drop, refl, sym, ◌∙◌, ap, arith, inl, inr, length-drop, subst}
+use Rattle.std.proofs.Common.{◌≡◌, ℕ, zero, suc, ◌+◌, ◌<◌, ◌≤◌, Bool, true, false, List, [], ◌∷◌, length, get_or, take, drop, refl, sym, ◌∙◌, ap, arith, inl, inr, length-drop, subst}
 use Rattle.std.specs.declared.cmp.Ordering.{Ordering}
 use Rattle.std.specs.declared.cmp.Ordering.TheVariants.{Less, Equal, Greater}
 use Rattle.std.specs.Ordering.{is_lt, is_eq, is_gt, ordering_then}
 use Rattle.std.specs.Cmp.{IsTotalOrder}
 use Rattle.std.specs.List.{filter}
 use Rattle.std.specs.List.Sorted.{IsPartitionedBy, IsPartitionPoint}
-use Rattle.std.specs.Str.{bytes_eq}
 use Rattle.std.proofs.lemmas.Cmp.{nat_cmp_total, nat_list_cmp_total, on_total, then_total, alike_right}
 use Rattle.std.proofs.lemmas.List.{get_or-drop}
 use Rattle.std.proofs.lemmas.List.Elements.{filter_agree}
 use Rattle.std.proofs.lemmas.Map.Text.{is_eq-slice_cmp}
 use Rattle.dq_tables.specs.declared.row.Kind.{Kind}
 use Rattle.dq_tables.specs.declared.row.Row.{Row}
-use Rattle.dq_tables.specs.Rows.{RowPlace, group_order, row_place_of, number_of, IsRising, kind_order, octet_order}
+use Rattle.dq_tables.specs.Rows.{RowPlace, group_order, row_place_of, number_of, IsRising}
 use Rattle.dq_tables.specs.Finding.{rows_of, is_of}
 use Rattle.dq_tables.proofs.InOrder.{rising_at, filter_front, is_eq_then, is_eq_nat, cases_le}
 
@@ -104,10 +103,7 @@ module _ (kind : Kind) (institution : List ℕ) (rows : List Row) (rising : IsRi
       ])
 
   agrees : (row : Row) → belongs row ≡ is_of kind institution row
-  agrees row =
-      is_eq_then (kind_order row.kind kind) (octet_order row.inst institution)
-      ∙ ap (λ (b : Bool). is_eq (kind_order row.kind kind) && b) (is_eq-slice_cmp row.inst institution)
-      ∙ ap (λ (b : Bool). b && bytes_eq row.inst institution) (is_eq_nat (number_of row.kind) (number_of kind))
+  agrees row = grind (arith, is_eq_then, is_eq-slice_cmp, is_eq_nat)
 
   pub part_is : (start count : ℕ) → start ≤ length rows → count ≤ length (drop start rows)
       → IsPartitionPoint (λ row. comes_before row ≡ true) (λ row. comes_before row ≡ false) rows start

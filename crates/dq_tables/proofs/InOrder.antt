@@ -11,7 +11,7 @@ use Rattle.std.proofs.lemmas.Bool.Decides.{nat_tests}
 use Rattle.std.proofs.lemmas.Cmp.{alike_right}
 use Rattle.std.proofs.lemmas.Map.Text.{is_eq-slice_cmp}
 use Rattle.dq_tables.specs.declared.row.Row.{Row}
-use Rattle.dq_tables.specs.Rows.{RowPlace, row_place_order, row_place_of, IsRising, kind_order, octet_order, number_of}
+use Rattle.dq_tables.specs.Rows.{RowPlace, row_place_order, row_place_of, IsRising}
 use Rattle.dq_tables.specs.Finding.{IsThere, IsFree, row_at, is_of}
 use Rattle.dq_tables.proofs.Order.{rows_total, greater_from, less_from, is_before, is_past, is_at}
 
@@ -68,12 +68,7 @@ is_eq_nat a b = grind (arith, nat_tests)
 
 -- a row is found at a place where it stands there in the order
 pub at_is_found : (p : RowPlace) (row : Row) → (is_of p.kind p.institution row && bytes_eq row.key p.key) ≡ is_at p row
-at_is_found p row =
-    sym (is_eq_then (ordering_then (kind_order row.kind p.kind) (octet_order row.inst p.institution)) (octet_order row.key p.key)
-    ∙ ap (λ (b : Bool). b && is_eq (octet_order row.key p.key)) (is_eq_then (kind_order row.kind p.kind) (octet_order row.inst p.institution))
-    ∙ ap (λ (b : Bool). (is_eq (kind_order row.kind p.kind) && b) && is_eq (octet_order row.key p.key)) (is_eq-slice_cmp row.inst p.institution)
-    ∙ ap (λ (b : Bool). (is_eq (kind_order row.kind p.kind) && bytes_eq row.inst p.institution) && b) (is_eq-slice_cmp row.key p.key)
-    ∙ ap (λ (b : Bool). (b && bytes_eq row.inst p.institution) && bytes_eq row.key p.key) (is_eq_nat (number_of row.kind) (number_of p.kind)))
+at_is_found p row = grind (arith, nat_tests, is_eq_then, is_eq-slice_cmp, is_eq_nat)
 
 pub row_at_is : (p : RowPlace) (rows : List Row) → row_at p.kind p.institution p.key rows ≡ find (is_at p) rows
 unfolding row_at
@@ -116,11 +111,7 @@ module _ (p : RowPlace) (rows : List Row) (rising : IsRising rows) where
 
   not_less_from : (i k : ℕ) (d : Row) → k < length rows → row_place_order (row_place_of (get_or rows i d)) p ≡ Equal → i ≤ k
       → is_lt (row_place_order (row_place_of (get_or rows k d)) p) ≡ false
-  not_less_from i k d within here le =
-      elim (cases_le i k le) [
-        | inl same ↦ rw (← same) (ap is_lt here)
-        | inr less ↦ ap is_lt (greater_after i k d within here less)
-      ]
+  not_less_from i k d within here le = grind (arith, nat_tests, cases_le, greater_after)
 
   not_greater_upto : (i k : ℕ) (d : Row) → i < length rows → row_place_order (row_place_of (get_or rows i d)) p ≡ Equal → k < i + 1
       → is_gt (row_place_order (row_place_of (get_or rows k d)) p) ≡ false
@@ -133,11 +124,7 @@ module _ (p : RowPlace) (rows : List Row) (rising : IsRising rows) where
   elsewhere : (i : ℕ) → ((k : ℕ) (d : Row) → k < i → row_place_order (row_place_of (get_or rows k d)) p ≡ Less)
       → ((k : ℕ) (d : Row) → i ≤ k → k < length rows → row_place_order (row_place_of (get_or rows k d)) p ≡ Greater)
       → (k : ℕ) (d : Row) → k < length rows → is_at p (get_or rows k d) ≡ false
-  elsewhere i less greater k d within =
-      elim (cases_lt k i) [
-        | inl before ↦ ap is_eq (less k d before)
-        | inr after ↦ ap is_eq (greater k d after within)
-      ]
+  elsewhere i less greater k d within = grind (arith, nat_tests, cases_lt)
 
   pub located_there : (i : ℕ) → i < length rows → ((d : Row) → row_place_order (row_place_of (get_or rows i d)) p ≡ Equal) → IsThere p rows i
   located_there i within here = record {
@@ -150,12 +137,8 @@ module _ (p : RowPlace) (rows : List Row) (rising : IsRising rows) where
 
   pub located_free : (i : ℕ) → i ≤ length rows → ((k : ℕ) (d : Row) → k < i → row_place_order (row_place_of (get_or rows k d)) p ≡ Less)
       → ((k : ℕ) (d : Row) → i ≤ k → k < length rows → row_place_order (row_place_of (get_or rows k d)) p ≡ Greater) → IsFree p rows i
-  located_free i within less greater = record {
-    within = within;
-    before = filter_front (is_before p) rows i (λ k d l w. ap is_lt (less k d l)) (λ k d l w. ap is_lt (greater k d l w));
-    past = filter_back (is_past p) rows i (λ k d l w. ap is_gt (less k d l)) (λ k d l w. ap is_gt (greater k d l w));
-    found = row_at_is p rows ∙ find_none (is_at p) rows (λ k d w. elsewhere i less greater k d w);
-  }
+  located_free i within less greater =
+      grind (arith, nat_tests, filter_front, is_before, filter_back, is_past, row_at_is, find_none, is_at, elsewhere)
 
   pub located : (r : Result ℕ ℕ) → IsSearchInRange r (length rows) → IsBinarySearchResult (λ (row : Row). row_place_order (row_place_of row) p) rows r
       → MatchResult r (IsThere p rows) (IsFree p rows)

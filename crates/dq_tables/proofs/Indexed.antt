@@ -1,10 +1,9 @@
 -- Rows are found by the keys that are listed under the row above them.
-use Rattle.std.proofs.Common.{◌≡◌, ℕ, Bool, true, false, cond, not, ◌&&◌, ◌||◌, List, [], ◌∷◌, ◌++◌, length, ◌≤◌, Option, Some, None, refl, sym, ◌∙◌, ap, ap₂, subst, arith, nat_eq}
+use Rattle.std.proofs.Common.{◌≡◌, ℕ, Bool, true, false, cond, ◌||◌, List, [], ◌∷◌, length, ◌≤◌, Option, Some, None, refl, sym, ap, subst, arith, nat_eq}
 use Rattle.std.specs.BTreeMap.{get, is_at as is_key}
 use Rattle.std.specs.BTreeSet.{BTreeSet, contains}
 use Rattle.std.specs.List.{filter_map}
-use Rattle.std.specs.Ordering.{is_eq, nat_cmp}
-use Rattle.std.specs.Str.{bytes_eq}
+use Rattle.std.specs.Ordering.{is_eq}
 use Rattle.std.proofs.lemmas.Bool.{and_parts}
 use Rattle.std.proofs.lemmas.Bool.Decides.{nat_tests}
 use Rattle.std.specs.Cmp.{IsTotalOrder}
@@ -12,13 +11,10 @@ use Rattle.std.proofs.lemmas.Cmp.{nat_cmp_total, nat_list_cmp_total, on_total, t
 use Rattle.std.proofs.lemmas.Map.Text.{is_eq-slice_cmp}
 use Rattle.std.proofs.lemmas.Slice.Eq.{bytes_eq-Decides}
 use Rattle.dq_tables.specs.declared.row.Kind.{Kind}
-use Rattle.dq_tables.specs.declared.row.Kind.TheVariants.{Study}
 use Rattle.dq_tables.specs.declared.row.Row.{Row}
 use Rattle.dq_tables.specs.declared.under.Under.{Under}
-use Rattle.dq_tables.specs.Rows.{octet_order, place, row_place_of, rows_before, rows_past, record_of, Put, Remove, put_if, IsOf, after_edit, after_edits}
-use Rattle.dq_tables.specs.Labels.{patient_of}
-use Rattle.dq_tables.specs.Finding.{same_kind}
-use Rattle.dq_tables.specs.Indexed.{Index, under, under_order, under_patient, has_key, has, Grows, is_by_above, is_by_patient, is_listed, is_listed_if, ListsEach}
+use Rattle.dq_tables.specs.Rows.{octet_order, record_of, Put, Remove, put_if, IsOf, after_edit, after_edits}
+use Rattle.dq_tables.specs.Indexed.{Index, under_order, has_key, has, Grows, is_by_above, is_by_patient, is_listed, is_listed_if, ListsEach}
 use Rattle.dq_tables.proofs.Order.{each_weaker, each_filtered, each_appended}
 use Rattle.dq_tables.proofs.InOrder.{is_eq_then, is_eq_nat}
 
@@ -29,13 +25,7 @@ equal_numbers a b h = grind (arith, nat_tests)
 
 -- what stands under one row is told by its kind, its institution and the key above
 same_under : (p q : Under) → is_key (under_order p) q ≡ true → p ≡ q
-same_under p q h =
-    let first = and_parts (is_eq (nat_cmp p.number q.number)) _ (sym (is_eq_then (nat_cmp p.number q.number) _) ∙ h) in
-    let second = and_parts (is_eq (octet_order p.inst q.inst)) _ (sym (is_eq_then (octet_order p.inst q.inst) (octet_order p.above q.above)) ∙ first.1) in
-    let numbers = equal_numbers p.number q.number (sym (is_eq_nat p.number q.number) ∙ first.0) in
-    let institutions = (bytes_eq-Decides p.inst q.inst).0 (sym (is_eq-slice_cmp p.inst q.inst) ∙ second.0) in
-    let aboves = (bytes_eq-Decides p.above q.above).0 (sym (is_eq-slice_cmp p.above q.above) ∙ second.1) in
-    rw (numbers, institutions, aboves) refl
+same_under p q h = grind (arith, nat_tests, and_parts, is_eq_then, equal_numbers, is_eq_nat, bytes_eq-Decides, is_eq-slice_cmp)
 
 under_total : IsTotalOrder under_order
 under_total =
@@ -72,26 +62,17 @@ module _ (old new : Index) (u : Under) (keys : BTreeSet (List ℕ)) (changes : C
 
   -- what was added is listed
   pub now_has : (key : List ℕ) → contains octet_order keys key ≡ true → has new u key ≡ true
-  now_has key is =
-      let here : get under_order new u ≡ Some keys =
-      changes u ∙ ap (λ (b : Bool). cond b (Some keys) (get under_order old u)) is_itself in
-      subst (λ (o : Option (BTreeSet (List ℕ))). has_key key o ≡ true) (sym here) is
+  now_has key is = grind (arith, nat_tests, is_itself)
 
 module _ (old new : Index) (grow : Grows old new) where
   pub above_stays : (row : Row) → is_by_above old row ≡ true → is_by_above new row ≡ true
-  above_stays row =
-      let u = under row.kind row.inst row.above in
-      either (bytes_eq row.above []) (has old u row.key) (has new u row.key) (grow u row.key)
+  above_stays row = grind (arith, nat_tests, either)
 
   patient_stays : (row : Row) → is_by_patient old row ≡ true → is_by_patient new row ≡ true
-  patient_stays row =
-      let u = under_patient row.inst (patient_of row) in
-      either (not (same_kind row.kind Study)) (has old u row.key) (has new u row.key) (grow u row.key)
+  patient_stays row = grind (arith, nat_tests, either)
 
   pub stays_listed : (row : Row) → is_listed old row ≡ true → is_listed new row ≡ true
-  stays_listed row listed =
-      let parts = and_parts (is_by_above old row) (is_by_patient old row) listed in
-      ap₂ (◌&&◌) (above_stays row parts.0) (patient_stays row parts.1)
+  stays_listed row listed = grind (arith, nat_tests, and_parts, above_stays, patient_stays)
 
 -- ---- rows that are put and removed
 
@@ -105,17 +86,12 @@ if_still old new (Some row) grow here = stays_listed old new grow row here
 pub put_listed : (index : Index) (rows : List Row) (row : Row) → ListsEach index rows → is_listed index row ≡ true
     → ListsEach index (after_edit row.inst (Put (record_of row)) rows)
 unfolding after_edit
-put_listed index rows row lists here =
-    each_appended _ (rows_before (row_place_of row) rows ++ row ∷ []) (rows_past (row_place_of row) rows)
-    (each_appended _ (rows_before (row_place_of row) rows) (row ∷ []) (each_filtered _ _ rows lists) (here, tt)) (each_filtered _ _ rows lists)
+put_listed index rows row lists here = grind (arith, nat_tests, each_appended, each_filtered)
 
 pub removed_listed : (index : Index) (rows : List Row) (kind : Kind) (institution key : List ℕ) → ListsEach index rows
     → ListsEach index (after_edit institution (Remove kind key) rows)
 unfolding after_edit
-removed_listed index rows kind institution key lists =
-    let p = place kind institution key in
-    each_appended _ (rows_before p rows ++ []) (rows_past p rows) (each_appended _ (rows_before p rows) [] (each_filtered _ _ rows lists) tt)
-    (each_filtered _ _ rows lists)
+removed_listed index rows kind institution key lists = grind (arith, nat_tests, each_appended, each_filtered)
 
 put_if_listed : (index : Index) (rows : List Row) (institution : List ℕ) (row : Option Row) → IsOf institution row → ListsEach index rows
     → is_listed_if index row ≡ true → ListsEach index (after_edits institution (put_if row) rows)
@@ -127,9 +103,7 @@ pub stored_listed : (index : Index) (rows : List Row) (study series : Option Row
     → ListsEach index rows → is_listed_if index study ≡ true → is_listed_if index series ≡ true → is_listed index image ≡ true
     → ListsEach index (after_edit image.inst (Put (record_of image)) (after_edits image.inst (put_if series) (after_edits image.inst (put_if study) rows)))
 stored_listed index rows study series image of_study of_series lists study_here series_here image_here =
-    let first = put_if_listed index rows image.inst study of_study lists study_here in
-    let second = put_if_listed index (after_edits image.inst (put_if study) rows) image.inst series of_series first series_here in
-    put_listed index (after_edits image.inst (put_if series) (after_edits image.inst (put_if study) rows)) image second image_here
+    grind (arith, nat_tests, put_if_listed, put_listed)
 
 -- ---- rows by listed keys
 

@@ -1,5 +1,5 @@
 -- The one row at a place, among the rows of its kind and institution.
-use Rattle.std.proofs.Common.{◌≡◌, ℕ, zero, suc, Bool, true, false, not, ◌&&◌, List, [], ◌∷◌, take, drop, filter, find, slice_get, Option, Some, None, option_to_list, refl, sym, ap, ◌∙◌, if◌then◌else◌}
+use Rattle.std.proofs.Common.{◌≡◌, ℕ, zero, suc, Bool, true, false, not, ◌&&◌, List, [], ◌∷◌, take, drop, filter, find, slice_get, Option, Some, None, option_to_list, refl, sym, ap, ◌∙◌, arith}
 use Rattle.std.specs.Str.{bytes_eq}
 use Rattle.std.proofs.lemmas.List.Elements.{filter_agree}
 use Rattle.dq_tables.specs.declared.choice.Choice.{Choice}
@@ -15,11 +15,7 @@ use Rattle.dq_tables.proofs.Members.{one_at}
 
 pub both_tests : {X : Type 0} (p q : X → Bool) (xs : List X) → filter q (filter p xs) ≡ filter (λ x. p x && q x) xs
 both_tests p q [] = refl
-both_tests p q (x ∷ xs) =
-    elim (p x) as (λ b. filter q (if b then x ∷ filter p xs else filter p xs) ≡ (if b && q x then x ∷ filter (λ y. p y && q y) xs else filter (λ y. p y && q y) xs)) [
-      | true ↦ ap (λ l. if q x then x ∷ l else l) (both_tests p q xs)
-      | false ↦ both_tests p q xs
-    ]
+both_tests p q (x ∷ xs) = grind (arith, both_tests p q xs)
 
 one_taken : {X : Type 0} (xs : List X) (i : ℕ) → take 1 (drop i xs) ≡ option_to_list (slice_get xs i)
 one_taken [] zero = refl

@@ -1,5 +1,5 @@
 -- Rows seen through one institution's name.
-use Rattle.std.proofs.Common.{◌≡◌, ℕ, Bool, true, false, List, [], ◌∷◌, ◌++◌, map, Option, Some, None, refl, sym, ◌∙◌, ap, subst, ◌≢◌}
+use Rattle.std.proofs.Common.{◌≡◌, ℕ, Bool, true, false, List, [], ◌∷◌, ◌++◌, map, Option, Some, None, refl, sym, ◌∙◌, ap, subst, ◌≢◌, arith}
 use Rattle.std.specs.declared.cmp.Ordering.{Ordering}
 use Rattle.std.specs.declared.cmp.Ordering.TheVariants.{Less, Equal, Greater}
 use Rattle.std.specs.Ordering.{is_lt, is_eq, is_gt, ordering_then}
@@ -12,7 +12,7 @@ use Rattle.std.proofs.lemmas.List.{map-append}
 use Rattle.std.proofs.lemmas.Map.Text.{is_eq-slice_cmp}
 use Rattle.std.proofs.lemmas.Bool.{false_from_ne_true, both_ways}
 use Rattle.dq_tables.specs.declared.row.Row.{Row}
-use Rattle.dq_tables.specs.Rows.{Record, Place, place_of, place_order, octet_order, kind_order, records_before, records_past, Edit, Put, Remove, Start, edit_place, left_there, left_by, record_at, edited_by, edited, row_of, record_of, of, RowPlace, row_place_of, within, row_place_order, IsRising, rows_before, rows_past, after_edit, after_edits, Operation, by, after, after_all, edited_all, own_edits}
+use Rattle.dq_tables.specs.Rows.{Record, Place, place_of, place_order, records_before, records_past, Edit, Put, Remove, Start, edit_place, left_there, left_by, record_at, edited_by, edited, row_of, record_of, of, RowPlace, row_place_of, within, row_place_order, IsRising, rows_before, rows_past, after_edit, after_edits, Operation, by, after, after_all, edited_all, own_edits}
 use Rattle.dq_tables.proofs.There.{StandsAt, stands_there}
 use Rattle.dq_tables.proofs.Order.{rows_total, less_from, each_weaker, each_passed, each_appended, IsRising-split, IsRising-filter, IsRising-append, is_at, is_before, is_past, filter_none}
 
@@ -22,21 +22,15 @@ then_equal Equal = refl
 then_equal Greater = refl
 
 same_place : (h : List ℕ) (row : Row) (p : Place) → row.inst ≡ h → row_place_order (row_place_of row) (within h p) ≡ place_order (place_of (record_of row)) p
-same_place h row p e =
-    rw e (ap (λ (o : Ordering). ordering_then (ordering_then (kind_order row.kind p.kind) o) (octet_order row.key p.key)) (tied_itself nat_list_cmp_total h)
-    ∙ ap (λ (o : Ordering). ordering_then o (octet_order row.key p.key)) (then_equal (kind_order row.kind p.kind)))
+same_place h row p e = grind (arith, tied_itself, nat_list_cmp_total, then_equal)
 
 -- a test of rows that agrees with one of records at an institution's rows
 of-filter_step : (h : List ℕ) (p : Row → Bool) (q : Record → Bool) (row : Row) (rows : List Row) → (row.inst ≡ h → p row ≡ q (record_of row))
     → of h (filter p rows) ≡ filter q (of h rows) → (b m : Bool) → p row ≡ b → bytes_eq row.inst h ≡ m
     → of h (filter p (row ∷ rows)) ≡ filter q (of h (row ∷ rows))
 unfolding of
-of-filter_step h p q row rows same rest true true e m =
-    let kept : q (record_of row) ≡ true = sym (same ((bytes_eq-Decides row.inst h).0 m)) ∙ e in
-    rw (e, m, kept) (ap (λ (rs : List Record). record_of row ∷ rs) rest)
-of-filter_step h p q row rows same rest false true e m =
-    let kept : q (record_of row) ≡ false = sym (same ((bytes_eq-Decides row.inst h).0 m)) ∙ e in
-    rw (e, m, kept) rest
+of-filter_step h p q row rows same rest true true e m = grind (arith, bytes_eq-Decides)
+of-filter_step h p q row rows same rest false true e m = grind (arith, bytes_eq-Decides)
 of-filter_step h p q row rows same rest true false e m = rw (e, m) rest
 of-filter_step h p q row rows same rest false false e m = rw (e, m) rest
 
@@ -81,10 +75,7 @@ is_eq_parts Greater b e = cc
 
 -- a row at a place of h is h's
 at_place : (h : List ℕ) (p : Place) (row : Row) → is_at (within h p) row ≡ true → row.inst ≡ h
-at_place h p row at =
-    let parts = is_eq_parts (ordering_then (kind_order row.kind p.kind) (octet_order row.inst h)) (octet_order row.key p.key) at in
-    let inner = is_eq_parts (kind_order row.kind p.kind) (octet_order row.inst h) parts.0 in
-    (bytes_eq-Decides row.inst h).0 (sym (is_eq-slice_cmp row.inst h) ∙ inner.1)
+at_place h p row at = grind (arith, is_eq_parts, bytes_eq-Decides, is_eq-slice_cmp)
 
 of_at : (g h : List ℕ) → h ≢ g → (p : Place) (rows : List Row) → of g (filter (is_at (within h p)) rows) ≡ []
 unfolding of
@@ -205,13 +196,8 @@ rising_all (o ∷ os) rows r = rising_all os (after o rows) (rising o rows r)
 own_step : (h : List ℕ) (o : Operation) (os : List Operation) (rows : List Row) → IsRising rows → (b : Bool) → bytes_eq o.institution h ≡ b
     → of h (after_all os (after o rows)) ≡ edited_all (own_edits h os) (of h (after o rows))
     → of h (after_all (o ∷ os) rows) ≡ edited_all (own_edits h (o ∷ os)) (of h rows)
-own_step h o os rows r true e rest =
-    let same = (bytes_eq-Decides o.institution h).0 e in
-    rw e (rest ∙ ap (edited_all (own_edits h os)) (subst (λ (g : List ℕ). of g (after_edits o.institution o.edits rows) ≡ edited o.edits (of g rows)) same
-    (lens o.institution o.edits rows)))
-own_step h o os rows r false e rest =
-    rw e (rest ∙ ap (edited_all (own_edits h os)) (others_edits h o.institution (λ same. both_ways _ e ((bytes_eq-Decides o.institution h).1 same))
-    o.edits rows r))
+own_step h o os rows r true e rest = grind (arith, bytes_eq-Decides, lens)
+own_step h o os rows r false e rest = grind (arith, others_edits, both_ways, bytes_eq-Decides)
 
 -- an institution's records after operations of several
 pub own_all : (h : List ℕ) (os : List Operation) (rows : List Row) → IsRising rows → of h (after_all os rows) ≡ edited_all (own_edits h os) (of h rows)

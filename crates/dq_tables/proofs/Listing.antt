@@ -32,18 +32,14 @@ kind_back Entry = refl
 kind_back Step = refl
 
 pub one_kind : (a b : Kind) → same_kind a b ≡ true → a ≡ b
-one_kind a b h =
-    let numbers : number_of a ≡ number_of b = grind (arith, nat_tests) in
-    sym (kind_back a) ∙ ap kind_at numbers ∙ kind_back b
+one_kind a b h = grind (arith, nat_tests, kind_back)
 
 pub its_kind : (a b : Kind) → a ≡ b → same_kind a b ≡ true
 its_kind a b e = let numbers : number_of a ≡ number_of b = ap number_of e in grind (arith, nat_tests)
 
 pub of_kind_from : (k : Kind) (r : Record) (records : List Record) → IsAmong r (records_of k records) → IsAmong r records × (r.kind ≡ k)
 unfolding records_of
-of_kind_from k r records h =
-    let kept = filtered_from (λ (s : Record). same_kind s.kind k) r records h in
-    (kept.0, one_kind r.kind k kept.1)
+of_kind_from k r records h = grind (arith, nat_tests, filtered_from, one_kind)
 
 pub of_kind_to : (k : Kind) (r : Record) (records : List Record) → IsAmong r records → r.kind ≡ k → IsAmong r (records_of k records)
 unfolding records_of

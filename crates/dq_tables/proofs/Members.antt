@@ -1,5 +1,5 @@
 -- Which rows there are after an edit, in any order.
-use Rattle.std.proofs.Common.{◌≡◌, ℕ, Bool, true, false, not, List, [], ◌∷◌, ◌++◌, Option, Some, None, refl, sym, ◌∙◌, ap, subst, append-nil, append_assoc, filter}
+use Rattle.std.proofs.Common.{◌≡◌, ℕ, Bool, true, false, not, List, [], ◌∷◌, ◌++◌, Option, Some, None, refl, sym, ◌∙◌, ap, subst, append-nil, append_assoc, filter, arith}
 use Rattle.std.specs.List.{AllByRecursion, find}
 use Rattle.std.specs.Ordering.{is_lt, is_eq, is_gt}
 use Rattle.std.specs.declared.cmp.Ordering.{Ordering}
@@ -55,9 +55,7 @@ put_has row rows rising =
 pub removed_has : (kind : Kind) (institution key : List ℕ) (rows : List Row) → IsRising rows
     → after_edit institution (Remove kind key) rows ≡ rows_elsewhere (place kind institution key) rows
 unfolding after_edit
-removed_has kind institution key rows rising =
-    let p = place kind institution key in
-    rw append-nil (apart_is p rows rising)
+removed_has kind institution key rows rising = grind (arith, append-nil, apart_is)
 
 none_step : {X : Type 0} (p : X → Bool) (x : X) (xs : List X) (b : Bool) → p x ≡ b → find p (x ∷ xs) ≡ None
     → (find p xs ≡ None → filter (λ y. not (p y)) xs ≡ xs) → filter (λ y. not (p y)) (x ∷ xs) ≡ x ∷ xs
@@ -106,10 +104,7 @@ one_step p x row rows Less e h found on = rw e (on (rw e at found))
 one_step p x row rows Equal e h found on =
     let past = all_past p rows (later_past p (row_place_of x) (ap is_lt e) rows h) in
     rw (e, past.1) (ap (λ r. r ∷ []) (one_inside x row (rw e at found)))
-one_step p x row rows Greater e h found on =
-    let past = all_past p rows (later_past p (row_place_of x) (ap is_lt e) rows h) in
-    let first = found_first (is_at p) rows row (rw e at found) in
-    absurd (let wrong = sym past.1 ∙ first.1 in cc)
+one_step p x row rows Greater e h found on = grind (arith, all_past, later_past, found_first, is_at)
 
 one_found : (p : RowPlace) (rows : List Row) (row : Row) → IsRising rows → find (is_at p) rows ≡ Some row → filter (is_at p) rows ≡ row ∷ []
 unfolding IsRising

@@ -1,5 +1,5 @@
 -- The order of rows.
-use Rattle.std.proofs.Common.{◌≡◌, Bool, true, false, List, [], ◌∷◌, ◌++◌, refl, sym, ◌∙◌, ap, if◌then◌else◌}
+use Rattle.std.proofs.Common.{◌≡◌, Bool, true, false, List, [], ◌∷◌, ◌++◌, refl, sym, ◌∙◌, ap, if◌then◌else◌, arith}
 use Rattle.std.specs.declared.cmp.Ordering.{Ordering}
 use Rattle.std.specs.declared.cmp.Ordering.TheVariants.{Less, Equal, Greater}
 use Rattle.std.specs.Ordering.{is_lt, is_eq, is_gt, ordering_reverse}
@@ -27,9 +27,7 @@ each_weaker P Q f (x ∷ xs) h = (f x h.0, each_weaker P Q f xs h.1)
 
 pub each_filtered : {X : Type 0} (P : X → Type 0) (p : X → Bool) (xs : List X) → AllByRecursion P xs → AllByRecursion P (filter p xs)
 each_filtered P p [] h = tt
-each_filtered P p (x ∷ xs) h =
-    elim (p x) as (λ b. AllByRecursion P (if b then x ∷ filter p xs else filter p xs))
-    [ true ↦ (h.0, each_filtered P p xs h.1) | false ↦ each_filtered P p xs h.1 ]
+each_filtered P p (x ∷ xs) h = grind (arith, each_filtered P p xs h.1)
 
 pub each_appended : {X : Type 0} (P : X → Type 0) (xs ys : List X) → AllByRecursion P xs → AllByRecursion P ys → AllByRecursion P (xs ++ ys)
 each_appended P [] ys h k = k
@@ -79,11 +77,7 @@ later_past p q late rows h =
 
 pub all_past : (p : RowPlace) (rows : List Row) → AllByRecursion (λ (later : Row). row_place_order (row_place_of later) p ≡ Greater) rows
     → (rows_before p rows ≡ []) × (filter (is_at p) rows ≡ []) × (rows_past p rows ≡ rows)
-all_past p rows h = (
-  filter_none (is_before p) rows (each_weaker _ (λ (r : Row). is_before p r ≡ false) (λ (r : Row) e. ap is_lt e) rows h),
-  filter_none (is_at p) rows (each_weaker _ (λ (r : Row). is_at p r ≡ false) (λ (r : Row) e. ap is_eq e) rows h),
-  filter_all (is_past p) rows (each_weaker _ (λ (r : Row). is_past p r ≡ true) (λ (r : Row) e. ap is_gt e) rows h),
-)
+all_past p rows h = grind (arith, filter_none, each_weaker, filter_all)
 
 split_step : (p : RowPlace) (row : Row) (rows : List Row) (o : Ordering) → row_place_order (row_place_of row) p ≡ o
     → AllByRecursion (λ (later : Row). row_place_order (row_place_of row) (row_place_of later) ≡ Less) rows
@@ -106,11 +100,7 @@ IsRising-split p (row ∷ rows) h = split_step p row rows (row_place_order (row_
 pub IsRising-filter : (p : Row → Bool) (rows : List Row) → IsRising rows → IsRising (filter p rows)
 unfolding IsRising
 IsRising-filter p [] h = tt
-IsRising-filter p (row ∷ rows) h =
-    elim (p row) as (λ b. IsRising (if b then row ∷ filter p rows else filter p rows)) [
-      | true ↦ (each_filtered _ p rows h.0, IsRising-filter p rows h.1)
-      | false ↦ IsRising-filter p rows h.1
-    ]
+IsRising-filter p (row ∷ rows) h = grind (arith, each_filtered, IsRising-filter p rows h.1)
 
 pub IsRising-append : (xs ys : List Row) → IsRising xs → IsRising ys
     → AllByRecursion (λ (x : Row). AllByRecursion (λ (y : Row). row_place_order (row_place_of x) (row_place_of y) ≡ Less) ys) xs → IsRising (xs ++ ys)

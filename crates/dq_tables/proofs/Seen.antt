@@ -1,5 +1,5 @@
 -- What is found among rows is what is found among the institution's records.
-use Rattle.std.proofs.Common.{◌≡◌, ℕ, Bool, true, false, List, [], ◌∷◌, map, length, Option, Some, None, refl, ◌∙◌, ap, if◌then◌else◌}
+use Rattle.std.proofs.Common.{◌≡◌, ℕ, Bool, true, false, List, [], ◌∷◌, map, length, Option, Some, None, refl, ◌∙◌, ap, arith}
 use Rattle.std.specs.List.{filter}
 use Rattle.std.specs.Option.{option_map}
 use Rattle.std.specs.Str.{bytes_eq}
@@ -60,12 +60,7 @@ listed_own kind h (row ∷ rows) = listed_step kind h row rows (listed_own kind 
 pub filter_map_row : (h : List ℕ) (p : Row → Bool) (rs : List Record)
     → filter p (map (row_of h) rs) ≡ map (row_of h) (filter (λ (r : Record). p (row_of h r)) rs)
 filter_map_row h p [] = refl
-filter_map_row h p (r ∷ rs) =
-    elim (p (row_of h r)) as (λ b. (if b then row_of h r ∷ filter p (map (row_of h) rs) else filter p (map (row_of h) rs))
-    ≡ map (row_of h) (if b then r ∷ filter (λ (r : Record). p (row_of h r)) rs else filter (λ (r : Record). p (row_of h r)) rs)) [
-      | true ↦ ap (λ (rows : List Row). row_of h r ∷ rows) (filter_map_row h p rs)
-      | false ↦ filter_map_row h p rs
-    ]
+filter_map_row h p (r ∷ rs) = grind (arith, filter_map_row h p rs)
 
 pub above_own : (kind : Kind) (h above : List ℕ) (rows : List Row) → rows_above kind h above rows ≡ map (row_of h) (records_above kind above (of h rows))
 unfolding rows_above records_above

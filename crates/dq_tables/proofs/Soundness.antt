@@ -1,5 +1,5 @@
 -- Sound rows stay sound.
-use Rattle.std.proofs.Common.{◌≡◌, ℕ, Bool, true, false, ◌+◌, ◌<◌, List, [], ◌∷◌, ◌++◌, map, length, take, get_or, Option, Some, None, is_some, find, refl, sym, ◌∙◌, ap, subst, ◌⊎◌, inl, inr, if◌then◌else◌}
+use Rattle.std.proofs.Common.{◌≡◌, ℕ, Bool, true, false, ◌+◌, ◌<◌, List, [], ◌∷◌, ◌++◌, map, length, take, get_or, Option, Some, None, is_some, find, refl, sym, ◌∙◌, ap, subst, ◌⊎◌, inl, inr, if◌then◌else◌, arith}
 use Rattle.std.specs.declared.cmp.Ordering.{Ordering}
 use Rattle.std.specs.declared.cmp.Ordering.TheVariants.{Less, Equal, Greater}
 use Rattle.std.specs.Ordering.{is_eq}
@@ -10,7 +10,7 @@ use Rattle.dq_tables.specs.declared.row.Kind.TheVariants.{Study, Series, Image, 
 use Rattle.dq_tables.specs.declared.row.Row.{Row}
 use Rattle.dq_tables.specs.declared.change.Change.{Change}
 use Rattle.dq_tables.specs.declared.change.Change.TheVariants.{Stored, EntryAdded, EntryRemoved, StepAdded, StepChanged}
-use Rattle.dq_tables.specs.Rows.{RowPlace, row_place_of, row_place_order, place, rows_before, rows_past, Edit, Put, Remove, Start, record_of, row_of, after_edit, after_edits, after, operation_of, put_if, IsOf, edit_place, left_by, of, within}
+use Rattle.dq_tables.specs.Rows.{RowPlace, row_place_of, row_place_order, place, rows_before, rows_past, Edit, Put, Remove, Start, record_of, row_of, after_edit, after_edits, after, operation_of, put_if, IsOf, left_by, of, within}
 use Rattle.dq_tables.specs.Finding.{row_at}
 use Rattle.dq_tables.specs.Sound.{IsSound, HeldEach, is_own, is_held, IsNew, IsNewIf, IsChanged, Fits, FitsStored}
 use Rattle.dq_tables.proofs.Order.{rows_total, is_at, is_before, is_past, each_filtered, each_appended, each_weaker}
@@ -145,18 +145,12 @@ remove_grows h key rows kind g key' other some =
     (remove_keeps h key (place kind g key') rows other (rw (row_at_is (place kind g key') rows) at some))
 
 held_each : (rows more : List Row) → Grows rows more → (some : List Row) → HeldEach rows some → HeldEach more some
-held_each rows more grows some held =
-    each_weaker (λ (row : Row). is_held rows row.kind row.inst row.above ≡ true) (λ (row : Row). is_held more row.kind row.inst row.above ≡ true)
-    (λ (row : Row) h. held_more rows more grows row.kind row.inst row.above h) some held
+held_each rows more grows some held = grind (arith, each_weaker, held_more)
 
 each_edited : (P : Row → Type 0) (h : List ℕ) (e : Edit) (rows : List Row) → AllByRecursion P rows → AllByRecursion P (map (row_of h) (left_by e (of h rows)))
     → AllByRecursion P (after_edit h e rows)
 unfolding after_edit
-each_edited P h e rows all put =
-    let p = within h (edit_place e) in
-    each_appended P (rows_before p rows ++ map (row_of h) (left_by e (of h rows))) (rows_past p rows)
-    (each_appended P (rows_before p rows) (map (row_of h) (left_by e (of h rows))) (each_filtered P (is_before p) rows all) put)
-    (each_filtered P (is_past p) rows all)
+each_edited P h e rows all put = grind (arith, each_appended, each_filtered, is_before, is_past)
 
 pub put_sound : (rows : List Row) (row : Row) → IsSound rows → is_own row ≡ true → is_held rows row.kind row.inst row.above ≡ true
     → IsSound (after_edit row.inst (Put (record_of row)) rows)
@@ -209,16 +203,11 @@ put_if_sound h rows kind (Some row) sound same new = put_at h row rows same (new
 -- what the edits of a stored image make of the rows, one after the other
 pub stored_is : (rows : List Row) (study series : Option Row) (image : Row) → after (operation_of (Stored study series image)) rows
     ≡ after_edit image.inst (Put (record_of image)) (after_edits image.inst (put_if series) (after_edits image.inst (put_if study) rows))
-stored_is rows study series image =
-    after_edits-append image.inst (put_if study) (put_if series ++ Put (record_of image) ∷ []) rows
-    ∙ after_edits-append image.inst (put_if series) (Put (record_of image) ∷ []) (after_edits image.inst (put_if study) rows)
+stored_is rows study series image = grind (arith, after_edits-append)
 
 pub stored_sound : (rows : List Row) (study series : Option Row) (image : Row) → IsSound rows → FitsStored rows study series image
     → IsSound (after_edit image.inst (Put (record_of image)) (after_edits image.inst (put_if series) (after_edits image.inst (put_if study) rows)))
-stored_sound rows study series image sound fits =
-    let first = put_if_sound image.inst rows Study study sound fits.study_of fits.study_new in
-    let second = put_if_sound image.inst (after_edits image.inst (put_if study) rows) Series series first fits.series_of fits.series_new in
-    new_sound (after_edits image.inst (put_if series) (after_edits image.inst (put_if study) rows)) Image image second fits.image_new
+stored_sound rows study series image sound fits = grind (arith, put_if_sound, new_sound)
 
 changed_sound : (rows : List Row) (row : Row) → IsSound rows → IsChanged rows Step row → IsSound (after_edit row.inst (Put (record_of row)) rows)
 unfolding is_held
@@ -261,14 +250,7 @@ pub stored_done : (rows start first second new : List Row) (study series study' 
     → new ≡ after_edit image'.inst (Put (record_of image')) second
     → new ≡ after_edit image.inst (Put (record_of image)) (after_edits image.inst (put_if series) (after_edits image.inst (put_if study) rows))
 stored_done rows start first second new study series study' series' image image' same_study same_series same_image fits begin one two three =
-    let h = image.inst in
-    let of_study = subst (λ (o : Option Row). IsOf h o) (sym same_study) fits.study_of in
-    let of_series = subst (λ (o : Option Row). IsOf h o) (sym same_series) fits.series_of in
-    let first_is = one h of_study ∙ ap (after_edits h (put_if study')) begin ∙ ap (λ (o : Option Row). after_edits h (put_if o) rows) same_study in
-    let second_is = two h of_series ∙ ap (after_edits h (put_if series')) first_is
-    ∙ ap (λ (o : Option Row). after_edits h (put_if o) (after_edits h (put_if study) rows)) same_series in
-    three ∙ ap (after_edit image'.inst (Put (record_of image'))) second_is
-    ∙ ap (λ (r : Row). after_edit r.inst (Put (record_of r)) (after_edits h (put_if series) (after_edits h (put_if study) rows))) same_image
+    grind arith
 
 pub changed_held : (rows : List Row) (row : Row) → IsChanged rows Step row → is_held rows row.kind row.inst row.above ≡ true
 unfolding is_held

@@ -1,12 +1,10 @@
 -- Entries that are started.
-use Rattle.std.proofs.Common.{◌≡◌, ℕ, true, List, [], ◌∷◌, ◌++◌, set, slice_get, Option, Some, None, Result, Ok, Err, refl, sym, ◌∙◌, ap, subst, append-nil}
+use Rattle.std.proofs.Common.{◌≡◌, ℕ, true, List, [], ◌∷◌, ◌++◌, set, slice_get, Option, Some, None, Result, Ok, Err, refl, sym, ◌∙◌, ap, subst, append-nil, arith}
 use Rattle.std.specs.Option.{option_map}
 use Rattle.std.proofs.lemmas.Bool.{and_parts}
 use Rattle.dq_list.specs.Among.{IsAmong}
 use Rattle.dq_dataset.specs.declared.fault.ReadFault.{ReadFault}
-use Rattle.dq_dataset.specs.declared.header.Syntax.TheVariants.{Explicit}
 use Rattle.dq_dataset.specs.Tree.{ElementList}
-use Rattle.dq_dataset.specs.Reading.{reading}
 use Rattle.dq_tables.specs.declared.row.Kind.{Kind}
 use Rattle.dq_tables.specs.declared.row.Kind.TheVariants.{Entry}
 use Rattle.dq_tables.specs.declared.row.Row.{Row}
@@ -14,7 +12,7 @@ use Rattle.dq_tables.specs.Rows.{Record, Place, Put, Start, place, record_of, ro
 use Rattle.dq_tables.specs.Labels.{patient_of}
 use Rattle.dq_tables.specs.Finding.{row_at, IsThere}
 use Rattle.dq_tables.specs.Indexed.{Index, ListsEach, is_listed}
-use Rattle.dq_tables.specs.Sound.{is_own, is_record_of, may_be_started, is_held}
+use Rattle.dq_tables.specs.Sound.{is_own, is_record_of, is_held}
 use Rattle.dq_tables.proofs.ByKeys.{find_among}
 use Rattle.dq_tables.proofs.Edits.{set_is}
 use Rattle.dq_tables.proofs.Indexed.{put_listed}
@@ -63,9 +61,7 @@ start_leaves h key rows row it = rw (it.at, ← it.inst_is) refl
 pub start_is_put : (h key : List ℕ) (rows : List Row) (row : Row) → row_at Entry h key rows ≡ Some row
     → after_edit h (Start key) rows ≡ after_edit row.inst (Put (record_of (started row))) rows
 unfolding after_edit
-start_is_put h key rows row found =
-    let it = is_found h key rows row found in
-    start_leaves h key rows row it ∙ rw (it.kind_is, it.inst_is, it.key_is) refl
+start_is_put h key rows row found = grind (arith, is_found, start_leaves)
 
 none_found : (h : List ℕ) (o : Option Record) → option_map (row_of h) o ≡ None → o ≡ None
 none_found h None e = refl
@@ -74,9 +70,7 @@ none_found h (Some r) e = absurd (cc)
 -- Where none is there, nothing changes.
 pub start_of_none : (h key : List ℕ) (rows : List Row) → IsRising rows → row_at Entry h key rows ≡ None → after_edit h (Start key) rows ≡ rows
 unfolding after_edit
-start_of_none h key rows rising free =
-    let none : record_at Entry key (of h rows) ≡ None = none_found h (record_at Entry key (of h rows)) (sym (found_own Entry h key rows) ∙ free) in
-    rw none (rw append-nil (apart_is (place Entry h key) rows rising ∙ free_is Entry h key rows free))
+start_of_none h key rows rising free = grind (arith, none_found, found_own, append-nil, apart_is, free_is)
 
 -- by its index
 pub starts_at : (h key : List ℕ) (rows : List Row) (at : ℕ) (row : Row) → IsThere (place Entry h key) rows at → slice_get rows at ≡ Some row
@@ -92,10 +86,7 @@ started_record (Err fault) row = refl
 
 pub started_own : (row : Row) → row.kind ≡ Entry → is_own row ≡ true → is_own (started row) ≡ true
 unfolding is_own
-started_own row kind own =
-    rw (its_kind row.kind Entry kind)
-    (started_record (reading Explicit row.octets) row
-    ∙ (and_parts (may_be_started row.kind row.started) (is_record_of (reading Explicit row.octets) row) own).1)
+started_own row kind own = grind (arith, its_kind, started_record, and_parts)
 
 pub entry_held : (rows : List Row) (kind : Kind) (h above : List ℕ) → kind ≡ Entry → is_held rows kind h above ≡ true
 unfolding is_held

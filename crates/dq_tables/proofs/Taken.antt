@@ -51,10 +51,7 @@ dated octets m h = dated_by (date_in octets) m h
 module _ (law : DaysAreInOrder) where
   pair : (a b : List ℕ) (m n : ℕ) → day_named a ≡ Some m → day_named b ≡ Some n
       → ((x y : ℤ) → day a ≡ Some x → day b ≡ Some y → x ≤ℤ y) → m ≤ n
-  pair a b m n first second le =
-      let one = dated a m first in
-      let other = dated b n second in
-      law.ordered a b one.0 other.0 m n one.1 other.1 first second (le one.0 other.0 one.1 other.1)
+  pair a b m n first second le = grind (arith, dated)
 
   module _ (value : List ℕ) where
     from_by : (end : Option (List ℕ)) (m n : Option ℕ) → option_and_then day_named end ≡ m → day_named value ≡ n

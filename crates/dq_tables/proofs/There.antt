@@ -1,5 +1,5 @@
 -- The record that an edit finds stands at the edit's place.
-use Rattle.std.proofs.Common.{◌≡◌, Bool, true, false, ◌&&◌, List, [], ◌∷◌, Option, Some, None, refl}
+use Rattle.std.proofs.Common.{◌≡◌, Bool, true, false, ◌&&◌, List, [], ◌∷◌, Option, Some, None, refl, arith}
 use Rattle.std.specs.Str.{bytes_eq}
 use Rattle.std.proofs.lemmas.Bool.{and_parts}
 use Rattle.std.proofs.lemmas.Slice.Eq.{bytes_eq-Decides}
@@ -14,9 +14,7 @@ StandsAt p (Some r) = place_of r ≡ p
 stands_step : (p : Place) (r : Record) (records : List Record) (b : Bool) → (same_kind r.kind p.kind && bytes_eq r.key p.key) ≡ b
     → StandsAt p (record_at p.kind p.key records) → StandsAt p (record_at p.kind p.key (r ∷ records))
 unfolding record_at
-stands_step p r records true e rest =
-    let parts = and_parts (same_kind r.kind p.kind) (bytes_eq r.key p.key) e in
-    rw e (rw (one_kind r.kind p.kind parts.0, (bytes_eq-Decides r.key p.key).0 parts.1) refl)
+stands_step p r records true e rest = grind (arith, and_parts, one_kind, bytes_eq-Decides)
 stands_step p r records false e rest = rw e rest
 
 pub stands_there : (p : Place) (records : List Record) → StandsAt p (record_at p.kind p.key records)

@@ -1,5 +1,5 @@
 -- Pieces and halves against the octets that they part.
-use Rattle.std.proofs.Common.{◌≡◌, ℕ, ◌<◌, Bool, true, false, cond, List, [], ◌∷◌, ◌++◌, length, Option, Some, None, ◌||◌, ◌&&◌, nat_eq, refl, sym, subst, ap, ◌∙◌, arith, ◌↔◌}
+use Rattle.std.proofs.Common.{◌≡◌, ℕ, ◌<◌, Bool, true, false, cond, List, [], ◌∷◌, ◌++◌, length, Option, Some, None, ◌||◌, ◌&&◌, nat_eq, refl, sym, ap, ◌∙◌, arith, ◌↔◌}
 use Rattle.std.specs.List.{list_any, join_with_byte}
 use Rattle.std.proofs.lemmas.Bool.{or_parts}
 use Rattle.std.proofs.lemmas.Bool.Decides.{nat_tests}
@@ -32,16 +32,13 @@ pieces_some separator (x ∷ xs) = some-case (nat_eq x separator) x (pieces sepa
 
 whole-case : (b : Bool) (separator x : ℕ) (ps : List (List ℕ)) → b ≡ nat_eq x separator → 0 < length ps
     → join_with_byte separator (cond b ([] ∷ ps) (joined x ps)) ≡ x ∷ join_with_byte separator ps
-whole-case true separator x ps same some =
-    let equal : separator ≡ x = grind (arith, nat_tests) in
-    join-empty separator ps some ∙ ap (λ o. o ∷ join_with_byte separator ps) equal
+whole-case true separator x ps same some = grind (arith, nat_tests, join-empty)
 whole-case false separator x ps same some = join-joined separator x ps
 
 pieces_whole : (separator : ℕ) (xs : List ℕ) → join_with_byte separator (pieces separator xs) ≡ xs
 unfolding pieces
 pieces_whole separator [] = refl
-pieces_whole separator (x ∷ xs) =
-    whole-case (nat_eq x separator) separator x (pieces separator xs) refl (pieces_some separator xs) ∙ ap (λ rest. x ∷ rest) (pieces_whole separator xs)
+pieces_whole separator (x ∷ xs) = grind (arith, nat_tests, whole-case, pieces_some, pieces_whole separator xs)
 
 free-case : (b : Bool) (separator x : ℕ) (ps : List (List ℕ)) → nat_eq x separator ≡ b → list_any (holds separator) ps ≡ false
     → list_any (holds separator) (cond b ([] ∷ ps) (joined x ps)) ≡ false
@@ -91,8 +88,7 @@ halves-append separator (x ∷ xs) ys h =
 
 pub range_read : (octets from to : List ℕ) → IsRange octets from to → ends octets ≡ Some (end_of from, end_of to)
 unfolding ends ends_of_halves
-range_read octets from to range =
-    rw (range.whole, halves-append 0x2d from to range.before, range.after, range.closed) refl
+range_read octets from to range = grind (arith, nat_tests, halves-append)
 
 abbrev AreHalves : ℕ → List ℕ → List ℕ × List ℕ → Type 0
 AreHalves separator xs h = (xs ≡ h.0 ++ separator ∷ h.1) × (holds separator h.0 ≡ false)
@@ -100,15 +96,9 @@ AreHalves separator xs h = (xs ≡ h.0 ++ separator ∷ h.1) × (holds separator
 found-case : (b : Bool) (separator x : ℕ) (xs : List ℕ) (o : Option (List ℕ × List ℕ)) (h : List ℕ × List ℕ) → nat_eq x separator ≡ b
     → ((g : List ℕ × List ℕ) → o ≡ Some g → AreHalves separator xs g) → cond b (Some ([], xs)) (behind x o) ≡ Some h → AreHalves separator (x ∷ xs) h
 unfolding behind
-found-case true separator x xs o h same inner e =
-    let equal : x ≡ separator = grind (arith, nat_tests) in
-    let is_it : ([], xs) ≡ h = cc in
-    subst (AreHalves separator (x ∷ xs)) is_it (ap (λ y. y ∷ xs) equal, refl)
+found-case true separator x xs o h same inner e = grind (arith, nat_tests)
 found-case false separator x xs None h apart inner e = absurd (cc)
-found-case false separator x xs (Some g) h apart inner e =
-    let is_it : (x ∷ g.0, g.1) ≡ h = cc in
-    let rest = inner g refl in
-    subst (AreHalves separator (x ∷ xs)) is_it (ap (λ ys. x ∷ ys) rest.0, rw apart rest.1)
+found-case false separator x xs (Some g) h apart inner e = grind (arith, nat_tests)
 
 are_halves : (separator : ℕ) (xs : List ℕ) (h : List ℕ × List ℕ) → halves separator xs ≡ Some h → AreHalves separator xs h
 unfolding halves

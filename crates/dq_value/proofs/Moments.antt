@@ -1,5 +1,5 @@
 -- Dates and times against their digits.
-use Rattle.std.proofs.Common.{◌≡◌, ℕ, suc, ◌+◌, ◌-◌, ◌*◌, ◌^◌, ◌<◌, ◌≤◌, Bool, true, false, cond, List, [], ◌∷◌, ◌++◌, length, take, drop, slice_index, Option, Some, None, ◌&&◌, ◌||◌, ◌==◌, ◌⊎◌, inl, inr, drop-cons, nat_le, nat_eq, refl, sym, subst, ap, ◌∙◌, arith, length-append, append-nil, drop-drop, ℤ, pos}
+use Rattle.std.proofs.Common.{◌≡◌, ℕ, ◌+◌, ◌-◌, ◌*◌, ◌^◌, ◌<◌, ◌≤◌, Bool, true, false, cond, List, [], ◌∷◌, ◌++◌, length, take, drop, slice_index, Option, Some, None, ◌&&◌, ◌||◌, ◌==◌, ◌⊎◌, inl, inr, drop-cons, nat_le, nat_eq, refl, sym, subst, ap, ◌∙◌, arith, length-append, append-nil, drop-drop, ℤ, pos}
 use Rattle.std.proofs.lemmas.List.{take-append-drop, length-take-le, length-drop, get_or-drop}
 use Rattle.std.proofs.Math.Seq.{take-append_seam, drop-append_seam}
 use Rattle.std.proofs.lemmas.Bool.Decides.{nat_tests}
@@ -41,10 +41,7 @@ calendar_bounds y m d days few good = (grind (arith, nat_tests), grind (arith, n
 
 spelled_read : (year : ℕ) (date : Ymd) → date.0 ≡ pos year → year < 10000 → is_in_calendar date ≡ true → date_in (spelled_date year date.1 date.2) ≡ Some date
 spelled_read year (y, m, d) same four good =
-    let bounds = calendar_bounds y m d (days_in_month y m) (days_bound y m) good in
-    date_at (digits 4 year) (digits 2 m) (digits 2 d) year m d (length-digits 4 year) (length-digits 2 m) (length-digits 2 d)
-    (number-digits 4 year (omega arith) four) (number-digits 2 m (omega arith) bounds.0) (number-digits 2 d (omega arith) bounds.1) (rw same at good)
-    ∙ ap (λ z. Some (z, m, d)) (sym same)
+    grind (arith, nat_tests, calendar_bounds, days_bound, date_at, length-digits, number-digits)
 
 pub date_read : (octets : List ℕ) (date : Ymd) → SpellsDate octets date → date_in octets ≡ Some date
 date_read octets date is = ap date_in is.spelled ∙ spelled_read is.year date is.four_digits.0 is.four_digits.1 is.in_calendar
@@ -87,18 +84,11 @@ date_spelled octets date y m d eight year month day good same =
 
 date_parts : (octets : List ℕ) (date : Ymd) → length octets ≡ 8 → digits_of_date octets ≡ Some date → SpellsDate octets date
 unfolding digits_of_date
-date_parts octets date eight e =
-    let year = bind_some (number (take 4 octets)) _ date e in
-    let month = bind_some (number (take 2 (drop 4 octets))) _ date year.2 in
-    let day = bind_some (number (drop 6 octets)) _ date month.2 in
-    let good = provided_some (is_in_calendar (pos year.0, month.0, day.0)) (pos year.0, month.0, day.0) date day.2 in
-    date_spelled octets date year.0 month.0 day.0 eight year.1 month.1 day.1 good.0 good.1
+date_parts octets date eight e = grind (arith, nat_tests, bind_some, provided_some, date_spelled)
 
 pub date_only : (octets : List ℕ) (date : Ymd) → date_in octets ≡ Some date → SpellsDate octets date
 unfolding date_in
-date_only octets date e =
-    let eight = passed (nat_eq (length octets) 8) (digits_of_date octets) date e in
-    date_parts octets date (grind (arith, nat_tests)) eight.answer
+date_only octets date e = grind (arith, nat_tests, passed, date_parts)
 
 -- a field of two digits, at the front or behind what is before it
 field_at : (place greatest n : ℕ) (octets xs ys : List ℕ) → drop place octets ≡ xs ++ ys → length xs ≡ 2 → number xs ≡ Some n → n ≤ greatest
@@ -112,12 +102,7 @@ field_at place greatest n octets xs ys at two e few =
 fraction_case : (octets fraction : List ℕ) (start n : ℕ) → 8 ≤ length octets → length octets ≤ 13 → slice_index octets 6 ≡ 0x2e → drop 7 octets ≡ fraction
     → second_start octets ≡ Some start → number fraction ≡ Some n → span octets ≡ span_from (start + n * unit_of fraction) (unit_of fraction)
 unfolding span fraction_span
-fraction_case octets fraction start n low high point cut second e =
-    let not_two : nat_eq (length octets) 2 ≡ false = grind (arith, nat_tests) in
-    let not_four : nat_eq (length octets) 4 ≡ false = grind (arith, nat_tests) in
-    let not_six : nat_eq (length octets) 6 ≡ false = grind (arith, nat_tests) in
-    let has : has_fraction octets ≡ true = grind (arith, nat_tests) in
-    rw (not_two, not_four, not_six, has, second, cut, e) refl
+fraction_case octets fraction start n low high point cut second e = grind (arith, nat_tests)
 
 module _ (h m s : ℕ) (clock : IsClock h m s) where
   hour_at : (rest : List ℕ) → hour_start (digits 2 h ++ rest) ≡ Some (h * 3_600_000_000)
@@ -157,8 +142,7 @@ module _ (h m s : ℕ) (clock : IsClock h m s) where
       ∙ drop_front 2 (digits 2 s) rest (length-digits 2 s)
 
   length_spelled : (rest : List ℕ) → length (digits 2 h ++ (digits 2 m ++ (digits 2 s ++ rest))) ≡ 6 + length rest
-  length_spelled rest =
-      simp length-append (rw (length-digits 2 h, length-digits 2 m, length-digits 2 s) (omega arith))
+  length_spelled rest = grind (arith, nat_tests, length-append, length-digits)
 
   pub hours_read : span (digits 2 h) ≡ span_from (micros_at h 0 0) 3_600_000_000
   unfolding span hour_span
@@ -191,18 +175,18 @@ module _ (h m s : ℕ) (clock : IsClock h m s) where
       → span (spelled_fraction h m s count fraction) ≡ span_from (micros_at h m s + fraction * unit_at count) (unit_at count)
   unfolding span fraction_span
   fractions_read count fraction some few small =
-      let octets = spelled_fraction h m s count fraction in
-      let behind = 0x2e ∷ digits count fraction in
-      let len : length octets ≡ 6 + suc count = length_spelled behind ∙ ap (λ n. 6 + suc n) (length-digits count fraction) in
-      let at_six : drop 6 octets ≡ behind = behind_second behind in
-      let point : slice_index octets 6 ≡ 0x2e = sym (get_or-drop 6 octets 0 0) ∙ ap (λ xs. slice_index xs 0) at_six in
-      let cut : drop 7 octets ≡ digits count fraction = sym (drop-drop 1 6 octets) ∙ ap (drop 1) at_six in
-      let micros : h * 3_600_000_000 + m * 60_000_000 + s * 1_000_000 ≡ micros_at h m s = omega arith in
-      let unit : unit_of (digits count fraction) ≡ unit_at count = ap unit_at (length-digits count fraction) in
-      fraction_case octets (digits count fraction) (h * 3_600_000_000 + m * 60_000_000 + s * 1_000_000) fraction (omega arith) (omega arith) point cut
-      (second_at behind) (number-digits count fraction (omega arith) small)
-      ∙ ap (λ u. span_from (h * 3_600_000_000 + m * 60_000_000 + s * 1_000_000 + fraction * u) u) unit
-      ∙ ap (λ n. span_from (n + fraction * unit_at count) (unit_at count)) micros
+      grind (
+        arith,
+        nat_tests,
+        length_spelled,
+        length-digits,
+        behind_second,
+        get_or-drop,
+        drop-drop,
+        fraction_case,
+        second_at,
+        number-digits,
+      )
 
 pub time_read : (octets : List ℕ) (found : Span) → SpellsTime octets found → span octets ≡ Some found
 time_read octets found (to_hour h clock e is) = ap span e ∙ hours_read h 0 0 clock ∙ is

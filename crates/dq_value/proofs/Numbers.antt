@@ -1,11 +1,10 @@
 -- A number of few digits is small.
-use Rattle.std.proofs.Common.{◌≡◌, ℕ, ◌+◌, ◌*◌, ◌<◌, ◌^◌, ◌-◌, suc, sym, ap, ◌∙◌, arith}
+use Rattle.std.proofs.Common.{◌≡◌, ℕ, ◌+◌, ◌*◌, ◌<◌, ◌^◌, ◌-◌, sym, ap, ◌∙◌, arith}
 use Rattle.std.proofs.Math.Nat.{pow-le-pow_right, pow-succ', one-le-pow, mul-lt-mul_of_pos_right}
 use Rattle.std.proofs.lemmas.Nat.{pow-add}
 
 pub one_more_fits : (n d i : ℕ) → n < 10 ^ i → i < 18 → d < 10 → 10 * n + d < 10 ^ 18
-one_more_fits n d i below few small =
-    omega (arith, pow-le-pow_right {n = 10} (omega arith) {i = suc i} {j = 18} (omega arith), pow-succ' 10 i)
+one_more_fits n d i below few small = grind (arith, pow-le-pow_right, pow-succ')
 
 pub unit_positive : (k : ℕ) → 0 < 10 ^ (6 - k)
 unit_positive k = one-le-pow (6 - k) 10 (omega arith)

@@ -1,5 +1,5 @@
 -- What the last octet is to the padding.
-use Rattle.std.proofs.Common.{◌≡◌, ℕ, Bool, true, false, cond, List, [], ◌∷◌, ◌++◌, length, refl, sym, ap, ◌∙◌, arith}
+use Rattle.std.proofs.Common.{◌≡◌, ℕ, Bool, true, false, cond, List, [], ◌∷◌, ◌++◌, length, refl, arith}
 use Rattle.dq_value.specs.Trimming.{kept_before, without_trailing}
 
 kept_before-push : (test : ℕ → Bool) (octet last : ℕ) (xs : List ℕ) → kept_before test octet (xs ++ last ∷ []) ≡ octet ∷ (xs ++ last ∷ [])
@@ -22,15 +22,11 @@ without_trailing-push test last (x ∷ xs) = rw (without_trailing-push test last
 module _ (test : ℕ → Bool) where
   pub pad_taken : (kept others octets : List ℕ) (last : ℕ) → kept ≡ others ++ last ∷ [] → test last ≡ true
       → without_trailing test kept ≡ without_trailing test octets → without_trailing test others ≡ without_trailing test octets
-  pad_taken kept others octets last cut pad same =
-      sym (without_trailing-push test last others ∙ ap (λ b. cond b (without_trailing test others) (others ++ last ∷ [])) pad)
-      ∙ ap (without_trailing test) (sym cut) ∙ same
+  pad_taken kept others octets last cut pad same = grind (arith, without_trailing-push)
 
   pub no_pad_left : (kept others octets : List ℕ) (last : ℕ) → kept ≡ others ++ last ∷ [] → test last ≡ false
       → without_trailing test kept ≡ without_trailing test octets → kept ≡ without_trailing test octets
-  no_pad_left kept others octets last cut pad same =
-      cut ∙ sym (without_trailing-push test last others ∙ ap (λ b. cond b (without_trailing test others) (others ++ last ∷ [])) pad)
-      ∙ ap (without_trailing test) (sym cut) ∙ same
+  no_pad_left kept others octets last cut pad same = grind (arith, without_trailing-push)
 
   pub nothing_left : (kept octets : List ℕ) → length kept ≡ 0 → without_trailing test kept ≡ without_trailing test octets
       → kept ≡ without_trailing test octets

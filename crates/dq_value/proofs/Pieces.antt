@@ -1,5 +1,5 @@
 -- The halves round the first separator, by its place.
-use Rattle.std.proofs.Common.{◌≡◌, ◌==◌, ℕ, ◌+◌, not, suc, Bool, true, false, cond, List, [], ◌∷◌, take, drop, length, Option, Some, None, option_map, position, nat_lt, nat_eq, refl, sym, ap, ◌∙◌, arith, add-one, drop-drop}
+use Rattle.std.proofs.Common.{◌≡◌, ◌==◌, ℕ, ◌+◌, not, suc, Bool, true, false, cond, List, [], ◌∷◌, take, drop, length, Option, Some, None, option_map, position, nat_lt, refl, sym, ap, ◌∙◌, arith, add-one, drop-drop}
 use Rattle.std.proofs.lemmas.Bool.Decides.{nat_tests}
 use Rattle.std.specs.List.{position_or_len}
 use Rattle.dq_vr.specs.declared.Vr.{Vr}
@@ -29,9 +29,7 @@ halves_at-case false x xs (Some i) = refl
 pub halves-position : (separator : ℕ) (xs : List ℕ) → halves separator xs ≡ halves_at xs (position (λ octet. octet == separator) xs)
 unfolding halves behind
 halves-position separator [] = refl
-halves-position separator (x ∷ xs) =
-    rw (position-cons (λ octet. octet == separator) x xs, halves-position separator xs)
-    (halves_at-case (x == separator) x xs (position (λ octet. octet == separator) xs))
+halves-position separator (x ∷ xs) = search (position-cons, halves_at-case, halves-position separator xs)
 
 pub no_halves : (separator : ℕ) (xs : List ℕ) → position (λ octet. octet == separator) xs ≡ None → halves separator xs ≡ None
 no_halves separator xs e = halves-position separator xs ∙ ap (halves_at xs) e
@@ -61,9 +59,7 @@ pieces-case false separator x xs (Some h) = refl
 pub pieces-halves : (separator : ℕ) (xs : List ℕ) → pieces separator xs ≡ pieces_at separator xs (halves separator xs)
 unfolding pieces halves
 pieces-halves separator [] = refl
-pieces-halves separator (x ∷ xs) =
-    ap (λ ps. cond (nat_eq x separator) ([] ∷ pieces separator xs) (joined x ps)) (pieces-halves separator xs)
-    ∙ pieces-case (nat_eq x separator) separator x xs (halves separator xs)
+pieces-halves separator (x ∷ xs) = grind (arith, nat_tests, pieces-case, pieces-halves separator xs)
 
 -- the values as they stand, by the first and what is left
 pub sole_piece : (vr : Vr) (octets : List ℕ) → has_separator vr ≡ false → pieces_of vr octets ≡ octets ∷ pieces_left vr None

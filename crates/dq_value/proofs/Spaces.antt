@@ -51,12 +51,8 @@ last_after (y ∷ z ∷ before) kept x h = last_after (z ∷ before) kept x h
 cleared : (before kept : List ℕ) → list_all is_space before ≡ true → first_is is_space kept ≡ false → last_is is_space kept ≡ false
     → without_leading is_space (without_trailing is_space (before ++ kept)) ≡ kept
 unfolding without_leading
-cleared before [] spaces first last =
-    ap (λ ys. without_leading is_space (without_trailing is_space ys)) (append-nil before) ∙ ap (without_leading is_space) (all_taken before spaces)
-cleared before (x ∷ kept) spaces first last =
-    ap (without_leading is_space) (trailing_same is_space (before ++ x ∷ kept) (last_after before kept x last))
-    ∙ leading_taken before (x ∷ kept) spaces
-    ∙ leading_same is_space (x ∷ kept) first
+cleared before [] spaces first last = search (append-nil, all_taken)
+cleared before (x ∷ kept) spaces first last = search (trailing_same, last_after, leading_taken, leading_same)
 
 pub alone : (title kept : List ℕ) → IsStripped title kept → kept ≡ stripped title
 unfolding stripped

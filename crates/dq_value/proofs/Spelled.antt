@@ -17,15 +17,10 @@ push-case false x o r e = refl
 number_after-push : (before x : ℕ) (xs : List ℕ) → number_after before (xs ++ x ∷ []) ≡ with_digit x (number_after before xs)
 unfolding number_after
 number_after-push before x [] = refl
-number_after-push before x (y ∷ ys) =
-    push-case (is_digit y) x (number_after (10 * before + (y - 48)) ys) (number_after (10 * before + (y - 48)) (ys ++ x ∷ []))
-    (number_after-push (10 * before + (y - 48)) x ys)
+number_after-push before x (y ∷ ys) = search (push-case, number_after-push (10 * before + (y - 48)) x ys)
 
 with_last : (n r : ℕ) → r < 10 → with_digit (48 + r) (Some n) ≡ Some (10 * n + r)
-with_last n r small =
-    let shown : is_digit (48 + r) ≡ true = grind (arith, nat_tests) in
-    let back : 48 + r - 48 ≡ r = omega arith in
-    rw (shown, back) refl
+with_last n r small = grind (arith, nat_tests)
 
 after-digits : (count n : ℕ) → n < 10 ^ count → number_after 0 (digits count n) ≡ Some n
 unfolding number_after digits
@@ -55,10 +50,7 @@ number-digits count n some small = number-some (digits count n) (omega (arith, l
 digits-cons : (count n : ℕ) → digits (suc count) n ≡ (48 + n / 10 ^ count % 10) ∷ digits count n
 unfolding digits
 digits-cons zero n = ap (λ m. (48 + m % 10) ∷ []) (sym (div-one n))
-digits-cons (suc count) n =
-    let deeper : n / 10 / 10 ^ count ≡ n / 10 ^ suc count = div-div-eq-div-mul n 10 (10 ^ count) ∙ ap (λ p. n / p) (sym (pow-succ' 10 count)) in
-    ap (λ ds. ds ++ (48 + n % 10) ∷ []) (digits-cons count (n / 10))
-    ∙ ap (λ m. (48 + m % 10) ∷ (digits count (n / 10) ++ (48 + n % 10) ∷ [])) deeper
+digits-cons (suc count) n = grind (arith, nat_tests, div-div-eq-div-mul, pow-succ', digits-cons count (n / 10))
 
 abbrev AreDigits : List ℕ → ℕ → ℕ → Type 0
 AreDigits xs before n = (xs ≡ digits (length xs) n) × (n / 10 ^ length xs ≡ before)
@@ -85,16 +77,11 @@ only-case true x before n xs shown inner e =
 
 number_after-only : (xs : List ℕ) (before n : ℕ) → number_after before xs ≡ Some n → AreDigits xs before n
 unfolding number_after digits
-number_after-only [] before n e =
-    let same : before ≡ n = cc in
-    (refl, div-one n ∙ sym same)
+number_after-only [] before n e = grind (arith, nat_tests, div-one)
 number_after-only (x ∷ xs) before n e = only-case (is_digit x) x before n xs refl (number_after-only xs (10 * before + (x - 48)) n) e
 
 below_power : (n p : ℕ) → 0 < p → n / p ≡ 0 → n < p
-below_power n p some e =
-    let below = lt-div-mul-add {a = n} {b = p} some in
-    let rest : n < 0 * p + p = rw e at below in
-    omega arith
+below_power n p some e = grind (arith, nat_tests, lt-div-mul-add)
 
 pub number-only : (octets : List ℕ) (n : ℕ) → number octets ≡ Some n → (octets ≡ digits (length octets) n) × (n < 10 ^ length octets)
 unfolding number

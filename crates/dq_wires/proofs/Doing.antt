@@ -16,7 +16,7 @@ use Rattle.dq_wires.specs.Steps.{Step, Runs, Stops}
 use Rattle.dq_wires.specs.Steps.Step.{Answered, Asked}
 use Rattle.dq_wires.specs.Deeds.{Shutting, IsSending, IsListening, IsEnd, failed}
 use Rattle.dq_wires.specs.Deeds.Deed.{Sent, Broke, Lost, Closed, Heard, Silent, Pulled, Left}
-use Rattle.dq_wires.specs.Deeds.Break.{Unkept, Unanswered, Unpulled, Unended, Unbroken}
+use Rattle.dq_wires.specs.Deeds.Break.{Unkept, Unanswered, Unpulled, Unended}
 use Rattle.dq_wires.specs.Going.{Ends, Hears, Waits, FailsToHear, Went, WentOff}
 use Rattle.dq_wires.proofs.Logging.{logs-then}
 
@@ -128,9 +128,3 @@ module _ {State : Type 0} {Fails : State → State → Event → Fault → Type 
       → WentOff Fails before after old new wire fault
   off-unended place room came listening ended at all told stops =
       record { at = Unended came; fits = (listening, ended); calls = rw (at, all) at told; stops = stops }
-
-  pub off-unbroken : (place : ℕ) (offered : List ℕ) → IsSending wire → wire.closed ≡ false → place ≡ wire.place → offered ≡ wire.unsent
-      → Logs before after (Write place offered failed) → Stops Fails old new (Some (End wire.number)) fault
-      → WentOff Fails before after old new wire fault
-  off-unbroken place offered sending unclosed at all told stops =
-      record { at = Unbroken; fits = (sending, unclosed); calls = rw (at, all) at told; stops = stops }

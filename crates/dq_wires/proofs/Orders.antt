@@ -3,7 +3,7 @@ use Rattle.std.proofs.Common.{◌≡◌, ℕ, IsTrue, List, [], ◌∷◌, ◌++
 use Rattle.dq_core.specs.declared.event.Event.{Event}
 use Rattle.dq_core.specs.declared.event.Event.TheVariants.{Open, Piece, End, Pull, Schedule, Withdraw}
 use Rattle.dq_core.specs.declared.fault.Fault.{Fault}
-use Rattle.dq_core.specs.Histories.{is_above, newest_after}
+use Rattle.dq_core.specs.Histories.{is_above}
 use Rattle.dq_core.specs.Stepping.{Opens}
 use Rattle.dq_wires.specs.declared.calls.Call.{Call}
 use Rattle.dq_wires.specs.declared.calls.Call.TheVariants.{Accept}
@@ -23,14 +23,6 @@ order-opens newest (End number) h = tt
 order-opens newest (Pull number) h = tt
 order-opens newest (Schedule inst octets) h = tt
 order-opens newest (Withdraw inst id) h = tt
-
-pub order-newest : (newest : Option ℕ) (event : Event) → IsOrder event → newest_after newest (event ∷ []) ≡ newest
-order-newest newest (Open number) h = absurd h
-order-newest newest (Piece number octets) h = refl
-order-newest newest (End number) h = refl
-order-newest newest (Pull number) h = refl
-order-newest newest (Schedule inst octets) h = refl
-order-newest newest (Withdraw inst id) h = refl
 
 -- nothing was opened
 pub opens-first : (newest : Option ℕ) → IsTrue (is_above newest 0) → NextOpens newest 0

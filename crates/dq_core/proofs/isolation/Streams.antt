@@ -1,5 +1,5 @@
 -- What a longer stream has: its inputs, its owner, and what its pieces are answered with.
-use Rattle.std.proofs.Common.{◌≡◌, ℕ, true, is_some, List, [], ◌∷◌, ◌++◌, length, drop, Option, Some, None, option_map, refl, sym, ap, ◌∙◌, append_assoc}
+use Rattle.std.proofs.Common.{◌≡◌, ℕ, List, [], ◌∷◌, ◌++◌, length, drop, Option, Some, None, option_map, refl, sym, ap, ◌∙◌, append_assoc}
 use Rattle.std.proofs.lemmas.List.{append_cancel_left}
 use Rattle.std.proofs.Math.Seq.{drop-append_seam}
 use Rattle.dq_pdu.specs.declared.pdu.Request.{Request}
@@ -121,12 +121,3 @@ nil-front (x ∷ xs) ys h = cc
 -- a stream without inputs has a front without inputs
 pub front_without : AddsInputs → (stream more : List ℕ) → inputs (stream ++ more) ≡ [] → inputs stream ≡ []
 front_without adds stream more h = nil-front (inputs stream) (adds stream more).0 (sym (adds stream more).1 ∙ h)
-
--- an owned stream has a request
-owned-request : (institutions : List Institution) (o : Option Request) (i : Institution) → owner_by institutions o ≡ Some i → is_some o ≡ true
-owned-request institutions None i h = cc
-owned-request institutions (Some request) i h = refl
-
-pub owner-request : (institutions : List Institution) (stream : List ℕ) (i : Institution) → owner institutions stream ≡ Some i
-    → is_some (request_in (inputs stream)) ≡ true
-owner-request institutions stream i h = owned-request institutions (request_in (inputs stream)) i h
