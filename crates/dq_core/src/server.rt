@@ -95,22 +95,27 @@ impl<T: Tables> Server<T> {
     }
 
     /// Whether a connection is held under a number: it was opened, and neither ended nor closed.
+    /// After a fault none is held.
     pub fn holds(&self, number: u64) -> bool
-        ensures { (rows : List Row) (events : List Event) → StandsFor T.state rows self.now events →
+        ensures stands { (rows : List Row) (events : List Event) →
+            StandsFor T.state rows self.now events →
             let world = world_after self.now.institutions rows events in
             result ≡ is_some (connection_in number world.connections) }
+        ensures spent { self.now.spent ≡ true → result ≡ false }
     {
-        self.connections.is_held(number)
+        !self.spent && self.connections.is_held(number)
     }
 
     /// Whether a C-FIND is open on the connection that is held under a number: there are answers
-    /// that a pull brings.
+    /// that a pull brings. After a fault none is open.
     pub fn pending(&self, number: u64) -> bool
-        ensures { (rows : List Row) (events : List Event) → StandsFor T.state rows self.now events →
+        ensures stands { (rows : List Row) (events : List Event) →
+            StandsFor T.state rows self.now events →
             let world = world_after self.now.institutions rows events in
             result ≡ is_pending number world.connections }
+        ensures spent { self.now.spent ≡ true → result ≡ false }
     {
-        self.connections.is_pending(number)
+        !self.spent && self.connections.is_pending(number)
     }
 
     /// The institutions that share the server, in the order of the configuration.
