@@ -1,5 +1,5 @@
 -- How a task that stops is told of.
-use Rattle.std.proofs.Common.{◌≡◌, ◌≢◌, ◌⊎◌, ℕ, List, Option, Some, None, IfSome, inl, inr, refl, arith}
+use Rattle.std.proofs.Common.{◌≡◌, ◌≢◌, ◌≤◌, ◌⊎◌, ℕ, List, Option, Some, None, Result, Ok, Err, IfErr, IfSome, inl, inr, refl, sym, ◌∙◌, arith}
 use Rattle.std.specs.Io.KnownBytes.{Keeps}
 use Rattle.clap.specs.declared.error.kind.ErrorKind.{ErrorKind}
 use Rattle.clap.specs.declared.error.kind.ErrorKind.TheVariants as kind
@@ -13,22 +13,30 @@ use Rattle.dq_program.specs.declared.words.Task.TheVariants.{Replay, Report}
 use Rattle.dq_program.specs.declared.words.Task.{Task}
 use Rattle.dq_program.specs.Words.{Request, Serving, Migrating, Errand, Serves, Loops, Migrates}
 use Rattle.dq_program.specs.Serving.{StopsService}
-use Rattle.dq_program.specs.Program.{no_memory, status_of, RefusesFile, RefusesCapture, RefusesStore, IsRunFault, EndsTask, CutsTask, EndsLoop, EndsMigration, rows_at, text_of, IsBy, HasConfig, PrintsFirst}
+use Rattle.dq_program.specs.Program.{no_memory, status_of, IsBadConfig, IsBadCapture, RefusesFile, HasConfig, IsRunFault, CutsTask, StopsPlay, EndsLoop, EndsMigration, rows_at, text_of, IsBy, PrintsFirst}
 use Rattle.dq_program.specs.Surroundings.{AppendsPart}
 
-file_memory : (may_fail : List ℕ → Type 0) (held : List ℕ → Option (List ℕ)) (file : Option (List ℕ)) (number : ℕ)
-    → RefusesFile may_fail held file (Fault number) → number ≡ no_memory
-file_memory may_fail held None number is = cc
-file_memory may_fail held (Some path) number is = is
+-- a file is refused by its configuration, or for want of memory
+abbrev IsFileStop : Stop → Type 0
+IsFileStop (Config number) = Unit {0}
+IsFileStop (Fault number) = number ≡ no_memory
+IsFileStop other = ⊥
 
-file_output : (may_fail : List ℕ → Type 0) (held : List ℕ → Option (List ℕ)) (file : Option (List ℕ)) → RefusesFile may_fail held file Output → ⊥
-file_output may_fail held None is = cc
-file_output may_fail held (Some path) is = is
+file_stop : (may_fail : List ℕ → Type 0) (held : List ℕ → Option (List ℕ)) (file : Option (List ℕ)) (cause : Stop)
+    → RefusesFile may_fail held file cause → IsFileStop cause
+file_stop may_fail held None cause is = rw is refl
+file_stop may_fail held (Some path) Usage is = is
+file_stop may_fail held (Some path) (Config number) is = tt
+file_stop may_fail held (Some path) (Capture number) is = is
+file_stop may_fail held (Some path) (Store number) is = is
+file_stop may_fail held (Some path) (Fault number) is = is
+file_stop may_fail held (Some path) Output is = is
+file_stop may_fail held (Some path) Network is = is
 
-file_store : (may_fail : List ℕ → Type 0) (held : List ℕ → Option (List ℕ)) (file : Option (List ℕ)) (number : ℕ)
-    → RefusesFile may_fail held file (Store number) → ⊥
-file_store may_fail held None number is = cc
-file_store may_fail held (Some path) number is = is
+file_config : (may_fail : List ℕ → Type 0) (held : List ℕ → Option (List ℕ)) (file : Option (List ℕ)) (number : ℕ)
+    → RefusesFile may_fail held file (Config number) → (path : List ℕ) × (file ≡ Some path) × IsBadConfig (may_fail path) (held path) number
+file_config may_fail held None number is = absurd (cc)
+file_config may_fail held (Some path) number is = (path, refl, is)
 
 memory : (Told : Stop → Type 0) (number : ℕ) → number ≡ no_memory → Told (Fault number) → Told (Fault no_memory)
 memory Told number is told = rw (← is) told
@@ -57,7 +65,7 @@ memory_or_not kind.DisplayVersion = inr (λ is. cc)
 memory_or_not kind.Io = inr (λ is. cc)
 memory_or_not kind.Format = inr (λ is. cc)
 
-keeps : (o : Option (List ℕ)) → Keeps o o
+pub keeps : (o : Option (List ℕ)) → Keeps o o
 keeps None = tt
 keeps (Some octets) = refl
 
@@ -93,16 +101,44 @@ unread_migration found files fails written Told k status is other memory = elim 
   | inr not ↦ let none : found ≡ None = other not in absurd (cc)
 ]
 
+pub status_bounds : (cause : Stop) → (1 ≤ status_of cause) × (status_of cause ≤ 5)
+status_bounds Usage = (omega arith, omega arith)
+status_bounds (Config number) = (omega arith, omega arith)
+status_bounds (Capture number) = (omega arith, omega arith)
+status_bounds (Store number) = (omega arith, omega arith)
+status_bounds (Fault number) = (omega arith, omega arith)
+status_bounds Output = (omega arith, omega arith)
+status_bounds Network = (omega arith, omega arith)
+
+-- what never ends by usage never has its status
+not_usage : (cause : Stop) → (cause ≡ Usage → ⊥) → status_of cause ≢ 1
+not_usage Usage other = absurd (other refl)
+not_usage (Config number) other = omega arith
+not_usage (Capture number) other = omega arith
+not_usage (Store number) other = omega arith
+not_usage (Fault number) other = omega arith
+not_usage Output other = omega arith
+not_usage Network other = omega arith
+
+pub err_status : {T : Type 0} (P : Stop → Type 0) (done : Result T Stop) → (P Usage → ⊥) → IfErr done P → IfErr done (λ cause. status_of cause ≢ 1)
+err_status P (Ok x) none stops = tt
+err_status P (Err cause) none stops = not_usage cause (λ is. none (rw is at stops))
+
+pub service_usage : (may_fail : List ℕ → Type 0) (held : List ℕ → Option (List ℕ)) (file : Option (List ℕ)) (fails : Type 0)
+    (before after : Option (List ℕ)) (port : ℕ) → StopsService may_fail held file fails before after port Usage → ⊥
+service_usage may_fail held file fails before after port (inl refused) = file_stop may_fail held file Usage refused.1
+service_usage may_fail held file fails before after port (inr (has, inl refused)) = refused.1
+service_usage may_fail held file fails before after port (inr (has, inr ended)) = ended
+
 module _ (request : Request) (file_fails : List ℕ → Type 0) (held : List ℕ → Option (List ℕ)) (stored : List ℕ → Option (List Row)) (input_fails : Type 0)
     (input : Option (List ℕ)) (fails : Type 0) (before after : Option (List ℕ)) (Told : Stop → Type 0) where
-  abbrev pub Ends : Stop → List Institution → List Event → Type 0
-  Ends cause institutions events = (Keeps before after × RefusesStore cause)
-      ⊎ (EndsTask fails cause × IfSome (rows_at stored request.place) (λ rows. CutsTask request.task before after institutions rows events cause))
+  abbrev pub Configs : Type 0
+  Configs = (path : List ℕ) × (number : ℕ) × (request.config ≡ Some path)
+      × IsBadConfig (file_fails path) (held path) number × Told (Config number) × Keeps before after
 
-  abbrev pub Stops : Stop → Type 0
-  Stops cause = (Keeps before after × RefusesFile file_fails held request.config cause)
-      ⊎ (Keeps before after × HasConfig held request.config × RefusesCapture input_fails input cause)
-      ⊎ IsBy held request.config input (Ends cause)
+  abbrev pub Captures : Type 0
+  Captures = (number : ℕ) × HasConfig held request.config × IsBadCapture input_fails input number
+      × Told (Capture number) × Keeps before after
 
   abbrev pub Faults : Type 0
   Faults = (Told (Fault no_memory) × Keeps before after)
@@ -125,16 +161,69 @@ module _ (request : Request) (file_fails : List ℕ → Type 0) (held : List ℕ
   cut_output Replay institutions events rows part = part
   cut_output Report institutions events rows part = part
 
-  pub faults : (cause : Stop) → status_of cause ≡ 4 → Told cause → Stops cause → Faults
+  abbrev pub Stops : Stop → Type 0
+  Stops = StopsPlay request file_fails held stored input_fails input fails before after
+
+  pub play_usage : Stops Usage → ⊥
+  play_usage (inl refused) = file_stop file_fails held request.config Usage refused.1
+  play_usage (inr (inl refused)) = refused.2
+  play_usage (inr (inr (institutions, events, by, tells, inl refused))) = refused.1
+  play_usage (inr (inr (institutions, events, by, tells, inr ended))) = ended.0
+
+  play_network : Stops Network → ⊥
+  play_network (inl refused) = file_stop file_fails held request.config Network refused.1
+  play_network (inr (inl refused)) = refused.2
+  play_network (inr (inr (institutions, events, by, tells, inl refused))) = refused.1
+  play_network (inr (inr (institutions, events, by, tells, inr ended))) = ended.0
+
+  play_status : (cause : Stop) → Stops cause → status_of cause ≤ 4
+  play_status Network stops = absurd (play_network stops)
+  play_status Usage stops = omega arith
+  play_status (Config number) stops = omega arith
+  play_status (Capture number) stops = omega arith
+  play_status (Store number) stops = omega arith
+  play_status (Fault number) stops = omega arith
+  play_status Output stops = omega arith
+
+  configs : (cause : Stop) → status_of cause ≡ 2 → Told cause → Stops cause
+      → Configs
+  configs (Config number) status told (inl refused) =
+      let file = file_config file_fails held request.config number refused.1 in
+      (file.0, number, file.1, file.2, told, refused.0)
+  configs (Config number) status told (inr (inl refused)) = absurd refused.2
+  configs (Config number) status told (inr (inr (institutions, events, by, tells, inl refused))) = absurd refused.1
+  configs (Config number) status told (inr (inr (institutions, events, by, tells, inr ended))) = absurd ended.0
+  configs Usage status told stops = absurd (omega (arith, status))
+  configs (Capture number) status told stops = absurd (omega (arith, status))
+  configs (Store number) status told stops = absurd (omega (arith, status))
+  configs (Fault number) status told stops = absurd (omega (arith, status))
+  configs Output status told stops = absurd (omega (arith, status))
+  configs Network status told stops = absurd (omega (arith, status))
+
+  captures : (cause : Stop) → status_of cause ≡ 3 → Told cause → Stops cause
+      → Captures
+  captures (Capture number) status told (inl refused) = absurd (file_stop file_fails held request.config (Capture number) refused.1)
+  captures (Capture number) status told (inr (inl refused)) = (number, refused.1, refused.2, told, refused.0)
+  captures (Capture number) status told (inr (inr (institutions, events, by, tells, inl refused))) = absurd refused.1
+  captures (Capture number) status told (inr (inr (institutions, events, by, tells, inr ended))) = absurd ended.0
+  captures Usage status told stops = absurd (omega (arith, status))
+  captures (Config number) status told stops = absurd (omega (arith, status))
+  captures (Store number) status told stops = absurd (omega (arith, status))
+  captures (Fault number) status told stops = absurd (omega (arith, status))
+  captures Output status told stops = absurd (omega (arith, status))
+  captures Network status told stops = absurd (omega (arith, status))
+
+  faults : (cause : Stop) → status_of cause ≡ 4 → Told cause
+      → Stops cause → Faults
   faults Usage status told stops = absurd (omega (arith, status))
   faults (Config number) status told stops = absurd (omega (arith, status))
   faults (Capture number) status told stops = absurd (omega (arith, status))
-  faults (Store number) status told (inl refused) = absurd (file_store file_fails held request.config number refused.1)
+  faults (Store number) status told (inl refused) = absurd (file_stop file_fails held request.config (Store number) refused.1)
   faults (Store number) status told (inr (inl refused)) = absurd refused.2
   faults (Store number) status told (inr (inr (institutions, events, by, tells, inl refused))) =
       inr (inl (number, (institutions, events, by, tells, (told, refused.0))))
   faults (Store number) status told (inr (inr (institutions, events, by, tells, inr ended))) = absurd ended.0
-  faults (Fault number) status told (inl refused) = inl (memory Told number (file_memory file_fails held request.config number refused.1) told, refused.0)
+  faults (Fault number) status told (inl refused) = inl (memory Told number (file_stop file_fails held request.config (Fault number) refused.1) told, refused.0)
   faults (Fault number) status told (inr (inl refused)) = inl (memory Told number refused.2 told, refused.0)
   faults (Fault number) status told (inr (inr (institutions, events, by, tells, inl refused))) = inl (memory Told number refused.1 told, refused.0)
   faults (Fault number) status told (inr (inr (institutions, events, by, tells, inr ended))) =
@@ -149,7 +238,7 @@ module _ (request : Request) (file_fails : List ℕ → Type 0) (held : List ℕ
           (told, known (rows_at stored request.place) (cut_fault request.task refl number institutions events) ended.1),
         ),
       )))
-  faults Output status told (inl refused) = absurd (file_output file_fails held request.config refused.1)
+  faults Output status told (inl refused) = absurd (file_stop file_fails held request.config Output refused.1)
   faults Output status told (inr (inl refused)) = absurd refused.2
   faults Output status told (inr (inr (institutions, events, by, tells, inl refused))) = absurd refused.1
   faults Output status told (inr (inr (institutions, events, by, tells, inr ended))) =
@@ -161,3 +250,13 @@ module _ (request : Request) (file_fails : List ℕ → Type 0) (held : List ℕ
         (told, ended.0, known (rows_at stored request.place) (cut_output request.task institutions events) ended.1),
       )))
   faults Network status told stops = absurd (omega (arith, status))
+
+  -- what is told of a task that stops, by its exit status
+  pub stops_by_status : (cause : Stop) (status : ℕ) → status ≡ status_of cause → Told cause → Stops cause
+      → (status ≤ 4) × (status ≡ 2 → Configs) × (status ≡ 3 → Captures) × (status ≡ 4 → Faults)
+  stops_by_status cause status is told stops = (
+    rw is (play_status cause stops),
+    λ two. configs cause (sym is ∙ two) told stops,
+    λ three. captures cause (sym is ∙ three) told stops,
+    λ four. faults cause (sym is ∙ four) told stops,
+  )

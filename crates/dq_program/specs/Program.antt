@@ -34,7 +34,7 @@ use Rattle.dq_program.specs.declared.stores.Unkept.{Unkept}
 use Rattle.dq_program.specs.declared.stores.Unkept.TheVariants as unkept
 use Rattle.dq_program.specs.declared.words.Task.{Task}
 use Rattle.dq_program.specs.declared.words.Task.TheVariants.{Replay, Report}
-use Rattle.dq_program.specs.Words.{Place, InMemory, InNewStore, InStore}
+use Rattle.dq_program.specs.Words.{Request, Place, InMemory, InNewStore, InStore}
 use Rattle.dq_tables.specs.Keeping.{State}
 use Rattle.dq_tables.specs.declared.row.Row.{Row}
 use Rattle.dq_wires.specs.declared.fault.TurnFault.{TurnFault}
@@ -259,6 +259,21 @@ IsBy held file input IsSo = (institutions : List Institution) × (events : List 
 -- there is a configuration, and events are told
 abbrev pub HasConfig : (List ℕ → Option (List ℕ)) → Option (List ℕ) → Type 0
 HasConfig held file = (institutions : List Institution) × IsConfigured held file institutions
+
+-- What a task stops by: a refused configuration, capture or store, where nothing was printed, or an
+-- early end.
+module _ (request : Request) (file_fails : List ℕ → Type 0) (held : List ℕ → Option (List ℕ))
+    (stored : List ℕ → Option (List Row)) (input_fails : Type 0) (input : Option (List ℕ))
+    (fails : Type 0) (before after : Option (List ℕ)) where
+  abbrev pub EndsPlay : Stop → List Institution → List Event → Type 0
+  EndsPlay cause institutions events = (Keeps before after × RefusesStore cause)
+      ⊎ (EndsTask fails cause × IfSome (rows_at stored request.place) (λ rows.
+      CutsTask request.task before after institutions rows events cause))
+
+  abbrev pub StopsPlay : Stop → Type 0
+  StopsPlay cause = (Keeps before after × RefusesFile file_fails held request.config cause)
+      ⊎ (Keeps before after × HasConfig held request.config × RefusesCapture input_fails input cause)
+      ⊎ IsBy held request.config input (EndsPlay cause)
 
 -- a stop is told by its line, unless that fails
 abbrev pub IsTold : Type 0 → Option (List ℕ) → Option (List ℕ) → Stop → Type 0

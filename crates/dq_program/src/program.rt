@@ -12,8 +12,8 @@ ghost use Rattle.dq_wires.specs.declared.looping.Sent.{Sent};
 ghost use Rattle.dq_wires.specs.Looping.{sent_number};
 ghost use Rattle.dq_program.specs.Printing.{sent_text};
 ghost use Rattle.dq_program.specs.Surroundings.{AppendsPart};
-ghost use Rattle.dq_program.specs.Words.{Request, Serving, Migrating, Plays, Serves, Loops, Migrates, asked, place_in};
-ghost use Rattle.dq_program.specs.Program.{no_memory, status_of, IsTold, no_text_line, IsBadConfig, IsBadCapture, RefusesFile, RefusesCapture, RefusesStore, AreHonest, IsRunFault, EndsTask, CutsTask, EndsLoop, migrated_line, EndsMigration, rows_at, text_of, IsBy, IsConfigured, HasConfig, PrintsFirst};
+ghost use Rattle.dq_program.specs.Words.{Request, Serving, Migrating, Plays, Serves, Loops, Migrates, asked, place_in, request_in, errand_in};
+ghost use Rattle.dq_program.specs.Program.{no_memory, status_of, IsTold, no_text_line, IsBadConfig, IsBadCapture, RefusesStore, AreHonest, IsRunFault, EndsTask, CutsTask, StopsPlay, EndsLoop, migrated_line, EndsMigration, rows_at, text_of, IsBy, IsConfigured, HasConfig, PrintsFirst};
 ghost use Rattle.dq_program.specs.Serving.{ready_text, turn_count, IsUncalled, Served, StopsService};
 
 use crate::answering::answer;
@@ -110,23 +110,65 @@ fn play<Rt: AllocGlobal + Folder + Stores, R: Source, W: Sink>(
         Appends (W.written output.old) (W.written output.new)
         (text_of asked.entry.task institutions rows events)))) }
     ensures flushed { OnOk result (W.is_flushed output.new) }
-    ensures stops { IfErr result (λ stop.
-        (Keeps (W.written output.old) (W.written output.new)
-        × RefusesFile (Rt.may_fail rt.now) (Rt.held rt.now) (option_copied asked.entry.config) stop)
-        ⊎ (Keeps (W.written output.old) (W.written output.new)
-        × HasConfig (Rt.held rt.now) (option_copied asked.entry.config)
-        × RefusesCapture (R.may_fail input) (R.octets input) stop)
-        ⊎ IsBy (Rt.held rt.now) (option_copied asked.entry.config) (R.octets input)
-        (λ institutions events.
-        (Keeps (W.written output.old) (W.written output.new) × RefusesStore stop)
-        ⊎ (EndsTask (W.may_fail output.old) stop
-        × IfSome (rows_at (Rt.stored rt.now) (place_in asked.entry.keeper)) (λ rows.
-        CutsTask asked.entry.task (W.written output.old) (W.written output.new) institutions rows
-        events stop)))) }
+    ensures stops { IfErr result (StopsPlay (request_in asked.entry) (Rt.may_fail rt.now)
+        (Rt.held rt.now) (Rt.stored rt.now) (R.may_fail input) (R.octets input)
+        (W.may_fail output.old) (W.written output.old) (W.written output.new)) }
 {
     let config = configured(rt, asked.config)?;
     let events = read_events(rt.alloc(), input)?;
     do_over(rt, asked, config, events, output)
+}
+
+/// Does what a command line asks for.
+fn do_job<Rt: AllocGlobal + Folder + Stores + Network, R: Source, W: Sink>(
+    rt: &Rt,
+    job: Job<'_>,
+    input: R,
+    output: &mut W,
+) -> Result<(), Stop>
+    ensures flushed { OnOk result (W.is_flushed output.new) }
+    ensures understood { IfErr result (λ stop. status_of stop ≢ 1) }
+    ensures played { (request : Request) → errand_in job.entry ≡ Plays request → OnOk result
+        (IsBy (Rt.held rt.now) request.config (R.octets input) (λ institutions events.
+        IfSome (rows_at (Rt.stored rt.now) request.place) (λ rows.
+        Appends (W.written output.old) (W.written output.new)
+        (text_of request.task institutions rows events)))) }
+    ensures unplayed { (request : Request) → errand_in job.entry ≡ Plays request → IfErr result
+        (StopsPlay request (Rt.may_fail rt.now) (Rt.held rt.now) (Rt.stored rt.now)
+        (R.may_fail input) (R.octets input) (W.may_fail output.old) (W.written output.old)
+        (W.written output.new)) }
+    ensures served { (serving : Serving) → errand_in job.entry ≡ Serves serving → OnOk result
+        ((institutions : List Institution)
+        × IsConfigured (Rt.held rt.now) serving.config institutions
+        × IfSome (rows_at (Rt.stored rt.now) serving.place) (λ rows.
+        (wires : Rt.Wired) × (left : Rt.Wired) × IsUncalled (Rt.Wired.log wires)
+        × Served institutions rows (turn_count serving.turns) (Rt.Wired.log wires)
+        (Rt.Wired.log left))) }
+    ensures ready { (serving : Serving) → errand_in job.entry ≡ Serves serving → OnOk result
+        (Appends (W.written output.old) (W.written output.new) (ready_text serving.port)) }
+    ensures unserved { (serving : Serving) → errand_in job.entry ≡ Serves serving → IfErr result
+        (StopsService (Rt.may_fail rt.now) (Rt.held rt.now) serving.config
+        (W.may_fail output.old) (W.written output.old) (W.written output.new) serving.port) }
+    ensures looped { (file : Option (List ℕ)) → errand_in job.entry ≡ Loops file → OnOk result
+        (IsBy (Rt.held rt.now) file (R.octets input) (λ institutions events.
+        (all : List Sent) × (map sent_number all ≡ opened_numbers events)
+        × Appends (W.written output.old) (W.written output.new) (sent_text all))) }
+    ensures unlooped { (file : Option (List ℕ)) → errand_in job.entry ≡ Loops file → IfErr result
+        (EndsLoop (W.may_fail output.old) (W.written output.old) (W.written output.new)) }
+    ensures migrated { (files : Migrating) → errand_in job.entry ≡ Migrates files → OnOk result
+        (((tables : Rt.File)
+        × IfSome (Rt.migrated rt.now files.from) (λ rows. (Rt.File.state tables).rows ≡ rows))
+        × Appends (W.written output.old) (W.written output.new) migrated_line) }
+    ensures unmigrated { (files : Migrating) → errand_in job.entry ≡ Migrates files →
+        IfErr result (EndsMigration (W.may_fail output.old) (W.written output.old)
+        (W.written output.new)) }
+{
+    match job {
+        Job::Play(asked) => play(rt, asked, input, output),
+        Job::Serve(service) => serve(rt, service, output),
+        Job::Loop(config) => loop_over(rt, config, input, output),
+        Job::Migrate(files) => migrate(rt, files, output),
+    }
 }
 
 /// Tells of a stop. The exit status is its own.
@@ -255,19 +297,7 @@ pub fn perform<Rt: AllocGlobal + Folder + Stores + Network, S: AsStr, R: Source,
         Err(error) => return stopped(Stop::from(error), errors),
     };
     match parse(rt.alloc(), line.as_slice()) {
-        Ok(Job::Play(asked)) => match play(rt, asked, input, output) {
-            Ok(()) => 0,
-            Err(stop) => stopped(stop, errors),
-        },
-        Ok(Job::Serve(service)) => match serve(rt, service, output) {
-            Ok(()) => 0,
-            Err(stop) => stopped(stop, errors),
-        },
-        Ok(Job::Loop(config)) => match loop_over(rt, config, input, output) {
-            Ok(()) => 0,
-            Err(stop) => stopped(stop, errors),
-        },
-        Ok(Job::Migrate(files)) => match migrate(rt, files, output) {
+        Ok(job) => match do_job(rt, job, input, output) {
             Ok(()) => 0,
             Err(stop) => stopped(stop, errors),
         },
