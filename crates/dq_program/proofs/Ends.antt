@@ -1,5 +1,5 @@
 -- How a task that stops is told of.
-use Rattle.std.proofs.Common.{◌≡◌, ◌≢◌, ◌≤◌, ◌⊎◌, ℕ, List, Option, Some, None, Result, Ok, Err, IfErr, IfSome, inl, inr, refl, sym, ◌∙◌, arith}
+use Rattle.std.proofs.Common.{◌≡◌, ◌≢◌, ◌≤◌, ◌⊎◌, ℕ, List, Option, Some, None, IfSome, inl, inr, refl, sym, ◌∙◌, arith}
 use Rattle.std.specs.Io.KnownBytes.{Keeps}
 use Rattle.clap.specs.declared.error.kind.ErrorKind.{ErrorKind}
 use Rattle.clap.specs.declared.error.kind.ErrorKind.TheVariants as kind
@@ -110,26 +110,6 @@ status_bounds (Fault number) = (omega arith, omega arith)
 status_bounds Output = (omega arith, omega arith)
 status_bounds Network = (omega arith, omega arith)
 
--- what never ends by usage never has its status
-not_usage : (cause : Stop) → (cause ≡ Usage → ⊥) → status_of cause ≢ 1
-not_usage Usage other = absurd (other refl)
-not_usage (Config number) other = omega arith
-not_usage (Capture number) other = omega arith
-not_usage (Store number) other = omega arith
-not_usage (Fault number) other = omega arith
-not_usage Output other = omega arith
-not_usage Network other = omega arith
-
-pub err_status : {T : Type 0} (P : Stop → Type 0) (done : Result T Stop) → (P Usage → ⊥) → IfErr done P → IfErr done (λ cause. status_of cause ≢ 1)
-err_status P (Ok x) none stops = tt
-err_status P (Err cause) none stops = not_usage cause (λ is. none (rw is at stops))
-
-pub service_usage : (may_fail : List ℕ → Type 0) (held : List ℕ → Option (List ℕ)) (file : Option (List ℕ)) (fails : Type 0)
-    (before after : Option (List ℕ)) (port : ℕ) → StopsService may_fail held file fails before after port Usage → ⊥
-service_usage may_fail held file fails before after port (inl refused) = file_stop may_fail held file Usage refused.1
-service_usage may_fail held file fails before after port (inr (has, inl refused)) = refused.1
-service_usage may_fail held file fails before after port (inr (has, inr ended)) = ended
-
 module _ (request : Request) (file_fails : List ℕ → Type 0) (held : List ℕ → Option (List ℕ)) (stored : List ℕ → Option (List Row)) (input_fails : Type 0)
     (input : Option (List ℕ)) (fails : Type 0) (before after : Option (List ℕ)) (Told : Stop → Type 0) where
   abbrev pub Configs : Type 0
@@ -163,12 +143,6 @@ module _ (request : Request) (file_fails : List ℕ → Type 0) (held : List ℕ
 
   abbrev pub Stops : Stop → Type 0
   Stops = StopsPlay request file_fails held stored input_fails input fails before after
-
-  pub play_usage : Stops Usage → ⊥
-  play_usage (inl refused) = file_stop file_fails held request.config Usage refused.1
-  play_usage (inr (inl refused)) = refused.2
-  play_usage (inr (inr (institutions, events, by, tells, inl refused))) = refused.1
-  play_usage (inr (inr (institutions, events, by, tells, inr ended))) = ended.0
 
   play_network : Stops Network → ⊥
   play_network (inl refused) = file_stop file_fails held request.config Network refused.1
