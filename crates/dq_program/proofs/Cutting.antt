@@ -4,8 +4,6 @@ use Rattle.std.specs.Io.KnownBytes.{Keeps, Appends}
 use Rattle.std.proofs.lemmas.List.{length-take, take-take}
 use Rattle.dq_core.specs.declared.event.Reply.{Reply}
 use Rattle.dq_core.specs.declared.fault.Fault.{Fault}
-use Rattle.dq_core.specs.declared.fault.Fault.TheVariants as fault
-use Rattle.dq_program.specs.declared.stop.Stop.TheVariants as stop
 use Rattle.dq_program.specs.declared.printing.PrintFault.{PrintFault}
 use Rattle.dq_program.specs.declared.printing.PrintFault.TheVariants.{NoMemory, Output}
 use Rattle.dq_program.specs.Printing.{printed}
