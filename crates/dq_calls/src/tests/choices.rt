@@ -6,10 +6,9 @@ use dq_dimse::{command_field, status};
 use dq_find::find;
 use dq_list::Listed;
 use dq_store::store;
-use dq_tables::{Choice, PlainTables, Row, Tables};
+use dq_tables::{Choice, PlainTables, Row, TableFault, Tables};
 use dq_vr::tags;
-use std::alloc::Global;
-use std::process::Abort;
+use std::alloc::{AllocError, Global};
 use std::test::*;
 
 const CONFIG: &str = "[[institution]]
@@ -93,19 +92,16 @@ const SEARCHES: [(&[u8], &[&[u8]]); 5] = [
     ),
 ];
 
-fn keep<T: Tables>(
+/// Whether an instance is stored.
+fn is_kept<T: Tables>(
     alloc: Global,
     tables: &mut T,
     institution: &Institution,
     (uid, octets): (&[u8], &[u8]),
-) -> Result<(), Fail> {
+) -> Result<bool, TableFault> {
     let message = request(alloc, command_field::C_STORE, CT, uid, octets)?;
     let kept = store(alloc, tables, institution, &message, Syntax::Explicit)?;
-    if kept == status::SUCCESS {
-        Ok(())
-    } else {
-        Err("an instance is refused".into())
-    }
+    Ok(kept == status::SUCCESS)
 }
 
 /// Whether these studies are found, and no others, in this order.
@@ -115,7 +111,7 @@ fn is_found<T: Tables>(
     institution: &Institution,
     identifier: &[u8],
     wanted: &[&[u8]],
-) -> Result<bool, Fail> {
+) -> Result<bool, TableFault> {
     let message = request(alloc, command_field::C_FIND, STUDY_ROOT, b"", identifier)?;
     let syntax = Syntax::Explicit;
     let found = find(alloc, tables, institution, b"ARCHIVE", &message, syntax)?;
@@ -143,7 +139,7 @@ fn are_rows(rows: &[Row], keys: &[&[u8]]) -> bool {
 }
 
 /// What a choice from the first day on takes, and one of a UID.
-fn choices(alloc: Global) -> Result<[(Choice, &'static [&'static [u8]]); 3], Fail> {
+fn choices(alloc: Global) -> Result<[(Choice, &'static [&'static [u8]]); 3], AllocError> {
     Ok([
         (
             Choice {
@@ -175,31 +171,68 @@ fn choices(alloc: Global) -> Result<[(Choice, &'static [&'static [u8]]); 3], Fai
     ])
 }
 
-fn studies_are_chosen<T: Tables>(
-    rt: &impl Abort,
+/// Whether all instances are stored.
+fn are_kept<T: Tables>(
     alloc: Global,
     tables: &mut T,
-) -> Result<(), Fail> {
-    let config = Config::read(alloc, CONFIG)?;
-    let north = config.institution(b"NORTH").ok_or("NORTH")?;
-    let south = config.institution(b"SOUTH").ok_or("SOUTH")?;
+    north: &Institution,
+    south: &Institution,
+) -> Result<bool, TableFault> {
     for instance in NORTH {
-        keep(alloc, tables, north, instance)?;
+        if !is_kept(alloc, tables, north, instance)? {
+            return Ok(false);
+        }
     }
-    keep(alloc, tables, south, SOUTH)?;
+    is_kept(alloc, tables, south, SOUTH)
+}
+
+/// Whether each search finds its studies.
+fn are_found<T: Tables>(
+    alloc: Global,
+    tables: &mut T,
+    institution: &Institution,
+) -> Result<bool, TableFault> {
     for (identifier, wanted) in SEARCHES {
-        assert!(rt; is_found(alloc, tables, north, identifier, wanted)?);
+        if !is_found(alloc, tables, institution, identifier, wanted)? {
+            return Ok(false);
+        }
     }
+    Ok(true)
+}
+
+/// Whether each choice takes its studies.
+fn are_chosen<T: Tables>(alloc: Global, tables: &mut T) -> Result<bool, TableFault> {
     for (choice, wanted) in choices(alloc)? {
         let rows = tables.studies_in(alloc, b"NORTH", &choice)?;
-        assert!(rt; are_rows(rows.as_slice(), wanted));
+        if !are_rows(rows.as_slice(), wanted) {
+            return Ok(false);
+        }
     }
-    Ok(())
+    Ok(true)
+}
+
+fn studies_are_chosen<T: Tables>(
+    alloc: Global,
+    tables: &mut T,
+    config: &Config,
+) -> Result<bool, TableFault> {
+    let Some(north) = config.institution(b"NORTH") else {
+        return Ok(false);
+    };
+    let Some(south) = config.institution(b"SOUTH") else {
+        return Ok(false);
+    };
+    Ok(
+        are_kept(alloc, tables, north, south)?
+            && are_found(alloc, tables, north)?
+            && are_chosen(alloc, tables)?,
+    )
 }
 
 #[test]
 fn studies_are_chosen_over_vectors(rt: HostRuntime) -> Result<(), Fail> {
-    let alloc = rt.alloc();
-    let mut tables = PlainTables::new(alloc);
-    studies_are_chosen(&rt, alloc, &mut tables)
+    let config = Config::read(rt.alloc(), CONFIG)?;
+    let mut tables = PlainTables::new(rt.alloc());
+    assert!(rt; studies_are_chosen(rt.alloc(), &mut tables, &config)?);
+    Ok(())
 }

@@ -3,6 +3,7 @@
 use dq_dataset::{DataSet, Element, Elements, Lent, ReadFault, Syntax, Value, laws, read, write};
 use dq_list::Listed;
 use dq_vr::{Tag, Vr, tags};
+use std::alloc::{AllocError, Global};
 use std::test::*;
 
 /// A Patient ID of three octets, in Explicit.
@@ -63,14 +64,29 @@ fn a_data_set_is_built(rt: HostRuntime) -> Result<(), Fail> {
     Ok(())
 }
 
+/// What is kept of two data sets when one is merged into the other.
+fn merged(alloc: Global, kept: &[u8], sent: &[u8]) -> Result<DataSet, ReadFault> {
+    let kept = read(alloc, kept, Syntax::Implicit)?;
+    let sent = read(alloc, sent, Syntax::Implicit)?;
+    Ok(kept.merged(alloc, &sent)?)
+}
+
+/// Whether a data set is the one of these octets.
+fn is_spelled(alloc: Global, data_set: &DataSet, octets: &[u8]) -> Result<bool, ReadFault> {
+    let spelled = read(alloc, octets, Syntax::Implicit)?;
+    Ok(data_set.is_same(&spelled))
+}
+
+/// How many elements are cut out of a data set.
+fn cut(alloc: Global, data_set: &DataSet, tags: &[Tag]) -> Result<usize, AllocError> {
+    let part = data_set.cut_out(alloc, tags)?;
+    Ok(part.elements().len())
+}
+
 #[test]
 fn data_sets_are_merged_and_cut(rt: HostRuntime) -> Result<(), Fail> {
-    let kept = read(rt.alloc(), KEPT, Syntax::Implicit)?;
-    let sent = read(rt.alloc(), SENT, Syntax::Implicit)?;
-    let all = read(rt.alloc(), MERGED, Syntax::Implicit)?;
-    let merged = kept.merged(rt.alloc(), &sent)?;
-    assert!(rt; merged.is_same(&all));
-    let part = merged.cut_out(rt.alloc(), &[tags::PATIENT_NAME])?;
-    assert_eq!(rt; part.elements().len(), 1);
+    let merged = merged(rt.alloc(), KEPT, SENT)?;
+    assert!(rt; is_spelled(rt.alloc(), &merged, MERGED)?);
+    assert_eq!(rt; cut(rt.alloc(), &merged, &[tags::PATIENT_NAME])?, 1);
     Ok(())
 }

@@ -118,101 +118,163 @@ fn with_entries(alloc: Global, institution: &Institution) -> Result<PlainTables,
     Ok(tables)
 }
 
+/// Whether steps of NORTH that name entries are answered so, in turn, with so many entries listed
+/// after each.
+fn are_begun(
+    alloc: Global,
+    config: &Config,
+    steps: &[(&[u8], &[u8], u16, usize)],
+) -> Result<bool, TableFault> {
+    let Some(north) = config.institution(b"NORTH") else {
+        return Ok(false);
+    };
+    let mut tables = with_entries(alloc, north)?;
+    for (uid, digits, status, left) in steps {
+        if begun(alloc, &mut tables, north, uid, digits)? != (*status, *left) {
+            return Ok(false);
+        }
+    }
+    Ok(true)
+}
+
 #[test]
 fn named_entries_are_started(rt: HostRuntime) -> Result<(), Fail> {
-    let alloc = rt.alloc();
-    let config = Config::read(alloc, CONFIG)?;
-    let north = config.institution(b"NORTH").ok_or("NORTH")?;
-    let mut tables = with_entries(alloc, north)?;
-    for (uid, digits, left) in [
-        // One that is not there, one twice, the same again, and both.
-        (*b"1.9.1", b"9".as_slice(), 2),
-        (*b"1.9.2", b"11".as_slice(), 1),
-        (*b"1.9.3", b"1".as_slice(), 1),
-        (*b"1.9.4", b"12".as_slice(), 0),
-    ] {
-        let answer = begun(alloc, &mut tables, north, &uid, digits)?;
-        assert_eq!(rt; answer, (status::SUCCESS, left));
-    }
+    let config = Config::read(rt.alloc(), CONFIG)?;
+    // One that is not there, one twice, the same again, and both.
+    let steps: [(&[u8], &[u8], u16, usize); 4] = [
+        (b"1.9.1", b"9", status::SUCCESS, 2),
+        (b"1.9.2", b"11", status::SUCCESS, 1),
+        (b"1.9.3", b"1", status::SUCCESS, 1),
+        (b"1.9.4", b"12", status::SUCCESS, 0),
+    ];
+    assert!(rt; are_begun(rt.alloc(), &config, &steps)?);
     Ok(())
+}
+
+/// The status of an N-CREATE that names no entry, and how many are listed afterwards.
+fn begun_without_an_id(alloc: Global, config: &Config) -> Result<Option<(u16, usize)>, TableFault> {
+    let Some(north) = config.institution(b"NORTH") else {
+        return Ok(None);
+    };
+    let mut tables = with_entries(alloc, north)?;
+    let status = created(alloc, &mut tables, north, b"1.9", NEW)?;
+    Ok(Some((status, listed(alloc, &mut tables, north)?)))
 }
 
 #[test]
 fn a_step_without_an_id_starts_none(rt: HostRuntime) -> Result<(), Fail> {
-    let alloc = rt.alloc();
-    let config = Config::read(alloc, CONFIG)?;
-    let north = config.institution(b"NORTH").ok_or("NORTH")?;
-    let mut tables = with_entries(alloc, north)?;
-    assert_eq!(rt;
-        created(alloc, &mut tables, north, b"1.9", NEW)?,
-        status::SUCCESS
-    );
-    assert_eq!(rt; listed(alloc, &mut tables, north)?, 2);
+    let config = Config::read(rt.alloc(), CONFIG)?;
+    let answer = begun_without_an_id(rt.alloc(), &config)?;
+    assert!(rt; answer == Some((status::SUCCESS, 2)));
     Ok(())
+}
+
+/// Whether a step of an institution that has no entries is begun, and all of another's wait on.
+fn others_wait_on(
+    alloc: Global,
+    north: &Institution,
+    south: &Institution,
+) -> Result<bool, TableFault> {
+    let mut tables = with_entries(alloc, north)?;
+    let answer = begun(alloc, &mut tables, south, b"1.9", b"12")?;
+    Ok(answer == (status::SUCCESS, 0) && listed(alloc, &mut tables, north)? == 2)
 }
 
 #[test]
 fn entries_of_another_institution_wait_on(rt: HostRuntime) -> Result<(), Fail> {
-    let alloc = rt.alloc();
-    let config = Config::read(alloc, CONFIG)?;
+    let config = Config::read(rt.alloc(), CONFIG)?;
     let north = config.institution(b"NORTH").ok_or("NORTH")?;
     let south = config.institution(b"SOUTH").ok_or("SOUTH")?;
-    let mut tables = with_entries(alloc, north)?;
-    let answer = begun(alloc, &mut tables, south, b"1.9", b"12")?;
-    assert_eq!(rt; answer, (status::SUCCESS, 0));
-    assert_eq!(rt; listed(alloc, &mut tables, north)?, 2);
+    assert!(rt; others_wait_on(rt.alloc(), north, south)?);
     Ok(())
 }
 
 #[test]
 fn a_step_that_is_refused_starts_none(rt: HostRuntime) -> Result<(), Fail> {
-    let alloc = rt.alloc();
-    let config = Config::read(alloc, CONFIG)?;
-    let north = config.institution(b"NORTH").ok_or("NORTH")?;
-    let mut tables = with_entries(alloc, north)?;
-    for (uid, digits, wanted) in [
-        (*b"1.9.1", b"1".as_slice(), status::SUCCESS),
-        (*b"1.9.1", b"2".as_slice(), status::DUPLICATE_SOP_INSTANCE),
-        (*b"1.9.?", b"2".as_slice(), status::INVALID_SOP_INSTANCE),
-    ] {
-        let answer = begun(alloc, &mut tables, north, &uid, digits)?;
-        assert_eq!(rt; answer, (wanted, 1));
-    }
+    let config = Config::read(rt.alloc(), CONFIG)?;
+    let steps: [(&[u8], &[u8], u16, usize); 3] = [
+        (b"1.9.1", b"1", status::SUCCESS, 1),
+        (b"1.9.1", b"2", status::DUPLICATE_SOP_INSTANCE, 1),
+        (b"1.9.?", b"2", status::INVALID_SOP_INSTANCE, 1),
+    ];
+    assert!(rt; are_begun(rt.alloc(), &config, &steps)?);
     Ok(())
+}
+
+/// Whether a step that names an entry begins and ends, with so many entries listed after each.
+fn is_ended(
+    alloc: Global,
+    tables: &mut PlainTables,
+    institution: &Institution,
+    (uid, digits, octets): (&[u8], &[u8], &[u8]),
+    left: usize,
+) -> Result<bool, TableFault> {
+    let first = begun(alloc, tables, institution, uid, digits)?;
+    let answer = ended(alloc, tables, institution, uid, octets)?;
+    Ok(first == (status::SUCCESS, left) && answer == (status::SUCCESS, left))
+}
+
+fn are_ended(alloc: Global, config: &Config) -> Result<bool, TableFault> {
+    let Some(north) = config.institution(b"NORTH") else {
+        return Ok(false);
+    };
+    let mut tables = with_entries(alloc, north)?;
+    let first = is_ended(alloc, &mut tables, north, (b"1.9.1", b"1", END), 1)?;
+    let step: (&[u8], &[u8], &[u8]) = (b"1.9.2", b"2", DISCONTINUED);
+    Ok(first && is_ended(alloc, &mut tables, north, step, 0)?)
 }
 
 #[test]
 fn entries_of_a_step_that_ends_stay_started(rt: HostRuntime) -> Result<(), Fail> {
-    let alloc = rt.alloc();
-    let config = Config::read(alloc, CONFIG)?;
-    let north = config.institution(b"NORTH").ok_or("NORTH")?;
-    let mut tables = with_entries(alloc, north)?;
-    for (uid, digits, octets, left) in [
-        (*b"1.9.1", b"1".as_slice(), END, 1),
-        (*b"1.9.2", b"2".as_slice(), DISCONTINUED, 0),
-    ] {
-        let first = begun(alloc, &mut tables, north, &uid, digits)?;
-        assert_eq!(rt; first, (status::SUCCESS, left));
-        let answer = ended(alloc, &mut tables, north, &uid, octets)?;
-        assert_eq!(rt; answer, (status::SUCCESS, left));
-    }
+    let config = Config::read(rt.alloc(), CONFIG)?;
+    assert!(rt; are_ended(rt.alloc(), &config)?);
     Ok(())
+}
+
+/// Whether the id S-1 is taken, and a third entry too many.
+fn is_taken(
+    alloc: Global,
+    tables: &mut PlainTables,
+    institution: &Institution,
+) -> Result<bool, TableFault> {
+    let again = ordered(alloc, tables, institution, *b"P21")?;
+    let third = ordered(alloc, tables, institution, *b"P23")?;
+    Ok(again == Some(3) && third == Some(4))
+}
+
+/// Whether the entry S-1 is withdrawn, and is then listed when it is ordered again.
+fn is_withdrawn(
+    alloc: Global,
+    tables: &mut PlainTables,
+    institution: &Institution,
+) -> Result<bool, TableFault> {
+    let refusal = withdraw(alloc, tables, institution, b"S-1")?;
+    let again = ordered(alloc, tables, institution, *b"P21")?;
+    let listed = listed(alloc, tables, institution)?;
+    Ok(refusal.is_none() && again.is_none() && listed == 2)
+}
+
+/// Whether the entry S-1 stays when a step starts it: its id is taken, and it counts for the limit.
+fn stays(
+    alloc: Global,
+    tables: &mut PlainTables,
+    institution: &Institution,
+) -> Result<bool, TableFault> {
+    let answer = begun(alloc, tables, institution, b"1.9", b"1")?;
+    Ok(answer == (status::SUCCESS, 1) && is_taken(alloc, tables, institution)?)
+}
+
+fn stays_until_withdrawn(alloc: Global, config: &Config) -> Result<bool, TableFault> {
+    let Some(north) = config.institution(b"NORTH") else {
+        return Ok(false);
+    };
+    let mut tables = with_entries(alloc, north)?;
+    Ok(stays(alloc, &mut tables, north)? && is_withdrawn(alloc, &mut tables, north)?)
 }
 
 #[test]
 fn a_started_entry_stays_until_it_is_withdrawn(rt: HostRuntime) -> Result<(), Fail> {
-    let alloc = rt.alloc();
-    let config = Config::read(alloc, CONFIG)?;
-    let north = config.institution(b"NORTH").ok_or("NORTH")?;
-    let mut tables = with_entries(alloc, north)?;
-    let answer = begun(alloc, &mut tables, north, b"1.9", b"1")?;
-    assert_eq!(rt; answer, (status::SUCCESS, 1));
-    // Its id is taken, and it counts for the limit.
-    for (order, wanted) in [(*b"P21", Some(3)), (*b"P23", Some(4))] {
-        assert_eq!(rt; ordered(alloc, &mut tables, north, order)?, wanted);
-    }
-    assert_eq!(rt; withdraw(alloc, &mut tables, north, b"S-1")?, None);
-    assert_eq!(rt; ordered(alloc, &mut tables, north, *b"P21")?, None);
-    assert_eq!(rt; listed(alloc, &mut tables, north)?, 2);
+    let config = Config::read(rt.alloc(), CONFIG)?;
+    assert!(rt; stays_until_withdrawn(rt.alloc(), &config)?);
     Ok(())
 }

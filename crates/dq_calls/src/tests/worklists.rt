@@ -44,13 +44,41 @@ pub(super) fn ordered<T: Tables>(
     schedule(alloc, tables, institution, &octets)
 }
 
+/// Whether orders are answered so, in turn.
+fn are_ordered(
+    alloc: Global,
+    tables: &mut PlainTables,
+    institution: &Institution,
+    orders: &[([u8; 3], Option<u16>)],
+) -> Result<bool, TableFault> {
+    for (order, wanted) in orders {
+        if ordered(alloc, tables, institution, *order)? != *wanted {
+            return Ok(false);
+        }
+    }
+    Ok(true)
+}
+
+/// Whether the entry S-1 is withdrawn by its id, and none by an id that is padded.
+fn is_withdrawn(
+    alloc: Global,
+    tables: &mut PlainTables,
+    institution: &Institution,
+) -> Result<bool, TableFault> {
+    for (id, wanted) in [(*b"S-1 ", Some(5)), (*b"S-2 ", Some(5))] {
+        if withdraw(alloc, tables, institution, &id)? != wanted {
+            return Ok(false);
+        }
+    }
+    Ok(withdraw(alloc, tables, institution, b"S-1")?.is_none())
+}
+
 #[test]
 fn orders_in_turn(rt: HostRuntime) -> Result<(), Fail> {
-    let alloc = rt.alloc();
-    let config = Config::read(alloc, CONFIG)?;
+    let config = Config::read(rt.alloc(), CONFIG)?;
     let north = config.institution(b"NORTH").ok_or("NORTH")?;
-    let mut tables = PlainTables::new(alloc);
-    for (order, wanted) in [
+    let mut tables = PlainTables::new(rt.alloc());
+    let orders = [
         // No such VR, and no such day.
         (*b"?21", Some(1)),
         (*b"Px1", Some(2)),
@@ -58,13 +86,9 @@ fn orders_in_turn(rt: HostRuntime) -> Result<(), Fail> {
         (*b"P21", None),
         (*b"P21", Some(3)),
         (*b"P22", Some(4)),
-    ] {
-        assert_eq!(rt; ordered(alloc, &mut tables, north, order)?, wanted);
-    }
-    for (id, wanted) in [(*b"S-1 ", Some(5)), (*b"S-2 ", Some(5))] {
-        assert_eq!(rt; withdraw(alloc, &mut tables, north, &id)?, wanted);
-    }
-    assert_eq!(rt; withdraw(alloc, &mut tables, north, b"S-1")?, None);
+    ];
+    assert!(rt; are_ordered(rt.alloc(), &mut tables, north, &orders)?);
+    assert!(rt; is_withdrawn(rt.alloc(), &mut tables, north)?);
     Ok(())
 }
 
@@ -81,39 +105,102 @@ fn is_name_alone(data_set: &DataSet) -> bool {
     }
 }
 
-#[test]
-fn what_is_scheduled_is_listed(rt: HostRuntime) -> Result<(), Fail> {
-    let alloc = rt.alloc();
-    let config = Config::read(alloc, CONFIG)?;
-    let north = config.institution(b"NORTH").ok_or("NORTH")?;
-    let mut tables = PlainTables::new(alloc);
-    assert_eq!(rt; ordered(alloc, &mut tables, north, *b"P21")?, None);
+/// Whether a query for names lists one.
+fn is_name_listed(
+    alloc: Global,
+    tables: &mut PlainTables,
+    institution: &Institution,
+) -> Result<bool, TableFault> {
     let names = b"\x10\x00\x10\x00PN\x00\x00";
     let message = request(alloc, command_field::C_FIND, WORKLIST, b"", names)?;
-    let found = query(alloc, &mut tables, north, &message, Syntax::Explicit)?;
-    assert_eq!(rt; found.status, 0);
-    assert!(rt; matches!(found.answers.as_slice(), [answer] if is_name_alone(answer)));
+    let found = query(alloc, tables, institution, &message, Syntax::Explicit)?;
+    Ok(found.status == 0 && matches!(found.answers.as_slice(), [answer] if is_name_alone(answer)))
+}
+
+/// Whether an order is taken, and the name in it is listed.
+fn is_scheduled(alloc: Global, config: &Config) -> Result<bool, TableFault> {
+    let Some(north) = config.institution(b"NORTH") else {
+        return Ok(false);
+    };
+    let mut tables = PlainTables::new(alloc);
+    let refusal = ordered(alloc, &mut tables, north, *b"P21")?;
+    Ok(refusal.is_none() && is_name_listed(alloc, &mut tables, north)?)
+}
+
+#[test]
+fn what_is_scheduled_is_listed(rt: HostRuntime) -> Result<(), Fail> {
+    let config = Config::read(rt.alloc(), CONFIG)?;
+    assert!(rt; is_scheduled(rt.alloc(), &config)?);
     Ok(())
+}
+
+/// How many steps a query lists.
+fn listed(
+    alloc: Global,
+    tables: &mut PlainTables,
+    institution: &Institution,
+    identifier: &[u8],
+) -> Result<usize, TableFault> {
+    let message = request(alloc, command_field::C_FIND, WORKLIST, b"", identifier)?;
+    let found = query(alloc, tables, institution, &message, Syntax::Explicit)?;
+    Ok(found.answers.len())
+}
+
+/// Whether an order is taken, and queries list so many steps each.
+fn are_listed(
+    alloc: Global,
+    config: &Config,
+    queries: &[(&[u8], usize)],
+) -> Result<bool, TableFault> {
+    let Some(north) = config.institution(b"NORTH") else {
+        return Ok(false);
+    };
+    let mut tables = PlainTables::new(alloc);
+    if ordered(alloc, &mut tables, north, *b"P21")?.is_some() {
+        return Ok(false);
+    }
+    for (identifier, wanted) in queries {
+        if listed(alloc, &mut tables, north, identifier)? != *wanted {
+            return Ok(false);
+        }
+    }
+    Ok(true)
 }
 
 /// A query for the step with an id, in Explicit.
 const ONE_STEP: [u8; 32] =
     *b"\x40\0\0\x01SQ\0\0\x14\0\0\0\xfe\xff\0\xe0\x0c\0\0\0\x40\0\x09\0SH\x04\0S-1 ";
 
-#[test]
-fn a_step_is_listed_by_its_id(rt: HostRuntime) -> Result<(), Fail> {
-    let alloc = rt.alloc();
-    let config = Config::read(alloc, CONFIG)?;
-    let north = config.institution(b"NORTH").ok_or("NORTH")?;
-    let mut tables = PlainTables::new(alloc);
-    assert_eq!(rt; ordered(alloc, &mut tables, north, *b"P21")?, None);
+/// Whether each id lists so many steps.
+fn are_listed_by_id(
+    alloc: Global,
+    tables: &mut PlainTables,
+    institution: &Institution,
+) -> Result<bool, TableFault> {
     for (id, wanted) in [(*b"S-1 ", 1), (*b"S-2 ", 0), (*b"S?1 ", 1)] {
         let mut octets = ONE_STEP;
         octets[28..].copy_from_slice(&id);
-        let message = request(alloc, command_field::C_FIND, WORKLIST, b"", &octets)?;
-        let found = query(alloc, &mut tables, north, &message, Syntax::Explicit)?;
-        assert_eq!(rt; found.answers.len(), wanted);
+        if listed(alloc, tables, institution, &octets)? != wanted {
+            return Ok(false);
+        }
     }
+    Ok(true)
+}
+
+/// Whether an order is taken, and ids list so many steps each.
+fn is_listed_by_id(alloc: Global, config: &Config) -> Result<bool, TableFault> {
+    let Some(north) = config.institution(b"NORTH") else {
+        return Ok(false);
+    };
+    let mut tables = PlainTables::new(alloc);
+    let refusal = ordered(alloc, &mut tables, north, *b"P21")?;
+    Ok(refusal.is_none() && are_listed_by_id(alloc, &mut tables, north)?)
+}
+
+#[test]
+fn a_step_is_listed_by_its_id(rt: HostRuntime) -> Result<(), Fail> {
+    let config = Config::read(rt.alloc(), CONFIG)?;
+    assert!(rt; is_listed_by_id(rt.alloc(), &config)?);
     Ok(())
 }
 
@@ -142,15 +229,7 @@ const BY_PATIENT_AND_DAY: [(&[u8], usize); 7] = [
 
 #[test]
 fn a_step_is_listed_by_its_patient_and_its_day(rt: HostRuntime) -> Result<(), Fail> {
-    let alloc = rt.alloc();
-    let config = Config::read(alloc, CONFIG)?;
-    let north = config.institution(b"NORTH").ok_or("NORTH")?;
-    let mut tables = PlainTables::new(alloc);
-    assert_eq!(rt; ordered(alloc, &mut tables, north, *b"P21")?, None);
-    for (identifier, wanted) in BY_PATIENT_AND_DAY {
-        let message = request(alloc, command_field::C_FIND, WORKLIST, b"", identifier)?;
-        let found = query(alloc, &mut tables, north, &message, Syntax::Explicit)?;
-        assert_eq!(rt; found.answers.len(), wanted);
-    }
+    let config = Config::read(rt.alloc(), CONFIG)?;
+    assert!(rt; are_listed(rt.alloc(), &config, &BY_PATIENT_AND_DAY)?);
     Ok(())
 }
