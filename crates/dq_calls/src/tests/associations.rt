@@ -4,7 +4,7 @@ ghost use Rattle.dq_assoc.specs.Holding.{held_state};
 
 use super::messages::{ECHO_REQUEST, command};
 use dq_assoc::{
-    Association, PeerLimit, Service, SopClass, State, Verdict, context_result, is_accepted,
+    Association, PeerLimit, Service, SopClass, State, Step, Verdict, context_result, is_accepted,
 };
 use dq_list::Listed;
 use dq_pdu::{Pdu, PduFault, ProposedContext, Request};
@@ -36,12 +36,19 @@ fn request(alloc: Global) -> Result<Request, AllocError> {
     })
 }
 
+/// An association whose request is accepted.
+fn accepted(alloc: Global) -> Result<Association, AllocError> {
+    let request = request(alloc)?;
+    let mut association = Association::new(alloc);
+    association.accept(request, Verdict::Accept)?;
+    Ok(association)
+}
+
 /// An association that is open.
 fn opened(alloc: Global) -> Result<Association, Fail>
     ensures { IfOk result (λ association. held_state association ≡ State.Open) }
 {
-    let mut association = Association::new(alloc);
-    association.accept(request(alloc)?, Verdict::Accept)?;
+    let association = accepted(alloc)?;
     if association.state() != State::Open {
         return Err("not open".into());
     }
@@ -81,9 +88,14 @@ fn a_message_is_handed_on(rt: HostRuntime) -> Result<(), Fail> {
     Ok(())
 }
 
+/// What a new association answers to a fault.
+fn stopped(alloc: Global) -> Result<Step, AllocError> {
+    Association::new(alloc).stop(PduFault::TooLong)
+}
+
 #[test]
 fn a_fault_is_answered(rt: HostRuntime) -> Result<(), Fail> {
-    let step = Association::new(rt.alloc()).stop(PduFault::TooLong)?;
+    let step = stopped(rt.alloc())?;
     assert!(rt; step.octets.as_slice() == b"\x07\0\0\0\0\x04\0\0\0\0".as_slice());
     Ok(())
 }

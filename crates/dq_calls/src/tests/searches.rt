@@ -2,10 +2,12 @@
 use super::messages::request;
 use super::stores::CONFIG;
 use super::tables::with_image;
-use dq_config::Config;
+use dq_config::{Config, Institution};
 use dq_dataset::Syntax;
 use dq_dimse::{command_field, status};
 use dq_find::find;
+use dq_tables::{PlainTables, TableFault};
+use std::alloc::Global;
 use std::test::*;
 
 const STUDY_ROOT: &[u8] = b"1.2.840.10008.5.1.4.1.2.2.1";
@@ -20,43 +22,37 @@ const ONE_OF_TWO: [&[u8]; 3] = [
     b"\x08\0\x52\0CS\x06\0STUDY \x20\0\x0d\0UI\x08\01.3\\1.9\0",
 ];
 
+/// The status of a query, and how many studies it finds.
+fn found(
+    alloc: Global,
+    tables: &mut PlainTables,
+    institution: &Institution,
+    identifier: &[u8],
+) -> Result<(u16, usize), TableFault> {
+    let message = request(alloc, command_field::C_FIND, STUDY_ROOT, b"", identifier)?;
+    let syntax = Syntax::Explicit;
+    let found = find(alloc, tables, institution, b"ARCHIVE", &message, syntax)?;
+    Ok((found.status, found.answers.len()))
+}
+
 #[test]
 fn studies_are_found_by_several_uids(rt: HostRuntime) -> Result<(), Fail> {
-    let alloc = rt.alloc();
-    let config = Config::read(alloc, CONFIG)?;
+    let config = Config::read(rt.alloc(), CONFIG)?;
     let north = config.institution(b"NORTH").ok_or("NORTH")?;
-    let mut tables = with_image(alloc)?;
+    let mut tables = with_image(rt.alloc())?;
     for (identifier, wanted) in [(ONE_OF_TWO[0], 1), (ONE_OF_TWO[1], 1), (ONE_OF_TWO[2], 0)] {
-        let message = request(alloc, command_field::C_FIND, STUDY_ROOT, b"", identifier)?;
-        let found = find(
-            alloc,
-            &mut tables,
-            north,
-            b"ARCHIVE",
-            &message,
-            Syntax::Explicit,
-        )?;
-        assert_eq!(rt; found.answers.len(), wanted);
+        let (_, answers) = found(rt.alloc(), &mut tables, north, identifier)?;
+        assert_eq!(rt; answers, wanted);
     }
     Ok(())
 }
 
 #[test]
 fn a_study_is_found(rt: HostRuntime) -> Result<(), Fail> {
-    let alloc = rt.alloc();
-    let config = Config::read(alloc, CONFIG)?;
+    let config = Config::read(rt.alloc(), CONFIG)?;
     let north = config.institution(b"NORTH").ok_or("NORTH")?;
-    let mut tables = with_image(alloc)?;
-    let message = request(alloc, command_field::C_FIND, STUDY_ROOT, b"", STUDIES)?;
-    let found = find(
-        alloc,
-        &mut tables,
-        north,
-        b"ARCHIVE",
-        &message,
-        Syntax::Explicit,
-    )?;
-    assert_eq!(rt; found.status, status::SUCCESS);
-    assert_eq!(rt; found.answers.len(), 1);
+    let mut tables = with_image(rt.alloc())?;
+    let found = found(rt.alloc(), &mut tables, north, STUDIES)?;
+    assert!(rt; found == (status::SUCCESS, 1));
     Ok(())
 }

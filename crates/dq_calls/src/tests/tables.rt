@@ -4,7 +4,7 @@ ghost use Rattle.dq_tables.specs.Sound.{is_own, Fits};
 
 use dq_list::Listed;
 use dq_tables::{
-    Change, Choice, Fuse, Fused, Kind, PlainTables, RecordKeys, Row, TableFault, Tables,
+    Change, Choice, Fuse, Fused, Kind, Labels, PlainTables, RecordKeys, Row, TableFault, Tables,
 };
 use std::alloc::{AllocError, Global};
 use std::test::*;
@@ -167,11 +167,16 @@ fn steps_are_found(rt: HostRuntime) -> Result<(), Fail> {
     Ok(())
 }
 
+/// The labels of a record of NORTH.
+fn labels(alloc: Global, kind: Kind, key: &[u8], octets: &[u8]) -> Result<Labels, AllocError> {
+    row(alloc, kind, key, b"", octets)?.labels(alloc)
+}
+
 /// A study of a patient and a day, in Explicit.
 #[test]
 fn studies_have_labels(rt: HostRuntime) -> Result<(), Fail> {
     let octets = b"\x08\0\x20\0DA\x08\x0020230514\x10\0\x20\0LO\x04\0P-17";
-    let labels = row(rt.alloc(), Kind::Study, b"1.2", b"", octets)?.labels(rt.alloc())?;
+    let labels = labels(rt.alloc(), Kind::Study, b"1.2", octets)?;
     let patient = labels.patient.ok_or("a patient")?;
     assert!(rt; patient.as_slice() == b"P-17".as_slice());
     assert_eq!(rt; labels.day, Some(20_230_514));
@@ -183,7 +188,7 @@ fn studies_have_labels(rt: HostRuntime) -> Result<(), Fail> {
 fn entries_have_labels(rt: HostRuntime) -> Result<(), Fail> {
     let octets = b"\x08\0\x20\0DA\x08\x0020230514\x10\0\x20\0LO\x04\0P-17\
 \x40\0\0\x01SQ\0\0\x18\0\0\0\xfe\xff\0\xe0\x10\0\0\0\x40\0\x02\0DA\x08\x0020240229";
-    let labels = row(rt.alloc(), Kind::Entry, b"S1", b"", octets)?.labels(rt.alloc())?;
+    let labels = labels(rt.alloc(), Kind::Entry, b"S1", octets)?;
     let patient = labels.patient.ok_or("a patient")?;
     assert!(rt; patient.as_slice() == b"P-17".as_slice());
     assert_eq!(rt; labels.day, Some(20_240_229));
@@ -215,20 +220,23 @@ fn kinds_and_faults_have_numbers(rt: HostRuntime) -> Result<(), Fail> {
     Ok(())
 }
 
+/// Whether tables have failed, and answer nothing.
+fn is_blown(alloc: Global, tables: &mut Fused<PlainTables>) -> bool {
+    let blown = Fuse {
+        left: 0,
+        blown: true,
+    };
+    tables.failed()
+        && tables.fuse() == blown
+        && tables.count(alloc, Kind::Entry, NORTH) == Err(TableFault::Store)
+}
+
 /// Tables that make no change fail at the first, and answer nothing from then on.
 #[test]
 fn a_fuse_blows(rt: HostRuntime) -> Result<(), Fail> {
     let change = added(rt.alloc())?;
     let mut tables = Fused::new(PlainTables::new(rt.alloc()), 0);
     assert!(rt; tables.apply(rt.alloc(), &change) == Err(TableFault::Store));
-    assert!(rt; tables.failed());
-    assert!(rt;
-        tables.fuse()
-            == Fuse {
-                left: 0,
-                blown: true
-            }
-    );
-    assert!(rt; tables.count(rt.alloc(), Kind::Entry, NORTH) == Err(TableFault::Store));
+    assert!(rt; is_blown(rt.alloc(), &mut tables));
     Ok(())
 }
