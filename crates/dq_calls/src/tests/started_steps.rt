@@ -214,6 +214,7 @@ fn is_ended(
     Ok(first == (status::SUCCESS, left) && answer == (status::SUCCESS, left))
 }
 
+/// Whether the entries of a step that is completed, and of one that is discontinued, stay started.
 fn are_ended(alloc: Global, config: &Config) -> Result<bool, TableFault> {
     let Some(north) = config.institution(b"NORTH") else {
         return Ok(false);
@@ -264,6 +265,7 @@ fn stays(
     Ok(answer == (status::SUCCESS, 1) && is_taken(alloc, tables, institution)?)
 }
 
+/// Whether an entry that a step started stays until it is withdrawn.
 fn stays_until_withdrawn(alloc: Global, config: &Config) -> Result<bool, TableFault> {
     let Some(north) = config.institution(b"NORTH") else {
         return Ok(false);

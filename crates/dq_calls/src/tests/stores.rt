@@ -142,6 +142,7 @@ fn kept_long(
     Ok((status, tables.count(alloc, Kind::Image, b"NORTH")?))
 }
 
+/// Whether a Study ID of the limit is refused, and pixel data as long, which is not kept, is not.
 fn is_limited(alloc: Global, config: &Config) -> Result<bool, TableFault> {
     let Some(north) = config.institution(b"NORTH") else {
         return Ok(false);
