@@ -9,7 +9,7 @@ use std::time::{CpuClock, Duration};
 
 /// What the octets of a sample spell, in Explicit.
 #[derive(Clone, Copy, Debug, PartialEq, Eq)]
-pub enum Shape {
+pub(crate) enum Shape {
     /// Elements of 64 octets each.
     Flat,
     /// A sequence of items of 64 octets each.
@@ -21,7 +21,7 @@ pub enum Shape {
 }
 
 impl Shape {
-    pub fn of(word: &str) -> Option<Shape> {
+    pub(crate) fn of(word: &str) -> Option<Shape> {
         match word {
             "flat" => Some(Shape::Flat),
             "items" => Some(Shape::Items),
@@ -167,7 +167,7 @@ fn print_cost(rt: &impl Print, name: &str, spent: Duration, calls: u32) -> Resul
 
 /// Prints what a read of a data set of 1 MiB, or of half of it, a write, a pass of `Elements` and a
 /// plain copy cost, in microseconds a call.
-pub fn print_costs<R: Print + AllocGlobal + CpuClock>(
+pub(crate) fn print_costs<R: Print + AllocGlobal + CpuClock>(
     rt: &R,
     shape: Shape,
     is_half: bool,
@@ -192,7 +192,7 @@ pub fn print_costs<R: Print + AllocGlobal + CpuClock>(
 }
 
 /// Reads a data set of 16 MiB so many times, one after the other, for the memory that this takes.
-pub fn take_memory(alloc: Global, shape: Shape, calls: u32) -> Result<(), Stop> {
+pub(crate) fn take_memory(alloc: Global, shape: Shape, calls: u32) -> Result<(), Stop> {
     let octets = sample(alloc, shape, 32)?;
     for _ in 0..calls {
         read(alloc, &octets, Syntax::Explicit)?;

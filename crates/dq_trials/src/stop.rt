@@ -5,7 +5,7 @@ use std::io;
 
 /// Why the bench stops short of its end.
 #[derive(Clone, Copy, Debug, PartialEq, Eq)]
-pub enum Stop {
+pub(crate) enum Stop {
     /// Words that are not understood.
     Usage,
     /// A bad line, counted from 1. Line 0 stands for an input that is no text or cannot be read.
@@ -44,7 +44,7 @@ impl From<io::Error> for Stop {
 }
 
 impl Stop {
-    pub fn status(self) -> u8 {
+    pub(crate) fn status(self) -> u8 {
         match self {
             Stop::Usage => 1,
             Stop::Line(_) => 3,
@@ -52,7 +52,7 @@ impl Stop {
         }
     }
 
-    pub fn tell(self, rt: &impl Eprint) -> io::Result<()> {
+    pub(crate) fn tell(self, rt: &impl Eprint) -> io::Result<()> {
         match self {
             Stop::Usage => eprintln!(rt; "usage: dq_trials [cost N [half] | memory N]"),
             Stop::Line(number) => eprintln!(rt; "line {number}"),

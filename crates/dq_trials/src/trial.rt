@@ -13,7 +13,7 @@ use std::io::{self, Read, Write};
 
 /// The first fault of octets, or the canonical spellings of the data set that they spell.
 #[derive(Debug, Drop)]
-pub enum Answer {
+pub(crate) enum Answer {
     Fault(ReadFault),
     Spelled {
         explicit: Listed<u8>,
@@ -63,7 +63,7 @@ fn answer_to(alloc: Global, octets: &[u8], syntax: Syntax) -> Result<Answer, All
 }
 
 /// The text of what the octets are read as: `fault N`, or both canonical spellings in hexadecimal.
-pub fn answered(alloc: Global, octets: &[u8], syntax: Syntax) -> Result<String, AllocError>
+pub(crate) fn answered(alloc: Global, octets: &[u8], syntax: Syntax) -> Result<String, AllocError>
     requires { length octets.now < 2 ^ 31 }
     ensures { IfOk result
         (λ text. string_bytes text ≡ answer_text (answer_of (reading syntax octets.now))) }
@@ -148,7 +148,7 @@ fn read_input<R: Read + Drop>(alloc: Global, input: R) -> Result<Vec<u8>, Stop> 
 
 /// Answers each line of the input with a line of the output, up to the first line that is bad.
 /// Empty lines and lines that begin with `#` are skipped.
-pub fn run_trials<R: Read + Drop, W: Write>(
+pub(crate) fn run_trials<R: Read + Drop, W: Write>(
     alloc: Global,
     input: R,
     output: &mut W,
