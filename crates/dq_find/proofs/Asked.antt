@@ -1,58 +1,76 @@
--- The records that are asked for, by what their data sets hold.
-use Rattle.std.proofs.Common.{◌≡◌, ◌↔◌, ℕ, Bool, true, false, List, [], ◌∷◌, map, filter, Option, Some, None, is_some, unwrap_or, Result, Ok, Err, refl, sym, ap, ◌∙◌, if◌then◌else◌, inl, inr, arith}
+-- A kept record that fits has the unique key above that the query gives, and is asked for.
+use Rattle.std.proofs.Common.{◌≡◌, ℕ, Bool, true, false, not, ◌&&◌, List, [], ◌∷◌, map, filter, Option, Some, None, is_some, unwrap_or, Result, Ok, Err, refl, sym, ap, subst, ◌∙◌, if◌then◌else◌, inl, inr, arith}
 use Rattle.std.specs.Str.{bytes_eq}
-use Rattle.std.specs.List.{AllByRecursion}
+use Rattle.std.specs.List.{AllByRecursion, list_any}
 use Rattle.std.proofs.lemmas.Bool.{and_parts}
 use Rattle.std.proofs.lemmas.Slice.Eq.{bytes_eq-Decides}
 use Rattle.dq_list.specs.Among.{IsAmong}
+use Rattle.dq_vr.specs.declared.Tag.{Tag}
+use Rattle.dq_vr.specs.declared.Vr.TheVariants.{UI}
 use Rattle.dq_vr.specs.Tags as tags
+use Rattle.dq_value.specs.Uid.{is_uid}
 use Rattle.dq_dataset.specs.declared.fault.ReadFault.{ReadFault}
 use Rattle.dq_dataset.specs.declared.header.Syntax.TheVariants.{Explicit}
 use Rattle.dq_dataset.specs.Tree.{ElementList}
+use Rattle.dq_dataset.specs.View.{elements_of}
 use Rattle.dq_dataset.specs.Reading.{reading}
+use Rattle.dq_dataset.specs.Values.{sole_at}
+use Rattle.dq_dataset.proofs.KnownVrs.{HasKnownVr, read_has_known_vrs}
+use Rattle.dq_match.specs.declared.keys.Place.TheVariants.{Outer}
+use Rattle.dq_match.specs.Keys.{is_tag}
+use Rattle.dq_match.specs.Fitting.{EachIsMet}
+use Rattle.dq_match.specs.Matching.{fits}
+use Rattle.dq_match.specs.Wildcards.{any_run}
 use Rattle.dq_tables.specs.declared.row.Row.{Row}
 use Rattle.dq_tables.specs.declared.row.Kind.{Kind}
 use Rattle.dq_tables.specs.Rows.{Record, record_of, of}
 use Rattle.dq_tables.specs.Records.{data_set_of}
-use Rattle.dq_tables.specs.Sound.{IsSound, is_own, is_record_of, is_value, has_above}
+use Rattle.dq_tables.specs.Keys.{passing, uid_at}
+use Rattle.dq_tables.specs.Sound.{IsSound, is_own, is_record_of, may_be_started, is_value, has_key, has_above}
 use Rattle.dq_find.specs.declared.level.Level.{Level}
 use Rattle.dq_find.specs.declared.level.Level.TheVariants.{Study, Series, Image}
-use Rattle.dq_find.specs.declared.query.Query.{Query}
 use Rattle.dq_find.specs.Levels.{kind_of, has_keys_above}
-use Rattle.dq_find.specs.Queries.{asked_records}
+use Rattle.dq_find.specs.Choosing.{is_no_asterisk}
+use Rattle.dq_find.specs.Computed.{completed}
 use Rattle.dq_find.specs.Answers.{HasKeyAbove}
-use Rattle.dq_find.proofs.Answered.{IsUnder, asked_from, asked_to}
+use Rattle.dq_find.proofs.Answered.{IsUnder}
+use Rattle.dq_find.proofs.Answering.{all_computed, stays}
+use Rattle.dq_find.proofs.Chosen.{uid_met}
+use Rattle.dq_find.proofs.Naming.{IsKeyOf, unique_keys_are_uids, sole_of_uid, one_alone}
 
--- ---- the key above of a record is its data set's own
+-- ---- what a kept record has of its own
 
-abbrev HasOwnAbove : Record → Type 0
-HasOwnAbove r = has_above r.kind r.above (data_set_of r.octets) ≡ true
+pub record HasOwn (r : Record) : Type 0 where
+  pub known : AllByRecursion HasKnownVr (elements_of (data_set_of r.octets))
+  pub key : has_key r.kind r.key (data_set_of r.octets) ≡ true
+  pub above : has_above r.kind r.above (data_set_of r.octets) ≡ true
 
-own_by : (read : Result ElementList ReadFault) (row : Row) → reading Explicit row.octets ≡ read → is_record_of read row ≡ true → HasOwnAbove (record_of row)
+own_by : (read : Result ElementList ReadFault) (row : Row) → reading Explicit row.octets ≡ read → is_record_of read row ≡ true → HasOwn (record_of row)
 unfolding data_set_of
 own_by (Err fault) row is own = absurd (cc)
-own_by (Ok d) row is own = grind (arith, and_parts)
+own_by (Ok d) row is own = grind (arith, and_parts, read_has_known_vrs)
 
-row_own : (row : Row) → is_own row ≡ true → HasOwnAbove (record_of row)
+row_own : (row : Row) → is_own row ≡ true → HasOwn (record_of row)
 unfolding is_own
-row_own row own = grind (arith, own_by, and_parts)
+row_own row own =
+    own_by (reading Explicit row.octets) row refl (and_parts (may_be_started row.kind row.started) (is_record_of (reading Explicit row.octets) row) own).1
 
-own_step : (r : Record) (row : Row) (b : Bool) (kept : List Row) → is_own row ≡ true → (IsAmong r (map record_of kept) → HasOwnAbove r)
-    → IsAmong r (map record_of (if b then row ∷ kept else kept)) → HasOwnAbove r
-own_step r row true kept own rest (inl e) = ap (λ (s : Record). has_above s.kind s.above (data_set_of s.octets)) (sym e) ∙ row_own row own
+own_step : (r : Record) (row : Row) (b : Bool) (kept : List Row) → is_own row ≡ true → (IsAmong r (map record_of kept) → HasOwn r)
+    → IsAmong r (map record_of (if b then row ∷ kept else kept)) → HasOwn r
+own_step r row true kept own rest (inl e) = subst HasOwn e (row_own row own)
 own_step r row true kept own rest (inr h) = rest h
 own_step r row false kept own rest h = rest h
 
 own_filtered : (r : Record) (p : Row → Bool) (rows : List Row) → AllByRecursion (λ (row : Row). is_own row ≡ true) rows
-    → IsAmong r (map record_of (filter p rows)) → HasOwnAbove r
+    → IsAmong r (map record_of (filter p rows)) → HasOwn r
 own_filtered r p [] own h = absurd h
 own_filtered r p (row ∷ rows) own h = own_step r row (p row) (filter p rows) own.0 (own_filtered r p rows own.1) h
 
-own_above : (institution : List ℕ) (rows : List Row) (r : Record) → IsSound rows → IsAmong r (of institution rows) → HasOwnAbove r
+pub has_own : (institution : List ℕ) (rows : List Row) (r : Record) → IsSound rows → IsAmong r (of institution rows) → HasOwn r
 unfolding of
-own_above institution rows r sound h = own_filtered r (λ (row : Row). bytes_eq row.inst institution) rows sound.own h
+has_own institution rows r sound h = own_filtered r (λ (row : Row). bytes_eq row.inst institution) rows sound.own h
 
--- ---- the same as the value of an element
+-- ---- a UID that is asked for is met by itself alone
 
 pub value_from : (value : Option (List ℕ)) (above : List ℕ) → is_value value above ≡ true → value ≡ Some above
 value_from None above h = absurd (cc)
@@ -62,34 +80,66 @@ given : (value : Option (List ℕ)) → is_some value ≡ true → value ≡ Som
 given None h = absurd (cc)
 given (Some v) h = refl
 
-module _ (held asked : Option (List ℕ)) (above : List ℕ) (own : held ≡ Some above) (there : is_some asked ≡ true) where
-  key_from : above ≡ unwrap_or asked [] → held ≡ asked
-  key_from under = own ∙ ap (λ (o : List ℕ). Some o) under ∙ sym (given asked there)
+passed_is_uid : (value : List ℕ) (b : Bool) → is_uid value ≡ b → (uid : List ℕ) → (if b then Some value else None) ≡ Some uid → is_uid uid ≡ true
+passed_is_uid value true is uid h = (let same : value ≡ uid = cc in ap is_uid (sym same) ∙ is)
+passed_is_uid value false is uid h = absurd (cc)
 
-  key_to : held ≡ asked → above ≡ unwrap_or asked []
-  key_to same = ap (λ (o : Option (List ℕ)). unwrap_or o []) (sym own ∙ same)
+passing_is_uid : (value : Option (List ℕ)) (uid : List ℕ) → passing is_uid value ≡ Some uid → is_uid uid ≡ true
+passing_is_uid None uid h = absurd (cc)
+passing_is_uid (Some value) uid h = passed_is_uid value (is_uid value) refl uid h
 
-own_value : (level : Level) (r : Record) → r.kind ≡ kind_of level → HasOwnAbove r → has_above (kind_of level) r.above (data_set_of r.octets) ≡ true
-own_value level r is own = ap (λ (k : Kind). has_above k r.above (data_set_of r.octets)) (sym is) ∙ own
+no_asterisk : (uid : List ℕ) (b : Bool) → bytes_eq uid (any_run ∷ []) ≡ b → is_uid uid ≡ true → not b ≡ true
+unfolding is_uid
+no_asterisk uid true is h = absurd (let wrong : is_uid (any_run ∷ []) ≡ true = ap is_uid (sym ((bytes_eq-Decides uid (any_run ∷ [])).0 is)) ∙ h in cc)
+no_asterisk uid false is h = refl
 
-under_from : (level : Level) (keys : ElementList) (r : Record) → has_above (kind_of level) r.above (data_set_of r.octets) ≡ true
-    → has_keys_above level keys ≡ true
-    → IsUnder level keys r → HasKeyAbove level keys (data_set_of r.octets)
-unfolding has_above has_keys_above
-under_from Study keys r own there under = tt
-under_from Series keys r own there under = grind (arith, key_from, value_from, and_parts)
-under_from Image keys r own there under = grind (arith, and_parts, key_from, value_from)
+uid_is_plain : (tag : Tag) (keys : ElementList) (uid : List ℕ) → uid_at tag keys ≡ Some uid → is_no_asterisk uid ≡ true
+unfolding uid_at
+uid_is_plain tag keys uid h = no_asterisk uid (bytes_eq uid (any_run ∷ [])) refl (passing_is_uid (sole_at tag keys) uid h)
 
-under_to : (level : Level) (keys : ElementList) (r : Record) → has_above (kind_of level) r.above (data_set_of r.octets) ≡ true
-    → has_keys_above level keys ≡ true
-    → HasKeyAbove level keys (data_set_of r.octets) → IsUnder level keys r
-unfolding has_above has_keys_above
-under_to Study keys r own there key = tt
-under_to Series keys r own there key = grind (arith, key_to, value_from, and_parts)
-under_to Image keys r own there key = grind (arith, and_parts, key_to, value_from)
+-- what the law of matching says of keys
+abbrev pub EachAlone : ElementList → Type 0
+EachAlone keys = (held : ElementList) → fits keys held ≡ true → EachIsMet Outer keys held
 
-pub asked_by_key : (institution : List ℕ) (rows : List Row) (query : Query) (r : Record) → IsSound rows → has_keys_above query.level query.keys ≡ true
-    → IsAmong r (asked_records (of institution rows) query)
-    ↔ (IsAmong r (of institution rows) × (r.kind ≡ kind_of query.level) × HasKeyAbove query.level query.keys (data_set_of r.octets))
-asked_by_key institution rows query r sound there =
-    grind (arith, asked_from, own_value, own_above, under_from, asked_to, under_to)
+module _ (records : List Record) (keys : ElementList) (known : AllByRecursion HasKnownVr (elements_of keys)) (alone : EachAlone keys) (r : Record)
+    (own : HasOwn r) where
+  abbrev held : ElementList
+  held = data_set_of r.octets
+
+  same_uid : (level : Level) (tag : Tag) → IsKeyOf UI tag → list_any (λ one. is_tag one tag) all_computed ≡ false
+      → is_some (uid_at tag keys) ≡ true → is_value (uid_at tag held) r.above ≡ true → fits keys (completed records level r) ≡ true
+      → uid_at tag held ≡ uid_at tag keys
+  same_uid level tag is other there said fit =
+      let wanted = given (uid_at tag keys) there in
+      let asked : List ℕ = unwrap_or (uid_at tag keys) [] in
+      let has = value_from (uid_at tag held) r.above said in
+      let met = one_alone UI tag is keys held (completed records level r) known own.known (stays records level r.key held tag other)
+      (alone (completed records level r) fit) asked r.above (sole_of_uid tag keys asked wanted) (sole_of_uid tag held r.above has) in
+      let same = (bytes_eq-Decides r.above asked).0 (uid_met asked r.above (uid_is_plain tag keys asked wanted) met) in
+      has ∙ ap (λ (o : List ℕ). Some o) same ∙ sym wanted
+
+  own_value : (level : Level) → r.kind ≡ kind_of level → has_above (kind_of level) r.above held ≡ true
+  own_value level is = ap (λ (k : Kind). has_above k r.above held) (sym is) ∙ own.above
+
+  -- a record that fits has the key above
+  pub key_above_met : (level : Level) → r.kind ≡ kind_of level → has_keys_above level keys ≡ true → fits keys (completed records level r) ≡ true
+      → HasKeyAbove level keys held
+  unfolding has_above has_keys_above
+  key_above_met Study is there fit = tt
+  key_above_met Series is there fit =
+      same_uid Series tags.study_instance_uid (unique_keys_are_uids Study) refl
+      (and_parts (is_some (uid_at tags.study_instance_uid keys)) true there).0 (own_value Series is) fit
+  key_above_met Image is there fit =
+      let others = and_parts (is_some (uid_at tags.study_instance_uid keys)) (is_some (uid_at tags.series_instance_uid keys) && true) there in
+      same_uid Image tags.series_instance_uid (unique_keys_are_uids Series) refl
+      (and_parts (is_some (uid_at tags.series_instance_uid keys)) true others.1).0 (own_value Image is) fit
+
+  key_to : (tag : Tag) → is_value (uid_at tag held) r.above ≡ true → uid_at tag held ≡ uid_at tag keys → r.above ≡ unwrap_or (uid_at tag keys) []
+  key_to tag said same = ap (λ (o : Option (List ℕ)). unwrap_or o []) (sym (value_from (uid_at tag held) r.above said) ∙ same)
+
+  -- and is under the record that it names
+  pub under_met : (level : Level) → r.kind ≡ kind_of level → HasKeyAbove level keys held → IsUnder level keys r
+  unfolding has_above
+  under_met Study is key = tt
+  under_met Series is key = key_to tags.study_instance_uid (own_value Series is) key
+  under_met Image is key = key_to tags.series_instance_uid (own_value Image is) key

@@ -22,11 +22,12 @@ use Rattle.dq_tables.specs.Records.{data_set_of}
 use Rattle.dq_tables.specs.Keys.{passing}
 use Rattle.dq_tables.specs.Labels.{patient_in, day_in}
 use Rattle.dq_tables.specs.Choosing.{is_none_or, has_labels, is_chosen}
+use Rattle.dq_find.specs.declared.level.Level.TheVariants as level
 use Rattle.dq_find.specs.Choosing.{is_no_asterisk, uid_asked, choice_in}
 use Rattle.dq_match.proofs.OneValue.{is_met_by, IsBetween, plain_long, date_between}
 use Rattle.dq_tables.specs.Asked.{ends_asked}
 use Rattle.dq_tables.proofs.Taken.{DaysAreInOrder, patient_taken, days_taken}
-use Rattle.dq_find.proofs.Naming.{IsKeyOf, one_alone}
+use Rattle.dq_find.proofs.Naming.{IsKeyOf, unique_keys_are_uids, one_alone}
 
 -- ---- the UID
 
@@ -34,7 +35,7 @@ no_asterisk : (b : Bool) → not b ≡ true → b ≡ false
 no_asterisk true h = absurd cc
 no_asterisk false h = refl
 
-uid_met : (uid key : List ℕ) → is_no_asterisk uid ≡ true → is_met_by UI uid key ≡ true → bytes_eq key uid ≡ true
+pub uid_met : (uid key : List ℕ) → is_no_asterisk uid ≡ true → is_met_by UI uid key ≡ true → bytes_eq key uid ≡ true
 unfolding is_padded matching_of
 uid_met uid key plain met = grind (arith, no_asterisk, bytes_eq-Decides)
 
@@ -48,10 +49,6 @@ uid_chosen key None met = refl
 uid_chosen key (Some uid) met = uid_by uid key (is_no_asterisk uid) refl (met uid refl)
 
 -- ---- all together
-
-uid_key : IsKeyOf UI tags.study_instance_uid
-unfolding known_vr vr_in dictionary
-uid_key = (refl, refl, refl)
 
 patient_key : IsKeyOf LO tags.patient_id
 unfolding known_vr vr_in dictionary
@@ -74,7 +71,7 @@ unfolding is_chosen choice_in
 fit_is_chosen law keys held r is known_keys known stay own each =
     let d = data_set_of r.octets in
     let uid = uid_chosen r.key (sole_at tags.study_instance_uid keys)
-    (λ asked wanted. one_alone UI tags.study_instance_uid uid_key keys d held known_keys known stay.uid each asked r.key wanted own) in
+    (λ asked wanted. one_alone UI tags.study_instance_uid (unique_keys_are_uids level.Study) keys d held known_keys known stay.uid each asked r.key wanted own) in
     let patient = patient_taken is_plain (sole_at tags.patient_id keys) (sole_at tags.patient_id d)
     (λ key value asked said plain. plain_long key value plain
     (one_alone LO tags.patient_id patient_key keys d held known_keys known stay.patient each key value asked said)) in

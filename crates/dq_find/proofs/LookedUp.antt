@@ -1,6 +1,6 @@
 -- A record that is looked up by its unique key is the only one that is asked for with that key, and
 -- the answers of the records that are looked at are those of all.
-use Rattle.std.proofs.Common.{◌≡◌, ℕ, Bool, true, false, ◌&&◌, ◌||◌, ◌⊎◌, List, [], ◌∷◌, map, find, filter, Option, Some, None, option_map, Result, Ok, Err, inl, inr, refl, sym, ap, subst, ◌∙◌, cond, if◌then◌else◌, arith}
+use Rattle.std.proofs.Common.{◌≡◌, ℕ, Bool, true, false, ◌&&◌, ◌||◌, ◌⊎◌, List, [], ◌∷◌, map, find, filter, Option, Some, None, option_map, inl, inr, refl, sym, ap, subst, ◌∙◌, cond, if◌then◌else◌, arith}
 use Rattle.std.specs.Global.{Vec}
 use Rattle.std.specs.BTreeSet.{insert_key}
 use Rattle.std.specs.Option.{option_to_list}
@@ -15,21 +15,14 @@ use Rattle.std.proofs.lemmas.Cmp.{nat_list_cmp_total, tied_itself}
 use Rattle.std.proofs.lemmas.Slice.Eq.{bytes_eq-Decides}
 use Rattle.dq_list.specs.Among.{IsAmong}
 use Rattle.dq_list.proofs.Among.{among_filter, filtered_from}
-use Rattle.dq_vr.specs.Dictionary.{dictionary, vr_in, known_vr}
 use Rattle.dq_vr.specs.Tags as tags
-use Rattle.dq_vr.specs.declared.Vr.TheVariants.{UI}
-use Rattle.dq_dataset.specs.declared.fault.ReadFault.{ReadFault}
-use Rattle.dq_dataset.specs.declared.header.Syntax.TheVariants.{Explicit}
 use Rattle.dq_dataset.specs.Tree.{ElementList}
 use Rattle.dq_dataset.specs.View.{elements_of}
-use Rattle.dq_dataset.specs.Reading.{reading}
 use Rattle.dq_dataset.specs.Editing.{merged}
 use Rattle.dq_dataset.specs.Facts.{IsDataSet}
 use Rattle.dq_dataset.specs.Values.{element_at}
-use Rattle.dq_dataset.proofs.KnownVrs.{HasKnownVr, read_has_known_vrs, facts_give_known_vrs}
-use Rattle.dq_match.specs.declared.keys.Place.TheVariants.{Outer}
+use Rattle.dq_dataset.proofs.KnownVrs.{HasKnownVr, facts_give_known_vrs}
 use Rattle.dq_match.specs.Matching.{fits}
-use Rattle.dq_match.specs.Fitting.{EachIsMet}
 use Rattle.dq_match.specs.Responses.{shown}
 use Rattle.dq_match.proofs.Answering.{given_of_each, given_skipped}
 use Rattle.dq_tables.specs.declared.row.Kind.{Kind}
@@ -39,7 +32,7 @@ use Rattle.dq_tables.specs.Rows.{Record, IsRising, octet_order, record_of, row_o
 use Rattle.dq_tables.specs.Finding.{same_kind, record_at, row_at, records_of}
 use Rattle.dq_tables.specs.Records.{AreInOrder, data_set_of}
 use Rattle.dq_tables.specs.Keys.{uid_at}
-use Rattle.dq_tables.specs.Sound.{IsSound, is_own, is_record_of, may_be_started, has_key}
+use Rattle.dq_tables.specs.Sound.{IsSound, has_key}
 use Rattle.dq_tables.proofs.Listing.{its_kind, one_kind, of_kind_to, listed_in_order, in_order_filter}
 use Rattle.dq_tables.proofs.Rising.{each_among, one_list}
 use Rattle.dq_tables.proofs.Seen.{found_own}
@@ -53,8 +46,8 @@ use Rattle.dq_find.specs.Queries.{key_above, told, answer_of, answers, asked_rec
 use Rattle.dq_find.specs.Candidates.{own_values, names_records, looks_up, has_one_of, candidates, is_under, under, looked_up, named_record, named_rows, octets_of}
 use Rattle.dq_find.proofs.Answered.{IsUnder, asked_from, asked_to, asked_in_order}
 use Rattle.dq_find.proofs.Answering.{stays}
-use Rattle.dq_find.proofs.Asked.{value_from}
-use Rattle.dq_find.proofs.Naming.{IsKeyOf, sole_of_uid, named_among}
+use Rattle.dq_find.proofs.Asked.{has_own, value_from, EachAlone}
+use Rattle.dq_find.proofs.Naming.{unique_keys_are_uids, sole_of_uid, named_among}
 use Rattle.dq_tables.proofs.Taken.{DaysAreInOrder}
 use Rattle.dq_find.proofs.Chosen.{Stay, fit_is_chosen}
 use Rattle.dq_find.proofs.Modalities.{IsInOrder, IsBefore, all_stays, all_from, all_to}
@@ -377,38 +370,6 @@ one_more value before after octets others left whole put is first so_far = grind
 
 -- ---- no other matches
 
--- a record's own key
-own_by : (read : Result ElementList ReadFault) (row : Row) → reading Explicit row.octets ≡ read → is_record_of read row ≡ true
-    → AllByRecursion HasKnownVr (elements_of (data_set_of row.octets)) × (has_key row.kind row.key (data_set_of row.octets) ≡ true)
-unfolding data_set_of
-own_by (Err fault) row is own = absurd cc
-own_by (Ok d) row is own = grind (arith, and_parts, read_has_known_vrs)
-
-abbrev HasOwnKey : Record → Type 0
-HasOwnKey r = AllByRecursion HasKnownVr (elements_of (data_set_of r.octets)) × (has_key r.kind r.key (data_set_of r.octets) ≡ true)
-
-row_own : (row : Row) → is_own row ≡ true → HasOwnKey (record_of row)
-unfolding is_own
-row_own row own =
-    own_by (reading Explicit row.octets) row refl
-    (and_parts (may_be_started row.kind row.started) (is_record_of (reading Explicit row.octets) row) own).1
-
-module _ (P : Record → Type 0) (own_has : (row : Row) → is_own row ≡ true → P (record_of row)) (r : Record) where
-  own_step : (row : Row) (b : Bool) (kept : List Row) → is_own row ≡ true → (IsAmong r (map record_of kept) → P r)
-      → IsAmong r (map record_of (if b then row ∷ kept else kept)) → P r
-  own_step row true kept its_own rest (inl e) = subst P e (own_has row its_own)
-  own_step row true kept its_own rest (inr h) = rest h
-  own_step row false kept its_own rest h = rest h
-
-  own_filtered : (p : Row → Bool) (rows : List Row) → AllByRecursion (λ (row : Row). is_own row ≡ true) rows
-      → IsAmong r (map record_of (filter p rows)) → P r
-  own_filtered p [] its_own h = absurd h
-  own_filtered p (row ∷ rows) its_own h = own_step row (p row) (filter p rows) its_own.0 (own_filtered p rows its_own.1) h
-
-own_key : (institution : List ℕ) (rows : List Row) (r : Record) → IsSound rows → IsAmong r (of institution rows) → HasOwnKey r
-unfolding of
-own_key institution rows r sound h = own_filtered HasOwnKey row_own r (λ (row : Row). bytes_eq row.inst institution) rows sound.own h
-
 -- the level's own unique key of a record's data set is its key
 key_is : (level : Level) (r : Record) → r.kind ≡ kind_of level → has_key r.kind r.key (data_set_of r.octets) ≡ true
     → uid_at (unique_key level) (data_set_of r.octets) ≡ Some r.key
@@ -417,21 +378,11 @@ key_is Study r is own = value_from _ r.key (ap (λ (k : Kind). has_key k r.key (
 key_is Series r is own = value_from _ r.key (ap (λ (k : Kind). has_key k r.key (data_set_of r.octets)) (sym is) ∙ own)
 key_is Image r is own = value_from _ r.key (ap (λ (k : Kind). has_key k r.key (data_set_of r.octets)) (sym is) ∙ own)
 
-unique_keys_are_uids : (level : Level) → IsKeyOf UI (unique_key level)
-unfolding known_vr vr_in dictionary
-unique_keys_are_uids Study = (refl, refl, refl)
-unique_keys_are_uids Series = (refl, refl, refl)
-unique_keys_are_uids Image = (refl, refl, refl)
-
 unique_key_stays : (records : List Record) (level : Level) (key : List ℕ) (held : ElementList)
     → element_at (unique_key level) (merged held (computed records level key)) ≡ element_at (unique_key level) held
 unique_key_stays records Study key held = stays records Study key held tags.study_instance_uid refl
 unique_key_stays records Series key held = stays records Series key held tags.series_instance_uid refl
 unique_key_stays records Image key held = stays records Image key held tags.sop_instance_uid refl
-
--- what the law of matching says of keys
-abbrev pub EachAlone : ElementList → Type 0
-EachAlone keys = (held : ElementList) → fits keys held ≡ true → EachIsMet Outer keys held
 
 module _ (institution : List ℕ) (rows : List Row) (called : List ℕ) (query : Query) (sound : IsSound rows)
     (known : AllByRecursion HasKnownVr (elements_of query.keys)) (alone : EachAlone query.keys) (days : DaysAreInOrder) where
@@ -440,11 +391,11 @@ module _ (institution : List ℕ) (rows : List Row) (called : List ℕ) (query :
       → option_map (told called query) (if b then Some (shown query.keys (completed (of institution rows) query.level r)) else None) ≡ None
   not_named_by r true h named other is =
       let from = asked_from query.level query.keys r (of institution rows) h in
-      let own = own_key institution rows r sound from.0 in
+      let own = has_own institution rows r sound from.0 in
       let held = data_set_of r.octets in
       let among = named_among (unique_key query.level) query.keys held (completed (of institution rows) query.level r) (own_values query) r.key
-      (unique_keys_are_uids query.level) known own.0 (unique_key_stays (of institution rows) query.level r.key held) refl named
-      (key_is query.level r from.1 own.1) (alone (completed (of institution rows) query.level r) is) in
+      (unique_keys_are_uids query.level) known own.known (unique_key_stays (of institution rows) query.level r.key held) refl named
+      (key_is query.level r from.1 own.key) (alone (completed (of institution rows) query.level r) is) in
       absurd (cc (sym other ∙ one_of_to institution rows query sound.rising r.key (own_values query) among))
   not_named_by r false h named other is = refl
 
@@ -453,11 +404,11 @@ module _ (institution : List ℕ) (rows : List Row) (called : List ℕ) (query :
       → option_map (told called query) (if b then Some (shown query.keys (completed (of institution rows) query.level r)) else None) ≡ None
   not_chosen_by r Study true level h other is =
       let from = asked_from query.level query.keys r (of institution rows) h in
-      let own = own_key institution rows r sound from.0 in
+      let own = has_own institution rows r sound from.0 in
       let held = data_set_of r.octets in
       let whole = completed (of institution rows) query.level r in
       let kind : r.kind ≡ kind.Study = from.1 ∙ ap kind_of level in
-      let key = sole_of_uid tags.study_instance_uid held r.key (key_is Study r kind own.1) in
+      let key = sole_of_uid tags.study_instance_uid held r.key (key_is Study r kind own.key) in
       let at : merged held (computed (of institution rows) Study r.key) ≡ whole =
       ap (λ (l : Level). merged held (computed (of institution rows) l r.key)) (sym level) in
       let stay = subst (Stay held) at (record {
@@ -465,7 +416,7 @@ module _ (institution : List ℕ) (rows : List Row) (called : List ℕ) (query :
         patient = stays (of institution rows) Study r.key held tags.patient_id refl;
         date = stays (of institution rows) Study r.key held tags.study_date refl;
       }) in
-      absurd (cc (sym other ∙ fit_is_chosen days query.keys whole r kind known own.0 stay key (alone whole is)))
+      absurd (cc (sym other ∙ fit_is_chosen days query.keys whole r kind known own.known stay key (alone whole is)))
   not_chosen_by r Study false level h other is = refl
   not_chosen_by r Series b level h other is = absurd cc
   not_chosen_by r Image b level h other is = absurd cc

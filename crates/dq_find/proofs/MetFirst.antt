@@ -17,7 +17,7 @@ use Rattle.dq_find.specs.Computed.{computed}
 use Rattle.dq_find.specs.Queries.{told, answer_if}
 use Rattle.dq_find.specs.Kept.{is_met_later, is_met}
 use Rattle.dq_find.proofs.Answering.{stays, all_computed}
-use Rattle.dq_find.proofs.LookedUp.{EachAlone}
+use Rattle.dq_find.proofs.Asked.{EachAlone}
 
 module _ (records : List Record) (called key : List ℕ) (query : Query) (held : ElementList) (alone : EachAlone query.keys) where
   abbrev whole : ElementList

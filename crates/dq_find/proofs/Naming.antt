@@ -8,7 +8,7 @@ use Rattle.dq_list.specs.Lengths.{is_empty}
 use Rattle.dq_vr.specs.declared.Tag.{Tag}
 use Rattle.dq_vr.specs.declared.Vr.{Vr}
 use Rattle.dq_vr.specs.declared.Vr.TheVariants.{UI, UN}
-use Rattle.dq_vr.specs.Dictionary.{known_vr}
+use Rattle.dq_vr.specs.Dictionary.{dictionary, vr_in, known_vr}
 use Rattle.dq_value.specs.Parts.{parts}
 use Rattle.dq_value.specs.Trimming.{is_padded, ignores_leading_spaces, without_leading, without_trailing, unpadded, trimmed}
 use Rattle.dq_value.specs.Uid.{is_uid}
@@ -26,6 +26,9 @@ use Rattle.dq_match.specs.Wildcards.{any_run}
 use Rattle.dq_match.specs.Matching.{period, is_passed, is_start, meets}
 use Rattle.dq_match.specs.Fitting.{EachIsMet}
 use Rattle.dq_tables.specs.Keys.{passing, uid_at}
+use Rattle.dq_find.specs.declared.level.Level.{Level}
+use Rattle.dq_find.specs.declared.level.Level.TheVariants.{Study, Series, Image}
+use Rattle.dq_find.specs.Levels.{unique_key}
 use Rattle.dq_find.specs.Candidates.{names_records}
 use Rattle.dq_match.proofs.Alone.{not_passed}
 use Rattle.dq_match.proofs.OneValue.{same_tag, found_has, one_at, is_met_by, meets_octets, one_met}
@@ -46,6 +49,12 @@ sole_of_uid tag d = passed (sole_at tag d)
 -- a tag whose elements have a VR, and are met each for itself
 abbrev pub IsKeyOf : Vr → Tag → Type 0
 IsKeyOf vr tag = (known_vr tag ≡ Some vr) × (is_key Outer tag ≡ true) × (is_start tag ≡ false)
+
+pub unique_keys_are_uids : (level : Level) → IsKeyOf UI (unique_key level)
+unfolding known_vr vr_in dictionary
+unique_keys_are_uids Study = (refl, refl, refl)
+unique_keys_are_uids Series = (refl, refl, refl)
+unique_keys_are_uids Image = (refl, refl, refl)
 
 -- ---- it is met by a value that is it
 

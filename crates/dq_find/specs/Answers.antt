@@ -12,7 +12,7 @@ use Rattle.dq_dataset.specs.Values.{element_at, octets_in}
 use Rattle.dq_match.specs.Matching.{fits}
 use Rattle.dq_match.specs.Responses.{shown}
 use Rattle.dq_tables.specs.Rows.{Record}
-use Rattle.dq_tables.specs.Records.{AreInOrder, data_set_of}
+use Rattle.dq_tables.specs.Records.{AreInOrder}
 use Rattle.dq_tables.specs.Keys.{uid_at}
 use Rattle.dq_find.specs.declared.level.Level.{Level}
 use Rattle.dq_find.specs.declared.level.Level.TheVariants.{Study, Series, Image}
@@ -21,19 +21,19 @@ use Rattle.dq_find.specs.Levels.{kind_of, name_of}
 use Rattle.dq_find.specs.Computed.{completed}
 use Rattle.dq_find.specs.Queries.{told}
 
--- In the record's data set the unique key above has the value that the query gives.
+-- A record matches a query: it is kept, it is of the query's level, and with what is computed of it,
+-- it fits the query's keys (PS3.4 section C.4.1.2.1).
+pub record Matches (records : List Record) (query : Query) (r : Record) : Type 0 where
+  pub kept : IsAmong r records
+  pub level : r.kind ≡ kind_of query.level
+  pub fit : fits query.keys (completed records query.level r) ≡ true
+
+-- In a record's data set the unique key of the level above has the value that the query gives. No
+-- match asks for it: that one has it follows, since that is one of the keys that it fits.
 abbrev pub HasKeyAbove : Level → ElementList → ElementList → Type 0
 HasKeyAbove Study keys d = Unit {0}
 HasKeyAbove Series keys d = uid_at tags.study_instance_uid d ≡ uid_at tags.study_instance_uid keys
 HasKeyAbove Image keys d = uid_at tags.series_instance_uid d ≡ uid_at tags.series_instance_uid keys
-
--- A record matches a query: it is kept, it is of the query's level, the unique key above is the
--- query's, and with what is computed of it, it fits the query's keys (PS3.4 section C.4.1.2.1).
-pub record Matches (records : List Record) (query : Query) (r : Record) : Type 0 where
-  pub kept : IsAmong r records
-  pub level : r.kind ≡ kind_of query.level
-  pub above : HasKeyAbove query.level query.keys (data_set_of r.octets)
-  pub fit : fits query.keys (completed records query.level r) ≡ true
 
 -- what is told of a record
 abbrev pub told_of : List Record → List ℕ → Query → Record → ElementList

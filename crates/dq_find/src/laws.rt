@@ -1,4 +1,4 @@
-//! Laws of queries. Each function's contract is a law; its body does nothing.
+//! Laws of queries. Each function's contract is a law; its body changes nothing.
 ghost use Rattle.std.specs.Prelude.{◌≡◌, ◌≢◌, ◌≤◌, ◌*◌, ℕ, List, [], ◌∷◌, length, take, drop, Ok, codes};
 ghost use Rattle.std.specs.List.{AllByRecursion, flat_map};
 ghost use Rattle.dq_dataset.specs.declared.header.Syntax.{Syntax};
@@ -9,14 +9,17 @@ ghost use Rattle.dq_dimse.specs.Received.{Message};
 ghost use Rattle.dq_match.specs.declared.responses.Found.{Found};
 ghost use Rattle.dq_tables.specs.declared.row.Row.{Row};
 ghost use Rattle.dq_tables.specs.Rows.{Record, Edit, IsRising, of, by, after};
+ghost use Rattle.dq_tables.specs.Records.{data_set_of};
 ghost use Rattle.dq_tables.specs.Sound.{IsSound};
 ghost use Rattle.dq_find.specs.declared.query.Query.{Query};
 ghost use Rattle.dq_find.specs.Queries.{query_of, answers, found};
 ghost use Rattle.dq_find.specs.Computed.{modalities_in};
-ghost use Rattle.dq_find.specs.Answers.{AreAnswers, Tells};
+ghost use Rattle.dq_find.specs.Answers.{Matches, HasKeyAbove, AreAnswers, Tells};
 ghost use Rattle.dq_find.specs.Modalities.{AreModalities};
 ghost use Rattle.dq_find.specs.Pages.{HasGiven, GivesInTurn, IsPage, ArePages};
 ghost use Rattle.dq_find.specs.Examples.{request, identifier, kept, answer, found_with};
+
+use dq_match::laws::keys_are_met_alone_and_as_a_period;
 
 /// A query is answered with what is told of the records that match it, each once, in the order of
 /// their keys, and no other list of answers is that (PS3.4 section C.4.1.2.1).
@@ -34,7 +37,20 @@ pub fn answers_are_the_matching_records_in_order()
     ensures alone { (records : List Record) (called : List ℕ) (query : Query)
         (one other : List ElementList) → AreAnswers records called query one
         → AreAnswers records called query other → one ≡ other }
-{}
+{
+    keys_are_met_alone_and_as_a_period();
+}
+
+/// A record that matches a query has the unique key above that the query gives: a series that fits is
+/// one of the study that is named, and an image one of the series (PS3.4 section C.4.1.2.1).
+pub fn what_matches_has_the_key_above()
+    ensures { (institution : List ℕ) (rows : List Row) (message : Message) (syntax : Syntax)
+        (query : Query) → IsSound rows → query_of message syntax ≡ Ok query → (r : Record)
+        → Matches (of institution rows) query r
+        → HasKeyAbove query.level query.keys (data_set_of r.octets) }
+{
+    keys_are_met_alone_and_as_a_period();
+}
 
 /// A query that is refused has no answers (PS3.4 section C.4.1.1.4).
 #[tactic(auto, using(crate::proofs::Answered::none_refused))]
