@@ -41,7 +41,7 @@ unfolding IsRising
 rises [] rising = tt
 rises (row ∷ rows) rising = (rising.0, rises rows rising.1)
 
-one_list : (xs ys : List Row) → IsRising xs → IsRising ys → ((row : Row) → IsAmong row xs → IsAmong row ys) → ((row : Row) → IsAmong row ys → IsAmong row xs)
+pub one_list : (xs ys : List Row) → IsRising xs → IsRising ys → ((row : Row) → IsAmong row xs → IsAmong row ys) → ((row : Row) → IsAmong row ys → IsAmong row xs)
     → xs ≡ ys
 one_list xs ys rising_x rising_y to back =
     only_one ComesBefore not_both (length xs + length ys) xs ys (rises xs rising_x) (rises ys rising_y) (λ row h. inl (to row h)) (λ row h. inl (back row h))

@@ -1,5 +1,6 @@
 -- Entries that are started.
 use Rattle.std.proofs.Common.{◌≡◌, ℕ, true, List, [], ◌∷◌, ◌++◌, set, slice_get, Option, Some, None, Result, Ok, Err, refl, sym, ◌∙◌, ap, subst, append-nil, arith}
+use Rattle.std.specs.List.Sorted.{IsPermutation}
 use Rattle.std.specs.Option.{option_map}
 use Rattle.std.proofs.lemmas.Bool.{and_parts}
 use Rattle.dq_list.specs.Among.{IsAmong}
@@ -8,7 +9,7 @@ use Rattle.dq_dataset.specs.Tree.{ElementList}
 use Rattle.dq_tables.specs.declared.row.Kind.{Kind}
 use Rattle.dq_tables.specs.declared.row.Kind.TheVariants.{Entry}
 use Rattle.dq_tables.specs.declared.row.Row.{Row}
-use Rattle.dq_tables.specs.Rows.{Record, Place, Put, Start, place, record_of, row_of, record_at, of, rows_before, rows_past, after_edit, IsRising}
+use Rattle.dq_tables.specs.Rows.{Record, Place, Put, Start, place, row_place_of, record_of, row_of, record_at, of, rows_before, rows_past, rows_elsewhere, after_edit, IsRising}
 use Rattle.dq_tables.specs.Labels.{patient_of}
 use Rattle.dq_tables.specs.Finding.{row_at, IsThere}
 use Rattle.dq_tables.specs.Indexed.{Index, ListsEach, is_listed}
@@ -17,7 +18,7 @@ use Rattle.dq_tables.proofs.ByKeys.{find_among}
 use Rattle.dq_tables.proofs.Edits.{set_is}
 use Rattle.dq_tables.proofs.Indexed.{put_listed}
 use Rattle.dq_tables.proofs.Listing.{its_kind}
-use Rattle.dq_tables.proofs.Members.{apart_is, free_is, one_inside}
+use Rattle.dq_tables.proofs.Members.{apart_is, free_is, one_inside, put_has}
 use Rattle.dq_tables.proofs.Rising.{each_among}
 use Rattle.dq_tables.proofs.Seen.{found_own}
 use Rattle.dq_tables.proofs.There.{stands_there, StandsAt}
@@ -62,6 +63,16 @@ pub start_is_put : (h key : List ℕ) (rows : List Row) (row : Row) → row_at E
     → after_edit h (Start key) rows ≡ after_edit row.inst (Put (record_of (started row))) rows
 unfolding after_edit
 start_is_put h key rows row found = grind (arith, is_found, start_leaves)
+
+-- An entry that is started is there, and those that are not at its place.
+pub start_has : (h key : List ℕ) (row : Row) (rows : List Row) → IsRising rows → row_at Entry h key rows ≡ Some row
+    → IsPermutation (started row ∷ rows_elsewhere (place Entry h key) rows) (after_edit h (Start key) rows)
+start_has h key row rows rising found =
+    let it = is_found h key rows row found in
+    let there : place row.kind row.inst row.key ≡ place Entry h key = rw (it.kind_is, it.inst_is, it.key_is) refl in
+    let as_put = put_has (started row) rows rising in
+    subst (λ p. IsPermutation (started row ∷ rows_elsewhere p rows) (after_edit h (Start key) rows)) there
+    (subst (IsPermutation (started row ∷ rows_elsewhere (row_place_of row) rows)) (sym (start_is_put h key rows row found)) as_put)
 
 none_found : (h : List ℕ) (o : Option Record) → option_map (row_of h) o ≡ None → o ≡ None
 none_found h None e = refl

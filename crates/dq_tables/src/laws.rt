@@ -1,12 +1,14 @@
 //! Laws of rows and of their changes. Each function's contract is a law; its body does nothing.
 
-ghost use Rattle.std.specs.Prelude.{◌≡◌, ◌≢◌, ◌≤◌, ◌≤ℤ◌, ℕ, ℤ, pos, List, ◌∷◌, map, length, option_map, false, Some, None, IsPermutation};
+ghost use Rattle.std.specs.Prelude.{◌≡◌, ◌≢◌, ◌≤◌, ◌≤ℤ◌, ℕ, ℤ, pos, List, ◌∷◌, map, length, option_map, false, true, Some, None, IsPermutation};
+ghost use Rattle.dq_list.specs.Among.{IsAmong};
 ghost use Rattle.dq_value.specs.Day.{date_in, day};
 ghost use Rattle.dq_tables.specs.declared.choice.Choice.{Choice};
 ghost use Rattle.dq_tables.specs.declared.row.Kind.{Kind};
+ghost use Rattle.dq_tables.specs.declared.row.Kind.TheVariants.{Entry};
 ghost use Rattle.dq_tables.specs.declared.row.Row.{Row};
 ghost use Rattle.dq_tables.specs.declared.change.Change.{Change};
-ghost use Rattle.dq_tables.specs.Rows.{Edit, Put, Remove, record_of, row_place_of, place, rows_elsewhere, after_edit, edited, edited_all, of, IsRising, Operation, by, after, after_all, own_edits, operation_of, row_of};
+ghost use Rattle.dq_tables.specs.Rows.{Edit, Put, Remove, Start, record_of, row_place_of, place, rows_elsewhere, after_edit, edited, edited_all, of, IsRising, Operation, by, after, after_all, own_edits, operation_of, row_of};
 ghost use Rattle.dq_tables.specs.Finding.{row_at, rows_of, rows_above, record_at, records_of, records_above};
 ghost use Rattle.dq_tables.specs.Choosing.{studies_in, studies_among, waiting_in, waiting_among};
 ghost use Rattle.dq_tables.specs.Labels.{date_number, day_named};
@@ -101,10 +103,15 @@ pub fn plain_tables_never_fail()
         → (⟦<PlainTables as Tables>⟧.state it).may_leave r → ⊥ }
 {}
 
-/// Rows in order are the only order of themselves.
-#[tactic(auto, using(crate::proofs::OneOrder::one_order))]
+/// Two lists of rows in order are one list where they have the same members, and so where one is
+/// the other rearranged.
+#[tactic(auto, using(crate::proofs::ByKeys::one_list, crate::proofs::OneOrder::one_order))]
 pub fn rows_have_one_order()
-    ensures { (xs ys : List Row) → IsRising xs → IsRising ys → IsPermutation xs ys → xs ≡ ys }
+    ensures members { (xs ys : List Row) → IsRising xs → IsRising ys
+        → ((row : Row) → IsAmong row xs → IsAmong row ys)
+        → ((row : Row) → IsAmong row ys → IsAmong row xs) → xs ≡ ys }
+    ensures rearranged { (xs ys : List Row) → IsRising xs → IsRising ys → IsPermutation xs ys
+        → xs ≡ ys }
 {}
 
 /// A row that is put is there, and so are the rows elsewhere. Where its place was free, those are
@@ -125,6 +132,20 @@ pub fn other_rows_are_left()
     ensures { (kind : Kind) (institution key : List ℕ) (rows : List Row) → IsRising rows
         → after_edit institution (Remove kind key) rows
         ≡ rows_elsewhere (place kind institution key) rows }
+{}
+
+/// An entry that is started is there as it was but for that, and so are the rows elsewhere. Where
+/// none has the key, the rows stay as they were.
+#[tactic(auto, using(crate::proofs::Started::start_has, crate::proofs::Started::start_of_none))]
+pub fn started_entries_are_there()
+    ensures started { (institution key : List ℕ) (row : Row) (rows : List Row) → IsRising rows
+        → row_at Entry institution key rows ≡ Some row
+        → IsPermutation
+        ((record row { started = true }) ∷ rows_elsewhere (place Entry institution key) rows)
+        (after_edit institution (Start key) rows) }
+    ensures none { (institution key : List ℕ) (rows : List Row) → IsRising rows
+        → row_at Entry institution key rows ≡ None
+        → after_edit institution (Start key) rows ≡ rows }
 {}
 
 /// The number YYYYMMDD of a day is that of its date, and a day that is not after another is no
