@@ -5,4 +5,5 @@ pub mod Others
 pub mod Outcomes
 pub mod Refusals
 pub mod Standing
+pub mod StaysSound
 pub mod Writing

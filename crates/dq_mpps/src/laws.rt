@@ -1,5 +1,6 @@
 //! What follows from the definitions. Each function's contract is a law; its body does nothing.
 ghost use Rattle.std.specs.Prelude.{◌≡◌, ◌≢◌, ℕ, [], List, Some, true, false};
+ghost use Rattle.std.specs.List.{AllByRecursion};
 ghost use Rattle.std.specs.Option.{option_or};
 ghost use Rattle.std.specs.Result.{result_unwrap_or};
 ghost use Rattle.dq_vr.specs.declared.Tag.{Tag};
@@ -7,6 +8,7 @@ ghost use Rattle.dq_dataset.specs.declared.header.Syntax.{Syntax};
 ghost use Rattle.dq_dataset.specs.declared.data_set.Element.{Element};
 ghost use Rattle.dq_dataset.specs.Tree.{ElementList, no_elements};
 ghost use Rattle.dq_dataset.specs.Reading.{reading};
+ghost use Rattle.dq_dataset.specs.Grammar.{AreOctets};
 ghost use Rattle.dq_dataset.specs.Facts.{IsDataSet};
 ghost use Rattle.dq_dataset.specs.Editing.{merged};
 ghost use Rattle.dq_dataset.specs.Values.{element_at};
@@ -17,10 +19,14 @@ ghost use Rattle.dq_tables.specs.declared.row.Kind.TheVariants.{Step};
 ghost use Rattle.dq_tables.specs.declared.row.Row.{Row};
 ghost use Rattle.dq_tables.specs.Rows.{Record, Edit, IsRising, of, by, after, edited};
 ghost use Rattle.dq_tables.specs.Finding.{record_at};
+ghost use Rattle.dq_tables.specs.Records.{data_set_of};
+ghost use Rattle.dq_tables.specs.Sound.{IsSound};
 ghost use Rattle.dq_mpps.specs.Attributes.{is_fixed};
 ghost use Rattle.dq_mpps.specs.Creating.{created};
 ghost use Rattle.dq_mpps.specs.Created.{IsCreated};
 ghost use Rattle.dq_mpps.specs.Changing.{kept_data_set, is_ended, changes_fixed, changed};
+
+use dq_dataset::laws::{editing_law, spelling_law, written_law};
 
 /// A request that is not answered by success changes no record.
 #[tactic(auto, using(crate::proofs::Refusals::created_unless, crate::proofs::Refusals::changed_unless))]
@@ -87,3 +93,37 @@ pub fn named_entries_are_started()
         message.command.sop_instance
         (result_unwrap_or (reading syntax message.octets) no_elements) }
 {}
+
+/// Sound rows stay sound, whatever octets a step is created from, and where the rows hold data sets
+/// also whatever octets one is changed by.
+pub fn sound_rows_stay_sound()
+    ensures created { (h : List ℕ) (limits : Limits) (rows : List Row) (message : Message)
+        (syntax : Syntax) → AreOctets message.octets → IsSound rows
+        → IsSound (after (by h (created limits (of h rows) message syntax).1) rows) }
+    ensures changed { (h : List ℕ) (rows : List Row) (message : Message) (syntax : Syntax)
+        → AreOctets message.octets → IsSound rows
+        → AllByRecursion (λ (row : Row). IsDataSet (data_set_of row.octets)) rows
+        → IsSound (after (by h (changed (of h rows) message syntax).1) rows) }
+{
+    spelling_law();
+    editing_law();
+    written_law();
+}
+
+/// Rows whose octets spell data sets stay such, whatever octets a step is created from or changed by.
+pub fn rows_hold_data_sets()
+    ensures created { (h : List ℕ) (limits : Limits) (rows : List Row) (message : Message)
+        (syntax : Syntax) → AreOctets message.octets → IsRising rows
+        → AllByRecursion (λ (row : Row). IsDataSet (data_set_of row.octets)) rows
+        → AllByRecursion (λ (row : Row). IsDataSet (data_set_of row.octets))
+        (after (by h (created limits (of h rows) message syntax).1) rows) }
+    ensures changed { (h : List ℕ) (rows : List Row) (message : Message) (syntax : Syntax)
+        → AreOctets message.octets
+        → AllByRecursion (λ (row : Row). IsDataSet (data_set_of row.octets)) rows
+        → AllByRecursion (λ (row : Row). IsDataSet (data_set_of row.octets))
+        (after (by h (changed (of h rows) message syntax).1) rows) }
+{
+    spelling_law();
+    editing_law();
+    written_law();
+}

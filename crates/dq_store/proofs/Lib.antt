@@ -6,3 +6,4 @@ pub mod Fitting
 pub mod Outcomes
 pub mod Calls
 pub mod Staying
+mod StaysSound

@@ -1,6 +1,9 @@
 //! Laws of C-STORE. Each function's contract is a law; its body does nothing.
 ghost use Rattle.std.specs.Prelude.{◌≡◌, ◌≢◌, ◌⊎◌, ℕ, List, [], Some};
+ghost use Rattle.std.specs.List.{AllByRecursion};
 ghost use Rattle.dq_dataset.specs.declared.header.Syntax.{Syntax};
+ghost use Rattle.dq_dataset.specs.Grammar.{AreOctets};
+ghost use Rattle.dq_dataset.specs.Facts.{IsDataSet};
 ghost use Rattle.dq_dimse.specs.Received.{Message};
 ghost use Rattle.dq_dimse.specs.Statuses.{success, elements_discarded};
 ghost use Rattle.dq_config.specs.Limits.{Limits};
@@ -8,7 +11,11 @@ ghost use Rattle.dq_tables.specs.declared.row.Kind.{Kind};
 ghost use Rattle.dq_tables.specs.declared.row.Row.{Row};
 ghost use Rattle.dq_tables.specs.Rows.{Record, Edit, IsRising, of, by, after, edited};
 ghost use Rattle.dq_tables.specs.Finding.{record_at};
+ghost use Rattle.dq_tables.specs.Records.{data_set_of};
+ghost use Rattle.dq_tables.specs.Sound.{IsSound};
 ghost use Rattle.dq_store.specs.Storing.{stored};
+
+use dq_dataset::laws::{editing_law, spelling_law, written_law};
 
 /// What is kept stays as it is, whatever is stored: the first instance that is stored makes the
 /// records of its study and its series, and a repeated one changes nothing.
@@ -41,3 +48,27 @@ pub fn institutions_are_apart()
         → stored limits (of h (after (by g es) rows)) message syntax
         ≡ stored limits (of h rows) message syntax }
 {}
+
+/// Sound rows stay sound, whatever octets are stored.
+pub fn sound_rows_stay_sound()
+    ensures { (h : List ℕ) (limits : Limits) (rows : List Row) (message : Message) (syntax : Syntax)
+        → AreOctets message.octets → IsSound rows
+        → IsSound (after (by h (stored limits (of h rows) message syntax).1) rows) }
+{
+    spelling_law();
+    editing_law();
+    written_law();
+}
+
+/// Rows whose octets spell data sets stay such, whatever octets are stored.
+pub fn rows_hold_data_sets()
+    ensures { (h : List ℕ) (limits : Limits) (rows : List Row) (message : Message) (syntax : Syntax)
+        → AreOctets message.octets
+        → AllByRecursion (λ (row : Row). IsDataSet (data_set_of row.octets)) rows
+        → AllByRecursion (λ (row : Row). IsDataSet (data_set_of row.octets))
+        (after (by h (stored limits (of h rows) message syntax).1) rows) }
+{
+    spelling_law();
+    editing_law();
+    written_law();
+}

@@ -6,5 +6,6 @@ mod MetFirst
 mod Orders
 mod Queries
 mod Records
+mod StaysSound
 mod Steps
 mod WorkedExamples

@@ -1,10 +1,12 @@
 //! Laws of the worklist. Each function's contract is a law; its body changes nothing.
 ghost use Rattle.std.specs.Prelude.{◌≡◌, ◌≢◌, ℕ, true, false, List, [], ◌∷◌, Some, None, Ok, codes};
+ghost use Rattle.std.specs.List.{AllByRecursion};
 ghost use Rattle.dq_dataset.specs.declared.header.Syntax.{Syntax};
 ghost use Rattle.dq_dataset.specs.declared.header.Syntax.TheVariants.{Explicit};
 ghost use Rattle.dq_dataset.specs.Tree.{ElementList};
 ghost use Rattle.dq_dataset.specs.Reading.{reading};
 ghost use Rattle.dq_dataset.specs.Grammar.{AreOctets};
+ghost use Rattle.dq_dataset.specs.Facts.{IsDataSet};
 ghost use Rattle.dq_list.specs.Among.{IsAmong};
 ghost use Rattle.dq_dimse.specs.Statuses.{success};
 ghost use Rattle.dq_dimse.specs.Received.{Message};
@@ -13,6 +15,8 @@ ghost use Rattle.dq_match.specs.Matching.{fits};
 ghost use Rattle.dq_match.specs.Responses.{shown};
 ghost use Rattle.dq_tables.specs.declared.row.Row.{Row};
 ghost use Rattle.dq_tables.specs.Rows.{Record, Edit, IsRising, as_started, of, by, after, edited};
+ghost use Rattle.dq_tables.specs.Records.{data_set_of};
+ghost use Rattle.dq_tables.specs.Sound.{IsSound};
 ghost use Rattle.dq_worklist.specs.Orders.{Order, read_order, has_entry, scheduled, withdrawn};
 ghost use Rattle.dq_worklist.specs.Answers.{AreAnswers};
 ghost use Rattle.dq_worklist.specs.Examples.{request, steps_of, entry, answer, found_with};
@@ -90,3 +94,32 @@ pub fn an_entry_is_listed_by_its_modality()
     ensures started { listed (as_started entry ∷ []) (request (steps_of (codes "CT"))) Explicit
         ≡ found_with [] }
 {}
+
+/// Sound rows stay sound, whatever octets are scheduled, and whatever is withdrawn.
+pub fn sound_rows_stay_sound()
+    ensures scheduled { (h : List ℕ) (limits : Limits) (rows : List Row) (octets : List ℕ)
+        → AreOctets octets → IsSound rows
+        → IsSound (after (by h (scheduled limits (of h rows) octets).1) rows) }
+    ensures withdrawn { (h : List ℕ) (rows : List Row) (id : List ℕ) → IsSound rows
+        → IsSound (after (by h (withdrawn (of h rows) id).1) rows) }
+{
+    spelling_law();
+    written_law();
+}
+
+/// Rows whose octets spell data sets stay such, whatever octets are scheduled, and whatever is
+/// withdrawn.
+pub fn rows_hold_data_sets()
+    ensures scheduled { (h : List ℕ) (limits : Limits) (rows : List Row) (octets : List ℕ)
+        → AreOctets octets
+        → AllByRecursion (λ (row : Row). IsDataSet (data_set_of row.octets)) rows
+        → AllByRecursion (λ (row : Row). IsDataSet (data_set_of row.octets))
+        (after (by h (scheduled limits (of h rows) octets).1) rows) }
+    ensures withdrawn { (h : List ℕ) (rows : List Row) (id : List ℕ)
+        → AllByRecursion (λ (row : Row). IsDataSet (data_set_of row.octets)) rows
+        → AllByRecursion (λ (row : Row). IsDataSet (data_set_of row.octets))
+        (after (by h (withdrawn (of h rows) id).1) rows) }
+{
+    spelling_law();
+    written_law();
+}

@@ -1,0 +1,176 @@
+-- What holds of rows and stays, whatever step is created or changed: that they are sound, and that each is of a kind.
+use Rattle.std.proofs.Common.{◌≡◌, ℕ, ◌<◌, ◌^◌, Bool, true, false, ◌||◌, nat_lt, List, [], ◌∷◌, ◌++◌, map, length, Option, Some, None, Result, Ok, Err, refl, sym, ◌∙◌, ap, subst, arith}
+use Rattle.std.specs.List.{AllByRecursion}
+use Rattle.std.specs.Option.{option_map}
+use Rattle.std.proofs.lemmas.Bool.Decides.{nat_tests}
+use Rattle.dq_value.specs.Uid.{is_uid}
+use Rattle.dq_dataset.specs.declared.fault.ReadFault.{ReadFault}
+use Rattle.dq_dataset.specs.declared.header.Syntax.{Syntax}
+use Rattle.dq_dataset.specs.declared.header.Syntax.TheVariants.{Explicit}
+use Rattle.dq_dataset.specs.Tree.{ElementList}
+use Rattle.dq_dataset.specs.Reading.{reading}
+use Rattle.dq_dataset.specs.Canonical.{canonical, HasLengths}
+use Rattle.dq_dataset.specs.Editing.{merged}
+use Rattle.dq_dataset.specs.Sieve.{is_over_limit}
+use Rattle.dq_dataset.proofs.Large.{small_has_lengths}
+use Rattle.dq_dimse.specs.Received.{Message}
+use Rattle.dq_dimse.specs.Receiving.{is_over}
+use Rattle.dq_config.specs.Limits.{Limits}
+use Rattle.dq_tables.specs.declared.change.Change.TheVariants.{StepAdded, StepChanged}
+use Rattle.dq_tables.specs.declared.row.Kind.TheVariants.{Step}
+use Rattle.dq_tables.specs.declared.row.Row.{Row}
+use Rattle.dq_tables.specs.Rows.{Record, Edit, Put, Start, IsRising, of, by, after, after_edit, after_edits, place_of, record_of, row_of, rows_before, rows_past, within}
+use Rattle.dq_tables.specs.Finding.{record_at, row_at}
+use Rattle.dq_tables.specs.Serving.{first_refusal, outcome}
+use Rattle.dq_tables.specs.Sound.{IsSound}
+use Rattle.dq_tables.specs.Starting.{entries_named}
+use Rattle.dq_tables.proofs.ByKeys.{find_among}
+use Rattle.dq_tables.proofs.Lens.{rising_edit}
+use Rattle.dq_tables.proofs.Order.{each_appended, each_filtered, is_before, is_past}
+use Rattle.dq_tables.proofs.Rising.{each_among}
+use Rattle.dq_tables.proofs.Seen.{found_own}
+use Rattle.dq_tables.proofs.Soundness.{change_sound}
+use Rattle.dq_tables.proofs.Started.{started, start_keeps}
+use Rattle.dq_mpps.specs.Steps.{data_set_limit, step_record}
+use Rattle.dq_mpps.specs.Creating as creating
+use Rattle.dq_mpps.specs.Creating.{created}
+use Rattle.dq_mpps.specs.Changing.{kept_data_set, is_too_long, attribute_refusals, changed}
+use Rattle.dq_mpps.specs.Views.{step_created, step_changed}
+use Rattle.dq_mpps.proofs.Fitting.{new_step_fits, changed_fits}
+use Rattle.dq_mpps.proofs.Outcomes.{create_over, create_unread, create_unnamed, create_handed_on, refused_by, too_long, changed_to, set_over, set_unread, set_handed_on}
+
+-- ---- what is short
+
+pub short_octets : (message : Message) → is_over data_set_limit message ≡ false → length message.octets < 2 ^ 31
+short_octets message short = by message.over short
+  where
+    by : (over : Bool) → (over || nat_lt data_set_limit (length message.octets)) ≡ false → length message.octets < 2 ^ 31
+    by true e = cc
+    by false e = grind (arith, nat_tests)
+
+short_step : (d : ElementList) → is_too_long d ≡ false → HasLengths Explicit d
+unfolding is_too_long is_over_limit
+short_step d short = small_has_lengths d (grind (arith, nat_tests))
+
+-- ---- the rows afterwards
+
+-- what holds of the rows holds afterwards, if it does after the edits
+module _ (P : List Row → Type 0) (h : List ℕ) (rows : List Row) (holds : P rows) (message : Message) (syntax : Syntax) where
+  abbrev Stays : ℕ × List Edit → Type 0
+  Stays done = P (after (by h done.1) rows)
+
+  abbrev uid : List ℕ
+  uid = message.command.sop_instance
+
+  refused_stays : (done : ℕ × List Edit) (status : ℕ) → done ≡ (status, []) → Stays done
+  refused_stays done status e = subst Stays (sym e) holds
+
+  unless_refused : (refusal : Option ℕ) (done : ℕ × List Edit) → Stays done → Stays (outcome refusal done)
+  unless_refused (Some status) done kept = holds
+  unless_refused None done kept = kept
+
+  module _ (limits : Limits)
+      (keeps : (d : ElementList) → is_over data_set_limit message ≡ false → reading syntax message.octets ≡ Ok d → is_uid uid ≡ true
+      → record_at Step uid (of h rows) ≡ None → P (after (by h (creating.creation (of h rows) uid d)) rows)) where
+    new_stays : (d : ElementList) → is_over data_set_limit message ≡ false → reading syntax message.octets ≡ Ok d → is_uid uid ≡ true
+        → (kept : Option Record) → record_at Step uid (of h rows) ≡ kept → Stays (step_created limits uid d (of h rows))
+    new_stays d short read named (Some r) there = rw there holds
+    new_stays d short read named None free =
+        unless_refused (first_refusal (creating.step_refusals limits (of h rows) uid d)) (0, creating.creation (of h rows) uid d)
+        (keeps d short read named free)
+
+    named_stays : (d : ElementList) → is_over data_set_limit message ≡ false → reading syntax message.octets ≡ Ok d
+        → (named : Bool) → is_uid uid ≡ named → Stays (created limits (of h rows) message syntax)
+    named_stays d short read false other = refused_stays _ _ (create_unnamed limits (of h rows) message syntax d short read other)
+    named_stays d short read true named =
+        subst Stays (sym (create_handed_on limits (of h rows) message syntax d short read named))
+        (new_stays d short read named (record_at Step uid (of h rows)) refl)
+
+    created_of : (r : Result ElementList ReadFault) → is_over data_set_limit message ≡ false → reading syntax message.octets ≡ r
+        → Stays (created limits (of h rows) message syntax)
+    created_of (Ok d) short read = named_stays d short read (is_uid uid) refl
+    created_of (Err fault) short read = refused_stays _ _ (create_unread limits (of h rows) message syntax short (rw read refl))
+
+    created_by : (long : Bool) → is_over data_set_limit message ≡ long → Stays (created limits (of h rows) message syntax)
+    created_by true long = refused_stays _ _ (create_over limits (of h rows) message syntax long)
+    created_by false short = created_of (reading syntax message.octets) short refl
+
+    pub created_stays : P (after (by h (created limits (of h rows) message syntax).1) rows)
+    created_stays = created_by (is_over data_set_limit message) refl
+
+  module _ (keeps : (d : ElementList) → reading syntax message.octets ≡ Ok d → (r : Record) → record_at Step uid (of h rows) ≡ Some r
+      → HasLengths Explicit (merged (kept_data_set (Some r)) d)
+      → P (after (by h (Put (step_record uid (merged (kept_data_set (Some r)) d)) ∷ [])) rows)) where
+    short_stays : (d : ElementList) → reading syntax message.octets ≡ Ok d → (r : Record) → record_at Step uid (of h rows) ≡ Some r
+        → first_refusal (attribute_refusals (kept_data_set (Some r)) d) ≡ None
+        → (long : Bool) → is_too_long (merged (kept_data_set (Some r)) d) ≡ long → Stays (step_changed uid d (Some r))
+    short_stays d read r there clear true long = refused_stays _ _ (too_long uid d r (kept_data_set (Some r)) refl clear long)
+    short_stays d read r there clear false short =
+        let step = merged (kept_data_set (Some r)) d in
+        subst Stays (sym (changed_to uid d r (kept_data_set (Some r)) refl clear short (canonical Explicit step) refl))
+        (keeps d read r there (short_step step short))
+
+    clear_stays : (d : ElementList) → reading syntax message.octets ≡ Ok d → (r : Record) → record_at Step uid (of h rows) ≡ Some r
+        → (refusal : Option ℕ) → first_refusal (attribute_refusals (kept_data_set (Some r)) d) ≡ refusal → Stays (step_changed uid d (Some r))
+    clear_stays d read r there (Some status) refused = refused_stays _ status (refused_by uid d r (kept_data_set (Some r)) refl status refused)
+    clear_stays d read r there None clear = short_stays d read r there clear (is_too_long (merged (kept_data_set (Some r)) d)) refl
+
+    step_stays : (d : ElementList) → reading syntax message.octets ≡ Ok d
+        → (kept : Option Record) → record_at Step uid (of h rows) ≡ kept → Stays (step_changed uid d kept)
+    step_stays d read None none = holds
+    step_stays d read (Some r) there = clear_stays d read r there (first_refusal (attribute_refusals (kept_data_set (Some r)) d)) refl
+
+    changed_of : (r : Result ElementList ReadFault) → is_over data_set_limit message ≡ false → reading syntax message.octets ≡ r
+        → Stays (changed (of h rows) message syntax)
+    changed_of (Ok d) short read =
+        subst Stays (sym (set_handed_on (of h rows) message syntax d short read)) (step_stays d read (record_at Step uid (of h rows)) refl)
+    changed_of (Err fault) short read = refused_stays _ _ (set_unread (of h rows) message syntax short (rw read refl))
+
+    changed_by : (long : Bool) → is_over data_set_limit message ≡ long → Stays (changed (of h rows) message syntax)
+    changed_by true long = refused_stays _ _ (set_over (of h rows) message syntax long)
+    changed_by false short = changed_of (reading syntax message.octets) short refl
+
+    pub changed_stays : P (after (by h (changed (of h rows) message syntax).1) rows)
+    changed_stays = changed_by (is_over data_set_limit message) refl
+
+-- ---- that they are sound
+
+module _ (h : List ℕ) (rows : List Row) (sound : IsSound rows) (uid : List ℕ) (d : ElementList) (back : reading Explicit (canonical Explicit d) ≡ Ok d) where
+  pub new_sound : is_uid uid ≡ true → record_at Step uid (of h rows) ≡ None → IsSound (after (by h (creating.creation (of h rows) uid d)) rows)
+  new_sound named free =
+      let keys = entries_named (of h rows) d in
+      change_sound rows (StepAdded (row_of h (step_record uid d)) keys) sound (new_step_fits h uid d rows keys back named free refl)
+
+  pub changed_sound : (r : Record) → record_at Step uid (of h rows) ≡ Some r → IsSound (after (by h (Put (step_record uid d) ∷ [])) rows)
+  changed_sound r there =
+      let found = sym (found_own Step h uid rows ∙ ap (option_map (row_of h)) there) in
+      change_sound rows (StepChanged (row_of h (step_record uid d))) sound
+      (changed_fits h uid d (canonical Explicit d) rows (row_of h r) sound.own found refl back)
+
+-- ---- that each is of a kind
+
+module _ (Each : Row → Type 0) where
+  pub each_put : (h : List ℕ) (r : Record) (rows : List Row) → AllByRecursion Each rows → Each (row_of h r)
+      → AllByRecursion Each (after_edit h (Put r) rows)
+  unfolding after_edit
+  each_put h r rows all new =
+      let p = within h (place_of r) in
+      each_appended Each (rows_before p rows ++ row_of h r ∷ []) (rows_past p rows)
+      (each_appended Each (rows_before p rows) (row_of h r ∷ []) (each_filtered Each (is_before p) rows all) (new, tt))
+      (each_filtered Each (is_past p) rows all)
+
+  -- the row that is found is one of them
+  pub each_found : (h uid : List ℕ) (rows : List Row) (r : Record) → AllByRecursion Each rows → record_at Step uid (of h rows) ≡ Some r → Each (row_of h r)
+  unfolding row_at
+  each_found h uid rows r all there =
+      each_among Each (row_of h r) rows all
+      (find_among _ (row_of h r) rows (found_own Step h uid rows ∙ ap (option_map (row_of h)) there)).0
+
+  module _ (as_before : (row : Row) → Each row → Each (started row)) where
+    pub each_started : (h : List ℕ) (keys : List (List ℕ)) (rows : List Row) → IsRising rows → AllByRecursion Each rows
+        → AllByRecursion Each (after_edits h (map Start keys) rows)
+    each_started h [] rows rising all = all
+    each_started h (key ∷ keys) rows rising all =
+        each_started h keys (after_edit h (Start key) rows) (rising_edit h (Start key) rows rising)
+        (start_keeps (AllByRecursion Each) h key rows rising all
+        (λ row kind among. each_put row.inst (record_of (started row)) rows all (as_before row (each_among Each row rows all among))))
