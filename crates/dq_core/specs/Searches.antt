@@ -59,11 +59,6 @@ pub record Brings (institutions : List Institution) (world : World) (c : Connect
   pub has : (first_answer_by i institutions world c before).next.records ≡ records
   pub none_open : (first_answer_by i institutions world c before).next.query ≡ None
 
--- octets stand in a reply on a connection
-abbrev pub HasOctets : ℕ → List ℕ → Reply → Type 0
-HasOctets number octets reply = (front : List ℕ) × (back : List ℕ) × (close : Bool)
-    × (reply ≡ Octets number (front ++ octets ++ back) close)
-
 -- The same while a C-FIND is open.
 pub record BringsBehind (institutions : List Institution) (world : World) (c : Connection)
     (piece : List ℕ) (i : Institution) (agreement : Agreement) (records : List Record)
@@ -76,6 +71,11 @@ pub record BringsBehind (institutions : List Institution) (world : World) (c : C
   pub agreed : (first_answer_by i institutions world c before).next.agreement ≡ Some agreement
   pub has : (first_answer_by i institutions world c before).next.records ≡ records
   pub still_open : (first_answer_by i institutions world c before).next.query ≡ Some earlier
+
+-- octets stand in a reply on a connection
+abbrev pub HasOctets : ℕ → List ℕ → Reply → Type 0
+HasOctets number octets reply = (front : List ℕ) × (back : List ℕ) × (close : Bool)
+    × (reply ≡ Octets number (front ++ octets ++ back) close)
 
 -- Records are an institution's in sound rows: those after the first of some operations.
 pub record AreAmong (rows : List Row) (operations : List Operation) (institution : List ℕ)

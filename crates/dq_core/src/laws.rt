@@ -421,7 +421,8 @@ pub fn what_a_crash_leaves()
     rows_stay_in_order();
 }
 
-/// Each service keeps sound rows sound, whatever octets it is sent, and what rows hold data sets.
+/// Each service keeps rows sound that are sound and hold data sets, whatever octets it is sent, and
+/// they hold data sets then, too.
 pub fn services_keep_rows_sound()
     ensures storing { (name : List ℕ) (limits : Limits) (rows : List Row) (message : Message)
         (syntax : Syntax) → AreOctets message.octets → HoldSound rows →
@@ -589,7 +590,7 @@ pub fn looks_are_one_look<T: Tables>()
 /// On worked examples, octet for octet: over no rows a query for all studies is answered with 0000
 /// alone, and one at a level that there is not with A900; a C-STORE without a data set with A900, and
 /// on Verification with 0211; a study is found at the institution that keeps it, and not at another;
-/// and so is a server of one institution alone.
+/// and the server of one institution alone answers such events, and an order, in the same way.
 pub fn examples_are_answered_octet_for_octet()
     ensures nothing_found { replies built_in [] (example.history
         (example.four_contexts ∷ example.find_studies ∷ []))
