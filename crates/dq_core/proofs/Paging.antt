@@ -1,11 +1,16 @@
 -- Pages of the responses to a C-FIND: what so many of them bring, and what is left.
-use Rattle.std.proofs.Common.{◌≡◌, ℕ, zero, suc, ◌+◌, ◌*◌, ◌≤◌, Bool, true, false, nat_le, List, [], ◌∷◌, ◌++◌, length, take, drop, Some, None, refl, sym, ap, ◌∙◌, arith, append_assoc, length-append, drop-drop}
+use Rattle.std.proofs.Common.{◌≡◌, ℕ, zero, suc, ◌+◌, ◌*◌, ◌≤◌, Bool, true, false, nat_le, List, [], ◌∷◌, ◌++◌, length, take, drop, Option, Some, None, refl, sym, ap, ◌∙◌, arith, append_assoc, length-append, drop-drop}
 use Rattle.std.proofs.lemmas.Bool.Decides.{nat_tests}
 use Rattle.std.proofs.lemmas.Grind.{flat_map-append}
 use Rattle.std.proofs.lemmas.List.{append-nil, take-append-drop, length-drop, length-take}
 use Rattle.std.proofs.Math.Seq.{take-add}
+use Rattle.dq_config.specs.declared.config.Institution.{Institution}
+use Rattle.dq_core.specs.declared.event.Event.TheVariants as event
 use Rattle.dq_core.specs.Services.{Response}
-use Rattle.dq_core.specs.Pages.{OpenQuery, page_length, response_octets, octets_of, rest, without_first, page, pages, after_pages}
+use Rattle.dq_core.specs.Pages.{OpenQuery, page_length, response_octets, octets_of, rest, without_first, page, next_page, pages, after_pages}
+use Rattle.dq_core.specs.Connections.{Connection, connection_in, with_query}
+use Rattle.dq_core.specs.Shared.{World, turn, pull_turn}
+use Rattle.dq_core.proofs.isolation.Lists.{found-number, found-with, others-found}
 
 pub nothing-more : (count : ℕ) → (pages count None ≡ []) × (after_pages count None ≡ None)
 nothing-more zero = (refl, refl)
@@ -90,3 +95,19 @@ most-by query false h =
 
 pub most : (query : OpenQuery) → (responses : List Response) × ((page query).octets ≡ octets_of query responses) × (length responses ≤ page_length + 1)
 most query = most-by query (nat_le (length query.left.pending) page_length) refl
+
+-- ---- what a pull leaves
+
+pub pull-left : (institutions : List Institution) (world : World) (c : Connection) → connection_in c.number world.connections ≡ Some c
+    → connection_in c.number (turn institutions world (event.Pull c.number)).connections ≡ Some (with_query (next_page c.query).query c)
+pull-left institutions world c held = rw held (found-with (with_query (next_page c.query).query c) world.connections c held)
+
+others-left : (world : World) (pulled number : ℕ) → (number ≡ pulled → ⊥) → (o : Option Connection) → connection_in pulled world.connections ≡ o
+    → connection_in number (pull_turn world o).connections ≡ connection_in number world.connections
+others-left world pulled number h None e = refl
+others-left world pulled number h (Some c) e =
+    others-found (with_query (next_page c.query).query c) number world.connections (λ same. h (same ∙ found-number pulled world.connections c e))
+
+pub pull-others : (institutions : List Institution) (world : World) (pulled number : ℕ) → (number ≡ pulled → ⊥)
+    → connection_in number (turn institutions world (event.Pull pulled)).connections ≡ connection_in number world.connections
+pull-others institutions world pulled number h = others-left world pulled number h (connection_in pulled world.connections) refl

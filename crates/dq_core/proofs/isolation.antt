@@ -19,3 +19,6 @@ pub mod Living
 pub mod Searching
 pub mod Succeeding
 pub mod WorkedExamples
+pub mod Octets
+pub mod Keeping
+pub mod Soundness

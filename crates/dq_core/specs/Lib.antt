@@ -20,3 +20,5 @@ pub mod Tallies
 pub mod Slots
 pub mod Standing
 pub mod Looking
+pub mod Examples
+pub mod Soundness

@@ -1,5 +1,5 @@
 -- What is said of a C-FIND over what the plain server answers (PS3.4 sections C.4.1 and K.4.1).
-use Rattle.std.specs.Prelude.{◌≡◌, ℕ, Bool, false, List, ◌∷◌, ◌++◌, map, None, Some}
+use Rattle.std.specs.Prelude.{◌≡◌, ℕ, Bool, false, List, ◌∷◌, ◌++◌, map, take, None, Some}
 use Rattle.dq_dataset.specs.Tree.{ElementList}
 use Rattle.dq_dimse.specs.declared.command.Command.{Command}
 use Rattle.dq_dimse.specs.Received.{Message}
@@ -10,14 +10,17 @@ use Rattle.dq_assoc.specs.Negotiation.{context_of}
 use Rattle.dq_assoc.specs.Table.{Input, Sent}
 use Rattle.dq_config.specs.declared.config.Institution.{Institution}
 use Rattle.dq_config.specs.Limits.{Limits, limits_of}
-use Rattle.dq_tables.specs.Rows.{Record, of}
+use Rattle.dq_tables.specs.declared.row.Row.{Row}
+use Rattle.dq_tables.specs.Rows.{Record, of, Operation, after_all}
 use Rattle.dq_core.specs.declared.event.Reply.{Reply}
 use Rattle.dq_core.specs.declared.event.Reply.TheVariants.{Octets}
+use Rattle.dq_core.specs.Pages.{OpenQuery}
 use Rattle.dq_core.specs.Services.{Response, pending_response, served}
 use Rattle.dq_core.specs.Answers.{Answer, answers, progress_of, inputs_added, verdict_at}
 use Rattle.dq_core.specs.Connections.{Connection}
 use Rattle.dq_core.specs.Owners.{owner, live_of}
 use Rattle.dq_core.specs.Shared.{World}
+use Rattle.dq_core.specs.Soundness.{HoldSound}
 
 -- A message on an accepted context is answered with some pending responses, and then with one that
 -- has the status 0000.
@@ -56,7 +59,27 @@ pub record Brings (institutions : List Institution) (world : World) (c : Connect
   pub has : (first_answer_by i institutions world c before).next.records ≡ records
   pub none_open : (first_answer_by i institutions world c before).next.query ≡ None
 
+-- The same while a C-FIND is open.
+pub record BringsBehind (institutions : List Institution) (world : World) (c : Connection)
+    (piece : List ℕ) (i : Institution) (agreement : Agreement) (records : List Record)
+    (earlier : OpenQuery) (message : Message) : Type 0 where
+  pub owned : owner institutions (c.stream ++ piece) ≡ Some i
+  pub before : List Input
+  pub later : List Input
+  pub inputs : inputs_added c.stream piece ≡ before ++ Sent message ∷ later
+  pub goes_on : (first_answer_by i institutions world c before).close ≡ false
+  pub agreed : (first_answer_by i institutions world c before).next.agreement ≡ Some agreement
+  pub has : (first_answer_by i institutions world c before).next.records ≡ records
+  pub still_open : (first_answer_by i institutions world c before).next.query ≡ Some earlier
+
 -- octets stand in a reply on a connection
 abbrev pub HasOctets : ℕ → List ℕ → Reply → Type 0
 HasOctets number octets reply = (front : List ℕ) × (back : List ℕ) × (close : Bool)
     × (reply ≡ Octets number (front ++ octets ++ back) close)
+
+-- Records are an institution's in sound rows: those after the first of some operations.
+pub record AreAmong (rows : List Row) (operations : List Operation) (institution : List ℕ)
+    (records : List Record) : Type 0 where
+  pub count : ℕ
+  pub sound : HoldSound (after_all (take count operations) rows)
+  pub own : records ≡ of institution (after_all (take count operations) rows)

@@ -15,19 +15,16 @@ ghost use Rattle.dq_core.specs.Connections.{Connection, connection_in, is_pendin
 ghost use Rattle.dq_core.specs.Histories.{is_above};
 ghost use Rattle.dq_core.specs.Shared.{World, turn};
 ghost use Rattle.dq_core.specs.Stepping.{Goes, MayLeave, IsPartOf};
-ghost use Rattle.dq_core.specs.Doing.{Did, DidPart, Taken as Pure};
 ghost use Rattle.dq_core.specs.Tallies.{IsTallied, tallied, retallied_by};
-ghost use Rattle.dq_core.specs.Queries.{query_in};
-ghost use Rattle.dq_core.specs.Slots.{AreHeld, IsHeld, IsTaken, StandsAt, Turned, Took, answer_of, owner_at, verdict_for, without_home};
+ghost use Rattle.dq_core.specs.Slots.{AreHeld, IsHeld, StandsAt, Turned, Took, owner_at, verdict_for, without_home};
 
 use crate::event::Reply;
 use crate::fault::Fault;
-use crate::pages::OpenQuery;
-use crate::service::{Answered, Provider, answer_unserved};
+use crate::service::Host;
 use crate::slot::{Called, Slot, Taken};
 use crate::tally::Tally;
+use dq_assoc::Verdict;
 use dq_assoc::laws::{a_longer_stream_adds_inputs, an_association_after_pdus};
-use dq_assoc::{Agreement, Verdict};
 use dq_config::laws::{a_name_is_of_one, a_pair_is_of_one};
 use dq_config::{Config, Institution};
 use dq_list::Listed;
@@ -199,7 +196,12 @@ impl Connections {
         let is_open = stays_open(slot, close);
         let agreement = slot.association.agreement();
         let query = slot.query.take();
-        let answered = answer_taken(alloc, institution, agreement, query, taken, tables)?;
+        let host = Host {
+            alloc,
+            institution,
+            agreement,
+        };
+        let answered = host.answer(query, taken, tables)?;
         slot.query = answered.query;
         retally(
             &self.config,
@@ -382,42 +384,6 @@ fn take_piece<'a>(
     };
     let taken = slot.take(alloc, called, fed)?;
     Ok((institution, taken))
-}
-
-/// Answers what was taken: by the institution that has the connection, where one has and something
-/// is agreed on it.
-fn answer_taken<T: Tables>(
-    alloc: Global,
-    institution: Option<&Institution>,
-    agreement: Option<&Agreement>,
-    query: Option<OpenQuery>,
-    taken: Taken,
-    tables: &mut T,
-) -> Result<Answered, Fault>
-    ensures goes { Goes (T.state tables.old) (T.state tables.new) result }
-    ensures does { (T.state tables.new).honest → (t : Pure) →
-        IsTaken (option_copied agreement.entry) taken t → IfOk result (λ given.
-        Did (option_copied institution.entry) (answer_of (option_copied institution.entry)
-        (T.state tables.old).rows (option_copied agreement.entry) (query_in query) t)
-        (T.state tables.old).rows (T.state tables.new).rows [] given.octets.items
-        (query_in given.query)) }
-    ensures stops { (T.state tables.new).honest → (t : Pure) →
-        IsTaken (option_copied agreement.entry) taken t → OnErr result (
-        DidPart (option_copied institution.entry) (answer_of (option_copied institution.entry)
-        (T.state tables.old).rows (option_copied agreement.entry) (query_in query) t)
-        (T.state tables.old).rows (T.state tables.new).rows
-        (MayLeave (T.state tables.old) (T.state tables.new))) }
-    ensures fault { IfErr result (λ fault. fault ≢ Fault.Stopped) }
-{
-    let (Some(institution), Some(agreement)) = (institution, agreement) else {
-        return Ok(answer_unserved(query, taken)?);
-    };
-    let provider = Provider {
-        alloc,
-        institution,
-        agreement,
-    };
-    provider.answer(query, taken, tables)
 }
 
 fn octets_reply(number: u64, octets: Vec<u8>, close: bool) -> Reply

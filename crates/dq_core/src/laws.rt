@@ -1,11 +1,11 @@
 //! Laws of the plain server. Each function's contract is a law; its body does nothing.
 
-ghost use Rattle.std.specs.Prelude.{◌≡◌, ◌≤◌, ◌+◌, ◌*◌, ◌⊎◌, ◌↔◌, ℕ, suc, Bool, false, IsTrue, Ok, List, [], ◌∷◌, ◌++◌, length, take, filter, map, Contains, Some, None};
+ghost use Rattle.std.specs.Prelude.{◌≡◌, ◌≢◌, ◌≤◌, ◌+◌, ◌*◌, ◌⊎◌, ◌↔◌, ℕ, suc, Bool, false, IsTrue, Ok, List, [], ◌∷◌, ◌++◌, length, take, filter, map, Contains, Some, None, codes};
 ghost use Rattle.dq_pdu.specs.declared.pdu.Request.{Request};
 ghost use Rattle.dq_assoc.specs.declared.association.Verdict.{Verdict};
 ghost use Rattle.dq_assoc.specs.Inputs.{inputs};
 ghost use Rattle.dq_tables.specs.declared.row.Row.{Row};
-ghost use Rattle.dq_tables.specs.Rows.{Record, of};
+ghost use Rattle.dq_tables.specs.Rows.{Record, of, by, after, after_all};
 ghost use Rattle.dq_config.specs.declared.config.Institution.{Institution};
 ghost use Rattle.dq_core.specs.declared.event.Event.{Event};
 ghost use Rattle.dq_config.specs.Conditions.{is_sound};
@@ -19,13 +19,17 @@ ghost use Rattle.dq_core.specs.Histories.{is_well_formed, opened_numbers};
 ghost use Rattle.dq_core.specs.Runs.{IsRun, IsLeftOf, IsOwnRun};
 ghost use Rattle.dq_core.specs.declared.event.Reply.{Reply};
 ghost use Rattle.dq_core.specs.Accepted.{AreOpen};
-ghost use Rattle.dq_core.specs.Connections.{Connection, connection_in, with_piece};
+ghost use Rattle.dq_core.specs.Connections.{Connection, connection_in, with_piece, with_query};
+ghost use Rattle.std.specs.List.{AllByRecursion};
 ghost use Rattle.std.specs.List.Sorted.{IsStrictlyIncreasing};
 ghost use Rattle.dq_assoc.specs.declared.association.State.TheVariants.{Waiting, Open};
 ghost use Rattle.dq_assoc.specs.Table.{Requested, line};
 ghost use Rattle.dq_core.specs.Isolation.{own_replies, stranger_replies, Begins, Agree, IsPrefix};
 ghost use Rattle.dq_core.specs.Renumbering.{KeepsOrder, renumbered, renumbered_reply, AgreeButForNumbers};
+ghost use Rattle.dq_dataset.specs.declared.header.Syntax.{Syntax};
+ghost use Rattle.dq_dataset.specs.Grammar.{AreOctets};
 ghost use Rattle.dq_dataset.specs.Tree.{ElementList};
+ghost use Rattle.dq_dimse.specs.CommandFields.{c_cancel};
 ghost use Rattle.dq_dimse.specs.Received.{Message};
 ghost use Rattle.dq_dimse.specs.Statuses.{success};
 ghost use Rattle.dq_assoc.specs.declared.agreement.AgreedContext.{AgreedContext};
@@ -35,12 +39,19 @@ ghost use Rattle.dq_assoc.specs.Classes.{service_of};
 ghost use Rattle.dq_find.specs.declared.query.Query.{Query};
 ghost use Rattle.dq_find.specs.Queries as study;
 ghost use Rattle.dq_worklist.specs.Queries as worklist;
-ghost use Rattle.dq_core.specs.Services.{Response, refusal_for, outcome_on, served};
-ghost use Rattle.dq_core.specs.Searches.{Succeeds, ArePending, Brings, HasOctets};
-ghost use Rattle.dq_core.specs.declared.event.Reply.TheVariants.{Octets};
+ghost use Rattle.dq_core.specs.Services.{Response, Order, refusal_for, outcome_on, served, ordered};
+ghost use Rattle.dq_core.specs.Soundness.{HoldSound, HoldsOctets, BringsOctets, BringOctets, CameAsOctets};
+ghost use Rattle.dq_core.specs.Searches.{Succeeds, ArePending, Brings, BringsBehind, AreAmong, HasOctets};
+ghost use Rattle.dq_core.specs.declared.event.Reply.TheVariants.{Octets, Done};
+ghost use Rattle.dq_core.specs.Examples as example;
+ghost use Rattle.dq_config.specs.Document.{built_in};
 ghost use Rattle.dq_core.specs.Pages.{OpenQuery, page_length, octets_of, rest, without_first, page, next_page, pages, after_pages, query_by};
 ghost use Rattle.dq_find.specs.Answers as study_answers;
 ghost use Rattle.dq_worklist.specs.Answers as worklist_answers;
+ghost use Rattle.dq_worklist.specs.Orders.{scheduled, withdrawn};
+ghost use Rattle.dq_mpps.specs.Creating.{created};
+ghost use Rattle.dq_mpps.specs.Changing.{changed};
+ghost use Rattle.dq_store.specs.Storing.{stored};
 ghost use Rattle.dq_tables.specs.Sound.{IsSound};
 ghost use Rattle.dq_core.specs.Shared.{World};
 ghost use Rattle.dq_core.specs.Standing.{Standing};
@@ -48,10 +59,21 @@ ghost use Rattle.dq_core.specs.Looking.{Looked};
 
 use dq_assoc::laws::{a_longer_stream_adds_inputs, the_last_input_closes};
 use dq_config::laws::a_name_is_of_one;
+use dq_dataset::laws::spelling_law;
 use dq_find::laws::answers_are_the_matching_records_in_order as study_answers_in_order;
+use dq_mpps::laws::{
+    rows_hold_data_sets as steps_hold_data_sets, sound_rows_stay_sound as steps_stay_sound,
+};
+use dq_store::laws::{
+    rows_hold_data_sets as stored_rows_hold_data_sets,
+    sound_rows_stay_sound as stored_rows_stay_sound,
+};
 use dq_tables::Tables;
 use dq_tables::laws::{other_records_stay, own_records_are_edited, rows_stay_in_order};
-use dq_worklist::laws::answers_are_the_matching_records_in_order as worklist_answers_in_order;
+use dq_worklist::laws::{
+    answers_are_the_matching_records_in_order as worklist_answers_in_order,
+    rows_hold_data_sets as entries_hold_data_sets, sound_rows_stay_sound as entries_stay_sound,
+};
 
 /// The replies to a history are the replies to each event in turn: there is one for each event, and
 /// what comes later does not change it.
@@ -399,6 +421,69 @@ pub fn what_a_crash_leaves()
     rows_stay_in_order();
 }
 
+/// Each service keeps rows sound that are sound and hold data sets, whatever octets it is sent, and
+/// they hold data sets then, too.
+pub fn services_keep_rows_sound()
+    ensures storing { (name : List ℕ) (limits : Limits) (rows : List Row) (message : Message)
+        (syntax : Syntax) → AreOctets message.octets → HoldSound rows →
+        HoldSound (after (by name (stored limits (of name rows) message syntax).1) rows) }
+    ensures creating { (name : List ℕ) (limits : Limits) (rows : List Row) (message : Message)
+        (syntax : Syntax) → AreOctets message.octets → HoldSound rows →
+        HoldSound (after (by name (created limits (of name rows) message syntax).1) rows) }
+    ensures changing { (name : List ℕ) (rows : List Row) (message : Message)
+        (syntax : Syntax) → AreOctets message.octets → HoldSound rows →
+        HoldSound (after (by name (changed (of name rows) message syntax).1) rows) }
+    ensures scheduling { (name : List ℕ) (limits : Limits) (rows : List Row) (octets : List ℕ) →
+        AreOctets octets → HoldSound rows →
+        HoldSound (after (by name (scheduled limits (of name rows) octets).1) rows) }
+    ensures withdrawing { (name : List ℕ) (rows : List Row) (id : List ℕ) → HoldSound rows →
+        HoldSound (after (by name (withdrawn (of name rows) id).1) rows) }
+{
+    stored_rows_stay_sound();
+    stored_rows_hold_data_sets();
+    steps_stay_sound();
+    steps_hold_data_sets();
+    entries_stay_sound();
+    entries_hold_data_sets();
+}
+
+/// So does the server, whatever octets it is sent: rows stay sound, and hold data sets, after a
+/// message and after an order, after the first operations of an event, after a history and within
+/// it, and so after a run that a fault ends. At first there are no rows, which are sound, as are all
+/// sound rows of octets.
+pub fn rows_stay_sound()
+    ensures at_first { HoldSound [] }
+    ensures of_octets { (rows : List Row) → IsSound rows →
+        AllByRecursion (λ (row : Row). AreOctets row.octets) rows → HoldSound rows }
+    ensures message { (name : List ℕ) (rows : List Row) (limits : Limits)
+        (agreement : Agreement) (message : Message) → AreOctets message.octets → HoldSound rows →
+        HoldSound (after (by name (served limits (of name rows) agreement message).edits) rows) }
+    ensures order { (name : List ℕ) (rows : List Row) (limits : Limits) (order : Order) →
+        HoldsOctets order → HoldSound rows →
+        HoldSound (after (by name (ordered limits (of name rows) order).edits) rows) }
+    ensures event { (institutions : List Institution) (world : World) (event : Event)
+        (operations : ℕ) → CameAsOctets world.connections → BringsOctets event →
+        HoldSound world.rows →
+        HoldSound (after_all (take operations (turn institutions world event).operations)
+        world.rows) }
+    ensures history { (institutions : List Institution) (rows : List Row) (events : List Event) →
+        BringOctets events → HoldSound rows →
+        HoldSound (world_after institutions rows events).rows }
+    // What came on the connections that are held afterwards were octets, too.
+    ensures came { (institutions : List Institution) (rows : List Row) (events : List Event) →
+        BringOctets events → CameAsOctets (world_after institutions rows events).connections }
+    ensures within { (institutions : List Institution) (rows : List Row) (events : List Event)
+        (answered operations : ℕ) → BringOctets events → HoldSound rows →
+        HoldSound (rows_within institutions rows events answered operations) }
+    ensures run { (institutions : List Institution) (rows : List Row) (events : List Event)
+        (given : List Reply) (kept : List Row) → IsRun institutions rows events given kept →
+        BringOctets events → HoldSound rows → HoldSound kept }
+{
+    own_records_are_edited();
+    spelling_law();
+    services_keep_rows_sound();
+}
+
 /// The pending responses of a C-FIND that ends with 0000 are the answers to its query, each in its
 /// own response, in the order of the records' keys: what is told of the records that match, over
 /// the rows that there are as the message is served. In the reply to the piece that brings the
@@ -428,9 +513,38 @@ pub fn searches_end_with_their_answers()
         HasOctets c.number (next_page (query_by agreement message
         (served (limits_of i) records agreement message).responses)).octets
         (turn institutions world (Event.Piece c.number piece)).reply }
+    // Behind a C-FIND that is open all that is left of that comes first.
+    ensures in_reply_behind { (institutions : List Institution) (world : World) (c : Connection)
+        (piece : List ℕ) (i : Institution) (agreement : Agreement) (records : List Record)
+        (earlier : OpenQuery) (message : Message) →
+        connection_in c.number world.connections ≡ Some c →
+        BringsBehind institutions world c piece i agreement records earlier message →
+        message.command.code ≢ c_cancel →
+        HasOctets c.number (rest earlier ++ (next_page (query_by agreement message
+        (served (limits_of i) records agreement message).responses)).octets)
+        (turn institutions world (Event.Piece c.number piece)).reply }
+    // These records are the institution's in rows that are sound, so that the first clauses speak of
+    // them: those after the operations of the messages before it.
+    ensures among_rows { (institutions : List Institution) (world : World) (c : Connection)
+        (piece : List ℕ) (i : Institution) (agreement : Agreement) (records : List Record)
+        (message : Message) → connection_in c.number world.connections ≡ Some c →
+        AreOctets c.stream → AreOctets piece → HoldSound world.rows →
+        Brings institutions world c piece i agreement records message →
+        AreAmong world.rows (turn institutions world (Event.Piece c.number piece)).operations
+        i.name records }
+    ensures among_rows_behind { (institutions : List Institution) (world : World)
+        (c : Connection) (piece : List ℕ) (i : Institution) (agreement : Agreement)
+        (records : List Record) (earlier : OpenQuery) (message : Message) →
+        connection_in c.number world.connections ≡ Some c →
+        AreOctets c.stream → AreOctets piece → HoldSound world.rows →
+        BringsBehind institutions world c piece i agreement records earlier message →
+        AreAmong world.rows (turn institutions world (Event.Piece c.number piece)).operations
+        i.name records }
 {
     study_answers_in_order();
     worklist_answers_in_order();
+    own_records_are_edited();
+    services_keep_rows_sound();
 }
 
 /// Pages, one after the other, are the responses to a C-FIND: each once, in order, and the final
@@ -455,6 +569,15 @@ pub fn pages_are_the_responses()
         connection_in c.number world.connections ≡ Some c →
         (turn institutions world (Event.Pull c.number)).reply
         ≡ Octets c.number (next_page c.query).octets false }
+    // What is then left of its C-FIND is open on it; every other connection is as it was.
+    ensures left { (institutions : List Institution) (world : World) (c : Connection) →
+        connection_in c.number world.connections ≡ Some c →
+        connection_in c.number (turn institutions world (Event.Pull c.number)).connections
+        ≡ Some (with_query (next_page c.query).query c) }
+    ensures others { (institutions : List Institution) (world : World) (pulled number : ℕ) →
+        number ≢ pulled →
+        connection_in number (turn institutions world (Event.Pull pulled)).connections
+        ≡ connection_in number world.connections }
 {}
 
 /// Two looks at a server are as one, and no look is as one.
@@ -462,4 +585,36 @@ pub fn looks_are_one_look<T: Tables>()
     ensures no_look { (server : Standing T) → Looked T.state server server }
     ensures another { (old mid new : Standing T) → Looked T.state old mid →
         Looked T.state mid new → Looked T.state old new }
+{}
+
+/// On worked examples, octet for octet: over no rows a query for all studies is answered with 0000
+/// alone, and one at a level that there is not with A900; a C-STORE without a data set with A900, and
+/// on Verification with 0211; a study is found at the institution that keeps it, and not at another;
+/// and the server of one institution alone answers such events, and an order, in the same way.
+pub fn examples_are_answered_octet_for_octet()
+    ensures nothing_found { replies built_in [] (example.history
+        (example.four_contexts ∷ example.find_studies ∷ []))
+        ≡ Done ∷ example.answered example.four_results
+        ∷ example.answered (example.find_status 0x0000) ∷ [] }
+    ensures no_level { replies built_in [] (example.history
+        (example.four_contexts ∷ example.find_level (codes "VISIT ") ∷ []))
+        ≡ Done ∷ example.answered example.four_results
+        ∷ example.answered (example.find_status 0xa900) ∷ [] }
+    ensures no_data_set { replies built_in [] (example.history
+        (example.four_contexts ∷ example.store_on 3 ∷ []))
+        ≡ Done ∷ example.answered example.four_results
+        ∷ example.answered (example.store_status 3 0xa900) ∷ [] }
+    ensures no_operation { replies built_in [] (example.history
+        (example.request example.modality ∷ example.store_on 1 ∷ []))
+        ≡ Done ∷ example.answered (example.accepted example.modality)
+        ∷ example.answered (example.response 0x8001 0x0211) ∷ [] }
+    ensures found { replies (example.two 4) (example.kept_study ∷ []) (example.history
+        (example.find_request example.ct1 ∷ example.find_uids ∷ []))
+        ≡ Done ∷ example.answered (example.find_accepted example.ct1)
+        ∷ example.answered (example.found_study ++ example.find_status 0x0000) ∷ [] }
+    ensures another { replies (example.two 4) (example.kept_study ∷ []) (example.history
+        (example.find_request example.ct2 ∷ example.find_uids ∷ []))
+        ≡ Done ∷ example.answered (example.find_accepted example.ct2)
+        ∷ example.answered (example.find_status 0x0000) ∷ [] }
+    ensures alone { alone_replies example.limits [] example.own_history ≡ example.own_answers }
 {}

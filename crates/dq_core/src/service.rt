@@ -1,6 +1,7 @@
 //! What messages are answered with, by the service of their context.
 
 ghost use Rattle.std.specs.Prelude.{◌≡◌, ◌≢◌, ◌++◌, [], List, true, IfOk, IfErr, OnErr, None, Some};
+ghost use Rattle.std.specs.Option.{option_copied};
 ghost use Rattle.dq_dimse.specs.Holding.{StandForAll, StandsFor, StandsOn, plain_message};
 ghost use Rattle.dq_dimse.specs.Received.{Message as Received};
 ghost use Rattle.dq_assoc.specs.Classes.{service_of};
@@ -12,7 +13,7 @@ ghost use Rattle.dq_core.specs.Services.{has_operation, refusal_for, status_alon
 ghost use Rattle.dq_core.specs.Stepping.{Goes, MayLeave};
 ghost use Rattle.dq_core.specs.Doing.{Operates, Did, DidPart, Taken as Pure, served_answer, messages_answer, taken_answer};
 ghost use Rattle.dq_core.specs.Queries.{query_in};
-ghost use Rattle.dq_core.specs.Slots.{IsTaken};
+ghost use Rattle.dq_core.specs.Slots.{IsTaken, answer_of};
 
 use crate::fault::Fault;
 use crate::pages::OpenQuery;
@@ -36,6 +37,15 @@ pub(crate) struct Provider<'a> {
     pub alloc: Global,
     pub institution: &'a Institution,
     pub agreement: &'a Agreement,
+}
+
+/// Whose a connection is: the institution that has it, if one has, and what is agreed on it, if
+/// something is.
+#[derive(Clone, Copy)]
+pub(crate) struct Host<'a> {
+    pub alloc: Global,
+    pub institution: Option<&'a Institution>,
+    pub agreement: Option<&'a Agreement>,
 }
 
 /// What a connection is answered: octets, and the C-FIND that is open on it afterwards.
@@ -320,12 +330,47 @@ impl Provider<'_> {
     }
 }
 
+impl Host<'_> {
+    /// Answers what was taken: by the institution that has the connection, where one has and
+    /// something is agreed on it.
+    pub(crate) fn answer<T: Tables>(
+        self,
+        query: Option<OpenQuery>,
+        taken: Taken,
+        tables: &mut T,
+    ) -> Result<Answered, Fault>
+        ensures goes { Goes (T.state tables.old) (T.state tables.new) result }
+        ensures does { (T.state tables.new).honest → (t : Pure) →
+            IsTaken (option_copied self.entry.agreement) taken t → IfOk result (λ given.
+            Did (option_copied self.entry.institution)
+            (answer_of (option_copied self.entry.institution) (T.state tables.old).rows
+            (option_copied self.entry.agreement) (query_in query) t)
+            (T.state tables.old).rows (T.state tables.new).rows [] given.octets.items
+            (query_in given.query)) }
+        ensures stops { (T.state tables.new).honest → (t : Pure) →
+            IsTaken (option_copied self.entry.agreement) taken t → OnErr result (
+            DidPart (option_copied self.entry.institution)
+            (answer_of (option_copied self.entry.institution) (T.state tables.old).rows
+            (option_copied self.entry.agreement) (query_in query) t)
+            (T.state tables.old).rows (T.state tables.new).rows
+            (MayLeave (T.state tables.old) (T.state tables.new))) }
+        ensures fault { IfErr result (λ fault. fault ≢ Fault.Stopped) }
+    {
+        let (Some(institution), Some(agreement)) = (self.institution, self.agreement) else {
+            return Ok(answer_unserved(query, taken)?);
+        };
+        let provider = Provider {
+            alloc: self.alloc,
+            institution,
+            agreement,
+        };
+        provider.answer(query, taken, tables)
+    }
+}
+
 /// Answers what was taken on a connection that no institution has, or on which nothing is agreed:
 /// no service is reached.
-pub(crate) fn answer_unserved(
-    query: Option<OpenQuery>,
-    taken: Taken,
-) -> Result<Answered, AllocError>
+fn answer_unserved(query: Option<OpenQuery>, taken: Taken) -> Result<Answered, AllocError>
     ensures { IfOk result (λ given.
         (given.octets.items ≡ taken.opening ++ taken.step.octets) × (given.query ≡ query)) }
 {

@@ -71,6 +71,17 @@ pub found-number : (number : ℕ) (cs : List Connection) (c : Connection) → co
 found-number number [] d e = cc
 found-number number (c ∷ cs) d e = grind (arith, nat_tests, found-number number cs d)
 
+-- a connection that takes the place of another is found under its number
+pub found-with : (changed : Connection) (cs : List Connection) (c : Connection) → connection_in changed.number cs ≡ Some c
+    → connection_in changed.number (with_connection changed cs) ≡ Some changed
+found-with changed [] d e = cc
+found-with changed (c ∷ cs) d e = grind (arith, nat_tests, found-with changed cs d)
+
+pub others-found : (changed : Connection) (number : ℕ) (cs : List Connection) → (number ≡ changed.number → ⊥)
+    → connection_in number (with_connection changed cs) ≡ connection_in number cs
+others-found changed number [] h = refl
+others-found changed number (c ∷ cs) h = grind (arith, nat_tests, others-found changed number cs h)
+
 -- where none is found, none has the number
 pub none-has : (number : ℕ) (cs : List Connection) → connection_in number cs ≡ None → AllByRecursion (NotNumbered number) cs
 none-has number [] e = tt

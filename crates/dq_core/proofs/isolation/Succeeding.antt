@@ -1,5 +1,6 @@
 -- Queries that end with 0000, and where the first page of the responses to a message stands in a reply.
-use Rattle.std.proofs.Common.{◌≡◌, ℕ, ◌==◌, Bool, true, false, not, if◌then◌else◌, List, ◌∷◌, ◌++◌, Option, Some, None, Ok, refl, sym, ap, ◌∙◌, append_assoc, arith}
+use Rattle.std.proofs.Common.{◌≡◌, ℕ, ◌==◌, Bool, true, false, not, if◌then◌else◌, List, ◌∷◌, ◌++◌, Option, Some, None, Ok, refl, sym, ap, ◌∙◌, subst, append_assoc, arith}
+use Rattle.std.proofs.lemmas.Bool.Decides.{nat_tests}
 use Rattle.std.specs.Str.{bytes_eq}
 use Rattle.dq_dataset.specs.Tree.{ElementList}
 use Rattle.dq_dimse.specs.CommandFields.{c_cancel}
@@ -21,13 +22,13 @@ use Rattle.dq_worklist.specs.Queries as worklist
 use Rattle.dq_tables.specs.Rows.{Record, of}
 use Rattle.dq_core.specs.declared.event.Event.TheVariants as event
 use Rattle.dq_core.specs.declared.event.Reply.TheVariants as reply
-use Rattle.dq_core.specs.Pages.{OpenQuery, next_page, query_by, reaction}
+use Rattle.dq_core.specs.Pages.{OpenQuery, rest, next_page, query_by, reaction}
 use Rattle.dq_core.specs.Services.{Response, Responses, pending_responses, responses, has_operation, refusal_for, operation, outcome_on, outcome_unless, served}
-use Rattle.dq_core.specs.Answers.{Answer, answer, answers, then_answer, progress_of, verdict_at}
+use Rattle.dq_core.specs.Answers.{Answer, answer, answers, then_answer, progress_of, inputs_added, verdict_at}
 use Rattle.dq_core.specs.Connections.{Connection, connection_in}
-use Rattle.dq_core.specs.Owners.{live_of}
+use Rattle.dq_core.specs.Owners.{owner, live_of}
 use Rattle.dq_core.specs.Shared.{World, answer_by, turn}
-use Rattle.dq_core.specs.Searches.{Succeeds, Brings, first_answer_by, HasOctets}
+use Rattle.dq_core.specs.Searches.{Succeeds, Brings, BringsBehind, first_answer_by, HasOctets}
 use Rattle.dq_core.proofs.isolation.AnswerLaws.{answers-append}
 
 -- a refusal is no success
@@ -112,30 +113,73 @@ abbrev page_for : Limits → List Record → Agreement → Message → List ℕ
 page_for limits records a message = (next_page (query_by a message (served limits records a message).responses)).octets
 
 sent-octets : (limits : Limits) (verdict : Verdict) (a : Agreement) (message : Message) (later : List Input) (records : List Record) (o : Option Agreement)
-    (query : Option OpenQuery) → o ≡ Some a → query ≡ None → (back : List ℕ)
+    (query : Option OpenQuery) → o ≡ Some a → (back : List ℕ)
     × ((answers limits verdict (record { agreement = o; records = records; query = query }) (Sent message ∷ later)).octets
-    ≡ page_for limits records a message ++ back)
+    ≡ (reaction query limits records a message).octets ++ back)
+sent-octets limits verdict a message later records o query e =
+    let next = answer limits verdict (record { agreement = Some a; records = records; query = query }) (Sent message) in
+    rw e ((answers limits verdict next.next later).octets, refl)
+
+-- what comes before a message does not close, and leaves this much
+module _ (institutions : List Institution) (world : World) (c : Connection) (piece : List ℕ) (i : Institution) (before later : List Input) (a : Agreement)
+    (records : List Record) (query : Option OpenQuery) (message : Message) where
+  abbrev front_answer : Answer
+  front_answer = first_answer_by i institutions world c before
+
+  reply-with : connection_in c.number world.connections ≡ Some c → owner institutions (c.stream ++ piece) ≡ Some i
+      → inputs_added c.stream piece ≡ before ++ Sent message ∷ later → front_answer.close ≡ false → front_answer.next.agreement ≡ Some a
+      → front_answer.next.records ≡ records → front_answer.next.query ≡ query
+      → HasOctets c.number (reaction query (limits_of i) records a message).octets (turn institutions world (event.Piece c.number piece)).reply
+  reply-with held owned inputs goes_on agreed has is_open =
+      let limits = limits_of i in
+      let verdict = verdict_at i.associations (live_of institutions i.name world.connections) in
+      let progress = progress_of c (of i.name world.rows) in
+      let first = front_answer in
+      let next = first.next in
+      let whole = answer_by (Some i) institutions world c piece in
+      let sent = sent-octets limits verdict a message later next.records next.agreement next.query agreed in
+      let joined : whole ≡ then_answer first (answers limits verdict next (Sent message ∷ later)) =
+      ap (answers limits verdict progress) inputs ∙ answers-append limits verdict progress before (Sent message ∷ later) in
+      let octets : whole.octets ≡ first.octets ++ (reaction next.query limits next.records a message).octets ++ sent.0 =
+      ap (λ (x : Answer). x.octets) joined ∙ then-octets first (answers limits verdict next (Sent message ∷ later)) goes_on
+      ∙ ap (λ (os : List ℕ). first.octets ++ os) sent.1
+      ∙ sym (append_assoc first.octets (reaction next.query limits next.records a message).octets sent.0)
+      in
+      let with_records = ap (λ (rs : List Record). first.octets ++ (reaction next.query limits rs a message).octets ++ sent.0) has in
+      let with_query = ap (λ (q : Option OpenQuery). first.octets ++ (reaction q limits records a message).octets ++ sent.0) is_open in (
+        first.octets,
+        sent.0,
+        whole.close,
+        rw (held, owned)
+            (ap (λ (os : List ℕ). reply.Octets c.number os whole.close) (octets ∙ with_records ∙ with_query)),
+      )
+
+page-alone : (limits : Limits) (records : List Record) (a : Agreement) (message : Message)
+    → (reaction None limits records a message).octets ≡ page_for limits records a message
 unfolding reaction
-sent-octets limits verdict a message later records o query e none =
-    let next = answer limits verdict (record { agreement = Some a; records = records; query = None }) (Sent message) in
-    rw (e, none) ((answers limits verdict next.next later).octets, refl)
+page-alone limits records a message = refl
+
+page-behind : (limits : Limits) (records : List Record) (a : Agreement) (message : Message) (earlier : OpenQuery) (b : Bool)
+    → (message.command.code == c_cancel) ≡ b → (message.command.code ≡ c_cancel → ⊥)
+    → (reaction (Some earlier) limits records a message).octets ≡ rest earlier ++ page_for limits records a message
+unfolding reaction
+page-behind limits records a message earlier true h other = absurd (other (grind (arith, nat_tests)))
+page-behind limits records a message earlier false h other = rw h refl
 
 pub reply-has : (institutions : List Institution) (world : World) (c : Connection) (piece : List ℕ) (i : Institution) (a : Agreement) (records : List Record)
     (message : Message) → connection_in c.number world.connections ≡ Some c → Brings institutions world c piece i a records message
     → HasOctets c.number (page_for (limits_of i) records a message) (turn institutions world (event.Piece c.number piece)).reply
 reply-has institutions world c piece i a records message held b =
-    let limits = limits_of i in
-    let verdict = verdict_at i.associations (live_of institutions i.name world.connections) in
-    let progress = progress_of c (of i.name world.rows) in
-    let first = first_answer_by i institutions world c b.before in
-    let whole = answer_by (Some i) institutions world c piece in
-    let sent = sent-octets limits verdict a message b.later first.next.records first.next.agreement first.next.query b.agreed b.none_open in
-    let joined : whole ≡ then_answer first (answers limits verdict first.next (Sent message ∷ b.later)) =
-    ap (answers limits verdict progress) b.inputs ∙ answers-append limits verdict progress b.before (Sent message ∷ b.later) in
-    let octets : whole.octets ≡ first.octets ++ page_for limits first.next.records a message ++ sent.0 =
-    ap (λ (x : Answer). x.octets) joined ∙ then-octets first (answers limits verdict first.next (Sent message ∷ b.later)) b.goes_on
-    ∙ ap (λ (os : List ℕ). first.octets ++ os) sent.1
-    ∙ sym (append_assoc first.octets (page_for limits first.next.records a message) sent.0)
-    in
-    let with_records = ap (λ (rs : List Record). first.octets ++ page_for limits rs a message ++ sent.0) b.has in
-    (first.octets, sent.0, whole.close, rw (held, b.owned) (ap (λ (os : List ℕ). reply.Octets c.number os whole.close) (octets ∙ with_records)))
+    subst (λ (os : List ℕ). HasOctets c.number os (turn institutions world (event.Piece c.number piece)).reply)
+    (page-alone (limits_of i) records a message)
+    (reply-with institutions world c piece i b.before b.later a records None message held b.owned b.inputs b.goes_on b.agreed b.has b.none_open)
+
+-- the same behind a C-FIND that is open
+pub reply-behind : (institutions : List Institution) (world : World) (c : Connection) (piece : List ℕ) (i : Institution) (a : Agreement)
+    (records : List Record) (earlier : OpenQuery) (message : Message) → connection_in c.number world.connections ≡ Some c
+    → BringsBehind institutions world c piece i a records earlier message → (message.command.code ≡ c_cancel → ⊥)
+    → HasOctets c.number (rest earlier ++ page_for (limits_of i) records a message) (turn institutions world (event.Piece c.number piece)).reply
+reply-behind institutions world c piece i a records earlier message held b other =
+    subst (λ (os : List ℕ). HasOctets c.number os (turn institutions world (event.Piece c.number piece)).reply)
+    (page-behind (limits_of i) records a message earlier (message.command.code == c_cancel) refl other)
+    (reply-with institutions world c piece i b.before b.later a records (Some earlier) message held b.owned b.inputs b.goes_on b.agreed b.has b.still_open)

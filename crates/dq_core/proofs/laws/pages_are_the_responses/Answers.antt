@@ -1,5 +1,5 @@
 use Rattle.std.proofs.Common.{refl}
-use Rattle.dq_core.proofs.Paging.{begun, whole, nothing-more, most}
+use Rattle.dq_core.proofs.Paging.{begun, whole, nothing-more, most, pull-left, pull-others}
 use Rattle.dq_core.proofs.laws.pages_are_the_responses.Goals as goal
 
 pub returns-clause-begun : goal.returns-clause-begun
@@ -16,3 +16,9 @@ returns-clause-most c = most
 
 pub returns-clause-pulled : goal.returns-clause-pulled
 returns-clause-pulled c = λ institutions world x held. rw held refl
+
+pub returns-clause-left : goal.returns-clause-left
+returns-clause-left c = pull-left
+
+pub returns-clause-others : goal.returns-clause-others
+returns-clause-others c = pull-others

@@ -4,7 +4,8 @@ use Rattle.dq_tables.specs.Rows.{of}
 use Rattle.dq_find.specs.Queries.{found}
 use Rattle.dq_worklist.specs.Queries.{listed}
 use Rattle.dq_core.specs.Services.{pending_response}
-use Rattle.dq_core.proofs.isolation.Succeeding.{study-pending, study-optional, entries-pending, entries-optional, reply-has}
+use Rattle.dq_core.proofs.isolation.Succeeding.{study-pending, study-optional, entries-pending, entries-optional, reply-has, reply-behind}
+use Rattle.dq_core.proofs.isolation.Soundness.{among-rows, among-behind}
 use Rattle.dq_core.proofs.laws.searches_end_with_their_answers.Goals as goal
 
 pub returns-clause-studies : goal.returns-clause-studies
@@ -40,3 +41,28 @@ returns-clause-entries c = λ institution rows limits agreement message context 
 
 pub returns-clause-in_reply : goal.returns-clause-in_reply
 returns-clause-in_reply c = reply-has
+
+pub returns-clause-in_reply_behind : goal.returns-clause-in_reply_behind
+returns-clause-in_reply_behind c = reply-behind
+
+pub returns-clause-among_rows : goal.returns-clause-among_rows
+returns-clause-among_rows c =
+    among-rows (record {
+      storing = c.services_keep_rows_sound.ensures.storing;
+      creating = c.services_keep_rows_sound.ensures.creating;
+      changing = c.services_keep_rows_sound.ensures.changing;
+      scheduling = c.services_keep_rows_sound.ensures.scheduling;
+      withdrawing = c.services_keep_rows_sound.ensures.withdrawing;
+    })
+    c.own_records_are_edited.ensures.one
+
+pub returns-clause-among_rows_behind : goal.returns-clause-among_rows_behind
+returns-clause-among_rows_behind c =
+    among-behind (record {
+      storing = c.services_keep_rows_sound.ensures.storing;
+      creating = c.services_keep_rows_sound.ensures.creating;
+      changing = c.services_keep_rows_sound.ensures.changing;
+      scheduling = c.services_keep_rows_sound.ensures.scheduling;
+      withdrawing = c.services_keep_rows_sound.ensures.withdrawing;
+    })
+    c.own_records_are_edited.ensures.one

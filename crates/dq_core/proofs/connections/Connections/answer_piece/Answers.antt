@@ -41,9 +41,9 @@ returns-in_err-answered-clause-part g c = λ world h r honest.
     (option_copied c.in_ok-institution.institution) c.in_ok-institution.taken h (sym c.place_of.ensures ∙ c.in-Some.is)
     (sym c.get_mut.ensures.value ∙ ap option_copied_mut c.in-Some-get_mut.is)
     (λ x held counts. c.in_ok-institution.ensures world x held counts) (option_copied c.agreement-agreement.result)
-    (g.T.Tables.state c.args.tables.now).rows (g.T.Tables.state c.answer_taken.new.tables).rows c.agreement-agreement.ensures r
+    (g.T.Tables.state c.args.tables.now).rows (g.T.Tables.state c.answer.new.tables).rows c.agreement-agreement.ensures r
     (query_in c.take-query.result) (ap query_in (sym c.take-query.ensures.value))
-    (MayLeave (g.T.Tables.state c.args.tables.now) (g.T.Tables.state c.answer_taken.new.tables)) (c.in_err-answered.ensures.stops honest))
+    (MayLeave (g.T.Tables.state c.args.tables.now) (g.T.Tables.state c.answer.new.tables)) (c.in_err-answered.ensures.stops honest))
 
 pub returns-in_err-answered-clause-quiet : goal.returns-in_err-answered-clause-quiet
 returns-in_err-answered-clause-quiet g c = λ connections h k.
@@ -73,7 +73,7 @@ returns-clause-turned g c = λ world h r honest.
     ∙ ap (λ was. retallied_by now.config now.tally.counts.items q was c.stays_open-is_open.result) c.is_some-was_open.ensures in
     let told = piece-taken now.config world c.args.number c.args.piece.now now place old new q t h found there
     (λ x held counts. c.in_ok-institution.ensures world x held counts)
-    (option_copied c.agreement-agreement.result) (g.T.Tables.state c.args.tables.now).rows (g.T.Tables.state c.answer_taken.new.tables).rows
+    (option_copied c.agreement-agreement.result) (g.T.Tables.state c.args.tables.now).rows (g.T.Tables.state c.answer.new.tables).rows
     c.agreement-agreement.ensures r (query_in c.take-query.result) (ap query_in (sym c.take-query.ensures.value)) in
     elim c.if-close.branch [
       | then-close w ↦ rw w.self-is (told w.remove.new.self c.in_ok-answered.answered.octets.items left c.octets_reply-2.result (c.in_ok-answered.ensures.does honest)

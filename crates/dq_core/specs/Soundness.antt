@@ -1,0 +1,41 @@
+-- What keeps sound rows sound: the server is sent octets, and each row holds a data set.
+use Rattle.std.specs.Prelude.{List}
+use Rattle.std.specs.List.{AllByRecursion}
+use Rattle.dq_dataset.specs.Facts.{IsDataSet}
+use Rattle.dq_dataset.specs.Grammar.{AreOctets}
+use Rattle.dq_tables.specs.declared.row.Row.{Row}
+use Rattle.dq_tables.specs.Records.{data_set_of}
+use Rattle.dq_tables.specs.Sound.{IsSound}
+use Rattle.dq_core.specs.declared.event.Event.{Event}
+use Rattle.dq_core.specs.declared.event.Event.TheVariants as event
+use Rattle.dq_core.specs.Services.{Order, Scheduling, Withdrawal}
+use Rattle.dq_core.specs.Connections.{Connection}
+
+abbrev pub HoldDataSets : List Row → Type 0
+HoldDataSets rows = AllByRecursion (λ (row : Row). IsDataSet (data_set_of row.octets)) rows
+
+-- sound rows, each of which holds a data set
+pub record HoldSound (rows : List Row) : Type 0 where
+  pub sound : IsSound rows
+  pub data_sets : HoldDataSets rows
+
+-- what an order holds
+abbrev pub HoldsOctets : Order → Type 0
+HoldsOctets (Scheduling octets) = AreOctets octets
+HoldsOctets (Withdrawal id) = Unit {0}
+
+-- what an event brings
+abbrev pub BringsOctets : Event → Type 0
+BringsOctets (event.Open number) = Unit {0}
+BringsOctets (event.Piece number piece) = AreOctets piece
+BringsOctets (event.End number) = Unit {0}
+BringsOctets (event.Pull number) = Unit {0}
+BringsOctets (event.Schedule inst octets) = AreOctets octets
+BringsOctets (event.Withdraw inst id) = Unit {0}
+
+abbrev pub BringOctets : List Event → Type 0
+BringOctets events = AllByRecursion BringsOctets events
+
+-- what came on connections so far
+abbrev pub CameAsOctets : List Connection → Type 0
+CameAsOctets connections = AllByRecursion (λ (c : Connection). AreOctets c.stream) connections
