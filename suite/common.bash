@@ -1,5 +1,6 @@
 # What the suites share, to be sourced: the folders `top` and `work` (the latter is removed at the end), an empty file
-# $work/nothing, comparisons that are counted, and runs in which an allocation is refused (MOST_ALLOCATIONS is where a suite gives up).
+# $work/nothing, the numbers of suite/counts in `counts`, comparisons that are counted, and runs in which an allocation is refused
+# (MOST_ALLOCATIONS is where a suite gives up).
 set -u
 top=$(cd "$(dirname "${BASH_SOURCE[0]}")/.." && pwd)
 work=$(mktemp -d)
@@ -8,6 +9,10 @@ passed=0
 failed=0
 most_allocations=${MOST_ALLOCATIONS:-100000}
 : > "$work/nothing"
+declare -A counts
+while read -r name number _; do
+    [ "$name" = '#' ] || counts[$name]=$number
+done < "$top/suite/counts"
 
 # needs PROGRAM: ends the suite where the program is not built
 needs() {
@@ -36,6 +41,15 @@ check() {
         fail "$name:${why%;}"
         diff "$expected" "$work/out" | cut -c1-160 | head -n 4
         head -c 400 "$work/err"
+    fi
+}
+
+# exactly WHAT COUNT COMPARED: as many were compared as there are, and not none
+exactly() {
+    if [ "$3" -eq "$2" ] && [ "$3" -gt 0 ]; then
+        passed=$((passed + 1))
+    else
+        fail "$1: $3 were compared, where there are $2"
     fi
 }
 

@@ -519,6 +519,18 @@ def socket_stops_at_a_reset():
             raise Stop from None
 
 
+def socket_stops_at(number):
+    """The server stops for all where octets come for the so manieth time."""
+    count = [0]
+
+    @of_service("read")
+    def read(self, right, wire):
+        count[0] += 1
+        if count[0] >= int(number):
+            raise Stop
+        right(self, wire)
+
+
 def socket_keeps_what_ended():
     """A connection that ended stays an association, and its socket stays open."""
     @of_service("leave")
@@ -779,7 +791,7 @@ FAULTS = {"stop-at-unreadable": stop_at_unreadable, "limit-over-all": limit_over
           "socket-answers-another": socket_answers_another, "socket-never-closes": socket_never_closes,
           "socket-drops-what-waits": socket_drops_what_waits, "socket-waits-for-one": socket_waits_for_one,
           "socket-holds": socket_holds, "socket-stops-at-a-reset": socket_stops_at_a_reset,
-          "socket-keeps-what-ended": socket_keeps_what_ended, "socket-spins": socket_spins,
+          "socket-stops-at": socket_stops_at, "socket-keeps-what-ended": socket_keeps_what_ended, "socket-spins": socket_spins,
           "socket-forgets": socket_forgets, "socket-ends-with": socket_ends_with,
           "console-forgets-orders": console_forgets_orders, "console-at": console_at,
           "loopback-sorts-by-text": loopback_sorts_by_text, "abort-reason": abort_reason,
