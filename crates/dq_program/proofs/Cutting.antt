@@ -4,12 +4,12 @@ use Rattle.std.specs.Io.KnownBytes.{Keeps, Appends}
 use Rattle.std.proofs.lemmas.List.{length-take, take-take}
 use Rattle.dq_core.specs.declared.event.Reply.{Reply}
 use Rattle.dq_core.specs.declared.fault.Fault.{Fault}
-use Rattle.dq_program.specs.declared.printing.PrintFault.{PrintFault}
-use Rattle.dq_program.specs.declared.printing.PrintFault.TheVariants.{NoMemory, Output}
-use Rattle.dq_program.specs.Printing.{printed}
+use Rattle.dq_captures.specs.declared.printing.PrintFault.{PrintFault}
+use Rattle.dq_captures.specs.declared.printing.PrintFault.TheVariants.{NoMemory, Output}
+use Rattle.dq_captures.specs.Printing.{printed}
 use Rattle.dq_program.specs.Program.{AreGiven, PrintsFirst, Cuts, EndsTask, stop_of_printing}
-use Rattle.dq_program.specs.Surroundings.{AppendsPart}
-use Rattle.dq_program.proofs.Written.{AppendsPart-replies, AppendsPart-whole, Appends-kept}
+use Rattle.dq_captures.specs.Surroundings.{AppendsPart}
+use Rattle.dq_captures.proofs.Written.{AppendsPart-replies, AppendsPart-whole, Appends-kept}
 
 PrintsFirst-given : (before after : Option (List ℕ)) (all given : List Reply) (end : Option Fault) → AreGiven all given end → PrintsFirst before after given
     → PrintsFirst before after all

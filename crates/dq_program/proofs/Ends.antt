@@ -9,12 +9,12 @@ use Rattle.dq_core.specs.Shared.{replies}
 use Rattle.dq_tables.specs.declared.row.Row.{Row}
 use Rattle.dq_program.specs.declared.stop.Stop.{Stop}
 use Rattle.dq_program.specs.declared.stop.Stop.TheVariants.{Usage, Config, Capture, Store, Fault, Output, Network}
-use Rattle.dq_program.specs.declared.words.Task.TheVariants.{Replay, Report}
-use Rattle.dq_program.specs.declared.words.Task.{Task}
-use Rattle.dq_program.specs.Words.{Request, Serving, Migrating, Errand, Serves, Loops, Migrates}
+use Rattle.dq_words.specs.declared.words.Task.TheVariants.{Replay, Report}
+use Rattle.dq_words.specs.declared.words.Task.{Task}
+use Rattle.dq_words.specs.Words.{Request, Serving, Migrating, Errand, Serves, Loops, Migrates}
 use Rattle.dq_program.specs.Serving.{StopsService}
 use Rattle.dq_program.specs.Program.{no_memory, status_of, IsBadConfig, IsBadCapture, RefusesFile, HasConfig, IsRunFault, CutsTask, StopsPlay, EndsLoop, EndsMigration, rows_at, text_of, IsBy, PrintsFirst}
-use Rattle.dq_program.specs.Surroundings.{AppendsPart}
+use Rattle.dq_captures.specs.Surroundings.{AppendsPart}
 
 -- a file is refused by its configuration, or for want of memory
 abbrev IsFileStop : Stop → Type 0

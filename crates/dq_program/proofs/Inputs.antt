@@ -3,9 +3,9 @@ use Rattle.std.proofs.Common.{◌≡◌, ◌⊎◌, ℕ, zero, suc, ◌+◌, ◌
 use Rattle.std.specs.Str.{IsUtf8}
 use Rattle.std.proofs.lemmas.List.{take_all, length-take}
 use Rattle.std.specs.Result.{IsErrAnd}
-use Rattle.dq_program.specs.declared.capture.CaptureFault.{CaptureFault}
-use Rattle.dq_program.specs.declared.capture.CaptureFault.TheVariants.{Line, NoMemory}
-use Rattle.dq_program.specs.Captures.{IsFirstBadLine, lines_of}
+use Rattle.dq_captures.specs.declared.capture.CaptureFault.{CaptureFault}
+use Rattle.dq_captures.specs.declared.capture.CaptureFault.TheVariants.{Line, NoMemory}
+use Rattle.dq_captures.specs.Captures.{IsFirstBadLine, lines_of}
 use Rattle.dq_program.specs.Program.{RefusesCapture, capture_limit, stop_of_capture}
 
 abbrev Read : Option (List ℕ) → List ℕ → Type 0

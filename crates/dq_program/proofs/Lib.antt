@@ -1,12 +1,5 @@
-pub mod Numbers
-pub mod Lines
-pub mod OneSpelling
-pub mod Steps
 pub mod Counting
-pub mod Written
 pub mod Inputs
 pub mod Cutting
-pub mod Asking
 pub mod Ends
 pub mod Serviced
-pub mod Telling

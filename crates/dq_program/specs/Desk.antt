@@ -10,8 +10,8 @@ use Rattle.dq_wires.specs.Stepping.{Stepped}
 use Rattle.dq_wires.specs.Turners.{IsOrder}
 use Rattle.dq_program.specs.declared.desk.Line.{Line}
 use Rattle.dq_program.specs.declared.desk.Line.TheVariants.{Order, Report, Bad}
-use Rattle.dq_program.specs.Captures.{line_feed, Spells}
-use Rattle.dq_program.specs.Printing.{printed_line}
+use Rattle.dq_captures.specs.Captures.{line_feed, Spells}
+use Rattle.dq_captures.specs.Printing.{printed_line}
 use Rattle.dq_program.specs.Reports.{reported}
 
 -- What a line tells: an order, spelled as in a capture; that a report is wanted; or neither.

@@ -1,10 +1,5 @@
-pub mod Captures
-pub mod Clap
 pub mod Desk
-pub mod Faults
-pub mod Printing
+pub mod Looping
 pub mod Program
 pub mod Reports
 pub mod Serving
-pub mod Surroundings
-pub mod Words

@@ -16,25 +16,25 @@ use Rattle.dq_core.specs.declared.fault.Fault.{Fault}
 use Rattle.dq_core.specs.declared.fault.Fault.TheVariants as fault
 use Rattle.dq_core.specs.Faults.{number_of as fault_number}
 use Rattle.dq_core.specs.Shared.{replies, world_after}
-use Rattle.dq_program.specs.declared.capture.CaptureFault.{CaptureFault}
-use Rattle.dq_program.specs.declared.capture.CaptureFault.TheVariants as capture
-use Rattle.dq_program.specs.declared.printing.PrintFault.{PrintFault}
-use Rattle.dq_program.specs.declared.printing.PrintFault.TheVariants as printing
+use Rattle.dq_captures.specs.declared.capture.CaptureFault.{CaptureFault}
+use Rattle.dq_captures.specs.declared.capture.CaptureFault.TheVariants as capture
+use Rattle.dq_captures.specs.declared.printing.PrintFault.{PrintFault}
+use Rattle.dq_captures.specs.declared.printing.PrintFault.TheVariants as printing
 use Rattle.dq_program.specs.declared.network.Unheard.{Unheard}
 use Rattle.dq_program.specs.declared.network.Unheard.TheVariants as unheard
-use Rattle.dq_program.specs.declared.surroundings.Unread.{Unread}
-use Rattle.dq_program.specs.declared.surroundings.Unread.TheVariants as unread
+use Rattle.dq_captures.specs.declared.surroundings.Unread.{Unread}
+use Rattle.dq_captures.specs.declared.surroundings.Unread.TheVariants as unread
 use Rattle.dq_program.specs.declared.stop.Stop.{Stop}
 use Rattle.dq_program.specs.declared.stop.Stop.TheVariants as stop
-use Rattle.dq_program.specs.Captures.{line_feed, lines_of, AreCapture, IsFirstBadLine}
-use Rattle.dq_program.specs.Printing.{printed}
+use Rattle.dq_captures.specs.Captures.{line_feed, lines_of, AreCapture, IsFirstBadLine}
+use Rattle.dq_captures.specs.Printing.{printed}
 use Rattle.dq_program.specs.Reports.{names_of, reported}
-use Rattle.dq_program.specs.Surroundings.{AppendsPart}
+use Rattle.dq_captures.specs.Surroundings.{AppendsPart}
 use Rattle.dq_program.specs.declared.stores.Unkept.{Unkept}
 use Rattle.dq_program.specs.declared.stores.Unkept.TheVariants as unkept
-use Rattle.dq_program.specs.declared.words.Task.{Task}
-use Rattle.dq_program.specs.declared.words.Task.TheVariants.{Replay, Report}
-use Rattle.dq_program.specs.Words.{Request, Place, InMemory, InNewStore, InStore}
+use Rattle.dq_words.specs.declared.words.Task.{Task}
+use Rattle.dq_words.specs.declared.words.Task.TheVariants.{Replay, Report}
+use Rattle.dq_words.specs.Words.{Request, Place, InMemory, InNewStore, InStore}
 use Rattle.dq_tables.specs.Keeping.{State}
 use Rattle.dq_tables.specs.declared.row.Row.{Row}
 use Rattle.dq_wires.specs.declared.fault.TurnFault.{TurnFault}

@@ -7,7 +7,7 @@ use Rattle.dq_tables.specs.declared.row.Kind.{Kind}
 use Rattle.dq_tables.specs.declared.row.Kind.TheVariants.{Study, Series, Image, Entry, Step}
 use Rattle.dq_tables.specs.declared.row.Row.{Row}
 use Rattle.dq_tables.specs.Finding.{rows_of}
-use Rattle.dq_program.specs.Captures.{line_feed}
+use Rattle.dq_captures.specs.Captures.{line_feed}
 
 abbrev pub every_kind : List Kind
 every_kind = Study ∷ Series ∷ Image ∷ Entry ∷ Step ∷ []

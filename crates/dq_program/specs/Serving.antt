@@ -19,7 +19,7 @@ use Rattle.dq_wires.specs.Servings.Act.{Turned, Ordered}
 use Rattle.dq_program.specs.declared.stop.Stop.{Stop}
 use Rattle.dq_program.specs.declared.stop.Stop.TheVariants as stop
 use Rattle.dq_program.specs.Program.{numbered_line, HasConfig, IsRunFault, RefusesFile, RefusesStore}
-use Rattle.dq_program.specs.Surroundings.{AppendsPart}
+use Rattle.dq_captures.specs.Surroundings.{AppendsPart}
 
 -- the line that is printed once connections can come in
 abbrev pub ready_text : ℕ → List ℕ

@@ -4,12 +4,11 @@ ghost use Rattle.std.specs.Io.KnownBytes.{Appends};
 ghost use Rattle.dq_core.specs.declared.event.Reply.{Reply};
 ghost use Rattle.dq_core.specs.Histories.{is_well_formed};
 ghost use Rattle.dq_core.specs.Shared.{replies};
-ghost use Rattle.dq_program.specs.Printing.{printed};
+ghost use Rattle.dq_captures.specs.Printing.{printed};
 ghost use Rattle.dq_program.specs.Program.{no_memory, AreGiven, AreHonest, Cuts, EndsTask};
 
-use crate::printing::print_replies;
 use crate::stop::Stop;
-use crate::surroundings::Sink;
+use dq_captures::{Sink, print_replies};
 use dq_config::Config;
 use dq_core::laws::replies_in_turn;
 use dq_core::{Event, Fault, Reply, run};

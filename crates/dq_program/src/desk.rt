@@ -7,10 +7,9 @@ ghost use Rattle.dq_program.specs.Reports.{count_text, report_line, reported};
 ghost use Rattle.dq_program.specs.Desk.{Tells, HasOrders, Answered};
 ghost use Rattle.dq_program.specs.Serving.{Attended, IsServiceStop};
 
-use crate::capture::event_of;
-use crate::printing::printed_line;
 use crate::reporting::{KINDS, count_text};
 use crate::stop::Stop;
+use dq_captures::{event_of, printed_line};
 use dq_core::laws::looks_are_one_look;
 use dq_core::{Event, Fault};
 use dq_list::Listed;

@@ -6,15 +6,14 @@ ghost use Rattle.dq_core.specs.Histories.{opened_numbers};
 ghost use Rattle.dq_wires.specs.declared.looping.Sent.{Sent};
 ghost use Rattle.dq_wires.specs.Looping.{sent_number};
 ghost use Rattle.dq_program.specs.Program.{IsBy, EndsLoop};
-ghost use Rattle.dq_program.specs.Printing.{sent_line, sent_text};
+ghost use Rattle.dq_program.specs.Looping.{sent_line, sent_text};
 
 use crate::network::{Callers, Listening, Network};
-use crate::printing::octets_text;
 use crate::reading::{configured, read_events};
 use crate::reporting::put_whole;
 use crate::stop::Stop;
 use crate::stores::Stores;
-use crate::surroundings::{Folder, Sink, Source};
+use dq_captures::{Folder, Sink, Source, octets_text};
 use dq_core::Server;
 use dq_wires::{Sent, loop_back};
 use std::alloc::{AllocError, Global};

@@ -6,8 +6,8 @@ ghost use Rattle.dq_program.specs.Program.{migrated_line, EndsMigration};
 use crate::reporting::put_whole;
 use crate::stop::Stop;
 use crate::stores::Stores;
-use crate::surroundings::Sink;
-use crate::words::Migration;
+use dq_captures::Sink;
+use dq_words::Migration;
 
 /// What is printed once the new store is made.
 const MIGRATED: &[u8] = b"migrated\n";

@@ -1,7 +1,7 @@
 //! Where connections come in.
 ghost use Rattle.std.specs.Prelude.{◌≡◌, [], IfOk, IfSome};
 
-use crate::surroundings::Host;
+use dq_captures::Host;
 use dq_config::Institution;
 use dq_wires::{
     AssociationLog, Client, Clients, LoggedWires, SocketClient, SocketWires, WireFault, Wires,

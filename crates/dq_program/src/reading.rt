@@ -6,9 +6,8 @@ ghost use Rattle.dq_config.specs.Conditions.{configuration};
 ghost use Rattle.dq_core.specs.Histories.{is_well_formed};
 ghost use Rattle.dq_program.specs.Program.{capture_limit, IsConfigured, Tells, RefusesConfig, RefusesFile, RefusesCapture};
 
-use crate::capture::read_capture;
 use crate::stop::Stop;
-use crate::surroundings::{Folder, Source};
+use dq_captures::{Folder, Source, read_capture};
 use dq_config::Config;
 use dq_core::Event;
 use std::alloc::Global;

@@ -4,12 +4,12 @@ ghost use Rattle.std.specs.Fmt.{decimal};
 ghost use Rattle.std.specs.Io.KnownBytes.{Appends};
 ghost use Rattle.dq_core.specs.Histories.{is_well_formed};
 ghost use Rattle.dq_core.specs.Shared.{world_after};
-ghost use Rattle.dq_program.specs.declared.words.Task.TheVariants.{Report};
+ghost use Rattle.dq_words.specs.declared.words.Task.TheVariants.{Report};
 ghost use Rattle.dq_program.specs.Program.{text_of, AreHonest, Breaks, EndsTask};
 ghost use Rattle.dq_program.specs.Reports.{kind_word, count_text, report_line, names_of, reported};
 
 use crate::stop::Stop;
-use crate::surroundings::Sink;
+use dq_captures::Sink;
 use dq_config::{Config, Institution};
 use dq_core::{Event, Fault, Outcome, run};
 use dq_list::Listed;

@@ -4,7 +4,7 @@ ghost use Rattle.std.specs.Option.{option_copied};
 ghost use Rattle.std.specs.Io.KnownBytes.{Appends};
 ghost use Rattle.dq_config.specs.declared.config.Institution.{Institution};
 ghost use Rattle.dq_core.specs.Standing.{StandsFor};
-ghost use Rattle.dq_program.specs.Words.{place_in};
+ghost use Rattle.dq_words.specs.Words.{place_in};
 ghost use Rattle.dq_program.specs.Program.{AreHonest, IsConfigured, rows_at};
 ghost use Rattle.dq_program.specs.Serving.{ready_text, turn_count, IsUncalled, WentOn, IsServiceStop, Served, EndsService, StopsService};
 
@@ -14,13 +14,13 @@ use crate::reading::configured;
 use crate::reporting::{names_of, put_whole};
 use crate::stop::Stop;
 use crate::stores::Stores;
-use crate::surroundings::{Folder, Sink};
-use crate::words::{Keeper, Service};
+use dq_captures::{Folder, Sink};
 use dq_config::Institution;
 use dq_core::Server;
 use dq_tables::Tables;
 use dq_wires::laws::{calls_are_a_serving, servings_are_answered};
 use dq_wires::{Turner, Wires, turn_all};
+use dq_words::{Keeper, Service};
 use std::alloc::{AllocError, Global};
 use std::time::Duration;
 

@@ -3,11 +3,9 @@ ghost use Rattle.std.specs.Prelude.{◌≡◌, OnOk, OnErr};
 ghost use Rattle.std.specs.Io.KnownBytes.{Appends};
 ghost use Rattle.dq_program.specs.Program.{stop_of_file, stop_of_input, stop_text, status_of};
 
-use crate::capture::CaptureFault;
 use crate::network::Unheard;
-use crate::printing::PrintFault;
 use crate::stores::Unkept;
-use crate::surroundings::{Sink, Unread};
+use dq_captures::{CaptureFault, PrintFault, Sink, Unread};
 use dq_config::ConfigFault;
 use dq_core::Fault;
 use dq_wires::TurnFault;

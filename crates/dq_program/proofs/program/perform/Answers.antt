@@ -1,5 +1,5 @@
 use Rattle.std.proofs.Common.{◌≡◌, Option, Some, map, refl, sym, ◌∙◌, rules, arith}
-use Rattle.dq_program.specs.Words.{Errand, Plays, Request, asked, errand_in, line_of}
+use Rattle.dq_words.specs.Words.{Errand, Plays, Request, asked, errand_in, line_of}
 use Rattle.dq_program.specs.Program.{IsTold}
 use Rattle.dq_program.proofs.Ends.{keeps, status_bounds, stops_by_status, unread_words, unread_loop, unread_migration}
 use Rattle.dq_program.proofs.program.perform.Goals as goal

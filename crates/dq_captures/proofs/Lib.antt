@@ -1,0 +1,5 @@
+pub mod Numbers
+pub mod Lines
+pub mod OneSpelling
+pub mod Steps
+pub mod Written

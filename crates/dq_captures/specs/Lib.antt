@@ -1,0 +1,4 @@
+pub mod Captures
+pub mod Faults
+pub mod Printing
+pub mod Surroundings

@@ -1,0 +1,10 @@
+//! Captures and the printed lines of their replies, over whatever can be read and written.
+#![tactic(auto)]
+
+mod capture;
+mod printing;
+mod surroundings;
+
+pub use capture::{CaptureFault, event_of, read_capture};
+pub use printing::{PrintFault, octets_text, print_replies, printed_line};
+pub use surroundings::{Folder, Host, Sink, Source, Unread};

@@ -1,5 +1,0 @@
-use Rattle.dq_program.proofs.OneSpelling.{same_events}
-use Rattle.dq_program.proofs.capture.lines_tell_one.Goals as goal
-
-pub returns : goal.returns
-returns c = λ lines es fs first second. same_events _ es fs first.spelled second.spelled

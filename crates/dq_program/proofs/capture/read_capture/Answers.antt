@@ -1,6 +1,0 @@
-use Rattle.dq_program.specs.Captures.{lines_of}
-use Rattle.dq_program.proofs.Steps.{AreCapture-only}
-use Rattle.dq_program.proofs.capture.read_capture.Goals as goal
-
-pub returns-clause-only : goal.returns-clause-only
-returns-clause-only c = AreCapture-only (lines_of c.args.text.now) (λ v. v.items) c.read_lines.result c.read_lines.ensures.events c.read_lines.ensures.line

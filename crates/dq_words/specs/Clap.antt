@@ -1,0 +1,76 @@
+-- The command line as clap reads it: a table of commands and options.
+use Rattle.std.specs.Prelude.{Bool, true, false, List, codes, Option, Some, None, option_and_then, if◌then◌else◌}
+use Rattle.std.specs.Option.{option_map_or}
+use Rattle.std.specs.Str.{bytes_eq}
+use Rattle.clap.specs.Words.{App, Row, Rule, Text, first_of, new_app, new_rule, with_rule, with_subcommand}
+use Rattle.clap.specs.declared.builder.action.ArgAction.TheVariants.{SetTrue}
+use Rattle.dq_words.specs.declared.words.Task.{Task}
+use Rattle.dq_words.specs.declared.words.Task.TheVariants.{Replay, Report}
+
+-- an option that takes a value
+abbrev pub value_rule : Text → Rule
+value_rule name = record (new_rule name) { long = Some name; value_names = 1 }
+
+-- one that has to be given
+abbrev pub required_rule : Text → Rule
+required_rule name = record (value_rule name) { required = true }
+
+-- one that takes none
+abbrev pub flag_rule : Text → Rule
+flag_rule name = record (new_rule name) { long = Some name; action = Some SetTrue }
+
+-- a subcommand with the options that name files
+abbrev pub task_app : Text → App
+task_app name = with_rule
+    (with_rule (with_rule (new_app name) (value_rule (codes "config"))) (value_rule (codes "new")))
+    (value_rule (codes "store"))
+
+-- the one that serves, without and with what is beyond its connections
+abbrev pub listening_app : App
+listening_app = with_rule
+    (with_rule (with_rule (task_app (codes "serve")) (required_rule (codes "port")))
+    (value_rule (codes "turns")))
+    (value_rule (codes "listen"))
+
+abbrev pub serve_app : App
+serve_app = with_rule
+    (with_rule (with_rule listening_app (value_rule (codes "console"))) (value_rule (codes "quiet")))
+    (flag_rule (codes "log"))
+
+-- the one that plays a capture over sockets
+abbrev pub loopback_app : App
+loopback_app = with_rule (new_app (codes "loopback")) (value_rule (codes "config"))
+
+-- the one that migrates a store
+abbrev pub migrate_app : App
+migrate_app = with_rule
+    (with_rule (new_app (codes "migrate")) (required_rule (codes "from")))
+    (required_rule (codes "to"))
+
+-- the program, with its tasks over a capture
+abbrev pub tasks_app : App
+tasks_app = with_subcommand
+    (with_subcommand (new_app (codes "dq_server")) (task_app (codes "replay")).top)
+    (task_app (codes "report")).top
+
+abbrev pub command : App
+command = with_subcommand
+    (with_subcommand (with_subcommand tasks_app serve_app.top) loopback_app.top)
+    migrate_app.top
+
+-- the value of an option of the subcommand
+abbrev pub value_in : Text → Option (Text × List Row) → Option Text
+value_in name = option_and_then (λ p. first_of name p.1)
+
+-- whether an option that takes none is there
+abbrev pub is_given : Text → Option (Text × List Row) → Bool
+is_given name subcommand = option_map_or (bytes_eq (codes "true")) (value_in name subcommand) false
+
+-- whether the subcommand has this name
+abbrev pub is_named : Text → Option (Text × List Row) → Bool
+is_named name None = false
+is_named name (Some p) = bytes_eq name p.0
+
+-- what is done with a capture: a replay where no report is named
+abbrev pub task_in : Option (Text × List Row) → Task
+task_in subcommand = if is_named (codes "report") subcommand then Report else Replay

@@ -1,0 +1,193 @@
+-- What the words of a command line ask for.
+use Rattle.std.specs.Prelude.{ℕ, Bool, ◌^◌, ◌&&◌, nat_lt, if◌then◌else◌, List, [], ◌∷◌, length, codes}
+use Rattle.std.specs.Prelude.{Option, Some, None, option_map, option_and_then, unwrap_or}
+use Rattle.std.specs.Option.{option_copied}
+use Rattle.std.specs.Str.{all_ascii_digits}
+use Rattle.std.specs.Str.Parse.{digits_value}
+use Rattle.clap.specs.Words.{Kinds, Row, Text, fault_of, subcommand_of}
+use Rattle.dq_words.specs.Clap.{command, value_in, is_given, is_named, task_in}
+use Rattle.dq_words.specs.declared.words.Asked.{Asked}
+use Rattle.dq_words.specs.declared.words.Job.{Job}
+use Rattle.dq_words.specs.declared.words.Job.TheVariants as job
+use Rattle.dq_words.specs.declared.words.Keeper.{Keeper}
+use Rattle.dq_words.specs.declared.words.Keeper.TheVariants as keeper
+use Rattle.dq_words.specs.declared.words.Migration.{Migration}
+use Rattle.dq_words.specs.declared.words.Service.{Service}
+use Rattle.dq_words.specs.declared.words.Task.{Task}
+
+-- the program's own name, with which a command line begins
+abbrev pub program_name : List ℕ
+program_name = codes "dq_server"
+
+abbrev pub line_of : List (List ℕ) → List (List ℕ)
+line_of words = program_name ∷ words
+
+-- where the rows are kept: in memory, in a store that is made in a file, or in the one that a file
+-- holds
+pub data Place : Type 0 where
+  InMemory : Place
+  InNewStore : List ℕ → Place
+  InStore : List ℕ → Place
+
+-- a task over a capture, the file of the configuration if one is named, and where the rows are kept
+pub record Request : Type 0 where
+  pub task : Task
+  pub config : Option (List ℕ)
+  pub place : Place
+
+-- The port and the address where connections come in, after how many seconds of silence one counts
+-- as ended, if it does, and whether what becomes of them is logged; the port of the console, if
+-- there is one; after how many turns the service ends, if it ends; and what it goes by.
+pub record Serving : Type 0 where
+  pub port : ℕ
+  pub address : List ℕ
+  pub quiet : Option ℕ
+  pub is_logged : Bool
+  pub console : Option ℕ
+  pub turns : Option ℕ
+  pub config : Option (List ℕ)
+  pub place : Place
+
+-- the file of a store of the version before, and the one in which the new store is made
+pub record Migrating : Type 0 where
+  pub from : List ℕ
+  pub to : List ℕ
+
+-- what a command line asks for: a task over a capture, to serve, to play a capture over sockets
+-- with a configuration, or to migrate a store
+pub data Errand : Type 0 where
+  Plays : Request → Errand
+  Serves : Serving → Errand
+  Loops : Option (List ℕ) → Errand
+  Migrates : Migrating → Errand
+
+-- the place that `--new` and `--store` name, which exclude each other
+abbrev pub place_of : Option (List ℕ) → Option (List ℕ) → Option Place
+place_of None None = Some InMemory
+place_of (Some new) None = Some (InNewStore new)
+place_of None (Some store) = Some (InStore store)
+place_of (Some new) (Some store) = None
+
+abbrev pub place_named : Option (Text × List Row) → Option Place
+place_named subcommand =
+    place_of (value_in (codes "new") subcommand) (value_in (codes "store") subcommand)
+
+-- the number below a bound that a text of decimal digits tells
+abbrev pub number_below : ℕ → List ℕ → Option ℕ
+number_below bound text =
+    let number = digits_value 10 text in
+    if all_ascii_digits text && (nat_lt 0 (length text) && nat_lt number bound) then Some number
+    else None
+
+-- one that is not 0
+abbrev pub positive_below : ℕ → List ℕ → Option ℕ
+positive_below bound text =
+    option_and_then (λ number. if nat_lt 0 number then Some number else None)
+    (number_below bound text)
+
+-- a port, from 1 to 65,535
+abbrev pub port_told : List ℕ → Option ℕ
+port_told text = positive_below (2 ^ 16) text
+
+-- a number of seconds, from 1 to 4,294,967,295
+abbrev pub seconds_told : List ℕ → Option ℕ
+seconds_told text = positive_below (2 ^ 32) text
+
+-- a number of turns, up to 4,294,967,295
+abbrev pub turns_told : List ℕ → Option ℕ
+turns_told text = number_below (2 ^ 32) text
+
+-- What an option tells, if it is there. None where it is there and tells nothing.
+abbrev pub told_if_given : (List ℕ → Option ℕ) → Option (List ℕ) → Option (Option ℕ)
+told_if_given told None = Some None
+told_if_given told (Some text) = option_map Some (told text)
+
+-- the address where none is named: the machine's own
+abbrev pub loopback_address : List ℕ
+loopback_address = codes "127.0.0.1"
+
+-- what a subcommand asks for with its options
+abbrev pub request_of : Option (Text × List Row) → Option Request
+request_of subcommand = option_map (λ place. record {
+  task = task_in subcommand;
+  config = value_in (codes "config") subcommand;
+  place = place;
+}) (place_named subcommand)
+
+abbrev pub serving_of : Option (Text × List Row) → Option Serving
+serving_of subcommand =
+    option_and_then (λ port. option_and_then (λ turns. option_and_then (λ console.
+    option_and_then (λ quiet. option_map (λ place. record {
+      port = port;
+      address = unwrap_or (value_in (codes "listen") subcommand) loopback_address;
+      quiet = quiet;
+      is_logged = is_given (codes "log") subcommand;
+      console = console;
+      turns = turns;
+      config = value_in (codes "config") subcommand;
+      place = place;
+    }) (place_named subcommand))
+    (told_if_given seconds_told (value_in (codes "quiet") subcommand)))
+    (told_if_given port_told (value_in (codes "console") subcommand)))
+    (told_if_given turns_told (value_in (codes "turns") subcommand)))
+    (option_and_then port_told (value_in (codes "port") subcommand))
+
+-- both files have to be named
+abbrev pub files_of : Option (List ℕ) → Option (List ℕ) → Option Migrating
+files_of (Some from) (Some to) = Some (record { from = from; to = to })
+files_of (Some from) None = None
+files_of None to = None
+
+abbrev pub migration_of : Option (Text × List Row) → Option Migrating
+migration_of subcommand =
+    files_of (value_in (codes "from") subcommand) (value_in (codes "to") subcommand)
+
+abbrev pub errand_of : Option (Text × List Row) → Option Errand
+errand_of subcommand =
+    if is_named (codes "serve") subcommand then option_map Serves (serving_of subcommand)
+    else if is_named (codes "loopback") subcommand
+    then Some (Loops (value_in (codes "config") subcommand))
+    else if is_named (codes "migrate") subcommand
+    then option_map Migrates (migration_of subcommand)
+    else option_map Plays (request_of subcommand)
+
+abbrev pub errand_if : Kinds → Option Errand → Option Errand
+errand_if [] errand = errand
+errand_if (kind ∷ kinds) errand = None
+
+-- What a list of words asks for, or None where clap does not take them, where they name both a new
+-- store and one that is there, or a number that is out of its range.
+unfoldable pub asked : List (List ℕ) → Option Errand
+asked words = errand_if (fault_of command (line_of words))
+    (errand_of (subcommand_of command (line_of words)))
+
+-- what a command line that was read asks for
+abbrev pub place_in : Keeper → Place
+place_in keeper.Memory = InMemory
+place_in (keeper.New path) = InNewStore path.now
+place_in (keeper.Found path) = InStore path.now
+
+abbrev pub request_in : Asked → Request
+request_in asked =
+    record { task = asked.task; config = option_copied asked.config; place = place_in asked.keeper }
+
+abbrev pub serving_in : Service → Serving
+serving_in service = record {
+  port = service.port;
+  address = service.address.now;
+  quiet = service.quiet;
+  is_logged = service.is_logged;
+  console = service.console;
+  turns = service.turns;
+  config = option_copied service.config;
+  place = place_in service.keeper;
+}
+
+abbrev pub migration_in : Migration → Migrating
+migration_in files = record { from = files.from.now; to = files.to.now }
+
+abbrev pub errand_in : Job → Errand
+errand_in (job.Play asked) = Plays (request_in asked)
+errand_in (job.Serve service) = Serves (serving_in service)
+errand_in (job.Loop config) = Loops (option_copied config)
+errand_in (job.Migrate files) = Migrates (migration_in files)

@@ -1,0 +1,7 @@
+//! The command line of a DICOM server: what its words ask for, and the text of its help.
+#![tactic(auto)]
+
+mod help;
+mod words;
+
+pub use words::{Asked, Job, Keeper, Migration, Service, Task, line_of, parse};

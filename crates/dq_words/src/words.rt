@@ -1,0 +1,539 @@
+//! The words of the command line.
+ghost use Rattle.std.specs.Prelude.{◌≡◌, ◌≢◌, ℕ, false, List, None, Some, map, option_map, option_and_then, unwrap_or, codes, IfOk, IfErr};
+ghost use Rattle.std.specs.Option.{option_copied};
+ghost use Rattle.std.specs.Result.{result_ok};
+ghost use Rattle.clap.specs.declared.builder.command.Command.TheViews.{out-Command as fields_of};
+ghost use Rattle.clap.specs.Words.{app_of, rule_of, kind_of, subcommand_rows_of};
+ghost use Rattle.dq_words.specs.Words.{line_of, place_named, place_in, port_told, turns_told, seconds_told, told_if_given, loopback_address, request_in, request_of, serving_in, serving_of, migration_in, migration_of, errand_in, errand_of, asked};
+ghost use Rattle.dq_words.specs.Clap.{value_rule, required_rule, task_app, listening_app, serve_app, loopback_app, migrate_app, tasks_app, command, value_in, is_given, is_named, task_in};
+
+use crate::help::{CAPTURES, STATUSES};
+use clap::error::ErrorKind;
+use clap::{Arg, ArgAction, ArgMatches, Command};
+use std::alloc::{AllocError, Global};
+use std::convert::AsStr;
+
+const PROGRAM_NAME: &str = "dq_server";
+
+const LOOPBACK_ADDRESS: &str = "127.0.0.1";
+
+/// What is done with a capture.
+#[derive(Clone, Copy, Debug, PartialEq, Eq)]
+pub enum Task {
+    /// Its replies are printed.
+    Replay,
+    /// What is kept after it is counted.
+    Report,
+}
+
+/// Where the rows are kept.
+#[derive(Clone, Copy, Debug, PartialEq, Eq)]
+pub enum Keeper<'a> {
+    /// In memory, for the time of the run.
+    Memory,
+    /// In a store that is made in a file.
+    New(&'a str),
+    /// In the store that a file holds.
+    Found(&'a str),
+}
+
+/// What is asked for of a capture: a task, the configuration's file if one is named, and where the
+/// rows are kept.
+#[derive(Clone, Copy, Debug, PartialEq, Eq)]
+pub struct Asked<'a> {
+    pub task: Task,
+    pub config: Option<&'a str>,
+    pub keeper: Keeper<'a>,
+}
+
+/// How is served: the port and the address where connections come in, after how many seconds of
+/// silence one counts as ended, if it does, and whether what becomes of them is logged; the port of
+/// the console, if there is one; after how many turns the service ends, if it ends; the
+/// configuration's file if one is named, and where the rows are kept.
+#[derive(Clone, Copy, Debug, PartialEq, Eq)]
+pub struct Service<'a> {
+    pub port: u16,
+    pub address: &'a str,
+    pub quiet: Option<u32>,
+    pub is_logged: bool,
+    pub console: Option<u16>,
+    pub turns: Option<u32>,
+    pub config: Option<&'a str>,
+    pub keeper: Keeper<'a>,
+}
+
+/// The file of a store of the version before, and the file in which the new one is made.
+#[derive(Clone, Copy, Debug, PartialEq, Eq)]
+pub struct Migration<'a> {
+    pub from: &'a str,
+    pub to: &'a str,
+}
+
+/// What a command line asks for.
+#[derive(Clone, Copy, Debug, PartialEq, Eq)]
+pub enum Job<'a> {
+    /// A task over a capture.
+    Play(Asked<'a>),
+    /// To serve connections.
+    Serve(Service<'a>),
+    /// To play a capture over sockets, with the configuration's file if one is named.
+    Loop(Option<&'a str>),
+    /// To migrate a store.
+    Migrate(Migration<'a>),
+}
+
+/// Why options are not taken.
+#[derive(Clone, Copy, PartialEq, Eq)]
+enum Misuse {
+    /// They name two stores.
+    TwoStores,
+    /// The port is none.
+    NoPort,
+    /// The number of turns is none.
+    NoTurns,
+    /// The port of the console is none.
+    NoConsole,
+    /// The number of seconds is none.
+    NoSeconds,
+    /// One of the files of a migration is not named.
+    NoFile,
+}
+
+/// The whole command line: the program's own name, and the words.
+pub fn line_of<S: AsStr>(alloc: Global, words: &[S]) -> Result<Vec<&str>, AllocError>
+    ensures { IfOk result (λ line. map (λ word. word.now) line.items
+        ≡ line_of (map S.text words.entry.now)) }
+{
+    let mut line = Vec::new(alloc);
+    line.push(PROGRAM_NAME)?;
+    for word in words {
+        line.push(word.as_str())?;
+    }
+    Ok(line)
+}
+
+/// The value of an option of the subcommand.
+fn value_in<'a>(matches: &ArgMatches<'a>, name: &str) -> Option<&'a str>
+    ensures { option_copied result ≡ value_in name.now (subcommand_rows_of matches.now) }
+{
+    let (_, options) = matches.subcommand()?;
+    options.get_str(name)
+}
+
+/// Whether an option of the subcommand that takes no value is there.
+fn is_given(matches: &ArgMatches, name: &str) -> bool
+    ensures { result ≡ is_given name.now (subcommand_rows_of matches.now) }
+{
+    match value_in(matches, name) {
+        Some(text) => text == "true",
+        None => false,
+    }
+}
+
+/// Whether the subcommand has a name.
+fn is_named(matches: &ArgMatches, name: &str) -> bool
+    ensures { result ≡ is_named name.now (subcommand_rows_of matches.now) }
+{
+    match matches.subcommand() {
+        Some((found, _)) => found == name,
+        None => false,
+    }
+}
+
+/// Where the options say that rows are kept.
+fn keeper_in<'a>(matches: &ArgMatches<'a>) -> Result<Keeper<'a>, Misuse>
+    ensures { option_map place_in (result_ok result)
+        ≡ place_named (subcommand_rows_of matches.now) }
+{
+    match (value_in(matches, "new"), value_in(matches, "store")) {
+        (None, None) => Ok(Keeper::Memory),
+        (Some(path), None) => Ok(Keeper::New(path)),
+        (None, Some(path)) => Ok(Keeper::Found(path)),
+        (Some(_), Some(_)) => Err(Misuse::TwoStores),
+    }
+}
+
+// `parse` takes a sign in front.
+fn port_told(text: &str) -> Option<u16>
+    ensures { result ≡ port_told text.now }
+{
+    if text.starts_with('+') {
+        return None;
+    }
+    let port = text.parse::<u16>().ok()?;
+    if port > 0 { Some(port) } else { None }
+}
+
+fn turns_told(text: &str) -> Option<u32>
+    ensures { result ≡ turns_told text.now }
+{
+    if text.starts_with('+') {
+        return None;
+    }
+    text.parse::<u32>().ok()
+}
+
+fn seconds_told(text: &str) -> Option<u32>
+    ensures { result ≡ seconds_told text.now }
+{
+    if text.starts_with('+') {
+        return None;
+    }
+    let seconds = text.parse::<u32>().ok()?;
+    if seconds > 0 { Some(seconds) } else { None }
+}
+
+/// The port that an option names.
+fn port_in(matches: &ArgMatches) -> Result<u16, Misuse>
+    ensures { result_ok result
+        ≡ option_and_then port_told (value_in (codes "port") (subcommand_rows_of matches.now)) }
+{
+    match value_in(matches, "port") {
+        Some(text) => port_told(text).ok_or(Misuse::NoPort),
+        None => Err(Misuse::NoPort),
+    }
+}
+
+/// The number of turns that an option names, if it is there.
+fn turns_in(matches: &ArgMatches) -> Result<Option<u32>, Misuse>
+    ensures { result_ok result
+        ≡ told_if_given turns_told (value_in (codes "turns") (subcommand_rows_of matches.now)) }
+{
+    match value_in(matches, "turns") {
+        None => Ok(None),
+        Some(text) => match turns_told(text) {
+            Some(turns) => Ok(Some(turns)),
+            None => Err(Misuse::NoTurns),
+        },
+    }
+}
+
+/// The port of the console, if one is named.
+fn console_in(matches: &ArgMatches) -> Result<Option<u16>, Misuse>
+    ensures { result_ok result
+        ≡ told_if_given port_told (value_in (codes "console") (subcommand_rows_of matches.now)) }
+{
+    match value_in(matches, "console") {
+        None => Ok(None),
+        Some(text) => match port_told(text) {
+            Some(port) => Ok(Some(port)),
+            None => Err(Misuse::NoConsole),
+        },
+    }
+}
+
+/// The number of seconds of silence that an option names, if it is there.
+fn quiet_in(matches: &ArgMatches) -> Result<Option<u32>, Misuse>
+    ensures { result_ok result
+        ≡ told_if_given seconds_told (value_in (codes "quiet") (subcommand_rows_of matches.now)) }
+{
+    match value_in(matches, "quiet") {
+        None => Ok(None),
+        Some(text) => match seconds_told(text) {
+            Some(seconds) => Ok(Some(seconds)),
+            None => Err(Misuse::NoSeconds),
+        },
+    }
+}
+
+/// What is asked for of a capture.
+fn asked_in<'a>(matches: &ArgMatches<'a>) -> Result<Asked<'a>, Misuse>
+    ensures { option_map request_in (result_ok result)
+        ≡ request_of (subcommand_rows_of matches.now) }
+{
+    let keeper = keeper_in(matches)?;
+    let task = if is_named(matches, "report") {
+        Task::Report
+    } else {
+        Task::Replay
+    };
+    Ok(Asked {
+        task,
+        config: value_in(matches, "config"),
+        keeper,
+    })
+}
+
+/// How is served.
+fn service_in<'a>(matches: &ArgMatches<'a>) -> Result<Service<'a>, Misuse>
+    ensures { option_map serving_in (result_ok result)
+        ≡ serving_of (subcommand_rows_of matches.now) }
+{
+    let port = port_in(matches)?;
+    let turns = turns_in(matches)?;
+    let console = console_in(matches)?;
+    let quiet = quiet_in(matches)?;
+    let keeper = keeper_in(matches)?;
+    Ok(Service {
+        port,
+        address: value_in(matches, "listen").unwrap_or(LOOPBACK_ADDRESS),
+        quiet,
+        is_logged: is_given(matches, "log"),
+        console,
+        turns,
+        config: value_in(matches, "config"),
+        keeper,
+    })
+}
+
+/// Which store is migrated.
+fn migration_in<'a>(matches: &ArgMatches<'a>) -> Result<Migration<'a>, Misuse>
+    ensures { option_map migration_in (result_ok result)
+        ≡ migration_of (subcommand_rows_of matches.now) }
+{
+    match (value_in(matches, "from"), value_in(matches, "to")) {
+        (Some(from), Some(to)) => Ok(Migration { from, to }),
+        _ => Err(Misuse::NoFile),
+    }
+}
+
+/// What the subcommand asks for with its options, a replay where there is none.
+fn job_in<'a>(matches: &ArgMatches<'a>) -> Result<Job<'a>, Misuse>
+    ensures { option_map errand_in (result_ok result)
+        ≡ errand_of (subcommand_rows_of matches.now) }
+{
+    if is_named(matches, "serve") {
+        Ok(Job::Serve(service_in(matches)?))
+    } else if is_named(matches, "loopback") {
+        Ok(Job::Loop(value_in(matches, "config")))
+    } else if is_named(matches, "migrate") {
+        Ok(Job::Migrate(migration_in(matches)?))
+    } else {
+        Ok(Job::Play(asked_in(matches)?))
+    }
+}
+
+/// An option that takes a value.
+fn value_option<'a>(alloc: Global, name: &'a str, value: &'a str, help: &'a str) -> Arg<'a>
+    ensures rule { rule_of result ≡ value_rule name.entry.now }
+    ensures local { result.global ≡ false }
+{
+    Arg::new(alloc, name)
+        .long(name)
+        .value_name(value)
+        .help(help)
+}
+
+/// The option that names the configuration.
+fn config_option<'a>(alloc: Global) -> Arg<'a>
+    ensures rule { rule_of result ≡ value_rule (codes "config") }
+    ensures local { result.global ≡ false }
+{
+    value_option(
+        alloc,
+        "config",
+        "FILE",
+        "The configuration [default: the one that is built in]",
+    )
+}
+
+/// A subcommand with the options that name files.
+fn task_command<'a>(alloc: Global, name: &'a str, about: &'a str) -> Result<Command<'a>, AllocError>
+    ensures app { IfOk result (λ built. app_of built ≡ task_app name.entry.now) }
+    ensures local { IfOk result (λ built. (fields_of built).has_globals ≡ false) }
+{
+    let new = value_option(
+        alloc,
+        "new",
+        "FILE",
+        "Keeps the rows in a new store [default: in memory]",
+    );
+    let store = value_option(
+        alloc,
+        "store",
+        "FILE",
+        "Keeps the rows in a store that is there",
+    );
+    let command = Command::new(alloc, name)
+        .about(about)
+        .after_help(STATUSES)
+        .arg(config_option(alloc))?
+        .arg(new)?
+        .arg(store)?;
+    Ok(command)
+}
+
+/// The subcommand that serves, with the options of its connections.
+fn listening_command<'a>(alloc: Global) -> Result<Command<'a>, AllocError>
+    ensures app { IfOk result (λ built. app_of built ≡ listening_app) }
+    ensures local { IfOk result (λ built. (fields_of built).has_globals ≡ false) }
+{
+    let port = value_option(
+        alloc,
+        "port",
+        "PORT",
+        "The port at which connections come in, 1 to 65535",
+    )
+    .required(true);
+    let turns = value_option(
+        alloc,
+        "turns",
+        "N",
+        "Ends after N turns, 0 to 4294967295 [default: never]",
+    );
+    let listen = value_option(
+        alloc,
+        "listen",
+        "ADDRESS",
+        "The address at which they come in [default: 127.0.0.1]",
+    );
+    let command = task_command(alloc, "serve", "Serves connections over TCP")?
+        .arg(port)?
+        .arg(turns)?
+        .arg(listen)?;
+    Ok(command)
+}
+
+/// The subcommand that serves.
+fn serve_command<'a>(alloc: Global) -> Result<Command<'a>, AllocError>
+    ensures app { IfOk result (λ built. app_of built ≡ serve_app) }
+    ensures local { IfOk result (λ built. (fields_of built).has_globals ≡ false) }
+{
+    let console = value_option(
+        alloc,
+        "console",
+        "PORT",
+        "The port of 127.0.0.1 that takes orders, 1 to 65535 [default: none is taken]",
+    );
+    let quiet = value_option(
+        alloc,
+        "quiet",
+        "SECONDS",
+        "Ends a connection on which nothing comes for so long, 1 to 4294967295 [default: never]",
+    );
+    let log = Arg::new(alloc, "log")
+        .long("log")
+        .action(ArgAction::SetTrue)
+        .help("Tells on standard error what becomes of each association");
+    let command = listening_command(alloc)?
+        .arg(console)?
+        .arg(quiet)?
+        .arg(log)?;
+    Ok(command)
+}
+
+/// The subcommand that plays a capture over sockets.
+fn loopback_command<'a>(alloc: Global) -> Result<Command<'a>, AllocError>
+    ensures app { IfOk result (λ built. app_of built ≡ loopback_app) }
+    ensures local { IfOk result (λ built. (fields_of built).has_globals ≡ false) }
+{
+    let command = Command::new(alloc, "loopback")
+        .about("Plays a capture from standard input over sockets, and prints what each was sent")
+        .after_help(STATUSES)
+        .arg(config_option(alloc))?;
+    Ok(command)
+}
+
+/// The subcommand that migrates a store.
+fn migrate_command<'a>(alloc: Global) -> Result<Command<'a>, AllocError>
+    ensures app { IfOk result (λ built. app_of built ≡ migrate_app) }
+    ensures local { IfOk result (λ built. (fields_of built).has_globals ≡ false) }
+{
+    let from = value_option(
+        alloc,
+        "from",
+        "FILE",
+        "The store of version 1, which stays as it is",
+    )
+    .required(true);
+    let to = value_option(
+        alloc,
+        "to",
+        "FILE",
+        "The new store, which is made; it must not be there, or be empty",
+    )
+    .required(true);
+    let command = Command::new(alloc, "migrate")
+        .about("Makes a new store of the rows of one of version 1; it reads no standard input")
+        .after_help(STATUSES)
+        .arg(from)?
+        .arg(to)?;
+    Ok(command)
+}
+
+/// The program, with its tasks over a capture.
+fn tasks_command<'a>(alloc: Global) -> Result<Command<'a>, AllocError>
+    ensures app { IfOk result (λ built. app_of built ≡ tasks_app) }
+    ensures local { IfOk result (λ built. (fields_of built).has_globals ≡ false) }
+{
+    let replay = task_command(
+        alloc,
+        "replay",
+        "Replays a capture from standard input (the default)",
+    )?;
+    let report = task_command(
+        alloc,
+        "report",
+        "Counts what is kept after a capture from standard input",
+    )?;
+    let command = Command::new(alloc, PROGRAM_NAME)
+        .about("A DICOM server")
+        .after_help(CAPTURES)
+        .subcommand(replay)?
+        .subcommand(report)?;
+    Ok(command)
+}
+
+/// The command line of the program.
+fn command<'a>(alloc: Global) -> Result<Command<'a>, AllocError>
+    ensures { IfOk result (λ built. app_of built ≡ command) }
+{
+    let serve = serve_command(alloc)?;
+    let loopback = loopback_command(alloc)?;
+    let migrate = migrate_command(alloc)?;
+    let command = tasks_command(alloc)?
+        .subcommand(serve)?
+        .subcommand(loopback)?
+        .subcommand(migrate)?;
+    Ok(command)
+}
+
+/// The error of options that are not taken.
+fn misused(alloc: Global, misuse: Misuse) -> Result<clap::Error, AllocError> {
+    let (kind, text) = match misuse {
+        Misuse::TwoStores => (
+            ErrorKind::ArgumentConflict,
+            "the argument '--new <FILE>' cannot be used with '--store <FILE>'",
+        ),
+        Misuse::NoPort => (
+            ErrorKind::ValueValidation,
+            "the argument '--port <PORT>' takes a number from 1 to 65535",
+        ),
+        Misuse::NoTurns => (
+            ErrorKind::ValueValidation,
+            "the argument '--turns <N>' takes a number from 0 to 4294967295",
+        ),
+        Misuse::NoConsole => (
+            ErrorKind::ValueValidation,
+            "the argument '--console <PORT>' takes a number from 1 to 65535",
+        ),
+        Misuse::NoSeconds => (
+            ErrorKind::ValueValidation,
+            "the argument '--quiet <SECONDS>' takes a number from 1 to 4294967295",
+        ),
+        Misuse::NoFile => (
+            ErrorKind::MissingRequiredArgument,
+            "the arguments '--from <FILE>' and '--to <FILE>' are required",
+        ),
+    };
+    command(alloc)?.error(kind, text)
+}
+
+/// Reads a command line.
+pub fn parse<'a>(alloc: Global, line: &'a [&'a str]) -> Result<Job<'a>, clap::Error>
+    ensures ok { IfOk result (λ found. (words : List (List ℕ)) →
+        map (λ word. word.now) line.entry.now ≡ line_of words →
+        asked words ≡ Some (errand_in found)) }
+    ensures err { IfErr result (λ error. (words : List (List ℕ)) →
+        map (λ word. word.now) line.entry.now ≡ line_of words →
+        kind_of error ≢ ErrorKind.OutOfMemory → asked words ≡ None) }
+{
+    let matches = match command(alloc)?.try_get_matches_from(line) {
+        Ok(matches) => matches,
+        Err(error) => return Err(error),
+    };
+    match job_in(&matches) {
+        Ok(job) => Ok(job),
+        Err(misuse) => Err(misused(alloc, misuse)?),
+    }
+}
