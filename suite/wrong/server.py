@@ -520,7 +520,7 @@ def socket_stops_at_a_reset():
 
 
 def socket_stops_at(number):
-    """The server stops for all where octets come for the so manieth time."""
+    """The server stops for all where octets come for the Nth time."""
     count = [0]
 
     @of_service("read")
