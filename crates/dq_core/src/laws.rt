@@ -1,4 +1,4 @@
-//! Laws of the plain server. Each function's contract is a law; its body does nothing.
+//! Laws of the plain server. Each function's contract is a law; its body changes nothing.
 
 ghost use Rattle.std.specs.Prelude.{◌≡◌, ◌≢◌, ◌≤◌, ◌+◌, ◌*◌, ◌⊎◌, ◌↔◌, ℕ, suc, Bool, false, IsTrue, Ok, List, [], ◌∷◌, ◌++◌, length, take, filter, map, Contains, Some, None, codes};
 ghost use Rattle.dq_pdu.specs.declared.pdu.Request.{Request};
@@ -486,8 +486,8 @@ pub fn rows_stay_sound()
 
 /// The pending responses of a C-FIND that ends with 0000 are the answers to its query, each in its
 /// own response, in the order of the records' keys: what is told of the records that match, over
-/// the rows that there are as the message is served. In the reply to the piece that brings the
-/// message, the octets of the first page of its responses stand.
+/// the rows that there are as the message is served. Where no C-FIND is open as the message comes,
+/// the octets of the first page of its responses stand in the reply to the piece that brings it.
 pub fn searches_end_with_their_answers()
     ensures studies { (institution : List ℕ) (rows : List Row) (limits : Limits)
         (agreement : Agreement) (message : Message) (context : AgreedContext)
@@ -524,7 +524,7 @@ pub fn searches_end_with_their_answers()
         (served (limits_of i) records agreement message).responses)).octets)
         (turn institutions world (Event.Piece c.number piece)).reply }
     // These records are the institution's in rows that are sound, so that the first clauses speak of
-    // them: those after the operations of the messages before it.
+    // them: in those after some first operations of the piece.
     ensures among_rows { (institutions : List Institution) (world : World) (c : Connection)
         (piece : List ℕ) (i : Institution) (agreement : Agreement) (records : List Record)
         (message : Message) → connection_in c.number world.connections ≡ Some c →

@@ -2,7 +2,6 @@
 use Rattle.std.proofs.Common.{◌≡◌, ℕ, Bool, true, false, ◌||◌, List, Some, None, is_some, option_map, refl, sym, ap, ◌∙◌, cond}
 use Rattle.std.specs.List.{list_all}
 use Rattle.dq_list.specs.Among.{IsAmong}
-use Rattle.dq_vr.specs.Tags as tags
 use Rattle.dq_dataset.specs.declared.data_set.Element.{Element}
 use Rattle.dq_dataset.specs.Tree.{ElementList}
 use Rattle.dq_dataset.specs.View.{elements_of}

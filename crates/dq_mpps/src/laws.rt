@@ -1,4 +1,4 @@
-//! What follows from the definitions. Each function's contract is a law; its body does nothing.
+//! What follows from the definitions. Each function's contract is a law; its body changes nothing.
 ghost use Rattle.std.specs.Prelude.{◌≡◌, ◌≢◌, ℕ, [], List, Some, true, false};
 ghost use Rattle.std.specs.List.{AllByRecursion};
 ghost use Rattle.std.specs.Option.{option_or};
@@ -110,7 +110,8 @@ pub fn sound_rows_stay_sound()
     written_law();
 }
 
-/// Rows whose octets spell data sets stay such, whatever octets a step is created from or changed by.
+/// Rows whose octets spell data sets stay such, whatever octets a step is created from (of rows in
+/// order) or changed by.
 pub fn rows_hold_data_sets()
     ensures created { (h : List ℕ) (limits : Limits) (rows : List Row) (message : Message)
         (syntax : Syntax) → AreOctets message.octets → IsRising rows

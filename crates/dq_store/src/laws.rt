@@ -1,4 +1,4 @@
-//! Laws of C-STORE. Each function's contract is a law; its body does nothing.
+//! Laws of C-STORE. Each function's contract is a law; its body changes nothing.
 ghost use Rattle.std.specs.Prelude.{◌≡◌, ◌≢◌, ◌⊎◌, ℕ, List, [], Some};
 ghost use Rattle.std.specs.List.{AllByRecursion};
 ghost use Rattle.dq_dataset.specs.declared.header.Syntax.{Syntax};

@@ -1,4 +1,4 @@
-//! Laws of rows and of their changes. Each function's contract is a law; its body does nothing.
+//! Laws of rows and of their changes. Each function's contract is a law; its body changes nothing.
 
 ghost use Rattle.std.specs.Prelude.{◌≡◌, ◌≢◌, ◌≤◌, ◌≤ℤ◌, ℕ, ℤ, pos, List, ◌∷◌, map, length, option_map, false, true, Some, None, IsPermutation};
 ghost use Rattle.dq_list.specs.Among.{IsAmong};

@@ -4,8 +4,8 @@ ghost use Rattle.std.specs.Option.{option_copied};
 ghost use Rattle.std.specs.Result.{result_ok};
 ghost use Rattle.clap.specs.declared.builder.command.Command.TheViews.{out-Command as fields_of};
 ghost use Rattle.clap.specs.Words.{app_of, rule_of, kind_of, subcommand_rows_of};
-ghost use Rattle.dq_words.specs.Words.{line_of, place_named, place_in, port_told, turns_told, seconds_told, told_if_given, loopback_address, request_in, request_of, serving_in, serving_of, migration_in, migration_of, errand_in, errand_of, asked};
-ghost use Rattle.dq_words.specs.Clap.{value_rule, required_rule, task_app, listening_app, serve_app, loopback_app, migrate_app, tasks_app, command, value_in, is_given, is_named, task_in};
+ghost use Rattle.dq_words.specs.Words.{line_of, place_named, place_in, port_told, turns_told, seconds_told, told_if_given, request_in, request_of, serving_in, serving_of, migration_in, migration_of, errand_in, errand_of, asked};
+ghost use Rattle.dq_words.specs.Clap.{value_rule, task_app, listening_app, serve_app, loopback_app, migrate_app, tasks_app, command, value_in, is_given, is_named};
 
 use crate::help::{CAPTURES, STATUSES};
 use clap::error::ErrorKind;
