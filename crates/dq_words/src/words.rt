@@ -15,6 +15,9 @@ use std::convert::AsStr;
 
 const PROGRAM_NAME: &str = "dq_server";
 
+/// What is said of the option that names the configuration.
+const CONFIGURATION: &str = "The configuration [default: the one that is built in]";
+
 const LOOPBACK_ADDRESS: &str = "127.0.0.1";
 
 /// What is done with a capture.
@@ -27,7 +30,7 @@ pub enum Task {
 }
 
 /// Where the rows are kept.
-#[derive(Clone, Copy, Debug, PartialEq, Eq)]
+#[derive(Clone, Copy)]
 pub enum Keeper<'a> {
     /// In memory, for the time of the run.
     Memory,
@@ -39,7 +42,7 @@ pub enum Keeper<'a> {
 
 /// What is asked for of a capture: a task, the configuration's file if one is named, and where the
 /// rows are kept.
-#[derive(Clone, Copy, Debug, PartialEq, Eq)]
+#[derive(Clone, Copy)]
 pub struct Asked<'a> {
     pub task: Task,
     pub config: Option<&'a str>,
@@ -50,7 +53,7 @@ pub struct Asked<'a> {
 /// silence one counts as ended, if it does, and whether what becomes of them is logged; the port of
 /// the console, if there is one; after how many turns the service ends, if it ends; the
 /// configuration's file if one is named, and where the rows are kept.
-#[derive(Clone, Copy, Debug, PartialEq, Eq)]
+#[derive(Clone, Copy)]
 pub struct Service<'a> {
     pub port: u16,
     pub address: &'a str,
@@ -63,14 +66,14 @@ pub struct Service<'a> {
 }
 
 /// The file of a store of the version before, and the file in which the new one is made.
-#[derive(Clone, Copy, Debug, PartialEq, Eq)]
+#[derive(Clone, Copy)]
 pub struct Migration<'a> {
     pub from: &'a str,
     pub to: &'a str,
 }
 
 /// What a command line asks for.
-#[derive(Clone, Copy, Debug, PartialEq, Eq)]
+#[derive(Clone, Copy)]
 pub enum Job<'a> {
     /// A task over a capture.
     Play(Asked<'a>),
@@ -314,24 +317,12 @@ fn value_option<'a>(alloc: Global, name: &'a str, value: &'a str, help: &'a str)
         .help(help)
 }
 
-/// The option that names the configuration.
-fn config_option<'a>(alloc: Global) -> Arg<'a>
-    ensures rule { rule_of result ≡ value_rule (codes "config") }
-    ensures local { result.global ≡ false }
-{
-    value_option(
-        alloc,
-        "config",
-        "FILE",
-        "The configuration [default: the one that is built in]",
-    )
-}
-
 /// A subcommand with the options that name files.
 fn task_command<'a>(alloc: Global, name: &'a str, about: &'a str) -> Result<Command<'a>, AllocError>
     ensures app { IfOk result (λ built. app_of built ≡ task_app name.entry.now) }
     ensures local { IfOk result (λ built. (fields_of built).has_globals ≡ false) }
 {
+    let config = value_option(alloc, "config", "FILE", CONFIGURATION);
     let new = value_option(
         alloc,
         "new",
@@ -347,7 +338,7 @@ fn task_command<'a>(alloc: Global, name: &'a str, about: &'a str) -> Result<Comm
     let command = Command::new(alloc, name)
         .about(about)
         .after_help(STATUSES)
-        .arg(config_option(alloc))?
+        .arg(config)?
         .arg(new)?
         .arg(store)?;
     Ok(command)
@@ -417,10 +408,11 @@ fn loopback_command<'a>(alloc: Global) -> Result<Command<'a>, AllocError>
     ensures app { IfOk result (λ built. app_of built ≡ loopback_app) }
     ensures local { IfOk result (λ built. (fields_of built).has_globals ≡ false) }
 {
+    let config = value_option(alloc, "config", "FILE", CONFIGURATION);
     let command = Command::new(alloc, "loopback")
         .about("Plays a capture from standard input over sockets, and prints what each was sent")
         .after_help(STATUSES)
-        .arg(config_option(alloc))?;
+        .arg(config)?;
     Ok(command)
 }
 

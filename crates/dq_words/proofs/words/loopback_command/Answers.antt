@@ -1,18 +1,15 @@
-use Rattle.std.proofs.Common.{ap, ap₂, ◌∙◌}
+use Rattle.std.proofs.Common.{◌∙◌, ap₂}
 use Rattle.std.specs.Prelude.{◌||◌}
-use Rattle.clap.specs.declared.builder.command.Command.{Command}
-use Rattle.clap.specs.declared.builder.command.Command.TheOpen.{Command-F}
 use Rattle.clap.specs.Words.{with_rule}
-use Rattle.clap.specs.Simple.{app_of_fields}
+use Rattle.dq_words.proofs.Options.{about, after_help}
 use Rattle.dq_words.proofs.words.loopback_command.Goals as goal
 
 pub returns-clause-app : goal.returns-clause-app
 returns-clause-app c =
-    let about = ap app_of_fields c.after_help.ensures ∙ ap app_of_fields c.about.ensures ∙ c.new.ensures.app in
-    c.in_ok-command.ensures.shape c.config_option.ensures.local ∙ ap₂ with_rule about c.config_option.ensures.rule
+    let told = (after_help c.about.result _ _ c.after_help.ensures).app_is ∙ (about c.new.result _ _ c.about.ensures).app_is ∙ c.new.ensures.app in
+    c.in_ok-command.ensures.shape c.value_option-config.ensures.local ∙ ap₂ with_rule told c.value_option-config.ensures.rule
 
 pub returns-clause-local : goal.returns-clause-local
 returns-clause-local c =
-    let globals = λ (fields : Command-F Command). fields.has_globals in
-    let about = ap globals c.after_help.ensures ∙ ap globals c.about.ensures ∙ c.new.ensures.local in
-    c.in_ok-command.ensures.globals ∙ ap₂ ◌||◌ about c.config_option.ensures.local
+    let told = (after_help c.about.result _ _ c.after_help.ensures).globals_are ∙ (about c.new.result _ _ c.about.ensures).globals_are ∙ c.new.ensures.local in
+    c.in_ok-command.ensures.globals ∙ ap₂ ◌||◌ told c.value_option-config.ensures.local
