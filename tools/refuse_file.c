@@ -1,7 +1,8 @@
 /* Refuses a call of a program on one of its files: a library to be preloaded, for the suites. It is no part of the
- * product. Calls of one kind, REFUSE_CALL=read, write, truncate or sync, on files whose path ends in REFUSE_PATH are
- * counted from 1. REFUSE_NUMBER=N refuses the Nth, N+ that one and each after it, and makes the file that REFUSE_MARK
- * names. Refused reads and syncs fail with EIO, all others with ENOSPC, and do nothing. */
+ * product. Calls of one kind, REFUSE_CALL=read, write, truncate, sync or accept, on files whose path ends in REFUSE_PATH
+ * are counted from 1; the path of a socket ends in ']'. REFUSE_NUMBER=N refuses the Nth, N+ that one and each after it,
+ * and makes the file that REFUSE_MARK names. Refused reads and syncs fail with EIO, all others with ENOSPC, and do
+ * nothing. */
 #define _GNU_SOURCE
 #include <dlfcn.h>
 #include <errno.h>
@@ -9,6 +10,7 @@
 #include <stdio.h>
 #include <stdlib.h>
 #include <string.h>
+#include <sys/socket.h>
 #include <sys/types.h>
 #include <sys/uio.h>
 #include <unistd.h>
@@ -103,4 +105,12 @@ int fsync(int file) {
 
 int fdatasync(int file) {
     return refuses("sync", file) ? -1 : NEXT(fdatasync)(file);
+}
+
+int accept(int socket, struct sockaddr *from, socklen_t *length) {
+    return refuses("accept", socket) ? -1 : NEXT(accept)(socket, from, length);
+}
+
+int accept4(int socket, struct sockaddr *from, socklen_t *length, int flags) {
+    return refuses("accept", socket) ? -1 : NEXT(accept4)(socket, from, length, flags);
 }

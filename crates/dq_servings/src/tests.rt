@@ -1,3 +1,3 @@
-mod logging;
 mod programs;
+mod servers;
 mod wires;

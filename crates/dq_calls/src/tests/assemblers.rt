@@ -53,11 +53,6 @@ fn zeros(alloc: Global, length: usize) -> Result<Listed<u8>, AllocError> {
     Ok(Listed::from_inner(vec![in alloc; 0; length]?))
 }
 
-fn take_front(alloc: Global, assembler: &mut Assembler, front: &[u8]) -> Result<(), Fail> {
-    let fragment = data(Listed::copy_of(alloc, front)?, false);
-    take(assembler, &fragment)
-}
-
 fn take_zeros(alloc: Global, assembler: &mut Assembler, fragments: usize) -> Result<(), Fail> {
     let fragment = data(zeros(alloc, 0x1_0000)?, false);
     for _ in 0..fragments {
@@ -72,15 +67,9 @@ fn whole(alloc: Global, assembler: &mut Assembler, length: usize) -> Result<Mess
     Ok(assembler.take(&last)?.ok_or("the message is whole")?)
 }
 
-/// A message whose data set has these octets, and so many of zero behind them, in fragments.
-pub(super) fn with_zeros(
-    alloc: Global,
-    code: u16,
-    front: &[u8],
-    length: usize,
-) -> Result<Message, Fail> {
+/// A message whose data set has so many octets of zero, in fragments.
+fn with_zeros(alloc: Global, code: u16, length: usize) -> Result<Message, Fail> {
     let mut assembler = begun(alloc, code)?;
-    take_front(alloc, &mut assembler, front)?;
     take_zeros(alloc, &mut assembler, length / 0x1_0000)?;
     whole(alloc, &mut assembler, length % 0x1_0000)
 }
@@ -100,15 +89,15 @@ fn is_discarded(message: &Message) -> bool {
 }
 
 fn is_over(alloc: Global, code: u16, length: usize) -> Result<bool, Fail> {
-    Ok(with_zeros(alloc, code, &[], length)?.over)
+    Ok(with_zeros(alloc, code, length)?.over)
 }
 
 fn is_held_whole(alloc: Global, code: u16, length: usize) -> Result<bool, Fail> {
-    Ok(is_held(&with_zeros(alloc, code, &[], length)?, length))
+    Ok(is_held(&with_zeros(alloc, code, length)?, length))
 }
 
 fn is_none_held(alloc: Global, code: u16, length: usize) -> Result<bool, Fail> {
-    Ok(is_discarded(&with_zeros(alloc, code, &[], length)?))
+    Ok(is_discarded(&with_zeros(alloc, code, length)?))
 }
 
 /// A C-FIND's data set may have 1,048,576 octets, and a C-STORE's 4,294,967,295.

@@ -1,35 +1,25 @@
-use dq_dataset::{DataSet, Syntax, read};
-use dq_match::{KeyList, fits, is_query, lent_meets, meets, shown, strike, wild};
+use dq_dataset::{DataSet, ReadFault, Syntax, read};
+use dq_match::{fits, is_query, lent_meets, wild};
 use dq_vr::{Tag, tags};
 use std::alloc::Global;
 use std::test::Fail;
 
-/// The data set of these elements, in rising order of their tags.
-fn data_set(alloc: Global, elements: &[(Tag, &[u8])]) -> Result<DataSet, Fail> {
-    let mut octets = Vec::new(alloc);
-    for (tag, value) in elements {
-        octets.extend_from_slice(&tag.group.to_le_bytes())?;
-        octets.extend_from_slice(&tag.element.to_le_bytes())?;
-        octets.extend_from_slice(&u32::try_from(value.len())?.to_le_bytes())?;
-        octets.extend_from_slice(value)?;
-    }
-    Ok(read(alloc, octets.as_slice(), Syntax::Implicit)?)
-}
-
 /// The data set of one element.
-fn alone(alloc: Global, tag: Tag, value: &[u8]) -> Result<DataSet, Fail> {
-    data_set(alloc, &[(tag, value)])
+fn alone(alloc: Global, tag: Tag, value: &[u8]) -> Result<DataSet, ReadFault> {
+    let mut octets = Vec::new(alloc);
+    octets.extend_from_slice(&tag.group.to_le_bytes())?;
+    octets.extend_from_slice(&tag.element.to_le_bytes())?;
+    let length = u32::try_from(value.len()).unwrap_or(0);
+    octets.extend_from_slice(&length.to_le_bytes())?;
+    octets.extend_from_slice(value)?;
+    read(alloc, octets.as_slice(), Syntax::Implicit)
 }
 
 /// Whether a record of one element meets a key.
-fn meets_alone(alloc: Global, tag: Tag, key: &[u8], held: &[u8]) -> Result<bool, Fail> {
+fn meets_alone(alloc: Global, tag: Tag, key: &[u8], held: &[u8]) -> Result<bool, ReadFault> {
     let key = alone(alloc, tag, key)?;
     let held = alone(alloc, tag, held)?;
     Ok(fits(&key, &held))
-}
-
-fn is_query_alone(alloc: Global, tag: Tag, value: &[u8]) -> Result<bool, Fail> {
-    Ok(is_query(&alone(alloc, tag, value)?))
 }
 
 // PS3.4 section C.2.2.2.4.
@@ -131,17 +121,6 @@ fn keys_of_each_kind(rt: HostRuntime) -> Result<(), Fail> {
     Ok(())
 }
 
-#[test]
-fn what_is_absent_meets_every_key(rt: HostRuntime) -> Result<(), Fail> {
-    let key = alone(rt.alloc(), tags::PATIENT_ID, b"S*H")?;
-    let absent = data_set(rt.alloc(), &[])?;
-    assert!(rt; fits(&key, &absent));
-    for element in key.elements() {
-        assert!(rt; meets(element, None));
-    }
-    Ok(())
-}
-
 // An element that is absent or left for later excludes no record, nor do octets that are cut off.
 #[test]
 fn elements_are_met_as_they_are_lent(rt: HostRuntime) -> Result<(), Fail> {
@@ -154,7 +133,7 @@ fn elements_are_met_as_they_are_lent(rt: HostRuntime) -> Result<(), Fail> {
         (tags::ACCESSION_NUMBER, b"7", held, true),
     ];
     for (tag, key, octets, expected) in rows {
-        let keys = data_set(rt.alloc(), &[(tag, key)])?;
+        let keys = alone(rt.alloc(), tag, key)?;
         assert_eq!(rt;
             lent_meets(keys.elements(), &[], octets),
             expected,
@@ -178,65 +157,8 @@ fn queries(rt: HostRuntime) -> Result<(), Fail> {
         (b"20240229\\*", false),
     ];
     for (date, expected) in rows {
-        let identifier = data_set(rt.alloc(), &[(tags::STUDY_DATE, date)])?;
+        let identifier = alone(rt.alloc(), tags::STUDY_DATE, date)?;
         assert_eq!(rt; is_query(&identifier), expected, "{date:?}");
     }
-    Ok(())
-}
-
-/// A level, a private element, and a patient's name without a value.
-const WITH_PRIVATE: &[u8] = b"\x08\0\x52\0\x06\0\0\0STUDY \x09\0\x10\0\x02\0\0\0XY\
-\x10\0\x10\0\0\0\0\0";
-
-/// Whether a key of a query is struck, how many are left, and what is shown of a record to those.
-fn answered(
-    alloc: Global,
-    query: &DataSet,
-    list: KeyList,
-    held: &DataSet,
-) -> Result<(bool, usize, DataSet), Fail> {
-    let (keys, optional) = strike(alloc, query, list)?;
-    let answer = shown(alloc, &keys, held)?;
-    Ok((optional, keys.elements().len(), answer))
-}
-
-#[test]
-fn unsupported_keys_are_struck(rt: HostRuntime) -> Result<(), Fail> {
-    let query = read(rt.alloc(), WITH_PRIVATE, Syntax::Implicit)?;
-    let held = alone(rt.alloc(), tags::PATIENT_NAME, b"DOE^A ")?;
-    let (optional, left, answer) = answered(rt.alloc(), &query, KeyList::Study, &held)?;
-    assert!(rt; optional);
-    assert_eq!(rt; left, 2);
-    assert_eq!(rt; answer.elements().len(), 1);
-    assert!(rt; answer.get(tags::PATIENT_NAME).is_some());
-    Ok(())
-}
-
-// The code item A with meaning Y is in no one of the items (A, X) and (B, Y), as PS3.5 section 7.5
-// spells them: one item of defined length after another.
-const CODE: Tag = tags::REQUESTED_PROCEDURE_CODE_SEQUENCE;
-
-const ITEMS: &[u8] = b"\xfe\xff\0\xe0\x14\0\0\0\x08\0\0\x01\x02\0\0\0A \x08\0\x02\x01\x02\0\0\0X \
-\xfe\xff\0\xe0\x14\0\0\0\x08\0\0\x01\x02\0\0\0B \x08\0\x02\x01\x02\0\0\0Y ";
-
-const ACROSS: &[u8] = b"\xfe\xff\0\xe0\x14\0\0\0\x08\0\0\x01\x02\0\0\0A \x08\0\x02\x01\x02\0\0\0Y ";
-
-const ONE_CODE: &[u8] = b"\xfe\xff\0\xe0\x0a\0\0\0\x08\0\0\x01\x02\0\0\0A ";
-
-#[test]
-fn one_item_meets_all_keys(rt: HostRuntime) -> Result<(), Fail> {
-    assert!(rt; !meets_alone(rt.alloc(), CODE, ACROSS, ITEMS)?);
-    assert!(rt; meets_alone(rt.alloc(), CODE, ONE_CODE, ITEMS)?);
-    assert!(rt; !is_query_alone(rt.alloc(), CODE, ITEMS)?);
-    Ok(())
-}
-
-#[test]
-fn a_code_is_shown_as_its_key(rt: HostRuntime) -> Result<(), Fail> {
-    let query = alone(rt.alloc(), CODE, ONE_CODE)?;
-    let held = alone(rt.alloc(), CODE, ITEMS)?;
-    let (optional, _, answer) = answered(rt.alloc(), &query, KeyList::Entry, &held)?;
-    assert!(rt; !optional);
-    assert_eq!(rt; answer.elements().len(), query.elements().len());
     Ok(())
 }

@@ -2,10 +2,7 @@
 ghost use Rattle.std.specs.Prelude.{◌≡◌, IfOk};
 
 use dq_dataset::{Sieve, Syntax};
-use dq_dimse::{
-    Accepted, Assembler, Body, Command, DimseFault, KEPT_ATTRIBUTES, Message, command_field,
-    write_message,
-};
+use dq_dimse::{Body, Command, KEPT_ATTRIBUTES, Message, command_field, write_message};
 use dq_list::Listed;
 use dq_pdu::Pdv;
 use std::alloc::{AllocError, Global};
@@ -18,7 +15,7 @@ pub(super) const ECHO_REQUEST: [u8; 68] = *b"\0\0\0\0\x04\0\0\0\x38\0\0\0\
 \0\0\x02\0\x12\0\0\01.2.840.10008.1.1\0\0\0\0\x01\x02\0\0\0\x30\0\
 \0\0\x10\x01\x02\0\0\0\x01\0\0\0\0\x08\x02\0\0\0\x01\x01";
 
-/// The PDU that answers it.
+/// The PDU that answers a C-ECHO request of Message ID 1.
 const ECHO_RESPONSE: &[u8] = b"\x04\0\0\0\0\x54\0\0\0\x50\x01\x03\0\0\0\0\x04\0\0\0\x42\0\0\0\
 \0\0\x02\0\x12\0\0\01.2.840.10008.1.1\0\0\0\0\x01\x02\0\0\0\x30\x80\
 \0\0\x20\x01\x02\0\0\0\x01\0\0\0\0\x08\x02\0\0\0\x01\x01\0\0\0\x09\x02\0\0\0\0\0";
@@ -66,25 +63,6 @@ pub(super) fn request(
         body: body(alloc, code, octets)?,
         over: false,
     })
-}
-
-/// What an assembler of context 1 answers to a command set in one fragment.
-fn taken(alloc: Global, octets: &[u8]) -> Result<Option<Message>, DimseFault> {
-    let context = Accepted {
-        id: 1,
-        syntax: Syntax::Explicit,
-    };
-    let accepted = Listed::copy_of(alloc, &[context])?;
-    let value = command(alloc, octets)?;
-    Assembler::new(alloc, accepted).take(&value)
-}
-
-#[test]
-fn a_request_is_read(rt: HostRuntime) -> Result<(), Fail> {
-    let message = taken(rt.alloc(), &ECHO_REQUEST)?.ok_or("no message")?;
-    assert_eq!(rt; message.command.id, 1);
-    assert!(rt; message.command.sop_class.as_slice() == VERIFICATION);
-    Ok(())
 }
 
 /// What is sent for a C-ECHO response.

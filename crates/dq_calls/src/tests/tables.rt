@@ -1,5 +1,6 @@
 //! Rows of records in memory, and over a fuse.
-ghost use Rattle.std.specs.Prelude.{◌≡◌, ◌<◌, ◌^◌, [], true, false, length, IfOk};
+ghost use Rattle.std.specs.Prelude.{◌≡◌, [], true, false, IfOk};
+ghost use Rattle.dq_tables.specs.declared.row.Kind.{Kind};
 ghost use Rattle.dq_tables.specs.Sound.{is_own, Fits};
 
 use dq_list::Listed;
@@ -11,52 +12,37 @@ use std::test::*;
 
 const NORTH: &[u8] = b"NORTH";
 
-/// A study 1.2, a series 1.3 of it, an image 1.4 of that, and an entry with the id S1, in Explicit.
-const STUDY: [u8; 12] = *b"\x20\x00\x0d\x00UI\x04\x001.2\x00";
-
-const SERIES: [u8; 24] = *b"\x20\x00\x0d\x00UI\x04\x001.2\x00\x20\x00\x0e\x00UI\x04\x001.3\x00";
-
-const IMAGE: [u8; 24] = *b"\x08\x00\x18\x00UI\x04\x001.4\x00\x20\x00\x0e\x00UI\x04\x001.3\x00";
-
+/// An entry with the id S1, in Explicit.
 const ENTRY: [u8; 30] =
     *b"\x40\0\0\x01SQ\0\0\x12\0\0\0\xfe\xff\0\xe0\x0a\0\0\0\x40\0\x09\0SH\x02\0S1";
 
-fn row(
-    alloc: Global,
-    kind: Kind,
-    key: &[u8],
-    above: &[u8],
-    octets: &[u8],
-) -> Result<Row, AllocError>
+/// A row of NORTH that stands under no other.
+fn row(alloc: Global, kind: Kind, key: &[u8], octets: &[u8]) -> Result<Row, AllocError>
     ensures { IfOk result (λ row. row
         ≡ record {
           kind = kind;
           inst = NORTH.now;
           key = key.now;
-          above = above.now;
+          above = [];
           octets = octets.now;
           started = false;
         }) }
 {
     let octets = Vec::from_slice(alloc, octets)?;
-    Row::new(alloc, NORTH, &RecordKeys { kind, key, above }, octets)
+    let keys = RecordKeys {
+        kind,
+        key,
+        above: b"",
+    };
+    Row::new(alloc, NORTH, &keys, octets)
 }
 
-/// A row of NORTH that is its record's own.
-fn own(alloc: Global, kind: Kind, key: &[u8], above: &[u8], octets: &[u8]) -> Result<Row, Fail>
-    requires { length octets.now < 2 ^ 31 }
-    ensures same { IfOk result (λ row. row
-        ≡ record {
-          kind = kind;
-          inst = NORTH.now;
-          key = key.now;
-          above = above.now;
-          octets = octets.now;
-          started = false;
-        }) }
+/// The row of the entry, which is its record's own.
+fn entry(alloc: Global) -> Result<Row, Fail>
+    ensures kind { IfOk result (λ row. row.kind ≡ Kind.Entry) }
     ensures own { IfOk result (λ row. is_own row ≡ true) }
 {
-    let row = row(alloc, kind, key, above, octets)?;
+    let row = row(alloc, Kind::Entry, b"S1", &ENTRY)?;
     let is_own = row.is_own(alloc)?;
     Ok(
         is_own
@@ -65,33 +51,11 @@ fn own(alloc: Global, kind: Kind, key: &[u8], above: &[u8], octets: &[u8]) -> Re
     )
 }
 
-/// The change that keeps the study, the series and the image where nothing is kept.
-fn stored(alloc: Global) -> Result<Change, Fail>
-    ensures { IfOk result (λ change. Fits [] change) }
-{
-    let study = own(alloc, Kind::Study, b"1.2", b"", &STUDY)?;
-    let series = own(alloc, Kind::Series, b"1.3", b"1.2", &SERIES)?;
-    let image = own(alloc, Kind::Image, b"1.4", b"1.3", &IMAGE)?;
-    Ok(Change::Stored {
-        study: Some(study),
-        series: Some(series),
-        image,
-    })
-}
-
 /// The change that adds the entry where nothing is kept.
 fn added(alloc: Global) -> Result<Change, Fail>
     ensures { IfOk result (λ change. Fits [] change) }
 {
-    Ok(Change::EntryAdded(own(alloc, Kind::Entry, b"S1", b"", &ENTRY)?))
-}
-
-/// The change that adds a step where nothing is kept.
-fn begun(alloc: Global) -> Result<Change, Fail>
-    ensures { IfOk result (λ change. Fits [] change) }
-{
-    let step = own(alloc, Kind::Step, b"1.5", b"", b"")?;
-    Ok(Change::StepAdded(step, Listed::empty(alloc)))
+    Ok(Change::EntryAdded(entry(alloc)?))
 }
 
 /// Tables in which nothing was kept but what a change adds.
@@ -105,50 +69,10 @@ fn after(alloc: Global, change: Change) -> Result<PlainTables, TableFault>
     }
 }
 
-/// Tables with a study, a series and an image of NORTH.
-pub(super) fn with_image(alloc: Global) -> Result<PlainTables, Fail> {
-    let change = stored(alloc)?;
-    Ok(after(alloc, change)?)
-}
-
 /// Tables with an entry of NORTH.
 fn with_entry(alloc: Global) -> Result<PlainTables, Fail> {
     let change = added(alloc)?;
     Ok(after(alloc, change)?)
-}
-
-/// Tables with a step of NORTH.
-fn with_step(alloc: Global) -> Result<PlainTables, Fail> {
-    let change = begun(alloc)?;
-    Ok(after(alloc, change)?)
-}
-
-#[test]
-fn studies_are_found(rt: HostRuntime) -> Result<(), Fail> {
-    let mut tables = with_image(rt.alloc())?;
-    assert!(rt; tables.study(rt.alloc(), NORTH, b"1.2")?.is_some());
-    assert!(rt; tables.studies(rt.alloc(), b"SOUTH")?.is_empty());
-    Ok(())
-}
-
-#[test]
-fn series_are_found(rt: HostRuntime) -> Result<(), Fail> {
-    let mut tables = with_image(rt.alloc())?;
-    assert!(rt; tables.series(rt.alloc(), NORTH, b"1.3")?.is_some());
-    assert!(rt; tables.series_of(rt.alloc(), NORTH, b"1.2")?.len() == 1);
-    Ok(())
-}
-
-#[test]
-fn images_are_found(rt: HostRuntime) -> Result<(), Fail> {
-    let mut tables = with_image(rt.alloc())?;
-    assert!(rt; tables.image(rt.alloc(), NORTH, b"1.4")?.is_some());
-    assert!(rt; tables.images_of(rt.alloc(), NORTH, b"1.2")?.is_empty());
-    assert_eq!(rt;
-        tables.count_above(rt.alloc(), Kind::Image, NORTH, b"1.3")?,
-        1
-    );
-    Ok(())
 }
 
 #[test]
@@ -159,17 +83,9 @@ fn entries_are_found(rt: HostRuntime) -> Result<(), Fail> {
     Ok(())
 }
 
-#[test]
-fn steps_are_found(rt: HostRuntime) -> Result<(), Fail> {
-    let mut tables = with_step(rt.alloc())?;
-    assert!(rt; tables.step(rt.alloc(), NORTH, b"1.5")?.is_some());
-    assert!(rt; tables.steps(rt.alloc(), NORTH)?.len() == 1);
-    Ok(())
-}
-
 /// The labels of a record of NORTH.
 fn labels(alloc: Global, kind: Kind, key: &[u8], octets: &[u8]) -> Result<Labels, AllocError> {
-    row(alloc, kind, key, b"", octets)?.labels(alloc)
+    row(alloc, kind, key, octets)?.labels(alloc)
 }
 
 /// A study of a patient and a day, in Explicit.

@@ -1,13 +1,12 @@
 use dq_config::Config;
-use dq_core::{Event, Fault, Reply, Server};
+use dq_core::Server;
 use dq_list::Listed;
-use dq_tables::{Kind, PlainTables};
+use dq_tables::PlainTables;
 use dq_wires::{
     Call, Came, MOST_WIRES, MemoryWires, Script, SocketWires, TurnFault, Turner, WireFault, Wires,
-    loop_back, turn_all,
+    turn_all,
 };
 use std::alloc::{AllocError, Global};
-use std::io::{Read, Write};
 use std::net::{Ipv4Addr, SocketAddr, TcpStream};
 use std::test::Fail;
 use std::time::Duration;
@@ -18,7 +17,7 @@ const UNKNOWN: [u8; 6] = [8, 0, 0, 0, 0, 0];
 
 const ABORTED: [u8; 10] = [7, 0, 0, 0, 0, 4, 0, 0, 0, 0];
 
-pub(super) fn turner(alloc: Global) -> Result<Turner<PlainTables>, Fail> {
+fn turner(alloc: Global) -> Result<Turner<PlainTables>, Fail> {
     let config = Config::built_in(alloc)?;
     let server = Server::new(alloc, config, PlainTables::new(alloc))?;
     if !server.can_open(0) {
@@ -206,89 +205,6 @@ fn no_more_are_held_than_fit(rt: HostRuntime) -> Result<(), Fail> {
 }
 
 #[test]
-fn an_order_is_answered(rt: HostRuntime) -> Result<(), Fail> {
-    let alloc = rt.alloc();
-    let mut turner = turner(alloc)?;
-    let order = Event::Withdraw {
-        inst: Listed::copy_of(alloc, b"DEMO")?,
-        id: Listed::copy_of(alloc, b"S1")?,
-    };
-    assert!(rt; matches!(turner.console(order), Ok(Reply::Refused(5))));
-    Ok(())
-}
-
-// An entry of the worklist, in Explicit.
-const ENTRY: &[u8] = b"\x08\x00\x50\x00SH\x04\x00A101\
-\x10\x00\x10\x00PN\x08\x00ROE^JOHN\
-\x10\x00\x20\x00LO\x04\x00P101\
-\x20\x00\x0d\x00UI\x08\x001.2.101\x00\
-\x40\x00\x00\x01SQ\x00\x00\x46\x00\x00\x00\xfe\xff\x00\xe0\x3e\x00\x00\x00\
-\x08\x00\x60\x00CS\x02\x00CT\
-\x40\x00\x01\x00AE\x04\x00CT1 \
-\x40\x00\x02\x00DA\x08\x0020240706\
-\x40\x00\x03\x00TM\x04\x001000\
-\x40\x00\x09\x00SH\x04\x00S101\
-\x40\x00\x01\x10SH\x04\x00R101";
-
-#[test]
-fn rows_are_counted(rt: HostRuntime) -> Result<(), Fail> {
-    let alloc = rt.alloc();
-    let mut turner = turner(alloc)?;
-    assert_eq!(rt; turner.count(Kind::Entry, b"DEMO"), Ok(0));
-    let order = Event::Schedule {
-        inst: Listed::copy_of(alloc, b"DEMO")?,
-        octets: Listed::copy_of(alloc, ENTRY)?,
-    };
-    assert!(rt; matches!(turner.console(order), Ok(Reply::Done)));
-    assert_eq!(rt; turner.count(Kind::Entry, b"DEMO"), Ok(1));
-    assert_eq!(rt; turner.count(Kind::Study, b"DEMO"), Ok(0));
-    assert_eq!(rt; turner.count(Kind::Entry, b"NORTH"), Ok(0));
-    assert_eq!(rt; turner.server().institutions().len(), 1);
-    let order = Event::Withdraw {
-        inst: Listed::copy_of(alloc, b"DEMO")?,
-        id: Listed::copy_of(alloc, b"S101")?,
-    };
-    assert!(rt; matches!(turner.console(order), Ok(Reply::Done)));
-    assert_eq!(rt; turner.count(Kind::Entry, b"DEMO"), Ok(0));
-    Ok(())
-}
-
-#[test]
-fn a_peer_is_answered_over_sockets(rt: HostRuntime) -> Result<(), Fail> {
-    let alloc = rt.alloc();
-    let mut wires = SocketWires::listen(alloc, &rt, SocketAddr::from((Ipv4Addr::LOCALHOST, 0)))?;
-    let mut turner = turner(alloc)?;
-    let mut peer = TcpStream::connect(&rt, wires.address()?)?;
-    peer.write_all(&UNKNOWN)?;
-    for _ in 0..20 {
-        turn_all(&mut turner, &mut wires, 1)?;
-        wires.rest(&rt, Duration::from_millis(20))?;
-    }
-    let mut answer = Vec::new(alloc);
-    peer.read_to_end(&mut answer)?;
-    assert_eq!(rt; answer.as_slice(), ABORTED.as_slice());
-    Ok(())
-}
-
-#[test]
-fn a_silent_peer_is_given_up(rt: HostRuntime) -> Result<(), Fail> {
-    let alloc = rt.alloc();
-    let mut wires = SocketWires::listen(alloc, &rt, SocketAddr::from((Ipv4Addr::LOCALHOST, 0)))?;
-    wires.set_quiet(Some(Duration::from_millis(100)));
-    let mut turner = turner(alloc)?;
-    let _peer = TcpStream::connect(&rt, wires.address()?)?;
-    wires.rest(&rt, Duration::from_millis(20))?;
-    turn_all(&mut turner, &mut wires, 1)?;
-    assert!(rt; turner.server().holds(1));
-    for _ in 0..20 {
-        wires.rest(&rt, Duration::from_millis(20))?;
-        turn_all(&mut turner, &mut wires, 1)?;
-    }
-    assert!(rt; !turner.server().holds(1));
-    Ok(())
-}
-
-#[test]
 fn a_rest_ends_for_other_wires(rt: HostRuntime) -> Result<(), Fail> {
     let alloc = rt.alloc();
     let mut wires = SocketWires::listen(alloc, &rt, SocketAddr::from((Ipv4Addr::LOCALHOST, 0)))?;
@@ -298,47 +214,5 @@ fn a_rest_ends_for_other_wires(rt: HostRuntime) -> Result<(), Fail> {
     let _peer = TcpStream::connect(&rt, others.address()?)?;
     wires.rest_with(&mut others, &rt, Duration::from_secs(50))?;
     assert_eq!(rt; others.accept(), Ok(Some(0)));
-    Ok(())
-}
-
-// The octets of a unit whose type is not known bring an abort; those of one cut short bring none.
-fn pieces(alloc: Global) -> Result<Vec<Event>, AllocError> {
-    let piece = |number, octets: &[u8]| -> Result<Event, AllocError> {
-        Ok(Event::Piece(number, Listed::copy_of(alloc, octets)?))
-    };
-    let mut events = Vec::new(alloc);
-    events.push(Event::Open(4))?;
-    events.push(Event::Open(7))?;
-    events.push(piece(7, &UNKNOWN[..2])?)?;
-    events.push(piece(4, &UNKNOWN[..5])?)?;
-    events.push(piece(5, &UNKNOWN)?)?;
-    events.push(piece(4, &UNKNOWN[5..])?)?;
-    events.push(piece(4, &UNKNOWN)?)?;
-    events.push(Event::End(4))?;
-    events.push(Event::End(7))?;
-    events.push(Event::Open(9))?;
-    events.push(Event::Withdraw {
-        inst: Listed::copy_of(alloc, b"DEMO")?,
-        id: Listed::copy_of(alloc, b"S1")?,
-    })?;
-    events.push(piece(9, &UNKNOWN)?)?;
-    Ok(events)
-}
-
-#[test]
-fn a_capture_is_played_over_sockets(rt: HostRuntime) -> Result<(), Fail> {
-    let alloc = rt.alloc();
-    let config = Config::built_in(alloc)?;
-    let server = Server::new(alloc, config, PlainTables::new(alloc))?;
-    assert!(rt; server.can_open(0));
-    let wires = SocketWires::listen(alloc, &rt, SocketAddr::from((Ipv4Addr::LOCALHOST, 0)))?;
-    let sent = loop_back(alloc, server, wires, &rt, pieces(alloc)?)?;
-    assert_eq!(rt; sent.len(), 3);
-    assert_eq!(rt; sent[0].number, 4);
-    assert_eq!(rt; sent[0].octets.as_slice(), ABORTED.as_slice());
-    assert_eq!(rt; sent[1].number, 7);
-    assert!(rt; sent[1].octets.is_empty());
-    assert_eq!(rt; sent[2].number, 9);
-    assert_eq!(rt; sent[2].octets.as_slice(), ABORTED.as_slice());
     Ok(())
 }

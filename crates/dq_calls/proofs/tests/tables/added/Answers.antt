@@ -1,7 +1,5 @@
-use Rattle.std.proofs.Common.{ap}
-use Rattle.dq_tables.specs.declared.row.Row.{Row}
 use Rattle.dq_calls.proofs.Fresh.{fits_entry}
 use Rattle.dq_calls.proofs.tests.tables.added.Goals as goal
 
 pub returns : goal.returns
-returns c = fits_entry c.in_ok-own.field-0 (ap (λ (row : Row). row.kind) c.in_ok-own.ensures.same) c.in_ok-own.ensures.own
+returns c = fits_entry c.in_ok-entry.field-0 c.in_ok-entry.ensures.kind c.in_ok-entry.ensures.own

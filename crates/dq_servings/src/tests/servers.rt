@@ -153,20 +153,6 @@ fn a_store_that_fails_stops_a_run(rt: HostRuntime) -> Result<(), Fail> {
 }
 
 #[test]
-fn a_store_that_fails_stops_the_server(rt: HostRuntime) -> Result<(), Fail> {
-    let alloc = rt.alloc();
-    let tables = Fused::new(PlainTables::new(alloc), 0);
-    let mut server = Server::new(alloc, Config::built_in(alloc)?, tables)?;
-    assert!(rt; server.can_open(1));
-    server.step(Event::Open(1))?;
-    server.step(Event::Piece(1, Listed::copy_of(alloc, REQUEST)?))?;
-    let store = Listed::copy_of(alloc, STORE)?;
-    assert!(rt; matches!(server.step(Event::Piece(1, store)), Err(Fault::Store)));
-    assert!(rt; matches!(server.step(Event::End(1)), Err(Fault::Stopped)));
-    Ok(())
-}
-
-#[test]
 fn a_number_is_opened_once(rt: HostRuntime) {
     assert!(rt; well_formed(&[Event::Open(1), Event::Open(2)]));
     assert!(rt; !well_formed(&[Event::Open(2), Event::Open(2)]));
