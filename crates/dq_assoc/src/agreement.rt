@@ -79,7 +79,7 @@ impl AgreedContext {
 }
 
 /// What an open association agreed on.
-#[derive(Debug, Drop)]
+#[derive(Drop)]
 pub struct Agreement {
     /// The contexts that were accepted, in the request's order.
     pub contexts: Listed<AgreedContext>,

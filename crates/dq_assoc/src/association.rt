@@ -48,7 +48,7 @@ pub enum Verdict {
 
 /// What a PDU leads to: messages to be answered first, then octets, and whether the connection is
 /// closed.
-#[derive(Debug, Drop)]
+#[derive(Drop)]
 pub struct Step {
     pub messages: Listed<Message>,
     pub octets: Listed<u8>,
@@ -56,7 +56,7 @@ pub struct Step {
 }
 
 /// What an association holds between two PDUs.
-#[derive(Debug, Drop)]
+#[derive(Drop)]
 pub(crate) enum Held {
     Waiting,
     Open(Agreement, Assembler),
@@ -77,7 +77,7 @@ impl Held {
 }
 
 /// An association.
-#[derive(Debug, Drop)]
+#[derive(Drop)]
 pub struct Association {
     alloc: Global,
     held: Held,

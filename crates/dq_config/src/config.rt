@@ -28,7 +28,7 @@ associations = 4
 ";
 
 /// A pair of application entity titles, without the spaces at their ends.
-#[derive(Debug, Drop)]
+#[derive(Drop)]
 pub struct Route {
     pub called: Listed<u8>,
     pub calling: Listed<u8>,
@@ -36,7 +36,7 @@ pub struct Route {
 
 /// An institution: its name, the pairs of titles that are its own, and how many studies, images,
 /// worklist entries, performed steps and open associations it may have.
-#[derive(Debug, Drop)]
+#[derive(Drop)]
 pub struct Institution {
     pub name: Listed<u8>,
     pub routes: Listed<Route>,
@@ -49,7 +49,7 @@ pub struct Institution {
 
 /// The institutions, in the order of the configuration. No name and no pair of titles comes twice,
 /// and each limit is in its range.
-#[derive(Debug, Drop)]
+#[derive(Drop)]
 pub struct Config {
     institutions: Listed<Institution>,
 }

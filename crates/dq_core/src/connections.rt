@@ -40,7 +40,7 @@ const MOST_SPARES: usize = 16;
 /// The connections that are held, and the configuration that says whose they are. The slot of each
 /// stands at a place that does not change, which is found by its number. A few slots of connections
 /// that ended are used again.
-#[derive(Debug, Drop)]
+#[derive(Drop)]
 pub(crate) struct Connections {
     pub config: Config,
     pub slots: Slab<Slot>,

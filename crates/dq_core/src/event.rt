@@ -1,7 +1,7 @@
 use dq_list::Listed;
 
 /// What happens to the server. A connection has a number, and opened numbers rise.
-#[derive(Debug, Drop)]
+#[derive(Drop)]
 pub enum Event {
     /// A connection is opened.
     Open(u64),
@@ -24,7 +24,7 @@ pub enum Event {
 }
 
 /// What an event is answered with.
-#[derive(Debug, Drop)]
+#[derive(Drop)]
 pub enum Reply {
     /// Octets for a connection, and whether it is closed after them.
     Octets {

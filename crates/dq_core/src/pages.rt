@@ -19,7 +19,7 @@ const PAGE_LENGTH: usize = 64;
 
 /// Responses that were not sent: the context and the command of the message that they answer, the
 /// longest PDU that the peer takes, and the answers that are left.
-#[derive(Debug, Drop)]
+#[derive(Drop)]
 pub(crate) struct OpenQuery {
     pub context: AgreedContext,
     pub command: Command,

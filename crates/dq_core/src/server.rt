@@ -30,7 +30,7 @@ use std::alloc::Global;
 use std::marker::Model;
 
 /// The server over what keeps its rows: the connections that are held, between two events.
-#[derive(Debug, Drop)]
+#[derive(Drop)]
 pub struct Server<T> {
     alloc: Global,
     connections: Connections,
@@ -59,7 +59,7 @@ impl<T> Model for Server<T> {
 }
 
 /// What a run came to: its replies, the fault that stopped it, if one did, and what keeps the rows.
-#[derive(Debug, Drop)]
+#[derive(Drop)]
 pub struct Outcome<T> {
     pub replies: Listed<Reply>,
     pub fault: Option<Fault>,

@@ -49,7 +49,7 @@ pub(crate) struct Host<'a> {
 }
 
 /// What a connection is answered: octets, and the C-FIND that is open on it afterwards.
-#[derive(Debug, Drop)]
+#[derive(Drop)]
 pub(crate) struct Answered {
     pub octets: Vec<u8>,
     pub query: Option<OpenQuery>,

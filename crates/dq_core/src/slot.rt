@@ -26,7 +26,7 @@ use std::alloc::{AllocError, Global};
 /// A connection that is held: its number, what came on it so far, its association, the name of the
 /// institution that has it once its request was accepted, and the C-FIND whose responses were not
 /// all sent, if there is one.
-#[derive(Debug, Drop)]
+#[derive(Drop)]
 pub(crate) struct Slot {
     pub number: u64,
     pub inbox: Inbox,
@@ -44,7 +44,7 @@ pub(crate) struct Called<'a> {
 }
 
 /// What PDUs lead to: the acceptance of a request, and the step of what comes after it.
-#[derive(Debug, Drop)]
+#[derive(Drop)]
 pub(crate) struct Taken {
     pub opening: Listed<u8>,
     pub step: Step,

@@ -8,7 +8,7 @@ use std::alloc::{AllocError, Global};
 
 /// How many associations each institution has open, in the order of the configuration, so that no
 /// piece has to count them anew.
-#[derive(Debug, Drop)]
+#[derive(Drop)]
 pub(crate) struct Tally {
     pub counts: Vec<usize>,
 }

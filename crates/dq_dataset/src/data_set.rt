@@ -10,14 +10,14 @@ use std::marker::Model;
 
 /// The elements of a data set or of an item, in rising order of their tags.
 #[cycle(data_set)]
-#[derive(Debug, Drop)]
+#[derive(Drop)]
 pub struct DataSet {
     elements: Listed<Element>,
 }
 
 /// One data element.
 #[cycle(data_set)]
-#[derive(Debug, Drop)]
+#[derive(Drop)]
 pub struct Element {
     pub tag: Tag,
     pub vr: Vr,
@@ -26,7 +26,7 @@ pub struct Element {
 
 /// The value of an element.
 #[cycle(data_set)]
-#[derive(Debug, Drop)]
+#[derive(Drop)]
 pub enum Value {
     Octets(Listed<u8>),
     Items(Listed<DataSet>),

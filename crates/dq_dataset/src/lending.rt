@@ -13,7 +13,7 @@ use std::marker::Model;
 
 /// An element, with the octets of its value as spelled, without the end of an undefined length, and
 /// the syntax in which they spell items where the VR is SQ.
-#[derive(Clone, Copy, Debug, PartialEq, Eq)]
+#[derive(Clone, Copy, PartialEq, Eq)]
 pub struct Lent<'a> {
     pub tag: Tag,
     pub vr: Vr,

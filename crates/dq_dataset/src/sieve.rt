@@ -28,7 +28,7 @@ use walk::{Met, Walk, Walked, element_met};
 pub const KEPT_LIMIT: u32 = 67_108_864;
 
 /// What a list of tags leaves of a data set.
-#[derive(Debug, Drop)]
+#[derive(Drop)]
 pub enum Sifted {
     /// The elements whose tags are listed, and whether there was another. A group length counts as
     /// none (PS3.5 section 7.2).
@@ -40,7 +40,7 @@ pub enum Sifted {
 }
 
 /// The elements of the outer data set, as far as they came.
-#[derive(Debug, Drop)]
+#[derive(Drop)]
 pub(crate) struct Outer {
     /// How the data set is spelled.
     pub syntax: Syntax,
@@ -55,7 +55,7 @@ pub(crate) struct Outer {
 }
 
 /// Where in the data set the octets end that came.
-#[derive(Debug, Drop)]
+#[derive(Drop)]
 pub(crate) enum Stage {
     /// Between two elements, or in a header, of which these octets came.
     Between(Vec<u8>),
@@ -68,7 +68,7 @@ pub(crate) enum Stage {
 }
 
 /// What a sieve holds between two pieces.
-#[derive(Debug, Drop)]
+#[derive(Drop)]
 pub(crate) enum SieveState {
     Sifting(Outer, Stage),
     /// Memory ran out.
@@ -78,7 +78,7 @@ pub(crate) enum SieveState {
 /// Takes a data set in pieces, and keeps the elements whose tags are listed (PS3.5 section 7.1). Of
 /// a value that is not kept nothing is collected, nor of one that passes the limit by its own
 /// length. Once the limit is passed nothing is held.
-#[derive(Debug, Drop)]
+#[derive(Drop)]
 pub struct Sieve {
     alloc: Global,
     tags: &'static [Tag],

@@ -40,7 +40,7 @@ pub struct Accepted {
 }
 
 /// What came of a data set.
-#[derive(Debug, Drop)]
+#[derive(Drop)]
 pub(crate) enum Part {
     /// Its fragments so far.
     Octets(Listed<u8>),
@@ -51,7 +51,7 @@ pub(crate) enum Part {
 }
 
 /// A message whose command set is whole, and whose data set is still to come.
-#[derive(Debug, Drop)]
+#[derive(Drop)]
 pub(crate) struct Begun {
     pub context: Accepted,
     pub command: Command,
@@ -59,7 +59,7 @@ pub(crate) struct Begun {
 }
 
 /// What an assembler holds between two PDVs.
-#[derive(Debug, Drop)]
+#[derive(Drop)]
 pub(crate) enum Gathered {
     Nothing,
     /// The fragments of a command set so far, and their context.
@@ -69,7 +69,7 @@ pub(crate) enum Gathered {
 }
 
 /// Assembles messages from presentation data values.
-#[derive(Debug, Drop)]
+#[derive(Drop)]
 pub struct Assembler {
     alloc: Global,
     accepted: Listed<Accepted>,

@@ -5,7 +5,7 @@ use dq_dataset::Sifted;
 use dq_list::Listed;
 
 /// What a command set says (PS3.7 annex E).
-#[derive(Debug, Drop)]
+#[derive(Drop)]
 pub struct Command {
     /// Command Field (0000,0100).
     pub code: u16,
@@ -52,7 +52,7 @@ impl Command {
 }
 
 /// The data set of a message.
-#[derive(Debug, Drop)]
+#[derive(Drop)]
 pub enum Body {
     Octets(Listed<u8>),
     /// What the kept attributes leave of it. Its octets were sifted as they came.
@@ -74,7 +74,7 @@ impl Body {
 }
 
 /// A message: its presentation context, its command, and its data set.
-#[derive(Debug, Drop)]
+#[derive(Drop)]
 pub struct Message {
     pub context: u8,
     pub command: Command,

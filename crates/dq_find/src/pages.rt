@@ -9,7 +9,7 @@ use std::marker::Model;
 
 /// The answers to a query that were not given yet, with its final status and whether keys were left
 /// out. Contracts see what is left of what was found.
-#[derive(Debug, Drop)]
+#[derive(Drop)]
 pub struct Pages {
     status: u16,
     optional: bool,

@@ -18,7 +18,7 @@ use std::alloc::{AllocError, Global};
 /// The answer to a query: the final status, whether the identifier had keys that are not supported
 /// and were left out, and the data sets of the pending responses in order (PS3.4 section
 /// C.4.1.1.4).
-#[derive(Debug, Drop)]
+#[derive(Drop)]
 pub struct Found {
     pub status: u16,
     pub optional: bool,

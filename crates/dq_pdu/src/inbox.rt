@@ -18,7 +18,7 @@ use std::mem;
 const MOST_ROOM: usize = 2 * (PDU_HEADER + LONGEST_BODY);
 
 /// What an inbox holds between two pieces.
-#[derive(Debug, Drop)]
+#[derive(Drop)]
 pub(crate) enum InboxState {
     /// The octets after the last PDU.
     Reading(Listed<u8>),
@@ -29,7 +29,7 @@ pub(crate) enum InboxState {
 }
 
 /// Takes a stream in pieces and gives its PDUs (PS3.8 section 9.3).
-#[derive(Debug, Drop)]
+#[derive(Drop)]
 pub struct Inbox {
     alloc: Global,
     state: InboxState,
@@ -47,7 +47,7 @@ impl Model for Inbox {
 }
 
 /// What a piece added to a stream: the PDUs that it completed, and the fault after them.
-#[derive(Debug, Drop)]
+#[derive(Drop)]
 pub struct Fed {
     pub pdus: Listed<Pdu>,
     pub fault: Option<PduFault>,

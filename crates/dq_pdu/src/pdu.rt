@@ -3,7 +3,7 @@ use crate::numbers::{RESERVED_LENGTH, TITLE_LENGTH};
 use dq_list::Listed;
 
 /// A protocol data PDU (PS3.8 section 9.3).
-#[derive(Debug, Drop)]
+#[derive(Drop)]
 pub enum Pdu {
     /// A-ASSOCIATE-RQ.
     Request(Request),
@@ -22,7 +22,7 @@ pub enum Pdu {
 }
 
 /// An association request (PS3.8 section 9.3.2).
-#[derive(Debug, Drop)]
+#[derive(Drop)]
 pub struct Request {
     /// The protocol version, a field of bits.
     pub version: u16,
@@ -35,7 +35,7 @@ pub struct Request {
 }
 
 /// A presentation context that a request proposes (PS3.8 section 9.3.2.2).
-#[derive(Debug, Drop)]
+#[derive(Drop)]
 pub struct ProposedContext {
     pub id: u8,
     pub abstract_syntax: Listed<u8>,
@@ -43,7 +43,7 @@ pub struct ProposedContext {
 }
 
 /// An association's acceptance (PS3.8 section 9.3.3).
-#[derive(Debug, Drop)]
+#[derive(Drop)]
 pub struct Accept {
     pub version: u16,
     pub called: [u8; TITLE_LENGTH],
@@ -55,7 +55,7 @@ pub struct Accept {
 }
 
 /// A presentation context as an acceptance answers it (PS3.8 section 9.3.3.2).
-#[derive(Debug, Drop)]
+#[derive(Drop)]
 pub struct AnsweredContext {
     pub id: u8,
     pub result: u8,
@@ -63,7 +63,7 @@ pub struct AnsweredContext {
 }
 
 /// A presentation data value: a fragment of a message (PS3.8 section 9.3.5.1, annex E).
-#[derive(Debug, Drop)]
+#[derive(Drop)]
 pub struct Pdv {
     /// The presentation context's id.
     pub context: u8,

@@ -6,7 +6,7 @@ use crate::pdu::{Pdu, Pdv, Request};
 use dq_list::Listed;
 
 /// What a PDU is to an association of which this side is the acceptor (PS3.8 section 9.2).
-#[derive(Debug, Drop)]
+#[derive(Drop)]
 pub enum Role {
     /// It asks for the association.
     Asks(Request),

@@ -32,7 +32,7 @@ impl From<AllocError> for Unheard {
 
 /// Where connections come in; after how many seconds of silence one counts as ended, if it does;
 /// and the institutions by which it is logged what becomes of them, if it is.
-#[derive(Clone, Copy, Debug)]
+#[derive(Clone, Copy)]
 pub struct Listening<'a> {
     pub address: &'a str,
     pub port: u16,

@@ -2,7 +2,7 @@ use crate::row::Row;
 use dq_list::Listed;
 
 /// One change of the rows. It happens whole or not at all.
-#[derive(Debug, Drop)]
+#[derive(Drop)]
 pub enum Change {
     /// An image, with its study and its series where they are new.
     Stored {

@@ -12,7 +12,7 @@ use std::alloc::{AllocError, Global};
 /// Which studies, or worklist entries, of an institution are asked for. A part that is `None` asks
 /// nothing, and one that does not say its patient, or its day, by one value meets what is asked of
 /// it.
-#[derive(Debug, Drop)]
+#[derive(Drop)]
 pub struct Choice {
     /// The key.
     pub uid: Option<Listed<u8>>,

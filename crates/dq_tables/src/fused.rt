@@ -20,7 +20,7 @@ use std::alloc::Global;
 
 /// Tables that make a number of changes, and then answer `Store` to the next and to each call after
 /// it.
-#[derive(Debug, Drop)]
+#[derive(Drop)]
 pub struct Fused<T> {
     tables: T,
     fuse: Fuse,

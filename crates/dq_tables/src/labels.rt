@@ -14,7 +14,7 @@ use jiff::civil::Date;
 use std::alloc::{AllocError, Global};
 
 /// The patient and the day of a study or a worklist entry. Rows of other kinds have neither.
-#[derive(Debug, Drop)]
+#[derive(Drop)]
 pub struct Labels {
     /// The only value of Patient ID (0010,0020), trimmed.
     pub patient: Option<Listed<u8>>,

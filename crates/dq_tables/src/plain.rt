@@ -21,7 +21,7 @@ use std::alloc::{AllocError, Global};
 use std::collections::{BTreeMap, BTreeSet};
 
 /// Rows in memory. They never answer `Store`.
-#[derive(Debug, Drop)]
+#[derive(Drop)]
 pub struct PlainTables {
     kept: Vec<Row>,
     index: Index,

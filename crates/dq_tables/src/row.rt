@@ -53,7 +53,7 @@ impl Kind {
 }
 
 /// A record that is kept under an institution's name.
-#[derive(Debug, Drop)]
+#[derive(Drop)]
 pub struct Row {
     pub kind: Kind,
     /// The institution's name.
@@ -71,7 +71,7 @@ pub struct Row {
 
 /// What a record is kept under: its kind, its key, and the key of the record above it, empty where
 /// there is none.
-#[derive(Debug, Clone, Copy)]
+#[derive(Clone, Copy)]
 pub struct RecordKeys<'a> {
     pub kind: Kind,
     pub key: &'a [u8],

@@ -20,7 +20,7 @@ use std::collections::{BTreeMap, BTreeSet};
 use std::marker::Model;
 
 /// Octets in the order of a dictionary. Contracts see the list of them.
-#[derive(Debug, Drop)]
+#[derive(Drop)]
 pub(crate) struct Key {
     octets: Vec<u8>,
 }
@@ -100,7 +100,7 @@ const OF_NO_PATIENT: u8 = 7;
 
 /// What rows of an institution are listed under: those of a kind under the row with a key, and
 /// studies under their patient.
-#[derive(Debug, PartialEq, Eq, PartialOrd, Ord, Drop)]
+#[derive(PartialEq, Eq, PartialOrd, Ord, Drop)]
 pub(crate) struct Under {
     pub number: u8,
     pub inst: Key,

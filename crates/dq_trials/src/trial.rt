@@ -12,7 +12,7 @@ use std::alloc::{AllocError, Global};
 use std::io::{self, Read, Write};
 
 /// The first fault of octets, or the canonical spellings of the data set that they spell.
-#[derive(Debug, Drop)]
+#[derive(Drop)]
 pub(crate) enum Answer {
     Fault(ReadFault),
     Spelled {

@@ -10,7 +10,7 @@ use dq_vr::Vr;
 use std::marker::Model;
 
 /// The values of one element, each trimmed, lent in order.
-#[derive(Debug, Drop)]
+#[derive(Drop)]
 pub struct Parts<'a> {
     vr: Vr,
     rest: Option<&'a [u8]>,

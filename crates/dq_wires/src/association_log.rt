@@ -13,7 +13,7 @@ use std::alloc::{AllocError, Global};
 use std::io::Write;
 
 /// A pair of titles, and the name of the institution that it belongs to.
-#[derive(Debug, Drop)]
+#[derive(Drop)]
 struct Naming {
     called: Listed<u8>,
     calling: Listed<u8>,
@@ -36,7 +36,7 @@ struct Naming {
 /// no octet is even kept.
 ///
 /// A line that cannot be written, or for which there is no memory, is passed over.
-#[derive(Debug, Drop)]
+#[derive(Drop)]
 pub struct AssociationLog<L> {
     alloc: Global,
     namings: Vec<Naming>,

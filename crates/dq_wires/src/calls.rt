@@ -19,7 +19,7 @@ pub enum ReadTurn {
 }
 
 /// What came at a read.
-#[derive(Debug, Drop)]
+#[derive(Drop)]
 pub enum Came {
     Octets(Listed<u8>),
     Nothing,
@@ -30,7 +30,7 @@ pub enum Came {
 }
 
 /// A call of wires with its answer. A place is where a connection is held among the wires.
-#[derive(Debug, Drop)]
+#[derive(Drop)]
 pub enum Call {
     /// A connection was asked for: the place of the one that came, if one did.
     Accept(Result<Option<usize>, WireFault>),

@@ -24,7 +24,7 @@ use std::alloc::{AllocError, Global};
 const MOST_LOOKS: u64 = 1_000_000;
 
 /// All octets that a connection of a capture was sent.
-#[derive(Debug, Drop)]
+#[derive(Drop)]
 pub struct Sent {
     /// The connection's number in the capture.
     pub number: u64,

@@ -10,7 +10,7 @@ use std::collections::VecDeque;
 
 /// What calls are answered, each kind in its own order. Where nothing is left of a kind no
 /// connection comes, nothing is read, all octets are taken, and a connection is given up.
-#[derive(Debug, Drop)]
+#[derive(Drop)]
 pub struct Script {
     pub accepts: VecDeque<Result<Option<usize>, WireFault>>,
     /// What comes, each with the place at which it is read. Octets for which the buffer has no room
@@ -50,7 +50,7 @@ impl Script {
 }
 
 /// Wires that play a script, and tell their calls as long as there is memory for them.
-#[derive(Debug, Drop)]
+#[derive(Drop)]
 pub struct MemoryWires {
     alloc: Global,
     script: Script,

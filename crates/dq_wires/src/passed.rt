@@ -35,21 +35,21 @@ const SHORT_PDU: usize = 10;
 const ACCEPTANCE: u8 = 0;
 
 /// Who sends.
-#[derive(Clone, Copy, Debug, PartialEq, Eq)]
+#[derive(Clone, Copy, PartialEq, Eq)]
 pub(crate) enum Party {
     Peer,
     Server,
 }
 
 /// The titles of a request, as they came (PS3.8 section 9.3.2).
-#[derive(Clone, Copy, Debug, PartialEq, Eq)]
+#[derive(Clone, Copy, PartialEq, Eq)]
 pub(crate) struct Titles {
     pub called: [u8; 16],
     pub calling: [u8; 16],
 }
 
 /// What a PDU tells.
-#[derive(Clone, Copy, Debug, PartialEq, Eq)]
+#[derive(Clone, Copy, PartialEq, Eq)]
 pub(crate) enum Passed {
     /// An association is asked for.
     Request(Titles),

@@ -9,7 +9,7 @@ use std::alloc::{AllocError, Global};
 
 /// The PDU that is passing: the first of its octets, as many as are kept of one of its type, and
 /// how many octets of its body are still to come once its header is there.
-#[derive(Debug, Drop)]
+#[derive(Drop)]
 pub(crate) struct Passing {
     alloc: Global,
     sender: Party,

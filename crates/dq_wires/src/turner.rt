@@ -18,7 +18,7 @@ use std::alloc::Global;
 use std::marker::Model;
 
 /// A server with the connections that it holds over wires.
-#[derive(Debug, Drop)]
+#[derive(Drop)]
 pub struct Turner<T> {
     alloc: Global,
     server: Server<T>,

@@ -8,7 +8,7 @@ use dq_pdu::InboxError;
 use std::alloc::Global;
 
 /// How far an association is.
-#[derive(Clone, Copy, Debug, PartialEq, Eq)]
+#[derive(Clone, Copy, PartialEq, Eq)]
 enum Standing {
     /// It was not answered.
     Asked,
@@ -20,7 +20,7 @@ enum Standing {
 
 /// A connection: its place among the wires, its number, what passes on it in both directions, and
 /// the titles of its request.
-#[derive(Debug, Drop)]
+#[derive(Drop)]
 pub(crate) struct Watched {
     place: usize,
     number: u64,

@@ -10,7 +10,7 @@ use std::marker::Model;
 
 /// A connection: its place among the wires, its number, and what was answered on it. Of the octets
 /// answered the first are written.
-#[derive(Debug, Drop)]
+#[derive(Drop)]
 pub(crate) struct Wire {
     place: usize,
     number: u64,

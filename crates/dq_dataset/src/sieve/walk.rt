@@ -18,7 +18,7 @@ use std::alloc::{AllocError, Global};
 
 /// How far what is open reaches. A number says how many octets of the outermost defined length are
 /// left where it ends.
-#[derive(Clone, Copy, Debug)]
+#[derive(Clone, Copy)]
 pub enum Reach {
     /// It fills a length of its own.
     Measured(usize),
@@ -29,7 +29,7 @@ pub enum Reach {
 }
 
 /// Where a value is open, and what is due there.
-#[derive(Clone, Copy, Debug)]
+#[derive(Clone, Copy)]
 pub enum Place {
     /// Octets, up to where so many of the outermost defined length are left.
     InOctets(usize),
@@ -40,7 +40,7 @@ pub enum Place {
 }
 
 /// A value of which not all octets have come.
-#[derive(Debug, Drop)]
+#[derive(Drop)]
 pub struct Walk {
     /// How many octets of the outermost defined length are left, with those of a header that came.
     pub left: usize,
@@ -53,7 +53,7 @@ pub struct Walk {
 }
 
 /// A value after more of its octets.
-#[derive(Debug, Drop)]
+#[derive(Drop)]
 pub enum Walked {
     /// It is open.
     On(Walk),
