@@ -1,8 +1,8 @@
 /* Refuses a call of a program on one of its files: a library to be preloaded, for the suites. It is no part of the
  * product. Calls of one kind, REFUSE_CALL=read, write, truncate, sync or accept, on files whose path ends in REFUSE_PATH
  * are counted from 1; the path of a socket ends in ']'. REFUSE_NUMBER=N refuses the Nth, N+ that one and each after it,
- * and makes the file that REFUSE_MARK names. Refused reads and syncs fail with EIO, all others with ENOSPC, and do
- * nothing. */
+ * and makes the file that REFUSE_MARK names. Refused reads and syncs fail with EIO, all others with ENOSPC, or all with
+ * the number REFUSE_ERROR, and do nothing. */
 #define _GNU_SOURCE
 #include <dlfcn.h>
 #include <errno.h>
@@ -52,7 +52,11 @@ static int refuses(const char *call, int file) {
         if (made >= 0)
             close(made);
     }
-    errno = strcmp(call, "read") == 0 || strcmp(call, "sync") == 0 ? EIO : ENOSPC;
+    const char *error = getenv("REFUSE_ERROR");
+    if (error)
+        errno = atoi(error);
+    else
+        errno = strcmp(call, "read") == 0 || strcmp(call, "sync") == 0 ? EIO : ENOSPC;
     return 1;
 }
 

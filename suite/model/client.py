@@ -38,16 +38,17 @@ def until(condition, patience=PATIENCE):
 
 
 class Serving:
-    """A run of `serve` with these words, which has told that it is ready."""
+    """A run of `serve` with these words, in this environment beside the one that there is, which has told that it is ready."""
 
-    def __init__(self, program, *words, has_console=False, surroundings=None):
+    def __init__(self, program, *words, has_console=False, environment=None):
         self.told = tempfile.TemporaryFile()
+        environment = {name: str(value) for name, value in (environment or {}).items()}
         for _ in range(5):
             self.port, self.console_port = free_port(), free_port() if has_console else None
             console = ["--console", self.console_port] if has_console else []
             command = [program, "serve", "--port", self.port, *console, *words]
             self.child = subprocess.Popen(list(map(str, command)), stdin=subprocess.DEVNULL, stdout=subprocess.PIPE,
-                                          stderr=self.told, env={**os.environ, **{word: str(value) for word, value in (surroundings or {}).items()}})
+                                          stderr=self.told, env={**os.environ, **environment})
             self.first = self.child.stdout.readline()
             # another program may have taken the port meanwhile
             if self.first or self.child.wait() != 5:

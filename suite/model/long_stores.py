@@ -7,12 +7,15 @@ from upper_layer import LONGEST_PDU, P_DATA, fragments
 CLASS, STUDY, SERIES = compose.CLASSES["CT"], b"1.2.1", b"1.2.1.1"
 
 
-def long_store(context, size, uid=b"1.2.1.1.1", longest=LONGEST_PDU):
-    """The PDUs of a C-STORE, one by one, whose data set has so many octets, all but the first ones pixel data."""
+PIXEL_DATA, STUDY_ID = ((0x7FE0, 0x0010), b"OW"), ((0x0020, 0x0010), b"UN")
+
+
+def long_store(context, size, uid=b"1.2.1.1.1", longest=LONGEST_PDU, element=PIXEL_DATA):
+    """The PDUs of a C-STORE, one by one, whose data set has so many octets, all but the first ones of one element, of zeros."""
     values = {"SOPClassUID": CLASS, "SOPInstanceUID": uid, "StudyInstanceUID": STUDY, "SeriesInstanceUID": SERIES}
     elements = sorted((tag, vr, data_sets.padded(vr, value))
                       for (tag, vr), value in ((compose.tag_of(name), value) for name, value in values.items()))
-    front = data_sets.canonical(elements, data_sets.EXPLICIT) + data_sets.spelled_tag((0x7FE0, 0x0010)) + b"OW\0\0"
+    front = data_sets.canonical(elements, data_sets.EXPLICIT) + data_sets.spelled_tag(element[0]) + element[1] + b"\0\0"
     left = size - len(front) - 4
     front += left.to_bytes(4, "little")
 

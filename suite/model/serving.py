@@ -6,6 +6,7 @@ MOST are held. The console takes lines of a capture.
 """
 import argparse
 import contextlib
+import errno
 import ipaddress
 import selectors
 import socket
@@ -17,6 +18,10 @@ import stores
 
 MOST, READ_MOST = 64, 16384
 HOST = "127.0.0.1"
+
+
+class CannotAccept(Exception):
+    """No connection can come in any more."""
 
 
 class Wire:
@@ -67,10 +72,10 @@ class Service:
 
     def turn(self):
         ready = self.wait()
-        if self.listener in ready:
+        for stream in accepted(self.listener, ready):
             self.newest += 1
             self.keeping.step("open", self.newest, b"")
-            self.wires.append(Wire(self.listener.accept()[0], self.newest))
+            self.wires.append(Wire(stream, self.newest))
         pending = [one for one in self.wires if one.stream not in ready and self.is_pending(one)]
         for wire in [one for one in self.wires if one.stream in ready]:
             self.serve(wire)
@@ -127,8 +132,7 @@ class Service:
         self.wires.remove(wire)
 
     def take_orders(self, ready):
-        if self.console in ready:
-            self.orders.append((self.console.accept()[0], bytearray()))
+        self.orders += [(stream, bytearray()) for stream in accepted(self.console, ready)]
         for one in [one for one in self.orders if one[0] in ready]:
             stream, octets = one
             try:
@@ -152,6 +156,16 @@ class Service:
         except ValueError:
             return "bad line"
         return self.keeping.step(*event) if event[0] in ("schedule", "withdraw") else "bad line"
+
+
+def accepted(listener, ready):
+    """The connection that comes in, if there is one."""
+    try:
+        return [listener.accept()[0]] if listener in ready else []
+    except OSError as error:
+        if error.errno == errno.EMFILE:
+            return []
+        raise CannotAccept from error
 
 
 def listening(host, port):
@@ -210,7 +224,11 @@ def serve(words, service=Service):
     if words.turns is not None:
         serving.rest_most = 0.001
     while words.turns is None or words.turns > 0:
-        serving.turn()
+        try:
+            serving.turn()
+        except CannotAccept:
+            print("network", file=sys.stderr)
+            return 5
         if words.turns is not None:
             words.turns -= 1
     return 0

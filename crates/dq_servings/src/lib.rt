@@ -1,4 +1,4 @@
-//! Tests of connections and of the program, beside `dq_calls`, so that those of the crates below need
+//! Tests of the server, of connections and of the program, beside `dq_calls`, so that those of the crates below need
 //! not wait for what they stand on.
 #![tactic(auto)]
 

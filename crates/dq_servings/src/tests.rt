@@ -1,3 +1,4 @@
+mod logging;
 mod programs;
 mod servers;
 mod wires;

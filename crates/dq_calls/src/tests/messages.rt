@@ -1,8 +1,5 @@
 //! Messages in P-DATA.
-ghost use Rattle.std.specs.Prelude.{◌≡◌, IfOk};
-
-use dq_dataset::{Sieve, Syntax};
-use dq_dimse::{Body, Command, KEPT_ATTRIBUTES, Message, command_field, write_message};
+use dq_dimse::{Command, write_message};
 use dq_list::Listed;
 use dq_pdu::Pdv;
 use std::alloc::{AllocError, Global};
@@ -27,41 +24,6 @@ pub(super) fn command(alloc: Global, octets: &[u8]) -> Result<Pdv, AllocError> {
         command: true,
         last: true,
         octets: Listed::copy_of(alloc, octets)?,
-    })
-}
-
-/// The octets of a data set in Explicit, as a message of a Command Field holds them.
-fn body(alloc: Global, code: u16, octets: &[u8]) -> Result<Body, AllocError> {
-    if code != command_field::C_STORE {
-        return Ok(Body::Octets(Listed::copy_of(alloc, octets)?));
-    }
-    let mut sieve = Sieve::new(alloc, Syntax::Explicit, &KEPT_ATTRIBUTES);
-    sieve.feed(octets)?;
-    Ok(Body::Sifted(sieve.finish()))
-}
-
-/// A request with a data set of these octets.
-pub(super) fn request(
-    alloc: Global,
-    code: u16,
-    sop_class: &[u8],
-    sop_instance: &[u8],
-    octets: &[u8],
-) -> Result<Message, AllocError>
-    ensures { IfOk result (λ message. message.command.code ≡ code) }
-{
-    Ok(Message {
-        context: 1,
-        command: Command {
-            code,
-            id: 1,
-            sop_class: Listed::copy_of(alloc, sop_class)?,
-            sop_instance: Listed::copy_of(alloc, sop_instance)?,
-            with_data: true,
-            status: 0,
-        },
-        body: body(alloc, code, octets)?,
-        over: false,
     })
 }
 

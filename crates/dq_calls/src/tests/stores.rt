@@ -1,10 +1,9 @@
 //! C-STORE over rows in memory, of what no capture is long enough for.
 ghost use Rattle.std.specs.Prelude.{◌≡◌, IfOk};
 
-use super::messages::request;
 use dq_config::{Config, Institution};
 use dq_dataset::{Sifted, Syntax};
-use dq_dimse::{Body, Message, command_field, status};
+use dq_dimse::{Body, Command, Message, command_field, status};
 use dq_list::Listed;
 use dq_store::store;
 use dq_tables::{Kind, PlainTables, TableFault, Tables};
@@ -13,20 +12,35 @@ use std::test::*;
 
 const CT: &[u8] = b"1.2.840.10008.5.1.4.1.1.2";
 
-/// A request to store an instance, of whose data set so much is left.
-fn left(alloc: Global, body: Body) -> Result<Message, AllocError>
+/// A request to store an instance of whose data set this is left.
+fn request(alloc: Global, body: Body, over: bool) -> Result<Message, AllocError>
     ensures { IfOk result (λ message. message.command.code ≡ 1) }
 {
-    let mut message = request(alloc, command_field::C_STORE, CT, b"1.2.9", &[])?;
-    message.body = body;
-    Ok(message)
+    Ok(Message {
+        context: 1,
+        command: Command {
+            code: command_field::C_STORE,
+            id: 1,
+            sop_class: Listed::copy_of(alloc, CT)?,
+            sop_instance: Listed::copy_of(alloc, b"1.2.9")?,
+            with_data: true,
+            status: 0,
+        },
+        body,
+        over,
+    })
 }
 
 /// The status of it, and how many images are kept then.
-fn stored(alloc: Global, institution: &Institution, body: Body) -> Result<(u16, u64), TableFault> {
-    let message = left(alloc, body)?;
+fn stored(
+    alloc: Global,
+    institution: &Institution,
+    message: &Message,
+) -> Result<(u16, u64), TableFault>
+    requires { message.now.command.code ≡ 1 }
+{
     let mut tables = PlainTables::new(alloc);
-    let status = store(alloc, &mut tables, institution, &message, Syntax::Explicit)?;
+    let status = store(alloc, &mut tables, institution, message, Syntax::Explicit)?;
     Ok((status, tables.count(alloc, Kind::Image, b"DEMO")?))
 }
 
@@ -35,11 +49,10 @@ fn stored(alloc: Global, institution: &Institution, body: Body) -> Result<(u16, 
 fn what_is_sent_has_a_limit(rt: HostRuntime) -> Result<(), Fail> {
     let config = Config::built_in(rt.alloc())?;
     let demo = config.institution(b"DEMO").ok_or("DEMO")?;
-    for body in [
-        Body::Sifted(Sifted::Large),
-        Body::Octets(Listed::empty(rt.alloc())),
-    ] {
-        let stored = stored(rt.alloc(), demo, body)?;
+    let nothing = Body::Octets(Listed::empty(rt.alloc()));
+    for (body, over) in [(Body::Sifted(Sifted::Large), false), (nothing, true)] {
+        let message = request(rt.alloc(), body, over)?;
+        let stored = stored(rt.alloc(), demo, &message)?;
         assert!(rt; stored == (status::OUT_OF_RESOURCES, 0));
     }
     Ok(())

@@ -1,5 +1,5 @@
-//! The program over a writer that takes few octets and fails, and a reader that tears. Its words, files
-//! and sockets are for the suites.
+//! The program over a writer that takes few octets and fails, and a reader that is interrupted. Its words,
+//! files and sockets are for the suites.
 use dq_program::{Host, Stores, Unkept, perform};
 use dq_tables::PlainTables;
 use std::alloc::Global;
@@ -35,12 +35,12 @@ impl Write for Narrow {
 
 /// A reader that is interrupted before each octet.
 #[derive(Drop)]
-struct Torn<'a> {
+struct Halting<'a> {
     rest: &'a [u8],
     interrupted: bool,
 }
 
-impl Read for Torn<'_> {
+impl Read for Halting<'_> {
     fn read(&mut self, buf: &mut [u8]) -> io::Result<usize> {
         self.interrupted = !self.interrupted;
         if self.interrupted {
@@ -121,7 +121,7 @@ fn performs_over_a_failing_output(rt: HostRuntime) -> Result<(), Fail> {
         };
         let mut errors = Vec::new(rt.alloc());
         let words: [&str; 0] = [];
-        let input = Torn {
+        let input = Halting {
             rest: UNKNOWN_UNIT.as_bytes(),
             interrupted: false,
         };

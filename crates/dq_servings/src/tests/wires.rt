@@ -17,7 +17,7 @@ const UNKNOWN: [u8; 6] = [8, 0, 0, 0, 0, 0];
 
 const ABORTED: [u8; 10] = [7, 0, 0, 0, 0, 4, 0, 0, 0, 0];
 
-fn turner(alloc: Global) -> Result<Turner<PlainTables>, Fail> {
+pub(super) fn turner(alloc: Global) -> Result<Turner<PlainTables>, Fail> {
     let config = Config::built_in(alloc)?;
     let server = Server::new(alloc, config, PlainTables::new(alloc))?;
     if !server.can_open(0) {
