@@ -38,12 +38,12 @@ def until(condition, patience=PATIENCE):
 
 
 class Serving:
-    """A run of `serve` with these words, in this environment beside the one that there is, which has told that it is ready."""
+    """A run of `serve` with these words, and these variables besides, which has told that it is ready."""
 
     def __init__(self, program, *words, has_console=False, environment=None):
-        self.told = tempfile.TemporaryFile()
         environment = {name: str(value) for name, value in (environment or {}).items()}
         for _ in range(5):
+            self.told = tempfile.TemporaryFile()
             self.port, self.console_port = free_port(), free_port() if has_console else None
             console = ["--console", self.console_port] if has_console else []
             command = [program, "serve", "--port", self.port, *console, *words]
@@ -73,8 +73,9 @@ class Serving:
 
     def errors(self):
         """What it has told on standard error."""
-        self.told.seek(0)
-        return self.told.read()
+        # (the child writes where the file stands, so it is read elsewhere)
+        told = self.told.fileno()
+        return os.pread(told, os.fstat(told).st_size, 0)
 
     def connect(self):
         return Client(self.port)

@@ -7,11 +7,12 @@ from upper_layer import LONGEST_PDU, P_DATA, fragments
 CLASS, STUDY, SERIES = compose.CLASSES["CT"], b"1.2.1", b"1.2.1.1"
 
 
+# (UN, as a length of four octets is needed)
 PIXEL_DATA, STUDY_ID = ((0x7FE0, 0x0010), b"OW"), ((0x0020, 0x0010), b"UN")
 
 
 def long_store(context, size, uid=b"1.2.1.1.1", longest=LONGEST_PDU, element=PIXEL_DATA):
-    """The PDUs of a C-STORE, one by one, whose data set has so many octets, all but the first ones of one element, of zeros."""
+    """The PDUs of a C-STORE, one by one, whose data set has so many octets, all but the first ones zeros of one element."""
     values = {"SOPClassUID": CLASS, "SOPInstanceUID": uid, "StudyInstanceUID": STUDY, "SeriesInstanceUID": SERIES}
     elements = sorted((tag, vr, data_sets.padded(vr, value))
                       for (tag, vr), value in ((compose.tag_of(name), value) for name, value in values.items()))

@@ -46,9 +46,9 @@ class Keeping:
 
 
 class Service:
-    def __init__(self, keeping, listener, console=None, quiet=None, log=None):
+    def __init__(self, keeping, listener, console=None, quiet=None):
         self.keeping, self.listener, self.console = keeping, listener, console
-        self.quiet, self.log = quiet, log
+        self.quiet = quiet
         self.newest, self.wires, self.orders = 0, [], []
         self.rest_most = 1.0
 
@@ -159,9 +159,11 @@ class Service:
 
 
 def accepted(listener, ready):
-    """The connection that comes in, if there is one."""
+    """The connections that come in: one, or none."""
     try:
         return [listener.accept()[0]] if listener in ready else []
+    except (BlockingIOError, ConnectionAbortedError):
+        return []
     except OSError as error:
         if error.errno == errno.EMFILE:
             return []
