@@ -1,4 +1,4 @@
-//! What is logged of an association that comes and goes in parts. Its lines are for the suites.
+//! What is logged of an association that comes and goes in parts. All other lines are for the suites.
 ghost use Rattle.std.specs.Prelude.{◌<◌};
 
 use super::wires::turner;
@@ -8,7 +8,8 @@ use dq_wires::{AssociationLog, Came, LoggedWires, MemoryWires, Script, turn_all}
 use std::alloc::{AllocError, Global};
 use std::test::Fail;
 
-// An A-ASSOCIATE-RQ for Verification in Implicit VR Little Endian, and an A-RELEASE-RQ (PS3.8 section 9.3).
+/// An A-ASSOCIATE-RQ for Verification in Implicit VR Little Endian, and an A-RELEASE-RQ (PS3.8
+/// section 9.3).
 const OCTETS: &[u8] = b"\x01\0\0\0\0\x9B\0\x01\0\0ARCHIVE         MODALITY        \
 \0\0\0\0\0\0\0\0\0\0\0\0\0\0\0\0\0\0\0\0\0\0\0\0\0\0\0\0\0\0\0\0\
 \x10\0\0\x151.2.840.10008.3.1.1.1\
@@ -16,7 +17,7 @@ const OCTETS: &[u8] = b"\x01\0\0\0\0\x9B\0\x01\0\0ARCHIVE         MODALITY      
 \x50\0\0\x08\x51\0\0\x04\0\0\x40\0\
 \x05\0\0\0\0\x04\0\0\0\0";
 
-// A connection on which they come by pieces of a size, and then its end.
+/// A connection on which they come by pieces of a size.
 fn call(alloc: Global, size: usize) -> Result<Script, AllocError>
     requires { 0 < size }
 {
@@ -25,20 +26,16 @@ fn call(alloc: Global, size: usize) -> Result<Script, AllocError>
         let came = Came::Octets(Listed::copy_of(alloc, piece)?);
         script.reads.push((3, came))?;
     }
-    script.reads.push((3, Came::Ended))?;
     script.accepts.push_back(Ok(Some(3)))?;
     Ok(script)
 }
 
-// Serves so many turns, and writes octets so many at a time.
-fn serve(
-    alloc: Global,
-    mut script: Script,
-    size: usize,
-    turns: u64,
-    lines: &mut Vec<u8>,
-) -> Result<(), Fail> {
-    for _ in 0..turns {
+/// More turns than are needed octet by octet.
+const TURNS: u64 = 600;
+
+/// Serves, and writes so many octets at a time.
+fn serve(alloc: Global, mut script: Script, size: usize, lines: &mut Vec<u8>) -> Result<(), Fail> {
+    for _ in 0..TURNS {
         script.writes.push_back(Ok(size))?;
     }
     let config = Config::built_in(alloc)?;
@@ -48,7 +45,7 @@ fn serve(
         log: Some(log),
     };
     let mut turner = turner(alloc)?;
-    turn_all(&mut turner, &mut wires, turns)?;
+    turn_all(&mut turner, &mut wires, TURNS)?;
     Ok(())
 }
 
@@ -58,7 +55,7 @@ fn an_association_is_told(rt: HostRuntime) -> Result<(), Fail> {
     for size in [1, 7, 10_000] {
         let script = call(alloc, size)?;
         let mut lines = Vec::new(alloc);
-        serve(alloc, script, size, 600, &mut lines)?;
+        serve(alloc, script, size, &mut lines)?;
         assert_eq!(rt;
             lines.as_slice(),
             b"1 accepted DEMO ARCHIVE MODALITY 1 context\n1 ended\n".as_slice()

@@ -1,5 +1,5 @@
-//! The program over a writer that takes few octets and fails, and a reader that is interrupted. Its words,
-//! files and sockets are for the suites.
+//! The program over a writer that takes few octets and fails, and a reader that is interrupted. Its
+//! words, files and sockets are for the suites.
 use dq_program::{Host, Stores, Unkept, perform};
 use dq_tables::PlainTables;
 use std::alloc::Global;
