@@ -1,10 +1,9 @@
 -- The SOP classes that are served (PS3.4 annexes A, B, C, F and K; UIDs of PS3.6 annex A), and what
 -- serves them.
-use Rattle.std.specs.Prelude.{ℕ, List, codes, Option, find}
+use Rattle.std.specs.Prelude.{ℕ, List, [], ◌∷◌, codes, Option, find}
 use Rattle.std.specs.Str.{bytes_eq}
 use Rattle.dq_assoc.specs.declared.classes.Service.{Service}
 use Rattle.dq_assoc.specs.declared.classes.Service.TheVariants as service
-use Rattle.dq_assoc.specs.declared.classes.TheConstants.{SERVED}
 use Rattle.dq_assoc.specs.declared.classes.SopClass.{SopClass}
 use Rattle.dq_assoc.specs.declared.classes.SopClass.TheVariants as sop
 
@@ -21,7 +20,10 @@ uid_of sop.ModalityWorklistFind = codes "1.2.840.10008.5.1.4.31"
 uid_of sop.ModalityPerformedProcedureStep = codes "1.2.840.10008.3.1.2.3.3"
 
 abbrev pub served_classes : List SopClass
-served_classes = SERVED
+served_classes =
+    sop.Verification ∷ sop.ComputedRadiographyImageStorage ∷ sop.CtImageStorage
+    ∷ sop.MrImageStorage ∷ sop.UltrasoundImageStorage ∷ sop.SecondaryCaptureImageStorage
+    ∷ sop.StudyRootFind ∷ sop.ModalityWorklistFind ∷ sop.ModalityPerformedProcedureStep ∷ []
 
 -- the class that is served with the UID
 unfoldable pub class_of : List ℕ → Option SopClass

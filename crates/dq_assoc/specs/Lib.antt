@@ -1,5 +1,6 @@
 pub mod Classes
 pub mod PeerLimits
+pub mod Reasons
 pub mod Negotiation
 pub mod Table
 pub mod Inputs

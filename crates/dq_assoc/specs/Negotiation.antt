@@ -1,6 +1,6 @@
 -- The answer to an association request (PS3.8 sections 7.1.1, 9.3.2 to 9.3.4; PS3.7 annex D.3), and
 -- what an association agrees on.
-use Rattle.std.specs.Prelude.{ℕ, ◌%◌, Bool, false, not, ◌==◌, if◌then◌else◌, List, map, find, Option, Some, None, is_some, unwrap_or, Result, Ok, Err}
+use Rattle.std.specs.Prelude.{ℕ, ◌%◌, Bool, false, not, ◌==◌, if◌then◌else◌, List, codes, map, find, Option, Some, None, is_some, unwrap_or, Result, Ok, Err}
 use Rattle.std.specs.List.{list_any, filter_map}
 use Rattle.std.specs.Result.{result_ok}
 use Rattle.std.specs.Str.{bytes_eq}
@@ -17,8 +17,8 @@ use Rattle.dq_assoc.specs.declared.agreement.AgreedContext.{AgreedContext}
 use Rattle.dq_assoc.specs.declared.agreement.Agreement.{Agreement}
 use Rattle.dq_assoc.specs.declared.negotiation.ContextRefusal.{ContextRefusal}
 use Rattle.dq_assoc.specs.declared.negotiation.ContextRefusal.TheVariants.{AbstractSyntaxNotSupported, TransferSyntaxesNotSupported}
-use Rattle.dq_assoc.specs.declared.negotiation.TheConstants as code
-pub use Rattle.dq_assoc.specs.declared.negotiation.TheConstants.{PROTOCOL_VERSION as protocol_version, ACCEPTANCE as acceptance, PERMANENT as permanent, TRANSIENT as transient, SERVICE_USER as service_user, ASSOCIATION_PROVIDER as association_provider, PRESENTATION_PROVIDER as presentation_provider, NO_REASON as no_reason, APPLICATION_CONTEXT_NOT_SUPPORTED as application_context_not_supported, PROTOCOL_VERSION_NOT_SUPPORTED as protocol_version_not_supported, LOCAL_LIMIT_EXCEEDED as local_limit_exceeded}
+pub use Rattle.dq_assoc.specs.Reasons.{protocol_version, acceptance, permanent, transient, service_user, association_provider, presentation_provider, no_reason, application_context_not_supported, protocol_version_not_supported, local_limit_exceeded}
+use Rattle.dq_assoc.specs.Reasons.{abstract_syntax_not_supported, transfer_syntaxes_not_supported}
 use Rattle.dq_assoc.specs.declared.association.Verdict.{Verdict}
 use Rattle.dq_assoc.specs.declared.association.Verdict.TheVariants.{Accept, Nowhere, Busy}
 use Rattle.dq_assoc.specs.Classes.{class_of}
@@ -26,12 +26,12 @@ use Rattle.dq_assoc.specs.PeerLimits.{has_room}
 
 -- The DICOM application context (PS3.7 annex A.2.1).
 abbrev pub dicom_context : List ℕ
-dicom_context = code.DICOM_CONTEXT.now
+dicom_context = codes "1.2.840.10008.3.1.1.1"
 
 -- Implicit and Explicit VR Little Endian (PS3.5 annex A.1 and A.2).
 abbrev pub syntax_uid : Syntax → List ℕ
-syntax_uid Implicit = code.IMPLICIT_SYNTAX.now
-syntax_uid Explicit = code.EXPLICIT_SYNTAX.now
+syntax_uid Implicit = codes "1.2.840.10008.1.2"
+syntax_uid Explicit = codes "1.2.840.10008.1.2.1"
 
 abbrev pub offers : List (List ℕ) → List ℕ → Bool
 offers syntaxes syntax = list_any (λ (offered : List ℕ). bytes_eq offered syntax) syntaxes
@@ -65,8 +65,8 @@ is_accepted c = is_some (agreed_context c)
 
 -- the result of a context that is refused (PS3.8 table 9-18)
 abbrev pub result_of_refusal : ContextRefusal → ℕ
-result_of_refusal AbstractSyntaxNotSupported = 0x03
-result_of_refusal TransferSyntaxesNotSupported = 0x04
+result_of_refusal AbstractSyntaxNotSupported = abstract_syntax_not_supported
+result_of_refusal TransferSyntaxesNotSupported = transfer_syntaxes_not_supported
 
 abbrev pub answer_with : ℕ → ℕ → Syntax → AnsweredContext
 answer_with id reason syntax =

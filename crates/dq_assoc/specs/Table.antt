@@ -8,7 +8,7 @@ use Rattle.dq_pdu.specs.declared.pdu.Pdu.TheVariants.{ReleaseRp, Abort}
 use Rattle.dq_pdu.specs.declared.pdu.Request.{Request}
 use Rattle.dq_pdu.specs.Writing.{is_writable, spelling}
 use Rattle.dq_dimse.specs.Received.{Message}
-pub use Rattle.dq_assoc.specs.declared.association.TheConstants.{BY_USER as by_user, BY_PROVIDER as by_provider, NOT_SPECIFIED as not_specified, UNRECOGNIZED_PDU as unrecognized_pdu, UNEXPECTED_PDU as unexpected_pdu, INVALID_PARAMETER as invalid_parameter}
+pub use Rattle.dq_assoc.specs.Reasons.{by_user, by_provider, not_specified, unrecognized_pdu, unexpected_pdu, invalid_parameter}
 use Rattle.dq_assoc.specs.declared.association.State.{State}
 use Rattle.dq_assoc.specs.declared.association.State.TheVariants.{Waiting, Open, Closed}
 use Rattle.dq_assoc.specs.declared.association.Verdict.{Verdict}

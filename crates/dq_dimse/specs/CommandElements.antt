@@ -1,3 +1,43 @@
--- The elements of command sets by their numbers in group 0000, and values of Command Data Set Type:
--- those of the code (PS3.7 annex E.1).
-pub use Rattle.dq_dimse.specs.declared.numbers.TheConstants.{COMMAND_GROUP as command_group, COMMAND_GROUP_LENGTH as command_group_length, AFFECTED_SOP_CLASS_UID as affected_sop_class_uid, REQUESTED_SOP_CLASS_UID as requested_sop_class_uid, COMMAND_FIELD as command_field, MESSAGE_ID as message_id, MESSAGE_ID_BEING_RESPONDED_TO as message_id_being_responded_to, COMMAND_DATA_SET_TYPE as command_data_set_type, STATUS as status_element, AFFECTED_SOP_INSTANCE_UID as affected_sop_instance_uid, REQUESTED_SOP_INSTANCE_UID as requested_sop_instance_uid, NO_DATA_SET as no_data_set, DATA_SET as with_data_set}
+-- The elements of command sets by their numbers in group 0000 (PS3.7 annex E.1).
+use Rattle.std.specs.Prelude.{ℕ}
+
+abbrev pub command_group : ℕ
+command_group = 0x0000
+
+abbrev pub command_group_length : ℕ
+command_group_length = 0x0000
+
+abbrev pub affected_sop_class_uid : ℕ
+affected_sop_class_uid = 0x0002
+
+abbrev pub requested_sop_class_uid : ℕ
+requested_sop_class_uid = 0x0003
+
+abbrev pub command_field : ℕ
+command_field = 0x0100
+
+abbrev pub message_id : ℕ
+message_id = 0x0110
+
+abbrev pub message_id_being_responded_to : ℕ
+message_id_being_responded_to = 0x0120
+
+abbrev pub command_data_set_type : ℕ
+command_data_set_type = 0x0800
+
+abbrev pub status_element : ℕ
+status_element = 0x0900
+
+abbrev pub affected_sop_instance_uid : ℕ
+affected_sop_instance_uid = 0x1000
+
+abbrev pub requested_sop_instance_uid : ℕ
+requested_sop_instance_uid = 0x1001
+
+-- Command Data Set Type (0000,0800): the value of a message without a data set, and the one that is
+-- sent with a data set, for which any other value stands (PS3.7 annex E.1)
+abbrev pub no_data_set : ℕ
+no_data_set = 0x0101
+
+abbrev pub with_data_set : ℕ
+with_data_set = 0x0001

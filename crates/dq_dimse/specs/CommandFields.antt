@@ -1,24 +1,30 @@
--- Values of Command Field (0000,0100): those of the code (PS3.7 annex E.1).
+-- Values of Command Field (0000,0100), as numbers (PS3.7 annex E.1).
 use Rattle.std.specs.Prelude.{ℕ}
-use Rattle.dq_dimse.specs.declared.command_field.TheConstants as code
 
+-- C-STORE-RQ (PS3.7 section 9.3.1)
 abbrev pub c_store : ℕ
-c_store = code.C_STORE
+c_store = 0x0001
 
+-- C-FIND-RQ (PS3.7 section 9.3.2)
 abbrev pub c_find : ℕ
-c_find = code.C_FIND
+c_find = 0x0020
 
+-- C-ECHO-RQ (PS3.7 section 9.3.5)
 abbrev pub c_echo : ℕ
-c_echo = code.C_ECHO
+c_echo = 0x0030
 
+-- N-SET-RQ (PS3.7 section 10.3.3)
 abbrev pub n_set : ℕ
-n_set = code.N_SET
+n_set = 0x0120
 
+-- N-CREATE-RQ (PS3.7 section 10.3.5)
 abbrev pub n_create : ℕ
-n_create = code.N_CREATE
+n_create = 0x0140
 
+-- C-CANCEL-RQ (PS3.7 section 9.3.2.3)
 abbrev pub c_cancel : ℕ
-c_cancel = code.C_CANCEL
+c_cancel = 0x0FFF
 
+-- the bit that the Command Field of each response has
 abbrev pub response_bit : ℕ
-response_bit = code.RESPONSE_BIT
+response_bit = 0x8000

@@ -8,6 +8,7 @@ pub mod CommandSets
 pub mod Commands
 pub mod Holding
 pub mod LentCommands
+pub mod Limits
 pub mod Messages
 pub mod Received
 pub mod Reading

@@ -6,9 +6,7 @@ use Rattle.std.specs.Prelude.{if◌then◌else◌, List, ◌∷◌, ◌++◌, le
 use Rattle.std.specs.List.{flat_map}
 use Rattle.dq_pdu.specs.declared.pdu.Pdv.{Pdv}
 use Rattle.dq_pdu.specs.Octets.{is_among}
--- the limits are the code's, that of a command set too
-use Rattle.dq_dimse.specs.declared.assembler.TheConstants as code
-pub use Rattle.dq_dimse.specs.declared.assembler.TheConstants.{COMMAND_LIMIT as command_limit}
+pub use Rattle.dq_dimse.specs.Limits.{command_limit, store_limit, other_limit}
 use Rattle.dq_dimse.specs.declared.command.Command.{Command}
 use Rattle.dq_dimse.specs.Received.{Message}
 use Rattle.dq_dimse.specs.declared.fault.DimseFault.{DimseFault}
@@ -17,13 +15,7 @@ use Rattle.dq_dimse.specs.declared.fault.DimseFault.TheVariants.{BadCommand, NoM
 use Rattle.dq_dimse.specs.CommandFields.{c_store}
 use Rattle.dq_dimse.specs.Commands.{command_of}
 
--- a data set is at most so many octets: that of a C-STORE, and that of any other command
-abbrev pub store_limit : ℕ
-store_limit = code.STORE_LIMIT
-
-abbrev pub other_limit : ℕ
-other_limit = code.OTHER_LIMIT
-
+-- The most octets of a command's data set: the limit of a C-STORE, or that of any other command.
 abbrev pub data_limit : Command → ℕ
 data_limit command = if command.code == c_store then store_limit else other_limit
 

@@ -4,7 +4,7 @@ use Rattle.std.specs.Result.{result_ok}
 use Rattle.dq_dataset.specs.declared.header.Syntax.{Syntax}
 use Rattle.dq_dataset.specs.Reading.{reading}
 use Rattle.dq_dataset.specs.Tree.{ElementList}
-pub use Rattle.dq_dimse.specs.declared.receiving.TheConstants.{IDENTIFIER_LIMIT as identifier_limit}
+pub use Rattle.dq_dimse.specs.Limits.{identifier_limit}
 use Rattle.dq_dimse.specs.Received.{Message}
 use Rattle.dq_dimse.specs.Statuses.{out_of_resources, cannot_understand}
 

@@ -8,7 +8,7 @@ use Rattle.dq_pdu.specs.declared.pdu.Pdu.{Pdu}
 use Rattle.dq_pdu.specs.Numbers.{pdv_header}
 use Rattle.dq_pdu.specs.Writing.{spelling, p_data}
 use Rattle.dq_dimse.specs.declared.command.Command.{Command}
-pub use Rattle.dq_dimse.specs.declared.sending.TheConstants.{PDU_LIMIT as own_limit}
+pub use Rattle.dq_dimse.specs.Limits.{own_limit, least_limit}
 use Rattle.dq_dimse.specs.CommandElements.{command_field, command_data_set_type, status_element}
 use Rattle.dq_dimse.specs.CommandElements.{command_group_length, message_id_being_responded_to}
 use Rattle.dq_dimse.specs.CommandElements.{affected_sop_class_uid, affected_sop_instance_uid}
@@ -47,16 +47,12 @@ command_set command =
     element command_group_length (to_le_bytes w32 (length (command_elements command)))
     ++ command_elements command
 
--- The shortest PDU that carries data: the header of a value and a fragment of two octets.
-abbrev pub least_limit : ℕ
-least_limit = 8
-
 -- The longest PDU that a peer takes (PS3.8 annex D.1): 0 is no limit, and any other leaves room for
 -- data.
 abbrev pub IsLimit : ℕ → Type 0
 IsLimit limit = (limit ≡ 0) ⊎ (least_limit ≤ limit)
 
--- The longest PDU that is sent: the code's own limit, or what the peer takes where that is less.
+-- The longest PDU that is sent: the own limit, or what the peer takes where that is less.
 abbrev pub pdu_limit : ℕ → ℕ
 pdu_limit limit = if limit == 0 then own_limit else min limit own_limit
 

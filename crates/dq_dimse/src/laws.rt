@@ -25,9 +25,48 @@ ghost use Rattle.dq_dimse.specs.Assembling.{Assembly, AssemblerAfter, messages, 
 ghost use Rattle.dq_dimse.specs.Assembling.{assembly_from, followed_by, spent_by};
 ghost use Rattle.dq_dimse.specs.Sending.{IsFragmentSize, AreFragmentsOf, command_set, pdu_limit};
 ghost use Rattle.dq_dimse.specs.Sending.{fragment_size, fragments, sent, IsLimit};
+ghost use Rattle.dq_dimse.specs.declared.status.TheConstants as coded_status;
+ghost use Rattle.dq_dimse.specs.Statuses as status;
+ghost use Rattle.dq_dimse.specs.declared.command_field.TheConstants as coded_field;
+ghost use Rattle.dq_dimse.specs.CommandFields as field;
+ghost use Rattle.dq_dimse.specs.declared.attributes.TheConstants.{KEPT_ATTRIBUTES};
+ghost use Rattle.dq_dimse.specs.Attributes.{kept_attributes};
 
 use dq_dataset::laws::spelling_law;
 use dq_pdu::laws::{fragments_are_writable, written_pdus_are_read};
+
+/// The statuses, the command fields and the attributes that the code names are those of the
+/// definitions, which have them as numbers.
+pub fn code_has_the_numbers()
+    ensures statuses { (coded_status.SUCCESS ≡ status.success)
+        × (coded_status.PENDING ≡ status.pending)
+        × (coded_status.PENDING_WITHOUT_OPTIONAL_KEYS ≡ status.pending_without_optional_keys)
+        × (coded_status.CANCEL ≡ status.cancel)
+        × (coded_status.OUT_OF_RESOURCES ≡ status.out_of_resources)
+        × (coded_status.DOES_NOT_MATCH_SOP_CLASS ≡ status.does_not_match_sop_class)
+        × (coded_status.CANNOT_UNDERSTAND ≡ status.cannot_understand)
+        × (coded_status.INSTANCE_KEPT_ELSEWHERE ≡ status.instance_kept_elsewhere)
+        × (coded_status.SERIES_KEPT_ELSEWHERE ≡ status.series_kept_elsewhere)
+        × (coded_status.ELEMENTS_DISCARDED ≡ status.elements_discarded)
+        × (coded_status.INVALID_ATTRIBUTE_VALUE ≡ status.invalid_attribute_value)
+        × (coded_status.PROCESSING_FAILURE ≡ status.processing_failure)
+        × (coded_status.DUPLICATE_SOP_INSTANCE ≡ status.duplicate_sop_instance)
+        × (coded_status.NO_SUCH_SOP_INSTANCE ≡ status.no_such_sop_instance)
+        × (coded_status.INVALID_SOP_INSTANCE ≡ status.invalid_sop_instance)
+        × (coded_status.MISSING_ATTRIBUTE ≡ status.missing_attribute)
+        × (coded_status.MISSING_ATTRIBUTE_VALUE ≡ status.missing_attribute_value)
+        × (coded_status.SOP_CLASS_NOT_SUPPORTED ≡ status.sop_class_not_supported)
+        × (coded_status.UNRECOGNIZED_OPERATION ≡ status.unrecognized_operation)
+        × (coded_status.RESOURCE_LIMITATION ≡ status.resource_limitation) }
+    ensures fields { (coded_field.C_STORE ≡ field.c_store)
+        × (coded_field.C_FIND ≡ field.c_find)
+        × (coded_field.C_ECHO ≡ field.c_echo)
+        × (coded_field.N_SET ≡ field.n_set)
+        × (coded_field.N_CREATE ≡ field.n_create)
+        × (coded_field.C_CANCEL ≡ field.c_cancel)
+        × (coded_field.RESPONSE_BIT ≡ field.response_bit) }
+    ensures kept { KEPT_ATTRIBUTES ≡ kept_attributes }
+{}
 
 /// What is read of octets is what they are: a command set is read exactly.
 pub fn command_sets_are_read()

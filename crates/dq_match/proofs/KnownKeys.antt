@@ -4,7 +4,6 @@ use Rattle.std.proofs.lemmas.Bool.Decides.{nat_tests}
 use Rattle.std.specs.List.{list_all}
 use Rattle.dq_vr.specs.declared.Tag.{Tag}
 use Rattle.dq_vr.specs.Dictionary.{dictionary, vr_in, known_vr}
-use Rattle.dq_vr.specs.Tags as tags
 use Rattle.dq_dataset.specs.Tree.{ElementList, no_elements, element, sequence, ItemList, no_items, item}
 use Rattle.dq_match.specs.declared.supported.KeyList.{KeyList}
 use Rattle.dq_match.specs.declared.supported.KeyList.TheVariants.{Study, Series, Image, Entry}

@@ -1,3 +1,4 @@
+mod Between
 mod DataSets
 mod Fitting
 mod Itself

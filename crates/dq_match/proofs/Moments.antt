@@ -11,10 +11,10 @@ use Rattle.dq_value.specs.Range.{ends, end_of}
 use Rattle.dq_match.specs.Ranges.{Bounds, bounds, unless_open, has_day, has_time, date_meets, is_from, is_until}
 use Rattle.dq_match.proofs.KnownKeys.{both, either}
 
-le_true : (a b : ℤ) → int_le a b ≡ true → a ≤ℤ b
+pub le_true : (a b : ℤ) → int_le a b ≡ true → a ≤ℤ b
 le_true a b h = grind (arith, ints)
 
-true_le : (a b : ℤ) → a ≤ℤ b → int_le a b ≡ true
+pub true_le : (a b : ℤ) → a ≤ℤ b → int_le a b ≡ true
 true_le a b h = grind (arith, ints)
 
 pub has_day_between : (first last date : ℤ) → (has_day (Some first, Some last) date ≡ true) ↔ ((first ≤ℤ date) × (date ≤ℤ last))
@@ -43,10 +43,10 @@ same_not_lt a = grind (arith, ints)
 true_eq : (a b : ℤ) → a ≡ b → int_eq a b ≡ true
 true_eq a b e = subst (λ (x : ℤ). int_eq a x ≡ true) e (λ i. is_eq (cond (same_not_lt a i) Less (cond (same_not_lt a i) Greater Equal)))
 
-nat_le_true : (a b : ℕ) → nat_le a b ≡ true → a ≤ b
+pub nat_le_true : (a b : ℕ) → nat_le a b ≡ true → a ≤ b
 nat_le_true a b h = grind (arith, nat_tests)
 
-true_nat_le : (a b : ℕ) → a ≤ b → nat_le a b ≡ true
+pub true_nat_le : (a b : ℕ) → a ≤ b → nat_le a b ≡ true
 true_nat_le a b h = grind (arith, nat_tests)
 
 or_left : (a b : Bool) → a ≡ true → (a || b) ≡ true
@@ -89,7 +89,7 @@ time_halves range time = halves_by (λ first. nat_le first.0 time.0) (λ last. n
 
 -- ---- a date or a range as it is spelled
 
-day_some : (octets : List ℕ) (d : ℤ) → day octets ≡ Some d → end_of octets ≡ Some octets
+pub day_some : (octets : List ℕ) (d : ℤ) → day octets ≡ Some d → end_of octets ≡ Some octets
 unfolding day date_in end_of
 day_some [] d h = absurd cc
 day_some (octet ∷ others) d h = refl

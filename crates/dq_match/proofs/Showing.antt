@@ -11,7 +11,7 @@ use Rattle.dq_dataset.specs.declared.data_set.Element.{Element}
 use Rattle.dq_dataset.specs.declared.data_set.Value.{Value}
 use Rattle.dq_dataset.specs.declared.data_set.Value.TheVariants.{Octets, Items}
 use Rattle.dq_dataset.specs.Tree.{ElementList, no_elements, element, sequence, ItemList, no_items, item}
-use Rattle.dq_dataset.specs.View.{as_elements, elements_of, items_of, with_value}
+use Rattle.dq_dataset.specs.View.{as_elements, elements_of, items_of, list_of, with_value}
 use Rattle.dq_dataset.specs.Facts.{IsElementTag, IsPlain, IsSequence, AreElements, AreItems, IsDataSet}
 use Rattle.dq_dataset.specs.Values.{element_at, octets_in}
 use Rattle.dq_dataset.proofs.Views.{elements_of-with_value, items_of-list_of}
@@ -22,7 +22,7 @@ use Rattle.dq_value.specs.Parts.{parts}
 use Rattle.dq_match.specs.Keys.{is_tag, is_key}
 use Rattle.dq_match.specs.Identifiers.{HasKnownTags}
 use Rattle.dq_match.specs.Matching.{all_met}
-use Rattle.dq_match.specs.Responses.{put, or_empty, has_no_elements, cut_value, with_cut, shown_keys, shown_items, cut_keys, cut_by, shown_element, unless_empty, character_set, put_first}
+use Rattle.dq_match.specs.Responses.{put, or_empty, has_no_elements, cut_value, with_cut, shown_keys, shown_items, cut_keys, cut_by, shown_element, unless_empty, character_set, put_first, before, shown_elements, shown}
 use Rattle.dq_match.proofs.KnownKeys.{same_tag, both}
 use Rattle.dq_match.proofs.DataSets.{after_earlier, elements_by}
 use Rattle.dq_dataset.proofs.Places.{from_place}
@@ -275,6 +275,37 @@ shown_by t v (Items items) place rest held =
     put_by (is_key place t) (or_empty t v (Items []) (option_map (with_cut (shown_items (items_of items))) (element_at t held))) (shown_keys rest place held)
     ∙ ap (λ (e : Element). cond (is_key place t) (e ∷ elements_of (shown_keys rest place held)) (elements_of (shown_keys rest place held)))
     (sequence_shown t v items (element_at t held))
+
+map_by : (b : Bool) (f : Element → Element) (e : Element) (es shown : List Element) → shown ≡ map f es → cond b (f e ∷ shown) shown ≡ map f (cond b (e ∷ es) es)
+map_by true f e es shown h = ap (λ (xs : List Element). f e ∷ xs) h
+map_by false f e es shown h = h
+
+-- each key shows the record's element
+each_shown : (keys : ElementList) (place : Place) (held : ElementList) → elements_of (shown_keys keys place held)
+    ≡ map (λ key. shown_element key (element_at key.tag held)) (filter (λ key. is_key place key.tag) (elements_of keys))
+each_shown no_elements place held = refl
+each_shown (element t v o rest) place held =
+    shown_by t v (Octets o) place rest held
+    ∙ map_by (is_key place t) (λ key. shown_element key (element_at key.tag held)) (record { tag = t; vr = v; value = Octets o })
+    (filter (λ key. is_key place key.tag) (elements_of rest)) (elements_of (shown_keys rest place held)) (each_shown rest place held)
+each_shown (sequence t v items rest) place held =
+    ap (λ (its : ItemList). elements_of (shown_keys (sequence t v its rest) place held)) (sym (items_of-list_of items))
+    ∙ shown_by t v (Items (list_of items)) place rest held
+    ∙ map_by (is_key place t) (λ key. shown_element key (element_at key.tag held)) (record { tag = t; vr = v; value = Items (list_of items) })
+    (filter (λ key. is_key place key.tag) (elements_of rest)) (elements_of (shown_keys rest place held)) (each_shown rest place held)
+
+first_shown : (first : Option Element) (rest : ElementList) → elements_of (put_first first rest) ≡ before first (elements_of rest)
+first_shown None rest = refl
+first_shown (Some e) rest = elements_of-with_value e.tag e.vr e.value rest
+
+pub keys_show : (identifier held : ElementList) → elements_of (shown identifier held)
+    ≡ before (character_set held) (shown_elements (elements_of identifier) held)
+unfolding shown
+keys_show identifier held =
+    first_shown (character_set held) (shown_keys identifier Outer held) ∙ ap (before (character_set held)) (each_shown identifier Outer held)
+
+pub plain_whole : (key found : Element) → cut_keys key.value ≡ None → shown_element key (Some found) ≡ found
+plain_whole key found h = ap (λ (cut : Option ElementList). with_cut (cut_by cut) found) h ∙ with_cut-whole found.tag found.vr found.value
 
 module _ (keys : List Element) (place : Place) (held : ElementList) (done : List Element) (i : ℕ) (key : Element) (lt : i < length keys)
     (is : key ≡ get_or keys i key)

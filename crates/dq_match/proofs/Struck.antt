@@ -1,8 +1,12 @@
 -- What is left of an identifier is supported.
-use Rattle.std.proofs.Common.{◌≡◌, Bool, true, false, cond, not, ◌||◌, ◌↔◌, refl, ap, ◌∙◌, subst, arith}
+use Rattle.std.proofs.Common.{◌≡◌, Bool, true, false, cond, not, ◌||◌, ◌↔◌, List, [], ◌∷◌, map, filter, refl, ap, ◌∙◌, sym, subst, arith}
 use Rattle.dq_dataset.specs.Tree.{ElementList, no_elements, element, sequence, ItemList, no_items, item}
+use Rattle.dq_dataset.specs.View.{elements_of, items_of, list_of}
+use Rattle.dq_dataset.specs.declared.data_set.Element.{Element}
+use Rattle.dq_dataset.specs.declared.data_set.Value.TheVariants.{Octets, Items}
+use Rattle.dq_dataset.proofs.Views.{items_of-list_of}
 use Rattle.dq_match.specs.declared.supported.KeyScope.{KeyScope}
-use Rattle.dq_match.specs.Supported.{is_supported, below, supported_part, supported_items, has_unsupported, have_unsupported}
+use Rattle.dq_match.specs.Supported.{is_supported, below, supported_part, supported_items, supported_value, supported_element, has_unsupported, have_unsupported}
 
 neither : (a b : Bool) → (a || b) ≡ false → (a ≡ false) × (b ≡ false)
 neither true b h = absurd cc
@@ -51,3 +55,32 @@ mutual
 
 pub nothing_struck : (scope : KeyScope) (d : ElementList) → (has_unsupported scope d ≡ false) ↔ (supported_part scope d ≡ d)
 nothing_struck scope d = (untouched scope d, λ same. subst (λ (x : ElementList). has_unsupported scope x ≡ false) same (nothing_left scope d))
+
+-- ---- what stays
+
+kept_by : (b : Bool) (scope : KeyScope) (e : Element) (es : List Element) (whole rest : ElementList)
+    → elements_of whole ≡ supported_element scope e ∷ elements_of rest → elements_of rest ≡ map (supported_element scope) es
+    → elements_of (cond b whole rest) ≡ map (supported_element scope) (cond b (e ∷ es) es)
+kept_by true scope e es whole rest same h = same ∙ ap (λ (xs : List Element). supported_element scope e ∷ xs) h
+kept_by false scope e es whole rest same h = h
+
+pub what_stays : (scope : KeyScope) (d : ElementList)
+    → elements_of (supported_part scope d) ≡ map (supported_element scope) (filter (λ e. is_supported scope e.tag) (elements_of d))
+what_stays scope no_elements = refl
+what_stays scope (element t v o rest) =
+    kept_by (is_supported scope t) scope (record { tag = t; vr = v; value = Octets o }) (filter (λ e. is_supported scope e.tag) (elements_of rest))
+    (element t v o (supported_part scope rest)) (supported_part scope rest) refl (what_stays scope rest)
+what_stays scope (sequence t v items rest) =
+    kept_by (is_supported scope t) scope (record { tag = t; vr = v; value = Items (list_of items) })
+    (filter (λ e. is_supported scope e.tag) (elements_of rest))
+    (sequence t v (supported_items (below scope t) items) (supported_part scope rest)) (supported_part scope rest)
+    (ap (λ (its : ItemList). record { tag = t; vr = v; value = Items (list_of (supported_items (below scope t) its)) } ∷ elements_of (supported_part scope rest))
+    (sym (items_of-list_of items)))
+    (what_stays scope rest)
+
+items_stay : (scope : KeyScope) (items : List ElementList) → list_of (supported_items scope (items_of items)) ≡ map (supported_part scope) items
+items_stay scope [] = refl
+items_stay scope (d ∷ ds) = ap (λ (xs : List ElementList). supported_part scope d ∷ xs) (items_stay scope ds)
+
+pub inside_stays : (scope : KeyScope) (items : List ElementList) → supported_value scope (Items items) ≡ Items (map (supported_part scope) items)
+inside_stays scope items = ap Items (items_stay scope items)

@@ -96,3 +96,14 @@ shown_found key found = with_cut (cut_by (cut_keys key.value)) found
 
 abbrev pub shown_element : Element → Option Element → Element
 shown_element key held = or_empty key.tag key.vr key.value (option_map (shown_found key) held)
+
+-- what stands before elements, where there is something
+abbrev pub before : Option Element → List Element → List Element
+before None others = others
+before (Some e) others = e ∷ others
+
+-- for each key of an identifier, in order, the record's element as the key shows it
+abbrev pub shown_elements : List Element → ElementList → List Element
+shown_elements identifier held =
+    map (λ key. shown_element key (element_at key.tag held))
+    (filter (λ key. is_key Outer key.tag) identifier)

@@ -5,6 +5,7 @@ use Rattle.dq_vr.specs.declared.Tag.{Tag}
 use Rattle.dq_vr.specs.Tags as tags
 use Rattle.dq_dataset.specs.Tree.{ElementList, no_elements, element, sequence, ItemList, no_items, item}
 use Rattle.dq_dataset.specs.View.{items_of, list_of}
+use Rattle.dq_dataset.specs.declared.data_set.Element.{Element}
 use Rattle.dq_dataset.specs.declared.data_set.Value.{Value}
 use Rattle.dq_dataset.specs.declared.data_set.Value.TheVariants.{Octets, Items}
 use Rattle.dq_match.specs.declared.supported.KeyList.{KeyList}
@@ -147,6 +148,11 @@ abbrev mutual
 abbrev pub supported_value : KeyScope → Value → Value
 supported_value scope (Octets octets) = Octets octets
 supported_value scope (Items items) = Items (list_of (supported_items scope (items_of items)))
+
+-- an element that stays: of a sequence the items, each without what is not supported there
+abbrev pub supported_element : KeyScope → Element → Element
+supported_element scope e =
+    record { tag = e.tag; vr = e.vr; value = supported_value (below scope e.tag) e.value }
 
 abbrev pub value_has_unsupported : KeyScope → Value → Bool
 value_has_unsupported scope (Octets octets) = false

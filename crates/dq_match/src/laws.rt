@@ -2,6 +2,9 @@
 ghost use Rattle.std.specs.Prelude.{◌≡◌, ◌↔◌, ◌⊎◌, ◌≤◌, ◌≤ℤ◌, ◌<ℤ◌, true, false, ◌&&◌, ℕ, ℤ, List, [], ◌∷◌, ◌++◌, Some, None, map, filter};
 ghost use Rattle.dq_vr.specs.declared.Vr.{Vr};
 ghost use Rattle.dq_dataset.specs.Tree.{ElementList, ItemList, item};
+ghost use Rattle.dq_dataset.specs.View.{elements_of};
+ghost use Rattle.dq_dataset.specs.declared.data_set.Element.{Element};
+ghost use Rattle.dq_dataset.specs.declared.data_set.Value.TheVariants.{Items};
 ghost use Rattle.dq_match.specs.declared.keys.Place.{Place};
 ghost use Rattle.dq_match.specs.declared.keys.Place.TheVariants.{Outer};
 ghost use Rattle.dq_match.specs.declared.supported.KeyScope.{KeyScope};
@@ -10,7 +13,7 @@ ghost use Rattle.dq_match.specs.Wildcards.{Fits, wild};
 ghost use Rattle.std.specs.Char.{to_ascii_lowercase};
 ghost use Rattle.dq_value.specs.Day.{day};
 ghost use Rattle.dq_value.specs.Time.{Span, span};
-ghost use Rattle.dq_value.specs.Range.{ends, end_of};
+ghost use Rattle.dq_value.specs.Range.{IsRange, ends, end_of};
 ghost use Rattle.dq_match.specs.declared.values.Matching.TheVariants.{Name, WildCard, Equality};
 ghost use Rattle.dq_match.specs.Ranges.{Bounds, has_day, has_time, date_meets, time_meets, is_from, is_until};
 ghost use Rattle.dq_match.specs.Values.{is_name_pad, name_of, value_meets, is_universal, octets_meet};
@@ -18,9 +21,11 @@ ghost use Rattle.dq_match.specs.Keys.{is_key};
 ghost use Rattle.dq_match.specs.Matching.{items_meet, all_met};
 ghost use Rattle.dq_match.specs.Fitting.{EachIsMet, PeriodIsMet, SomeItemFits};
 ghost use Rattle.dq_match.specs.Universal.{all_universal};
-ghost use Rattle.dq_match.specs.Supported.{supported_part, has_unsupported};
-ghost use Rattle.dq_match.specs.Responses.{character_set, shown};
+ghost use Rattle.dq_match.specs.Supported.{is_supported, supported_part, supported_value, supported_element, has_unsupported};
+ghost use Rattle.dq_match.specs.Responses.{no_value, character_set, cut_keys, before, shown_element, shown_elements, shown};
 ghost use Rattle.dq_match.specs.ShownTags.{tags_of, set_tags};
+
+use dq_value::range_law;
 
 /// A pattern fits a text by the cases of PS3.4 section C.2.2.2.4 just where it is computed to.
 #[tactic(auto, using(crate::proofs::WildFits::wild_is_fits))]
@@ -79,6 +84,48 @@ pub fn ranges_take_what_is_between()
         → has_time range time ≡ (has_time (range.0, None) time && has_time (None, range.1) time) }
 {}
 
+/// A time is met by the times that begin in it, and a range of times by those that begin between its
+/// ends, both of them included: not before the first microsecond of the one, nor after the last
+/// microsecond of the other. An end that is left open sets no bound (PS3.4 sections C.2.2.2.1 and
+/// C.2.2.2.5).
+pub fn a_range_of_times_is_met_between_its_ends()
+    ensures closed { (key from to value : List ℕ) (first last time : Span) → IsRange key from to
+        → span from ≡ Some first → span to ≡ Some last → span value ≡ Some time
+        → (time_meets key value ≡ true) ↔ ((first.0 ≤ time.0) × (time.0 ≤ last.1)) }
+    ensures from { (key from value : List ℕ) (first time : Span) → IsRange key from []
+        → span from ≡ Some first → span value ≡ Some time
+        → (time_meets key value ≡ true) ↔ (first.0 ≤ time.0) }
+    ensures until { (key to value : List ℕ) (last time : Span) → IsRange key [] to
+        → span to ≡ Some last → span value ≡ Some time
+        → (time_meets key value ≡ true) ↔ (time.0 ≤ last.1) }
+    ensures single { (key value : List ℕ) (asked time : Span) → ends key ≡ None
+        → span key ≡ Some asked → span value ≡ Some time
+        → (time_meets key value ≡ true) ↔ ((asked.0 ≤ time.0) × (time.0 ≤ asked.1)) }
+    ensures unread { (key value : List ℕ) → span value ≡ None → time_meets key value ≡ false }
+{
+    range_law();
+}
+
+/// A date is met by its day, and a range of dates by the days between its ends, both of them
+/// included. An end that is left open sets no bound (PS3.4 sections C.2.2.2.1 and C.2.2.2.5).
+pub fn a_range_of_dates_is_met_between_its_ends()
+    ensures closed { (key from to value : List ℕ) (first last date : ℤ) → IsRange key from to
+        → day from ≡ Some first → day to ≡ Some last → day value ≡ Some date
+        → (date_meets key value ≡ true) ↔ ((first ≤ℤ date) × (date ≤ℤ last)) }
+    ensures from { (key from value : List ℕ) (first date : ℤ) → IsRange key from []
+        → day from ≡ Some first → day value ≡ Some date
+        → (date_meets key value ≡ true) ↔ (first ≤ℤ date) }
+    ensures until { (key to value : List ℕ) (last date : ℤ) → IsRange key [] to
+        → day to ≡ Some last → day value ≡ Some date
+        → (date_meets key value ≡ true) ↔ (date ≤ℤ last) }
+    ensures single { (key value : List ℕ) (asked date : ℤ) → ends key ≡ None
+        → day key ≡ Some asked → day value ≡ Some date
+        → (date_meets key value ≡ true) ↔ ((asked ≤ℤ date) × (date ≤ℤ asked)) }
+    ensures unread { (key value : List ℕ) → day value ≡ None → date_meets key value ≡ false }
+{
+    range_law();
+}
+
 /// A period is an order of moments, by day and then by microsecond (PS3.4 table K.6-1).
 #[tactic(auto, using(crate::proofs::Moments::periods))]
 pub fn periods_are_an_order()
@@ -109,6 +156,32 @@ pub fn striking_again_strikes_nothing()
     ensures nothing { (scope : KeyScope) (identifier : ElementList)
         → (has_unsupported scope identifier ≡ false)
         ↔ (supported_part scope identifier ≡ identifier) }
+{}
+
+/// What stays of an identifier is each element whose tag is in the list of its place, in order, and
+/// of a sequence the items. In each item stays what is in the list of the items.
+#[tactic(auto, using(crate::proofs::Struck::what_stays, crate::proofs::Struck::inside_stays))]
+pub fn what_is_supported_stays()
+    ensures elements { (scope : KeyScope) (identifier : ElementList)
+        → elements_of (supported_part scope identifier)
+        ≡ map (supported_element scope)
+        (filter (λ e. is_supported scope e.tag) (elements_of identifier)) }
+    ensures items { (scope : KeyScope) (items : List ElementList)
+        → supported_value scope (Items items) ≡ Items (map (supported_part scope) items) }
+{}
+
+/// Each key is shown with the record's element, in the order of the keys. A key without keys in an
+/// item of its own shows that element whole, and one that the record has not is shown without a
+/// value (PS3.4 section C.4.1.1.3.2).
+#[tactic(auto, using(crate::proofs::Showing::keys_show, crate::proofs::Showing::plain_whole))]
+pub fn each_key_shows_the_element_of_the_record()
+    ensures each { (identifier held : ElementList)
+        → elements_of (shown identifier held)
+        ≡ before (character_set held) (shown_elements (elements_of identifier) held) }
+    ensures whole { (key found : Element)
+        → cut_keys key.value ≡ None → shown_element key (Some found) ≡ found }
+    ensures absent { (key : Element) → shown_element key None
+        ≡ record { tag = key.tag; vr = key.vr; value = no_value key.value } }
 {}
 
 /// What is shown of a record has the tags of the keys, after that of the character set where the
