@@ -239,7 +239,7 @@ is_true : (b c : Bool) (o : Option Record) → (is_some o ≡ true → b ≡ c) 
 is_true b c None same = refl
 is_true b c (Some r) same = ap (λ (x : Bool). Some (started_if x r)) (same refl)
 
-apart : (a b : Place) → (a.kind ≡ b.kind → a.key ≡ b.key → ⊥) → is_eq (place_order a b) ≡ false
+pub apart : (a b : Place) → (a.kind ≡ b.kind → a.key ≡ b.key → ⊥) → is_eq (place_order a b) ≡ false
 apart a b differ = by (is_eq (place_order a b)) refl
   where
     by : (c : Bool) → is_eq (place_order a b) ≡ c → is_eq (place_order a b) ≡ false
@@ -298,7 +298,7 @@ accepted_step : (b : Bool) (status : ℕ) (o : Option ℕ) (edits : List Edit) �
 accepted_step true status o edits failure is rest = absurd (failure is)
 accepted_step false status o edits failure is rest = rest is
 
-accepted : (refusals : List (Bool × ℕ)) (edits : List Edit) → AllByRecursion (λ (r : Bool × ℕ). r.1 ≢ success) refusals
+pub accepted : (refusals : List (Bool × ℕ)) (edits : List Edit) → AllByRecursion (λ (r : Bool × ℕ). r.1 ≢ success) refusals
     → (outcome (first_refusal refusals) (success, edits)).0 ≡ success → (outcome (first_refusal refusals) (success, edits)).1 ≡ edits
 accepted [] edits failures is = refl
 accepted (r ∷ refusals) edits failures is =

@@ -1,3 +1,4 @@
+pub mod Changed
 pub mod Created
 pub mod Fitting
 pub mod Named

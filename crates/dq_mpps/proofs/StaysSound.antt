@@ -1,5 +1,5 @@
 -- What holds of rows and stays, whatever step is created or changed: that they are sound, and that each is of a kind.
-use Rattle.std.proofs.Common.{◌≡◌, ℕ, ◌<◌, ◌^◌, Bool, true, false, ◌||◌, nat_lt, List, [], ◌∷◌, ◌++◌, map, length, Option, Some, None, Result, Ok, Err, refl, sym, ◌∙◌, ap, subst, arith}
+use Rattle.std.proofs.Common.{◌≡◌, ℕ, ◌<◌, ◌≤◌, ◌^◌, Bool, true, false, ◌||◌, nat_le, nat_lt, List, [], ◌∷◌, ◌++◌, map, length, Option, Some, None, Result, Ok, Err, refl, sym, ◌∙◌, ap, subst, arith}
 use Rattle.std.specs.List.{AllByRecursion}
 use Rattle.std.specs.Option.{option_map}
 use Rattle.std.proofs.lemmas.Bool.Decides.{nat_tests}
@@ -12,12 +12,14 @@ use Rattle.dq_dataset.specs.Reading.{reading}
 use Rattle.dq_dataset.specs.Canonical.{canonical, HasLengths}
 use Rattle.dq_dataset.specs.Editing.{merged}
 use Rattle.dq_dataset.specs.Sieve.{is_over_limit}
+use Rattle.dq_dataset.specs.Grammar.{IsSpelled}
 use Rattle.dq_dataset.proofs.Large.{small_has_lengths}
+use Rattle.dq_dataset.proofs.SpelledIsShort.{spelled_is_short}
 use Rattle.dq_dimse.specs.Received.{Message}
 use Rattle.dq_dimse.specs.Receiving.{is_over}
 use Rattle.dq_config.specs.Limits.{Limits}
 use Rattle.dq_tables.specs.declared.change.Change.TheVariants.{StepAdded, StepChanged}
-use Rattle.dq_tables.specs.declared.row.Kind.TheVariants.{Step}
+use Rattle.dq_tables.specs.declared.row.Kind.TheVariants.{Entry, Step}
 use Rattle.dq_tables.specs.declared.row.Row.{Row}
 use Rattle.dq_tables.specs.Rows.{Record, Edit, Put, Start, IsRising, of, by, after, after_edit, after_edits, place_of, record_of, row_of, rows_before, rows_past, within}
 use Rattle.dq_tables.specs.Finding.{record_at, row_at}
@@ -34,7 +36,7 @@ use Rattle.dq_tables.proofs.Started.{started, start_keeps}
 use Rattle.dq_mpps.specs.Steps.{data_set_limit, step_record}
 use Rattle.dq_mpps.specs.Creating as creating
 use Rattle.dq_mpps.specs.Creating.{created}
-use Rattle.dq_mpps.specs.Changing.{kept_data_set, is_too_long, attribute_refusals, changed}
+use Rattle.dq_mpps.specs.Changing.{kept_data_set, step_limit, is_too_long, attribute_refusals, changed}
 use Rattle.dq_mpps.specs.Views.{step_created, step_changed}
 use Rattle.dq_mpps.proofs.Fitting.{new_step_fits, changed_fits}
 use Rattle.dq_mpps.proofs.Outcomes.{create_over, create_unread, create_unnamed, create_handed_on, refused_by, too_long, changed_to, set_over, set_unread, set_handed_on}
@@ -48,7 +50,26 @@ short_octets message short = by message.over short
     by true e = cc
     by false e = grind (arith, nat_tests)
 
-short_step : (d : ElementList) → is_too_long d ≡ false → HasLengths Explicit d
+pub short_message : (message : Message) → is_over data_set_limit message ≡ false → length message.octets ≤ data_set_limit
+short_message message short = by message.over short
+  where
+    by : (over : Bool) → (over || nat_lt data_set_limit (length message.octets)) ≡ false → length message.octets ≤ data_set_limit
+    by true e = cc
+    by false e = grind (arith, nat_tests)
+
+-- a step is at most twice as long in the spelling that is kept
+pub short_new : (syntax : Syntax) (octets : List ℕ) (d : ElementList) → IsSpelled syntax octets d → length octets ≤ data_set_limit
+    → nat_le (length (canonical Explicit d)) step_limit ≡ true
+short_new syntax octets d spelled short =
+    let twice = (spelled_is_short Explicit syntax octets d spelled).twice in
+    let within : length (canonical Explicit d) ≤ step_limit = omega (arith, twice, short) in
+    grind (arith, nat_tests)
+
+pub short_changed : (d : ElementList) → is_too_long d ≡ false → nat_le (length (canonical Explicit d)) step_limit ≡ true
+unfolding is_too_long
+short_changed d short = grind (arith, nat_tests)
+
+pub short_step : (d : ElementList) → is_too_long d ≡ false → HasLengths Explicit d
 unfolding is_too_long is_over_limit
 short_step d short = small_has_lengths d (grind (arith, nat_tests))
 
@@ -99,7 +120,7 @@ module _ (P : List Row → Type 0) (h : List ℕ) (rows : List Row) (holds : P r
     created_stays = created_by (is_over data_set_limit message) refl
 
   module _ (keeps : (d : ElementList) → reading syntax message.octets ≡ Ok d → (r : Record) → record_at Step uid (of h rows) ≡ Some r
-      → HasLengths Explicit (merged (kept_data_set (Some r)) d)
+      → is_too_long (merged (kept_data_set (Some r)) d) ≡ false
       → P (after (by h (Put (step_record uid (merged (kept_data_set (Some r)) d)) ∷ [])) rows)) where
     short_stays : (d : ElementList) → reading syntax message.octets ≡ Ok d → (r : Record) → record_at Step uid (of h rows) ≡ Some r
         → first_refusal (attribute_refusals (kept_data_set (Some r)) d) ≡ None
@@ -108,7 +129,7 @@ module _ (P : List Row → Type 0) (h : List ℕ) (rows : List Row) (holds : P r
     short_stays d read r there clear false short =
         let step = merged (kept_data_set (Some r)) d in
         subst Stays (sym (changed_to uid d r (kept_data_set (Some r)) refl clear short (canonical Explicit step) refl))
-        (keeps d read r there (short_step step short))
+        (keeps d read r there short)
 
     clear_stays : (d : ElementList) → reading syntax message.octets ≡ Ok d → (r : Record) → record_at Step uid (of h rows) ≡ Some r
         → (refusal : Option ℕ) → first_refusal (attribute_refusals (kept_data_set (Some r)) d) ≡ refusal → Stays (step_changed uid d (Some r))
@@ -166,11 +187,11 @@ module _ (Each : Row → Type 0) where
       each_among Each (row_of h r) rows all
       (find_among _ (row_of h r) rows (found_own Step h uid rows ∙ ap (option_map (row_of h)) there)).0
 
-  module _ (as_before : (row : Row) → Each row → Each (started row)) where
+  module _ (as_before : (row : Row) → row.kind ≡ Entry → Each row → Each (started row)) where
     pub each_started : (h : List ℕ) (keys : List (List ℕ)) (rows : List Row) → IsRising rows → AllByRecursion Each rows
         → AllByRecursion Each (after_edits h (map Start keys) rows)
     each_started h [] rows rising all = all
     each_started h (key ∷ keys) rows rising all =
         each_started h keys (after_edit h (Start key) rows) (rising_edit h (Start key) rows rising)
         (start_keeps (AllByRecursion Each) h key rows rising all
-        (λ row kind among. each_put row.inst (record_of (started row)) rows all (as_before row (each_among Each row rows all among))))
+        (λ row kind among. each_put row.inst (record_of (started row)) rows all (as_before row kind (each_among Each row rows all among))))

@@ -1,6 +1,6 @@
 -- N-SET of a performed procedure step, over the records of one institution (PS3.4 section F.7.2.2,
 -- PS3.7 section 10.1.3).
-use Rattle.std.specs.Prelude.{ℕ, Bool, not, ◌&&◌, ◌||◌, nat_lt, List, [], ◌∷◌, ◌++◌, length, Option, Some, None, is_some, is_none, Result, is_err}
+use Rattle.std.specs.Prelude.{ℕ, Bool, not, ◌&&◌, ◌||◌, nat_le, nat_lt, List, [], ◌∷◌, ◌++◌, length, Option, Some, None, is_some, is_none, Result, is_err}
 use Rattle.std.specs.List.{list_any}
 use Rattle.std.specs.Result.{result_unwrap_or}
 use Rattle.dq_vr.specs.Tags.{performed_procedure_step_status}
@@ -19,8 +19,9 @@ use Rattle.dq_dimse.specs.Received.{Message}
 use Rattle.dq_dimse.specs.Receiving.{is_over}
 use Rattle.dq_dimse.specs.Statuses.{success, processing_failure, no_such_sop_instance, invalid_attribute_value, resource_limitation}
 use Rattle.dq_tables.specs.declared.row.Kind.TheVariants.{Step}
+use Rattle.dq_tables.specs.declared.row.Row.{Row}
 use Rattle.dq_tables.specs.Rows.{Record, Edit, Put}
-use Rattle.dq_tables.specs.Finding.{record_at}
+use Rattle.dq_tables.specs.Finding.{same_kind, record_at}
 use Rattle.dq_tables.specs.Records.{data_set_of}
 use Rattle.dq_tables.specs.Serving.{first_refusal, outcome}
 use Rattle.dq_mpps.specs.Attributes.{is_fixed}
@@ -52,6 +53,10 @@ step_limit = 0x400000
 
 unfoldable pub is_too_long : ElementList → Bool
 is_too_long d = nat_lt step_limit (length (canonical Explicit d))
+
+-- a row is of another kind, or has at most so many octets
+abbrev pub is_short_step : Row → Bool
+is_short_step row = not (same_kind row.kind Step) || nat_le (length row.octets) step_limit
 
 abbrev pub attribute_refusals : ElementList → ElementList → List (Bool × ℕ)
 attribute_refusals kept sent =

@@ -1,4 +1,5 @@
 pub mod Attributes
+pub mod Changed
 pub mod Changing
 pub mod Created
 pub mod Creating

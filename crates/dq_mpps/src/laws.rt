@@ -1,5 +1,5 @@
 //! What follows from the definitions. Each function's contract is a law; its body changes nothing.
-ghost use Rattle.std.specs.Prelude.{◌≡◌, ◌≢◌, ℕ, [], List, Some, true, false};
+ghost use Rattle.std.specs.Prelude.{◌≡◌, ◌≢◌, ◌⊎◌, ℕ, Bool, [], List, Some, true, false};
 ghost use Rattle.std.specs.List.{AllByRecursion};
 ghost use Rattle.std.specs.Option.{option_or};
 ghost use Rattle.std.specs.Result.{result_unwrap_or};
@@ -15,7 +15,7 @@ ghost use Rattle.dq_dataset.specs.Values.{element_at};
 ghost use Rattle.dq_dimse.specs.Received.{Message};
 ghost use Rattle.dq_dimse.specs.Statuses.{success};
 ghost use Rattle.dq_config.specs.Limits.{Limits};
-ghost use Rattle.dq_tables.specs.declared.row.Kind.TheVariants.{Step};
+ghost use Rattle.dq_tables.specs.declared.row.Kind.TheVariants.{Entry, Step};
 ghost use Rattle.dq_tables.specs.declared.row.Row.{Row};
 ghost use Rattle.dq_tables.specs.Rows.{Record, Edit, IsRising, of, by, after, edited};
 ghost use Rattle.dq_tables.specs.Finding.{record_at};
@@ -24,7 +24,8 @@ ghost use Rattle.dq_tables.specs.Sound.{IsSound};
 ghost use Rattle.dq_mpps.specs.Attributes.{is_fixed};
 ghost use Rattle.dq_mpps.specs.Creating.{created};
 ghost use Rattle.dq_mpps.specs.Created.{IsCreated};
-ghost use Rattle.dq_mpps.specs.Changing.{kept_data_set, is_ended, changes_fixed, changed};
+ghost use Rattle.dq_mpps.specs.Changed.{step_at, IsChanged};
+ghost use Rattle.dq_mpps.specs.Changing.{kept_data_set, is_ended, is_short_step, changes_fixed, changed};
 
 use dq_dataset::laws::{editing_law, spelling_law, written_law};
 
@@ -70,6 +71,25 @@ pub fn fixed_attributes_stay()
         → changes_fixed kept sent ≡ false → (e : Element) → is_fixed e ≡ true
         → element_at e.tag (merged kept sent) ≡ element_at e.tag kept }
 {}
+
+/// After a change that is not refused what was sent stands in the step, and all else of it as it was
+/// kept. What is fixed stays, and so does each other record (PS3.4 section F.7.2.2). A change that is
+/// refused leaves all records.
+pub fn changed_steps_hold_what_was_sent()
+    ensures changed { (records : List Record) (message : Message) (syntax : Syntax)
+        → AreOctets message.octets → IsDataSet (step_at message.command.sop_instance records)
+        → (changed records message syntax).0 ≡ success
+        → IsChanged records (edited (changed records message syntax).1 records)
+        message.command.sop_instance
+        (result_unwrap_or (reading syntax message.octets) no_elements) }
+    ensures refused { (records : List Record) (message : Message) (syntax : Syntax)
+        → (changed records message syntax).0 ≢ success
+        → edited (changed records message syntax).1 records ≡ records }
+{
+    spelling_law();
+    editing_law();
+    written_law();
+}
 
 /// What other institutions keep changes no status and no edit.
 #[tactic(auto, using(crate::proofs::Others::created_alike, crate::proofs::Others::changed_alike))]
@@ -127,4 +147,36 @@ pub fn rows_hold_data_sets()
     spelling_law();
     editing_law();
     written_law();
+}
+
+/// What holds of each row, and of any entry and any step, holds of each row afterwards: steps that
+/// are created and changed leave the rows of studies, series and images.
+pub fn rows_of_other_kinds_stay()
+    ensures created { (holds : Row → Bool)
+        → ((row : Row) → (row.kind ≡ Entry) ⊎ (row.kind ≡ Step) → holds row ≡ true)
+        → (h : List ℕ) (limits : Limits) (rows : List Row) (message : Message) (syntax : Syntax)
+        → IsRising rows → AllByRecursion (λ (row : Row). holds row ≡ true) rows
+        → AllByRecursion (λ (row : Row). holds row ≡ true)
+        (after (by h (created limits (of h rows) message syntax).1) rows) }
+    ensures changed { (holds : Row → Bool)
+        → ((row : Row) → row.kind ≡ Step → holds row ≡ true)
+        → (h : List ℕ) (rows : List Row) (message : Message) (syntax : Syntax)
+        → AllByRecursion (λ (row : Row). holds row ≡ true) rows
+        → AllByRecursion (λ (row : Row). holds row ≡ true)
+        (after (by h (changed (of h rows) message syntax).1) rows) }
+{}
+
+/// A step that is kept has at most 4,194,304 octets, whatever it is created from and changed by.
+pub fn kept_steps_are_short()
+    ensures created { (h : List ℕ) (limits : Limits) (rows : List Row) (message : Message)
+        (syntax : Syntax) → AreOctets message.octets → IsRising rows
+        → AllByRecursion (λ (row : Row). is_short_step row ≡ true) rows
+        → AllByRecursion (λ (row : Row). is_short_step row ≡ true)
+        (after (by h (created limits (of h rows) message syntax).1) rows) }
+    ensures changed { (h : List ℕ) (rows : List Row) (message : Message) (syntax : Syntax)
+        → AllByRecursion (λ (row : Row). is_short_step row ≡ true) rows
+        → AllByRecursion (λ (row : Row). is_short_step row ≡ true)
+        (after (by h (changed (of h rows) message syntax).1) rows) }
+{
+    spelling_law();
 }

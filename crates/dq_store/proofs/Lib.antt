@@ -1,4 +1,5 @@
 pub mod Records
+mod Levels
 mod Sieved
 mod Sifted
 mod Standing
@@ -7,3 +8,4 @@ pub mod Outcomes
 pub mod Calls
 pub mod Staying
 mod StaysSound
+mod Whole

@@ -26,7 +26,7 @@ use Rattle.dq_store.proofs.Fitting.{listed_at, uid_of_cut}
 
 -- ---- the attributes of each level are kept
 
-abbrev AllListed : List Tag → List Tag → Type 0
+abbrev pub AllListed : List Tag → List Tag → Type 0
 AllListed [] all = Unit {0}
 AllListed (tag ∷ tags) all = ((e : Element) → has_tag tag e ≡ true → is_listed all e ≡ true) × AllListed tags all
 
@@ -34,11 +34,11 @@ either : (a b c : Bool) → (a ≡ true → c ≡ true) → (b ≡ true → c �
 either true b c f g h = f refl
 either false b c f g h = g h
 
-listed_too : (tags all : List Tag) → AllListed tags all → (e : Element) → is_listed tags e ≡ true → is_listed all e ≡ true
+pub listed_too : (tags all : List Tag) → AllListed tags all → (e : Element) → is_listed tags e ≡ true → is_listed all e ≡ true
 listed_too [] all h e l = absurd (false≢true l)
 listed_too (tag ∷ tags) all h e l = either (has_tag tag e) (is_listed tags e) (is_listed all e) (h.0 e) (listed_too tags all h.1 e) l
 
-study_kept : AllListed study_attributes kept_attributes
+pub study_kept : AllListed study_attributes kept_attributes
 study_kept = (
   listed_at 0 kept_attributes specific_character_set refl,
   (
@@ -80,7 +80,7 @@ study_kept = (
   ),
 )
 
-series_kept : AllListed series_attributes kept_attributes
+pub series_kept : AllListed series_attributes kept_attributes
 series_kept = (
   listed_at 0 kept_attributes specific_character_set refl,
   (
@@ -110,7 +110,7 @@ series_kept = (
   ),
 )
 
-image_kept : AllListed image_attributes kept_attributes
+pub image_kept : AllListed image_attributes kept_attributes
 image_kept = (
   listed_at 0 kept_attributes specific_character_set refl,
   (
@@ -159,7 +159,7 @@ filter_both : {X : Type 0} (p q : X → Bool) → ((x : X) → p x ≡ true → 
 filter_both p q both [] = refl
 filter_both p q both (x ∷ xs) = both_step p x (filter q xs) (filter p xs) (p x) (q x) refl (both x) (filter_both p q both xs)
 
-cut_twice : (tags : List Tag) (d : ElementList) → AllListed tags kept_attributes → cut_out tags (cut_out kept_attributes d) ≡ cut_out tags d
+pub cut_twice : (tags : List Tag) (d : ElementList) → AllListed tags kept_attributes → cut_out tags (cut_out kept_attributes d) ≡ cut_out tags d
 cut_twice tags d listed =
     ap (λ es. as_elements (filter (is_listed tags) es)) (elements_of-as_elements (filter (is_listed kept_attributes) (elements_of d)))
     ∙ ap as_elements (filter_both (is_listed tags) (is_listed kept_attributes) (listed_too tags kept_attributes listed) (elements_of d))

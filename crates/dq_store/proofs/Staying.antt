@@ -5,7 +5,7 @@ use Rattle.std.specs.declared.cmp.Ordering.TheVariants.{Less, Equal, Greater}
 use Rattle.std.specs.Ordering.{is_lt, is_eq, is_gt, ordering_reverse}
 use Rattle.std.specs.Cmp.{IsTotalOrder}
 use Rattle.std.specs.Str.{bytes_eq}
-use Rattle.std.proofs.lemmas.Cmp.{nat_cmp_total, nat_list_cmp_total, on_total, then_total, alike_right}
+use Rattle.std.proofs.lemmas.Cmp.{nat_cmp_total, nat_list_cmp_total, on_total, then_total, alike_right, tied_itself}
 use Rattle.std.proofs.lemmas.Map.Text.{is_eq-slice_cmp}
 use Rattle.dq_dataset.specs.declared.header.Syntax.{Syntax}
 use Rattle.std.specs.Result.{result_unwrap_or}
@@ -122,6 +122,20 @@ module _ (new : Record) where
       cc
   kept_by q r records false e free kept = elsewhere_stays q records e (other_way q e) ∙ kept
 
+  -- what is put is found
+  pub put_here : (records : List Record) → record_at new.kind new.key (edited_by (Put new) records) ≡ Some new
+  unfolding edited_by
+  put_here records =
+      let same : place_order at_new at_new ≡ Equal = tied_itself places_total at_new in
+      let before = none_filtered (stands_at at_new) (λ (r : Record). is_lt (place_order (place_of r) at_new))
+      (λ (r : Record) here. ap is_lt (order_of at_new r here ∙ same)) records in
+      let past = none_filtered (stands_at at_new) (λ (r : Record). is_gt (place_order (place_of r) at_new))
+      (λ (r : Record) here. ap is_gt (order_of at_new r here ∙ same)) records in
+      let alone : find (stands_at at_new) (new ∷ []) ≡ Some new = rw same refl in
+      record_at_is at_new (edited_by (Put new) records)
+      ∙ none_behind (stands_at at_new) (records_before at_new records ++ (new ∷ [])) (records_past at_new records) past
+      ∙ none_in_front (stands_at at_new) (records_before at_new records) (new ∷ []) before ∙ alone
+
 edited_append : (es fs : List Edit) (records : List Record) → edited (es ++ fs) records ≡ edited fs (edited es records)
 edited_append [] fs records = refl
 edited_append (e ∷ es) fs records = edited_append es fs (edited_by e records)
@@ -164,6 +178,52 @@ module _ (records : List Record) (sending : Instance) where
       rw parts (new_stays None (image_record sending) second image_free kind key x (new_stays kr (series_record sending) first series_first kind key x
       (new_stays ks (study_record sending) records study kind key x kept)))
 
+  abbrev pub all_put : Option Record → Option Record → List Record
+  all_put ks kr = edited (put_new ks (study_record sending) ++ (put_new kr (series_record sending) ++ Put (image_record sending) ∷ [])) records
+
+  -- what is put of an instance that is new is found
+  module _ (ks kr : Option Record) (study : record_at Study sending.study records ≡ ks) (series : record_at Series sending.series records ≡ kr)
+      (image : record_at Image sending.image records ≡ None) where
+    abbrev with_study : List Record
+    with_study = edited (put_new ks (study_record sending)) records
+
+    abbrev with_series : List Record
+    with_series = edited (put_new kr (series_record sending)) with_study
+
+    in_parts : all_put ks kr ≡ edited_by (Put (image_record sending)) with_series
+    in_parts =
+        edited_append (put_new ks (study_record sending)) (put_new kr (series_record sending) ++ Put (image_record sending) ∷ []) records
+        ∙ edited_append (put_new kr (series_record sending)) (Put (image_record sending) ∷ []) with_study
+
+    series_free : record_at Series sending.series with_study ≡ kr
+    series_free = elsewhere ks (study_record sending) at_series records refl refl ∙ series
+
+    image_free : record_at Image sending.image with_series ≡ None
+    image_free =
+        elsewhere kr (series_record sending) at_image with_study refl refl ∙ elsewhere ks (study_record sending) at_image records refl refl ∙ image
+
+    stays_in_image : KeptStays with_series (edited (put_new None (image_record sending)) with_series)
+    stays_in_image = new_stays None (image_record sending) with_series image_free
+
+    pub image_put : record_at Image sending.image (all_put ks kr) ≡ Some (image_record sending)
+    image_put = ap (record_at Image sending.image) in_parts ∙ put_here (image_record sending) with_series
+
+    pub series_put : kr ≡ None → record_at Series sending.series (all_put ks kr) ≡ Some (series_record sending)
+    unfolding KeptStays
+    series_put none =
+        let put = ap (λ (k : Option Record). record_at Series sending.series (edited (put_new k (series_record sending)) with_study)) none
+        ∙ put_here (series_record sending) with_study in
+        ap (record_at Series sending.series) in_parts ∙ stays_in_image Series sending.series (series_record sending) put
+
+    pub study_put : ks ≡ None → record_at Study sending.study (all_put ks kr) ≡ Some (study_record sending)
+    unfolding KeptStays
+    study_put none =
+        let put = ap (λ (k : Option Record). record_at Study sending.study (edited (put_new k (study_record sending)) records)) none
+        ∙ put_here (study_record sending) records in
+        ap (record_at Study sending.study) in_parts
+        ∙ stays_in_image Study sending.study (study_record sending)
+        (new_stays kr (series_record sending) with_study series_free Study sending.study (study_record sending) put)
+
   stays_by_kept : (kept : Kept) → kept ≡ kept_among records sending → (b : Bool) → is_some kept.image ≡ b
       → KeptStays records (edited (stored_edits kept sending) records)
   unfolding KeptStays stored_edits
@@ -171,6 +231,12 @@ module _ (records : List Record) (sending : Instance) where
   stays_by_kept kept found false new = λ kind key x k.
       rw new (all_new kept.study kept.series (sym (ap (λ (y : Kept). y.study) found)) (sym (ap (λ (y : Kept). y.series) found))
       (sym (ap (λ (y : Kept). y.image) found) ∙ none_of kept.image new) kind key x k)
+
+-- what is kept stays where an instance is stored
+pub kept_stays_by : (records : List Record) (sent : Instance) (kind : Kind) (key : List ℕ) (r : Record) → record_at kind key records ≡ Some r
+    → record_at kind key (edited (stored_edits (kept_among records sent) sent) records) ≡ Some r
+unfolding KeptStays
+kept_stays_by records sent = stays_by_kept records sent (kept_among records sent) refl _ refl
 
 outcome_stays : (records : List Record) (refusal : Option ℕ) (sent : Instance)
     → KeptStays records (edited (outcome refusal (stored_status (kept_among records sent) sent, stored_edits (kept_among records sent) sent)).1 records)

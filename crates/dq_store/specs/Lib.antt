@@ -1,3 +1,4 @@
 pub mod Attributes
+pub mod Levels
 pub mod Storing
 pub mod Views

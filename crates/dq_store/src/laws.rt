@@ -1,19 +1,28 @@
 //! Laws of C-STORE. Each function's contract is a law; its body changes nothing.
-ghost use Rattle.std.specs.Prelude.{◌≡◌, ◌≢◌, ◌⊎◌, ℕ, List, [], Some};
+ghost use Rattle.std.specs.Prelude.{◌≡◌, ◌≢◌, ◌⊎◌, ◌||◌, ℕ, Bool, true, false, List, [], Some};
 ghost use Rattle.std.specs.List.{AllByRecursion};
+ghost use Rattle.std.specs.Result.{result_unwrap_or};
 ghost use Rattle.dq_dataset.specs.declared.header.Syntax.{Syntax};
+ghost use Rattle.dq_dataset.specs.declared.data_set.Element.{Element};
+ghost use Rattle.dq_dataset.specs.Tree.{no_elements};
+ghost use Rattle.dq_dataset.specs.Reading.{reading};
+ghost use Rattle.dq_dataset.specs.Editing.{is_listed};
 ghost use Rattle.dq_dataset.specs.Grammar.{AreOctets};
 ghost use Rattle.dq_dataset.specs.Facts.{IsDataSet};
+ghost use Rattle.dq_dimse.specs.Attributes.{kept_attributes};
 ghost use Rattle.dq_dimse.specs.Received.{Message};
 ghost use Rattle.dq_dimse.specs.Statuses.{success, elements_discarded};
 ghost use Rattle.dq_config.specs.Limits.{Limits};
 ghost use Rattle.dq_tables.specs.declared.row.Kind.{Kind};
+ghost use Rattle.dq_tables.specs.declared.row.Kind.TheVariants.{Study, Series, Image};
 ghost use Rattle.dq_tables.specs.declared.row.Row.{Row};
 ghost use Rattle.dq_tables.specs.Rows.{Record, Edit, IsRising, of, by, after, edited};
 ghost use Rattle.dq_tables.specs.Finding.{record_at};
 ghost use Rattle.dq_tables.specs.Records.{data_set_of};
 ghost use Rattle.dq_tables.specs.Sound.{IsSound};
-ghost use Rattle.dq_store.specs.Storing.{stored};
+ghost use Rattle.dq_store.specs.Attributes.{study_attributes, series_attributes, image_attributes};
+ghost use Rattle.dq_store.specs.Levels.{is_of_its_level, stands_whole};
+ghost use Rattle.dq_store.specs.Storing.{instance_in, stored};
 
 use dq_dataset::laws::{editing_law, spelling_law, written_law};
 
@@ -72,3 +81,57 @@ pub fn rows_hold_data_sets()
     editing_law();
     written_law();
 }
+
+/// What is kept of a stored object are the attributes of a study, of a series and of an image.
+#[tactic(auto, using(crate::proofs::Levels::kept_are_of_levels))]
+pub fn kept_attributes_are_those_of_the_levels()
+    ensures { (e : Element) → is_listed kept_attributes e
+        ≡ (is_listed study_attributes e
+        || (is_listed series_attributes e || is_listed image_attributes e)) }
+{}
+
+/// Records that hold attributes of their own level alone stay such, whatever octets are stored.
+pub fn records_keep_to_their_levels()
+    ensures { (h : List ℕ) (limits : Limits) (rows : List Row) (message : Message) (syntax : Syntax)
+        → AreOctets message.octets → AllByRecursion (λ (row : Row). is_of_its_level row ≡ true) rows
+        → AllByRecursion (λ (row : Row). is_of_its_level row ≡ true)
+        (after (by h (stored limits (of h rows) message syntax).1) rows) }
+{
+    spelling_law();
+    editing_law();
+    written_law();
+}
+
+/// Over sound rows whose records hold attributes of their own level alone, an instance is answered
+/// 0000 exactly where each element that was sent stands afterwards, with equal octets, in the record
+/// of its study, of its series or of its image, and B006 where one does not (PS3.4 section B.2.3).
+pub fn the_status_says_what_stands()
+    ensures whole { (h : List ℕ) (limits : Limits) (rows : List Row) (message : Message)
+        (syntax : Syntax) → AreOctets message.octets → IsSound rows
+        → AllByRecursion (λ (row : Row). is_of_its_level row ≡ true) rows
+        → (stored limits (of h rows) message syntax).0 ≡ success
+        → stands_whole (of h (after (by h (stored limits (of h rows) message syntax).1) rows))
+        (instance_in (result_unwrap_or (reading syntax message.octets) no_elements)) ≡ true }
+    ensures discarded { (h : List ℕ) (limits : Limits) (rows : List Row) (message : Message)
+        (syntax : Syntax) → AreOctets message.octets → IsSound rows
+        → AllByRecursion (λ (row : Row). is_of_its_level row ≡ true) rows
+        → (stored limits (of h rows) message syntax).0 ≡ elements_discarded
+        → stands_whole (of h (after (by h (stored limits (of h rows) message syntax).1) rows))
+        (instance_in (result_unwrap_or (reading syntax message.octets) no_elements)) ≡ false }
+{
+    spelling_law();
+    editing_law();
+    written_law();
+}
+
+/// What holds of each row, and of any study, series and image, holds of each row afterwards: what is
+/// stored leaves the rows of entries and steps.
+pub fn rows_of_other_kinds_stay()
+    ensures { (holds : Row → Bool)
+        → ((row : Row) → (row.kind ≡ Study) ⊎ ((row.kind ≡ Series) ⊎ (row.kind ≡ Image))
+        → holds row ≡ true)
+        → (h : List ℕ) (limits : Limits) (rows : List Row) (message : Message) (syntax : Syntax)
+        → AllByRecursion (λ (row : Row). holds row ≡ true) rows
+        → AllByRecursion (λ (row : Row). holds row ≡ true)
+        (after (by h (stored limits (of h rows) message syntax).1) rows) }
+{}

@@ -1,5 +1,5 @@
 -- What orders make of the entries, and of the answers to queries.
-use Rattle.std.proofs.Common.{◌≡◌, ◌≢◌, ℕ, ◌<◌, ◌^◌, Bool, true, false, ◌&&◌, nat_lt, List, [], ◌∷◌, ◌++◌, length, filter, find, Option, Some, None, is_some, Result, Ok, Err, refl, sym, ap, ◌∙◌, subst, arith, if◌then◌else◌}
+use Rattle.std.proofs.Common.{◌≡◌, ◌≢◌, ℕ, ◌<◌, ◌^◌, Bool, true, false, ◌&&◌, nat_lt, List, [], ◌∷◌, ◌++◌, length, map, filter, find, Option, Some, None, is_some, Result, Ok, Err, refl, sym, ap, ◌∙◌, subst, arith, if◌then◌else◌}
 use Rattle.std.specs.Str.{bytes_eq}
 use Rattle.std.specs.declared.cmp.Ordering.{Ordering}
 use Rattle.std.specs.declared.cmp.Ordering.TheVariants.{Less, Equal, Greater}
@@ -22,7 +22,7 @@ use Rattle.dq_match.specs.Matching.{fits}
 use Rattle.dq_match.specs.Responses.{shown}
 use Rattle.dq_tables.specs.declared.row.Kind.TheVariants.{Entry}
 use Rattle.dq_tables.specs.declared.row.Row.{Row}
-use Rattle.dq_tables.specs.Rows.{Record, Place, place_of, Edit, Put, Remove, IsRising, of, by, after, number_of as kind_number, kind_order, octet_order, place_order, edited, edited_by, records_before, records_past}
+use Rattle.dq_tables.specs.Rows.{Record, Place, place_of, Edit, Put, Remove, IsRising, record_of, of, by, after, number_of as kind_number, kind_order, octet_order, place_order, edited, edited_by, records_before, records_past}
 use Rattle.dq_tables.specs.Finding.{record_at, same_kind}
 use Rattle.dq_tables.specs.Keys.{entry_id}
 use Rattle.dq_tables.specs.Records.{data_set_of}
@@ -30,7 +30,7 @@ use Rattle.dq_tables.specs.Serving.{first_refusal}
 use Rattle.dq_tables.proofs.InOrder.{is_eq_then, is_eq_nat}
 use Rattle.dq_tables.proofs.Lens.{others}
 use Rattle.dq_worklist.specs.declared.refusal.Refusal.{Refusal}
-use Rattle.dq_worklist.specs.Orders.{Order, number_of, is_complete, read_order, order_limit, has_entry, entry_of, answered, refusals, scheduled, withdrawn}
+use Rattle.dq_worklist.specs.Orders.{Order, rows_named, number_of, is_complete, read_order, order_limit, has_entry, entry_of, answered, refusals, scheduled, withdrawn}
 use Rattle.dq_worklist.specs.Queries.{answers, listed}
 use Rattle.dq_worklist.specs.Views.{order_of}
 use Rattle.dq_worklist.proofs.Matching.{match_shown}
@@ -205,3 +205,25 @@ within_by limits records octets edits false is e = not_past (length octets) is
 pub scheduled_is_short : (limits : Limits) (records : List Record) (octets : List ℕ) (edits : List Edit) → scheduled limits records octets ≡ (None, edits)
     → length octets < 2 ^ 31
 scheduled_is_short limits records octets edits e = within_by limits records octets edits (nat_lt order_limit (length octets)) refl e
+
+-- ---- what others keep
+
+of_named : (own : List ℕ) (rows alike : List Row) → rows_named own rows ≡ rows_named own alike → of own rows ≡ of own alike
+unfolding of
+of_named own rows alike same = ap (map record_of) same
+
+pub scheduled_alike : (own : List ℕ) (rows alike : List Row) (limits : Limits) (octets : List ℕ) → rows_named own rows ≡ rows_named own alike
+    → scheduled limits (of own rows) octets ≡ scheduled limits (of own alike) octets
+scheduled_alike own rows alike limits octets same = ap (λ (records : List Record). scheduled limits records octets) (of_named own rows alike same)
+
+pub withdrawn_alike : (own : List ℕ) (rows alike : List Row) (id : List ℕ) → rows_named own rows ≡ rows_named own alike
+    → withdrawn (of own rows) id ≡ withdrawn (of own alike) id
+withdrawn_alike own rows alike id same = ap (λ (records : List Record). withdrawn records id) (of_named own rows alike same)
+
+pub others_scheduled : (own other : List ℕ) → own ≢ other → (limits : Limits) (rows : List Row) (octets : List ℕ) → IsRising rows
+    → of other (after (by own (scheduled limits (of own rows) octets).1) rows) ≡ of other rows
+others_scheduled own other apart limits rows octets rising = others other own apart (scheduled limits (of own rows) octets).1 rows rising
+
+pub others_withdrawn : (own other : List ℕ) → own ≢ other → (rows : List Row) (id : List ℕ) → IsRising rows
+    → of other (after (by own (withdrawn (of own rows) id).1) rows) ≡ of other rows
+others_withdrawn own other apart rows id rising = others other own apart (withdrawn (of own rows) id).1 rows rising

@@ -1,5 +1,5 @@
 -- The answers of one row after the other are the answers to a query.
-use Rattle.std.proofs.Common.{◌≡◌, ℕ, List, Result, Ok, Err, sym, ap, ◌∙◌}
+use Rattle.std.proofs.Common.{◌≡◌, ◌≢◌, ℕ, List, [], Result, Ok, Err, refl, sym, ap, ◌∙◌}
 use Rattle.std.specs.List.{filter_map}
 use Rattle.dq_dataset.specs.declared.header.Syntax.{Syntax}
 use Rattle.dq_dataset.specs.Tree.{ElementList}
@@ -30,3 +30,12 @@ pub listed_answers : (records : List Record) (message : Message) (syntax : Synta
     → (listed records message syntax).answers ≡ answers records query.keys
 unfolding listed
 listed_answers records message syntax query e = ap (λ (q : Result Query ℕ). (listed_by records q).answers) e
+
+refused_by : (records : List Record) (q : Result Query ℕ) → (listed_by records q).status ≢ success → (listed_by records q).answers ≡ []
+refused_by records (Ok query) h = absurd (h refl)
+refused_by records (Err status) h = refl
+
+pub none_refused : (records : List Record) (message : Message) (syntax : Syntax) → (listed records message syntax).status ≢ success
+    → (listed records message syntax).answers ≡ []
+unfolding listed
+none_refused records message syntax h = refused_by records (query_of message syntax) h

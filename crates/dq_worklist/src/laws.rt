@@ -1,5 +1,5 @@
 //! Laws of the worklist. Each function's contract is a law; its body changes nothing.
-ghost use Rattle.std.specs.Prelude.{◌≡◌, ◌≢◌, ℕ, true, false, List, [], ◌∷◌, Some, None, Ok, codes};
+ghost use Rattle.std.specs.Prelude.{◌≡◌, ◌≢◌, ℕ, Bool, true, false, List, [], ◌∷◌, Some, None, Ok, codes};
 ghost use Rattle.std.specs.List.{AllByRecursion};
 ghost use Rattle.dq_dataset.specs.declared.header.Syntax.{Syntax};
 ghost use Rattle.dq_dataset.specs.declared.header.Syntax.TheVariants.{Explicit};
@@ -13,11 +13,12 @@ ghost use Rattle.dq_dimse.specs.Received.{Message};
 ghost use Rattle.dq_config.specs.Limits.{Limits};
 ghost use Rattle.dq_match.specs.Matching.{fits};
 ghost use Rattle.dq_match.specs.Responses.{shown};
+ghost use Rattle.dq_tables.specs.declared.row.Kind.TheVariants.{Entry};
 ghost use Rattle.dq_tables.specs.declared.row.Row.{Row};
 ghost use Rattle.dq_tables.specs.Rows.{Record, Edit, IsRising, as_started, of, by, after, edited};
 ghost use Rattle.dq_tables.specs.Records.{data_set_of};
 ghost use Rattle.dq_tables.specs.Sound.{IsSound};
-ghost use Rattle.dq_worklist.specs.Orders.{Order, read_order, has_entry, scheduled, withdrawn};
+ghost use Rattle.dq_worklist.specs.Orders.{Order, rows_named, read_order, has_entry, scheduled, withdrawn};
 ghost use Rattle.dq_worklist.specs.Answers.{AreAnswers};
 ghost use Rattle.dq_worklist.specs.Examples.{request, steps_of, entry, answer, found_with};
 ghost use Rattle.dq_worklist.specs.Queries.{query_of, answers, listed};
@@ -52,6 +53,14 @@ pub fn answers_are_the_matching_records_in_order()
         → AreAnswers records keys other → one ≡ other }
 {}
 
+/// A query that is refused has no answers (PS3.4 section K.4.1.1.4).
+#[tactic(auto, using(crate::proofs::Queries::none_refused))]
+pub fn what_is_refused_has_no_answers()
+    ensures { (records : List Record) (message : Message) (syntax : Syntax)
+        → (listed records message syntax).status ≢ success
+        → (listed records message syntax).answers ≡ [] }
+{}
+
 /// Entries of other institutions are not listed.
 #[tactic(auto, using(crate::proofs::Afterwards::listed_alike))]
 pub fn own_entries_alone_are_listed()
@@ -59,6 +68,24 @@ pub fn own_entries_alone_are_listed()
         (message : Message) (syntax : Syntax) → IsRising rows
         → listed (of g (after (by h edits) rows)) message syntax
         ≡ listed (of g rows) message syntax }
+{}
+
+/// Rows under other names do not enter what an order is answered nor its edits, and stay as they are.
+#[tactic(auto, using(crate::proofs::Afterwards::scheduled_alike, crate::proofs::Afterwards::withdrawn_alike, crate::proofs::Afterwards::others_scheduled, crate::proofs::Afterwards::others_withdrawn))]
+pub fn orders_of_institutions_are_apart()
+    ensures scheduled { (own : List ℕ) (rows alike : List Row) (limits : Limits) (octets : List ℕ)
+        → rows_named own rows ≡ rows_named own alike
+        → scheduled limits (of own rows) octets ≡ scheduled limits (of own alike) octets }
+    ensures withdrawn { (own : List ℕ) (rows alike : List Row) (id : List ℕ)
+        → rows_named own rows ≡ rows_named own alike
+        → withdrawn (of own rows) id ≡ withdrawn (of own alike) id }
+    ensures others_scheduled { (own other : List ℕ) → own ≢ other → (limits : Limits)
+        (rows : List Row) (octets : List ℕ) → IsRising rows
+        → of other (after (by own (scheduled limits (of own rows) octets).1) rows)
+        ≡ of other rows }
+    ensures others_withdrawn { (own other : List ℕ) → own ≢ other → (rows : List Row)
+        (id : List ℕ) → IsRising rows
+        → of other (after (by own (withdrawn (of own rows) id).1) rows) ≡ of other rows }
 {}
 
 /// What is scheduled is an entry, and is among the answers to the keys that it fits.
@@ -123,3 +150,18 @@ pub fn rows_hold_data_sets()
     spelling_law();
     written_law();
 }
+
+/// What holds of each row, and of any entry, holds of each row afterwards: orders leave the rows of
+/// studies, series, images and steps.
+pub fn rows_of_other_kinds_stay()
+    ensures scheduled { (holds : Row → Bool)
+        → ((row : Row) → row.kind ≡ Entry → holds row ≡ true)
+        → (h : List ℕ) (limits : Limits) (rows : List Row) (octets : List ℕ)
+        → AllByRecursion (λ (row : Row). holds row ≡ true) rows
+        → AllByRecursion (λ (row : Row). holds row ≡ true)
+        (after (by h (scheduled limits (of h rows) octets).1) rows) }
+    ensures withdrawn { (holds : Row → Bool) (h : List ℕ) (rows : List Row) (id : List ℕ)
+        → AllByRecursion (λ (row : Row). holds row ≡ true) rows
+        → AllByRecursion (λ (row : Row). holds row ≡ true)
+        (after (by h (withdrawn (of h rows) id).1) rows) }
+{}

@@ -6,7 +6,7 @@ use Rattle.dq_tables.specs.declared.row.Row.{Row}
 use Rattle.dq_tables.specs.Records.{data_set_of}
 use Rattle.dq_tables.specs.Sound.{IsSound}
 use Rattle.dq_mpps.specs.Changing.{kept_data_set}
-use Rattle.dq_mpps.proofs.StaysSound.{short_octets, created_stays, changed_stays, new_sound, changed_sound, each_found}
+use Rattle.dq_mpps.proofs.StaysSound.{short_octets, short_step, created_stays, changed_stays, new_sound, changed_sound, each_found}
 use Rattle.dq_mpps.proofs.laws.sound_rows_stay_sound.Goals as goal
 
 pub returns-clause-created : goal.returns-clause-created
@@ -19,10 +19,10 @@ returns-clause-created c = λ h limits rows message syntax are_octets sound.
 
 pub returns-clause-changed : goal.returns-clause-changed
 returns-clause-changed c = λ h rows message syntax are_octets sound all.
-    changed_stays IsSound h rows sound message syntax (λ d read r there lengths.
+    changed_stays IsSound h rows sound message syntax (λ d read r there short.
     let Each = λ (row : Row). IsDataSet (data_set_of row.octets) in
     let uid = message.command.sop_instance in
     let step = merged (kept_data_set (Some r)) d in
     let sent = c.spelling_law.ensures.facts syntax message.octets d (c.spelling_law.ensures.spelled syntax message.octets d are_octets read) in
     let facts = c.editing_law.ensures.merged (kept_data_set (Some r)) d (each_found Each h uid rows r all there) sent in
-    changed_sound h rows sound uid step (c.written_law.ensures.read_back Explicit step facts lengths tt) r there)
+    changed_sound h rows sound uid step (c.written_law.ensures.read_back Explicit step facts (short_step step short) tt) r there)

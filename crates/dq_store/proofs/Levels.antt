@@ -1,0 +1,80 @@
+-- What is cut out for a level is of that level, and the attributes that are kept are those of the levels.
+use Rattle.std.proofs.Common.{◌≡◌, Bool, true, false, ◌||◌, List, [], ◌∷◌, ◌++◌, filter, refl, sym, ◌∙◌, ap, if◌then◌else◌}
+use Rattle.std.specs.List.{list_all, list_any}
+use Rattle.std.proofs.lemmas.Bool.{and_parts}
+use Rattle.dq_vr.specs.declared.Tag.{Tag}
+use Rattle.dq_vr.specs.Tags.{specific_character_set, image_type, sop_class_uid, sop_instance_uid, study_date, series_date, content_date, study_time, series_time, content_time, accession_number, modality, referring_physician_name, study_description, series_description, patient_name, patient_id, issuer_of_patient_id, patient_birth_date, patient_sex, body_part_examined, study_instance_uid, series_instance_uid, study_id, series_number, instance_number, rows, columns}
+use Rattle.dq_dataset.specs.declared.data_set.Element.{Element}
+use Rattle.dq_dataset.specs.Tree.{ElementList}
+use Rattle.dq_dataset.specs.View.{as_elements, elements_of, has_tag}
+use Rattle.dq_dataset.specs.Editing.{cut_out, is_listed}
+use Rattle.dq_dataset.proofs.Views.{as_elements-elements_of, elements_of-as_elements}
+use Rattle.dq_dimse.specs.Attributes.{kept_attributes}
+use Rattle.dq_store.specs.Attributes.{study_attributes, series_attributes, image_attributes}
+use Rattle.dq_store.specs.Levels.{has_only}
+use Rattle.dq_store.proofs.Fitting.{listed_at}
+use Rattle.dq_store.proofs.Sieved.{AllListed, listed_too, study_kept, series_kept, image_kept}
+
+-- ---- what is cut out
+
+passed_step : {X : Type 0} (p : X → Bool) (x : X) (rest : List X) (b : Bool) → p x ≡ b → list_all p rest ≡ true
+    → list_all p (if b then x ∷ rest else rest) ≡ true
+passed_step p x rest true e all = rw e all
+passed_step p x rest false e all = all
+
+all_passed : {X : Type 0} (p : X → Bool) (xs : List X) → list_all p (filter p xs) ≡ true
+all_passed p [] = refl
+all_passed p (x ∷ xs) = passed_step p x (filter p xs) (p x) refl (all_passed p xs)
+
+pub cut_has_only : (tags : List Tag) (d : ElementList) → has_only tags (cut_out tags d) ≡ true
+cut_has_only tags d =
+    ap (list_all (is_listed tags)) (elements_of-as_elements (filter (is_listed tags) (elements_of d))) ∙ all_passed (is_listed tags) (elements_of d)
+
+whole_filter : {X : Type 0} (p : X → Bool) (xs : List X) → list_all p xs ≡ true → filter p xs ≡ xs
+whole_filter p [] all = refl
+whole_filter p (x ∷ xs) all =
+    let parts = and_parts (p x) (list_all p xs) all in
+    rw parts.0 (ap (λ ys. x ∷ ys) (whole_filter p xs parts.1))
+
+pub cut_is_whole : (tags : List Tag) (d : ElementList) → has_only tags d ≡ true → cut_out tags d ≡ d
+cut_is_whole tags d only = ap as_elements (whole_filter (is_listed tags) (elements_of d) only) ∙ as_elements-elements_of d
+
+-- ---- the attributes that are kept
+
+abbrev of_levels : List Tag
+of_levels = study_attributes ++ (series_attributes ++ image_attributes)
+
+kept_of_levels : AllListed kept_attributes of_levels
+kept_of_levels = (listed_at 0 of_levels specific_character_set refl, (listed_at 23 of_levels image_type refl, (listed_at 24 of_levels sop_class_uid refl, (listed_at 25 of_levels sop_instance_uid refl, (listed_at 1 of_levels study_date refl, (listed_at 14 of_levels series_date refl, (listed_at 26 of_levels content_date refl, (listed_at 2 of_levels study_time refl, (listed_at 15 of_levels series_time refl, (listed_at 27 of_levels content_time refl, (listed_at 3 of_levels accession_number refl, (listed_at 16 of_levels modality refl, (listed_at 4 of_levels referring_physician_name refl, (listed_at 5 of_levels study_description refl, (listed_at 17 of_levels series_description refl, (listed_at 6 of_levels patient_name refl, (listed_at 7 of_levels patient_id refl, (listed_at 8 of_levels issuer_of_patient_id refl, (listed_at 9 of_levels patient_birth_date refl, (listed_at 10 of_levels patient_sex refl, (listed_at 18 of_levels body_part_examined refl, (listed_at 11 of_levels study_instance_uid refl, (listed_at 20 of_levels series_instance_uid refl, (listed_at 12 of_levels study_id refl, (listed_at 21 of_levels series_number refl, (listed_at 30 of_levels instance_number refl, (listed_at 31 of_levels rows refl, (listed_at 32 of_levels columns refl, tt))))))))))))))))))))))))))))
+
+or_again : (a b c : Bool) → (a || (b || c)) ≡ ((a || b) || c)
+or_again true b c = refl
+or_again false b c = refl
+
+any_append : {X : Type 0} (f : X → Bool) (xs ys : List X) → list_any f (xs ++ ys) ≡ (list_any f xs || list_any f ys)
+any_append f [] ys = refl
+any_append f (x ∷ xs) ys = ap (λ (b : Bool). f x || b) (any_append f xs ys) ∙ or_again (f x) (list_any f xs) (list_any f ys)
+
+listed_apart : (e : Element) → is_listed of_levels e ≡ (is_listed study_attributes e || (is_listed series_attributes e || is_listed image_attributes e))
+listed_apart e =
+    any_append (λ (tag : Tag). has_tag tag e) study_attributes (series_attributes ++ image_attributes)
+    ∙ ap (λ (b : Bool). is_listed study_attributes e || b) (any_append (λ (tag : Tag). has_tag tag e) series_attributes image_attributes)
+
+alike : (a b : Bool) → (a ≡ true → b ≡ true) → (b ≡ true → a ≡ true) → a ≡ b
+alike true b f g = sym (f refl)
+alike false true f g = g refl
+alike false false f g = refl
+
+one_of : (a b c k : Bool) → (a ≡ true → k ≡ true) → (b ≡ true → k ≡ true) → (c ≡ true → k ≡ true) → (a || (b || c)) ≡ true → k ≡ true
+one_of true b c k f g h any = f refl
+one_of false true c k f g h any = g refl
+one_of false false c k f g h any = h any
+
+pub kept_are_of_levels : (e : Element) → is_listed kept_attributes e
+    ≡ (is_listed study_attributes e || (is_listed series_attributes e || is_listed image_attributes e))
+kept_are_of_levels e =
+    alike (is_listed kept_attributes e) (is_listed study_attributes e || (is_listed series_attributes e || is_listed image_attributes e))
+    (λ kept. sym (listed_apart e) ∙ listed_too kept_attributes of_levels kept_of_levels e kept)
+    (one_of (is_listed study_attributes e) (is_listed series_attributes e) (is_listed image_attributes e) (is_listed kept_attributes e)
+    (listed_too study_attributes kept_attributes study_kept e) (listed_too series_attributes kept_attributes series_kept e)
+    (listed_too image_attributes kept_attributes image_kept e))
