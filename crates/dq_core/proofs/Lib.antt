@@ -2,7 +2,6 @@ pub mod isolation
 pub mod Standing
 pub mod Running
 pub mod Composing
-pub mod Paging
 pub mod Sending
 pub mod Serving
 pub mod Going

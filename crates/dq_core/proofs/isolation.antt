@@ -17,8 +17,12 @@ pub mod Numberless
 pub mod Accepting
 pub mod Living
 pub mod Searching
-pub mod Succeeding
 pub mod WorkedExamples
 pub mod Octets
 pub mod Keeping
 pub mod Soundness
+pub mod Sequels
+pub mod Conversing
+pub mod Finishing
+pub mod Exact
+pub mod PagedExamples

@@ -1,6 +1,6 @@
 -- Worked examples: what is sent to the plain server in small histories, and what it replies, octet
 -- for octet (PS3.8 section 9.3, PS3.7 section 9.3).
-use Rattle.std.specs.Prelude.{ℕ, ◌/◌, ◌%◌, false, List, [], ◌∷◌, ◌++◌, codes, replicate}
+use Rattle.std.specs.Prelude.{ℕ, zero, suc, ◌+◌, ◌/◌, ◌%◌, false, List, [], ◌∷◌, ◌++◌, codes, replicate}
 use Rattle.dq_config.specs.declared.config.Institution.{Institution}
 use Rattle.dq_config.specs.Limits.{Limits}
 use Rattle.dq_tables.specs.declared.row.Kind.TheVariants.{Study}
@@ -99,6 +99,25 @@ find_request calling = associate 1 176 1 calling
 abbrev pub find_accepted : List ℕ → List ℕ
 find_accepted calling = associate 2 169 1 calling (result 1 27 0 explicit ++ server_information)
 
+-- A request for Study Root FIND on context 1, in Explicit, and for Verification on context 3, in
+-- Implicit, and its acceptance.
+abbrev pub find_and_echo_request : List ℕ → List ℕ
+find_and_echo_request calling = associate 1 226 1 calling
+    (proposed 1 58 (item 0x30 27 (codes "1.2.840.10008.5.1.4.1.2.2.1") ++ explicit)
+    ++ proposed 3 46 (item 0x30 17 (codes "1.2.840.10008.1.1") ++ implicit)
+    ++ peer_information 16384)
+
+abbrev pub find_and_echo_accepted : List ℕ → List ℕ
+find_and_echo_accepted calling = associate 2 198 1 calling
+    (result 1 27 0 explicit ++ result 3 25 0 implicit ++ server_information)
+
+-- a release, and its answer
+abbrev pub release : List ℕ
+release = 5 ∷ 0 ∷ 0 ∷ 0 ∷ 0 ∷ 4 ∷ 0 ∷ 0 ∷ 0 ∷ 0 ∷ []
+
+abbrev pub released : List ℕ
+released = 6 ∷ 0 ∷ 0 ∷ 0 ∷ 0 ∷ 4 ∷ 0 ∷ 0 ∷ 0 ∷ 0 ∷ []
+
 -- ---- messages
 
 -- an element of group 0000 of a command set: its number in two octets, its length, its value
@@ -119,17 +138,25 @@ value_on context one_pdu value control fragment =
 abbrev pub value_pdu : ℕ → ℕ → ℕ → List ℕ → List ℕ
 value_pdu = value_on 1
 
--- a request's command set: the length of what follows, the class, the Command Field, the Message ID
+-- a request's command set: its Message ID, the length of what follows, the class, the Command Field,
 -- and whether a data set follows, which 0x0101 denies
+abbrev pub request_set_with : ℕ → ℕ → List ℕ → ℕ → ℕ → List ℕ
+request_set_with id size class code with_data =
+    element 0x0000 4 (size ∷ 0 ∷ 0 ∷ 0 ∷ []) ++ class
+    ++ short_element 0x0100 code ++ short_element 0x0110 id ++ short_element 0x0800 with_data
+
 abbrev pub request_set : ℕ → List ℕ → ℕ → ℕ → List ℕ
-request_set size class code with_data = element 0x0000 4 (size ∷ 0 ∷ 0 ∷ 0 ∷ []) ++ class
-    ++ short_element 0x0100 code ++ short_element 0x0110 1 ++ short_element 0x0800 with_data
+request_set = request_set_with 1
 
 -- the same of a response, with its status
-abbrev pub response_set : ℕ → List ℕ → ℕ → ℕ → ℕ → List ℕ
-response_set size class code with_data status = element 0x0000 4 (size ∷ 0 ∷ 0 ∷ 0 ∷ []) ++ class
-    ++ short_element 0x0100 code ++ short_element 0x0120 1 ++ short_element 0x0800 with_data
+abbrev pub response_set_with : ℕ → ℕ → List ℕ → ℕ → ℕ → ℕ → List ℕ
+response_set_with id size class code with_data status =
+    element 0x0000 4 (size ∷ 0 ∷ 0 ∷ 0 ∷ []) ++ class
+    ++ short_element 0x0100 code ++ short_element 0x0120 id ++ short_element 0x0800 with_data
     ++ short_element 0x0900 status
+
+abbrev pub response_set : ℕ → List ℕ → ℕ → ℕ → ℕ → List ℕ
+response_set = response_set_with 1
 
 -- classes, padded to an even length
 abbrev pub verification : List ℕ
@@ -150,6 +177,15 @@ response code status = value_pdu 84 80 3 (response_set 66 verification code 0x01
 
 abbrev pub echoed : List ℕ
 echoed = response 0x8030 0x0000
+
+-- a C-ECHO on a context, with a Message ID, and its response
+abbrev pub echo_on : ℕ → ℕ → List ℕ
+echo_on context id =
+    value_on context 74 70 3 (request_set_with id 56 verification 0x0030 0x0101)
+
+abbrev pub echoed_on : ℕ → ℕ → List ℕ
+echoed_on context id =
+    value_on context 84 80 3 (response_set_with id 66 verification 0x8030 0x0101 0x0000)
 
 -- a Study Root C-FIND, whose data set follows, and its final response
 abbrev pub find_command : List ℕ
@@ -243,6 +279,50 @@ history pieces = Open 1 ∷ sends pieces
 -- octets, after which the connection goes on
 abbrev pub answered : List ℕ → Reply
 answered octets = Octets 1 octets false
+
+-- Studies that the first of them keeps, so many of them from a number of three digits on, and the
+-- pending responses to a query for their UIDs.
+abbrev pub numbered_uid : ℕ → List ℕ
+numbered_uid n =
+    codes "1." ++ (48 + n / 100) ∷ (48 + (n / 10) % 10) ∷ (48 + n % 10) ∷ []
+
+abbrev pub numbered_study : ℕ → Row
+numbered_study n = record {
+  kind = Study;
+  inst = north;
+  key = numbered_uid n;
+  above = [];
+  octets = study_element 6 (numbered_uid n ++ 0 ∷ []);
+  started = false;
+}
+
+abbrev pub studies_from : ℕ → ℕ → List Row
+studies_from n zero = []
+studies_from n (suc count) = numbered_study n ∷ studies_from (suc n) count
+
+abbrev pub found_from : ℕ → ℕ → List ℕ
+found_from n zero = []
+found_from n (suc count) =
+    value_pdu 94 90 3 (response_set 76 study_root 0x8020 0x0001 0xff00)
+    ++ value_pdu 70 66 2 (level (codes "STUDY ")
+    ++ 0x08 ∷ 0 ∷ 0x54 ∷ 0 ∷ 0x41 ∷ 0x45 ∷ 8 ∷ 0 ∷ [] ++ codes "ARCHIVE "
+    ++ 0x08 ∷ 0 ∷ 0x56 ∷ 0 ∷ 0x43 ∷ 0x53 ∷ 12 ∷ 0 ∷ [] ++ codes "UNAVAILABLE "
+    ++ study_element 6 (numbered_uid n ++ 0 ∷ [])) ++ found_from (suc n) count
+
+-- a C-CANCEL of the message with an id
+abbrev pub cancel : ℕ → List ℕ
+cancel id = value_pdu 48 44 3
+    (element 0x0000 4 (30 ∷ 0 ∷ 0 ∷ 0 ∷ []) ++ short_element 0x0100 0x0fff
+    ++ short_element 0x0120 id ++ short_element 0x0800 0x0101)
+
+-- a search for the UIDs of the studies, and the events after it
+abbrev pub search_then : List Event → List Event
+search_then events = Open 1 ∷ Piece 1 (find_request ct1) ∷ Piece 1 find_uids ∷ events
+
+-- the same on an association that has Verification too
+abbrev pub find_and_echo_then : List Event → List Event
+find_and_echo_then events =
+    Open 1 ∷ Piece 1 (find_and_echo_request ct1) ∷ Piece 1 find_uids ∷ events
 
 -- At the server of one institution alone: a pair of titles that nobody has, a search, a C-STORE
 -- without a data set, and an order.

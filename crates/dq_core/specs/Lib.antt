@@ -12,6 +12,7 @@ pub mod Renumbering
 pub mod Accepted
 pub mod Runs
 pub mod Searches
+pub mod Conversations
 pub mod Histories
 pub mod Faults
 pub mod Stepping

@@ -1,10 +1,13 @@
--- An institution's own events in a history, and the replies at them.
-use Rattle.std.specs.Prelude.{ℕ, Bool, false, ◌==◌, if◌then◌else◌, List, [], ◌∷◌, ◌++◌, filter}
+-- An institution's own events in a history, the replies at them, and what replies send on a
+-- connection.
+use Rattle.std.specs.Prelude.{ℕ, Bool, false, ◌==◌, if◌then◌else◌, List, [], ◌∷◌, ◌++◌, map, filter}
+use Rattle.std.specs.List.{flat_map}
 use Rattle.std.specs.Str.{bytes_eq}
 use Rattle.dq_config.specs.declared.config.Institution.{Institution}
 use Rattle.dq_core.specs.declared.event.Event.{Event}
 use Rattle.dq_core.specs.declared.event.Event.TheVariants.{Open, Piece, End, Pull, Schedule, Withdraw}
 use Rattle.dq_core.specs.declared.event.Reply.{Reply}
+use Rattle.dq_core.specs.declared.event.Reply.TheVariants as reply
 use Rattle.dq_core.specs.Owners.{owner, is_of}
 
 -- the octets of the pieces on a connection before its end
@@ -55,3 +58,21 @@ replies_at mine [] replies = []
 replies_at mine (event ∷ events) [] = []
 replies_at mine (event ∷ events) (reply ∷ replies) =
     if mine event then reply ∷ replies_at mine events replies else replies_at mine events replies
+
+-- What the server does on a connection: it sends an octet, or it closes the connection.
+pub data Output : Type 0 where
+  Octet : ℕ → Output
+  Close : Output
+
+abbrev pub close_if : Bool → List Output
+close_if close = if close then Close ∷ [] else []
+
+-- the outputs of a reply: its octets, and then the close if there is one
+abbrev pub outputs_in : Reply → List Output
+outputs_in (reply.Octets number octets close) = map Octet octets ++ close_if close
+outputs_in other = []
+
+-- the outputs of the replies on one connection
+abbrev pub outputs_on : ℕ → List Event → List Reply → List Output
+outputs_on number events replies =
+    flat_map outputs_in (replies_at (is_on_connection number) events replies)

@@ -1,6 +1,6 @@
 -- The answers to a C-FIND in pages: how much of its responses is sent at once, and what becomes of
 -- those that are left (PS3.4 sections C.4.1 and K.4.1, PS3.7 section 9.3.2.3).
-use Rattle.std.specs.Prelude.{ℕ, zero, suc, ◌==◌, nat_le, if◌then◌else◌, List, [], ◌∷◌, ◌++◌, length, take, drop, Option, Some, None, option_map}
+use Rattle.std.specs.Prelude.{ℕ, ◌==◌, nat_le, if◌then◌else◌, List, [], ◌∷◌, ◌++◌, length, take, drop, Option, Some, None, option_map}
 use Rattle.std.specs.List.{flat_map}
 use Rattle.dq_dimse.specs.CommandFields.{c_cancel}
 use Rattle.dq_dimse.specs.Received.{Message}
@@ -60,16 +60,6 @@ page query =
 abbrev pub next_page : Option OpenQuery → Page
 next_page None = record { octets = []; query = None }
 next_page (Some query) = page query
-
--- the octets of so many pages, one after the other
-abbrev pub pages : ℕ → Option OpenQuery → List ℕ
-pages zero query = []
-pages (suc count) query = (next_page query).octets ++ pages count (next_page query).query
-
--- what is left after them
-abbrev pub after_pages : ℕ → Option OpenQuery → Option OpenQuery
-after_pages zero query = query
-after_pages (suc count) query = after_pages count (next_page query).query
 
 -- the responses to a message, of which none was sent
 abbrev pub query_by : Agreement → Message → Option Responses → Option OpenQuery

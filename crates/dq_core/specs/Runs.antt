@@ -1,11 +1,13 @@
 -- What a run of a history comes to, also where a fault ends it.
-use Rattle.std.specs.Prelude.{◌≡◌, ℕ, suc, ◌⊎◌, List, [], ◌∷◌, length, take, drop}
+use Rattle.std.specs.Prelude.{◌≡◌, ℕ, suc, ◌⊎◌, List, [], ◌∷◌, length, take, drop, Option, Some}
 use Rattle.dq_config.specs.declared.config.Institution.{Institution}
 use Rattle.dq_config.specs.Limits.{limits_of}
 use Rattle.dq_tables.specs.declared.row.Row.{Row}
 use Rattle.dq_tables.specs.Rows.{of}
 use Rattle.dq_core.specs.declared.event.Event.{Event}
 use Rattle.dq_core.specs.declared.event.Reply.{Reply}
+use Rattle.dq_core.specs.declared.fault.Fault.{Fault}
+use Rattle.dq_core.specs.declared.fault.Fault.TheVariants.{NoMemory}
 use Rattle.dq_core.specs.Connections.{Connection}
 use Rattle.dq_core.specs.Shared.{replies, world_after, rows_within}
 use Rattle.dq_core.specs.Alone.{records_within}
@@ -40,6 +42,14 @@ abbrev pub FaultsAfter : List Institution → List Row → List Event → ℕ �
 FaultsAfter institutions rows events answered =
     MayFault (world_after institutions rows (take answered events)).connections
     (drop answered events)
+
+-- A run that has no room to begin: want of memory is its fault, it answers no event, and its tables
+-- are as they were given.
+pub record HasNoRoom {Tables : Type 0} (tables : Tables) (given : List Reply) (fault : Option Fault)
+    (left : Tables) : Type 0 where
+  pub no_memory : fault ≡ Some NoMemory
+  pub no_reply : given ≡ []
+  pub same_tables : left ≡ tables
 
 -- The replies at an institution's own events are those of its server alone to those among them
 -- that were answered. Its records are those that this server then has, after the first changes

@@ -8,8 +8,7 @@ use Rattle.dq_dataset.specs.Canonical.{canonical}
 use Rattle.dq_dimse.specs.declared.command.Command.{Command}
 use Rattle.dq_dimse.specs.Received.{Message}
 use Rattle.dq_dimse.specs.CommandFields.{c_cancel, c_echo, c_find, c_store, n_create, n_set, response_bit}
-use Rattle.dq_dimse.specs.declared.status.TheConstants.{CANCEL}
-use Rattle.dq_dimse.specs.Statuses.{success, pending, pending_without_optional_keys, sop_class_not_supported, unrecognized_operation}
+use Rattle.dq_dimse.specs.Statuses.{success, cancel, pending, pending_without_optional_keys, sop_class_not_supported, unrecognized_operation}
 use Rattle.std.specs.Str.{bytes_eq}
 use Rattle.dq_assoc.specs.declared.agreement.AgreedContext.{AgreedContext}
 use Rattle.dq_assoc.specs.declared.agreement.Agreement.{Agreement}
@@ -109,7 +108,7 @@ abbrev pub responses : AgreedContext → Command → Found → Responses
 responses context command found = record {
   pending = pending_responses context command found;
   final = response context.class command found.status None;
-  cancelled = response context.class command CANCEL None;
+  cancelled = response context.class command cancel None;
 }
 
 -- the operations of each service (PS3.4 sections A.2, B.2, C.4.1, K.4.1 and F.7.2)

@@ -176,6 +176,7 @@ impl Connections {
         ensures quiet { (connections : List Connection) →
             AreHeld self.old.config self.old connections →
             (piece.now ≡ []) ⊎ (connection_in number connections ≡ None) → IsOk result }
+        ensures empty { piece.now ≡ [] → IsOk result }
         ensures config { self.new.config ≡ self.old.config }
         ensures newest { self.new.newest ≡ self.old.newest }
     {

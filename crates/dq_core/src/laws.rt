@@ -1,6 +1,6 @@
 //! Laws of the plain server. Each function's contract is a law; its body changes nothing.
 
-ghost use Rattle.std.specs.Prelude.{◌≡◌, ◌≢◌, ◌≤◌, ◌+◌, ◌*◌, ◌⊎◌, ◌↔◌, ℕ, suc, Bool, false, IsTrue, Ok, List, [], ◌∷◌, ◌++◌, length, take, filter, map, Contains, Some, None, codes};
+ghost use Rattle.std.specs.Prelude.{◌≡◌, ◌≢◌, ◌≤◌, ◌+◌, ◌*◌, ◌⊎◌, ◌↔◌, ℕ, Bool, true, false, IsTrue, Ok, List, [], ◌∷◌, ◌++◌, length, take, filter, map, Contains, Some, None, codes};
 ghost use Rattle.dq_pdu.specs.declared.pdu.Request.{Request};
 ghost use Rattle.dq_assoc.specs.declared.association.Verdict.{Verdict};
 ghost use Rattle.dq_assoc.specs.Inputs.{inputs};
@@ -14,12 +14,12 @@ ghost use Rattle.dq_core.specs.Answers.{piece_answer, then_answer, request_in};
 ghost use Rattle.dq_core.specs.Owners.{owner, live_of, HaveOwnNames};
 ghost use Rattle.dq_core.specs.Shared.{turn, replies, world_after, rows_within};
 ghost use Rattle.dq_core.specs.Alone.{alone_replies, alone_after, records_within};
-ghost use Rattle.dq_core.specs.Own.{is_own, own, is_on_connection, stream_of, replies_at};
+ghost use Rattle.dq_core.specs.Own.{is_own, own, is_on_connection, stream_of, replies_at, outputs_on};
 ghost use Rattle.dq_core.specs.Histories.{is_well_formed, opened_numbers};
 ghost use Rattle.dq_core.specs.Runs.{IsRun, IsLeftOf, IsOwnRun};
 ghost use Rattle.dq_core.specs.declared.event.Reply.{Reply};
 ghost use Rattle.dq_core.specs.Accepted.{AreOpen};
-ghost use Rattle.dq_core.specs.Connections.{Connection, connection_in, with_piece, with_query};
+ghost use Rattle.dq_core.specs.Connections.{Connection, connection_in, with_piece};
 ghost use Rattle.std.specs.List.{AllByRecursion};
 ghost use Rattle.std.specs.List.Sorted.{IsStrictlyIncreasing};
 ghost use Rattle.dq_assoc.specs.declared.association.State.TheVariants.{Waiting, Open};
@@ -29,7 +29,6 @@ ghost use Rattle.dq_core.specs.Renumbering.{KeepsOrder, renumbered, renumbered_r
 ghost use Rattle.dq_dataset.specs.declared.header.Syntax.{Syntax};
 ghost use Rattle.dq_dataset.specs.Grammar.{AreOctets};
 ghost use Rattle.dq_dataset.specs.Tree.{ElementList};
-ghost use Rattle.dq_dimse.specs.CommandFields.{c_cancel};
 ghost use Rattle.dq_dimse.specs.Received.{Message};
 ghost use Rattle.dq_dimse.specs.Statuses.{success};
 ghost use Rattle.dq_assoc.specs.declared.agreement.AgreedContext.{AgreedContext};
@@ -39,15 +38,12 @@ ghost use Rattle.dq_assoc.specs.Classes.{service_of};
 ghost use Rattle.dq_find.specs.declared.query.Query.{Query};
 ghost use Rattle.dq_find.specs.Queries as study;
 ghost use Rattle.dq_worklist.specs.Queries as worklist;
-ghost use Rattle.dq_core.specs.Services.{Response, Order, refusal_for, outcome_on, served, ordered};
+ghost use Rattle.dq_core.specs.Services.{Order, refusal_for, outcome_on, served, ordered};
 ghost use Rattle.dq_core.specs.Soundness.{HoldSound, HoldsOctets, BringsOctets, BringOctets, CameAsOctets};
-ghost use Rattle.dq_core.specs.Searches.{Succeeds, ArePending, Brings, BringsBehind, AreAmong, HasOctets};
-ghost use Rattle.dq_core.specs.declared.event.Reply.TheVariants.{Octets, Done};
+ghost use Rattle.dq_core.specs.Conversations.{Arrival, IsAnswered, IsAnsweredAt, conversation_on, exchange, AreFinished, without_page_requests};
+ghost use Rattle.dq_core.specs.declared.event.Reply.TheVariants.{Octets, Done, Ignored};
 ghost use Rattle.dq_core.specs.Examples as example;
 ghost use Rattle.dq_config.specs.Document.{built_in};
-ghost use Rattle.dq_core.specs.Pages.{OpenQuery, page_length, octets_of, rest, without_first, page, next_page, pages, after_pages, query_by};
-ghost use Rattle.dq_find.specs.Answers as study_answers;
-ghost use Rattle.dq_worklist.specs.Answers as worklist_answers;
 ghost use Rattle.dq_worklist.specs.Orders.{scheduled, withdrawn};
 ghost use Rattle.dq_mpps.specs.Creating.{created};
 ghost use Rattle.dq_mpps.specs.Changing.{changed};
@@ -484,100 +480,50 @@ pub fn rows_stay_sound()
     services_keep_rows_sound();
 }
 
-/// The pending responses of a C-FIND that ends with 0000 are the answers to its query, each in its
-/// own response, in the order of the records' keys: what is told of the records that match, over
-/// the rows that there are as the message is served. Where no C-FIND is open as the message comes,
-/// the octets of the first page of its responses stand in the reply to the piece that brings it.
-pub fn searches_end_with_their_answers()
-    ensures studies { (institution : List ℕ) (rows : List Row) (limits : Limits)
-        (agreement : Agreement) (message : Message) (context : AgreedContext)
-        (pendings : List Response) → IsSound rows → service_of context.class ≡ StudyRootFind →
-        Succeeds limits (of institution rows) agreement message context pendings →
-        (query : Query) × (study.query_of message context.syntax ≡ Ok query)
-        × (answers : List ElementList)
-        × study_answers.AreAnswers (of institution rows) agreement.called query answers
-        × ArePending context message.command query.optional answers pendings }
-    ensures entries { (institution : List ℕ) (rows : List Row) (limits : Limits)
-        (agreement : Agreement) (message : Message) (context : AgreedContext)
-        (pendings : List Response) → IsSound rows → service_of context.class ≡ WorklistFind →
-        Succeeds limits (of institution rows) agreement message context pendings →
-        (keys : ElementList) × (optional : Bool) × (worklist.query_of message context.syntax
-        ≡ Ok (record { keys = keys; optional = optional }))
-        × (answers : List ElementList)
-        × worklist_answers.AreAnswers (of institution rows) keys answers
-        × ArePending context message.command optional answers pendings }
-    ensures in_reply { (institutions : List Institution) (world : World) (c : Connection)
-        (piece : List ℕ) (i : Institution) (agreement : Agreement) (records : List Record)
-        (message : Message) → connection_in c.number world.connections ≡ Some c →
-        Brings institutions world c piece i agreement records message →
-        HasOctets c.number (next_page (query_by agreement message
-        (served (limits_of i) records agreement message).responses)).octets
-        (turn institutions world (Event.Piece c.number piece)).reply }
-    // Behind a C-FIND that is open all that is left of that comes first.
-    ensures in_reply_behind { (institutions : List Institution) (world : World) (c : Connection)
-        (piece : List ℕ) (i : Institution) (agreement : Agreement) (records : List Record)
-        (earlier : OpenQuery) (message : Message) →
-        connection_in c.number world.connections ≡ Some c →
-        BringsBehind institutions world c piece i agreement records earlier message →
-        message.command.code ≢ c_cancel →
-        HasOctets c.number (rest earlier ++ (next_page (query_by agreement message
-        (served (limits_of i) records agreement message).responses)).octets)
-        (turn institutions world (Event.Piece c.number piece)).reply }
-    // These records are the institution's in rows that are sound, so that the first clauses speak of
-    // them: in those after some first operations of the piece.
-    ensures among_rows { (institutions : List Institution) (world : World) (c : Connection)
-        (piece : List ℕ) (i : Institution) (agreement : Agreement) (records : List Record)
-        (message : Message) → connection_in c.number world.connections ≡ Some c →
-        AreOctets c.stream → AreOctets piece → HoldSound world.rows →
-        Brings institutions world c piece i agreement records message →
-        AreAmong world.rows (turn institutions world (Event.Piece c.number piece)).operations
-        i.name records }
-    ensures among_rows_behind { (institutions : List Institution) (world : World)
-        (c : Connection) (piece : List ℕ) (i : Institution) (agreement : Agreement)
-        (records : List Record) (earlier : OpenQuery) (message : Message) →
-        connection_in c.number world.connections ≡ Some c →
-        AreOctets c.stream → AreOctets piece → HoldSound world.rows →
-        BringsBehind institutions world c piece i agreement records earlier message →
-        AreAmong world.rows (turn institutions world (Event.Piece c.number piece)).operations
-        i.name records }
+/// Associations over a whole history. On a connection that an institution owns the server sends
+/// exactly its conversation, and closes the connection exactly where that says so. The conversation
+/// is the answer to the request, the responses to each message over the rows that there are as it
+/// arrives, and the answer to what ends the association.
+///
+/// The responses to a C-FIND are sent in pages: one at once, one at each pull. Another message first
+/// brings all that are left. A C-CANCEL of the C-FIND brings FE00 in their place, and one of another
+/// message brings nothing. The final response comes last, once. Where it has status 0000, the pending
+/// responses are the records that match, in the order of their keys; else there are none.
+pub fn associations_are_answered_in_full()
+    ensures history { (institutions : List Institution) (rows : List Row) (events : List Event)
+        (number : ℕ) (i : Institution) → IsTrue (is_well_formed events) →
+        owner institutions (stream_of number events) ≡ Some i →
+        IsAnswered institutions rows events number i }
+    // The reply at an event sends, and closes, what the event adds to the conversation.
+    ensures at_each_event { (institutions : List Institution) (rows : List Row)
+        (events : List Event) (number : ℕ) (i : Institution) (event : Event) →
+        IsTrue (is_well_formed (events ++ event ∷ [])) →
+        owner institutions (stream_of number events) ≡ Some i →
+        is_on_connection number event ≡ true →
+        IsAnsweredAt institutions rows events number i event }
+    // A run that a fault ends sends the conversation of the events that were answered.
+    ensures run { (institutions : List Institution) (rows : List Row) (events : List Event)
+        (given : List Reply) (kept : List Row) (number : ℕ) (i : Institution) →
+        IsRun institutions rows events given kept → IsTrue (is_well_formed events) →
+        owner institutions (stream_of number (take (length given) events)) ≡ Some i →
+        outputs_on number events given
+        ≡ conversation_on institutions rows number i (take (length given) events) }
 {
+    a_longer_stream_adds_inputs();
     study_answers_in_order();
     worklist_answers_in_order();
     own_records_are_edited();
     services_keep_rows_sound();
 }
 
-/// Pages, one after the other, are the responses to a C-FIND: each once, in order, and the final
-/// one last. As long as some are left, so many pages are so many times 64 pending responses; nothing
-/// comes after the last. No page has more than 64 of them.
-pub fn pages_are_the_responses()
-    ensures begun { (query left : OpenQuery) (count : ℕ) →
-        after_pages count (Some query) ≡ Some left →
-        (pages count (Some query)
-        ≡ octets_of query (take (count * page_length) query.left.pending))
-        × (left ≡ without_first (count * page_length) query) }
-    ensures whole { (query : OpenQuery) (count : ℕ) →
-        length query.left.pending ≤ suc count * page_length →
-        (pages (suc count) (Some query) ≡ rest query)
-        × (after_pages (suc count) (Some query) ≡ None) }
-    ensures nothing { (count : ℕ) → (pages count None ≡ []) × (after_pages count None ≡ None) }
-    ensures most { (query : OpenQuery) → (responses : List Response)
-        × ((page query).octets ≡ octets_of query responses)
-        × (length responses ≤ page_length + 1) }
-    // A pull brings the next page of the connection that it names.
-    ensures pulled { (institutions : List Institution) (world : World) (c : Connection) →
-        connection_in c.number world.connections ≡ Some c →
-        (turn institutions world (Event.Pull c.number)).reply
-        ≡ Octets c.number (next_page c.query).octets false }
-    // What is then left of its C-FIND is open on it; every other connection is as it was.
-    ensures left { (institutions : List Institution) (world : World) (c : Connection) →
-        connection_in c.number world.connections ≡ Some c →
-        connection_in c.number (turn institutions world (Event.Pull c.number)).connections
-        ≡ Some (with_query (next_page c.query).query c) }
-    ensures others { (institutions : List Institution) (world : World) (pulled number : ℕ) →
-        number ≢ pulled →
-        connection_in number (turn institutions world (Event.Pull pulled)).connections
-        ≡ connection_in number world.connections }
+/// Pulls only cut the responses to a C-FIND into pages. Take the arrivals on an association twice,
+/// with other pulls and no other difference. Where each search is finished in both, by enough pulls
+/// or by another message, the same is sent, octet for octet, and it closes in the same place.
+pub fn pulls_cut_answers_into_pages()
+    ensures { (i : Institution) (agreement : Agreement) (arrivals others : List Arrival) →
+        AreFinished i agreement arrivals → AreFinished i agreement others →
+        without_page_requests arrivals ≡ without_page_requests others →
+        exchange i agreement arrivals ≡ exchange i agreement others }
 {}
 
 /// Two looks at a server are as one, and no look is as one.
@@ -617,4 +563,37 @@ pub fn examples_are_answered_octet_for_octet()
         ≡ Done ∷ example.answered (example.find_accepted example.ct2)
         ∷ example.answered (example.find_status 0x0000) ∷ [] }
     ensures alone { alone_replies example.limits [] example.own_history ≡ example.own_answers }
+{}
+
+/// Searches on worked examples, octet for octet. Of 130 studies 64 are sent at once, 64 at a pull, 2
+/// and the final response at another. A C-CANCEL of another message brings nothing, and one of the
+/// search brings FE00. Another query, or a C-ECHO on a context of its own, first brings all that is
+/// left; a release is answered, and closes.
+pub fn searches_are_answered_in_pages()
+    ensures paged { replies (example.two 4) (example.studies_from 100 130) (example.search_then
+        (Event.Pull 1 ∷ Event.Pull 1 ∷ Event.Pull 1 ∷ []))
+        ≡ Done ∷ example.answered (example.find_accepted example.ct1)
+        ∷ example.answered (example.found_from 100 64)
+        ∷ example.answered (example.found_from 164 64)
+        ∷ example.answered (example.found_from 228 2 ++ example.find_status 0)
+        ∷ example.answered [] ∷ [] }
+    ensures cancelled { replies (example.two 4) (example.studies_from 100 65) (example.search_then
+        (Event.Piece 1 (example.cancel 2) ∷ Event.Piece 1 (example.cancel 1) ∷ Event.Pull 1 ∷ []))
+        ≡ Done ∷ example.answered (example.find_accepted example.ct1)
+        ∷ example.answered (example.found_from 100 64) ∷ example.answered []
+        ∷ example.answered (example.find_status 0xfe00) ∷ example.answered [] ∷ [] }
+    ensures another { replies (example.two 4) (example.studies_from 100 65) (example.search_then
+        (Event.Piece 1 (example.find_level (codes "VISIT ")) ∷ Event.Pull 1 ∷ []))
+        ≡ Done ∷ example.answered (example.find_accepted example.ct1)
+        ∷ example.answered (example.found_from 100 64)
+        ∷ example.answered (example.found_from 164 1 ++ example.find_status 0
+        ++ example.find_status 0xa900) ∷ example.answered [] ∷ [] }
+    ensures echo { replies (example.two 4) (example.studies_from 100 130) (example.find_and_echo_then
+        (Event.Piece 1 (example.echo_on 3 2) ∷ Event.Pull 1 ∷ Event.Piece 1 example.release
+        ∷ Event.Pull 1 ∷ []))
+        ≡ Done ∷ example.answered (example.find_and_echo_accepted example.ct1)
+        ∷ example.answered (example.found_from 100 64)
+        ∷ example.answered (example.found_from 164 66 ++ example.find_status 0
+        ++ example.echoed_on 3 2) ∷ example.answered []
+        ∷ Octets 1 example.released true ∷ Ignored ∷ [] }
 {}

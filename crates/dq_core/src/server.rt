@@ -1,4 +1,4 @@
-ghost use Rattle.std.specs.Prelude.{◌≡◌, ◌≢◌, ◌<◌, ◌≤◌, ◌↔◌, ℕ, vec_capacity, List, ◌∷◌, [], ◌++◌, length, take, filter, Contains, Some, None, true, false, IsTrue, is_some, IsOk, IfOk, OnOk, IfErr, OnErr, IsErrOf, MatchResult};
+ghost use Rattle.std.specs.Prelude.{◌≡◌, ◌≢◌, ◌<◌, ◌≤◌, ◌↔◌, ◌⊎◌, ℕ, vec_capacity, List, ◌∷◌, [], ◌++◌, length, take, filter, Contains, Some, None, true, false, IsTrue, is_some, IsOk, IfOk, OnOk, IfErr, OnErr, IsErrOf, MatchResult};
 ghost use Rattle.dq_config.specs.declared.config.Institution.{Institution};
 ghost use Rattle.dq_tables.specs.declared.row.Row.{Row};
 ghost use Rattle.dq_config.specs.Limits.{limits_of};
@@ -10,9 +10,9 @@ ghost use Rattle.dq_core.specs.Alone.{alone_replies, alone_after};
 ghost use Rattle.dq_core.specs.Owners.{owner};
 ghost use Rattle.dq_core.specs.Own.{is_own, own, is_on_connection, stream_of, replies_at};
 ghost use Rattle.dq_core.specs.Isolation.{stranger_replies};
-ghost use Rattle.dq_core.specs.Runs.{IsRun, IsLeftOf, FaultsAfter, IsOwnRun};
+ghost use Rattle.dq_core.specs.Runs.{IsRun, IsLeftOf, FaultsAfter, HasNoRoom, IsOwnRun};
 ghost use Rattle.dq_core.specs.Histories.{is_above, newest_after, rises_from, is_well_formed};
-ghost use Rattle.dq_core.specs.Stepping.{Opens, TakesNoMemory, Goes, MayLeave, IsPartOf};
+ghost use Rattle.dq_core.specs.Stepping.{Opens, TakesNoMemory, NeverTakesMemory, Goes, MayLeave, IsPartOf};
 ghost use Rattle.dq_core.specs.Slots.{AreHeld, Turned};
 ghost use Rattle.dq_core.specs.Standing.{StandsFor};
 ghost use Rattle.dq_tables.specs.Finding.{rows_of};
@@ -26,7 +26,7 @@ use crate::orders::{schedule_entry, withdraw_entry};
 use dq_config::{Config, Institution};
 use dq_list::Listed;
 use dq_tables::{Kind, Tables};
-use std::alloc::Global;
+use std::alloc::{AllocError, Global};
 use std::marker::Model;
 
 /// The server over what keeps its rows: the connections that are held, between two events.
@@ -79,12 +79,24 @@ impl<T: Tables> Server<T> {
         ensures fault { IfErr result (λ fault. fault ≡ Fault.NoMemory) }
     {
         let connections = Connections::new(alloc, config)?;
-        Ok(Server {
+        Ok(Server::over(alloc, connections, tables))
+    }
+
+    /// A server over the rows that are there, with connections of which none is held yet.
+    fn over(alloc: Global, connections: Connections, tables: T) -> Self
+        requires none { AreHeld connections.config connections [] }
+        requires first { connections.newest ≡ None }
+        requires working { (T.state tables).failed ≡ false }
+        ensures stands { StandsFor T.state (T.state tables).rows result [] }
+        ensures institutions { result.institutions ≡ connections.config }
+        ensures tables { result.tables ≡ tables }
+    {
+        Server {
             alloc,
             connections,
             tables,
             spent: false,
-        })
+        }
     }
 
     /// Whether a number may be opened: it is above all that were opened before.
@@ -170,6 +182,8 @@ impl<T: Tables> Server<T> {
             StandsFor T.state rows self.old events →
             TakesNoMemory (world_after self.old.institutions rows events).connections event →
             IsOk result }
+        // So do an end and an empty piece, whatever the tables did before.
+        ensures always { NeverTakesMemory event → self.old.spent ≡ false → IsOk result }
         ensures institutions { self.new.institutions ≡ self.old.institutions }
         ensures newest { OnOk result (self.new.newest ≡ newest_after self.old.newest (event ∷ [])) }
         ensures unspent { OnOk result (self.new.spent ≡ false) }
@@ -246,6 +260,7 @@ impl<T: Tables> Server<T> {
         ensures quiet { (world : World) →
             AreHeld self.old.institutions self.old.slots world.connections →
             TakesNoMemory world.connections event → IsOk result }
+        ensures always { NeverTakesMemory event → IsOk result }
         ensures keeps { (self.new.institutions ≡ self.old.institutions)
             × (self.new.spent ≡ self.old.spent) }
         ensures fault { IfErr result (λ fault. fault ≢ Fault.Stopped) }
@@ -341,10 +356,88 @@ fn answer_all<T: Tables>(
     Ok(())
 }
 
-/// The replies to a whole history, and the rows after it. There is room for all replies before the
-/// first event, so that none is lost. Where a fault stopped the run, the replies are those to the
-/// events before it, and the rows are those after these events and the first operations of the
-/// next. It is an error only where there is no room to begin; the tables are then dropped.
+impl<T> Outcome<T> {
+    /// A run that answers no event. It takes no memory.
+    fn without_replies(alloc: Global, fault: Option<Fault>, tables: T) -> Self
+        ensures replies { result.replies ≡ [] }
+        ensures fault { result.fault ≡ fault }
+        ensures tables { result.tables ≡ tables }
+    {
+        Outcome {
+            replies: Listed::empty(alloc),
+            fault,
+            tables,
+        }
+    }
+}
+
+/// What a run needs to begin: connections of which none is held, and room for so many replies.
+fn room_for(
+    alloc: Global,
+    config: Config,
+    count: usize,
+) -> Result<(Connections, Vec<Reply>), AllocError>
+    ensures config { IfOk result (λ room. room.0.config ≡ config) }
+    ensures none { IfOk result (λ room. AreHeld config room.0 []) }
+    ensures newest { IfOk result (λ room. room.0.newest ≡ None) }
+    ensures empty { IfOk result (λ room. room.1.items ≡ []) }
+    ensures room { IfOk result (λ room. count ≤ vec_capacity room.1) }
+{
+    let connections = Connections::new(alloc, config)?;
+    let given = Vec::with_capacity(alloc, count)?;
+    Ok((connections, given))
+}
+
+/// Answers a whole history. It makes room for all replies before the first event, so that none is
+/// lost, and gives the tables back whatever happens.
+fn answer_history<T: Tables>(
+    alloc: Global,
+    config: Config,
+    tables: T,
+    events: Vec<Event>,
+) -> Outcome<T>
+    requires formed { IsTrue (is_well_formed events.items) }
+    requires sound { (T.state tables).failed ≡ false }
+    ensures rows { (T.state result.tables).honest → result.fault ≡ None →
+        (T.state result.tables).rows
+        ≡ (world_after config (T.state tables).rows events.items).rows }
+    ensures ran { (T.state result.tables).honest →
+        IsRun config (T.state tables).rows events.items result.replies
+        (T.state result.tables).rows }
+    ensures faulted { (T.state result.tables).honest → result.fault ≢ None →
+        FaultsAfter config (T.state tables).rows events.items (length result.replies)
+        ⊎ HasNoRoom tables result.replies result.fault result.tables }
+    ensures stopped { result.fault ≢ None → length result.replies < length events.items }
+    ensures answered { result.fault ≡ None → length result.replies ≡ length events.items }
+    ensures settled { (T.state result.tables).honest → result.fault ≡ None →
+        IsSettled (T.state tables) → IsSettled (T.state result.tables) }
+    ensures crash { (T.state result.tables).honest → result.fault ≢ None →
+        IsSettled (T.state tables) → (r : List Row) → (T.state result.tables).may_leave r →
+        IsLeftOf config (T.state tables).rows events.items result.replies
+        (T.state result.tables).rows r }
+    ensures faults { result.fault ≢ Some Fault.Stopped }
+    ensures store { (result.fault ≡ Some Fault.Store) ↔ ((T.state result.tables).failed ≡ true) }
+    ensures was_honest { (T.state result.tables).honest → (T.state tables).honest }
+{
+    if events.is_empty() {
+        return Outcome::without_replies(alloc, None, tables);
+    }
+    let Ok((connections, mut given)) = room_for(alloc, config, events.len()) else {
+        return Outcome::without_replies(alloc, Some(Fault::NoMemory), tables);
+    };
+    let mut server = Server::over(alloc, connections, tables);
+    let fault = answer_all(&mut server, events, &mut given).err();
+    Outcome {
+        replies: Listed::from_inner(given),
+        fault,
+        tables: server.into_tables(),
+    }
+}
+
+/// The replies to a whole history, and the rows after it. It is always an outcome. Where a fault
+/// stopped the run, the replies are those to the events before it, and the rows are those after
+/// these events and the first operations of the next. Where there is no room to begin, the fault is
+/// want of memory, no event is answered, and the tables are given back as they were.
 pub fn run<T: Tables + Drop>(
     alloc: Global,
     config: Config,
@@ -362,10 +455,12 @@ pub fn run<T: Tables + Drop>(
     ensures ran { IfOk result (λ outcome. (T.state outcome.tables).honest →
         IsRun config (T.state tables).rows events.items outcome.replies
         (T.state outcome.tables).rows) }
-    // A fault came in the event after those that were answered, which is none that takes no memory.
+    // A fault came in the event after those that were answered, which is none that takes no memory;
+    // or there was no room to begin.
     ensures faulted { IfOk result (λ outcome. (T.state outcome.tables).honest →
         outcome.fault ≢ None →
-        FaultsAfter config (T.state tables).rows events.items (length outcome.replies)) }
+        FaultsAfter config (T.state tables).rows events.items (length outcome.replies)
+        ⊎ HasNoRoom tables outcome.replies outcome.fault outcome.tables) }
     ensures stopped { IfOk result (λ outcome. outcome.fault ≢ None →
         length outcome.replies < length events.items) }
     ensures answered { IfOk result (λ outcome. outcome.fault ≡ None →
@@ -407,18 +502,12 @@ pub fn run<T: Tables + Drop>(
     // The store failed in the run exactly where that is the fault.
     ensures store { IfOk result (λ outcome.
         (outcome.fault ≡ Some Fault.Store) ↔ ((T.state outcome.tables).failed ≡ true)) }
-    ensures begins { IfErr result (λ fault. fault ≡ Fault.NoMemory) }
+    // No fault takes away the replies before it, nor the tables.
+    ensures outcome { IsOk result }
 {
     runs_are_isolated();
     institutions_are_isolated();
     institutions_have_own_names();
     config.is_sound();
-    let mut given = Vec::with_capacity(alloc, events.len())?;
-    let mut server = Server::new(alloc, config, tables)?;
-    let fault = answer_all(&mut server, events, &mut given).err();
-    Ok(Outcome {
-        replies: Listed::from_inner(given),
-        fault,
-        tables: server.into_tables(),
-    })
+    Ok(answer_history(alloc, config, tables, events))
 }

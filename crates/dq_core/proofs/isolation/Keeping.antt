@@ -1,8 +1,7 @@
 -- What each service keeps true of the rows stays true of them, whatever octets the server is sent.
-use Rattle.std.proofs.Common.{◌≡◌, ℕ, zero, suc, ◌==◌, Bool, true, false, List, [], ◌∷◌, ◌++◌, map, length, take, drop, Option, Some, None, refl, sym, ap, ◌∙◌, subst}
+use Rattle.std.proofs.Common.{◌≡◌, ℕ, zero, suc, ◌==◌, Bool, true, false, List, [], ◌∷◌, ◌++◌, map, take, drop, Option, Some, None, refl, sym, ap, ◌∙◌, subst}
 use Rattle.std.specs.List.{AllByRecursion}
 use Rattle.std.proofs.lemmas.List.{map-append}
-use Rattle.std.proofs.Math.Seq.{take-append_seam}
 use Rattle.dq_dataset.specs.declared.header.Syntax.{Syntax}
 use Rattle.dq_dataset.specs.Grammar.{AreOctets}
 use Rattle.dq_dimse.specs.CommandFields.{c_cancel, n_create}
@@ -32,12 +31,10 @@ use Rattle.dq_core.specs.Answers.{Progress, Answer, answer, answers, answer_afte
 use Rattle.dq_core.specs.Connections.{Connection, new_connection, with_piece, with_query, connection_in}
 use Rattle.dq_core.specs.Owners.{owner, live_of}
 use Rattle.dq_core.specs.Shared.{World, turn, answer_by, operations_by, piece_turn, end_turn, pull_turn, order_turn, world_after_turn, world_from, opening, world_after, operations_next, rows_within}
-use Rattle.dq_core.specs.Searches.{first_answer_by}
 use Rattle.dq_core.specs.Soundness.{HoldsOctets, BringsOctets, BringOctets, CameAsOctets}
 use Rattle.dq_core.proofs.Composing.{after-append}
-use Rattle.dq_core.proofs.isolation.AnswerLaws.{answers-append}
 use Rattle.dq_core.proofs.isolation.Lists.{found-has, each-append, each-without, each-with}
-use Rattle.dq_core.proofs.isolation.Octets.{SmallInput, from-octets, to-octets, each-joined, each-first, each-dropped, each-taken, added-small}
+use Rattle.dq_core.proofs.isolation.Octets.{SmallInput, from-octets, to-octets, each-joined, each-dropped, each-taken, added-small}
 
 -- ---- the streams of the connections that are held
 
@@ -318,46 +315,3 @@ module _ (Good : List Row → Type 0) where
     within-kept rows events brings good answered operations =
         next-kept (world_after institutions rows (take answered events)) (drop answered events) (each-dropped BringsOctets answered events brings)
         (history-kept rows (take answered events) (each-taken BringsOctets answered events brings) good) operations
-
-    -- ---- the rows that a message is served from
-
-    module _ (world : World) (c : Connection) (piece : List ℕ) (i : Institution) (before later : List Input) (message : Message) where
-      abbrev made_first : List Operation
-      made_first = map (by i.name) (first_answer_by i institutions world c before).changes
-
-      -- the operations of the piece begin with those of what comes before the message
-      made-first : connection_in c.number world.connections ≡ Some c → owner institutions (c.stream ++ piece) ≡ Some i
-          → inputs_added c.stream piece ≡ before ++ Sent message ∷ later → (first_answer_by i institutions world c before).close ≡ false
-          → take (length made_first) (turn institutions world (event.Piece c.number piece)).operations ≡ made_first
-      made-first held owned inputs goes_on =
-          let limits = limits_of i in
-          let verdict = verdict_at i.associations (live_of institutions i.name world.connections) in
-          let progress = progress_of c (of i.name world.rows) in
-          let first = first_answer_by i institutions world c before in
-          let rest = answers limits verdict first.next (Sent message ∷ later) in
-          let whole = answer_by (Some i) institutions world c piece in
-          let joined : whole ≡ then_answer first rest =
-          ap (answers limits verdict progress) inputs ∙ answers-append limits verdict progress before (Sent message ∷ later) in
-          let changes : whole.changes ≡ first.changes ++ rest.changes = ap (λ (x : Answer). x.changes) joined ∙ then-changes first rest goes_on in
-          rw (held, owned) (
-          ap (λ (changes : List (List Edit)). take (length made_first) (map (by i.name) changes)) changes
-          ∙ ap (take (length made_first)) (map-append (by i.name) first.changes rest.changes)
-          ∙ take-append_seam made_first (map (by i.name) rest.changes)
-          )
-
-      pub among-kept : connection_in c.number world.connections ≡ Some c → owner institutions (c.stream ++ piece) ≡ Some i
-          → inputs_added c.stream piece ≡ before ++ Sent message ∷ later → (first_answer_by i institutions world c before).close ≡ false
-          → AreOctets c.stream → AreOctets piece → Good world.rows → (count : ℕ)
-          × Good (after_all (take count (turn institutions world (event.Piece c.number piece)).operations) world.rows)
-          × ((first_answer_by i institutions world c before).next.records
-          ≡ of i.name (after_all (take count (turn institutions world (event.Piece c.number piece)).operations) world.rows))
-      among-kept held owned inputs goes_on came brings good =
-          let verdict = verdict_at i.associations (live_of institutions i.name world.connections) in
-          let small = added-small c.stream piece (from-octets c.stream came) (from-octets piece brings) in
-          let k = answers-kept keep lens i.name (limits_of i) verdict (progress_of c (of i.name world.rows)) world.rows before
-          (each-first SmallInput before (Sent message ∷ later) (subst (AllByRecursion SmallInput) inputs small)) good refl in
-          let same = made-first held owned inputs goes_on in (
-            length made_first,
-            subst (λ (operations : List Operation). Good (after_all operations world.rows)) (sym same) (stay-all made_first world.rows k.stay),
-            k.has ∙ ap (λ (operations : List Operation). of i.name (after_all operations world.rows)) (sym same),
-          )

@@ -1,5 +1,5 @@
 -- Rows that are sound and hold data sets.
-use Rattle.std.proofs.Common.{◌≡◌, ℕ, List, [], ◌∷◌, length, Result, Ok, Err, Some, refl, sym, ◌∙◌, subst}
+use Rattle.std.proofs.Common.{◌≡◌, ℕ, List, [], ◌∷◌, length, Result, Ok, Err, refl, sym, subst}
 use Rattle.std.specs.List.{AllByRecursion}
 use Rattle.std.specs.Result.{result_unwrap_or}
 use Rattle.dq_dataset.specs.declared.fault.ReadFault.{ReadFault}
@@ -9,23 +9,16 @@ use Rattle.dq_dataset.specs.Tree.{ElementList, no_elements}
 use Rattle.dq_dataset.specs.Reading.{reading}
 use Rattle.dq_dataset.specs.Grammar.{AreOctets, IsSpelled}
 use Rattle.dq_dataset.specs.Facts.{IsDataSet}
-use Rattle.dq_dimse.specs.Received.{Message}
-use Rattle.dq_assoc.specs.declared.agreement.Agreement.{Agreement}
 use Rattle.dq_config.specs.declared.config.Institution.{Institution}
 use Rattle.dq_tables.specs.declared.row.Row.{Row}
-use Rattle.dq_tables.specs.Rows.{Record, IsRising}
+use Rattle.dq_tables.specs.Rows.{IsRising}
 use Rattle.dq_tables.specs.Records.{data_set_of}
 use Rattle.dq_tables.specs.Sound.{IsSound}
 use Rattle.dq_core.specs.declared.event.Event.{Event}
-use Rattle.dq_core.specs.declared.event.Event.TheVariants as event
 use Rattle.dq_core.specs.declared.event.Reply.{Reply}
-use Rattle.dq_core.specs.Connections.{Connection, connection_in}
-use Rattle.dq_core.specs.Pages.{OpenQuery}
 use Rattle.dq_core.specs.Runs.{IsRun}
-use Rattle.dq_core.specs.Searches.{Brings, BringsBehind, AreAmong}
-use Rattle.dq_core.specs.Shared.{World, turn}
 use Rattle.dq_core.specs.Soundness.{HoldDataSets, HoldSound, BringOctets}
-use Rattle.dq_core.proofs.isolation.Keeping.{Edits, ServicesKeep, within-kept, among-kept}
+use Rattle.dq_core.proofs.isolation.Keeping.{Edits, ServicesKeep, within-kept}
 
 pub none-sound : HoldSound []
 unfolding IsRising
@@ -63,19 +56,3 @@ module _ (keep : ServicesKeep HoldSound) (lens : Edits) where
       → IsRun institutions rows events given kept → BringOctets events → HoldSound rows → HoldSound kept
   run-sound institutions rows events given kept run brings sound =
       subst HoldSound (sym run.rows_then) (within-kept HoldSound keep lens institutions rows events brings sound (length given) run.operations)
-
-  module _ (institutions : List Institution) (world : World) (c : Connection) (piece : List ℕ) (i : Institution) (agreement : Agreement)
-      (records : List Record) where
-    pub among-rows : (message : Message) → connection_in c.number world.connections ≡ Some c → AreOctets c.stream → AreOctets piece
-        → HoldSound world.rows → Brings institutions world c piece i agreement records message
-        → AreAmong world.rows (turn institutions world (event.Piece c.number piece)).operations i.name records
-    among-rows message held came brings sound b =
-        let k = among-kept HoldSound keep lens institutions world c piece i b.before b.later message held b.owned b.inputs b.goes_on came brings sound in
-        record { count = k.0; sound = k.1; own = sym b.has ∙ k.2 }
-
-    pub among-behind : (earlier : OpenQuery) (message : Message) → connection_in c.number world.connections ≡ Some c → AreOctets c.stream
-        → AreOctets piece → HoldSound world.rows → BringsBehind institutions world c piece i agreement records earlier message
-        → AreAmong world.rows (turn institutions world (event.Piece c.number piece)).operations i.name records
-    among-behind earlier message held came brings sound b =
-        let k = among-kept HoldSound keep lens institutions world c piece i b.before b.later message held b.owned b.inputs b.goes_on came brings sound in
-        record { count = k.0; sound = k.1; own = sym b.has ∙ k.2 }

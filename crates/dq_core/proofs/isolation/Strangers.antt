@@ -120,7 +120,7 @@ module _ (institutions : List Institution) (mine : ℕ → Bool) (world : World)
   kept-order order None = refl
   kept-order order (Some i) = refl
 
-  kept : (e : Event) → is_theirs mine e ≡ false → among mine (turn institutions world e).connections ≡ among mine world.connections
+  pub kept : (e : Event) → is_theirs mine e ≡ false → among mine (turn institutions world e).connections ≡ among mine world.connections
   kept (event.Open n) m = among-other_opened mine n world.connections m
   kept (event.Piece n piece) m = kept-piece n piece m (connection_in n world.connections) refl
   kept (event.End n) m = kept-end n m (connection_in n world.connections) refl

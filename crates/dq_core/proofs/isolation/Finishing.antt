@@ -1,0 +1,69 @@
+-- Where all responses are sent, pulls only cut them into pages.
+use Rattle.std.proofs.Common.{◌≡◌, ℕ, suc, ◌*◌, nat_le, true, List, [], ◌∷◌, ◌++◌, map, length, Option, Some, None, inl, inr, refl, sym, ap, ◌∙◌}
+use Rattle.std.specs.List.{flat_map}
+use Rattle.dq_dimse.specs.Received.{Message}
+use Rattle.dq_dimse.specs.Sending.{sent}
+use Rattle.dq_assoc.specs.declared.agreement.Agreement.{Agreement}
+use Rattle.dq_assoc.specs.declared.association.State.TheVariants.{Open}
+use Rattle.dq_assoc.specs.declared.association.Verdict.TheVariants.{Accept}
+use Rattle.dq_assoc.specs.Table.{Sent, line, answer_octets}
+use Rattle.dq_config.specs.declared.config.Institution.{Institution}
+use Rattle.dq_config.specs.Limits.{limits_of}
+use Rattle.dq_tables.specs.Rows.{of}
+use Rattle.dq_core.specs.Services.{Response, Responses, served}
+use Rattle.dq_core.specs.Pages.{page_length}
+use Rattle.dq_core.specs.Own.{Output, Octet, Close}
+use Rattle.dq_core.specs.Conversations.{Arrival, InputAt, PageRequest, ConnectionEnd, Next, Cancel, AnotherMessage, NoMessage, sequel, all_responses, responses_in_pages, responses_sent, response_octets_of, exchange, AreAllSent, AreFinished, without_page_requests}
+
+-- all responses to a message
+abbrev whole_octets : Agreement → Message → Option Responses → List ℕ
+whole_octets a m None = []
+whole_octets a m (Some r) = flat_map (λ (x : Response). sent m.context x.0 x.1 a.limit) (all_responses r)
+
+-- an exchange without pages
+abbrev in_full : Institution → Agreement → List Arrival → List Output
+in_full i a [] = []
+in_full i a (PageRequest ∷ later) = in_full i a later
+in_full i a (ConnectionEnd ∷ later) = []
+in_full i a (InputAt world (Sent m) ∷ later) =
+    map Octet (whole_octets a m (served (limits_of i) (of i.name world.rows) a m).responses) ++ in_full i a later
+in_full i a (InputAt world input ∷ later) = map Octet (answer_octets (line Open Accept input).answer) ++ Close ∷ []
+
+held-whole : (r : Responses) (pages : ℕ) (instead : List Response) → nat_le (length r.pending) (pages * page_length) ≡ true
+    → responses_in_pages pages r instead ≡ all_responses r
+held-whole r pages instead h = rw h refl
+
+held-sent : (r : Responses) (pages : ℕ) (n : Next) → nat_le (length r.pending) (pages * page_length) ≡ true → responses_sent pages n r ≡ all_responses r
+held-sent r pages AnotherMessage h = refl
+held-sent r pages Cancel h = held-whole r pages (r.cancelled ∷ []) h
+held-sent r pages NoMessage h = held-whole r pages [] h
+
+whole-sent : (a : Agreement) (m : Message) (s : ℕ × Next) (o : Option Responses) → AreAllSent s o → response_octets_of a m s o ≡ whole_octets a m o
+whole-sent a m s None h = refl
+whole-sent a m s (Some r) (inl another) =
+    ap (λ n. flat_map (λ (x : Response). sent m.context x.0 x.1 a.limit) (responses_sent (suc s.0) n r)) another
+whole-sent a m s (Some r) (inr held) =
+    ap (flat_map (λ (x : Response). sent m.context x.0 x.1 a.limit)) (held-sent r (suc s.0) s.1 held)
+
+finished-full : (i : Institution) (a : Agreement) (xs : List Arrival) → AreFinished i a xs → exchange i a xs ≡ in_full i a xs
+finished-full i a [] h = refl
+finished-full i a (PageRequest ∷ later) h = finished-full i a later h
+finished-full i a (ConnectionEnd ∷ later) h = refl
+finished-full i a (InputAt world (Sent m) ∷ later) h =
+    let o = (served (limits_of i) (of i.name world.rows) a m).responses in
+    ap (λ xs. map Octet xs ++ exchange i a later) (whole-sent a m (sequel m.command.id later) o h.0)
+    ∙ ap (λ xs. map Octet (whole_octets a m o) ++ xs) (finished-full i a later h.1)
+finished-full i a (InputAt world input ∷ later) h = refl
+
+full-without : (i : Institution) (a : Agreement) (xs : List Arrival) → in_full i a xs ≡ in_full i a (without_page_requests xs)
+full-without i a [] = refl
+full-without i a (PageRequest ∷ later) = full-without i a later
+full-without i a (ConnectionEnd ∷ later) = refl
+full-without i a (InputAt world (Sent m) ∷ later) =
+    ap (λ xs. map Octet (whole_octets a m (served (limits_of i) (of i.name world.rows) a m).responses) ++ xs) (full-without i a later)
+full-without i a (InputAt world input ∷ later) = refl
+
+pub cut-alike : (i : Institution) (a : Agreement) (xs ys : List Arrival) → AreFinished i a xs → AreFinished i a ys
+    → without_page_requests xs ≡ without_page_requests ys → exchange i a xs ≡ exchange i a ys
+cut-alike i a xs ys h k e =
+    finished-full i a xs h ∙ full-without i a xs ∙ ap (in_full i a) e ∙ sym (full-without i a ys) ∙ sym (finished-full i a ys k)
