@@ -3,10 +3,7 @@ ghost use Rattle.std.specs.Prelude.{◌≡◌, [], true, false, IfOk};
 ghost use Rattle.dq_tables.specs.declared.row.Kind.{Kind};
 ghost use Rattle.dq_tables.specs.Sound.{is_own, Fits};
 
-use dq_list::Listed;
-use dq_tables::{
-    Change, Choice, Fuse, Fused, Kind, Labels, PlainTables, RecordKeys, Row, TableFault, Tables,
-};
+use dq_tables::{Change, Fuse, Fused, Kind, PlainTables, RecordKeys, Row, TableFault, Tables};
 use std::alloc::{AllocError, Global};
 use std::test::*;
 
@@ -56,76 +53,6 @@ fn added(alloc: Global) -> Result<Change, Fail>
     ensures { IfOk result (λ change. Fits [] change) }
 {
     Ok(Change::EntryAdded(entry(alloc)?))
-}
-
-/// Tables in which nothing was kept but what a change adds.
-fn after(alloc: Global, change: Change) -> Result<PlainTables, TableFault>
-    requires { Fits [] change }
-{
-    let mut tables = PlainTables::new(alloc);
-    match tables.apply(alloc, &change) {
-        Ok(()) => Ok(tables),
-        Err(fault) => Err(fault),
-    }
-}
-
-/// Tables with an entry of NORTH.
-fn with_entry(alloc: Global) -> Result<PlainTables, Fail> {
-    let change = added(alloc)?;
-    Ok(after(alloc, change)?)
-}
-
-#[test]
-fn entries_are_found(rt: HostRuntime) -> Result<(), Fail> {
-    let mut tables = with_entry(rt.alloc())?;
-    assert!(rt; tables.entry(rt.alloc(), NORTH, b"S1")?.is_some());
-    assert!(rt; tables.entries(rt.alloc(), NORTH)?.len() == 1);
-    Ok(())
-}
-
-/// The labels of a record of NORTH.
-fn labels(alloc: Global, kind: Kind, key: &[u8], octets: &[u8]) -> Result<Labels, AllocError> {
-    row(alloc, kind, key, octets)?.labels(alloc)
-}
-
-/// A study of a patient and a day, in Explicit.
-#[test]
-fn studies_have_labels(rt: HostRuntime) -> Result<(), Fail> {
-    let octets = b"\x08\0\x20\0DA\x08\x0020230514\x10\0\x20\0LO\x04\0P-17";
-    let labels = labels(rt.alloc(), Kind::Study, b"1.2", octets)?;
-    let patient = labels.patient.ok_or("a patient")?;
-    assert!(rt; patient.as_slice() == b"P-17".as_slice());
-    assert_eq!(rt; labels.day, Some(20_230_514));
-    Ok(())
-}
-
-/// A worklist entry of a patient and a day, in Explicit, whose step has a date beside its Study Date.
-#[test]
-fn entries_have_labels(rt: HostRuntime) -> Result<(), Fail> {
-    let octets = b"\x08\0\x20\0DA\x08\x0020230514\x10\0\x20\0LO\x04\0P-17\
-\x40\0\0\x01SQ\0\0\x18\0\0\0\xfe\xff\0\xe0\x10\0\0\0\x40\0\x02\0DA\x08\x0020240229";
-    let labels = labels(rt.alloc(), Kind::Entry, b"S1", octets)?;
-    let patient = labels.patient.ok_or("a patient")?;
-    assert!(rt; patient.as_slice() == b"P-17".as_slice());
-    assert_eq!(rt; labels.day, Some(20_240_229));
-    Ok(())
-}
-
-/// An entry that says neither its patient nor its day meets what is asked of them.
-#[test]
-fn waiting_entries_are_chosen(rt: HostRuntime) -> Result<(), Fail> {
-    let mut tables = with_entry(rt.alloc())?;
-    let mut choice = Choice {
-        uid: None,
-        patient: Some(Listed::copy_of(rt.alloc(), b"P-17")?),
-        first_day: Some(20_240_229),
-        last_day: Some(20_240_229),
-    };
-    assert!(rt; tables.waiting_in(rt.alloc(), NORTH, &choice)?.len() == 1);
-    assert!(rt; tables.waiting_in(rt.alloc(), b"SOUTH", &choice)?.is_empty());
-    choice.uid = Some(Listed::copy_of(rt.alloc(), b"S2")?);
-    assert!(rt; tables.waiting_in(rt.alloc(), NORTH, &choice)?.is_empty());
-    Ok(())
 }
 
 #[test]
