@@ -1,5 +1,6 @@
 -- What is answered of a message, by the refusals before and after.
 use Rattle.std.proofs.Common.{◌≡◌, ℕ, Bool, true, false, List, [], ◌∷◌, Option, Some, None, Result, Ok, Err, refl, sym, ◌∙◌, ap, subst}
+use Rattle.std.specs.Option.{IfSome}
 use Rattle.std.specs.Result.{result_ok}
 use Rattle.dq_value.specs.Uid.{is_uid}
 use Rattle.dq_dataset.specs.declared.fault.ReadFault.{ReadFault}
@@ -22,6 +23,10 @@ use Rattle.dq_mpps.specs.Steps.{data_set_limit, spelled_step, step_record}
 use Rattle.dq_mpps.specs.Creating.{created}
 use Rattle.dq_mpps.specs.Changing.{kept_data_set, is_too_long, attribute_refusals, changed}
 use Rattle.dq_mpps.specs.Views.{step_created, step_changed}
+
+-- what is said of a value where there is one
+pub at_some : {X : Type 0} (P : X → Type 0) (o : Option X) (x : X) → IfSome o P → o ≡ Some x → P x
+at_some {X} P o x holds is = subst (λ (y : Option X). IfSome y P) is holds
 
 pub read_is : (r : Result ElementList ReadFault) (d : ElementList) → result_ok r ≡ Some d → r ≡ Ok d
 read_is (Ok d') d some = cc

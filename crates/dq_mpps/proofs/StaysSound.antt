@@ -73,6 +73,19 @@ pub short_step : (d : ElementList) → is_too_long d ≡ false → HasLengths Ex
 unfolding is_too_long is_over_limit
 short_step d short = small_has_lengths d (grind (arith, nat_tests))
 
+-- a step that cannot be written is too long
+pub unwritten_is_long : (d : ElementList) → (HasLengths Explicit d → ⊥) → true ≡ is_too_long d
+unwritten_is_long d unwritten = by (is_too_long d) refl
+  where
+    by : (b : Bool) → is_too_long d ≡ b → true ≡ b
+    by true is = refl
+    by false is = absurd (unwritten (short_step d is))
+
+pub long_octets : (d : ElementList) (octets : List ℕ) (b : Bool) → octets ≡ canonical Explicit d → nat_lt step_limit (length octets) ≡ b
+    → b ≡ is_too_long d
+unfolding is_too_long
+long_octets d octets b spelled long = sym long ∙ ap (λ (o : List ℕ). nat_lt step_limit (length o)) spelled
+
 -- ---- the rows afterwards
 
 -- what holds of the rows holds afterwards, if it does after the edits

@@ -1,35 +1,31 @@
 //! N-SET of a performed procedure step (PS3.4 section F.7.2.2).
-ghost use Rattle.std.specs.Prelude.{◌≡◌, Some, Ok, IfOk};
+ghost use Rattle.std.specs.Prelude.{◌≡◌, Some, Ok, IfOk, IfSome, is_none};
 ghost use Rattle.dq_dataset.specs.declared.header.Syntax.TheVariants.{Explicit};
-ghost use Rattle.dq_dataset.specs.Tree.{ElementList};
 ghost use Rattle.dq_dataset.specs.Reading.{reading};
-ghost use Rattle.dq_dataset.specs.Canonical.{canonical, HasLengths};
+ghost use Rattle.dq_dataset.specs.Canonical.{canonical};
 ghost use Rattle.dq_dataset.specs.Editing.{merged};
 ghost use Rattle.dq_dimse.specs.Holding.{plain_message};
 ghost use Rattle.dq_tables.specs.declared.row.Kind.TheVariants.{Step};
-ghost use Rattle.dq_tables.specs.Rows.{record_of, row_of};
+ghost use Rattle.dq_tables.specs.Rows.{row_of};
 ghost use Rattle.dq_tables.specs.Finding.{record_at};
 ghost use Rattle.dq_tables.specs.Sound.{IsChanged};
 ghost use Rattle.dq_tables.specs.Keeping.{Writes};
 ghost use Rattle.dq_tables.specs.Serving.{Serves, first_refusal};
 ghost use Rattle.dq_mpps.specs.Steps.{spelled_step};
-ghost use Rattle.dq_mpps.specs.Changing.{kept_data_set, is_too_long, attribute_refusals, changed};
+ghost use Rattle.dq_mpps.specs.Changing.{is_too_long, attribute_refusals, changed};
 ghost use Rattle.dq_mpps.specs.Views.{step_changed, with_put};
 
 use crate::attributes::changes_fixed;
 use crate::steps::{DATA_SET_LIMIT, Sent, is_ended, sends_unknown_status, step_row};
 use dq_config::Institution;
 use dq_dataset::laws::{editing_law, written_law};
-use dq_dataset::{DataSet, Syntax, write};
+use dq_dataset::{DataSet, Syntax, can_be_written, write};
 use dq_dimse::{Message, status};
-use dq_tables::{Change, Row, TableFault, Tables};
+use dq_tables::{Change, TableFault, Tables};
 use std::alloc::{AllocError, Global};
 
 /// A step is at most so many octets.
 const STEP_LIMIT: usize = 0x40_0000;
-
-/// What is kept is read if it has fewer octets than this.
-const READ_LIMIT: usize = 0x8000_0000;
 
 /// Changes a performed procedure step of the institution, and answers the status
 /// (PS3.4 section F.7.2.2). A refusal, and a fault of the tables or want of memory, change nothing.
@@ -63,7 +59,6 @@ fn set_step<T: Tables>(
     name: &[u8],
     sent: &Sent<'_>,
 ) -> Result<u16, TableFault>
-    requires { HasLengths Explicit sent.now.data_set.now }
     ensures { Serves (T.state tables.old) (T.state tables.new) name.now
         (λ records. step_changed sent.now.uid.now sent.now.data_set.now
         (record_at Step sent.now.uid.now records)) result }
@@ -71,27 +66,15 @@ fn set_step<T: Tables>(
     let Some(row) = tables.step(alloc, name, sent.uid)? else {
         return Ok(status::NO_SUCH_SOP_INSTANCE);
     };
-    let kept = kept_data_set(alloc, &row)?;
+    let kept = row.data_set(alloc)?;
     if let Some(status) = attribute_refusal(&kept, sent.data_set) {
         return Ok(status);
     }
-    let octets = merged_octets(alloc, &kept, sent.data_set)?;
-    if is_too_long(&octets) {
+    let Some(octets) = merged_octets(alloc, &kept, sent.data_set)? else {
         return Ok(status::RESOURCE_LIMITATION);
-    }
+    };
     change_step(alloc, tables, name, sent.uid, octets)?;
     Ok(status::SUCCESS)
-}
-
-/// The data set of a step that is kept. One of 2^31 octets or more is too long to be read.
-fn kept_data_set(alloc: Global, row: &Row) -> Result<DataSet, AllocError>
-    ensures data_set { IfOk result (λ d. d ≡ kept_data_set (Some (record_of row.now))) }
-    ensures lengths { IfOk result (λ d. HasLengths Explicit d) }
-{
-    if row.octets.len() >= READ_LIMIT {
-        return Err(AllocError);
-    }
-    row.data_set(alloc)
 }
 
 /// The status that refuses what is sent, by the step as it is kept.
@@ -107,29 +90,33 @@ fn attribute_refusal(kept: &DataSet, sent: &DataSet) -> Option<u16>
     None
 }
 
-/// The octets of a step after a change.
-fn merged_octets(alloc: Global, kept: &DataSet, sent: &DataSet) -> Result<Vec<u8>, AllocError>
-    requires kept { HasLengths Explicit kept.now }
-    requires sent { HasLengths Explicit sent.now }
-    ensures spelled { IfOk result (λ octets.
-        octets.items ≡ canonical Explicit (merged kept.now sent.now)) }
-    ensures read_back { IfOk result (λ octets.
-        reading Explicit octets.items ≡ Ok (merged kept.now sent.now)) }
+/// The octets of a step after a change, unless they are over the limit.
+#[tactic(auto, using(crate::proofs::StaysSound::unwritten_is_long, crate::proofs::StaysSound::long_octets))]
+fn merged_octets(
+    alloc: Global,
+    kept: &DataSet,
+    sent: &DataSet,
+) -> Result<Option<Vec<u8>>, AllocError>
+    ensures spelled { IfOk result (λ octets. IfSome octets (λ octets.
+        octets.items ≡ canonical Explicit (merged kept.now sent.now))) }
+    ensures read_back { IfOk result (λ octets. IfSome octets (λ octets.
+        reading Explicit octets.items ≡ Ok (merged kept.now sent.now))) }
+    ensures within { IfOk result (λ octets.
+        is_none octets ≡ is_too_long (merged kept.now sent.now)) }
 {
     editing_law();
     written_law();
     let (_kept, _sent) = (kept.elements(), sent.elements());
     let step = kept.merged(alloc, sent)?;
-    write(alloc, &step, Syntax::Explicit)
-}
-
-/// Whether the octets of a step are over the limit.
-#[tactic(auto, unfolding(crate::specs::Changing::is_too_long))]
-fn is_too_long(octets: &[u8]) -> bool
-    ensures { (step : ElementList) → octets.now ≡ canonical Explicit step
-        → result ≡ is_too_long step }
-{
-    octets.len() > STEP_LIMIT
+    // A step of which a length cannot be written is far over the limit.
+    if !can_be_written(&step, Syntax::Explicit) {
+        return Ok(None);
+    }
+    let octets = write(alloc, &step, Syntax::Explicit)?;
+    if octets.len() > STEP_LIMIT {
+        return Ok(None);
+    }
+    Ok(Some(octets))
 }
 
 /// Puts a step in the place of the one that is kept.

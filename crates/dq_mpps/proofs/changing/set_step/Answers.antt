@@ -1,4 +1,4 @@
-use Rattle.std.proofs.Common.{◌∙◌, List, [], ◌∷◌, sym, ap, subst}
+use Rattle.std.proofs.Common.{◌∙◌, is_none, List, [], ◌∷◌, sym, ap, subst}
 use Rattle.std.specs.Option.{option_map}
 use Rattle.std.proofs.lemmas.Result.{err_from_is_err_and}
 use Rattle.dq_dataset.specs.Editing.{merged}
@@ -11,7 +11,7 @@ use Rattle.dq_tables.proofs.Calling.{reads_right, serves_read, serves_refused, s
 use Rattle.dq_mpps.specs.Steps.{spelled_step}
 use Rattle.dq_mpps.proofs.Fitting.{kept_record, changed_fits}
 use Rattle.dq_mpps.specs.Views.{step_changed}
-use Rattle.dq_mpps.proofs.Outcomes.{refused_by, too_long, changed_to}
+use Rattle.dq_mpps.proofs.Outcomes.{at_some, refused_by, too_long, changed_to}
 use Rattle.dq_mpps.proofs.changing.set_step.Goals as goal
 
 pub returns-in_default : goal.returns-in_default
@@ -44,8 +44,8 @@ returns-in-Some-attribute_refusal g c =
     (λ h. ap (step_changed uid sent) (found h) ∙ refused_by uid sent (record_of c.in-Some.row) c.in_ok-kept.kept c.in_ok-kept.ensures.data_set status
     (sym c.attribute_refusal.ensures ∙ c.in-Some-attribute_refusal.is))
 
-pub returns-then-is_too_long : goal.returns-then-is_too_long
-returns-then-is_too_long g c =
+pub returns-in_default-2 : goal.returns-in_default-2
+returns-in_default-2 g c =
     let old = g.T.Tables.state c.args.tables.now in
     let mid = g.T.Tables.state c.step.new.self in
     let name = c.args.name.now in
@@ -58,7 +58,7 @@ returns-then-is_too_long g c =
     (reads_right old mid c.in_ok-row.field-0 0x0213 c.in_ok-row.ensures.reads)
     (λ h. ap (step_changed uid sent) (found h) ∙ too_long uid sent (record_of c.in-Some.row) c.in_ok-kept.kept c.in_ok-kept.ensures.data_set
     (sym c.attribute_refusal.ensures ∙ c.in_default-attribute_refusal.is)
-    (sym (c.is_too_long.ensures (merged c.in_ok-kept.kept sent) (c.deref.ensures.value ∙ c.in_ok-octets.ensures.spelled)) ∙ c.if-is_too_long.true))
+    (sym c.in_ok-octets.ensures.within ∙ ap is_none c.in_default-2.is))
 
 pub change_step-requires : goal.change_step-requires
 change_step-requires g c = λ h.
@@ -66,11 +66,11 @@ change_step-requires g c = λ h.
     let first = c.in_ok-row.ensures.reads in
     let was = first.goes.was_honest h in
     let uid = c.args.sent.now.uid.now in
-    let row = row_of c.args.name.now (spelled_step uid c.in_ok-octets.octets.items) in
+    let row = row_of c.args.name.now (spelled_step uid c.in-Some-2.octets.items) in
     subst (λ (rs : List Row). IsChanged rs Step row) (sym (first.same h))
-    (changed_fits c.args.name.now uid (merged c.in_ok-kept.kept c.args.sent.now.data_set.now) c.in_ok-octets.octets.items old.rows c.in-Some.row
-    (g.met.T.Tables.sound c.args.tables.now was).own (sym c.in-Some.is ∙ c.in_ok-row.ensures.found h) c.in_ok-octets.ensures.spelled
-    c.in_ok-octets.ensures.read_back)
+    (changed_fits c.args.name.now uid (merged c.in_ok-kept.kept c.args.sent.now.data_set.now) c.in-Some-2.octets.items old.rows c.in-Some.row
+    (g.met.T.Tables.sound c.args.tables.now was).own (sym c.in-Some.is ∙ c.in_ok-row.ensures.found h) (at_some _ _ _ c.in_ok-octets.ensures.spelled c.in-Some-2.is)
+    (at_some _ _ _ c.in_ok-octets.ensures.read_back c.in-Some-2.is))
 
 pub returns-in_err-change_step : goal.returns-in_err-change_step
 returns-in_err-change_step g c =
@@ -82,7 +82,7 @@ returns-in_err-change_step g c =
     let sent = c.args.sent.now.data_set.now in
     let e = c.in_err-change_step.field-0.0 in
     let does = λ (records : List Record). step_changed uid sent (record_at Step uid records) in
-    let put : List Edit = Put (spelled_step uid c.in_ok-octets.octets.items) ∷ [] in
+    let put : List Edit = Put (spelled_step uid c.in-Some-2.octets.items) ∷ [] in
     let left = err_from_is_err_and c.from_residual-in_err-change_step.result c.from_residual-in_err-change_step.ensures.1 in
     let found = λ (h : mid.honest). kept_record name uid old.rows c.in_ok-row.field-0 (c.in_ok-row.ensures.found h)
     ∙ ap (option_map record_of) c.in-Some.is in
@@ -90,8 +90,8 @@ returns-in_err-change_step g c =
     c.in_err-change_step.ensures
     (λ h. ap (step_changed uid sent) (found h) ∙ changed_to uid sent (record_of c.in-Some.row) c.in_ok-kept.kept c.in_ok-kept.ensures.data_set
     (sym c.attribute_refusal.ensures ∙ c.in_default-attribute_refusal.is)
-    (sym (c.is_too_long.ensures (merged c.in_ok-kept.kept sent) (c.deref.ensures.value ∙ c.in_ok-octets.ensures.spelled)) ∙ c.if-is_too_long.false)
-    c.in_ok-octets.octets.items c.in_ok-octets.ensures.spelled))
+    (sym c.in_ok-octets.ensures.within ∙ ap is_none c.in-Some-2.is)
+    c.in-Some-2.octets.items (at_some _ _ _ c.in_ok-octets.ensures.spelled c.in-Some-2.is)))
 
 pub returns : goal.returns
 returns g c =
@@ -102,12 +102,12 @@ returns g c =
     let uid = c.args.sent.now.uid.now in
     let sent = c.args.sent.now.data_set.now in
     let does = λ (records : List Record). step_changed uid sent (record_at Step uid records) in
-    let put : List Edit = Put (spelled_step uid c.in_ok-octets.octets.items) ∷ [] in
+    let put : List Edit = Put (spelled_step uid c.in-Some-2.octets.items) ∷ [] in
     let found = λ (h : mid.honest). kept_record name uid old.rows c.in_ok-row.field-0 (c.in_ok-row.ensures.found h)
     ∙ ap (option_map record_of) c.in-Some.is in
     serves_written name does old mid new c.in_ok-row.field-0 0 put c.in_ok-row.ensures.reads
     c.in_ok-change_step.ensures
     (λ h. ap (step_changed uid sent) (found h) ∙ changed_to uid sent (record_of c.in-Some.row) c.in_ok-kept.kept c.in_ok-kept.ensures.data_set
     (sym c.attribute_refusal.ensures ∙ c.in_default-attribute_refusal.is)
-    (sym (c.is_too_long.ensures (merged c.in_ok-kept.kept sent) (c.deref.ensures.value ∙ c.in_ok-octets.ensures.spelled)) ∙ c.if-is_too_long.false)
-    c.in_ok-octets.octets.items c.in_ok-octets.ensures.spelled)
+    (sym c.in_ok-octets.ensures.within ∙ ap is_none c.in-Some-2.is)
+    c.in-Some-2.octets.items (at_some _ _ _ c.in_ok-octets.ensures.spelled c.in-Some-2.is))
