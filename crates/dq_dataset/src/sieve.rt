@@ -1,8 +1,11 @@
 //! Data sets sifted as they come (PS3.5 section 7).
-ghost use Rattle.std.specs.Prelude.{◌≡◌, ◌<◌, ◌≤◌, ◌||◌, ◌++◌, List, ℕ, [], ◌∷◌, length, take, true, IfOk, OnOk};
+ghost use Rattle.std.specs.Prelude.{◌≡◌, ◌<◌, ◌≤◌, ◌||◌, ◌++◌, List, ℕ, [], ◌∷◌, length, take, true, IfOk, OnOk, OnErr, IsErr};
 ghost use Rattle.dq_vr.specs.declared.Tag.{Tag};
 ghost use Rattle.dq_dataset.specs.declared.header.Syntax.{Syntax};
+ghost use Rattle.dq_dataset.specs.declared.fault.ReadFault.TheVariants.{NoMemory};
+ghost use Rattle.dq_dataset.specs.declared.sieve.SieveState.TheVariants.{Spent};
 ghost use Rattle.dq_dataset.specs.declared.sieve.Sifted.{Sifted};
+ghost use Rattle.dq_dataset.specs.declared.sieve.Sifted.TheVariants.{Fault};
 ghost use Rattle.dq_dataset.specs.declared.sieve.Outer.{Outer};
 ghost use Rattle.dq_dataset.specs.Reading.{may_nest};
 ghost use Rattle.dq_dataset.specs.Grammar.{IsPlaced, IsHeader};
@@ -128,11 +131,13 @@ impl Sieve {
     ///
     /// # Errors
     ///
-    /// Where memory ran out, the sieve fails from then on.
+    /// Where memory ran out, the sieve is spent, and fails from then on.
     pub fn feed(&mut self, octets: &[u8]) -> Result<(), AllocError>
-        ensures { (syntax : Syntax) (tags : List Tag) (fed : List ℕ)
+        ensures fed { (syntax : Syntax) (tags : List Tag) (fed : List ℕ)
             → SieveAfter syntax tags fed self.old
             → OnOk result (SieveAfter syntax tags (fed ++ octets.now) self.new) }
+        ensures err { OnErr result (self.new.1 ≡ Spent) }
+        ensures spent { self.old.1 ≡ Spent → IsErr result }
     {
         match mem::replace(&mut self.state, SieveState::Spent) {
             SieveState::Sifting(outer, stage) => {
@@ -148,8 +153,9 @@ impl Sieve {
     /// they were cut, or their first fault. It takes no memory. Where memory ran out before, it is
     /// the fault `NoMemory`.
     pub fn finish(self) -> Sifted
-        ensures { (syntax : Syntax) (tags : List Tag) (fed : List ℕ)
+        ensures sifted { (syntax : Syntax) (tags : List Tag) (fed : List ℕ)
             → SieveAfter syntax tags fed self → IsSifted syntax tags fed result }
+        ensures spent { self.1 ≡ Spent → result ≡ Fault NoMemory }
     {
         let Sieve { state, .. } = self;
         match state {

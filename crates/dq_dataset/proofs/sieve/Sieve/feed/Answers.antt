@@ -12,8 +12,8 @@ invariant_of-self-in-Sifting c =
     is_fed_on tags c.args.octets.now before.outer after.outer before.stage after.stage
     (subst (λ (h : SieveState). IsSieve tags h) (sym before.ensures.value) c.self.invariant) after.ensures
 
-pub returns-in_ok-outer-in-Sifting : goal.returns-in_ok-outer-in-Sifting
-returns-in_ok-outer-in-Sifting c = λ syntax tags fed fed_so.
+pub returns-in_ok-outer-in-Sifting-clause-fed : goal.returns-in_ok-outer-in-Sifting-clause-fed
+returns-in_ok-outer-in-Sifting-clause-fed c = λ syntax tags fed fed_so.
     let before = c.in-Sifting in
     let after = c.in_ok-outer-in-Sifting in
     fed_after syntax tags c.self.inside.tags.now fed c.args.octets.now c.self.inside.state c.args.self.now before.outer after.outer before.stage after.stage

@@ -10,20 +10,20 @@ from_elements-requires c =
     let s = rw now.is at c.self.invariant in
     kept_is_data_set now.outer.syntax tags s.0 now.outer now.stage (λ octets answer m. c.in-None.ensures tags now.outer octets answer m) s.1 c.if-outer.false
 
-pub returns-in-Some : goal.returns-in-Some
-returns-in-Some c = λ syntax tags fed after.
+pub returns-in-Some-clause-sifted : goal.returns-in-Some-clause-sifted
+returns-in-Some-clause-sifted c = λ syntax tags fed after.
     let now = c.in-Sifting in
     let f = state_is syntax tags c.self.inside.tags.now fed c.self.inside.state c.args.self now.outer now.stage c.self.view_is now.is after in
     ends syntax tags fed now.outer now.stage (Fault c.in-Some.fault) f (c.in-Some.ensures tags now.outer f.sound)
 
-pub returns-in-None : goal.returns-in-None
-returns-in-None c = λ syntax tags fed after.
+pub returns-in-None-clause-sifted : goal.returns-in-None-clause-sifted
+returns-in-None-clause-sifted c = λ syntax tags fed after.
     let now = c.in-Sifting in
     let f = state_is syntax tags c.self.inside.tags.now fed c.self.inside.state c.args.self now.outer now.stage c.self.view_is now.is after in
     ends_large syntax tags fed now.outer now.stage (λ octets answer m. c.in-None.ensures tags now.outer octets answer m) f c.if-outer.true
 
-pub returns-in-None-2 : goal.returns-in-None-2
-returns-in-None-2 c = λ syntax tags fed after.
+pub returns-in-None-2-clause-sifted : goal.returns-in-None-2-clause-sifted
+returns-in-None-2-clause-sifted c = λ syntax tags fed after.
     let now = c.in-Sifting in
     let f = state_is syntax tags c.self.inside.tags.now fed c.self.inside.state c.args.self now.outer now.stage c.self.view_is now.is after in
     rw c.from_elements.ensures

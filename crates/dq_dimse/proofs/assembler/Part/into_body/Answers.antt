@@ -6,4 +6,4 @@ use Rattle.dq_dimse.proofs.assembler.Part.into_body.Goals as goal
 pub returns-in-Sifting-clause-body : goal.returns-in-Sifting-clause-body
 returns-in-Sifting-clause-body c = λ syntax message h.
     let held = subst (λ (p : Part). PartStandsFor syntax p message) c.in-Sifting.is h in
-    c.finish.ensures syntax _ message.octets held.3
+    c.finish.ensures.sifted syntax _ message.octets held.3

@@ -13,4 +13,4 @@ returns-in_ok-feed-in-Sifting-clause-value c = λ syntax message h e.
     let fits = c.if-fragment-room.false in
     let joined = length-append message.octets fragment in
     part_fed syntax (part.Sifting _ _) message fragment held.1 (omega (arith, room, fits, joined))
-    (held.0, refl, omega (arith, room, fits, joined), c.in_ok-feed-in-Sifting.ensures syntax _ message.octets held.3)
+    (held.0, refl, omega (arith, room, fits, joined), c.in_ok-feed-in-Sifting.ensures.fed syntax _ message.octets held.3)
