@@ -1,18 +1,21 @@
 -- A run of a history, event by event.
 use Rattle.std.proofs.Common.{◌≡◌, ℕ, suc, false, IsTrue, List, [], ◌∷◌, ◌++◌, length, take, Option, Some, None, Result, Ok, Err, inl, inr, refl, sym, ap, ◌∙◌, append_assoc}
+use Rattle.std.specs.Prelude.{Contains}
 use Rattle.std.specs.Result.{result_err, MatchResult, OnOk, OnErr}
 use Rattle.std.proofs.lemmas.List.{length-append}
 use Rattle.std.proofs.Math.Seq.{take-append_seam, drop-append_seam, take-length}
 use Rattle.dq_config.specs.declared.config.Institution.{Institution}
 use Rattle.dq_tables.specs.declared.row.Row.{Row}
-use Rattle.dq_tables.specs.Rows.{Operation, after_all}
+use Rattle.dq_tables.specs.Rows.{Operation, after_all, IsRising}
 use Rattle.dq_tables.specs.Keeping.{State, IsSettled}
 use Rattle.dq_core.specs.declared.event.Event.{Event}
 use Rattle.dq_core.specs.declared.event.Event.TheVariants as event
 use Rattle.dq_core.specs.declared.event.Reply.{Reply}
 use Rattle.dq_core.specs.declared.fault.Fault.{Fault}
 use Rattle.dq_core.specs.Shared.{World, turn, world_after_turn, replies_from, opening, replies, world_after, operations_next, rows_within}
-use Rattle.dq_core.specs.Histories.{is_above, newest_after, rises_from}
+use Rattle.dq_core.specs.Histories.{is_above, newest_after, rises_from, is_well_formed}
+use Rattle.dq_core.specs.Owners.{HaveOwnNames}
+use Rattle.dq_core.specs.Isolation.{Begins}
 use Rattle.dq_core.specs.Stepping.{Opens, TakesNoMemory, Goes, MayLeave, IsPartOf}
 use Rattle.dq_core.specs.Runs.{IsRun, IsLeftOf, FaultsAfter}
 use Rattle.dq_core.specs.Standing.{Standing, StandsFor}
@@ -188,3 +191,8 @@ without-err (Err f) fault e n p = cc
 pub with-fault : {A : Type 0} {P : Type 0} (r : Result A Fault) (fault : Option Fault) → fault ≡ result_err r → (fault ≡ None → ⊥) → OnErr r P → P
 with-fault (Ok a) fault e n p = absurd (n e)
 with-fault (Err f) fault e n p = p
+
+-- a history of a configuration begins
+pub begun : {institutions : List Institution} {rows : List Row} {events : List Event} (i : Institution) → HaveOwnNames institutions
+    → Contains institutions i → IsRising rows → IsTrue (is_well_formed events) → Begins institutions rows events i
+begun i names listed rising formed = record { own_names = names; listed = listed; rising = rising; well_formed = formed }

@@ -509,5 +509,6 @@ pub fn run<T: Tables + Drop>(
     institutions_are_isolated();
     institutions_have_own_names();
     config.is_sound();
-    Ok(answer_history(alloc, config, tables, events))
+    let outcome = answer_history(alloc, config, tables, events);
+    Ok(outcome)
 }

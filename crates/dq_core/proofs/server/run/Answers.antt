@@ -1,63 +1,53 @@
-use Rattle.std.proofs.Common.{◌≡◌, None, ap, ◌∙◌}
-use Rattle.std.specs.Prelude.{Contains}
-use Rattle.dq_config.specs.declared.config.Institution.{Institution}
+use Rattle.std.proofs.Common.{ap, ◌∙◌}
 use Rattle.dq_tables.specs.Rows.{of}
-use Rattle.dq_core.specs.Shared.{replies}
 use Rattle.dq_core.specs.Own.{is_own, replies_at}
-use Rattle.dq_core.specs.Isolation.{Begins}
-use Rattle.dq_core.proofs.Running.{all-replies}
-use Rattle.dq_core.proofs.server.run.Given.{Over}
+use Rattle.dq_core.proofs.Running.{all-replies, begun}
 use Rattle.dq_core.proofs.server.run.Goals as goal
 
-all : (g : Over) (c : goal.After-answer_history g) → (g.T.Tables.state c.answer_history.result.tables).honest → c.answer_history.result.fault ≡ None
-    → c.answer_history.result.replies ≡ replies c.args.config (g.T.Tables.state c.args.tables).rows c.args.events.items
-all g c h n =
-    all-replies c.args.config (g.T.Tables.state c.args.tables).rows c.args.events.items c.answer_history.result.replies
-    (g.T.Tables.state c.answer_history.result.tables).rows (c.answer_history.ensures.ran h) (c.answer_history.ensures.answered n)
-
-begins : (g : Over) (c : goal.After-answer_history g) → (g.T.Tables.state c.answer_history.result.tables).honest → (i : Institution) → Contains c.args.config i
-    → Begins c.args.config (g.T.Tables.state c.args.tables).rows c.args.events.items i
-begins g c h i k = record {
-  own_names = c.institutions_have_own_names.ensures c.args.config c.is_sound.ensures;
-  listed = k;
-  rising = (g.met.T.Tables.sound c.args.tables (c.answer_history.ensures.was_honest h)).rising;
-  well_formed = c.requires.formed;
-}
-
 pub returns-clause-replies : goal.returns-clause-replies
-returns-clause-replies g c = all g c
+returns-clause-replies g c = λ h n.
+    all-replies c.args.config (g.T.Tables.state c.args.tables).rows c.args.events.items c.answer_history-outcome.result.replies
+    (g.T.Tables.state c.answer_history-outcome.result.tables).rows (c.answer_history-outcome.ensures.ran h) (c.answer_history-outcome.ensures.answered n)
 
 pub returns-clause-rows : goal.returns-clause-rows
-returns-clause-rows g c = c.answer_history.ensures.rows
+returns-clause-rows g c = c.answer_history-outcome.ensures.rows
 
 pub returns-clause-ran : goal.returns-clause-ran
-returns-clause-ran g c = c.answer_history.ensures.ran
+returns-clause-ran g c = c.answer_history-outcome.ensures.ran
 
 pub returns-clause-faulted : goal.returns-clause-faulted
-returns-clause-faulted g c = c.answer_history.ensures.faulted
+returns-clause-faulted g c = c.answer_history-outcome.ensures.faulted
 
 pub returns-clause-settled : goal.returns-clause-settled
-returns-clause-settled g c = c.answer_history.ensures.settled
+returns-clause-settled g c = c.answer_history-outcome.ensures.settled
 
 pub returns-clause-crash : goal.returns-clause-crash
-returns-clause-crash g c = c.answer_history.ensures.crash
+returns-clause-crash g c = c.answer_history-outcome.ensures.crash
 
 pub returns-clause-own : goal.returns-clause-own
 returns-clause-own g c = λ h i k.
-    c.runs_are_isolated.ensures.own c.args.config (g.T.Tables.state c.args.tables).rows c.args.events.items c.answer_history.result.replies
-    (g.T.Tables.state c.answer_history.result.tables).rows (c.answer_history.ensures.ran h) i (begins g c h i k)
+    c.runs_are_isolated.ensures.own c.args.config (g.T.Tables.state c.args.tables).rows c.args.events.items c.answer_history-outcome.result.replies
+    (g.T.Tables.state c.answer_history-outcome.result.tables).rows (c.answer_history-outcome.ensures.ran h) i
+    (begun i (c.institutions_have_own_names.ensures c.args.config c.is_sound.ensures) k
+    (g.met.T.Tables.sound c.args.tables (c.answer_history-outcome.ensures.was_honest h)).rising c.requires.formed)
 
 pub returns-clause-own_replies : goal.returns-clause-own_replies
 returns-clause-own_replies g c = λ h n i k.
-    ap (replies_at (is_own c.args.config i.name c.args.events.items) c.args.events.items) (all g c h n)
-    ∙ c.institutions_are_isolated.ensures.replies c.args.config (g.T.Tables.state c.args.tables).rows c.args.events.items i (begins g c h i k)
+    let given = all-replies c.args.config (g.T.Tables.state c.args.tables).rows c.args.events.items c.answer_history-outcome.result.replies
+    (g.T.Tables.state c.answer_history-outcome.result.tables).rows (c.answer_history-outcome.ensures.ran h) (c.answer_history-outcome.ensures.answered n) in
+    ap (replies_at (is_own c.args.config i.name c.args.events.items) c.args.events.items) given
+    ∙ c.institutions_are_isolated.ensures.replies c.args.config (g.T.Tables.state c.args.tables).rows c.args.events.items i
+    (begun i (c.institutions_have_own_names.ensures c.args.config c.is_sound.ensures) k
+    (g.met.T.Tables.sound c.args.tables (c.answer_history-outcome.ensures.was_honest h)).rising c.requires.formed)
 
 pub returns-clause-own_records : goal.returns-clause-own_records
 returns-clause-own_records g c = λ h n i k.
-    ap (of i.name) (c.answer_history.ensures.rows h n)
-    ∙ c.institutions_are_isolated.ensures.records c.args.config (g.T.Tables.state c.args.tables).rows c.args.events.items i (begins g c h i k)
+    ap (of i.name) (c.answer_history-outcome.ensures.rows h n)
+    ∙ c.institutions_are_isolated.ensures.records c.args.config (g.T.Tables.state c.args.tables).rows c.args.events.items i
+    (begun i (c.institutions_have_own_names.ensures c.args.config c.is_sound.ensures) k
+    (g.met.T.Tables.sound c.args.tables (c.answer_history-outcome.ensures.was_honest h)).rising c.requires.formed)
 
 pub returns-clause-strangers : goal.returns-clause-strangers
 returns-clause-strangers g c = λ h number none.
-    c.runs_are_isolated.ensures.strangers c.args.config (g.T.Tables.state c.args.tables).rows c.args.events.items c.answer_history.result.replies
-    (g.T.Tables.state c.answer_history.result.tables).rows (c.answer_history.ensures.ran h) number none c.requires.formed
+    c.runs_are_isolated.ensures.strangers c.args.config (g.T.Tables.state c.args.tables).rows c.args.events.items c.answer_history-outcome.result.replies
+    (g.T.Tables.state c.answer_history-outcome.result.tables).rows (c.answer_history-outcome.ensures.ran h) number none c.requires.formed
