@@ -13,7 +13,7 @@ use Rattle.sqlite_trees.specs.Tree.{put_row, rowid}
 use Rattle.sqlite_trees.specs.View.{is_int}
 use Rattle.sqlite_trees.proofs.TreeLemmas.{all-put_row}
 use Rattle.sqlite_rules.specs.Edit.{is_taken, next_rowid}
-use Rattle.sqlite.specs.Effect.{Database}
+use Rattle.sqlite.specs.Effect.{Database, IsDatabase}
 use Rattle.dq_tables.specs.declared.row.Kind.{Kind}
 use Rattle.dq_tables.specs.declared.row.Kind.TheVariants.{Study, Series, Image, Entry, Step}
 use Rattle.dq_tables.specs.declared.row.Row.{Row}
@@ -94,17 +94,18 @@ module _ (row : Row) (id : ℤ) where
 
   -- A row is put among those that hold the rows at other places.
   pub placed : (d e : Database) (old : List Values) (rows : List Row) → HasRows d rows
-      → e.schema ≡ kept_schema → e.trees 2 ≡ d.trees 2 → e.trees 0 ≡ put_row (Int id ∷ columns_of row) old → is_taken old (Int id ∷ columns_of row) ≡ false
+      → e.schema ≡ kept_schema → IsDatabase e → e.trees 2 ≡ d.trees 2 → e.trees 0 ≡ put_row (Int id ∷ columns_of row) old → is_taken old (Int id ∷ columns_of row) ≡ false
       → IsDistinct same_id old → AllByRecursion (λ r. IsTrue (is_int (rowid r))) old → AllByRecursion IsKept old
       → IsPermutation (map kept_of old) (rows_elsewhere (row_place_of row) rows)
       → HasRows e (after_edit row.inst (Put (record_of row)) rows)
-  placed d e old rows has schema version is fresh apart ids kept same =
+  placed d e old rows has schema database version is fresh apart ids kept same =
       let new = Int id ∷ columns_of row in
       let is_kept : IsKept new = subst (λ (x : Row). Holds Two x new) (sym columns_kept) columns_hold in
       let held : IsPermutation (map kept_of (put_row new old)) (row ∷ map kept_of old) =
       subst (λ (x : Row). IsPermutation (map kept_of (put_row new old)) (x ∷ map kept_of old)) columns_kept (IsPermutation-map kept_of _ _ (put_is new old fresh)) in
       record {
         version_is = record { schema = schema; says = rw version has.version_is.says };
+        database = database;
         table = record {
           apart = rw is (apart_put new old (untaken new old fresh) apart);
           ids = rw is (all-put_row (λ r. IsTrue (is_int (rowid r))) new old refl ids);
@@ -116,5 +117,5 @@ module _ (row : Row) (id : ℤ) where
 
 pub added : (d e : Database) (row : Row) → Inserted d e (numbered_cells d row) → Adds d e row
 added d e row it rows has free =
-    placed row (next_rowid (d.trees 0)) d e (d.trees 0) rows has it.schema it.version it.rows it.fresh has.table.apart has.table.ids has.table.kept
+    placed row (next_rowid (d.trees 0)) d e (d.trees 0) rows has it.schema it.database it.version it.rows it.fresh has.table.apart has.table.ids has.table.kept
     (subst (IsPermutation (map kept_of (d.trees 0))) (sym (free_is row.kind row.inst row.key rows free)) has.table.same)

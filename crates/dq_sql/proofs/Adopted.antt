@@ -15,10 +15,8 @@ use Rattle.dq_sql.specs.Adopting.{IsFound}
 -- trees that are those of a database with rows have the rows
 under : (d : Database) (trees : Trees) (rows : List Row) → HasRows d rows → trees ≡ d.trees → HasRows (under_schema trees) rows
 under d trees rows has same =
-    subst (λ t. HasRows (under_schema t) rows) (sym same) (record {
-      version_is = record { schema = refl; says = has.version_is.says };
-      table = has.table;
-    })
+    subst (λ t. HasRows (under_schema t) rows) (sym same)
+    (subst (λ s. let x : Database = record { schema = s; trees = d.trees } in HasRows x rows) has.version_is.schema has)
 
 -- while a store is open, a crash leaves what it committed
 abbrev pub LeavesCommit : State → Type 0

@@ -12,7 +12,7 @@ use Rattle.sqlite_schema.specs.declared.command.Command.TheVariants.{Insert}
 use Rattle.sqlite_rules.specs.declared.error.Rowids.TheVariants.{Chosen}
 use Rattle.sqlite_rules.specs.Cast.{cast}
 use Rattle.sqlite_rules.specs.Edit.{Edit, edit_of, is_taken, next_rowid, Applies}
-use Rattle.sqlite.specs.Effect.{Database}
+use Rattle.sqlite.specs.Effect.{Database, IsDatabase}
 use Rattle.sqlite.specs.Rows.{Written}
 use Rattle.sqlite.specs.Does.{Tally, Does}
 use Rattle.sqlite.specs.Listing.{understood}
@@ -52,6 +52,7 @@ same_value e = cc
 -- a row with a rowid that none has is put in
 pub record Inserted (d e : Database) (r : Values) : Type 0 where
   pub schema : e.schema ≡ kept_schema
+  pub database : IsDatabase e
   pub rows : e.trees 0 ≡ put_row r (d.trees 0)
   pub fresh : is_taken (d.trees 0) r ≡ false
   pub version : e.trees 2 ≡ d.trees 2
@@ -91,6 +92,7 @@ inserted old new row count has h =
     let applied = subst (λ edit. Applies kept_schema Enforced db edit written.0) news (one_step kept_schema Enforced db written.0 made refl written.1) in
     record {
       schema = ap (λ (d : Database). d.schema) now;
+      database = w.sound;
       rows = ap (λ (d : Database). d.trees 0) now ∙ ap (λ (t : Trees). t 0) trees ∙ applied.rows;
       fresh = not_so (is_taken (db 0) put) applied.fresh;
       version = ap (λ (d : Database). d.trees 2) now ∙ ap (λ (t : Trees). t 2) trees ∙ applied.tables.1.0 (λ e. absurd (omega arith));

@@ -34,3 +34,6 @@ pub mod Written
 mod Sounding
 mod Apart
 mod Adopted
+mod Copied
+pub mod OneSchema
+pub mod Restarted

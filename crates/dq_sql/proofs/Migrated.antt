@@ -1,10 +1,8 @@
 -- What a migration leaves of two stores.
-use Rattle.std.proofs.Common.{◌≡◌, ap, ◌⊎◌, inl, inr, List, IsTrue, Result, Ok, Err, IfErr, refl, sym, ◌∙◌, arith}
+use Rattle.std.proofs.Common.{◌≡◌, ap, ◌⊎◌, inl, inr, false, List, IsTrue, Result, Ok, Err, IfErr, refl, sym, ◌∙◌, arith}
 use Rattle.std.specs.Prelude.{IsErrAnd}
-use Rattle.sqlite_trees.specs.declared.store.Store.{Ghosts}
 use Rattle.sqlite_trees.specs.Tree.{Trees}
 use Rattle.sqlite.specs.State.{State, HasCleanDisk, Survives}
-use Rattle.sqlite.specs.Held.{Held, state}
 use Rattle.sqlite.proofs.StateLemmas.{survives_weaker}
 use Rattle.dq_tables.specs.declared.row.Row.{Row}
 use Rattle.dq_sql.specs.declared.fault.StoreFault.{StoreFault}
@@ -14,7 +12,7 @@ use Rattle.dq_sql.specs.declared.migrate_fault.MigrateFault.TheVariants.{NoMemor
 use Rattle.dq_sql.specs.declared.version.Version.TheVariants.{One}
 use Rattle.dq_sql.specs.Tie.{IsOfVersion, HasRowsOf, IsAtRest, IsSame, Stays}
 use Rattle.dq_tables.specs.Sound.{IsSound}
-use Rattle.dq_sql.specs.Filling.{HasThese}
+use Rattle.dq_sql.specs.Filling.{HasThese, IsNotMade}
 use Rattle.dq_sql.specs.Migration.{fault_of, IsMigrated, IsNotTaken, IsNotMigrated}
 
 pub survives_itself : (s : State) (P : Trees → Type 0) → Survives s s P
@@ -79,29 +77,22 @@ told_by old left store.BadRows wrong said bad = record {
   bad = λ clean is. bad clean refl;
 }
 
-module _ {S : Type 0} (g : Ghosts S) (old left : Held S) (stays : Stays (state g old) (state g left)) where
-  -- a refusal before the new store is touched
-  pub untouched : (new : Held S) (fault : MigrateFault) → IsNotTaken (state g old) (state g left) fault → IsNotMigrated g old new fault
-  untouched new fault taken = record {
-    old_left = left;
-    stays = stays;
-    not_taken = taken;
-    new_left = new;
-    survives = survives_itself (state g new) _;
-    same = λ clean opened rest. same_itself (state g new) opened;
-  }
+-- a refusal before the new store is touched
+pub untouched : (old left new : State) → IsNotMigrated old left new new
+untouched old left new = record {
+  survives = survives_itself new _;
+  mode = λ out. out;
+  same = λ clean opened rest. same_itself new opened;
+}
 
-  module _ (rows : List Row) (are : HasCleanDisk (state g left) → IsMigrated (state g old) rows) where
-    -- the new store is not made
-    pub not_filled : (new after : Held S) (cause : StoreFault) → (cause ≡ store.NoMemory) ⊎ (cause ≡ store.Store)
-        → Survives (state g new) (state g after) (HasThese rows)
-        → (HasCleanDisk (state g after) → IsTrue (state g after).is_open → IsAtRest (state g new) → IsSame (state g new) (state g after))
-        → IsNotMigrated g old new (fault_of cause)
-    not_filled new after cause plain survives same = record {
-      old_left = left;
-      stays = stays;
-      not_taken = not_blamed (state g old) (state g left) (fault_of cause) (plain_fault cause plain);
-      new_left = after;
-      survives = survives_weaker (state g new) (state g after) _ _ (λ _ trees has clean. record { rows = rows; are = are clean; has = has }) survives;
-      same = same;
-    }
+-- the new store is not made
+pub not_filled : (old left new after : State) (rows : List Row) → (HasCleanDisk left → IsMigrated old rows) → Survives new after (HasThese rows)
+    → after.in_transaction ≡ false → (HasCleanDisk after → IsTrue after.is_open → IsAtRest new → IsSame new after) → IsNotMigrated old left new after
+not_filled old left new after rows are survives mode same = record {
+  survives = survives_weaker new after _ _ (λ _ trees has clean. record { rows = rows; are = are clean; has = has }) survives;
+  mode = λ _. mode;
+  same = same;
+}
+
+pub unmade_itself : (s : State) (rows : List Row) → IsNotMade s s rows
+unmade_itself s rows = record { survives = survives_itself s _; mode = λ out. out; same = λ clean opened rest. same_itself s opened }

@@ -106,6 +106,7 @@ removed d e kind institution key it rows has =
     ] in
     record {
       version_is = record { schema = it.edits.schema; says = rw it.edits.version has.version_is.says };
+      database = it.edits.database;
       table = record {
         apart = rw left (apart_filter _ (d.trees 0) has.table.apart);
         ids = rw left (each_filtered _ _ (d.trees 0) has.table.ids);
@@ -138,7 +139,7 @@ moved_one d e row params project it rows has x one shows =
     let is : e.trees 0 ≡ put_row new left = it.edits.rows ∙ ap (λ l. put_all l (recasts it.found)) base ∙ ap (put_all left) news in
     let fresh : are_fresh left (new ∷ []) ≡ true =
     sym (ap (λ l. are_fresh l (recasts it.found)) base ∙ ap (are_fresh left) news) ∙ it.edits.fresh in
-    placed row id d e left rows has it.edits.schema it.edits.version is (not_so (is_taken left new) fresh)
+    placed row id d e left rows has it.edits.schema it.edits.database it.edits.version is (not_so (is_taken left new) fresh)
     (apart_filter _ (d.trees 0) has.table.apart) (each_filtered _ _ (d.trees 0) has.table.ids) (each_filtered IsKept _ (d.trees 0) has.table.kept)
     (others_same p (d.trees 0) rows has.table.same)
 
@@ -181,6 +182,7 @@ module _ (d e : Database) (institution key : List ℕ) (it : Updated d e (place 
       it.edits.rows ∙ ap (λ l. put_all (without_all (d.trees 0) (ids_of l)) (map (λ s. cast_row (kept_table Two) (drop 1 s)) l)) nothing in
       subst (HasRows e) (sym (start_of_none institution key rows has.table.rising free)) (record {
         version_is = record { schema = it.edits.schema; says = rw it.edits.version has.version_is.says };
+        database = it.edits.database;
         table = subst (λ t. HoldsRows Two t rows) (sym is) has.table;
       })
 

@@ -128,11 +128,14 @@ says_version old new count h has =
     let two : db 2 ≡ [] → edited db (edit given.0) ≡ (Int (pos 1) ∷ Int (pos 2) ∷ []) ∷ [] =
     λ none. ap (λ all. edited db (edit all)) given.1.1 ∙ rw (none, cast_null, cast_two) in (
       ap (λ (d : Database). d.trees 0) now ∙ ap (λ (t : Trees). t 0) trees ∙ step.tables.0 zero_not_two,
-      λ none. record {
-        schema = ap (λ (d : Database). d.schema) now;
-        says = ap (λ (d : Database). map (λ r. column r 1) (d.trees 2)) now ∙ ap (λ (t : Trees). map (λ r. column r 1) (t 2)) trees
-            ∙ ap (map (λ r. column r 1)) (step.rows ∙ two none);
-      },
+      λ none. (
+        record {
+          schema = ap (λ (d : Database). d.schema) now;
+          says = ap (λ (d : Database). map (λ r. column r 1) (d.trees 2)) now ∙ ap (λ (t : Trees). map (λ r. column r 1) (t 2)) trees
+              ∙ ap (map (λ r. column r 1)) (step.rows ∙ two none);
+        },
+        w.sound,
+      ),
     )
 
 -- what a statement made that was executed inside a transaction
@@ -181,7 +184,8 @@ whole_store a b c d e one two three four has =
     let said = four index.0 in
     let none : e.trees 0 ≡ [] = said.0 ∙ (index.1 ∙ (version.1 ∙ kept.1)) in
     record {
-      version_is = said.1 (index.2 ∙ version.2);
+      version_is = (said.1 (index.2 ∙ version.2)).0;
+      database = (said.1 (index.2 ∙ version.2)).1;
       table = record {
         apart = rw none tt;
         ids = rw none tt;

@@ -8,6 +8,7 @@ use Rattle.std.specs.declared.cmp.Ordering.TheVariants.{Less, Equal, Greater}
 use Rattle.std.proofs.lemmas.List.Sorted.{IsPermutation-sym, IsPermutation-trans, IsPermutation-cons, IsPermutation-refl, IsPermutation-to_front, Contains-permutation}
 use Rattle.std.proofs.lemmas.Map.Keys.{IsDistinct-IsPermutation}
 use Rattle.sqlite_value.specs.Order.{Row as Values}
+use Rattle.dq_dataset.specs.Grammar.{AreOctets}
 use Rattle.dq_tables.specs.declared.row.Kind.{Kind}
 use Rattle.dq_tables.specs.declared.row.Row.{Row}
 use Rattle.dq_tables.specs.Rows.{IsRising, place, row_place_of, row_place_order, after_edit, Put, record_of}
@@ -19,7 +20,7 @@ use Rattle.dq_tables.proofs.Members.{added_has}
 use Rattle.dq_sql.specs.declared.fault.StoreFault.{StoreFault}
 use Rattle.dq_sql.specs.declared.version.Version.{Version}
 use Rattle.dq_sql.specs.Tie.{kept_of}
-use Rattle.dq_sql.specs.Adopting.{IsTaken, IsGood, AreGood}
+use Rattle.dq_sql.specs.Adopting.{HoldOctets, IsTaken, IsGood, AreGood}
 
 within : {X : Type 0} (xs : List X) (at : ℕ) → at < length xs → is_some (slice_get xs at) ≡ true
 within [] at h = absurd (omega arith)
@@ -73,6 +74,11 @@ each_from P (x ∷ xs) f = (f x (head_in x xs), each_from P xs (λ y h. f y (tai
 pub each_moved : {X : Type 0} (P : X → Type 0) (xs ys : List X) → IsPermutation xs ys → AllByRecursion P xs → AllByRecursion P ys
 each_moved P xs ys moved all = each_from P ys (λ y h. each_in P xs all y (Contains-permutation ys xs y (IsPermutation-sym xs ys moved) h))
 
+-- a row of octets that is added to such rows
+pub octets_added : (row kept : Row) (rows new : List Row) → row ≡ kept → AreOctets row.octets → IsPermutation (kept ∷ rows) new → HoldOctets rows → HoldOctets new
+octets_added row kept rows new same octets added all =
+    each_moved (λ (r : Row). AreOctets r.octets) (kept ∷ rows) new added (subst (λ (r : Row). AreOctets r.octets) same octets, all)
+
 abbrev same_place : Row → Row → Bool
 same_place a b = is_eq (row_place_order (row_place_of a) (row_place_of b))
 
@@ -111,16 +117,6 @@ free_before done more x rows all some every rising taken =
     let no : is_some (row_at (kept_of x).kind (kept_of x).inst (kept_of x).key rows) ≡ false = ap is_some (row_at_is (row_place_of (kept_of x)) rows ∙ none) in
     let wrong : true ≡ false = sym taken ∙ no in cc
 
-pub split_at : {X : Type 0} (xs : List X) (i : ℕ) (d : X) → i < length xs → take i xs ++ get_or xs i d ∷ drop (suc i) xs ≡ xs
-split_at [] i d h = absurd (omega arith)
-split_at (x ∷ xs) zero d h = refl
-split_at (x ∷ xs) (suc i) d h = ap (λ l. x ∷ l) (split_at xs i d (omega arith))
-
-take_next : {X : Type 0} (xs : List X) (i : ℕ) (d : X) → i < length xs → take (suc i) xs ≡ take i xs ++ get_or xs i d ∷ []
-take_next [] i d h = absurd (omega arith)
-take_next (x ∷ xs) zero d h = refl
-take_next (x ∷ xs) (suc i) d h = ap (λ l. x ∷ l) (take_next xs i d (omega arith))
-
 each_and : {X : Type 0} (P : X → Type 0) (xs : List X) (x : X) → AllByRecursion P xs → P x → AllByRecursion P (xs ++ x ∷ [])
 each_and P [] x all last = (last, tt)
 each_and P (y ∷ ys) x all last = (all.0, each_and P ys x all.1 last)
@@ -129,26 +125,21 @@ last_first : (done : List Values) (x : Values) → IsPermutation (map kept_of (d
 last_first done x = subst (λ l. IsPermutation l (kept_of x ∷ map kept_of done)) (sym (map_split done x [])) (IsPermutation-to_front (map kept_of done) (kept_of x))
 
 -- a good row that is added
-pub good_next : (version : Version) (found : List Values) (i : ℕ) (x : Values) (rows new : List Row) → i < length found → x ≡ get_or found i x → AreGood version (take i found) rows → IsGood version x
-    → IsPermutation (kept_of x ∷ rows) new → IsRising new → AreGood version (take (i + 1) found) new
-good_next version found i x rows new near is good is_good added rising =
-    let one_more : i + 1 ≡ suc i = omega arith in
-    let longer : take (i + 1) found ≡ take i found ++ x ∷ [] =
-    ap (λ n. take n found) one_more ∙ (take_next found i x near ∙ ap (λ y. take i found ++ y ∷ []) (sym is)) in
-    subst (λ l. AreGood version l new) (sym longer) (record {
-      each = each_and (IsGood version) (take i found) x good.each is_good;
-      same = IsPermutation-trans _ (kept_of x ∷ rows) new
-          (IsPermutation-trans _ (kept_of x ∷ map kept_of (take i found)) _ (last_first (take i found) x) (IsPermutation-cons (kept_of x) _ rows good.same)) added;
-      rising = rising;
-    })
+pub good_next : (version : Version) (done : List Values) (x : Values) (rows new : List Row) → AreGood version done rows → IsGood version x
+    → IsPermutation (kept_of x ∷ rows) new → IsRising new → AreGood version (done ++ x ∷ []) new
+good_next version done x rows new good is_good added rising = record {
+  each = each_and (IsGood version) done x good.each is_good;
+  same = IsPermutation-trans _ (kept_of x ∷ rows) new
+      (IsPermutation-trans _ (kept_of x ∷ map kept_of done) _ (last_first done x) (IsPermutation-cons (kept_of x) _ rows good.same)) added;
+  rising = rising;
+}
 
 -- a row that is bad, or whose place is taken, is none of good ones
-pub bad_next : (version : Version) (found : List Values) (i : ℕ) (x : Values) (rows : List Row) → i < length found → x ≡ get_or found i x → AreGood version (take i found) rows
+pub bad_next : (version : Version) (found done more : List Values) (x : Values) (rows : List Row) → done ++ x ∷ more ≡ found → AreGood version done rows
     → (IsGood version x → IsTaken rows (kept_of x)) → (all : List Row) → ¬ AreGood version found all
-bad_next version found i x rows near is good bad all every =
-    let whole : take i found ++ x ∷ drop (suc i) found ≡ found = ap (λ y. take i found ++ y ∷ drop (suc i) found) is ∙ split_at found i x near in
-    let is_good = at_middle (IsGood version) (take i found) x (drop (suc i) found) (subst (AllByRecursion (IsGood version)) (sym whole) every.each) in
-    free_before (take i found) (drop (suc i) found) x rows all good.same (subst (λ l. IsPermutation (map kept_of l) all) (sym whole) every.same) every.rising (bad is_good)
+bad_next version found done more x rows whole good bad all every =
+    let is_good = at_middle (IsGood version) done x more (subst (AllByRecursion (IsGood version)) (sym whole) every.each) in
+    free_before done more x rows all good.same (subst (λ l. IsPermutation (map kept_of l) all) (sym whole) every.same) every.rising (bad is_good)
 
 pub none_good : (version : Version) → AreGood version [] []
 unfolding IsRising

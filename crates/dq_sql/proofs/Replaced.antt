@@ -13,7 +13,7 @@ use Rattle.sqlite_rules.specs.Cast.{cast_row}
 use Rattle.sqlite_rules.specs.Calls.{ids_of}
 use Rattle.sqlite_rules.specs.Edit.{Edit, edit_of, without_all, put_all, are_fresh, Applies}
 use Rattle.sqlite_rules.proofs.PlaceLemmas.{given}
-use Rattle.sqlite.specs.Effect.{Database}
+use Rattle.sqlite.specs.Effect.{Database, IsDatabase}
 use Rattle.sqlite.specs.Rows.{Written}
 use Rattle.sqlite.specs.Does.{Tally, Does}
 use Rattle.sqlite.specs.Listing.{understood}
@@ -34,6 +34,7 @@ use Rattle.dq_sql.proofs.Selected.{holds_at, selected}
 -- rows are taken out by their rowids, and rows are put in
 pub record Edits (d e : Database) (ids : List ℤ) (news : List Values) : Type 0 where
   pub schema : e.schema ≡ kept_schema
+  pub database : IsDatabase e
   pub rows : e.trees 0 ≡ put_all (without_all (d.trees 0) ids) news
   pub fresh : are_fresh (without_all (d.trees 0) ids) news ≡ true
   pub version : e.trees 2 ≡ d.trees 2
@@ -68,6 +69,7 @@ deleted old new kind institution key count has kept h =
       shown = selected kind institution key [] (col 1 0 ∷ []) db found.0 kept (found.1.answer Null);
       edits = record {
         schema = ap (λ (d : Database). d.schema) now;
+        database = w.sound;
         rows = ap (λ (d : Database). d.trees 0) now ∙ ap (λ (t : Trees). t 0) trees ∙ applied.rows;
         fresh = refl;
         version = ap (λ (d : Database). d.trees 2) now ∙ ap (λ (t : Trees). t 2) trees ∙ applied.tables.1.0 (λ e. absurd (omega arith));
@@ -105,6 +107,7 @@ updated_by sql project is plain kind institution key more old new count has kept
       shown = selected kind institution key more project db found.0 kept (found.1.answer Null);
       edits = record {
         schema = ap (λ (d : Database). d.schema) now;
+        database = w.sound;
         rows = ap (λ (d : Database). d.trees 0) now ∙ ap (λ (t : Trees). t 0) trees ∙ applied.rows;
         fresh = applied.fresh;
         version = ap (λ (d : Database). d.trees 2) now ∙ ap (λ (t : Trees). t 2) trees ∙ applied.tables.1.0 (λ e. absurd (omega arith));

@@ -28,3 +28,7 @@ kept_from t version it columns =
 pub version_from : (t : Table) → t.name ≡ codes "version" → t.tree ≡ 2 → t.columns ≡ version_columns → HasNoRules t → HasNoMore t → t ≡ version_table
 version_from t name tree columns rules more =
     rw (name, tree, columns, rules.primary, rules.uniques, rules.orders, rules.checks, more.key, more.references, more.computed, more.stamps, more.uncounted) refl
+
+pub version_at : (t : Table) → t.name ≡ codes "version" → t.columns ≡ version_columns → HasNoRules t → HasNoMore t → t ≡ record version_table { tree = t.tree }
+version_at t name columns rules more =
+    rw (name, columns, rules.primary, rules.uniques, rules.orders, rules.checks, more.key, more.references, more.computed, more.stamps, more.uncounted) refl

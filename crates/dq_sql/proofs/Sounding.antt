@@ -7,7 +7,7 @@ use Rattle.std.proofs.lemmas.Map.Keys.{IsDistinct-IsPermutation}
 use Rattle.sqlite_value.specs.Order.{Row as Values, column}
 use Rattle.sqlite_trees.specs.Tree.{rowid}
 use Rattle.sqlite_trees.specs.View.{is_int}
-use Rattle.sqlite.specs.Effect.{Database}
+use Rattle.sqlite.specs.Effect.{Database, IsDatabase}
 use Rattle.sqlite.specs.State.{State, HasCleanDisk}
 use Rattle.sqlite.proofs.StateLemmas.{survives_then}
 use Rattle.sqlite.proofs.Callers.{one_permutation}
@@ -123,9 +123,9 @@ found_sound version found rows sound = record {
 }
 
 -- The store has the rows that are found.
-pub found_from : (version : Version) (s : State) (found : List Values) (rows : List Row) → IsAtRest s → IsOfVersion version s.now → Shows version s (kept_shown version) found
-    → AreSound version found rows → IsFound version s rows
-found_from version s found rows rest ours shows sound =
+pub found_from : (version : Version) (s : State) (found : List Values) (rows : List Row) → IsAtRest s → IsOfVersion version s.now → (IsTrue s.is_open → IsDatabase s.now)
+    → Shows version s (kept_shown version) found → AreSound version found rows → IsFound version s rows
+found_from version s found rows rest ours database shows sound =
     let table = kept_in version s.now in
     let on = shows.rows ours.schema in
     let back = IsPermutation-sym _ _ on in
@@ -135,6 +135,7 @@ found_from version s found rows rest ours shows sound =
       rest = rest;
       has = record {
         version_is = ours;
+        database = database shows.is_open;
         table = record {
           apart = apart_shown table apart;
           ids = each_shown (λ r. IsTrue (is_int (rowid r))) table (λ r e. e) (each_moved _ found _ back sound.apart.whole);
@@ -197,10 +198,11 @@ shown_before version a b rows found rest stays clean shows =
       rows = subst (λ (d : Database). d.schema ≡ schema_of version → IsPermutation (rows d) found) same.now shows.rows;
     }
 
-pub found_after : (version : Version) (a b : State) (items found : List Values) (rows : List Row) → IsAtRest a → IsOfVersion version a.now → Stays a b → HasCleanDisk b
+pub found_after : (version : Version) (a b : State) (items found : List Values) (rows : List Row) → IsAtRest a → IsOfVersion version a.now
+    → (IsTrue a.is_open → IsDatabase a.now) → Stays a b → HasCleanDisk b
     → Shows version b (kept_shown version) items → found ≡ items → AreSound version found rows → IsFound version a rows
-found_after version a b items found rows rest ours stays clean shows same sound =
-    found_from version a found rows rest ours
+found_after version a b items found rows rest ours database stays clean shows same sound =
+    found_from version a found rows rest ours database
     (subst (Shows version a (kept_shown version)) (sym same) (shown_before version a b (kept_shown version) items rest stays clean shows)) sound
 
 pub sound_after : (version : Version) (a b : State) (items found : List Values) (rows : List Row) → IsAtRest a → Stays a b → HasCleanDisk b

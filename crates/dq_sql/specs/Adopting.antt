@@ -1,15 +1,16 @@
 -- Which rows of a found table are rows of ours.
 use Rattle.std.specs.Prelude.{◌≡◌, ◌≢◌, true, pos, List, [], ◌∷◌, ℤ, IsTrue, is_some, map, IsPermutation}
-use Rattle.std.specs.List.{AllByRecursion, IsDistinct}
+use Rattle.std.specs.List.{AllByRecursion, Any, IsDistinct}
 use Rattle.sqlite_value.specs.declared.value.Value.TheVariants.{Int, Text, Blob}
 use Rattle.sqlite_value.specs.Order.{Row as Values, column}
-use Rattle.sqlite_trees.specs.declared.store.Store.{Ghosts}
 use Rattle.sqlite_trees.specs.Tree.{rowid}
 use Rattle.sqlite_trees.specs.View.{is_int}
 use Rattle.sqlite_rules.specs.Edit.{id_in}
 use Rattle.sqlite_schema.specs.declared.schema.Schema.{Schema}
+use Rattle.sqlite_schema.specs.declared.schema.Table.{Table}
+use Rattle.sqlite.specs.Effect.{IsDatabase}
 use Rattle.sqlite.specs.State.{State, HasCleanDisk}
-use Rattle.sqlite.specs.Held.{Held, state}
+use Rattle.dq_dataset.specs.Grammar.{AreOctets}
 use Rattle.dq_tables.specs.declared.row.Row.{Row}
 use Rattle.dq_tables.specs.Rows.{number_of, IsRising}
 use Rattle.dq_tables.specs.Finding.{row_at}
@@ -18,7 +19,7 @@ use Rattle.dq_sql.specs.declared.fault.StoreFault.{StoreFault}
 use Rattle.dq_sql.specs.declared.fault.StoreFault.TheVariants.{WrongVersion, BadRows}
 use Rattle.dq_sql.specs.declared.version.Version.{Version}
 use Rattle.dq_sql.specs.Cells.{patient_cell, day_cell, flag}
-use Rattle.dq_sql.specs.Schema.{version_number, schema_of}
+use Rattle.dq_sql.specs.Schema.{version_number, version_table, schema_of}
 use Rattle.dq_sql.specs.Tie.{IsKeptIn, kept_of, same_id, IsOfVersion, HasRowsOf, IsAtRest, Stays}
 
 -- The columns hold the row, but for what they say of its patient and its day.
@@ -66,6 +67,14 @@ pub record AreApart (found : List Values) : Type 0 where
 abbrev pub SaysNumber : Version → List Values → Type 0
 SaysNumber version found = map (λ r. column r 0) found ≡ Int (pos (version_number version)) ∷ []
 
+-- the store has the table `version`, in whatever tree
+abbrev pub HasVersion : Schema → Type 0
+HasVersion schema = Any (λ (t : Table). t ≡ record version_table { tree = t.tree }) schema.tables
+
+-- each row holds octets, numbers below 256
+abbrev pub HoldOctets : List Row → Type 0
+HoldOctets rows = AllByRecursion (λ (row : Row). AreOctets row.octets) rows
+
 -- the schema of no store of rows
 abbrev pub IsOther : Schema → Type 0
 IsOther schema = (version : Version) → schema ≢ schema_of version
@@ -74,6 +83,7 @@ IsOther schema = (version : Version) → schema ≢ schema_of version
 pub record IsShaped (version : Version) (s : State) : Type 0 where
   pub rest : IsAtRest s
   pub schema : s.now.schema ≡ schema_of version
+  pub database : IsTrue s.is_open → IsDatabase s.now
 
 -- Found rows are those of a store of sound rows.
 pub record AreSound (version : Version) (found : List Values) (rows : List Row) : Type 0 where
@@ -88,16 +98,12 @@ pub record IsFound (version : Version) (s : State) (rows : List Row) : Type 0 wh
   pub has : HasRowsOf version s.now rows
   pub sound : IsSound rows
 
--- A store that should be of a version is refused by a fault, and its connection is dropped as it is
--- left. Where the disk returned what was written until then, the fault is true of the store: one of
--- a wrong version is not of the version, and one with bad rows is, and no rows that it has are sound.
-pub record IsRefused {S : Type 0} (g : Ghosts S) (version : Version) (found : Held S)
-    (fault : StoreFault) : Type 0 where
-  pub left : Held S
-  pub stays : Stays (state g found) (state g left)
-  pub wrong : HasCleanDisk (state g left) → fault ≡ WrongVersion
-      → ¬ IsOfVersion version (state g found).now
-  pub said : HasCleanDisk (state g left) → fault ≡ BadRows
-      → IsOfVersion version (state g found).now
-  pub bad : HasCleanDisk (state g left) → fault ≡ BadRows
-      → (rows : List Row) → HasRowsOf version (state g found).now rows → ¬ IsSound rows
+-- A store that should be of a version is refused by a fault, and stays as it is. As far as the disk
+-- returned what was written, the fault is true of the store: one of a wrong version is not of the
+-- version, and one with bad rows is, and no rows that it has are sound.
+pub record IsRefused (found left : State) (version : Version) (fault : StoreFault) : Type 0 where
+  pub stays : Stays found left
+  pub wrong : HasCleanDisk left → fault ≡ WrongVersion → ¬ IsOfVersion version found.now
+  pub said : HasCleanDisk left → fault ≡ BadRows → IsOfVersion version found.now
+  pub bad : HasCleanDisk left → fault ≡ BadRows
+      → (rows : List Row) → HasRowsOf version found.now rows → ¬ IsSound rows

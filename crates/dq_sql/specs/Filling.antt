@@ -2,11 +2,11 @@
 use Rattle.std.specs.Prelude.{◌≡◌, List, [], false, IsTrue}
 use Rattle.sqlite_trees.specs.Tree.{Trees}
 use Rattle.sqlite.specs.Effect.{Database}
-use Rattle.sqlite.specs.State.{State}
+use Rattle.sqlite.specs.State.{State, HasCleanDisk, Survives}
 use Rattle.dq_tables.specs.declared.row.Row.{Row}
 use Rattle.dq_sql.specs.Making.{no_schema, GoesOn}
 use Rattle.dq_sql.specs.Keeping.{under_schema}
-use Rattle.dq_sql.specs.Tie.{HasRows}
+use Rattle.dq_sql.specs.Tie.{HasRows, IsAtRest, IsSame}
 
 -- The store has nothing, and no transaction is open.
 pub record IsNothingYet (s : State) : Type 0 where
@@ -32,3 +32,10 @@ pub record IsFilled (s : State) (rows : List Row) : Type 0 where
   pub has : HasRows s.now rows
   pub settled : s.now ≡ s.committed
   pub autocommit : s.in_transaction ≡ false
+
+-- A store is not made by a fault. It shows what it showed, and a crash leaves of it what it could
+-- leave before, or a store with all rows.
+pub record IsNotMade (old left : State) (rows : List Row) : Type 0 where
+  pub survives : Survives old left (HasThese rows)
+  pub mode : old.in_transaction ≡ false → left.in_transaction ≡ false
+  pub same : HasCleanDisk left → IsTrue left.is_open → IsAtRest old → IsSame old left

@@ -14,3 +14,4 @@ pub mod Counts
 pub mod Filling
 pub mod Migrating
 pub mod Migration
+pub mod Restarting

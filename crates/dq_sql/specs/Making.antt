@@ -3,7 +3,7 @@ use Rattle.std.specs.Prelude.{◌≡◌, List, [], ◌∷◌, ◌++◌, IsTrue}
 use Rattle.sqlite_schema.specs.declared.schema.Index.{Index}
 use Rattle.sqlite_schema.specs.declared.schema.Schema.{Schema}
 use Rattle.sqlite_catalog.specs.Change.{created}
-use Rattle.sqlite.specs.Effect.{Database}
+use Rattle.sqlite.specs.Effect.{Database, IsDatabase}
 use Rattle.sqlite.specs.State.{State}
 use Rattle.dq_sql.specs.declared.version.Version.TheVariants.{Two}
 use Rattle.dq_sql.specs.Schema.{kept_table, version_table, key_index, kept_schema}
@@ -46,7 +46,7 @@ MakesIndexes old new = old.schema ≡ with_indexes [] → TakesSchema old new ke
 
 abbrev pub SaysVersion : Database → Database → Type 0
 SaysVersion old new = old.schema ≡ kept_schema
-    → (new.trees 0 ≡ old.trees 0) × (old.trees 2 ≡ [] → IsOfVersion Two new)
+    → (new.trees 0 ≡ old.trees 0) × (old.trees 2 ≡ [] → IsOfVersion Two new × IsDatabase new)
 
 -- The transaction goes on: the store is open, and what is committed is as it was.
 pub record GoesOn (old new : State) : Type 0 where

@@ -1,9 +1,7 @@
 -- What a migration of one store into another leaves of both.
-use Rattle.std.specs.Prelude.{◌≡◌, ℕ, List, IsTrue}
-use Rattle.sqlite_trees.specs.declared.store.Store.{Ghosts}
+use Rattle.std.specs.Prelude.{◌≡◌, ℕ, false, List, IsTrue}
 use Rattle.sqlite_trees.specs.Tree.{Trees}
 use Rattle.sqlite.specs.State.{State, HasCleanDisk, Survives}
-use Rattle.sqlite.specs.Held.{Held, state}
 use Rattle.dq_tables.specs.declared.row.Row.{Row}
 use Rattle.dq_tables.specs.Sound.{IsSound}
 use Rattle.dq_sql.specs.declared.fault.StoreFault.{StoreFault}
@@ -35,18 +33,17 @@ pub record IsMigrated (s : State) (rows : List Row) : Type 0 where
   pub found : IsFound One s kept
   pub is : rows ≡ migrated kept
 
+-- The old store stays as it is. As far as its disk returned what was written, the rows are its own,
+-- migrated.
+pub record Migrates (old left : State) (rows : List Row) : Type 0 where
+  pub stays : Stays old left
+  pub are : HasCleanDisk left → IsMigrated old rows
+
 -- Trees that have the rows that were found in a store of version 1, migrated.
 pub record HasMigrated (s : State) (trees : Trees) : Type 0 where
   pub rows : List Row
   pub are : IsMigrated s rows
   pub has : HasRows (under_schema trees) rows
-
--- The old store stays as it is. As far as its disk returned what was written until its connection
--- was dropped, the rows are its own, migrated.
-pub record Migrates {S : Type 0} (g : Ghosts S) (old : Held S) (rows : List Row) : Type 0 where
-  pub left : Held S
-  pub stays : Stays (state g old) (state g left)
-  pub are : HasCleanDisk (state g left) → IsMigrated (state g old) rows
 
 -- The old store is not taken by a fault, which is true of it as far as its disk returned what was
 -- written: one of a wrong version is not of version 1, and one with bad rows is, and no rows that it
@@ -58,18 +55,10 @@ pub record IsNotTaken (old left : State) (fault : MigrateFault) : Type 0 where
       : HasCleanDisk left → fault ≡ BadRows
       → (rows : List Row) → HasRowsOf One old.now rows → ¬ IsSound rows
 
--- A migration is refused by a fault, and both connections are dropped as they are left. The old
--- store stays as it is. The new one shows what it showed, and a crash leaves of it what it could
+-- A migration is refused. The new store shows what it showed, and a crash leaves of it what it could
 -- leave before, or all rows, migrated.
-pub record IsNotMigrated {S : Type 0} (g : Ghosts S) (old new : Held S) (fault : MigrateFault)
-    : Type 0 where
-  pub old_left : Held S
-  pub stays : Stays (state g old) (state g old_left)
-  pub not_taken : IsNotTaken (state g old) (state g old_left) fault
-  pub new_left : Held S
+pub record IsNotMigrated (old old_left new left : State) : Type 0 where
   pub survives
-      : Survives (state g new) (state g new_left)
-      (λ trees. HasCleanDisk (state g old_left) → HasMigrated (state g old) trees)
-  pub same
-      : HasCleanDisk (state g new_left) → IsTrue (state g new_left).is_open
-      → IsAtRest (state g new) → IsSame (state g new) (state g new_left)
+      : Survives new left (λ trees. HasCleanDisk old_left → HasMigrated old trees)
+  pub mode : new.in_transaction ≡ false → left.in_transaction ≡ false
+  pub same : HasCleanDisk left → IsTrue left.is_open → IsAtRest new → IsSame new left

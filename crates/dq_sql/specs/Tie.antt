@@ -7,7 +7,7 @@ use Rattle.sqlite_value.specs.declared.value.Value.TheVariants.{Int, Text, Blob}
 use Rattle.sqlite_value.specs.Order.{Row as Values, column, bytes, value_cmp}
 use Rattle.sqlite_trees.specs.Tree.{rowid}
 use Rattle.sqlite_trees.specs.View.{is_int}
-use Rattle.sqlite.specs.Effect.{Database}
+use Rattle.sqlite.specs.Effect.{Database, IsDatabase}
 use Rattle.sqlite.specs.State.{State, HasCleanDisk, Survives}
 use Rattle.dq_tables.specs.declared.row.Kind.{Kind}
 use Rattle.dq_tables.specs.declared.row.Kind.TheVariants.{Study, Series, Image, Entry, Step}
@@ -88,9 +88,10 @@ pub record IsOfVersion (version : Version) (d : Database) : Type 0 where
   pub schema : d.schema ≡ schema_of version
   pub says : map (λ r. column r 1) (d.trees 2) ≡ Int (pos (version_number version)) ∷ []
 
--- It is of the version, and the table `kept` holds the rows.
+-- It is of the version, and the table `kept` holds the rows. Its trees list the schema and obey it.
 pub record HasRowsOf (version : Version) (d : Database) (rows : List Row) : Type 0 where
   pub version_is : IsOfVersion version d
+  pub database : IsDatabase d
   pub table : HoldsRows version (kept_in version d) rows
 
 -- Rows are kept in a store of version 2.

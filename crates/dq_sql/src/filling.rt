@@ -82,7 +82,7 @@ pub(crate) fn fill_store<S: Alter>(
 ) -> Result<(), StoreFault>
     requires nothing { IsNothingYet (state S.Store conn.old) }
     requires rising { IsRising rows.now }
-    ensures mode { OnOk result (conn.new.in_transaction ≡ false) }
+    ensures mode { conn.new.in_transaction ≡ false }
     ensures fault { IfErr result (λ e. (e ≡ NoMemory) ⊎ (e ≡ Store)) }
     ensures made { HasCleanDisk (state S.Store conn.new)
         → OnOk result (IsFilled (state S.Store conn.new) rows.now) }

@@ -1,21 +1,21 @@
 //! The rows of a store that is found.
-ghost use Rattle.std.specs.Prelude.{◌≡◌, ◌≢◌, ◌⊎◌, pos, Err, IfSome, IfOk, IfErr, OnOk, MatchBool, false};
+ghost use Rattle.std.specs.Prelude.{◌≡◌, ◌≢◌, ◌⊎◌, pos, Err, IfSome, IfOk, IfErr, IsErr, IsTrue, OnOk, MatchBool, false};
 ghost use Rattle.sqlite_value.specs.declared.value.Value.TheVariants.{Int};
 ghost use Rattle.sqlite_value.specs.Order.{column};
-ghost use Rattle.sqlite.specs.State.{HasCleanDisk};
+ghost use Rattle.sqlite.specs.State.{HasCleanDisk, IsLive};
 ghost use Rattle.sqlite.specs.Held.{state};
 ghost use Rattle.dq_tables.specs.Sound.{IsSound};
 ghost use Rattle.dq_sql.specs.declared.fault.StoreFault.TheVariants.{NoMemory, Store, WrongVersion, BadRows};
 ghost use Rattle.dq_sql.specs.Schema.{version_number, schema_of};
 ghost use Rattle.dq_sql.specs.Tie.{IsOfVersion, HasRowsOf, Stays};
-ghost use Rattle.dq_sql.specs.Adopting.{SaysNumber, IsOther, IsShaped, AreSound, IsFound};
+ghost use Rattle.dq_sql.specs.Adopting.{SaysNumber, HasVersion, HoldOctets, IsOther, IsShaped, AreSound, IsFound};
 
 use crate::fault::StoreFault;
 use crate::ids::ids_apart;
 use crate::judging::value_at;
 use crate::placing::{are_held, rows_found};
 use crate::reading::{rows_read, versions_read};
-use crate::schema_test::version_shaped;
+use crate::schema_test::{has_version, version_shaped};
 use crate::version::Version;
 use dq_tables::Row;
 use sqlite::types::ValueRef;
@@ -24,13 +24,22 @@ use std::alloc::Global;
 
 /// The version whose tables and indexes a store has alone, where no transaction is open.
 fn version_found<S: Alter>(conn: &Connection<S>) -> Option<Version>
-    ensures { IfSome result (λ version. IsShaped version (state S.Store conn.now)) }
+    ensures shaped { IfSome result (λ version. IsShaped version (state S.Store conn.now)) }
+    ensures live { IsLive (state S.Store conn.now) }
 {
+    let schema = conn.schema();
     if conn.is_autocommit() {
-        version_shaped(conn.schema())
+        version_shaped(schema)
     } else {
         None
     }
+}
+
+/// Whether a store has the table that says its version, where no transaction is open.
+fn tells_version<S: Alter>(conn: &Connection<S>) -> bool
+    ensures { IsTrue result → HasVersion (state S.Store conn.now).now.schema }
+{
+    conn.is_autocommit() && has_version(conn.schema())
 }
 
 /// Whether the one number is the version's.
@@ -72,14 +81,15 @@ fn is_of_version<S: Alter>(conn: &mut Connection<S>, version: Version) -> Result
 #[tactic(auto, using(crate::proofs::Sounding::one_good))]
 fn sound_rows(
     alloc: Global,
-    found: &[sqlite::Row],
+    found: Vec<sqlite::Row>,
     version: Version,
 ) -> Result<Vec<Row>, StoreFault>
-    ensures sound { IfOk result (λ rows. AreSound version found.now rows.items) }
-    ensures bad { result ≡ Err BadRows → (rows : _) → ¬ AreSound version found.now rows }
+    ensures sound { IfOk result (λ rows. AreSound version found.items rows.items) }
+    ensures octets { IfOk result (λ rows. HoldOctets rows.items) }
+    ensures bad { result ≡ Err BadRows → (rows : _) → ¬ AreSound version found.items rows }
     ensures version { result ≢ Err WrongVersion }
 {
-    if !ids_apart(alloc, found)? {
+    if !ids_apart(alloc, found.as_slice())? {
         return Err(StoreFault::BadRows);
     }
     let rows = rows_found(alloc, found, version)?;
@@ -90,10 +100,12 @@ fn sound_rows(
     }
 }
 
-/// All rows of a store of rows of a version, in order. A store without the tables and the indexes of
-/// a version, or with more, is refused by `Store`, one of another version by `WrongVersion`, and one
-/// with a row that is not its record's own, or without the row above it, by `BadRows`. Nothing
-/// changes.
+/// All rows of a store of rows of a version, in order. Nothing changes.
+///
+/// The version comes first. A store without the table `version` is refused by `Store`, and one where
+/// this says another number by `WrongVersion`, whatever other tables it has. One of the version is
+/// refused by `Store` where its tables and indexes are not those of the version, and by `BadRows`
+/// where a row is not its record's own or the row above it is missing.
 #[tactic(auto, using(crate::proofs::Sounding::found_sound, crate::proofs::Sounding::stays_then))]
 pub fn kept_rows<S: Alter>(
     conn: &mut Connection<S>,
@@ -103,7 +115,10 @@ pub fn kept_rows<S: Alter>(
     ensures found { HasCleanDisk (state S.Store conn.new)
         → IfOk result (λ rows. IsFound version (state S.Store conn.old) rows.items) }
     ensures sound { IfOk result (λ rows. IsSound rows.items) }
-    ensures other { IsOther (state S.Store conn.old).now.schema → result ≡ Err Store }
+    ensures octets { IfOk result (λ rows. HoldOctets rows.items) }
+    ensures live { IsLive (state S.Store conn.old) }
+    ensures other { (¬ HasVersion (state S.Store conn.old).now.schema) → result ≡ Err Store }
+    ensures foreign { IsOther (state S.Store conn.old).now.schema → IsErr result }
     ensures wrong { HasCleanDisk (state S.Store conn.new) → result ≡ Err WrongVersion
         → ¬ IsOfVersion version (state S.Store conn.old).now }
     ensures said { HasCleanDisk (state S.Store conn.new) → result ≡ Err BadRows
@@ -113,15 +128,19 @@ pub fn kept_rows<S: Alter>(
     ensures alone { OnOk result (conn.new.in_transaction ≡ false) }
     ensures stays { Stays (state S.Store conn.old) (state S.Store conn.new) }
 {
-    let Some(shaped) = version_found(conn) else {
+    let shaped = version_found(conn);
+    if !tells_version(conn) {
         return Err(StoreFault::Store);
-    };
-    if shaped != version {
-        return Err(StoreFault::WrongVersion);
     }
     if !is_of_version(conn, version)? {
         return Err(StoreFault::WrongVersion);
     }
+    let Some(shaped) = shaped else {
+        return Err(StoreFault::Store);
+    };
+    if shaped != version {
+        return Err(StoreFault::Store);
+    }
     let found = rows_read(conn, version)?;
-    sound_rows(alloc, found.as_slice(), version)
+    sound_rows(alloc, found, version)
 }

@@ -4,6 +4,7 @@ ghost use Rattle.sqlite_value.specs.declared.value.Value.TheVariants.{Int, Text,
 ghost use Rattle.sqlite_value.specs.Value.{owned};
 ghost use Rattle.sqlite_value.specs.Order.{column};
 ghost use Rattle.sqlite.specs.Values.{or_null};
+ghost use Rattle.dq_dataset.specs.Grammar.{AreOctets};
 ghost use Rattle.dq_tables.specs.declared.row.Kind.{Kind};
 ghost use Rattle.dq_tables.specs.declared.row.Row.{Row};
 ghost use Rattle.dq_tables.specs.Rows.{number_of};
@@ -20,7 +21,7 @@ use dq_tables::{Kind, Row};
 use sqlite::types::ValueRef;
 use std::alloc::{AllocError, Global};
 
-/// A record of so many octets is not read.
+/// No database holds a row of so many octets: SQLite's limit is 10^9.
 const TOO_LONG: usize = 0x8000_0000;
 
 /// The kind whose number a value is.
@@ -168,7 +169,12 @@ fn has_cells(
     Ok(is_patient(value_at(found, 5), &cells.patient) && is_day(value_at(found, 6), cells.day))
 }
 
-/// The row, where it is its record's own. One of 2^31 octets or more is too long to be read.
+/// The octets of a slice are below 256.
+fn are_octets(_octets: &[u8])
+    ensures { AreOctets _octets.now }
+{}
+
+/// The row, where it is its record's own. A store that shows one of 2^31 octets or more has failed.
 #[tactic(auto, using(crate::proofs::Judged::good_from, crate::proofs::Judged::cells_of_good, crate::proofs::Judged::own_of_good, crate::proofs::Judged::record_kept))]
 fn own_row(
     alloc: Global,
@@ -178,11 +184,14 @@ fn own_row(
 ) -> Result<Row, StoreFault>
     requires { HoldsRecord row found.now }
     ensures good { IfOk result (λ own. (own ≡ kept_of found.now) × IsGood version found.now) }
+    ensures octets { IfOk result (λ own. AreOctets own.octets) }
     ensures bad { result ≡ Err BadRows → ¬ IsGood version found.now }
     ensures version { result ≢ Err WrongVersion }
 {
-    if row.octets.as_slice().len() >= TOO_LONG {
-        return Err(StoreFault::NoMemory);
+    let octets = row.octets.as_slice();
+    are_octets(octets);
+    if octets.len() >= TOO_LONG {
+        return Err(StoreFault::Store);
     }
     if has_cells(alloc, &row, found, version)? && row.is_own(alloc)? {
         Ok(row)
@@ -199,6 +208,7 @@ pub(crate) fn good_row(
     version: Version,
 ) -> Result<Row, StoreFault>
     ensures good { IfOk result (λ row. (row ≡ kept_of found.now) × IsGood version found.now) }
+    ensures octets { IfOk result (λ row. AreOctets row.octets) }
     ensures bad { result ≡ Err BadRows → ¬ IsGood version found.now }
     ensures version { result ≢ Err WrongVersion }
 {

@@ -1,12 +1,22 @@
 //! Laws of tables over a store. Each function's contract is a law; its body does nothing.
-ghost use Rattle.std.specs.Prelude.{◌≡◌, List, map};
+ghost use Rattle.std.specs.Prelude.{◌≡◌, ◌≢◌, List, map, IfOk, IfErr};
+ghost use Rattle.sqlite_wal.specs.Files.{outcomes};
+ghost use Rattle.sqlite_wal.specs.Reads.{AreClean};
+ghost use Rattle.sqlite_wal.specs.Recovery.{Image};
+ghost use Rattle.sqlite.specs.State.{HasCleanDisk, Opens};
+ghost use Rattle.sqlite.specs.Files.{file_state};
+ghost use Rattle.sqlite.specs.Start.{FindsIn};
 ghost use Rattle.dq_tables.specs.declared.row.Row.{Row};
 ghost use Rattle.dq_tables.specs.Rows.{IsRising};
+ghost use Rattle.dq_sql.specs.declared.fault.StoreFault.TheVariants.{WrongVersion, BadRows};
 ghost use Rattle.dq_sql.specs.Migrating.{migrated, with_start};
 
+use crate::fault::StoreFault;
 use crate::sql_tables::SqlTables;
 use dq_tables::Tables;
-use sqlite::MemStore;
+use sqlite::{Connection, FileStore, Files, MemStore};
+use sqlite_disk::Disk;
+use std::alloc::Global;
 
 /// Tables in memory are honest, whatever was asked of them.
 pub fn tables_in_memory_are_honest(_tables: &SqlTables<MemStore>)
@@ -19,3 +29,28 @@ pub fn tables_in_memory_are_honest(_tables: &SqlTables<MemStore>)
 pub fn migrated_rows_are_the_rows_with_started_entries()
     ensures { (rows : List Row) → IsRising rows → migrated rows ≡ map (with_start rows) rows }
 {}
+
+/// What a crash leaves of tables is adopted. Let a connection be opened over files that hold what a
+/// crash could leave of the files of tables. Then it is adopted with rows that a crash could leave of
+/// the tables, and is refused neither as of another version nor for its rows.
+pub fn what_a_crash_leaves_is_adopted<D: Disk + Drop, E: Disk + Drop>(
+    alloc: Global,
+    tables: SqlTables<FileStore<D>>,
+    conn: Connection<FileStore<E>>,
+) -> (
+    Files<D>,
+    Result<SqlTables<FileStore<E>>, (StoreFault, Connection<FileStore<E>>)>,
+)
+    ensures { AreClean D.Disk result.0.log result.0.db → (image : Image)
+        → outcomes D.Disk result.0.log result.0.db image
+        → Opens (file_state conn) → FindsIn image (file_state conn)
+        → ∥ ((rows : List Row)
+        × (⟦<SqlTables<FileStore<D>> as Tables>⟧.state tables).may_leave rows
+        × IfOk result.1 (λ t. (⟦<SqlTables<FileStore<E>> as Tables>⟧.state t).honest
+        → (⟦<SqlTables<FileStore<E>> as Tables>⟧.state t).rows ≡ rows)
+        × IfErr result.1 (λ e. HasCleanDisk (file_state e.1)
+        → (e.0 ≢ WrongVersion) × (e.0 ≢ BadRows))) ∥₁ }
+{
+    let files = tables.into_files();
+    (files, SqlTables::adopt_lent(alloc, conn))
+}

@@ -4,6 +4,7 @@
 mod adopting;
 mod cells;
 mod choosing;
+mod copying;
 mod counts;
 mod fault;
 mod filling;

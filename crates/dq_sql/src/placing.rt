@@ -5,7 +5,7 @@ ghost use Rattle.dq_tables.specs.Finding.{row_at};
 ghost use Rattle.dq_tables.specs.Sound.{is_held, HeldEach};
 ghost use Rattle.dq_sql.specs.declared.fault.StoreFault.TheVariants.{WrongVersion, BadRows};
 ghost use Rattle.dq_sql.specs.Tie.{kept_of};
-ghost use Rattle.dq_sql.specs.Adopting.{IsGood, IsTaken, AreGood};
+ghost use Rattle.dq_sql.specs.Adopting.{HoldOctets, IsGood, IsTaken, AreGood};
 
 use crate::fault::StoreFault;
 use crate::judging::good_row;
@@ -34,6 +34,7 @@ fn put_found(
     ensures good { OnOk result (IsGood version found.now) }
     ensures added { OnOk result (IsPermutation (kept_of found.now ∷ rows.old.items) rows.new.items) }
     ensures rising { OnOk result (IsRising rows.new.items) }
+    ensures octets { HoldOctets rows.old.items → OnOk result (HoldOctets rows.new.items) }
     ensures bad { result ≡ Err BadRows → IsGood version found.now
         → IsTaken rows.old.items (kept_of found.now) }
     ensures version { result ≢ Err WrongVersion }
@@ -47,20 +48,22 @@ fn put_found(
     Ok(())
 }
 
-/// The rows that are found in a store of the version, in order.
-#[tactic(auto, using(crate::proofs::Ordered::good_next, crate::proofs::Ordered::bad_next, crate::proofs::Ordered::none_good))]
+/// The rows that are found in a store of the version, in order. Each found row is freed as it is
+/// judged, so that the octets of a large store are held once.
+#[tactic(auto, using(crate::proofs::Ordered::none_good))]
 pub(crate) fn rows_found(
     alloc: Global,
-    found: &[sqlite::Row],
+    found: Vec<sqlite::Row>,
     version: Version,
 ) -> Result<Vec<Row>, StoreFault>
-    ensures good { IfOk result (λ rows. AreGood version found.now rows.items) }
-    ensures bad { result ≡ Err BadRows → (rows : _) → ¬ AreGood version found.now rows }
+    ensures good { IfOk result (λ rows. AreGood version found.items rows.items) }
+    ensures octets { IfOk result (λ rows. HoldOctets rows.items) }
+    ensures bad { result ≡ Err BadRows → (rows : _) → ¬ AreGood version found.items rows }
     ensures version { result ≢ Err WrongVersion }
 {
     let mut rows = Vec::new(alloc);
     for row in found {
-        put_found(alloc, &mut rows, row, version)?;
+        put_found(alloc, &mut rows, &row, version)?;
     }
     Ok(rows)
 }

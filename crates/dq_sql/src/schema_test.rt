@@ -6,6 +6,7 @@ ghost use Rattle.sqlite_sql.specs.declared.ops.BinaryOp.TheVariants.{And, Compar
 ghost use Rattle.sqlite_schema.specs.declared.code.Op.TheVariants as node;
 ghost use Rattle.sqlite_schema.specs.Code.{terms_in};
 ghost use Rattle.dq_sql.specs.Schema.{optional, record_columns, further_columns, kept_columns, version_columns, kind_checks, kept_table, version_table, kept_index, key_index, above_index, further_indexes, schema_of};
+ghost use Rattle.dq_sql.specs.Adopting.{HasVersion};
 ghost use Rattle.dq_sql.specs.SchemaTest.{HasNoMore, HasNoRules, HasKey, BoundsKind, IsKept, HasOthers};
 
 use crate::version::Version;
@@ -207,6 +208,29 @@ fn has_no_rules(table: &Table) -> bool
         && table.uniques.as_slice().is_empty()
         && table.orders.as_slice().is_empty()
         && table.checks.roots.as_slice().is_empty()
+}
+
+/// Whether a table is `version`, in whatever tree.
+#[tactic(auto, using(crate::proofs::SchemaTest::version_at))]
+fn is_version_table(table: &Table) -> bool
+    ensures { IsTrue result → table.now ≡ record version_table { tree = table.now.tree } }
+{
+    table.name.as_slice() == b"version".as_slice()
+        && are_version_columns(table.columns.as_slice())
+        && has_no_rules(table)
+        && has_no_more(table)
+}
+
+/// Whether a store has the table `version`, in whatever tree.
+pub(crate) fn has_version(schema: &Schema) -> bool
+    ensures { IsTrue result → HasVersion schema.now }
+{
+    for table in schema.tables.as_slice() {
+        if is_version_table(table) {
+            return true;
+        }
+    }
+    false
 }
 
 /// Whether a table is `version`.

@@ -1,5 +1,5 @@
 //! Tables over an SQLite store.
-ghost use Rattle.std.specs.Prelude.{◌≡◌, ◌⊎◌, false, true, List, Err, IsTrue};
+ghost use Rattle.std.specs.Prelude.{◌≡◌, ◌⊎◌, false, true, List, Err, IsTrue, IfOk};
 ghost use Rattle.sqlite_trees.specs.Tree.{Trees};
 ghost use Rattle.sqlite.specs.State.{HasCleanDisk};
 ghost use Rattle.sqlite.specs.Held.{state};
@@ -8,22 +8,28 @@ ghost use Rattle.dq_tables.specs.declared.row.Row.{Row};
 ghost use Rattle.dq_sql.specs.Keeping.{Keeps, under_schema};
 ghost use Rattle.dq_sql.specs.Tie.{HasRows};
 ghost use Rattle.dq_sql.specs.Counts.{AreRight};
+ghost use Rattle.dq_sql.specs.Restarting.{HoldsRows, HoldsAlone};
+ghost use Rattle.sqlite_wal.specs.Files.{outcomes};
+ghost use Rattle.sqlite_wal.specs.Reads.{AreClean};
+ghost use Rattle.sqlite_wal.specs.Recovery.{Image};
 
 use crate::counts::Counts;
+use crate::fault::StoreFault;
 use crate::history::History;
 use crate::{choosing, reading, writing};
 use dq_list::Listed;
 use dq_tables::{Change, Choice, Kind, Row, TableFault, Tables};
-use sqlite::{Alter, Connection};
+use sqlite::{Alter, Connection, FileStore, Files};
+use sqlite_disk::Disk;
 use std::alloc::Global;
 
 /// Rows in an SQLite store. A crash leaves the rows of the last change that was answered, or of
 /// the one that was being made.
 #[derive(Drop)]
 pub struct SqlTables<S: Alter> {
-    conn: Connection<S>,
+    pub(crate) conn: Connection<S>,
     failed: bool,
-    history: History,
+    pub(crate) history: History,
     counts: Counts,
     ghost alone: { conn.in_transaction ≡ false },
     ghost keeps: { ∥ (HasCleanDisk (state S.Store conn)
@@ -83,6 +89,35 @@ impl<S: Alter> SqlTables<S> {
             counts: _,
         } = self;
         conn
+    }
+}
+
+impl<D: Disk + Drop> SqlTables<FileStore<D>> {
+    /// The files. What a crash leaves of them holds a database with rows that a crash could leave
+    /// before. It takes no memory, and writes nothing.
+    pub fn into_files(self) -> Files<D>
+        ensures honest { AreClean D.Disk result.log result.db
+            → (⟦<SqlTables<FileStore<D>> as Tables>⟧.state self).honest }
+        ensures left { AreClean D.Disk result.log result.db → (image : Image)
+            → outcomes D.Disk result.log result.db image
+            → ∥ ((rows : List Row)
+            × (⟦<SqlTables<FileStore<D>> as Tables>⟧.state self).may_leave rows
+            × HoldsRows image rows) ∥₁ }
+    {
+        self.into_connection().into_store().close()
+    }
+
+    /// The files, after the log was copied into the database file. This alone then holds the rows, also
+    /// after a crash. A refusal changes no value.
+    pub fn close(self) -> Result<Files<D>, StoreFault>
+        ensures copied { IfOk result (λ files. AreClean D.Disk files.log files.db
+            → (image : Image) → outcomes D.Disk files.log files.db image
+            → ∥ HoldsAlone image (⟦<SqlTables<FileStore<D>> as Tables>⟧.state self).rows ∥₁) }
+    {
+        match self.into_connection().close_files() {
+            Ok(files) => Ok(files),
+            Err((error, _)) => Err(StoreFault::from(error)),
+        }
     }
 }
 

@@ -1,5 +1,5 @@
 use Rattle.std.proofs.Common.{◌≡◌, ℕ, Result, IfOk, length, sym, subst, arith}
-use Rattle.std.proofs.Math.Logic.{∥∥₁_map}
+use Rattle.std.proofs.Math.Logic.{∥∥₁_elim, ∥∥₁_map}
 use Rattle.sqlite.specs.State.{HasCleanDisk}
 use Rattle.sqlite.specs.Held.{state}
 use Rattle.dq_tables.specs.declared.fault.TableFault.{TableFault}
@@ -46,3 +46,8 @@ invariant_of-self-2 g c =
           (found_in numbers_set old it.history.rows (λ r. length (rows_of c.args.kind c.args.institution.now r)) c.in_ok-number.number it.keeps before counted)
           (right before));
     }
+
+pub returns-in-Some-clause-found : goal.returns-in-Some-clause-found
+returns-in-Some-clause-found g c clean =
+    let it = c.args.self.now in
+    ∥∥₁_elim it.counted (numbers_set _ _) (λ right. c.in-Some.ensures it.history.rows (right clean))
