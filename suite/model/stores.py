@@ -188,24 +188,25 @@ def new(path):
 
 
 def adopt(path, version=VERSION):
-    """A store that is taken, with its rows and their data sets."""
+    """A store that is taken, with its rows and their data sets. Its version is looked at before anything else of it."""
     if not os.access(path, os.R_OK | os.W_OK):
         raise Refused(STORE)
     try:
         store = connect(path)
-        found = columns_alone(shape(store))
-        shaped = [one for one in (OLD_VERSION, VERSION) if found == columns_alone(documented(one))]
-        if not shaped:
+        found, wanted = shape(store), documented(version)
+        if found.get("version") != wanted["version"]:
             raise Refused(STORE)
         versions = store.execute("SELECT number FROM version").fetchall()
-        rows = store.execute(SELECT if shaped == [VERSION] else OLD_SELECT).fetchall()
         store.execute("PRAGMA busy_timeout = 0")
         store.execute("BEGIN IMMEDIATE")
         store.execute("COMMIT")
+        if versions != [(version,)]:
+            raise Refused(WRONG_VERSION)
+        if columns_alone(found) != columns_alone(wanted):
+            raise Refused(STORE)
+        rows = store.execute(SELECT if version == VERSION else OLD_SELECT).fetchall()
     except (sqlite3.Error, UnicodeDecodeError):
         raise Refused(STORE) from None
-    if shaped != [version] or versions != [(version,)]:
-        raise Refused(WRONG_VERSION)
     keys = {row[:3] for row in rows}
     return store, [(row, check_row(row, keys, version)) for row in rows]
 

@@ -1,5 +1,5 @@
 -- What tables over a store keep that is found.
-use Rattle.std.proofs.Common.{◌≡◌, List, IsTrue, Result, Ok, Err, IfErr, inl, inr, refl, sym, ap, subst, ◌∙◌}
+use Rattle.std.proofs.Common.{◌≡◌, List, IsTrue, Result, Ok, Err, IfErr, inl, inr, sym, ap, subst, ◌∙◌}
 use Rattle.std.specs.Prelude.{IsErrAnd}
 use Rattle.sqlite_trees.specs.Tree.{Trees}
 use Rattle.sqlite.specs.Effect.{Database}

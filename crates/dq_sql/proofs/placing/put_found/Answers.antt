@@ -1,4 +1,4 @@
-use Rattle.std.proofs.Common.{rules, ◌≡◌, ◌∷◌, false, is_some, IsPermutation}
+use Rattle.std.proofs.Common.{rules, ◌≡◌, false, is_some}
 use Rattle.dq_tables.specs.Finding.{row_at}
 use Rattle.dq_sql.specs.Tie.{kept_of}
 use Rattle.dq_sql.proofs.Ordered.{put_adds, octets_added}

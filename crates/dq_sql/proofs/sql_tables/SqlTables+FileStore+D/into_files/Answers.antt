@@ -1,4 +1,4 @@
-use Rattle.std.proofs.Common.{sym, subst, ◌∙◌, arith}
+use Rattle.std.proofs.Common.{subst, ◌∙◌, arith}
 use Rattle.std.proofs.Math.Logic.{∥∥₁_elim, ∥∥₁_map}
 use Rattle.sqlite_trees.specs.View.{IsClean}
 use Rattle.sqlite_trees.proofs.Doubt.{no_doubt}

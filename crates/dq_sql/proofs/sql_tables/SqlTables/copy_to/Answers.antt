@@ -4,7 +4,6 @@ use Rattle.sqlite.specs.Held.{state}
 use Rattle.dq_sql.specs.Filling.{IsFilled, IsNotMade}
 use Rattle.dq_sql.proofs.Keeping.{stays_kept, still_counted}
 use Rattle.dq_sql.proofs.Copied.{same_rows, not_made}
-use Rattle.dq_sql.proofs.Migrated.{unmade_itself}
 use Rattle.dq_sql.proofs.sql_tables.SqlTables.copy_to.Goals as goal
 
 pub invariant_of-self : goal.invariant_of-self
