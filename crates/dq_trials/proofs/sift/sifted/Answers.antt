@@ -26,7 +26,7 @@ loop-rest-preserved c =
       so_far.1 ∙ ap (λ (x : List ℕ). so_far.0 ++ x) (sym (take-append-drop n rest)) ∙ sym (append_assoc so_far.0 (take n rest) (drop n rest))
           ∙ ap (λ (x : List ℕ). (so_far.0 ++ x) ++ drop n rest) (sym c.split_at.ensures.front)
           ∙ ap (λ (x : List ℕ). (so_far.0 ++ piece) ++ x) (sym c.split_at.ensures.back),
-      c.in_ok-feed.ensures c.args.by.syntax c.args.by.tags.now so_far.0 so_far.2,
+      c.in_ok-feed.ensures.fed c.args.by.syntax c.args.by.tags.now so_far.0 so_far.2,
     )
 
 pub returns : goal.returns
@@ -36,4 +36,4 @@ returns c =
     let none = nil_from_length now.rest.now (eqb-true (length now.rest.now) 0 (sym c.is_empty.ensures ∙ c.loop-rest-test.false)) in
     let all = so_far.1 ∙ ap (λ (x : List ℕ). so_far.0 ++ x) none ∙ append-nil so_far.0 in
     subst (λ (o : List ℕ). IsSifted c.args.by.syntax c.args.by.tags.now o c.finish.result) (sym all)
-    (c.finish.ensures c.args.by.syntax c.args.by.tags.now so_far.0 so_far.2)
+    (c.finish.ensures.sifted c.args.by.syntax c.args.by.tags.now so_far.0 so_far.2)
