@@ -1,8 +1,8 @@
 /* Refuses a call of a program on one of its files: a library to be preloaded, for the suites. It is no part of the
  * product. Calls of one kind, REFUSE_CALL=read, write, truncate, sync or accept, on files whose path ends in REFUSE_PATH
- * are counted from 1; the path of a socket ends in ']'. REFUSE_NUMBER=N refuses the Nth, N+ that one and each after it,
- * and makes the file that REFUSE_MARK names. Refused reads and syncs fail with EIO, all others with ENOSPC, or all with
- * the number REFUSE_ERROR, and do nothing. */
+ * are counted from 1; the path of a socket ends in ']', and REFUSE_FAMILY=unix leaves other sockets out. REFUSE_NUMBER=N
+ * refuses the Nth, N+ that one and each after it, and makes the file that REFUSE_MARK names. Refused reads and syncs fail
+ * with EIO, all others with ENOSPC, or all with the number REFUSE_ERROR, and do nothing. */
 #define _GNU_SOURCE
 #include <dlfcn.h>
 #include <errno.h>
@@ -27,6 +27,14 @@ __attribute__((constructor)) static void begin(void) {
     refuses_later = number && strchr(number, '+') != NULL;
 }
 
+static int is_of_family(int file) {
+    struct sockaddr_storage own;
+    socklen_t length = sizeof own;
+    if (!getenv("REFUSE_FAMILY"))
+        return 1;
+    return getsockname(file, (struct sockaddr *)&own, &length) == 0 && own.ss_family == AF_UNIX;
+}
+
 static int is_refused_file(int file) {
     char link[64], path[4096];
     snprintf(link, sizeof link, "/proc/self/fd/%d", file);
@@ -35,7 +43,7 @@ static int is_refused_file(int file) {
     if (length < 0 || (size_t)length < end)
         return 0;
     path[length] = '\0';
-    return strcmp(path + length - end, refused_path) == 0;
+    return strcmp(path + length - end, refused_path) == 0 && is_of_family(file);
 }
 
 static int refuses(const char *call, int file) {

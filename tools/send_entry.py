@@ -1,8 +1,16 @@
 #!/usr/bin/env python3
-"""Sends an entry of the worklist, or takes one away, over the console of a server that was started with `--console PORT`.
+"""Sends entries of the worklist to a server that was started with `--console PATH`, or takes one away.
 
-An entry is readable lines, an attribute by its keyword of PS3.6 each; a sequence has its items in braces. `#` begins a
-comment:
+This file works alone, where only the program was copied: it needs Python 3.9 and no other package. It prints the
+server's answer. The exit status is 0 for `done`, 1 for a refusal, and 2 if nothing was sent or answered.
+
+  send_entry.py --console PATH INSTITUTION [FILE]            an entry from FILE, or from standard input
+  send_entry.py --console PATH INSTITUTION --withdraw ID     takes the entry with this ID away
+  send_entry.py --console PATH INSTITUTION --watch FOLDER    each file that comes into FOLDER, until it is ended
+
+An entry is a DICOM file (`.wl`, as wlmscpfs takes them), or readable lines. A DICOM file is one of PS3.10 in Implicit or
+Explicit VR Little Endian. Readable lines have an attribute each, by its keyword of PS3.6; a sequence has its items in
+braces. `#` begins a comment:
 
     PatientName = DOE^JANE
     PatientID = P100
@@ -16,29 +24,145 @@ comment:
         ScheduledProcedureStepID = S100
     }
 
-It prints the server's answer. The exit status is 0 for `done`, 1 for a refusal and 2 where nothing was sent or answered.
-Use: tools/send_entry.py --port PORT INSTITUTION [FILE]             (standard input where no file is named)
-     tools/send_entry.py --port PORT INSTITUTION --withdraw ID
+`--watch` schedules each file of FOLDER once. It moves the file to FOLDER/done, or to FOLDER/refused with the reason beside
+it in NAME.reason. To try a refused file again, move it back. While no server answers, files stay where they are, and are
+sent when one does.
+
+  Write elsewhere, then rename. Write a file under a name that begins with a dot, or in another folder of the same disk.
+  Rename it into FOLDER once it is whole. Names with a dot in front are left alone. As a second guard, a file is taken
+  only when a second has passed without a change of it.
+
+  After a stop. If this program or the server stops between an order and its answer, the file stays in FOLDER and is
+  sent again. An entry that was kept the first time is then `refused 3`, and the file goes to FOLDER/refused. Its reason
+  says when the file was sent before: the entry is most likely scheduled, so look at the worklist and delete the file.
 """
 import argparse
+import collections
+import contextlib
+import difflib
+import fcntl
+import hashlib
+import json
+import os
 import pathlib
+import re
+import signal
 import socket
 import sys
+import time
 
-sys.path.insert(0, str(pathlib.Path(__file__).resolve().parent.parent / "suite" / "model"))
+# Tags of PS3.6 section 6 with their value representations and keywords, group by group.
+DICTIONARY_TEXT = """
+0008: 0005 CS SpecificCharacterSet 0008 CS ImageType 0012 DA InstanceCreationDate 0013 TM InstanceCreationTime
+    0014 UI InstanceCreatorUID 0016 UI SOPClassUID 0018 UI SOPInstanceUID 0020 DA StudyDate 0021 DA SeriesDate
+    0022 DA AcquisitionDate 0023 DA ContentDate 002A DT AcquisitionDateTime 0030 TM StudyTime 0031 TM SeriesTime
+    0032 TM AcquisitionTime 0033 TM ContentTime 0050 SH AccessionNumber 0052 CS QueryRetrieveLevel 0054 AE RetrieveAETitle
+    0056 CS InstanceAvailability 0060 CS Modality 0061 CS ModalitiesInStudy 0062 UI SOPClassesInStudy 0064 CS ConversionType
+    0070 LO Manufacturer 0080 LO InstitutionName 0081 ST InstitutionAddress 0090 PN ReferringPhysicianName 0100 SH CodeValue
+    0102 SH CodingSchemeDesignator 0103 SH CodingSchemeVersion 0104 LO CodeMeaning 0201 SH TimezoneOffsetFromUTC
+    1010 SH StationName 1030 LO StudyDescription 1032 SQ ProcedureCodeSequence 103E LO SeriesDescription
+    1040 LO InstitutionalDepartmentName 1048 PN PhysiciansOfRecord 1050 PN PerformingPhysicianName
+    1060 PN NameOfPhysiciansReadingStudy 1070 PN OperatorsName 1080 LO AdmittingDiagnosesDescription
+    1090 LO ManufacturerModelName 1110 SQ ReferencedStudySequence 1111 SQ ReferencedPerformedProcedureStepSequence
+    1115 SQ ReferencedSeriesSequence 1120 SQ ReferencedPatientSequence 1140 SQ ReferencedImageSequence
+    1150 UI ReferencedSOPClassUID 1155 UI ReferencedSOPInstanceUID 1199 SQ ReferencedSOPSequence
+    2111 ST DerivationDescription 2112 SQ SourceImageSequence
+0010: 0010 PN PatientName 0020 LO PatientID 0021 LO IssuerOfPatientID 0030 DA PatientBirthDate 0032 TM PatientBirthTime
+    0040 CS PatientSex 1000 LO OtherPatientIDs 1001 PN OtherPatientNames 1010 AS PatientAge 1020 DS PatientSize
+    1030 DS PatientWeight 2000 LO MedicalAlerts 2110 LO Allergies 2160 SH EthnicGroup 2180 SH Occupation
+    21B0 LT AdditionalPatientHistory 21C0 US PregnancyStatus 4000 LT PatientComments
+0018: 0015 CS BodyPartExamined 0050 DS SliceThickness 0060 DS KVP 0080 DS RepetitionTime 0081 DS EchoTime
+    1000 LO DeviceSerialNumber 1020 LO SoftwareVersions 1030 LO ProtocolName 1151 IS XRayTubeCurrent 5100 CS PatientPosition
+0020: 000D UI StudyInstanceUID 000E UI SeriesInstanceUID 0010 SH StudyID 0011 IS SeriesNumber 0012 IS AcquisitionNumber
+    0013 IS InstanceNumber 0032 DS ImagePositionPatient 0037 DS ImageOrientationPatient 0052 UI FrameOfReferenceUID
+    0060 CS Laterality 1041 DS SliceLocation 1206 IS NumberOfStudyRelatedSeries 1208 IS NumberOfStudyRelatedInstances
+    1209 IS NumberOfSeriesRelatedInstances 4000 LT ImageComments
+0028: 0002 US SamplesPerPixel 0004 CS PhotometricInterpretation 0008 IS NumberOfFrames 0010 US Rows 0011 US Columns
+    0030 DS PixelSpacing 0100 US BitsAllocated 0101 US BitsStored 0102 US HighBit 0103 US PixelRepresentation
+    1050 DS WindowCenter 1051 DS WindowWidth 1052 DS RescaleIntercept 1053 DS RescaleSlope
+0032: 1032 PN RequestingPhysician 1033 LO RequestingService 1060 LO RequestedProcedureDescription
+    1064 SQ RequestedProcedureCodeSequence
+0038: 0010 LO AdmissionID 0050 LO SpecialNeeds 0300 LO CurrentPatientLocation 0500 LO PatientState
+0040: 0001 AE ScheduledStationAETitle 0002 DA ScheduledProcedureStepStartDate 0003 TM ScheduledProcedureStepStartTime
+    0004 DA ScheduledProcedureStepEndDate 0005 TM ScheduledProcedureStepEndTime 0006 PN ScheduledPerformingPhysicianName
+    0007 LO ScheduledProcedureStepDescription 0008 SQ ScheduledProtocolCodeSequence 0009 SH ScheduledProcedureStepID
+    0010 SH ScheduledStationName 0011 SH ScheduledProcedureStepLocation 0012 LO PreMedication
+    0020 CS ScheduledProcedureStepStatus 0100 SQ ScheduledProcedureStepSequence
+    0220 SQ ReferencedNonImageCompositeSOPInstanceSequence 0241 AE PerformedStationAETitle 0242 SH PerformedStationName
+    0243 SH PerformedLocation 0244 DA PerformedProcedureStepStartDate 0245 TM PerformedProcedureStepStartTime
+    0250 DA PerformedProcedureStepEndDate 0251 TM PerformedProcedureStepEndTime 0252 CS PerformedProcedureStepStatus
+    0253 SH PerformedProcedureStepID 0254 LO PerformedProcedureStepDescription 0255 LO PerformedProcedureTypeDescription
+    0260 SQ PerformedProtocolCodeSequence 0270 SQ ScheduledStepAttributesSequence 0275 SQ RequestAttributesSequence
+    0280 ST CommentsOnThePerformedProcedureStep 0281 SQ PerformedProcedureStepDiscontinuationReasonCodeSequence
+    0340 SQ PerformedSeriesSequence 1001 SH RequestedProcedureID 1002 LO ReasonForTheRequestedProcedure
+    1003 SH RequestedProcedurePriority 1004 LO PatientTransportArrangements 1400 LT RequestedProcedureComments
+    2016 LO PlacerOrderNumberImagingServiceRequest 2017 LO FillerOrderNumberImagingServiceRequest
+    2400 LT ImagingServiceRequestComments
+7FE0: 0010 OW PixelData
+"""
+# Value representations with lengths of two octets and of four (PS3.5 section 7.1.2), and those that are padded by a space.
+SHORT = set("AE AS AT CS DA DS DT FD FL IS LO LT PN SH SL SS ST TM UI UL US".split())
+LONG = set("OB OD OF OL OV OW SQ SV UC UN UR UT UV".split())
+TEXT = set("AE AS CS DA DS DT IS LO LT PN SH ST TM UC UR UT".split())
+UNDEFINED, DEEPEST = 0xFFFFFFFF, 16
+ITEM, ITEM_END, SEQUENCE_END = (0xFFFE, 0xE000), (0xFFFE, 0xE00D), (0xFFFE, 0xE0DD)
+TRANSFER_SYNTAX = (0x0002, 0x0010)
+# Transfer syntaxes that are taken, with whether they are explicit, and others by name (PS3.5 annex A).
+LITTLE_ENDIAN = {"1.2.840.10008.1.2": False, "1.2.840.10008.1.2.1": True}
+OTHER_SYNTAXES = {"1.2.840.10008.1.2.2": "Explicit VR Big Endian",
+                  "1.2.840.10008.1.2.1.99": "Deflated Explicit VR Little Endian"}
+LONGEST_ENTRY, LONGEST_FILE = 1_048_576, 4_194_304
+# Seconds: how long an answer may take, and from one look at a folder to the next.
+PATIENCE, LOOK_EVERY = 60, 1
+MEANINGS = {"refused 1": "the data set is too long, or cannot be read", "refused 2": "the entry is not complete",
+            "refused 3": "an entry with this Scheduled Procedure Step ID is kept",
+            "refused 4": "the institution keeps as many as it may", "refused 5": "there is no such entry",
+            "refused 6": "no institution has the name", "bad line": "the server does not understand the order"}
 
-import compose  # noqa: E402
-import data_sets  # noqa: E402
 
-REFUSALS = {"1": "the data set is too long, or cannot be read", "2": "the entry is not complete",
-            "3": "an entry with this Scheduled Procedure Step ID is kept", "4": "the institution keeps as many as it may",
-            "5": "there is no such entry", "6": "no institution has the name"}
+def dictionary():
+    """The keywords, each with its tag and value representation."""
+    found, group = {}, 0
+    words = DICTIONARY_TEXT.split()
+    while words:
+        word = words.pop(0)
+        if word.endswith(":"):
+            group = int(word[:-1], 16)
+        else:
+            vr, keyword = words.pop(0), words.pop(0)
+            found[keyword] = ((group, int(word, 16)), vr)
+    return found
 
 
-def words_of(lines):
-    """The words of a data set, as compose takes them, each with its line."""
-    words = []
-    for number, line in enumerate(lines, 1):
+KEYWORDS = dictionary()
+VRS = dict(KEYWORDS.values())
+
+
+class NotTaken(Exception):
+    """Why something is no entry, in words."""
+
+
+class Word(str):
+    """A word that knows the line that it stands on."""
+
+    def __new__(cls, text, line):
+        word = super().__new__(cls, text)
+        word.line = line
+        return word
+
+
+def not_understood(word, expected):
+    """The error of a word in readable lines, with what was expected in its place."""
+    shown = str(word) if len(word) <= 60 else f"{word[:60]}.."
+    return NotTaken(f"line {word.line}: '{shown}': {expected}")
+
+
+# Readable lines.
+
+def words_of(text):
+    """The words of readable lines: `Keyword=value`, and braces."""
+    words = collections.deque()
+    for number, line in enumerate(text.split("\n"), 1):
         line = line.strip()
         key, equals, value = (part.strip() for part in line.partition("="))
         if not line or line.startswith("#"):
@@ -49,45 +173,464 @@ def words_of(lines):
             parts = [f"{key}=", "{"]
         else:
             parts = [key + equals + value]
-        words += [compose.Word(part, number) for part in parts]
+        words.extend(Word(part, number) for part in parts)
     return words
 
 
-def order_of(options):
-    """The line that goes to the console."""
+def tag_of(word):
+    """The tag and the value representation that a word names."""
+    key = word.partition("=")[0]
+    if key in KEYWORDS:
+        return KEYWORDS[key]
+    found = re.fullmatch("([0-9A-Fa-f]{4})([0-9A-Fa-f]{4}):([A-Z]{2})", key)
+    if not found:
+        close = difflib.get_close_matches(key, list(KEYWORDS), 1)
+        meant = f" (is it {close[0]}?)" if close else ""
+        raise not_understood(word, f"Keyword=value was expected, with a keyword that is known{meant}, or GGGGEEEE:VR=value")
+    if found[3] not in SHORT | LONG:
+        raise not_understood(word, f"{found[3]} is no value representation")
+    return (int(found[1], 16), int(found[2], 16)), found[3]
+
+
+def octets_of(word, text):
+    """The octets that a value stands for: its text, `0xHEX`, or `zeros:COUNT`."""
+    if text.startswith("0x"):
+        if not re.fullmatch("([0-9A-Fa-f]{2})*", text[2:]):
+            raise not_understood(word, "hexadecimal digits were expected, two for each octet")
+        return bytes.fromhex(text[2:])
+    if text.startswith("zeros:"):
+        if not re.fullmatch("[0-9]{1,7}", text[6:]) or int(text[6:]) > LONGEST_ENTRY:
+            raise not_understood(word, f"a count of octets up to {LONGEST_ENTRY} was expected after zeros:")
+        return bytes(int(text[6:]))
+    return text.encode()
+
+
+def read_items(words, name, depth):
+    """The items in braces that follow a sequence's name."""
+    found = []
+    while words and words[0] == "{":
+        brace = words.popleft()
+        if depth > DEEPEST:
+            raise not_understood(brace, f"more than {DEEPEST} sequences are in one another")
+        found.append(read_words(words, depth))
+        if not words:
+            raise not_understood(brace, f"this brace of {name} is not closed")
+        words.popleft()
+    return found
+
+
+def read_words(words, depth=0):
+    """The elements that words spell, up to a closing brace or the end."""
+    found = {}
+    while words and words[0] != "}":
+        word = words.popleft()
+        name, equals, text = word.partition("=")
+        if word == "{":
+            raise not_understood(word, "items stand after the keyword of a sequence alone")
+        tag, vr = tag_of(word)
+        if not equals:
+            raise not_understood(word, "an = was expected after the keyword, with a value or nothing")
+        if tag in found:
+            raise not_understood(word, f"{name} stands a second time")
+        if vr == "SQ" and text:
+            raise not_understood(word, f"items in braces, which stand apart, were expected after {name}=")
+        found[tag] = (vr, read_items(words, name, depth + 1) if vr == "SQ" else octets_of(word, text))
+    return [(tag, *found[tag]) for tag in sorted(found)]
+
+
+def readable_entry(octets):
+    """The elements that readable lines spell."""
+    try:
+        words = words_of(octets.decode("utf-8-sig"))
+    except UnicodeDecodeError:
+        raise NotTaken("it is neither a DICOM file (PS3.10) nor text in UTF-8") from None
+    if not words:
+        raise NotTaken("it is empty")
+    found = read_words(words)
+    if words:
+        raise not_understood(words[0], "no brace is open here")
+    return found
+
+
+# DICOM files.
+
+class Octets:
+    """Octets of a file that are taken from the front, up to an end."""
+
+    def __init__(self, data, at, end):
+        self.data, self.at, self.end = data, at, end
+
+    def fault(self, words):
+        return NotTaken(f"octet {self.at} of the DICOM file: {words}")
+
+    def take(self, count):
+        if self.end - self.at < count:
+            raise self.fault("it ends too early")
+        self.at += count
+        return self.data[self.at - count:self.at]
+
+    def number(self, width):
+        return int.from_bytes(self.take(width), "little")
+
+    def tag(self):
+        return self.number(2), self.number(2)
+
+    def take_nothing(self):
+        """The length of a delimiter."""
+        if self.number(4):
+            raise self.fault("a delimiter has a length")
+
+    def within(self, length):
+        self.take(length)
+        return Octets(self.data, self.at - length, self.at)
+
+    def is_over(self):
+        return self.at == self.end
+
+
+def read_elements(octets, is_explicit, is_delimited=False, depth=0):
+    """The elements of a data set (PS3.5 section 7.1), or of an item up to its delimiter; no group lengths."""
+    found, last = [], (-1, 0)
+    while is_delimited or not octets.is_over():
+        tag = octets.tag()
+        if is_delimited and tag == ITEM_END:
+            octets.take_nothing()
+            break
+        if tag[0] == 0xFFFE or tag <= last:
+            raise octets.fault(f"the element {shown(tag)} is out of order")
+        last = tag
+        vr, value = read_element(octets, tag, is_explicit, depth)
+        if tag[1]:
+            found.append((tag, vr, value))
+    return found
+
+
+def read_element(octets, tag, is_explicit, depth):
+    """The value representation of an element whose tag was taken, and its octets or items."""
+    known = VRS.get(tag)
+    spelled = octets.take(2).decode("latin-1") if is_explicit else None
+    if is_explicit and spelled not in SHORT | LONG:
+        raise octets.fault(f"{shown(tag)} has no value representation")
+    is_open = spelled in (None, "SQ", "UN")
+    if known == "SQ" and not is_open or known not in (None, "SQ") and spelled == "SQ":
+        raise octets.fault(f"{shown(tag)} is {spelled} there, and {known} in the standard")
+    if spelled in LONG:
+        octets.take(2)
+    length = octets.number(2 if spelled in SHORT else 4)
+    if length == UNDEFINED and not (is_open and known in (None, "SQ")):
+        raise octets.fault(f"{shown(tag)} has no length, and is no sequence")
+    if length != UNDEFINED and "SQ" not in (known, spelled):
+        return known or spelled or "UN", octets.take(length)
+    if depth == DEEPEST:
+        raise octets.fault(f"more than {DEEPEST} sequences are in one another")
+    # (a sequence in UN is in Implicit, PS3.5 section 6.2.2)
+    is_delimited = length == UNDEFINED
+    inner = octets if is_delimited else octets.within(length)
+    return "SQ", read_file_items(inner, spelled == "SQ", is_delimited, depth + 1)
+
+
+def read_file_items(octets, is_explicit, is_delimited, depth):
+    """The items of a sequence (PS3.5 section 7.5)."""
+    found = []
+    while is_delimited or not octets.is_over():
+        tag = octets.tag()
+        if is_delimited and tag == SEQUENCE_END:
+            octets.take_nothing()
+            break
+        if tag != ITEM:
+            raise octets.fault(f"an item was expected in place of {shown(tag)}")
+        length = octets.number(4)
+        inner = octets if length == UNDEFINED else octets.within(length)
+        found.append(read_elements(inner, is_explicit, length == UNDEFINED, depth))
+    return found
+
+
+def file_entry(octets):
+    """The elements of the data set of a DICOM file (PS3.10 section 7)."""
+    rest, syntax = Octets(octets, 132, len(octets)), None
+    while octets[rest.at:rest.at + 2] == b"\x02\x00":
+        tag = rest.tag()
+        value = read_element(rest, tag, True, 0)[1]
+        if tag == TRANSFER_SYNTAX:
+            syntax = value.rstrip(b"\0 ").decode("latin-1")
+    if syntax is None:
+        raise NotTaken("its file meta information names no transfer syntax")
+    if syntax not in LITTLE_ENDIAN:
+        raise NotTaken(f"its transfer syntax is {OTHER_SYNTAXES.get(syntax, syntax)}: only Implicit and Explicit VR Little "
+                       "Endian are taken")
+    return read_elements(rest, LITTLE_ENDIAN[syntax])
+
+
+# Orders.
+
+def shown(tag):
+    return f"({tag[0]:04X},{tag[1]:04X})"
+
+
+def little(number, width):
+    return number.to_bytes(width, "little")
+
+
+def spelled(elements):
+    """The octets of a data set in Explicit VR Little Endian, with defined lengths."""
+    out = b""
+    for tag, vr, value in elements:
+        if vr == "SQ":
+            items = [spelled(item) for item in value]
+            value = b"".join(little(0xFFFE, 2) + little(0xE000, 2) + little(len(item), 4) + item for item in items)
+        value += (b" " if vr in TEXT else b"\0") * (len(value) % 2)
+        out += little(tag[0], 2) + little(tag[1], 2)
+        if vr in SHORT and len(value) <= 65534:
+            out += vr.encode() + little(len(value), 2) + value
+        else:
+            # (a value that is too long for its representation is UN, PS3.5 section 6.2.2)
+            out += ("UN" if vr in SHORT else vr).encode() + bytes(2) + little(len(value), 4) + value
+    return out
+
+
+def schedule_line(institution, octets):
+    """The console's line that schedules the entry of a file."""
+    if len(octets) > LONGEST_FILE:
+        raise NotTaken(f"it has {len(octets)} octets or more, which no entry has")
+    entry = spelled(file_entry(octets) if octets[128:132] == b"DICM" else readable_entry(octets))
+    if len(entry) > LONGEST_ENTRY:
+        raise NotTaken(f"its data set has {len(entry)} octets, and the server takes {LONGEST_ENTRY} at most")
+    return f"schedule {institution} {entry.hex() or '-'}"
+
+
+class Console:
+    """A call of the server's console, for one order."""
+
+    def __init__(self, path):
+        self.socket = socket.socket(socket.AF_UNIX)
+        self.socket.settimeout(PATIENCE)
+        try:
+            self.socket.connect(path)
+        except OSError as error:
+            self.socket.close()
+            raise ConnectionError(f"no server is at {path} ({error.strerror or error})") from None
+
+    def __enter__(self):
+        return self
+
+    def __exit__(self, *_):
+        self.socket.close()
+
+    def answer_to(self, line):
+        """The server's answer; an OSError if none comes."""
+        with contextlib.suppress(BrokenPipeError):
+            self.socket.sendall(line.encode() + b"\n")
+        answer = b""
+        while not answer.endswith(b"\n"):
+            more = self.socket.recv(4096)
+            if not more:
+                raise ConnectionResetError("the server closed the console without an answer")
+            answer += more
+        return answer.decode("latin-1").strip()
+
+
+def in_words(answer):
+    """An answer with its meaning."""
+    meaning = MEANINGS.get(answer)
+    return f"{answer}: {meaning}" if meaning else answer
+
+
+def status_of(answer):
+    return {"done": 0, "refused": 1}.get(answer.partition(" ")[0], 2)
+
+
+def told(words):
+    print(words, file=sys.stderr, flush=True)
+
+
+# A folder that is watched.
+
+class Watch:
+    """A folder whose files are scheduled, one after the other."""
+
+    def __init__(self, folder, console, institution):
+        self.folder, self.console, self.institution = pathlib.Path(folder), console, institution
+        self.done, self.refused = self.folder / "done", self.folder / "refused"
+        # tells the file that was sent last, while no answer of it is kept
+        self.mark = self.folder / ".sent"
+        self.is_lost = False
+
+    def run(self):
+        handle = os.open(self.folder, os.O_RDONLY)
+        try:
+            fcntl.flock(handle, fcntl.LOCK_EX | fcntl.LOCK_NB)
+        except BlockingIOError:
+            raise NotTaken(f"{self.folder} is watched already") from None
+        for place in (self.done, self.refused):
+            place.mkdir(exist_ok=True)
+        before = {}
+        while True:
+            found = self.files()
+            for name, state in found.items():
+                if before.get(name) == state and not self.take(name, state):
+                    break
+            before = found
+            time.sleep(LOOK_EVERY)
+
+    def files(self):
+        """The files of the folder, each with what changes when it is written. The one that was sent last comes first."""
+        sent, found = self.marked().get("name"), {}
+        for entry in os.scandir(self.folder):
+            if not entry.name.startswith(".") and entry.is_file(follow_symlinks=False):
+                found[entry.name] = self.state_of(entry.name)
+        return {name: found[name] for name in sorted(found, key=lambda name: (name != sent, name))}
+
+    def state_of(self, name):
+        """What changes when a file is written or replaced; None if it is not there."""
+        with contextlib.suppress(FileNotFoundError):
+            state = (self.folder / name).lstat()
+            return state.st_ino, state.st_size, state.st_mtime_ns
+        return None
+
+    def take(self, name, state):
+        """Schedules a file and moves it. The answer is whether there was one of the server, or none was needed."""
+        try:
+            with (self.folder / name).open("rb") as file:
+                octets = file.read(LONGEST_FILE + 1)
+            line = schedule_line(self.institution, octets)
+        except FileNotFoundError:
+            return True
+        except OSError as error:
+            self.move(name, state, self.refused, f"it cannot be read: {error.strerror}")
+            return True
+        except (NotTaken, MemoryError) as why:
+            self.move(name, state, self.refused, str(why) or "it takes too much memory")
+            return True
+        digest, mark = hashlib.sha256(octets).hexdigest(), self.marked()
+        before = mark.get("time") if (mark.get("name"), mark.get("sha256")) == (name, digest) else None
+        answer = self.answer_to(line, {"name": name, "sha256": digest, "time": before or now()})
+        if answer is None:
+            return False
+        words = in_words(answer)
+        if answer == "refused 3" and before:
+            words += (f". This file was sent at {before} too, and no answer was kept: the entry is most likely scheduled. "
+                      "Look at the worklist, then delete the file.")
+        self.move(name, state, self.done if answer == "done" else self.refused, words)
+        self.mark.unlink(missing_ok=True)
+        return True
+
+    def answer_to(self, line, mark):
+        """The server's answer, before which the mark is kept; None if there is none, which is told once."""
+        try:
+            with Console(self.console) as console:
+                self.put_mark(mark)
+                answer = console.answer_to(line)
+        except Unkept:
+            raise
+        except OSError as error:
+            if not self.is_lost:
+                told(f"no answer: {error}. It is tried again until there is one.")
+            self.is_lost = True
+            return None
+        if self.is_lost:
+            told(f"the server at {self.console} answers again")
+        self.is_lost = False
+        return answer
+
+    def move(self, name, state, place, words):
+        """Moves a file to a place, with the reason beside it if it is refused, and says so."""
+        if self.state_of(name) != state:
+            print(f"{name}: {words} (and another file has this name now)", flush=True)
+            return
+        stem = name if len(os.fsencode(name)) < 240 else name[:50]
+        target, number = place / stem, 0
+        while target.exists() or reason_of(target).exists():
+            number += 1
+            target = place / f"{stem}.{number}"
+        if place == self.refused:
+            write_whole(reason_of(target), words + "\n")
+        (self.folder / name).rename(target)
+        print(f"{name}: {words}", flush=True)
+
+    def marked(self):
+        """The mark of the file that was sent last: its name, its digest and the time."""
+        try:
+            return json.loads(self.mark.read_text())
+        except (FileNotFoundError, ValueError):
+            return {}
+
+    def put_mark(self, mark):
+        try:
+            write_whole(self.mark, json.dumps(mark))
+        except OSError as error:
+            raise Unkept(error.errno, f"{self.mark} cannot be written: {error.strerror}") from None
+
+
+class Unkept(OSError):
+    """The mark cannot be written, so that nothing may be sent."""
+
+
+def now():
+    return time.strftime("%Y-%m-%dT%H:%M:%SZ", time.gmtime())
+
+
+def reason_of(path):
+    return path.with_name(path.name + ".reason")
+
+
+def write_whole(path, text):
+    """Writes a file that is there whole or not at all, whenever the machine stops."""
+    part = path.with_name(".part")
+    with part.open("w", encoding="utf-8", errors="backslashreplace") as file:
+        file.write(text)
+        file.flush()
+        os.fsync(file.fileno())
+    part.replace(path)
+
+
+# The command line.
+
+def parser():
+    words = argparse.ArgumentParser(description=__doc__, formatter_class=argparse.RawDescriptionHelpFormatter,
+                                    usage="%(prog)s --console PATH INSTITUTION [FILE | --withdraw ID | --watch FOLDER]")
+    words.add_argument("institution", metavar="INSTITUTION", help="the institution's name in the configuration")
+    words.add_argument("file", metavar="FILE", nargs="?", help="an entry: a DICOM file, or readable lines")
+    words.add_argument("--console", metavar="PATH", required=True, help="the socket that the server's --console names")
+    other = words.add_mutually_exclusive_group()
+    other.add_argument("--withdraw", metavar="ID", help="the Scheduled Procedure Step ID of the entry to take away")
+    other.add_argument("--watch", metavar="FOLDER", help="the folder whose files are scheduled")
+    return words
+
+
+def send(options):
+    """Sends one order; the exit status."""
     if options.withdraw is not None:
-        return f"withdraw {options.institution} {options.withdraw.encode().hex() or '-'}"
-    text = sys.stdin.read() if options.file is None else pathlib.Path(options.file).read_text(encoding="utf-8")
-    octets = data_sets.canonical(compose.data_set(words_of(text.split("\n"))), data_sets.EXPLICIT)
-    return f"schedule {options.institution} {octets.hex() or '-'}"
-
-
-def answer_to(line, host, port):
-    with socket.create_connection((host, port), 60) as console:
-        console.sendall(line.encode() + b"\n")
-        with console.makefile("r", encoding="ascii") as answers:
-            return answers.readline().strip()
+        line = f"withdraw {options.institution} {options.withdraw.encode().hex() or '-'}"
+    else:
+        octets = sys.stdin.buffer.read(LONGEST_FILE + 1) if options.file is None else pathlib.Path(options.file).read_bytes()
+        line = schedule_line(options.institution, octets)
+    with Console(options.console) as console:
+        try:
+            answer = console.answer_to(line)
+        except OSError as error:
+            raise NotTaken(f"no answer ({error}): the order may have been taken. Send it again: `refused 3`, of a withdrawal "
+                           "`refused 5`, then tells that it was.") from None
+    print(in_words(answer))
+    return status_of(answer)
 
 
 def main():
-    words = argparse.ArgumentParser(description="Sends an entry of the worklist, or takes one away.")
-    words.add_argument("institution", help="the institution's name in the configuration")
-    words.add_argument("file", nargs="?", help="the entry, as readable lines")
-    words.add_argument("--port", type=int, required=True, help="the port of the console")
-    words.add_argument("--host", default="127.0.0.1")
-    words.add_argument("--withdraw", metavar="ID", help="the Scheduled Procedure Step ID of the entry to take away")
+    words = parser()
     options = words.parse_args()
+    if options.file is not None and (options.watch is not None or options.withdraw is not None):
+        words.error("a FILE goes with neither --withdraw nor --watch")
+    sys.stdout.reconfigure(errors="backslashreplace")
+    # (Ctrl-C ends it as SIGTERM does, at any place)
+    signal.signal(signal.SIGINT, signal.SIG_DFL)
     try:
-        answer = answer_to(order_of(options), options.host, options.port)
-    except compose.BadScene as bad:
-        print(f"line {bad.line}: {bad}", file=sys.stderr)
-        return 2
-    except (OSError, UnicodeDecodeError) as error:
-        print(error, file=sys.stderr)
-        return 2
-    word, _, number = answer.partition(" ")
-    print(f"{answer}: {REFUSALS[number]}" if word == "refused" and number in REFUSALS else answer or "no answer")
-    return {"done": 0, "refused": 1}.get(word, 2)
+        if not re.fullmatch("[A-Z0-9_]{1,16}", options.institution):
+            raise NotTaken(f"'{options.institution}' is no institution's name: 1 to 16 of A to Z, 0 to 9 and _")
+        if options.watch is None:
+            return send(options)
+        Watch(options.watch, options.console, options.institution).run()
+    except (NotTaken, OSError) as why:
+        told(why)
+    return 2
 
 
 if __name__ == "__main__":

@@ -22,7 +22,7 @@ PENDING = (0xFF00, 0xFF01)
 
 def free_port(host=HOST):
     """A port that nobody listens on."""
-    with socket.socket() as listener:
+    with socket.socket(socket.AF_INET6 if ":" in host else socket.AF_INET) as listener:
         listener.bind((host, 0))
         return listener.getsockname()[1]
 
@@ -40,15 +40,18 @@ def until(condition, patience=PATIENCE):
 class Serving:
     """A run of `serve` with these words, and these variables besides, which has told that it is ready."""
 
-    def __init__(self, program, *words, has_console=False, environment=None):
+    def __init__(self, program, *words, has_console=False, environment=None, host=HOST, umask=-1, errors=None):
         environment = {name: str(value) for name, value in (environment or {}).items()}
+        self.room = tempfile.TemporaryDirectory(prefix="console-")
+        self.console_path = pathlib.Path(self.room.name) / "socket"
+        console = ["--console", self.console_path] if has_console else []
         for _ in range(5):
             self.told = tempfile.TemporaryFile()
-            self.port, self.console_port = free_port(), free_port() if has_console else None
-            console = ["--console", self.console_port] if has_console else []
+            self.port = free_port(host)
             command = [program, "serve", "--port", self.port, *console, *words]
             self.child = subprocess.Popen(list(map(str, command)), stdin=subprocess.DEVNULL, stdout=subprocess.PIPE,
-                                          stderr=self.told, env={**os.environ, **environment})
+                                          stderr=self.told if errors is None else errors, umask=umask,
+                                          env={**os.environ, **environment})
             self.first = self.child.stdout.readline()
             # another program may have taken the port meanwhile
             if self.first or self.child.wait() != 5:
@@ -69,6 +72,7 @@ class Serving:
             self.child.kill() if number is None else self.child.send_signal(number)
         status = self.child.wait()
         self.child.stdout.close()
+        self.room.cleanup()
         return status
 
     def errors(self):
@@ -81,7 +85,7 @@ class Serving:
         return Client(self.port)
 
     def console(self):
-        return Client(self.console_port)
+        return Caller(self.console_path)
 
     def is_running(self):
         return self.child.poll() is None
@@ -103,8 +107,8 @@ class Serving:
 class Client:
     """A connection to the server."""
 
-    def __init__(self, port, host=HOST):
-        self.socket = socket.create_connection((host, port), PATIENCE)
+    def __init__(self, port, host=HOST, source=None):
+        self.socket = socket.create_connection((host, port), PATIENCE, None if source is None else (source, 0))
         self.socket.setsockopt(socket.IPPROTO_TCP, socket.TCP_NODELAY, 1)
         self.octets = b""
 
@@ -172,21 +176,6 @@ class Client:
         finally:
             self.socket.settimeout(PATIENCE)
 
-    def line(self):
-        """A line of the console, without its line feed; empty where no more comes."""
-        while b"\n" not in self.octets:
-            before = len(self.octets)
-            self.fill(before + 1)
-            if len(self.octets) == before:
-                return ""
-        line, _, self.octets = self.octets.partition(b"\n")
-        return line.decode()
-
-    def ask(self, line):
-        """The console's answer to an order."""
-        self.send(line.encode() + b"\n")
-        return self.line()
-
     def pdu(self):
         """The type and the body of the next PDU; None where no whole one comes."""
         head = self.receive(6)
@@ -237,3 +226,32 @@ class Client:
 
     def close(self):
         self.socket.close()
+
+
+class Caller(Client):
+    """One who calls the console."""
+
+    def __init__(self, path):
+        self.path, self.octets, self.passed = path, b"", time.monotonic()
+        self.socket = socket.socket(socket.AF_UNIX)
+        self.socket.settimeout(PATIENCE)
+        self.socket.connect(str(path))
+
+    def line(self):
+        """A line of the console, without its line feed; empty where no more comes."""
+        while b"\n" not in self.octets:
+            before = len(self.octets)
+            self.fill(before + 1)
+            if len(self.octets) == before:
+                return ""
+        line, _, self.octets = self.octets.partition(b"\n")
+        return line.decode()
+
+    def ask(self, line):
+        """The console's answer to an order. It is called anew after a silence, at whose end it lets go."""
+        if time.monotonic() - self.passed > 30:
+            self.close()
+            self.__init__(self.path)
+        self.send(line.encode() + b"\n")
+        self.passed = time.monotonic()
+        return self.line()

@@ -2,12 +2,14 @@
 
 Each connection that comes is the next number's, from 1 on. What is read of it is a piece, its end is an end, and what is
 answered is written; nothing more is read of it before. One of which nothing is read, and whose C-FIND is open, is pulled. At most
-MOST are held. The console takes lines of a capture.
+MOST are held. The console is a Unix socket that takes lines of a capture. It lets a caller go at its first bad line.
 """
 import argparse
 import contextlib
 import errno
 import ipaddress
+import os
+import pathlib
 import selectors
 import socket
 import sys
@@ -18,6 +20,9 @@ import stores
 
 MOST, READ_MOST = 64, 16384
 HOST = "127.0.0.1"
+# The console: its callers at a time, the octets of a line, and the seconds that a caller may be silent.
+MOST_CALLERS, LONGEST_LINE, CALLER_SILENCE = 8, 2_097_408, 60
+LONGEST_ENTRY = 1_048_576
 
 
 class CannotAccept(Exception):
@@ -25,10 +30,20 @@ class CannotAccept(Exception):
 
 
 class Wire:
-    def __init__(self, stream, number):
+    def __init__(self, stream, address, number):
         stream.setblocking(False)
-        self.stream, self.number = stream, number
-        self.unsent, self.closed, self.passed = b"", False, time.monotonic()
+        self.stream, self.number, self.address = stream, number, address[0]
+        self.unsent, self.closed = b"", False
+        self.begun = self.passed = time.monotonic()
+
+
+class Caller:
+    """One who calls the console: the octets of lines that are not answered yet, what is unsent of an answer, and whether
+    nothing more is taken."""
+
+    def __init__(self, stream):
+        stream.setblocking(False)
+        self.stream, self.octets, self.unsent, self.is_over, self.passed = stream, b"", b"", False, time.monotonic()
 
 
 class Keeping:
@@ -46,11 +61,11 @@ class Keeping:
 
 
 class Service:
-    def __init__(self, keeping, listener, console=None, quiet=None):
+    def __init__(self, keeping, listener, console, words):
         self.keeping, self.listener, self.console = keeping, listener, console
-        self.quiet = quiet
-        self.newest, self.wires, self.orders = 0, [], []
-        self.rest_most = 1.0
+        self.quiet, self.artim, self.peer_connections = words.quiet, words.artim, words.peer_connections
+        self.newest, self.wires, self.callers = 0, [], []
+        self.rest_most = 0.2 if self.quiet or self.artim < 5 else 1.0
 
     def wait(self):
         """The sockets for which something may be done."""
@@ -59,10 +74,10 @@ class Service:
                 selector.register(self.listener, selectors.EVENT_READ)
             for wire in self.wires:
                 selector.register(wire.stream, selectors.EVENT_WRITE if wire.unsent else selectors.EVENT_READ)
-            if self.console is not None:
+            if self.console is not None and len(self.callers) < MOST_CALLERS:
                 selector.register(self.console, selectors.EVENT_READ)
-                for stream, _ in self.orders:
-                    selector.register(stream, selectors.EVENT_READ)
+            for caller in self.callers:
+                selector.register(caller.stream, selectors.EVENT_WRITE if caller.unsent else selectors.EVENT_READ)
             rest = 0 if any(map(self.is_pending, self.wires)) else self.rest_most
             return {key.fileobj for key, _ in selector.select(rest)}
 
@@ -72,10 +87,8 @@ class Service:
 
     def turn(self):
         ready = self.wait()
-        for stream in accepted(self.listener, ready):
-            self.newest += 1
-            self.keeping.step("open", self.newest, b"")
-            self.wires.append(Wire(stream, self.newest))
+        for stream, address in accepted(self.listener, ready):
+            self.let_in(stream, address)
         pending = [one for one in self.wires if one.stream not in ready and self.is_pending(one)]
         for wire in [one for one in self.wires if one.stream in ready]:
             self.serve(wire)
@@ -83,11 +96,25 @@ class Service:
             self.take(wire, self.keeping.step("pull", wire.number, b""))
         for wire in [one for one in self.wires if one.closed and not one.unsent]:
             self.drop(wire)
-        if self.quiet is not None:
-            for wire in [one for one in self.wires if time.monotonic() - one.passed > self.quiet]:
-                self.leave(wire)
+        for wire in [one for one in self.wires if self.is_given_up(one)]:
+            self.leave(wire)
         if self.console is not None:
             self.take_orders(ready)
+
+    def let_in(self, stream, address):
+        wire = Wire(stream, address, self.newest + 1)
+        if self.peer_connections and [one.address for one in self.wires].count(wire.address) >= self.peer_connections:
+            stream.close()
+            return
+        self.newest += 1
+        self.keeping.step("open", self.newest, b"")
+        self.wires.append(wire)
+
+    def is_given_up(self, wire):
+        """Whether a connection is silent for too long, or has not asked for an association in time (PS3.8 section 9.1.5)."""
+        now, held = time.monotonic(), self.keeping.server.held.get(wire.number)
+        is_late = self.artim and now - wire.begun > self.artim and held is not None and held.request is None
+        return is_late or self.quiet is not None and now - wire.passed > self.quiet
 
     def serve(self, wire):
         try:
@@ -132,21 +159,37 @@ class Service:
         self.wires.remove(wire)
 
     def take_orders(self, ready):
-        self.orders += [(stream, bytearray()) for stream in accepted(self.console, ready)]
-        for one in [one for one in self.orders if one[0] in ready]:
-            stream, octets = one
-            try:
-                more = stream.recv(READ_MOST)
-            except OSError:
-                more = b""
-            octets += more
-            while b"\n" in octets:
-                line, _, rest = bytes(octets).partition(b"\n")
-                octets[:] = rest
-                stream.sendall(self.order(line.decode("latin-1")).encode() + b"\n")
-            if not more:
-                stream.close()
-                self.orders.remove(one)
+        # (whatever fails at the console ends nothing)
+        with contextlib.suppress(CannotAccept):
+            self.callers += [Caller(stream) for stream, _ in accepted(self.console, ready)]
+        for caller in list(self.callers):
+            if caller.stream in ready:
+                caller.passed = time.monotonic()
+                self.hear(caller)
+            if caller.is_over and not caller.unsent or time.monotonic() - caller.passed > CALLER_SILENCE:
+                caller.stream.close()
+                self.callers.remove(caller)
+
+    def hear(self, caller):
+        """Sends what is unsent of an answer, or reads. Lines that are whole are answered one by one, as each answer is sent."""
+        try:
+            if not caller.unsent:
+                more = caller.stream.recv(READ_MOST)
+                caller.octets, caller.is_over = caller.octets + more, not more
+            while caller.unsent or b"\n" in caller.octets or len(caller.octets) > LONGEST_LINE:
+                caller.unsent = caller.unsent or self.next_answer(caller)
+                caller.unsent = caller.unsent[caller.stream.send(caller.unsent):]
+        except BlockingIOError:
+            return
+        except OSError:
+            caller.unsent, caller.is_over = b"", True
+
+    def next_answer(self, caller):
+        line, _, caller.octets = caller.octets.partition(b"\n")
+        answer = self.order(line.decode("latin-1")) if len(line) <= LONGEST_LINE else "bad line"
+        if answer == "bad line":
+            caller.octets, caller.is_over = b"", True
+        return answer.encode() + b"\n"
 
     def order(self, line):
         if line == "report":
@@ -159,9 +202,9 @@ class Service:
 
 
 def accepted(listener, ready):
-    """The connections that come in: one, or none."""
+    """The connections that come in, with their addresses: one, or none."""
     try:
-        return [listener.accept()[0]] if listener in ready else []
+        return [listener.accept()] if listener in ready else []
     except (BlockingIOError, ConnectionAbortedError):
         return []
     except OSError as error:
@@ -171,7 +214,8 @@ def accepted(listener, ready):
 
 
 def listening(host, port):
-    listener = socket.create_server((host, port), backlog=128)
+    family = socket.AF_INET6 if ":" in host else socket.AF_INET
+    listener = socket.create_server((host, port), family=family, backlog=128)
     listener.setblocking(False)
     return listener
 
@@ -182,6 +226,24 @@ def number_in(least, most):
             raise argparse.ArgumentTypeError(text)
         return int(text)
     return number
+
+
+def console_at(path):
+    """The console's socket, with rights for its owner alone. A file that a server left behind is taken away."""
+    path = pathlib.Path(path)
+    if path.is_socket():
+        with socket.socket(socket.AF_UNIX) as probe:
+            if not probe.connect_ex(str(path)):
+                raise OSError(errno.EADDRINUSE, "somebody listens there")
+        path.unlink()
+    console, before = socket.socket(socket.AF_UNIX), os.umask(0o177)
+    try:
+        console.bind(str(path))
+    finally:
+        os.umask(before)
+    console.listen(128)
+    console.setblocking(False)
+    return console
 
 
 class Words(argparse.ArgumentParser):
@@ -195,9 +257,12 @@ def parser():
     words.add_argument("--port", type=number_in(1, 65535), required=True, metavar="<PORT>")
     words.add_argument("--turns", type=number_in(0, 2 ** 32 - 1), metavar="<TURNS>")
     words.add_argument("--listen", default=HOST, metavar="<ADDRESS>")
-    words.add_argument("--console", type=number_in(1, 65535), metavar="<PORT>")
+    words.add_argument("--console", metavar="<PATH>")
+    words.add_argument("--artim", type=number_in(0, 2 ** 32 - 1), default=30, metavar="<SECONDS>")
     words.add_argument("--quiet", type=number_in(1, 2 ** 32 - 1), metavar="<SECONDS>")
+    words.add_argument("--peer-connections", type=number_in(0, 2 ** 32 - 1), default=0, metavar="<N>")
     words.add_argument("--log", action="store_true")
+    words.add_argument("--log-file", metavar="<FILE>")
     return replies.with_options(words)
 
 
@@ -209,7 +274,7 @@ def serve(words, service=Service):
         return status
     try:
         listener = listening(str(ipaddress.ip_address(words.listen)), words.port)
-        console = None if words.console is None else listening(HOST, words.console)
+        console = None if words.console is None else console_at(words.console)
     except (OSError, ValueError):
         print("network", file=sys.stderr)
         return 5
@@ -222,7 +287,7 @@ def serve(words, service=Service):
         # nobody else may have it from now on
         store.execute("PRAGMA locking_mode = EXCLUSIVE")
         store.executescript("BEGIN IMMEDIATE; COMMIT")
-    serving = service(Keeping(institutions, store), listener, console, words.quiet)
+    serving = service(Keeping(institutions, store), listener, console, words)
     if words.turns is not None:
         serving.rest_most = 0.001
     while words.turns is None or words.turns > 0:

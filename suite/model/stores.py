@@ -2,10 +2,9 @@
 keeper, over Python's own sqlite3.
 
 A row is (kind, inst, id, above, patient, day, octets, started): kind 1 study, 2 series, 3 image, 4 entry, 5 step; the
-institution's name; the key, and the key of the row above it; of a study and of an entry the only value of Patient ID, and of a
-study the only value of Study Date, of an entry that of the start date of its only step, as a number where it is a date; the data
-set in Explicit VR Little Endian; and 1 of an entry that a step has started, else 0. Version 1 of a store has not the last column,
-nor an entry's patient and day.
+institution's name; the key, and the key of the row above it; of a study the only value of Patient ID, and the only value of
+Study Date as a number where it is a date; the data set in Explicit VR Little Endian; and 1 of an entry that a step has started,
+else 0. Version 1 of a store has not the last column.
 """
 import os
 import sqlite3
@@ -28,7 +27,8 @@ CREATE TABLE kept (kind INTEGER NOT NULL CHECK (kind BETWEEN 1 AND 5), inst TEXT
 CREATE TABLE version (number INTEGER NOT NULL) STRICT;
 CREATE INDEX kept_above ON kept (kind, inst, above, id);
 CREATE INDEX kept_patient ON kept (kind, inst, patient, id);
-CREATE INDEX kept_day ON kept (kind, inst, started, day, id);
+CREATE INDEX kept_day ON kept (kind, inst, day, id);
+CREATE INDEX kept_started ON kept (kind, inst, started, id);
 """
 OLD_TABLES = TABLES.replace(" started INTEGER NOT NULL,", "").partition("CREATE INDEX kept_patient")[0]
 COLUMNS = "kind, inst, id, above, patient, day, octets"
@@ -56,12 +56,11 @@ def scheduled_step(data_set):
     return steps[2][0] if steps is not None and len(steps[2]) == 1 else []
 
 
-def labels(kind, data_set, version=VERSION):
-    """The patient and the day of a study, and in version 2 of an entry."""
-    if kind != STUDY and (kind, version) != (ENTRY, VERSION):
+def labels(kind, data_set):
+    """The patient and the day of a study."""
+    if kind != STUDY:
         return None, None
-    date = only_value(element_of(data_set, DATE) if kind == STUDY
-                      else element_of(scheduled_step(data_set), matching.START_DATE))
+    date = only_value(element_of(data_set, DATE))
     is_day = date is not None and matching.day_of(date) is not None
     return only_value(element_of(data_set, PATIENT)), int(date) if is_day else None
 
@@ -129,14 +128,14 @@ def own_key(kind, key, data_set):
     return services.only_uid(data_set, tags[kind]) == key
 
 
-def check_row(row, keys, version):
+def check_row(row, keys):
     kind, name, key, above, patient, day, octets, started = row
     if not STUDY <= kind <= STEP or started not in ((0, 1) if kind == ENTRY else (0,)):
         raise Refused(BAD_ROWS)
     data_set = data_set_of(octets)
     tags = {SERIES: services.STUDY, IMAGE: services.SERIES}
     own_above = services.only_uid(data_set, tags[kind]) if kind in tags else b""
-    if not own_key(kind, key, data_set) or above != own_above or (patient, day) != labels(kind, data_set, version):
+    if not own_key(kind, key, data_set) or above != own_above or (patient, day) != labels(kind, data_set):
         raise Refused(BAD_ROWS)
     if kind in tags and (kind - 1, name, above) not in keys:
         raise Refused(BAD_ROWS)
@@ -160,8 +159,7 @@ def empty(path):
 
 def as_of_old(row):
     """The columns of version 1 of a row."""
-    kind, name, key, above, patient, day, octets, _ = row
-    return (kind, name, key, above, *((None, None) if kind == ENTRY else (patient, day)), octets)
+    return row[:7]
 
 
 def fill(store, rows, version=VERSION):
@@ -208,14 +206,14 @@ def adopt(path, version=VERSION):
     except (sqlite3.Error, UnicodeDecodeError):
         raise Refused(STORE) from None
     keys = {row[:3] for row in rows}
-    return store, [(row, check_row(row, keys, version)) for row in rows]
+    return store, [(row, check_row(row, keys)) for row in rows]
 
 
 def migrated(found):
-    """Rows of version 1 with their data sets, as rows of version 2: an entry says its patient and its day, and is started where a
-    kept step of its institution names it, whenever it was scheduled."""
+    """Rows of version 1 with their data sets, as rows of version 2: an entry is started where a kept step of its institution names
+    it, whenever it was scheduled."""
     named = {(row[1], key) for row, data_set in found if row[0] == STEP for key in services.ids_named(data_set)}
-    return [(*row[:4], *labels(row[0], data_set), row[6], int(row[0] == ENTRY and row[1:3] in named)) for row, data_set in found]
+    return [(*row[:7], int(row[0] == ENTRY and row[1:3] in named)) for row, _ in found]
 
 
 def migrate(old, new_one):

@@ -4,8 +4,11 @@
 FAULT is `nothing` for a server that is right, or names what is wrong, with its parts joined by `:`. The words are `replay`,
 `report`, `serve` or `loopback`, and their options. suite/notices plays such servers in the suites, which have to fail.
 """
+import errno
 import io
+import os
 import signal
+import stat
 import sys
 from pathlib import Path
 
@@ -445,14 +448,9 @@ def store_without_patients():
     stores.labels = lambda *words: (None, right(*words)[1])
 
 
-def store_without_entry_days():
+def store_with_entry_patients():
     right = stores.labels
-
-    def labels(kind, *words):
-        patient, day = right(kind, *words)
-        return patient, None if kind == stores.ENTRY else day
-
-    stores.labels = labels
+    stores.labels = lambda kind, data_set: right(stores.STUDY if kind == stores.ENTRY else kind, data_set)
 
 
 def store_without_an_index():
@@ -575,9 +573,63 @@ def console_forgets_orders():
         return "done" if line.startswith("schedule NORTH") and len(line) > 100 else right(self, line)
 
 
-def console_at(address):
-    right = serving.listening
-    serving.listening = lambda host, port: right(address if host == serving.HOST else host, port)
+def console_for_all():
+    """Everybody may write the console's file."""
+    right = serving.console_at
+
+    def console_at(path):
+        console = right(path)
+        os.chmod(path, 0o666)
+        return console
+
+    serving.console_at = console_at
+
+
+def console_takes(what):
+    """What is at the console's path is taken away: a socket that is in `use`, or a `file` of another kind; or nothing is."""
+    right = serving.console_at
+
+    def console_at(path):
+        is_socket = stat.S_ISSOCK(os.stat(path).st_mode) if os.path.exists(path) else None
+        if is_socket and what == "nothing":
+            raise OSError(errno.EADDRINUSE, "it is there")
+        if is_socket and what == "use" or is_socket is False and what == "file" and not os.path.isdir(path):
+            os.unlink(path)
+        return right(path)
+
+    serving.console_at = console_at
+
+
+def console_holds(most):
+    serving.MOST_CALLERS = int(most)
+
+
+def console_waits(seconds):
+    serving.CALLER_SILENCE = int(seconds)
+
+
+def console_line_of(most):
+    """Another length is the greatest of a line."""
+    serving.LONGEST_LINE = int(most)
+
+
+def console_goes_on():
+    """A caller stays after a line that is none."""
+    @of_service("next_answer")
+    def next_answer(self, right, caller):
+        line, _, rest = caller.octets.partition(b"\n")
+        answer = right(self, caller)
+        caller.octets, caller.is_over = rest, False
+        return answer
+
+
+def console_cuts_long_lines():
+    """A longest line that comes with octets of the next one is none."""
+    @of_service("next_answer")
+    def next_answer(self, right, caller):
+        if len(caller.octets) > serving.LONGEST_LINE:
+            caller.octets = b"\n"
+        return right(self, caller)
 
 
 def loopback_sorts_by_text():
@@ -786,14 +838,17 @@ FAULTS = {"stop-at-unreadable": stop_at_unreadable, "limit-over-all": limit_over
           "migrates-without-a-row": migrates_without_a_row, "migrates-any-version": migrates_any_version,
           "migrates-over-rows": migrates_over_rows, "migrates-and-empties": migrates_and_empties,
           "migrates-row-by-row": migrates_row_by_row, "old-store-is-taken": old_store_is_taken,
-          "store-without-entry-days": store_without_entry_days,
+          "store-with-entry-patients": store_with_entry_patients,
           "store-without-an-index": store_without_an_index, "socket-drops-an-octet": socket_drops_an_octet,
           "socket-answers-another": socket_answers_another, "socket-never-closes": socket_never_closes,
           "socket-drops-what-waits": socket_drops_what_waits, "socket-waits-for-one": socket_waits_for_one,
           "socket-holds": socket_holds, "socket-stops-at-a-reset": socket_stops_at_a_reset,
           "socket-stops-at": socket_stops_at, "socket-keeps-what-ended": socket_keeps_what_ended, "socket-spins": socket_spins,
           "socket-forgets": socket_forgets, "socket-ends-with": socket_ends_with,
-          "console-forgets-orders": console_forgets_orders, "console-at": console_at,
+          "console-forgets-orders": console_forgets_orders, "console-for-all": console_for_all,
+          "console-takes": console_takes, "console-holds": console_holds, "console-waits": console_waits,
+          "console-line-of": console_line_of, "console-goes-on": console_goes_on,
+          "console-cuts-long-lines": console_cuts_long_lines,
           "loopback-sorts-by-text": loopback_sorts_by_text, "abort-reason": abort_reason,
           "drops-the-rest": drops_the_rest, "fragments-at-most": fragments_at_most, "opens-at-most": opens_at_most,
           "looks-at-all-held": looks_at_all_held, "dear-pdus": dear_pdus,

@@ -1,5 +1,5 @@
 //! An association: what each PDU leads to, by the table of states (PS3.8 section 9.2).
-ghost use Rattle.std.specs.Prelude.{◌≡◌, ◌∷◌, [], ◌++◌, List, Option, true, false, if◌then◌else◌, IfOk, OnOk, Some, None, is_some};
+ghost use Rattle.std.specs.Prelude.{◌≡◌, ◌∷◌, [], ◌++◌, List, Option, true, false, if◌then◌else◌, IsTrue, IfOk, OnOk, Some, None, is_some};
 ghost use Rattle.std.specs.Option.{ForSome, option_copied};
 ghost use Rattle.dq_pdu.specs.declared.fault.PduFault.{PduFault};
 ghost use Rattle.dq_pdu.specs.Writing.{IsWritable};
@@ -13,7 +13,7 @@ ghost use Rattle.dq_assoc.specs.Inputs.{misplaced_input, closing_input, reason_o
 ghost use Rattle.dq_assoc.specs.Associations.{Held as Pure};
 ghost use Rattle.dq_assoc.specs.After.{state_of, is_closed, association_at, association_by, association_from, open_if, inputs_by, inputs_from, TakesRole, Takes};
 ghost use Rattle.dq_assoc.specs.Steps.{after_messages, step_of, values_step, fault_answer, outcome};
-ghost use Rattle.dq_assoc.specs.Holding.{IsStep, Stands, WasGiven, accepted_by, accepted_in, held_agreement, held_state};
+ghost use Rattle.dq_assoc.specs.Holding.{IsStep, Stands, WasGiven, accepted_by, accepted_in, held_agreement, held_state, is_unspent};
 
 use crate::agreement::{Agreement, PeerLimit};
 use crate::negotiation;
@@ -307,7 +307,15 @@ impl Association {
         ensures after { WasGiven [] self.new }
         ensures state { held_state self.new ≡ State.Waiting }
     {
-        self.held = Held::Waiting;
+        self.hold(Held::Waiting);
+    }
+
+    /// Holds this in the place of what was held.
+    fn hold(&mut self, held: Held)
+        requires { IsTrue (is_unspent held) }
+        ensures { self.new ≡ held }
+    {
+        self.held = held;
     }
 
     /// The state that the association is in.
@@ -358,7 +366,7 @@ impl Association {
             let next = (line State.Waiting verdict (Requested request)).next in
             Stands self.new (association_at next request)) }
     {
-        self.held = Held::Closed(None);
+        self.hold(Held::Closed(None));
         match negotiation::peer_limit(&request, verdict) {
             Ok(limit) => self.open_unless_stray(&request, limit),
             Err(rejected) => {
@@ -389,7 +397,8 @@ impl Association {
         }
         // AE-7
         let octets = write_pdu(self.alloc, &answer)?;
-        self.held = opened(self.alloc, request, limit)?;
+        let held = opened(self.alloc, request, limit)?;
+        self.hold(held);
         Ok(Step {
             messages: Listed::empty(self.alloc),
             octets: Listed::from_inner(octets),
@@ -419,12 +428,12 @@ impl Association {
     {
         let read = read_values(self.alloc, &mut assembler, values)?;
         if read.is_faulty {
-            self.held = Held::Closed(Some(agreement));
+            self.hold(Held::Closed(Some(agreement)));
             // AA-8
             let invalid = Pdu::Abort(BY_PROVIDER, INVALID_PARAMETER);
             return closing_step(self.alloc, read.messages, Some(invalid));
         }
-        self.held = Held::Open(agreement, assembler);
+        self.hold(Held::Open(agreement, assembler));
         // DT-2
         Ok(Step {
             messages: read.messages,
@@ -451,7 +460,7 @@ impl Association {
             Held::Open(agreement, assembler) => match role {
                 Role::Carries(values) => self.take_values(agreement, assembler, values.as_slice()),
                 _ => {
-                    self.held = Held::Closed(Some(agreement));
+                    self.hold(Held::Closed(Some(agreement)));
                     closing_step(self.alloc, messages, closing_answer(role))
                 }
             },
@@ -532,7 +541,7 @@ impl Association {
     {
         let answer = fault_answer(self.state(), fault);
         let held = mem::replace(&mut self.held, Held::Closed(None));
-        self.held = Held::Closed(held.into_agreement());
+        self.hold(Held::Closed(held.into_agreement()));
         closing_step(self.alloc, Listed::empty(self.alloc), answer)
     }
 }

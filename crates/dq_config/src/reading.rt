@@ -56,14 +56,20 @@ fn institution_in(alloc: Global, value: &Value) -> Result<Institution, ConfigFau
     let table = table_of(value, INSTITUTION_KEYS).ok_or(ConfigFault::Syntax)?;
     let name = string_at(table, "name").ok_or(ConfigFault::Syntax)?;
     let values = array_at(table, "routes").ok_or(ConfigFault::Syntax)?;
+    let studies = limit_at(table, "studies").ok_or(ConfigFault::Syntax)?;
+    let images = limit_at(table, "images").ok_or(ConfigFault::Syntax)?;
+    let entries = limit_at(table, "entries").ok_or(ConfigFault::Syntax)?;
+    let steps = limit_at(table, "steps").ok_or(ConfigFault::Syntax)?;
+    let associations = limit_at(table, "associations").ok_or(ConfigFault::Syntax)?;
+    let copy = Listed::copy_of(alloc, name.as_bytes())?;
     Ok(Institution {
-        name: Listed::copy_of(alloc, name.as_bytes())?,
+        name: copy,
         routes: routes(alloc, values)?,
-        studies: limit_at(table, "studies").ok_or(ConfigFault::Syntax)?,
-        images: limit_at(table, "images").ok_or(ConfigFault::Syntax)?,
-        entries: limit_at(table, "entries").ok_or(ConfigFault::Syntax)?,
-        steps: limit_at(table, "steps").ok_or(ConfigFault::Syntax)?,
-        associations: limit_at(table, "associations").ok_or(ConfigFault::Syntax)?,
+        studies,
+        images,
+        entries,
+        steps,
+        associations,
     })
 }
 

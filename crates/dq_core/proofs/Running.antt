@@ -1,5 +1,5 @@
 -- A run of a history, event by event.
-use Rattle.std.proofs.Common.{◌≡◌, ℕ, suc, false, IsTrue, List, [], ◌∷◌, ◌++◌, length, take, Option, Some, None, Result, Ok, Err, inl, inr, refl, sym, ap, ◌∙◌, append_assoc}
+use Rattle.std.proofs.Common.{◌≡◌, ◌≢◌, ℕ, suc, false, IsTrue, List, [], ◌∷◌, ◌++◌, length, take, Option, Some, None, Result, Ok, Err, inl, inr, refl, sym, ap, ◌∙◌, append_assoc}
 use Rattle.std.specs.Prelude.{Contains}
 use Rattle.std.specs.Result.{result_err, MatchResult, OnOk, OnErr}
 use Rattle.std.proofs.lemmas.List.{length-append}
@@ -196,3 +196,11 @@ with-fault (Err f) fault e n p = p
 pub begun : {institutions : List Institution} {rows : List Row} {events : List Event} (i : Institution) → HaveOwnNames institutions
     → Contains institutions i → IsRising rows → IsTrue (is_well_formed events) → Begins institutions rows events i
 begun i names listed rising formed = record { own_names = names; listed = listed; rising = rising; well_formed = formed }
+
+-- what a crash leaves of what a run came to, where before it could leave the rows alone
+module _ (institutions : List Institution) (rows : List Row) (events : List Event) (given : List Reply) (now : State) where
+  pub left-of : (fault : Option Fault) → IsRun institutions rows events given now.rows → (fault ≡ None → IsSettled now)
+      → (fault ≢ None → (r : List Row) → now.may_leave r → IsLeftOf institutions rows events given now.rows r)
+      → (r : List Row) → now.may_leave r → IsLeftOf institutions rows events given now.rows r
+  left-of None run settled crash r may = record { operations = run.operations; rows_then = run.rows_then; with_next = inl ((settled refl).only r may) }
+  left-of (Some fault) run settled crash r may = crash (λ is. cc) r may

@@ -32,7 +32,7 @@ newest-append newest (event.Open number ∷ xs) ys = newest-append (Some number)
 newest-append newest (event ∷ xs) ys = newest-append newest xs ys
 
 -- An answer leaves tables that have not failed.
-still-working : {A : Type 0} {old new : State} {a : A} → Goes old new (ok_of a) → old.failed ≡ false → (b : Bool) → new.failed ≡ b → b ≡ false
+pub still-working : {A : Type 0} {old new : State} {a : A} → Goes old new (ok_of a) → old.failed ≡ false → (b : Bool) → new.failed ≡ b → b ≡ false
 still-working goes works false e = refl
 still-working goes works true e = elim (goes.untold e) [ inl was ↦ absurd (false≢true (sym works ∙ was)) | inr faulted ↦ cc ]
 

@@ -37,7 +37,7 @@ use Rattle.dq_core.specs.Owners.{owner, live_of}
 use Rattle.dq_core.specs.Histories.{is_above}
 use Rattle.dq_core.specs.Tallies.{place_in, tallied, IsTallied, one_less, one_more, retallied_by}
 use Rattle.dq_core.specs.Shared.{World, turn, owner_turn, answer_by}
-use Rattle.dq_core.specs.Slots.{StandsAt, IsHeld, AreHeld, Turned, IsTaken, Took, answer_of, home_of, is_home}
+use Rattle.dq_core.specs.Slots.{StandsAt, has_slot, has_query, has_query_at, has_search, IsHeld, AreHeld, Turned, IsTaken, Took, answer_of, home_of, is_home}
 use Rattle.dq_core.proofs.Owning.{Waits, no-home, counted-held}
 use Rattle.dq_core.proofs.Slotted.{has_number, Found, found, found-none, left, changed, opened, inserts-last, all-below, none-above, all-left, same-length}
 use Rattle.dq_core.proofs.Tallying.{bit, live-left, live-changed, live-opened, live-within, ended-anywhere, retally}
@@ -391,6 +391,12 @@ not-quiet institutions number piece held cs place h e f (inl none) = false≢tru
 not-quiet institutions number piece held cs place h e f (inr none) =
     let at = (found institutions number place held.slots held.places.entries cs h.at e).is_in in cc
 
+-- whatever that is
+pub not-always : (number : ℕ) (piece : List ℕ) (held : Connections) (place : ℕ) → lookup (has_number number) held.places.entries ≡ Some place
+    → false ≡ (length piece == 0) → (piece ≡ []) ⊎ (has_slot number held ≡ false) → ⊥
+not-always number piece held place e f (inl none) = false≢true (f ∙ ap (λ (octets : List ℕ). length octets == 0) none)
+not-always number piece held place e f (inr none) = false≢true (sym none ∙ ap is_some e)
+
 -- ---- pulls
 
 module _ (institutions : List Institution) (world : World) (number : ℕ) where
@@ -484,3 +490,16 @@ pub not-pending : (institutions : List Institution) (number place : ℕ) (held :
     → lookup (has_number number) held.places.entries ≡ Some place → get held.slots place ≡ Some slot → is_pending number cs ≡ false → slot.query ≡ None
 not-pending institutions number place held slot cs h e there none =
     no-query slot.query (pending-some institutions number place held slot cs h e there ∙ none)
+
+-- ---- what is open in slots, whatever they stand for
+
+pub search-none : (number : ℕ) (held : Connections) → lookup (has_number number) held.places.entries ≡ None → has_search number held ≡ false
+search-none number held e = ap (λ (o : Option ℕ). has_query_at o held.slots) e
+
+pub search-at : (number place : ℕ) (held : Connections) (o : Option Slot) → lookup (has_number number) held.places.entries ≡ Some place
+    → get held.slots place ≡ o → has_search number held ≡ has_query o
+search-at number place held o e there = ap (λ (o : Option ℕ). has_query_at o held.slots) e ∙ ap has_query there
+
+pub no-search : (number place : ℕ) (held : Connections) (slot : Slot) → lookup (has_number number) held.places.entries ≡ Some place
+    → get held.slots place ≡ Some slot → has_search number held ≡ false → slot.query ≡ None
+no-search number place held slot e there none = no-query slot.query (sym (search-at number place held (Some slot) e there) ∙ none)

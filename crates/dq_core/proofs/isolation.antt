@@ -22,7 +22,10 @@ pub mod Octets
 pub mod Keeping
 pub mod Soundness
 pub mod Sequels
+pub mod Saying
 pub mod Conversing
 pub mod Finishing
+pub mod Arriving
 pub mod Exact
+pub mod Stored
 pub mod PagedExamples

@@ -19,6 +19,7 @@ use Rattle.dq_tables.specs.declared.row.Row.{Row}
 use Rattle.dq_tables.specs.Rows.{Operation, of, after_all}
 use Rattle.dq_core.specs.declared.event.Event.{Event}
 use Rattle.dq_core.specs.declared.event.Event.TheVariants as event
+use Rattle.dq_core.specs.declared.event.Reply.{Reply}
 use Rattle.dq_core.specs.Services.{Response, Responses, served}
 use Rattle.dq_core.specs.Pages.{page_length}
 use Rattle.dq_core.specs.Answers.{verdict_at}
@@ -188,6 +189,14 @@ pub record IsAnswered (institutions : List Institution) (rows : List Row) (event
       ≡ conversation_on institutions rows number i events
   pub exact : HoldSound rows → BringOctets events
       → AllByRecursion (IsExactAt i) (arrivals institutions rows number [] events)
+
+-- So it is of a run that a fault may end, of the events that were answered.
+pub record IsAnsweredRun (institutions : List Institution) (rows : List Row) (events : List Event)
+    (given : List Reply) (number : ℕ) (i : Institution) : Type 0 where
+  pub outputs : outputs_on number events given
+      ≡ conversation_on institutions rows number i (take (length given) events)
+  pub exact : AllByRecursion (IsExactAt i)
+      (arrivals institutions rows number [] (take (length given) events))
 
 -- The outputs of the reply at an event on it are what the event adds to the conversation.
 abbrev pub IsAnsweredAt : List Institution → List Row → List Event → ℕ → Institution → Event → Type 0

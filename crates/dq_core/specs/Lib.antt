@@ -11,6 +11,7 @@ pub mod Isolation
 pub mod Renumbering
 pub mod Accepted
 pub mod Runs
+pub mod Restarts
 pub mod Searches
 pub mod Conversations
 pub mod Histories
@@ -23,3 +24,4 @@ pub mod Standing
 pub mod Looking
 pub mod Examples
 pub mod Soundness
+pub mod Stores

@@ -6,7 +6,7 @@ use Rattle.dq_core.specs.declared.event.Event.{Event}
 use Rattle.dq_core.specs.declared.fault.Fault.{Fault}
 use Rattle.dq_core.specs.declared.fault.Fault.TheVariants.{Store, Stopped}
 use Rattle.dq_core.specs.Stepping.{Goes}
-use Rattle.dq_core.specs.Standing.{Standing, StandsFor}
+use Rattle.dq_core.specs.Standing.{Standing, IsWorking, StandsFor}
 
 -- It is answered: the server stands for whatever history it stood for, and its rows stay.
 pub record Looked {Tables : Type 0} (state : Tables → State) (old new : Standing Tables)
@@ -20,7 +20,7 @@ pub record Looked {Tables : Type 0} (state : Tables → State) (old new : Standi
   pub goes : Goes {A = Unit {0}} (state old.tables) (state new.tables) (Ok tt)
 
 -- The server fails at it, and is spent. Its rows stay, and a crash leaves nothing that it could not
--- leave before. A server that stands for a history fails with Store only where its tables failed.
+-- leave before. It fails with Store only where its tables failed at this look.
 pub record FailsToLook {Tables : Type 0} (state : Tables → State) (old new : Standing Tables)
     (fault : Fault) : Type 0 where
   pub same : (state new.tables).honest → (state new.tables).rows ≡ (state old.tables).rows
@@ -30,8 +30,7 @@ pub record FailsToLook {Tables : Type 0} (state : Tables → State) (old new : S
   pub newest : new.newest ≡ old.newest
   pub spent : new.spent ≡ true
   pub goes : Goes {A = Unit {0}} (state old.tables) (state new.tables) (Err fault)
-  pub store : (rows : List Row) (events : List Event) → StandsFor state rows old events
-      → fault ≡ Store
+  pub store : IsWorking state old → fault ≡ Store
       → ((state old.tables).failed ≡ false) × ((state new.tables).failed ≡ true)
   pub stopped : (fault ≡ Stopped) ↔ (old.spent ≡ true)
   pub unchanged : old.spent ≡ true → new ≡ old

@@ -1,9 +1,9 @@
 -- What a slot of the server stands for: a connection that is held. This is there for the prover.
 use Rattle.std.specs.Str.{bytes_eq}
-use Rattle.std.specs.Prelude.{◌≡◌, ℕ, Bool, false, length, IsSome, List, [], ◌∷◌, ◌++◌, Option, Some, None, Contains}
+use Rattle.std.specs.Prelude.{◌≡◌, ℕ, Bool, false, length, IsSome, List, [], ◌∷◌, ◌++◌, Option, Some, None, is_some, Contains}
 use Rattle.std.specs.List.{AllByRecursion}
 use Rattle.std.specs.Ordering.{nat_cmp}
-use Rattle.std.specs.BTreeMap.{IsOrdered}
+use Rattle.std.specs.BTreeMap.{IsOrdered, get as place_under}
 use Rattle.slab.specs.Slab.{Slab, get}
 use Rattle.dq_pdu.specs.declared.pdu.Pdu.{Pdu}
 use Rattle.dq_pdu.specs.declared.pdu.Pdu.TheVariants.{Request as request_pdu}
@@ -62,6 +62,22 @@ pub record IsAt (institutions : List Institution) (slots : Slab Slot) (number pl
   pub there : get slots place ≡ Some slot
   pub numbered : number ≡ c.number
   pub held : IsHeld institutions slot c
+
+-- whether a slot is held under a number
+abbrev pub has_slot : ℕ → Connections → Bool
+has_slot number held = is_some (place_under nat_cmp held.places number)
+
+abbrev pub has_query : Option Slot → Bool
+has_query None = false
+has_query (Some slot) = is_some slot.query
+
+abbrev pub has_query_at : Option ℕ → Slab Slot → Bool
+has_query_at None slots = false
+has_query_at (Some place) slots = has_query (get slots place)
+
+-- whether a C-FIND is open in the slot that is held under a number
+abbrev pub has_search : ℕ → Connections → Bool
+has_search number held = has_query_at (place_under nat_cmp held.places number) held.slots
 
 -- numbers with their places, of the connections that are held
 abbrev pub AreAt : List Institution → Slab Slot → List (ℕ × ℕ) → List Connection → Type 0

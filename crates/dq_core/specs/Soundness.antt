@@ -1,11 +1,12 @@
 -- What keeps sound rows sound: the server is sent octets, and each row holds a data set.
-use Rattle.std.specs.Prelude.{List}
+use Rattle.std.specs.Prelude.{◌≡◌, true, List}
 use Rattle.std.specs.List.{AllByRecursion}
 use Rattle.dq_dataset.specs.Facts.{IsDataSet}
 use Rattle.dq_dataset.specs.Grammar.{AreOctets}
 use Rattle.dq_tables.specs.declared.row.Row.{Row}
 use Rattle.dq_tables.specs.Records.{data_set_of}
 use Rattle.dq_tables.specs.Sound.{IsSound}
+use Rattle.dq_store.specs.Levels.{is_of_its_level}
 use Rattle.dq_core.specs.declared.event.Event.{Event}
 use Rattle.dq_core.specs.declared.event.Event.TheVariants as event
 use Rattle.dq_core.specs.Services.{Order, Scheduling, Withdrawal}
@@ -18,6 +19,15 @@ HoldDataSets rows = AllByRecursion (λ (row : Row). IsDataSet (data_set_of row.o
 pub record HoldSound (rows : List Row) : Type 0 where
   pub sound : IsSound rows
   pub data_sets : HoldDataSets rows
+
+-- each record of a study, of a series and of an image holds attributes of its own level alone
+abbrev pub KeepToLevels : List Row → Type 0
+KeepToLevels rows = AllByRecursion (λ (row : Row). is_of_its_level row ≡ true) rows
+
+-- rows as the server makes them
+pub record AreMade (rows : List Row) : Type 0 where
+  pub sound : HoldSound rows
+  pub levels : KeepToLevels rows
 
 -- what an order holds
 abbrev pub HoldsOctets : Order → Type 0

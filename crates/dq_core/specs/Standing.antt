@@ -1,13 +1,14 @@
 -- Which history of events a server stands for.
-use Rattle.std.specs.Prelude.{◌≡◌, ℕ, Bool, false, List, Option, None}
+use Rattle.std.specs.Prelude.{◌≡◌, ◌⊎◌, ℕ, Bool, false, List, [], Option, None}
 use Rattle.dq_config.specs.declared.config.Institution.{Institution}
 use Rattle.dq_tables.specs.declared.row.Row.{Row}
 use Rattle.dq_tables.specs.Keeping.{State}
 use Rattle.dq_core.specs.declared.event.Event.{Event}
+use Rattle.dq_core.specs.declared.event.Event.TheVariants.{Open, Piece, End, Pull, Schedule, Withdraw}
 use Rattle.dq_core.specs.declared.connections.Connections.{Connections}
 use Rattle.dq_core.specs.Shared.{world_after}
 use Rattle.dq_core.specs.Histories.{newest_after}
-use Rattle.dq_core.specs.Slots.{AreHeld}
+use Rattle.dq_core.specs.Slots.{AreHeld, has_slot, has_search}
 
 -- What contracts see of a server. Its slots are there for the prover.
 pub record Standing (Tables : Type 0) : Type 0 where
@@ -16,6 +17,21 @@ pub record Standing (Tables : Type 0) : Type 0 where
   pub slots : Connections
   pub newest : Option ℕ
   pub spent : Bool
+
+-- What takes no memory, by what the server itself holds and whatever its tables did: the end of a
+-- connection, an empty piece, a piece under a number without a slot, and a pull where no C-FIND is
+-- open in one.
+abbrev pub IsQuiet : Connections → Event → Type 0
+IsQuiet held (End number) = Unit {0}
+IsQuiet held (Piece number piece) = (piece ≡ []) ⊎ (has_slot number held ≡ false)
+IsQuiet held (Pull number) = has_search number held ≡ false
+IsQuiet held (Open number) = ⊥
+IsQuiet held (Schedule inst octets) = ⊥
+IsQuiet held (Withdraw inst id) = ⊥
+
+-- The tables of a server that is not spent have not failed. A new server is so, and stays so.
+abbrev pub IsWorking : {Tables : Type 0} → (Tables → State) → Standing Tables → Type 0
+IsWorking state server = server.spent ≡ false → (state server.tables).failed ≡ false
 
 -- A server stands for a history over the rows that were there as it began: it is not spent, it
 -- holds exactly the connections that the plain server holds, each after the octets that came on it,

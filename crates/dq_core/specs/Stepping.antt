@@ -30,16 +30,6 @@ TakesNoMemory connections (Open number) = ⊥
 TakesNoMemory connections (Schedule inst octets) = ⊥
 TakesNoMemory connections (Withdraw inst id) = ⊥
 
--- an end and an empty piece, whatever the server holds
-abbrev pub NeverTakesMemory : Event → Type 0
-NeverTakesMemory (End number) = Unit {0}
-NeverTakesMemory (Piece number []) = Unit {0}
-NeverTakesMemory (Piece number piece) = ⊥
-NeverTakesMemory (Pull number) = ⊥
-NeverTakesMemory (Open number) = ⊥
-NeverTakesMemory (Schedule inst octets) = ⊥
-NeverTakesMemory (Withdraw inst id) = ⊥
-
 -- What was not honest does not become so. Store is answered only where the tables failed in the
 -- call. Where a crash could leave the rows alone before an answer, it can leave nothing else after
 -- it.

@@ -16,7 +16,7 @@ ghost use Rattle.dq_core.specs.Histories.{is_above};
 ghost use Rattle.dq_core.specs.Shared.{World, turn};
 ghost use Rattle.dq_core.specs.Stepping.{Goes, MayLeave, IsPartOf};
 ghost use Rattle.dq_core.specs.Tallies.{IsTallied, tallied, retallied_by};
-ghost use Rattle.dq_core.specs.Slots.{AreHeld, IsHeld, StandsAt, Turned, Took, owner_at, verdict_for, without_home};
+ghost use Rattle.dq_core.specs.Slots.{has_slot, has_search, AreHeld, IsHeld, StandsAt, Turned, Took, owner_at, verdict_for, without_home};
 
 use crate::event::Reply;
 use crate::fault::Fault;
@@ -94,18 +94,20 @@ impl Connections {
 
     /// Whether a connection is held under a number.
     pub(crate) fn is_held(&self, number: u64) -> bool
-        ensures { (connections : List Connection) →
+        ensures stands { (connections : List Connection) →
             AreHeld self.now.config self.now connections →
             result ≡ is_some (connection_in number connections) }
+        ensures told { result ≡ has_slot number self.now }
     {
         self.place_of(number).is_some()
     }
 
     /// Whether a C-FIND is open on the connection that is held under a number.
     pub(crate) fn is_pending(&self, number: u64) -> bool
-        ensures { (connections : List Connection) →
+        ensures stands { (connections : List Connection) →
             AreHeld self.now.config self.now connections →
             result ≡ is_pending number connections }
+        ensures told { result ≡ has_search number self.now }
     {
         let Some(place) = self.place_of(number) else {
             return false;
@@ -176,7 +178,7 @@ impl Connections {
         ensures quiet { (connections : List Connection) →
             AreHeld self.old.config self.old connections →
             (piece.now ≡ []) ⊎ (connection_in number connections ≡ None) → IsOk result }
-        ensures empty { piece.now ≡ [] → IsOk result }
+        ensures always { (piece.now ≡ []) ⊎ (has_slot number self.old ≡ false) → IsOk result }
         ensures config { self.new.config ≡ self.old.config }
         ensures newest { self.new.newest ≡ self.old.newest }
     {
@@ -227,6 +229,7 @@ impl Connections {
         ensures quiet { (connections : List Connection) →
             AreHeld self.old.config self.old connections →
             is_pending number connections ≡ false → IsOk result }
+        ensures always { has_search number self.old ≡ false → IsOk result }
         ensures config { self.new.config ≡ self.old.config }
         ensures newest { self.new.newest ≡ self.old.newest }
     {

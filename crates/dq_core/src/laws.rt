@@ -1,13 +1,12 @@
 //! Laws of the plain server. Each function's contract is a law; its body changes nothing.
 
-ghost use Rattle.std.specs.Prelude.{◌≡◌, ◌≢◌, ◌≤◌, ◌+◌, ◌*◌, ◌⊎◌, ◌↔◌, ℕ, Bool, true, false, IsTrue, Ok, List, [], ◌∷◌, ◌++◌, length, take, filter, map, Contains, Some, None, codes};
+ghost use Rattle.std.specs.Prelude.{◌≡◌, ◌≢◌, ◌≤◌, ◌+◌, ◌*◌, ◌⊎◌, ◌↔◌, ℕ, Bool, true, false, IsTrue, Ok, List, [], ◌∷◌, ◌++◌, length, take, filter, map, Contains, Some, None, codes, IsOk, IfOk};
 ghost use Rattle.dq_pdu.specs.declared.pdu.Request.{Request};
 ghost use Rattle.dq_assoc.specs.declared.association.Verdict.{Verdict};
 ghost use Rattle.dq_assoc.specs.Inputs.{inputs};
 ghost use Rattle.dq_tables.specs.declared.row.Row.{Row};
 ghost use Rattle.dq_tables.specs.Rows.{Record, of, by, after, after_all};
 ghost use Rattle.dq_config.specs.declared.config.Institution.{Institution};
-ghost use Rattle.dq_core.specs.declared.event.Event.{Event};
 ghost use Rattle.dq_config.specs.Conditions.{is_sound};
 ghost use Rattle.dq_config.specs.Limits.{Limits, limits_of};
 ghost use Rattle.dq_core.specs.Answers.{piece_answer, then_answer, request_in};
@@ -39,8 +38,9 @@ ghost use Rattle.dq_find.specs.declared.query.Query.{Query};
 ghost use Rattle.dq_find.specs.Queries as study;
 ghost use Rattle.dq_worklist.specs.Queries as worklist;
 ghost use Rattle.dq_core.specs.Services.{Order, refusal_for, outcome_on, served, ordered};
-ghost use Rattle.dq_core.specs.Soundness.{HoldSound, HoldsOctets, BringsOctets, BringOctets, CameAsOctets};
-ghost use Rattle.dq_core.specs.Conversations.{Arrival, IsAnswered, IsAnsweredAt, conversation_on, exchange, AreFinished, without_page_requests};
+ghost use Rattle.dq_core.specs.Soundness.{HoldSound, AreMade, HoldsOctets, BringsOctets, BringOctets, CameAsOctets};
+ghost use Rattle.dq_core.specs.Stores.{IsToldTruly, IsToldTrulyAt};
+ghost use Rattle.dq_core.specs.Conversations.{Arrival, arrivals, IsAnswered, IsAnsweredRun, IsAnsweredAt, conversation_on, exchange, AreFinished, without_page_requests};
 ghost use Rattle.dq_core.specs.declared.event.Reply.TheVariants.{Octets, Done, Ignored};
 ghost use Rattle.dq_core.specs.Examples as example;
 ghost use Rattle.dq_config.specs.Document.{built_in};
@@ -49,27 +49,37 @@ ghost use Rattle.dq_mpps.specs.Creating.{created};
 ghost use Rattle.dq_mpps.specs.Changing.{changed};
 ghost use Rattle.dq_store.specs.Storing.{stored};
 ghost use Rattle.dq_tables.specs.Sound.{IsSound};
+ghost use Rattle.dq_tables.specs.Keeping.{IsSettled};
 ghost use Rattle.dq_core.specs.Shared.{World};
 ghost use Rattle.dq_core.specs.Standing.{Standing};
 ghost use Rattle.dq_core.specs.Looking.{Looked};
+ghost use Rattle.dq_core.specs.Restarts.{IsRestart};
 
+use crate::event::Event;
+use crate::fault::Fault;
+use crate::server::{Outcome, run};
 use dq_assoc::laws::{a_longer_stream_adds_inputs, the_last_input_closes};
+use dq_config::Config;
 use dq_config::laws::a_name_is_of_one;
 use dq_dataset::laws::spelling_law;
 use dq_find::laws::answers_are_the_matching_records_in_order as study_answers_in_order;
 use dq_mpps::laws::{
-    rows_hold_data_sets as steps_hold_data_sets, sound_rows_stay_sound as steps_stay_sound,
+    rows_hold_data_sets as steps_hold_data_sets,
+    rows_of_other_kinds_stay as steps_leave_other_kinds, sound_rows_stay_sound as steps_stay_sound,
 };
 use dq_store::laws::{
-    rows_hold_data_sets as stored_rows_hold_data_sets,
-    sound_rows_stay_sound as stored_rows_stay_sound,
+    records_keep_to_their_levels, rows_hold_data_sets as stored_rows_hold_data_sets,
+    sound_rows_stay_sound as stored_rows_stay_sound, the_status_says_what_stands,
 };
 use dq_tables::Tables;
 use dq_tables::laws::{other_records_stay, own_records_are_edited, rows_stay_in_order};
 use dq_worklist::laws::{
     answers_are_the_matching_records_in_order as worklist_answers_in_order,
-    rows_hold_data_sets as entries_hold_data_sets, sound_rows_stay_sound as entries_stay_sound,
+    rows_hold_data_sets as entries_hold_data_sets,
+    rows_of_other_kinds_stay as entries_leave_other_kinds,
+    sound_rows_stay_sound as entries_stay_sound,
 };
+use std::alloc::Global;
 
 /// The replies to a history are the replies to each event in turn: there is one for each event, and
 /// what comes later does not change it.
@@ -417,6 +427,32 @@ pub fn what_a_crash_leaves()
     rows_stay_in_order();
 }
 
+/// A run of a history, and what a restart finds after it. Let a crash be able to leave only the rows
+/// that the run begins with. Whatever a crash leaves afterwards then has all that was answered, and
+/// at most the operation in hand. Each institution is answered from there as by a server of its own.
+pub fn a_restart_finds_what_was_answered<T: Tables + Drop>(
+    alloc: Global,
+    config: Config,
+    tables: T,
+    events: Vec<Event>,
+) -> Result<Outcome<T>, Fault>
+    requires formed { IsTrue (is_well_formed events.items) }
+    requires working { (T.state tables).failed ≡ false }
+    ensures outcome { IsOk result }
+    ensures restart { IfOk result (λ outcome. (T.state outcome.tables).honest →
+        IsSettled (T.state tables) →
+        (found : List Row) → (T.state outcome.tables).may_leave found →
+        IsRestart config (T.state tables).rows events.items outcome.replies
+        (T.state outcome.tables).rows found) }
+{
+    what_a_crash_leaves();
+    institutions_are_isolated();
+    institutions_have_own_names();
+    config.is_sound();
+    let outcome = run(alloc, config, tables, events)?;
+    Ok(outcome)
+}
+
 /// Each service keeps rows sound that are sound and hold data sets, whatever octets it is sent, and
 /// they hold data sets then, too.
 pub fn services_keep_rows_sound()
@@ -480,6 +516,65 @@ pub fn rows_stay_sound()
     services_keep_rows_sound();
 }
 
+/// Each service leaves rows as the server makes them, whatever octets it is sent: sound ones that hold
+/// data sets, and in each record of a study, of a series and of an image attributes of its own level
+/// alone.
+pub fn services_keep_rows_as_made()
+    ensures storing { (name : List ℕ) (limits : Limits) (rows : List Row) (message : Message)
+        (syntax : Syntax) → AreOctets message.octets → AreMade rows →
+        AreMade (after (by name (stored limits (of name rows) message syntax).1) rows) }
+    ensures creating { (name : List ℕ) (limits : Limits) (rows : List Row) (message : Message)
+        (syntax : Syntax) → AreOctets message.octets → AreMade rows →
+        AreMade (after (by name (created limits (of name rows) message syntax).1) rows) }
+    ensures changing { (name : List ℕ) (rows : List Row) (message : Message)
+        (syntax : Syntax) → AreOctets message.octets → AreMade rows →
+        AreMade (after (by name (changed (of name rows) message syntax).1) rows) }
+    ensures scheduling { (name : List ℕ) (limits : Limits) (rows : List Row) (octets : List ℕ) →
+        AreOctets octets → AreMade rows →
+        AreMade (after (by name (scheduled limits (of name rows) octets).1) rows) }
+    ensures withdrawing { (name : List ℕ) (rows : List Row) (id : List ℕ) → AreMade rows →
+        AreMade (after (by name (withdrawn (of name rows) id).1) rows) }
+{
+    services_keep_rows_sound();
+    records_keep_to_their_levels();
+    steps_leave_other_kinds();
+    entries_leave_other_kinds();
+}
+
+/// So does the server, after a history and within it, and so after a run that a fault ends. At first
+/// there are no rows, and those are so.
+pub fn rows_stay_as_made()
+    ensures at_first { AreMade [] }
+    ensures history { (institutions : List Institution) (rows : List Row) (events : List Event) →
+        BringOctets events → AreMade rows →
+        AreMade (world_after institutions rows events).rows }
+    ensures within { (institutions : List Institution) (rows : List Row) (events : List Event)
+        (answered operations : ℕ) → BringOctets events → AreMade rows →
+        AreMade (rows_within institutions rows events answered operations) }
+    ensures run { (institutions : List Institution) (rows : List Row) (events : List Event)
+        (given : List Reply) (kept : List Row) → IsRun institutions rows events given kept →
+        BringOctets events → AreMade rows → AreMade kept }
+{
+    own_records_are_edited();
+    services_keep_rows_as_made();
+}
+
+/// The status of each C-STORE in a history says what stands, over rows that the server made. It is
+/// 0000 only where each element that was sent stands, with equal octets, in the record of the study,
+/// of the series or of the image after the call. It is B006 only where one does not.
+pub fn each_status_says_what_stands()
+    ensures message { (name : List ℕ) (rows : List Row) (limits : Limits)
+        (agreement : Agreement) (message : Message) → AreOctets message.octets → AreMade rows →
+        IsToldTruly limits name rows agreement message }
+    ensures history { (institutions : List Institution) (rows : List Row) (events : List Event)
+        (number : ℕ) (i : Institution) → BringOctets events → AreMade rows →
+        AllByRecursion (IsToldTrulyAt i) (arrivals institutions rows number [] events) }
+{
+    own_records_are_edited();
+    services_keep_rows_as_made();
+    the_status_says_what_stands();
+}
+
 /// Associations over a whole history. On a connection that an institution owns the server sends
 /// exactly its conversation, and closes the connection exactly where that says so. The conversation
 /// is the answer to the request, the responses to each message over the rows that there are as it
@@ -508,6 +603,13 @@ pub fn associations_are_answered_in_full()
         owner institutions (stream_of number (take (length given) events)) ≡ Some i →
         outputs_on number events given
         ≡ conversation_on institutions rows number i (take (length given) events) }
+    // It is exact where the rows were sound and octets were sent.
+    ensures exact { (institutions : List Institution) (rows : List Row) (events : List Event)
+        (given : List Reply) (kept : List Row) (number : ℕ) (i : Institution) →
+        IsRun institutions rows events given kept → IsTrue (is_well_formed events) →
+        HoldSound rows → BringOctets events →
+        owner institutions (stream_of number (take (length given) events)) ≡ Some i →
+        IsAnsweredRun institutions rows events given number i }
 {
     a_longer_stream_adds_inputs();
     study_answers_in_order();

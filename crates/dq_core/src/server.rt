@@ -12,9 +12,9 @@ ghost use Rattle.dq_core.specs.Own.{is_own, own, is_on_connection, stream_of, re
 ghost use Rattle.dq_core.specs.Isolation.{stranger_replies};
 ghost use Rattle.dq_core.specs.Runs.{IsRun, IsLeftOf, FaultsAfter, HasNoRoom, IsOwnRun};
 ghost use Rattle.dq_core.specs.Histories.{is_above, newest_after, rises_from, is_well_formed};
-ghost use Rattle.dq_core.specs.Stepping.{Opens, TakesNoMemory, NeverTakesMemory, Goes, MayLeave, IsPartOf};
-ghost use Rattle.dq_core.specs.Slots.{AreHeld, Turned};
-ghost use Rattle.dq_core.specs.Standing.{StandsFor};
+ghost use Rattle.dq_core.specs.Stepping.{Opens, TakesNoMemory, Goes, MayLeave, IsPartOf};
+ghost use Rattle.dq_core.specs.Slots.{has_slot, has_search, AreHeld, Turned};
+ghost use Rattle.dq_core.specs.Standing.{IsQuiet, IsWorking, StandsFor};
 ghost use Rattle.dq_tables.specs.Finding.{rows_of};
 ghost use Rattle.dq_core.specs.Looking.{Looked, FailsToLook};
 
@@ -76,6 +76,7 @@ impl<T: Tables> Server<T> {
         ensures stands { IfOk result (λ server. StandsFor T.state (T.state tables).rows server []) }
         ensures institutions { IfOk result (λ server. server.institutions ≡ config) }
         ensures tables { IfOk result (λ server. server.tables ≡ tables) }
+        ensures working { IfOk result (IsWorking T.state) }
         ensures fault { IfErr result (λ fault. fault ≡ Fault.NoMemory) }
     {
         let connections = Connections::new(alloc, config)?;
@@ -113,6 +114,7 @@ impl<T: Tables> Server<T> {
             StandsFor T.state rows self.now events →
             let world = world_after self.now.institutions rows events in
             result ≡ is_some (connection_in number world.connections) }
+        ensures told { self.now.spent ≡ false → result ≡ has_slot number self.now.slots }
         ensures spent { self.now.spent ≡ true → result ≡ false }
     {
         !self.spent && self.connections.is_held(number)
@@ -125,6 +127,7 @@ impl<T: Tables> Server<T> {
             StandsFor T.state rows self.now events →
             let world = world_after self.now.institutions rows events in
             result ≡ is_pending number world.connections }
+        ensures told { self.now.spent ≡ false → result ≡ has_search number self.now.slots }
         ensures spent { self.now.spent ≡ true → result ≡ false }
     {
         !self.spent && self.connections.is_pending(number)
@@ -182,15 +185,17 @@ impl<T: Tables> Server<T> {
             StandsFor T.state rows self.old events →
             TakesNoMemory (world_after self.old.institutions rows events).connections event →
             IsOk result }
-        // So do an end and an empty piece, whatever the tables did before.
-        ensures always { NeverTakesMemory event → self.old.spent ≡ false → IsOk result }
+        // So it is whatever the tables did before: of an end, an empty piece, a piece for a number
+        // that is not held as `holds` tells, and a pull where none is open as `pending` tells.
+        ensures always { IsQuiet self.old.slots event → self.old.spent ≡ false → IsOk result }
         ensures institutions { self.new.institutions ≡ self.old.institutions }
         ensures newest { OnOk result (self.new.newest ≡ newest_after self.old.newest (event ∷ [])) }
         ensures unspent { OnOk result (self.new.spent ≡ false) }
         ensures goes { Goes (T.state self.old.tables) (T.state self.new.tables) result }
-        // Store is answered only where the tables failed in this step.
-        ensures store { (rows : List Row) (events : List Event) →
-            StandsFor T.state rows self.old events → IsErrOf result Fault.Store →
+        // Tables that have failed spend the server. Store is answered only where they failed in
+        // this step.
+        ensures working { IsWorking T.state self.old → IsWorking T.state self.new }
+        ensures store { IsWorking T.state self.old → IsErrOf result Fault.Store →
             ((T.state self.old.tables).failed ≡ false)
             × ((T.state self.new.tables).failed ≡ true) }
         ensures stopped { IsErrOf result Fault.Stopped ↔ (self.old.spent ≡ true) }
@@ -216,6 +221,7 @@ impl<T: Tables> Server<T> {
             number ≡ length (rows_of kind name.now (T.state self.old.tables).rows)) }
         ensures looked { OnOk result (Looked T.state self.old self.new) }
         ensures fails { IfErr result (FailsToLook T.state self.old self.new) }
+        ensures working { IsWorking T.state self.old → IsWorking T.state self.new }
     {
         if self.spent {
             Err(Fault::Stopped)
@@ -260,7 +266,7 @@ impl<T: Tables> Server<T> {
         ensures quiet { (world : World) →
             AreHeld self.old.institutions self.old.slots world.connections →
             TakesNoMemory world.connections event → IsOk result }
-        ensures always { NeverTakesMemory event → IsOk result }
+        ensures always { IsQuiet self.old.slots event → IsOk result }
         ensures keeps { (self.new.institutions ≡ self.old.institutions)
             × (self.new.spent ≡ self.old.spent) }
         ensures fault { IfErr result (λ fault. fault ≢ Fault.Stopped) }
@@ -502,6 +508,8 @@ pub fn run<T: Tables + Drop>(
     // The store failed in the run exactly where that is the fault.
     ensures store { IfOk result (λ outcome.
         (outcome.fault ≡ Some Fault.Store) ↔ ((T.state outcome.tables).failed ≡ true)) }
+    ensures was_honest { IfOk result (λ outcome.
+        (T.state outcome.tables).honest → (T.state tables).honest) }
     // No fault takes away the replies before it, nor the tables.
     ensures outcome { IsOk result }
 {

@@ -26,10 +26,10 @@ use Rattle.dq_tables.specs.Finding.{record_at, row_at}
 use Rattle.dq_tables.specs.Serving.{first_refusal, outcome}
 use Rattle.dq_tables.specs.Sound.{IsSound}
 use Rattle.dq_tables.specs.Starting.{entries_named}
-use Rattle.dq_tables.proofs.ByKeys.{find_among}
 use Rattle.dq_tables.proofs.Lens.{rising_edit}
 use Rattle.dq_tables.proofs.Order.{each_appended, each_filtered, is_before, is_past}
 use Rattle.dq_tables.proofs.Rising.{each_among}
+use Rattle.dq_tables.proofs.Members.{find_among}
 use Rattle.dq_tables.proofs.Seen.{found_own}
 use Rattle.dq_tables.proofs.Soundness.{change_sound}
 use Rattle.dq_tables.proofs.Started.{started, start_keeps}

@@ -21,7 +21,7 @@ use dq_config::Institution;
 use dq_dataset::laws::{editing_law, written_law};
 use dq_dataset::{DataSet, Syntax, can_be_written, write};
 use dq_dimse::{Message, status};
-use dq_tables::{Change, TableFault, Tables};
+use dq_tables::{Change, TableFault, Tables, make_change};
 use std::alloc::{AllocError, Global};
 
 /// A step is at most so many octets.
@@ -133,5 +133,5 @@ fn change_step<T: Tables>(
         (with_put name.now (spelled_step uid.now octets.items) (T.state tables.old).rows) result }
 {
     let row = step_row(alloc, name, uid, octets)?;
-    tables.apply(alloc, &Change::StepChanged(row))
+    make_change(alloc, tables, Change::StepChanged(row))
 }

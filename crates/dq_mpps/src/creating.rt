@@ -22,7 +22,7 @@ use dq_config::Institution;
 use dq_dataset::laws::written_law;
 use dq_dataset::{DataSet, Syntax, write};
 use dq_dimse::{Message, status};
-use dq_tables::{Change, Kind, Row, TableFault, Tables};
+use dq_tables::{Change, Kind, Row, TableFault, Tables, make_change};
 use dq_value::is_uid;
 use std::alloc::{AllocError, Global};
 
@@ -161,7 +161,7 @@ fn add_step<T: Tables>(
 {
     let keys = entries_named(alloc, tables, name, sent.data_set)?;
     let row = new_row(alloc, name, sent)?;
-    tables.apply(alloc, &Change::StepAdded(row, keys))
+    make_change(alloc, tables, Change::StepAdded(row, keys))
 }
 
 /// The row of a new step.

@@ -23,7 +23,9 @@ use Rattle.dq_wires.specs.Turners.{Turning, IsOrder}
 use Rattle.dq_program.specs.declared.desk.Line.{Line}
 use Rattle.dq_program.specs.declared.desk.Line.TheVariants as line
 use Rattle.dq_program.specs.Desk.{HasOrders, Answered}
-use Rattle.dq_program.specs.Serving.{turns_in, WentOn, Attended, Served}
+use Rattle.dq_program.specs.declared.stop.Stop.{Stop}
+use Rattle.dq_program.specs.declared.stop.Stop.TheVariants as stop
+use Rattle.dq_program.specs.Serving.{turns_in, WentOn, Attended, IsConsoleStop, IsServiceStop, Served}
 
 pub turns-joined : (some later : List Act) → turns_in (some ++ later) ≡ turns_in some ++ turns_in later
 turns-joined [] later = refl
@@ -110,6 +112,16 @@ module _ {Tables : Type 0} (state : Tables → State) where
     went-by-answer names text orders looks (line.Order event) order answered = went-by-order orders event answered.0 order answered.1
     went-by-answer names text orders looks line.Report order answered = went-by-look looks answered.0
     went-by-answer names text orders looks line.Bad order answered = went-by-nothing answered.0
+
+-- what the console may end a service by is what a service may end by
+pub console-stops : (cause : Stop) → IsConsoleStop cause → IsServiceStop cause
+console-stops (stop.Fault number) is = is
+console-stops stop.Usage is = absurd is
+console-stops (stop.Config number) is = absurd is
+console-stops (stop.Capture number) is = absurd is
+console-stops (stop.Store number) is = absurd is
+console-stops stop.Output is = absurd is
+console-stops stop.Network is = absurd is
 
 pub ok-then : {A E P Q : Type 0} (r : Result A E) → (P → Q) → OnOk r P → OnOk r Q
 ok-then (Ok x) f = λ p. f p

@@ -66,6 +66,11 @@ IsServiceStop (stop.Fault number) = IsServiceFault number
 IsServiceStop stop.Network = Unit {0}
 IsServiceStop other = ⊥
 
+-- what the console may end a service by: a fault, and never a want of its own connections
+abbrev pub IsConsoleStop : Stop → Type 0
+IsConsoleStop (stop.Fault number) = IsServiceFault number
+IsConsoleStop other = ⊥
+
 -- So many turns were made over wires, from rows that were there, and orders of the console were
 -- stepped between them. The calls of the wires are exactly those of the turns, and what was
 -- answered is what the plain server answers.

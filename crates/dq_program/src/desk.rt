@@ -5,7 +5,7 @@ ghost use Rattle.dq_wires.specs.Turners.{IsOrder};
 ghost use Rattle.dq_program.specs.declared.desk.Line.{Line};
 ghost use Rattle.dq_program.specs.Reports.{count_text, report_line, reported};
 ghost use Rattle.dq_program.specs.Desk.{Tells, HasOrders, Answered};
-ghost use Rattle.dq_program.specs.Serving.{Attended, IsServiceStop};
+ghost use Rattle.dq_program.specs.Serving.{Attended, IsConsoleStop};
 
 use crate::reporting::{KINDS, count_text};
 use crate::stop::Stop;
@@ -42,6 +42,13 @@ fn is_order(event: &Event) -> bool
     match event {
         Event::Schedule { .. } | Event::Withdraw { .. } => true,
         Event::Open(_) | Event::Piece(..) | Event::End(_) | Event::Pull(_) => false,
+    }
+}
+
+fn is_bad(line: &Line) -> bool {
+    match line {
+        Line::Bad => true,
+        Line::Order(_) | Line::Report => false,
     }
 }
 
@@ -137,7 +144,7 @@ fn answer_to<T: Tables>(
         turner.new.server line text.items) }
     ensures hold { turner.new.hold ≡ turner.old.hold }
     ensures fault { OnOk result (turner.new.fault ≡ turner.old.fault) }
-    ensures stops { IfErr result IsServiceStop }
+    ensures stops { IfErr result IsConsoleStop }
 {
     match line {
         Line::Order(event) => {
@@ -149,24 +156,41 @@ fn answer_to<T: Tables>(
     }
 }
 
-/// The answer to a line.
-fn answer<T: Tables>(
-    alloc: Global,
-    turner: &mut Turner<T>,
-    names: &[Listed<u8>],
-    octets: &[u8],
-) -> Result<Vec<u8>, Stop>
-    ensures answered { IfOk result (λ text. (line : Line) × Tells octets.now line
-        × HasOrders line × Answered T.state names.now turner.old.server turner.new.server line text.items) }
-    ensures hold { turner.new.hold ≡ turner.old.hold }
-    ensures fault { OnOk result (turner.new.fault ≡ turner.old.fault) }
-    ensures stops { IfErr result IsServiceStop }
+/// What octets tell, which are text or no line.
+fn line_in(alloc: Global, octets: &[u8]) -> Result<Line, AllocError>
+    ensures told { IfOk result (Tells octets.now) }
+    ensures orders { IfOk result HasOrders }
 {
-    let line = match str::from_utf8(octets) {
-        Ok(text) => line_of(alloc, text)?,
-        Err(_) => Line::Bad,
-    };
-    answer_to(alloc, turner, names, line)
+    match str::from_utf8(octets) {
+        Ok(text) => line_of(alloc, text),
+        Err(_) => Ok(Line::Bad),
+    }
+}
+
+/// What a note says of a line before its answer: an order's word and institution. There is no note
+/// of a report. An entry is not told, nor whose it is.
+fn note_of(alloc: Global, line: &Line) -> Result<Option<String>, AllocError> {
+    match line {
+        Line::Order(Event::Schedule { inst, octets: _ }) => {
+            let name = str::from_utf8(inst.as_slice()).unwrap_or("-");
+            Ok(Some(format!(in alloc; "schedule {name} ")?))
+        }
+        Line::Order(Event::Withdraw { inst, id: _ }) => {
+            let name = str::from_utf8(inst.as_slice()).unwrap_or("-");
+            Ok(Some(format!(in alloc; "withdraw {name} ")?))
+        }
+        Line::Bad => Ok(Some(String::new(alloc))),
+        Line::Order(_) | Line::Report => Ok(None),
+    }
+}
+
+// Adds a note with the answer, unless there is no memory for it.
+fn keep_note(notes: &mut String, note: Option<String>, answer: &[u8]) -> Result<(), AllocError> {
+    if let Some(note) = note {
+        notes.push_str(note.as_str())?;
+        notes.push_str(str::from_utf8(answer).unwrap_or("\n"))?;
+    }
+    Ok(())
 }
 
 /// What comes next of a caller: a line, nothing yet, or that it is gone.
@@ -188,6 +212,7 @@ impl Next {
 /// nothing more is taken.
 #[derive(Drop)]
 struct Caller {
+    alloc: Global,
     place: usize,
     came: Vec<u8>,
     searched: usize,
@@ -199,6 +224,7 @@ struct Caller {
 impl Caller {
     fn new(alloc: Global, place: usize) -> Self {
         Caller {
+            alloc,
             place,
             came: Vec::new(alloc),
             searched: 0,
@@ -228,39 +254,29 @@ impl Caller {
         }
     }
 
-    // The next whole line, without its end.
+    // The next whole line, without its end, and an empty one in the place of one that is too long.
     fn take_line(&mut self) -> Result<Option<Vec<u8>>, AllocError> {
         let fresh = self.came.get(self.searched..).unwrap_or(&[]);
         let Some(at) = fresh.iter().position(|octet| *octet == b'\n') else {
             self.searched = self.came.len();
+            if self.came.len() > LINE_MOST {
+                return Ok(Some(Vec::new(self.alloc)));
+            }
             return Ok(None);
         };
         let end = self.searched + at;
         let rest = self.came.split_off(end + 1)?;
         let mut line = mem::replace(&mut self.came, rest);
-        line.truncate(end);
+        line.truncate(if end > LINE_MOST { 0 } else { end });
         self.searched = 0;
         Ok(Some(line))
-    }
-
-    // Keeps octets of a line. One that is too long is answered as none that is understood, and is
-    // the last.
-    fn hear(&mut self, octets: &[u8]) -> Result<(), AllocError> {
-        self.came.extend_from_slice(octets)?;
-        if self.came.len() > LINE_MOST {
-            self.came.clear();
-            self.searched = 0;
-            self.answer.extend_from_slice(BAD_LINE.as_bytes())?;
-            self.is_over = true;
-        }
-        Ok(())
     }
 
     // Keeps what came. The answer is whether the caller is still there.
     fn receive<W: Wires>(&mut self, wires: &mut W, buffer: &mut [u8]) -> Result<bool, AllocError> {
         match wires.read(self.place, buffer) {
             Ok(ReadTurn::Got(count)) => {
-                self.hear(&buffer[..count])?;
+                self.came.extend_from_slice(&buffer[..count])?;
                 Ok(true)
             }
             Ok(ReadTurn::Nothing) => Ok(true),
@@ -269,22 +285,23 @@ impl Caller {
     }
 
     // What comes next: what is not written of an answer goes first, then a line that is whole is
-    // taken, and else is read.
-    fn next<W: Wires>(&mut self, wires: &mut W, buffer: &mut [u8]) -> Result<Next, AllocError> {
+    // taken, and else is read. A caller for whom there is no memory is let go.
+    fn next<W: Wires>(&mut self, wires: &mut W, buffer: &mut [u8]) -> Next {
         if self.is_sending() {
-            return Ok(Next::of(self.send(wires)));
+            return Next::of(self.send(wires));
         }
         if self.is_over {
-            return Ok(Next::Left);
+            return Next::Left;
         }
-        match self.take_line()? {
-            Some(line) => Ok(Next::Line(line)),
-            None => Ok(Next::of(self.receive(wires, buffer)?)),
+        match self.take_line() {
+            Ok(Some(line)) => Next::Line(line),
+            Ok(None) => Next::of(self.receive(wires, buffer).unwrap_or(false)),
+            Err(AllocError) => Next::Left,
         }
     }
 }
 
-/// The console of a server, over wires of its own.
+/// The console of a server, over wires of its own, with notes of what it did.
 #[derive(Drop)]
 pub struct Desk<W> {
     alloc: Global,
@@ -292,6 +309,7 @@ pub struct Desk<W> {
     names: Vec<Listed<u8>>,
     callers: Vec<Caller>,
     buffer: Vec<u8>,
+    notes: String,
 }
 
 impl<W: Wires + Drop> Desk<W> {
@@ -309,6 +327,7 @@ impl<W: Wires + Drop> Desk<W> {
             names,
             callers: Vec::new(alloc),
             buffer,
+            notes: String::new(alloc),
         })
     }
 
@@ -319,54 +338,60 @@ impl<W: Wires + Drop> Desk<W> {
         &mut self.wires
     }
 
-    // Lets a caller in where there is room.
-    fn let_in(&mut self) -> Result<(), Stop>
-        ensures stops { IfErr result IsServiceStop }
+    /// The notes of the orders and bad lines since it was last asked, a line each.
+    pub fn take_notes(&mut self) -> String
+        ensures { self.new.wires ≡ self.old.wires }
     {
+        mem::replace(&mut self.notes, String::new(self.alloc))
+    }
+
+    // Lets a caller in where there is room. One for whom there is no memory is let go.
+    fn let_in(&mut self) {
         if self.callers.len() >= MOST_CALLERS {
-            return Ok(());
+            return;
         }
-        self.callers.reserve(1)?;
-        match self.wires.accept() {
-            Ok(Some(place)) => {
-                if self.callers.push(Caller::new(self.alloc, place)).is_err() {
-                    return Err(Stop::from(AllocError));
-                }
-                Ok(())
+        if let Ok(Some(place)) = self.wires.accept() {
+            if self.callers.push(Caller::new(self.alloc, place)).is_err() {
+                let _ = self.wires.shut(place);
             }
-            Ok(None) => Ok(()),
-            Err(WireFault) => Err(Stop::Network),
         }
     }
 
-    // The turn of one caller. The answer is whether it is still there.
+    // The turn of one caller. The answer is whether it is still there. The first bad line is the
+    // last that is taken of it.
     fn attend<T: Tables>(&mut self, at: usize, turner: &mut Turner<T>) -> Result<bool, Stop>
         ensures went { OnOk result (Attended T.state turner.old turner.new) }
-        ensures stops { IfErr result IsServiceStop }
+        ensures stops { IfErr result IsConsoleStop }
         ensures callers { length self.new.callers.items ≡ length self.old.callers.items }
     {
         calls_are_a_serving::<T>();
         let Some(caller) = self.callers.get_mut(at) else {
             return Ok(false);
         };
-        match caller.next(&mut self.wires, self.buffer.as_mut_slice())? {
+        match caller.next(&mut self.wires, self.buffer.as_mut_slice()) {
             Next::Held => Ok(true),
             Next::Left => Ok(false),
-            Next::Line(line) => {
-                let names = self.names.as_slice();
-                caller.put(answer(self.alloc, turner, names, line.as_slice())?);
+            Next::Line(octets) => {
+                let line = line_in(self.alloc, octets.as_slice())?;
+                let note = note_of(self.alloc, &line)?;
+                caller.is_over = is_bad(&line);
+                let answer = answer_to(self.alloc, turner, self.names.as_slice(), line)?;
+                let _ = keep_note(&mut self.notes, note, answer.as_slice());
+                caller.put(answer);
                 Ok(caller.send(&mut self.wires))
             }
         }
     }
 
     /// One turn: a caller is let in where there is room, and from each that is there a line is
-    /// taken and answered, if one has come whole. Nothing is asked of other connections.
+    /// taken and answered, if one has come whole. Nothing is asked of other connections. What fails
+    /// of a caller, or of the wires, ends that caller alone: only a fault of the server, or want of
+    /// memory for an answer, ends more.
     pub fn turn<T: Tables>(&mut self, turner: &mut Turner<T>) -> Result<(), Stop>
         ensures went { OnOk result (Attended T.state turner.old turner.new) }
-        ensures stops { IfErr result IsServiceStop }
+        ensures stops { IfErr result IsConsoleStop }
     {
-        self.let_in()?;
+        self.let_in();
         let mut at = 0;
         while at < self.callers.len() {
             if self.attend(at, turner)? {

@@ -5,6 +5,7 @@
 
 mod answering;
 mod desk;
+mod logged_sockets;
 mod looping;
 mod migrating;
 mod network;
@@ -18,6 +19,6 @@ mod stores;
 pub use dq_captures::{
     CaptureFault, Folder, Host, PrintFault, Sink, Source, Unread, print_replies, read_capture,
 };
-pub use network::{Listening, Network, Unheard};
+pub use network::{Listening, Logging, Network, Unheard};
 pub use program::{perform, unworded};
 pub use stores::{Stores, Unkept};

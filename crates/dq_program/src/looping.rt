@@ -15,13 +15,17 @@ use crate::stop::Stop;
 use crate::stores::Stores;
 use dq_captures::{Folder, Sink, Source, octets_text};
 use dq_core::Server;
-use dq_wires::{Sent, loop_back};
+use dq_wires::{Limits, Sent, loop_back};
 use std::alloc::{AllocError, Global};
 
 const LOOPBACK: Listening<'static> = Listening {
     address: "127.0.0.1",
     port: 0,
-    quiet: None,
+    limits: Limits {
+        artim: None,
+        quiet: None,
+        peer_connections: None,
+    },
     log: None,
 };
 

@@ -1,20 +1,25 @@
 //! Where connections come in.
 ghost use Rattle.std.specs.Prelude.{◌≡◌, [], IfOk, IfSome};
 
+use crate::logged_sockets::LoggedSockets;
 use dq_captures::Host;
 use dq_config::Institution;
 use dq_wires::{
-    AssociationLog, Client, Clients, LoggedWires, SocketClient, SocketWires, WireFault, Wires,
+    AssociationLog, Client, Clients, Limits, LogEnd, LoggedWires, SocketClient, SocketWires,
+    WireFault, Wires,
 };
 use std::alloc::{AllocError, Global};
-use std::io::{self, Stderr};
-use std::net::{IpAddr, Ipv4Addr, SocketAddr};
+use std::io;
+use std::net::{IpAddr, SocketAddr};
 use std::time::Duration;
+
+/// A caller of the console that says nothing for so many seconds is let go.
+const CONSOLE_QUIET: u64 = 60;
 
 /// Why no connections come in.
 #[derive(Clone, Copy, Debug, PartialEq, Eq)]
 pub enum Unheard {
-    /// The address is none, or the port cannot be had there.
+    /// The address is none, or the port or the path cannot be had, or the log's file.
     Failed,
     NoMemory,
 }
@@ -30,14 +35,21 @@ impl From<AllocError> for Unheard {
     }
 }
 
-/// Where connections come in; after how many seconds of silence one counts as ended, if it does;
-/// and the institutions by which it is logged what becomes of them, if it is.
+/// The log of connections: the institutions that are served, and its file, unless it is standard
+/// error.
+#[derive(Clone, Copy)]
+pub struct Logging<'a> {
+    pub institutions: &'a [Institution],
+    pub file: Option<&'a str>,
+}
+
+/// Where connections come in, when they are given up, and their log, if there is one.
 #[derive(Clone, Copy)]
 pub struct Listening<'a> {
     pub address: &'a str,
     pub port: u16,
-    pub quiet: Option<u32>,
-    pub log: Option<&'a [Institution]>,
+    pub limits: Limits,
+    pub log: Option<Logging<'a>>,
 }
 
 /// What listens for connections.
@@ -52,12 +64,12 @@ pub trait Network {
     fn listen(&self, alloc: Global, listening: Listening<'_>) -> Result<Self::Wired, Unheard>
         ensures { IfOk result (λ wires. IfSome (Self.Wired.log wires) (λ calls. calls ≡ [])) };
 
-    /// Listens at a port of the machine itself, beside other wires: who rests over both is woken
-    /// by either.
+    /// Listens at a path of the machine itself, beside other wires: who rests over both is woken by
+    /// either.
     fn listen_beside(
         &self,
         alloc: Global,
-        port: u16,
+        path: &str,
         wires: &mut Self::Wired,
     ) -> Result<Self::Wired, Unheard>
         ensures { Self.Wired.log wires.new ≡ Self.Wired.log wires.old };
@@ -73,6 +85,10 @@ pub trait Network {
         beside: &mut Self::Wired,
         most: Duration,
     ) -> io::Result<()>
+        ensures { Self.Wired.log wires.new ≡ Self.Wired.log wires.old };
+
+    /// Tells notes of the console, a line each, in the log of the wires, if they have one.
+    fn note(&self, wires: &mut Self::Wired, notes: &str)
         ensures { Self.Wired.log wires.new ≡ Self.Wired.log wires.old };
 
     /// Calls the wires from the same process.
@@ -118,8 +134,46 @@ fn sockets_at(
     }
 }
 
+// Where the lines of a log go.
+fn log_end(alloc: Global, rt: &HostRuntime, file: Option<&str>) -> io::Result<LogEnd> {
+    match file {
+        Some(path) => LogEnd::file(alloc, rt, path),
+        None => LogEnd::errors(alloc, rt),
+    }
+}
+
+fn log_of(
+    alloc: Global,
+    rt: &HostRuntime,
+    logging: Logging<'_>,
+) -> Result<AssociationLog<LogEnd>, Unheard> {
+    match log_end(alloc, rt, logging.file) {
+        Ok(end) => {
+            let mut log = AssociationLog::new(alloc, logging.institutions, end)?;
+            log.read_clock(rt);
+            Ok(log)
+        }
+        Err(error) => Err(why_unheard(&error)),
+    }
+}
+
+// The sockets of the console.
+fn console_at(alloc: Global, rt: &HostRuntime, path: &str) -> Result<SocketWires, Unheard> {
+    match SocketWires::listen_at(alloc, rt, path) {
+        Ok(mut wires) => {
+            wires.set_limits(Limits {
+                artim: None,
+                quiet: Some(Duration::from_secs(CONSOLE_QUIET)),
+                peer_connections: None,
+            });
+            Ok(wires)
+        }
+        Err(error) => Err(why_unheard(&error)),
+    }
+}
+
 impl<H: Host> Network for H {
-    type Wired = LoggedWires<SocketWires, Stderr>;
+    type Wired = LoggedSockets;
 
     type Caller = SocketClient;
 
@@ -128,38 +182,34 @@ impl<H: Host> Network for H {
             return Err(Unheard::Failed);
         };
         let mut wires = sockets_at(alloc, self.runtime(), address, listening.port)?;
-        if let Some(seconds) = listening.quiet {
-            wires.set_quiet(Some(Duration::from_secs(u64::from(seconds))));
-        }
+        wires.set_limits(listening.limits);
         let log = match listening.log {
-            Some(institutions) => Some(AssociationLog::new(
-                alloc,
-                institutions,
-                self.runtime().stderr(),
-            )?),
+            Some(logging) => Some(log_of(alloc, self.runtime(), logging)?),
             None => None,
         };
-        Ok(LoggedWires { wires, log })
+        Ok(LoggedSockets(LoggedWires { wires, log }))
     }
 
     fn listen_beside(
         &self,
         alloc: Global,
-        port: u16,
+        path: &str,
         wires: &mut Self::Wired,
     ) -> Result<Self::Wired, Unheard> {
-        let beside = sockets_at(alloc, self.runtime(), IpAddr::V4(Ipv4Addr::LOCALHOST), port)?;
-        match wires.wires.watch(&beside) {
-            Ok(()) => Ok(LoggedWires {
+        let beside = console_at(alloc, self.runtime(), path)?;
+        match wires.0.wires.watch(&beside) {
+            Ok(()) => Ok(LoggedSockets(LoggedWires {
                 wires: beside,
                 log: None,
-            }),
+            })),
             Err(error) => Err(why_unheard(&error)),
         }
     }
 
     fn rest(&self, wires: &mut Self::Wired, most: Duration) -> io::Result<()> {
-        wires.wires.rest(self.runtime(), most)
+        let rested = wires.0.wires.rest(self.runtime(), most);
+        wires.0.read_clock(self.runtime());
+        rested
     }
 
     fn rest_with(
@@ -168,13 +218,22 @@ impl<H: Host> Network for H {
         beside: &mut Self::Wired,
         most: Duration,
     ) -> io::Result<()> {
-        wires
+        let rested = wires
+            .0
             .wires
-            .rest_with(&mut beside.wires, self.runtime(), most)
+            .rest_with(&mut beside.0.wires, self.runtime(), most);
+        wires.0.read_clock(self.runtime());
+        rested
+    }
+
+    fn note(&self, wires: &mut Self::Wired, notes: &str) {
+        if let Some(log) = &mut wires.0.log {
+            log.note(notes);
+        }
     }
 
     fn call(&self, wires: &Self::Wired) -> Result<SocketClient, WireFault> {
-        match wires.wires.address() {
+        match wires.0.wires.address() {
             Ok(address) => SocketClient::connect(self.runtime(), address).or(Err(WireFault)),
             Err(_) => Err(WireFault),
         }

@@ -9,7 +9,7 @@ ghost use Rattle.dq_program.specs.Program.{AreHonest, IsConfigured, rows_at};
 ghost use Rattle.dq_program.specs.Serving.{ready_text, turn_count, IsUncalled, WentOn, IsServiceStop, Served, EndsService, StopsService};
 
 use crate::desk::Desk;
-use crate::network::{Listening, Network};
+use crate::network::{Listening, Logging, Network};
 use crate::reading::configured;
 use crate::reporting::{names_of, put_whole};
 use crate::stop::Stop;
@@ -19,7 +19,7 @@ use dq_config::Institution;
 use dq_core::Server;
 use dq_tables::Tables;
 use dq_wires::laws::{calls_are_a_serving, servings_are_answered};
-use dq_wires::{Turner, Wires, turn_all};
+use dq_wires::{Limits, Turner, Wires, turn_all};
 use dq_words::{Keeper, Service};
 use std::alloc::{AllocError, Global};
 use std::time::Duration;
@@ -31,19 +31,50 @@ struct Reception<W> {
     desk: Option<Desk<W>>,
 }
 
-/// The console at a port of the machine itself, beside other wires.
+/// The console at a path, beside other wires.
 fn desk_beside<N: Network>(
     alloc: Global,
     network: &N,
-    port: u16,
+    path: &str,
     institutions: &[Institution],
     wires: &mut N::Wired,
 ) -> Result<Desk<N::Wired>, Stop>
     ensures same { N.Wired.log wires.new ≡ N.Wired.log wires.old }
     ensures stops { IfErr result IsServiceStop }
 {
-    let beside = network.listen_beside(alloc, port, wires)?;
+    let beside = network.listen_beside(alloc, path, wires)?;
     Ok(Desk::new(alloc, beside, names_of(alloc, institutions)?)?)
+}
+
+/// When the words of a service have connections given up.
+fn limits_of(service: Service<'_>) -> Limits {
+    Limits {
+        artim: if service.artim > 0 {
+            Some(Duration::from_secs(u64::from(service.artim)))
+        } else {
+            None
+        },
+        quiet: match service.quiet {
+            Some(seconds) => Some(Duration::from_secs(u64::from(seconds))),
+            None => None,
+        },
+        peer_connections: if service.peer_connections > 0 {
+            Some(service.peer_connections as usize)
+        } else {
+            None
+        },
+    }
+}
+
+/// The log that the words of a service ask for.
+fn logging_of<'a>(service: Service<'a>, institutions: &'a [Institution]) -> Option<Logging<'a>> {
+    if service.is_logged || service.log_file.is_some() {
+        return Some(Logging {
+            institutions,
+            file: service.log_file,
+        });
+    }
+    None
 }
 
 /// Listens where the words of a service say.
@@ -59,18 +90,14 @@ fn listen<N: Network>(
     let listening = Listening {
         address: service.address,
         port: service.port,
-        quiet: service.quiet,
-        log: if service.is_logged {
-            Some(institutions)
-        } else {
-            None
-        },
+        limits: limits_of(service),
+        log: logging_of(service, institutions),
     };
     let mut wires = network.listen(alloc, listening)?;
-    let Some(port) = service.console else {
+    let Some(path) = service.console else {
         return Ok(Reception { wires, desk: None });
     };
-    let desk = desk_beside(alloc, network, port, institutions, &mut wires)?;
+    let desk = desk_beside(alloc, network, path, institutions, &mut wires)?;
     Ok(Reception {
         wires,
         desk: Some(desk),
@@ -105,6 +132,7 @@ fn turn_once<N: Network, T: Tables>(
         None => network.rest(&mut reception.wires, rest),
         Some(desk) => {
             desk.turn(turner)?;
+            network.note(&mut reception.wires, desk.take_notes().as_str());
             network.rest_with(&mut reception.wires, desk.wires(), rest)
         }
     };

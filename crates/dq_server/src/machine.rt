@@ -1,10 +1,19 @@
 //! Rows in memory, and in SQLite files of the machine.
-ghost use Rattle.std.specs.Prelude.{◌≡◌};
+ghost use Rattle.std.specs.Prelude.{◌≡◌, false, List, IfOk};
+ghost use Rattle.sqlite_store.specs.FileStore.{files};
+ghost use Rattle.sqlite_wal.specs.Files.{image_at};
+ghost use Rattle.sqlite.specs.State.{HasCleanDisk};
+ghost use Rattle.sqlite.specs.Files.{file_state, IsOpened};
+ghost use Rattle.sqlite.specs.Start.{FindsIn};
+ghost use Rattle.dq_tables.specs.declared.row.Row.{Row};
+ghost use Rattle.dq_tables.specs.Sound.{IsSound};
+ghost use Rattle.dq_sql.specs.Restarting.{HoldsRows};
 
 use dq_program::{Host, Stores, Unkept};
 use dq_sql::{MigrateFault, SqlTables, StoreFault};
-use dq_tables::PlainTables;
-use sqlite::{Connection, Error, ErrorCode, File, FileStore};
+use dq_tables::{PlainTables, Tables};
+use sqlite::{Connection, Error, ErrorCode, FileFrom, FileStore, Start, Wary};
+use sqlite_disk::Disk;
 use std::alloc::Global;
 use std::fs;
 
@@ -52,22 +61,60 @@ fn unmigrated(fault: MigrateFault) -> Unkept {
     }
 }
 
+/// A connection to the files at a path, which are made where they are not there. `S` stands for what
+/// they hold, and for how a crash is read.
+pub fn opened<S: Start>(
+    rt: &HostRuntime,
+    path: &str,
+    start: S,
+) -> Result<Connection<FileStore<FileFrom<S>>>, Unkept>
+    ensures opened { IfOk result (λ c. HasCleanDisk (file_state c) → IsOpened c) }
+    ensures found { IfOk result (λ c. HasCleanDisk (file_state c)
+        → FindsIn (image_at S.Start) (file_state c)) }
+{
+    match Connection::open_from(rt, path, false, start) {
+        Ok(conn) => Ok(conn),
+        Err((error, _)) => Err(unopened(&error)),
+    }
+}
+
+/// The rows of the store that the files at a path hold: what a crash left of tables, as
+/// `dq_sql::laws::what_a_crash_leaves_is_adopted` says of the run before.
+pub fn kept_at<S: Start>(
+    rt: &HostRuntime,
+    alloc: Global,
+    path: &str,
+    start: S,
+) -> Result<SqlTables<FileStore<FileFrom<S>>>, Unkept>
+    ensures rows { (rows : List Row) → HoldsRows (image_at S.Start) rows → IsSound rows
+        → IfOk result (λ t. (⟦<SqlTables<FileStore<FileFrom<S>>> as Tables>⟧.state t).honest
+        → (⟦<SqlTables<FileStore<FileFrom<S>>> as Tables>⟧.state t).rows ≡ rows) }
+    ensures failed { IfOk result (λ t.
+        (⟦<SqlTables<FileStore<FileFrom<S>>> as Tables>⟧.state t).failed ≡ false) }
+{
+    let conn = opened(rt, path, start)?;
+    match SqlTables::adopt_lent(alloc, conn) {
+        Ok(tables) => Ok(tables),
+        Err((fault, _)) => Err(unkept(fault)),
+    }
+}
+
 impl Machine<'_> {
-    /// A connection to a file, which is made where it is not there.
-    fn connected(&self, path: &str) -> Result<Connection<FileStore<File>>, Unkept> {
-        match Connection::open(self.rt, path) {
-            Ok(conn) => Ok(conn),
-            Err(error) => Err(unopened(&error)),
-        }
+    /// A connection to a file, which is made where it is not there. A crash is read without the
+    /// hypothesis that a torn write leaves each octet old or new.
+    fn connected(&self, path: &str) -> Result<Connection<FileStore<FileFrom<Wary>>>, Unkept>
+        ensures wary { IfOk result (λ c.
+            ⟦<FileFrom<Wary> as Disk>⟧.is_mixing (files c.store).0 ≡ false) }
+    {
+        opened(self.rt, path, Wary)
     }
 
-    /// A connection to a file that is there.
-    fn found(&self, path: &str) -> Result<Connection<FileStore<File>>, Unkept> {
-        // A connection to a file that is not there would make it.
+    /// Whether there is a file, which a connection would make.
+    fn is_there(&self, path: &str) -> Result<(), Unkept> {
         if fs::open(self.rt, path).is_err() {
             return Err(unkept(StoreFault::Store));
         }
-        self.connected(path)
+        Ok(())
     }
 }
 
@@ -76,7 +123,7 @@ impl Stores for Machine<'_> {
 
     type Memory = PlainTables;
 
-    type File = SqlTables<FileStore<File>>;
+    type File = SqlTables<FileStore<FileFrom<Wary>>>;
 
     // No contract says what a file of the machine holds.
     ghost stored = { λ _ _. None };
@@ -88,25 +135,24 @@ impl Stores for Machine<'_> {
     }
 
     fn new_store(&self, alloc: Global, path: &str) -> Result<Self::File, Unkept> {
-        match SqlTables::open(alloc, self.connected(path)?) {
+        match SqlTables::open_lent(alloc, self.connected(path)?) {
             Ok(tables) => Ok(tables),
-            Err(fault) => Err(unkept(fault)),
+            Err((fault, _)) => Err(unkept(fault)),
         }
     }
 
     fn store(&self, alloc: Global, path: &str) -> Result<Self::File, Unkept> {
-        match SqlTables::adopt(alloc, self.found(path)?) {
-            Ok(tables) => Ok(tables),
-            Err(fault) => Err(unkept(fault)),
-        }
+        self.is_there(path)?;
+        kept_at(self.rt, alloc, path, Wary)
     }
 
     fn migrate(&self, alloc: Global, from: &str, to: &str) -> Result<Self::File, Unkept> {
         // The old file is locked while the new one is opened, so that they cannot be one.
-        let old = self.found(from)?;
-        match SqlTables::migrate(alloc, old, self.connected(to)?) {
+        self.is_there(from)?;
+        let mut old = self.connected(from)?;
+        match SqlTables::migrate_lent(alloc, &mut old, self.connected(to)?) {
             Ok(tables) => Ok(tables),
-            Err(fault) => Err(unmigrated(fault)),
+            Err((fault, _)) => Err(unmigrated(fault)),
         }
     }
 

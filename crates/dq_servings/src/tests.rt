@@ -1,4 +1,5 @@
 mod logging;
 mod programs;
 mod servers;
+mod sockets;
 mod wires;

@@ -20,7 +20,6 @@ use Rattle.dq_tables.specs.declared.row.Row.{Row}
 use Rattle.dq_tables.specs.Rows.{number_of, after_edit, Put, record_of, row_place_of, rows_elsewhere}
 use Rattle.dq_tables.proofs.Lens.{rising_edit}
 use Rattle.dq_sql.specs.Tie.{kind_in, is_set, kept_of, Holds, IsKept, same_id, HasRows}
-use Rattle.dq_sql.specs.declared.version.Version.TheVariants.{Two}
 use Rattle.dq_sql.specs.Schema.{kept_schema}
 use Rattle.dq_sql.specs.Cells.{flag, columns_of}
 use Rattle.dq_sql.specs.Writing.{Adds}
@@ -89,7 +88,7 @@ module _ (row : Row) (id : ℤ) where
   pub columns_kept : kept_of (Int id ∷ columns_of row) ≡ row
   columns_kept = λ i. let r : Row = record row { kind = kind_is row.kind i; started = set_is row.started i } in r
 
-  columns_hold : Holds Two row (Int id ∷ columns_of row)
+  columns_hold : Holds row (Int id ∷ columns_of row)
   columns_hold = record { kind = refl; inst = refl; key = refl; above = refl; patient = refl; day = refl; octets = refl; started = refl }
 
   -- A row is put among those that hold the rows at other places.
@@ -100,7 +99,7 @@ module _ (row : Row) (id : ℤ) where
       → HasRows e (after_edit row.inst (Put (record_of row)) rows)
   placed d e old rows has schema database version is fresh apart ids kept same =
       let new = Int id ∷ columns_of row in
-      let is_kept : IsKept new = subst (λ (x : Row). Holds Two x new) (sym columns_kept) columns_hold in
+      let is_kept : IsKept new = subst (λ (x : Row). Holds x new) (sym columns_kept) columns_hold in
       let held : IsPermutation (map kept_of (put_row new old)) (row ∷ map kept_of old) =
       subst (λ (x : Row). IsPermutation (map kept_of (put_row new old)) (x ∷ map kept_of old)) columns_kept (IsPermutation-map kept_of _ _ (put_is new old fresh)) in
       record {

@@ -11,17 +11,17 @@ use Rattle.sqlite_value.specs.declared.value.Value.TheVariants.{Null, Int, Real,
 use Rattle.sqlite_value.specs.Order.{Row as Values, column, value_cmp}
 use Rattle.sqlite_trees.proofs.ListLemmas.{IsPermutation-filter, filter-map}
 use Rattle.sqlite_sql.specs.Ops.{is_null}
-use Rattle.sqlite_sql.specs.Term.{Term, col, eval, eval_all}
+use Rattle.sqlite_sql.specs.Term.{col, eval, eval_all}
 use Rattle.sqlite_sql.specs.Query.{Output, output, output_cmp, IsAnswer}
 use Rattle.sqlite_sql.specs.Program.{overlay}
 use Rattle.sqlite.specs.Effect.{Database}
 use Rattle.dq_tables.specs.declared.row.Kind.{Kind}
 use Rattle.dq_tables.specs.declared.row.Row.{Row}
-use Rattle.dq_tables.proofs.Keyed.{both_tests}
+use Rattle.dq_tables.proofs.Order.{both_tests}
 use Rattle.dq_sql.specs.Tie.{kept_of, IsKept, HasRows}
 use Rattle.dq_sql.specs.Reading.{row_shown}
 use Rattle.dq_sql.specs.Choosing.{leading_nulls, EndsWithin}
-use Rattle.dq_sql.proofs.Queries.{shown_columns}
+use Rattle.dq_sql.proofs.Queries.{of_tests, shown_columns}
 use Rattle.dq_sql.proofs.ChoiceTexts.{first_by}
 use Rattle.dq_sql.proofs.Selecting.{with_row, passes, chosen, each_match, map_map}
 use Rattle.dq_sql.proofs.Found.{sorted_tail, at_most_last}
@@ -77,9 +77,9 @@ null_after v (Blob b) e below = refl
 abbrev IsLed : Output → Type 0
 IsLed o = o.0 ≡ column o.1 4 ∷ []
 
-module _ (at : ℕ) (tests : List Term) where
+module _ (at : ℕ) where
   abbrev by_output : Output → Output → Ordering
-  by_output = output_cmp (first_by at tests)
+  by_output = output_cmp (first_by at)
 
   none_after : (a b : Output) → IsLed a → IsLed b → is_lt (by_output b a) ≡ false → ends_null a.1 ≡ false → ends_null b.1 ≡ false
   none_after a b la lb below value =
@@ -99,7 +99,7 @@ module _ (at : ℕ) (tests : List Term) where
       )
 
   module _ (params : Values) (most : ℕ) (limit : eval (col 0 2) (params ∷ []) ≡ Int (pos most)) (kind : Kind) (inst : List ℕ) (keeps says : Row → Bool)
-      (finds : (r : Values) → IsKept r → passes tests params r ≡ keeps (kept_of r))
+      (finds : (r : Values) → IsKept r → passes of_tests params r ≡ keeps (kept_of r))
       (said : (r : Values) → IsKept r → is_null (column r at) ≡ not (says (kept_of r)))
       (own : (row : Row) → (keeps row && not (says row)) ≡ true → (row.kind ≡ kind) × (row.inst ≡ inst)) where
     abbrev shown : Values → Values
@@ -109,7 +109,7 @@ module _ (at : ℕ) (tests : List Term) where
     back r = row_shown kind inst (shown r)
 
     abbrev silent_one : Values → Bool
-    silent_one r = passes tests params r && is_null (column r at)
+    silent_one r = passes of_tests params r && is_null (column r at)
 
     abbrev silent_row : Row → Bool
     silent_row row = keeps row && not (says row)
@@ -131,21 +131,21 @@ module _ (at : ℕ) (tests : List Term) where
     all_back [] h = refl
     all_back (r ∷ rest) h = rw (finds r h.0, said r h.0) (back_step r rest (silent_row (kept_of r)) refl (all_back rest h.1))
 
-    all_led : (tree : List Values) → AllByRecursion IsLed (map (λ r. output (first_by at tests) (with_row params r)) tree)
+    all_led : (tree : List Values) → AllByRecursion IsLed (map (λ r. output (first_by at) (with_row params r)) tree)
     all_led [] = tt
     all_led (r ∷ rest) = (refl, all_led rest)
 
     -- the rows without the value, where an answer that is not full shows them
     pub silent_rows : (d : Database) (rows : List Row) (answer silent : List Values) → HasRows d rows
-        → IsAnswer (first_by at tests) (overlay d.trees []) params answer → EndsWithin most answer silent
+        → IsAnswer (first_by at) (overlay d.trees []) params answer → EndsWithin most answer silent
         → IsPermutation (filter silent_row rows) (map (row_shown kind inst) silent)
     silent_rows d rows answer silent has a ends =
-        let q = first_by at tests in
+        let q = first_by at in
         let tree : List Values = d.trees 0 in
-        let passed : List Values = chosen 0 tests d.trees params in
+        let passed : List Values = chosen 0 of_tests d.trees params in
         let all = λ (r : Values). output q (with_row params r) in
         let kept : a.kept ≡ map all passed =
-        a.distinct ∙ ap (map (output q)) (a.grouped ∙ each_match tests params tree) ∙ map_map (with_row params) (output q) passed in
+        a.distinct ∙ ap (map (output q)) (a.grouped ∙ each_match of_tests params tree) ∙ map_map (with_row params) (output q) passed in
         let same : IsPermutation (map all passed) a.ordered = subst (λ l. IsPermutation l a.ordered) kept a.same in
         let led = recursion_from_All IsLed a.ordered (All-permutation IsLed _ a.ordered same (All-from_recursion IsLed _ (all_led passed))) in
         let first = nulls_first a.ordered led a.sorted in
@@ -156,7 +156,7 @@ module _ (at : ℕ) (tests : List Term) where
         let each : IsPermutation (map shown passed) those =
         subst (λ l. IsPermutation l those) (map_map all (λ (o : Output). o.1) passed) (IsPermutation-map (λ (o : Output). o.1) _ _ same) in
         let nulls : filter ends_null (map shown passed) ≡ map shown (filter silent_one tree) =
-        filter-map ends_null shown passed ∙ ap (map shown) (both_tests (passes tests params) (λ (r : Values). is_null (column r at)) tree) in
+        filter-map ends_null shown passed ∙ ap (map shown) (both_tests (passes of_tests params) (λ (r : Values). is_null (column r at)) tree) in
         let seen : IsPermutation (map shown (filter silent_one tree)) silent =
         subst (λ l. IsPermutation (map shown (filter silent_one tree)) l) (sym whole) (subst (λ l. IsPermutation l (filter ends_null those)) nulls (IsPermutation-filter ends_null _ _ each)) in
         let here : map (row_shown kind inst) (map shown (filter silent_one tree)) ≡ filter silent_row (map kept_of tree) =

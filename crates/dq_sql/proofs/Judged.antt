@@ -3,7 +3,6 @@ use Rattle.std.proofs.Common.{◌≡◌, true, refl, sym, ap, subst, ◌∙◌}
 use Rattle.sqlite_value.specs.Order.{Row as Values}
 use Rattle.dq_tables.specs.declared.row.Row.{Row}
 use Rattle.dq_tables.specs.Sound.{is_own}
-use Rattle.dq_sql.specs.declared.version.Version.{Version}
 use Rattle.dq_sql.specs.Tie.{kept_of, Holds}
 use Rattle.dq_sql.specs.Adopting.{HoldsRecord, HasCells, IsGood}
 use Rattle.dq_sql.proofs.Added.{kind_is, set_is}
@@ -11,8 +10,8 @@ use Rattle.dq_sql.proofs.Added.{kind_is, set_is}
 pub record_kept : (row : Row) (r : Values) → HoldsRecord row r → kept_of r ≡ row
 record_kept row r h = rw (h.kind, h.inst, h.key, h.above, h.octets, h.started, kind_is row.kind, set_is row.started) refl
 
-holds_from : (version : Version) (row : Row) (r : Values) → HoldsRecord row r → HasCells version row r → Holds version row r
-holds_from version row r h c = record {
+holds_from : (row : Row) (r : Values) → HoldsRecord row r → HasCells row r → Holds row r
+holds_from row r h c = record {
   kind = h.kind;
   inst = h.inst;
   key = h.key;
@@ -23,23 +22,23 @@ holds_from version row r h c = record {
   started = h.started;
 }
 
-pub good_from : (version : Version) (row : Row) (r : Values) → HoldsRecord row r → HasCells version row r → is_own row ≡ true → IsGood version r
-good_from version row r h c own =
+pub good_from : (row : Row) (r : Values) → HoldsRecord row r → HasCells row r → is_own row ≡ true → IsGood r
+good_from row r h c own =
     let same = record_kept row r h in
     record {
-      kept = subst (λ (x : Row). Holds version x r) (sym same) (holds_from version row r h c);
+      kept = subst (λ (x : Row). Holds x r) (sym same) (holds_from row r h c);
       own = ap is_own same ∙ own;
     }
 
-pub none_good : (version : Version) (r : Values) → ((row : Row) → ¬ HoldsRecord row r) → ¬ IsGood version r
-none_good version r none good =
+pub none_good : (r : Values) → ((row : Row) → ¬ HoldsRecord row r) → ¬ IsGood r
+none_good r none good =
     let h = good.kept in
     none (kept_of r) (record { kind = h.kind; inst = h.inst; key = h.key; above = h.above; octets = h.octets; started = h.started })
 
-pub cells_of_good : (version : Version) (row : Row) (r : Values) → HoldsRecord row r → IsGood version r → HasCells version row r
-cells_of_good version row r h good =
+pub cells_of_good : (row : Row) (r : Values) → HoldsRecord row r → IsGood r → HasCells row r
+cells_of_good row r h good =
     let k = good.kept in
-    subst (λ (x : Row). HasCells version x r) (record_kept row r h) (record { patient = k.patient; day = k.day })
+    subst (λ (x : Row). HasCells x r) (record_kept row r h) (record { patient = k.patient; day = k.day })
 
-pub own_of_good : (version : Version) (row : Row) (r : Values) → HoldsRecord row r → IsGood version r → is_own row ≡ true
-own_of_good version row r h good = ap is_own (sym (record_kept row r h)) ∙ good.own
+pub own_of_good : (row : Row) (r : Values) → HoldsRecord row r → IsGood r → is_own row ≡ true
+own_of_good row r h good = ap is_own (sym (record_kept row r h)) ∙ good.own

@@ -37,3 +37,4 @@ mod Adopted
 mod Copied
 pub mod OneSchema
 pub mod Restarted
+pub mod InMemory

@@ -1,5 +1,5 @@
 -- From the clause of a call to the rows that it reads.
-use Rattle.std.proofs.Common.{◌≡◌, ℕ, min, slice_index_or, pos, Bool, true, false, ◌&&◌, List, [], ◌∷◌, None, map, filter, length, slice_get, refl, sym, ◌∙◌, ap, subst, arith}
+use Rattle.std.proofs.Common.{◌≡◌, ℕ, min, slice_index_or, pos, Bool, true, false, not, ◌&&◌, List, [], ◌∷◌, None, map, filter, length, slice_get, refl, sym, ◌∙◌, ap, subst, arith}
 use Rattle.std.specs.List.{AllByRecursion}
 use Rattle.std.specs.List.Sorted.{IsPermutation}
 use Rattle.std.specs.Str.{bytes_eq}
@@ -21,25 +21,26 @@ use Rattle.sqlite_sql.specs.Program.{overlay}
 use Rattle.sqlite.specs.State.{State, Shown}
 use Rattle.sqlite.proofs.Callers.{reads_as, one_permutation}
 use Rattle.dq_tables.specs.declared.row.Kind.{Kind}
+use Rattle.dq_tables.specs.declared.row.Kind.TheVariants.{Entry}
 use Rattle.dq_tables.specs.declared.row.Row.{Row}
 use Rattle.dq_tables.specs.Rows.{RowPlace, place, number_of, IsRising, row_place_of, row_place_order}
-use Rattle.dq_tables.specs.Finding.{same_kind, is_of, row_at, rows_of, rows_above}
+use Rattle.dq_tables.specs.Finding.{same_kind, is_of, row_at, rows_of, rows_above, waiting}
 use Rattle.dq_tables.proofs.InOrder.{is_eq_nat}
 use Rattle.dq_tables.proofs.Listing.{one_kind}
-use Rattle.dq_tables.proofs.Keyed.{both_tests}
-use Rattle.dq_tables.proofs.Order.{rows_total, each_passed, filter_all, IsRising-filter}
+use Rattle.dq_tables.proofs.Order.{rows_total, each_passed, filter_all, IsRising-filter, both_tests}
 use Rattle.dq_sql.specs.declared.version.Version.{Version}
 use Rattle.dq_sql.specs.declared.version.Version.TheVariants.{One, Two}
 use Rattle.dq_sql.specs.Schema.{schema_of}
+use Rattle.dq_sql.specs.Cells.{flag}
 use Rattle.dq_sql.specs.Tie.{kept_of, IsKept, unstarted}
 use Rattle.dq_sql.specs.Reading.{ShowsNoWrite, HoldsOf, Shows, kept_shown, numbers_shown, IsCount, columns, row_shown}
-use Rattle.dq_sql.proofs.Queries.{Means, selecting, of_tests, at_tests, above_tests, shown_columns, by_id, row_text, of_text, above_text, row_means, of_means, above_means, count_text, count_above_text, count_means, count_above_means, all_text, all_columns, by_place, all_means, version_text, version_means}
+use Rattle.dq_sql.proofs.Queries.{Means, selecting, of_tests, at_tests, above_tests, waiting_tests, shown_columns, by_id, row_text, of_text, above_text, waiting_text, row_means, of_means, above_means, waiting_means, count_text, count_above_text, count_means, count_above_means, all_text, all_columns, by_place, all_means, version_text, version_means}
 use Rattle.dq_sql.proofs.Selecting.{with_row, passes, chosen, selection, selection_rows}
 use Rattle.dq_sql.proofs.Found.{found_rows, listed_rows}
 use Rattle.dq_sql.proofs.Counting.{count_answer, size_found}
 use Rattle.dq_sql.proofs.Selected.{first_kept}
 use Rattle.dq_sql.proofs.Placed.{equals, equals-Int, equals-Text, equals-Blob}
-use Rattle.dq_sql.proofs.Silent.{row_silent, of_silent, above_silent, count_silent, count_above_silent, all_one_silent, all_two_silent, version_silent}
+use Rattle.dq_sql.proofs.Silent.{row_silent, of_silent, above_silent, waiting_silent, count_silent, count_above_silent, all_one_silent, all_two_silent, version_silent}
 use Rattle.dq_sql.proofs.Staying.{shown_unchanged}
 
 pub answer_of : (version : Version) (text : List ℕ) (q : Query) → Means version text q → (params : Values) (old new : State) → old.now.schema ≡ schema_of version
@@ -66,14 +67,14 @@ two true true = refl
 two true false = refl
 two false b = refl
 
-three : (a b c : Bool) → (a && (b && (c && true))) ≡ ((a && b) && c)
+pub three : (a b c : Bool) → (a && (b && (c && true))) ≡ ((a && b) && c)
 three true true true = refl
 three true true false = refl
 three true false c = refl
 three false b c = refl
 
-of_finds : (kind : Kind) (inst : List ℕ) (r : Values) → IsKept r → passes of_tests (of_params kind inst []) r ≡ is_of kind inst (kept_of r)
-of_finds kind inst r h =
+pub of_finds : (kind : Kind) (inst : List ℕ) (more r : Values) → IsKept r → passes of_tests (of_params kind inst more) r ≡ is_of kind inst (kept_of r)
+of_finds kind inst more r h =
     rw (kind_test (column r 1) (kept_of r).kind kind h.kind, text_test (column r 2) (kept_of r).inst inst h.inst)
     (two (same_kind (kept_of r).kind kind) (bytes_eq (kept_of r).inst inst))
 
@@ -88,6 +89,15 @@ above_finds : (kind : Kind) (inst above : List ℕ) (r : Values) → IsKept r
 above_finds kind inst above r h =
     rw (kind_test (column r 1) (kept_of r).kind kind h.kind, text_test (column r 2) (kept_of r).inst inst h.inst, blob_test (column r 4) (kept_of r).above above h.above)
     (three (same_kind (kept_of r).kind kind) (bytes_eq (kept_of r).inst inst) (bytes_eq (kept_of r).above above))
+
+not_started : (v : Value) (b : Bool) → v ≡ flag b → equals v (Int (pos 0)) ≡ not b
+not_started v true e = ap (λ w. equals w (Int (pos 0))) e ∙ equals-Int 1 0
+not_started v false e = ap (λ w. equals w (Int (pos 0))) e ∙ equals-Int 0 0
+
+waiting_finds : (inst : List ℕ) (r : Values) → IsKept r → passes waiting_tests (of_params Entry inst []) r ≡ (is_of Entry inst (kept_of r) && not (kept_of r).started)
+waiting_finds inst r h =
+    rw (kind_test (column r 1) (kept_of r).kind Entry h.kind, text_test (column r 2) (kept_of r).inst inst h.inst, not_started (column r 8) (kept_of r).started h.started)
+    (three (same_kind (kept_of r).kind Entry) (bytes_eq (kept_of r).inst inst) (not (kept_of r).started))
 
 pub of_own : (kind : Kind) (inst : List ℕ) (row : Row) → is_of kind inst row ≡ true → (row.kind ≡ kind) × (row.inst ≡ inst)
 of_own kind inst row h =
@@ -144,7 +154,7 @@ module _ (old new : State) (kind : Kind) (inst : List ℕ) (answer : List Values
     of_rows = λ rows has.
         let params = of_params kind inst [] in
         let s = selection 0 of_tests shown_columns by_id old.now.trees params answer refl (answer_of Two of_text _ of_means params old new has.version_is.schema answer h) in
-        listed_rows of_tests params kind inst (is_of kind inst) (of_finds kind inst) (of_own kind inst) old.now rows answer has s;
+        listed_rows of_tests params kind inst (is_of kind inst) (of_finds kind inst []) (of_own kind inst) old.now rows answer has s;
   }
 
   pub found_above : (above : List ℕ) → Shown above_text (of_params kind inst (Blob above ∷ [])) old new answer
@@ -159,6 +169,19 @@ module _ (old new : State) (kind : Kind) (inst : List ℕ) (answer : List Values
         listed_rows above_tests params kind inst (λ row. is_of kind inst row && under row) (above_finds kind inst above) (and_own kind inst under) old.now rows answer has s
         ∙ sym (both_tests (is_of kind inst) under rows);
   }
+
+pub found_waiting : (old new : State) (inst : List ℕ) (answer : List Values) → Shown waiting_text (of_params Entry inst []) old new answer
+    → HoldsOf old (λ rows. map (row_shown Entry inst) answer ≡ waiting inst rows)
+unfolding rows_of
+found_waiting old new inst answer h = record {
+  is_open = (shown_unchanged waiting_text (of_params Entry inst []) old new waiting_silent answer h).0.was_open;
+  of_rows = λ rows has.
+      let params = of_params Entry inst [] in
+      let waits : Row → Bool = λ row. not row.started in
+      let s = selection 0 waiting_tests shown_columns by_id old.now.trees params answer refl (answer_of Two waiting_text _ waiting_means params old new has.version_is.schema answer h) in
+      listed_rows waiting_tests params Entry inst (λ row. is_of Entry inst row && waits row) (waiting_finds inst) (and_own Entry inst waits) old.now rows answer has s
+      ∙ sym (both_tests (is_of Entry inst) waits rows);
+}
 
 count_is : (n number : ℕ) (answer : List Values) → answer ≡ (stored_count n ∷ []) ∷ [] → IsCount answer number → number ≡ n
 count_is n number answer e h =
@@ -176,7 +199,7 @@ module _ (old new : State) (kind : Kind) (inst : List ℕ) (answer : List Values
         let params = of_params kind inst [] in
         let one = count_answer of_tests old.now.trees params answer (answer_of Two count_text _ count_means params old new has.version_is.schema answer h) in
         count_is (length (chosen 0 of_tests old.now.trees params)) number answer one shown
-        ∙ size_found of_tests params (is_of kind inst) (of_finds kind inst) old.now rows has;
+        ∙ size_found of_tests params (is_of kind inst) (of_finds kind inst []) old.now rows has;
   }
 
   pub counted_above : (above : List ℕ) → Shown count_above_text (of_params kind inst (Blob above ∷ [])) old new answer → IsCount answer number

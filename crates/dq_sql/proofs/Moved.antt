@@ -183,7 +183,7 @@ module _ (d e : Database) (institution key : List ℕ) (it : Updated d e (place 
       subst (HasRows e) (sym (start_of_none institution key rows has.table.rising free)) (record {
         version_is = record { schema = it.edits.schema; says = rw it.edits.version has.version_is.says };
         database = it.edits.database;
-        table = subst (λ t. HoldsRows Two t rows) (sym is) has.table;
+        table = subst (λ t. HoldsRows t rows) (sym is) has.table;
       })
 
   moved : (x : Values) → filter (holds_at p) (d.trees 0) ≡ x ∷ [] → HasRows e (after_edit institution (Start key) rows)

@@ -28,7 +28,7 @@ use Rattle.dq_tables.specs.Rows.{IsRising}
 use Rattle.dq_sql.specs.Tie.{HasRows}
 use Rattle.sqlite.proofs.Callers.{statement_of, runs_as, one_step}
 use Rattle.dq_sql.specs.declared.version.Version.TheVariants.{Two}
-use Rattle.dq_sql.specs.Schema.{schema_of, kept_table, version_table, above_index, patient_index, day_index, kept_schema}
+use Rattle.dq_sql.specs.Schema.{schema_of, kept_table, version_table, above_index, patient_index, day_index, started_index, kept_schema}
 use Rattle.dq_sql.specs.Making.{no_schema, with_kept, with_indexes, MakesKept, MakesVersion, TakesSchema, MakesIndex, MakesIndexes, SaysVersion, GoesOn}
 use Rattle.dq_sql.proofs.Texts.{kept_text, version_text, number_text, number_terms, MakesIt, kept_is, version_is, number_is, both_made, all_made, kept_plain, version_plain, number_plain}
 
@@ -89,11 +89,11 @@ makes_index indexes text index it next old new count h has =
 pub then_takes : (a b c : Database) (mid schema : Schema) → TakesSchema a b mid → (b.schema ≡ mid → TakesSchema b c schema) → TakesSchema a c schema
 then_takes a b c mid schema one two = let next = two one.0 in (next.0, next.1 ∙ one.1, next.2 ∙ one.2)
 
--- the three indexes in turn
-pub makes_indexes : (a b c d : Database) → MakesIndex [] above_index a b → MakesIndex (above_index ∷ []) patient_index b c
-    → MakesIndex (above_index ∷ patient_index ∷ []) day_index c d → MakesIndexes a d
-makes_indexes a b c d one two three has =
-    subst (TakesSchema a d) all_made (then_takes a c d _ _ (then_takes a b c _ _ (one has) two) three)
+-- the four indexes in turn
+pub makes_indexes : (a b c d e : Database) → MakesIndex [] above_index a b → MakesIndex (above_index ∷ []) patient_index b c
+    → MakesIndex (above_index ∷ patient_index ∷ []) day_index c d → MakesIndex (above_index ∷ patient_index ∷ day_index ∷ []) started_index d e → MakesIndexes a e
+makes_indexes a b c d e one two three four has =
+    subst (TakesSchema a e) all_made (then_takes a d e _ _ (then_takes a c d _ _ (then_takes a b c _ _ (one has) two) three) four)
 
 either : (b : Bool) (x : Value) → cond b x x ≡ x
 either true x = refl

@@ -18,7 +18,6 @@ use Rattle.dq_tables.proofs.InOrder.{row_at_is}
 use Rattle.dq_tables.proofs.OneOrder.{rising_distinct}
 use Rattle.dq_tables.proofs.Members.{added_has}
 use Rattle.dq_sql.specs.declared.fault.StoreFault.{StoreFault}
-use Rattle.dq_sql.specs.declared.version.Version.{Version}
 use Rattle.dq_sql.specs.Tie.{kept_of}
 use Rattle.dq_sql.specs.Adopting.{HoldOctets, IsTaken, IsGood, AreGood}
 
@@ -125,25 +124,25 @@ last_first : (done : List Values) (x : Values) → IsPermutation (map kept_of (d
 last_first done x = subst (λ l. IsPermutation l (kept_of x ∷ map kept_of done)) (sym (map_split done x [])) (IsPermutation-to_front (map kept_of done) (kept_of x))
 
 -- a good row that is added
-pub good_next : (version : Version) (done : List Values) (x : Values) (rows new : List Row) → AreGood version done rows → IsGood version x
-    → IsPermutation (kept_of x ∷ rows) new → IsRising new → AreGood version (done ++ x ∷ []) new
-good_next version done x rows new good is_good added rising = record {
-  each = each_and (IsGood version) done x good.each is_good;
+pub good_next : (done : List Values) (x : Values) (rows new : List Row) → AreGood done rows → IsGood x
+    → IsPermutation (kept_of x ∷ rows) new → IsRising new → AreGood (done ++ x ∷ []) new
+good_next done x rows new good is_good added rising = record {
+  each = each_and IsGood done x good.each is_good;
   same = IsPermutation-trans _ (kept_of x ∷ rows) new
       (IsPermutation-trans _ (kept_of x ∷ map kept_of done) _ (last_first done x) (IsPermutation-cons (kept_of x) _ rows good.same)) added;
   rising = rising;
 }
 
 -- a row that is bad, or whose place is taken, is none of good ones
-pub bad_next : (version : Version) (found done more : List Values) (x : Values) (rows : List Row) → done ++ x ∷ more ≡ found → AreGood version done rows
-    → (IsGood version x → IsTaken rows (kept_of x)) → (all : List Row) → ¬ AreGood version found all
-bad_next version found done more x rows whole good bad all every =
-    let is_good = at_middle (IsGood version) done x more (subst (AllByRecursion (IsGood version)) (sym whole) every.each) in
+pub bad_next : (found done more : List Values) (x : Values) (rows : List Row) → done ++ x ∷ more ≡ found → AreGood done rows
+    → (IsGood x → IsTaken rows (kept_of x)) → (all : List Row) → ¬ AreGood found all
+bad_next found done more x rows whole good bad all every =
+    let is_good = at_middle IsGood done x more (subst (AllByRecursion IsGood) (sym whole) every.each) in
     free_before done more x rows all good.same (subst (λ l. IsPermutation (map kept_of l) all) (sym whole) every.same) every.rising (bad is_good)
 
-pub none_good : (version : Version) → AreGood version [] []
+pub none_good : AreGood [] []
 unfolding IsRising
-none_good version = record { each = tt; same = IsPermutation-refl []; rising = tt }
+none_good = record { each = tt; same = IsPermutation-refl []; rising = tt }
 
 pub same_fault : {A : Type 0} (a b : StoreFault) → ◌≡◌ {A = Result A StoreFault} (Err a) (Err b) → a ≡ b
 same_fault a b e = cc

@@ -46,6 +46,10 @@ at_tests = column_is 1 0 ∷ column_is 2 1 ∷ column_is 3 2 ∷ []
 abbrev pub above_tests : List Term
 above_tests = column_is 1 0 ∷ column_is 2 1 ∷ column_is 4 2 ∷ []
 
+-- those that are not started
+abbrev pub waiting_tests : List Term
+waiting_tests = column_is 1 0 ∷ column_is 2 1 ∷ op2 (Compare Eq Binary) (col 1 8) (lit (Int (pos 0))) ∷ []
+
 abbrev pub shown_columns : List Term
 shown_columns = col 1 3 ∷ col 1 4 ∷ col 1 7 ∷ col 1 8 ∷ []
 
@@ -78,6 +82,9 @@ of_text = codes "SELECT id, above, octets, started FROM kept WHERE kind = ?1 AND
 
 abbrev pub above_text : List ℕ
 above_text = codes "SELECT id, above, octets, started FROM kept WHERE kind = ?1 AND inst = ?2 AND above = ?3 ORDER BY id"
+
+abbrev pub waiting_text : List ℕ
+waiting_text = codes "SELECT id, above, octets, started FROM kept WHERE kind = ?1 AND inst = ?2 AND started = 0 ORDER BY id"
 
 abbrev pub count_text : List ℕ
 count_text = codes "SELECT count(*) FROM kept WHERE kind = ?1 AND inst = ?2"
@@ -126,6 +133,10 @@ of_means = record { names = names; is = refl; plain = (refl, refl); unlisted = r
 pub above_means : Means Two above_text (selecting 0 above_tests None shown_columns by_id)
 unfolding understood everything schema_of
 above_means = record { names = names; is = refl; plain = (refl, refl); unlisted = refl }
+
+pub waiting_means : Means Two waiting_text (selecting 0 waiting_tests None shown_columns by_id)
+unfolding understood everything schema_of
+waiting_means = record { names = names; is = refl; plain = (refl, refl); unlisted = refl }
 
 pub count_means : Means Two count_text (selecting 0 of_tests counted (col 1 0 ∷ []) [])
 unfolding understood everything schema_of

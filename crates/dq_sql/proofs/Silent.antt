@@ -13,7 +13,7 @@ use Rattle.sqlite_tied.specs.Compute.{everything}
 use Rattle.sqlite.specs.Listing.{understood, if_select, is_select, reads_listing, listing_schema}
 use Rattle.dq_sql.specs.declared.version.Version.TheVariants.{One, Two}
 use Rattle.dq_sql.specs.Reading.{ShowsNoWrite}
-use Rattle.dq_sql.proofs.Queries.{row_text, of_text, above_text, count_text, count_above_text, all_text, version_text}
+use Rattle.dq_sql.proofs.Queries.{row_text, of_text, above_text, waiting_text, count_text, count_above_text, all_text, version_text}
 
 abbrev returning_in : Schema → ℕ → Checked Parsed → Checked (Option Returning)
 returning_in schema base (Ok p) = returning schema base p.statement
@@ -79,6 +79,13 @@ above_bare schema base = refl
 
 pub above_silent : ShowsNoWrite above_text
 above_silent = bare_shows above_text above_bare
+
+waiting_bare : IsBare waiting_text
+unfolding everything
+waiting_bare schema base = refl
+
+pub waiting_silent : ShowsNoWrite waiting_text
+waiting_silent = bare_shows waiting_text waiting_bare
 
 count_bare : IsBare count_text
 unfolding everything

@@ -19,7 +19,7 @@ use Rattle.sqlite_schema.specs.declared.schema.Table.{Table}
 use Rattle.dq_sql.specs.declared.version.Version.{Version}
 use Rattle.dq_sql.specs.declared.version.Version.TheVariants.{One, Two}
 use Rattle.dq_sql.specs.Schema.{schema_of}
-use Rattle.dq_sql.specs.Tie.{IsKeptIn, kept_of, kept_in, same_id, IsOfVersion, HasRowsOf, IsAtRest, IsSame, Stays}
+use Rattle.dq_sql.specs.Tie.{IsKept, kept_of, kept_in, same_id, IsOfVersion, HasRowsOf, IsAtRest, IsSame, Stays}
 use Rattle.dq_sql.specs.Reading.{columns, Shows, kept_shown, numbers_shown}
 use Rattle.dq_sql.specs.Adopting.{IsGood, AreGood, AreSound, SaysNumber, IsShaped, IsFound}
 use Rattle.dq_sql.proofs.Ordered.{each_moved}
@@ -69,8 +69,8 @@ flips a b = both_ways (same_id a b) (same_id b a) (apart_back a b) (apart_back b
 -- ---- the rows
 
 -- found rows have one list of rows
-pub one_good : (version : Version) (found : List Values) (a b : List Row) → AreGood version found a → AreGood version found b → a ≡ b
-one_good version found a b p q = one_order a b p.rising q.rising (IsPermutation-trans _ _ _ (IsPermutation-sym _ _ p.same) q.same)
+pub one_good : (found : List Values) (a b : List Row) → AreGood found a → AreGood found b → a ≡ b
+one_good found a b p q = one_order a b p.rising q.rising (IsPermutation-trans _ _ _ (IsPermutation-sym _ _ p.same) q.same)
 
 each_shown : (P : Values → Type 0) (trees : List Values) → ((r : Values) → P (columns r) → P r) → AllByRecursion P (map columns trees) → AllByRecursion P trees
 each_shown P [] f h = tt
@@ -98,33 +98,33 @@ kept_shown_is : (trees : List Values) → map kept_of (map columns trees) ≡ ma
 kept_shown_is [] = refl
 kept_shown_is (r ∷ trees) = ap (λ l. kept_of r ∷ l) (kept_shown_is trees)
 
-own_each : (version : Version) (rows : List Values) → AllByRecursion (IsGood version) rows → AllByRecursion (λ (row : Row). is_own row ≡ true) (map kept_of rows)
-own_each version [] h = tt
-own_each version (r ∷ rows) h = (h.0.own, own_each version rows h.1)
+own_each : (rows : List Values) → AllByRecursion IsGood rows → AllByRecursion (λ (row : Row). is_own row ≡ true) (map kept_of rows)
+own_each [] h = tt
+own_each (r ∷ rows) h = (h.0.own, own_each rows h.1)
 
-good_each : (version : Version) (rows : List Values) → AllByRecursion (IsKeptIn version) rows → AllByRecursion (λ (row : Row). is_own row ≡ true) (map kept_of rows) → AllByRecursion (IsGood version) rows
-good_each version [] h o = tt
-good_each version (r ∷ rows) h o = (record { kept = h.0; own = o.0 }, good_each version rows h.1 o.1)
+good_each : (rows : List Values) → AllByRecursion IsKept rows → AllByRecursion (λ (row : Row). is_own row ≡ true) (map kept_of rows) → AllByRecursion IsGood rows
+good_each [] h o = tt
+good_each (r ∷ rows) h o = (record { kept = h.0; own = o.0 }, good_each rows h.1 o.1)
 
-good_shown : (version : Version) (r : Values) → IsGood version r → IsGood version (columns r)
-good_shown version r h =
+good_shown : (r : Values) → IsGood r → IsGood (columns r)
+good_shown r h =
     let k = h.kept in
     record { kept = record { kind = k.kind; inst = k.inst; key = k.key; above = k.above; patient = k.patient; day = k.day; octets = k.octets; started = k.started }; own = h.own }
 
-shown_kept : (version : Version) (r : Values) → IsKeptIn version (columns r) → IsKeptIn version r
-shown_kept version r k = record { kind = k.kind; inst = k.inst; key = k.key; above = k.above; patient = k.patient; day = k.day; octets = k.octets; started = k.started }
+shown_kept : (r : Values) → IsKept (columns r) → IsKept r
+shown_kept r k = record { kind = k.kind; inst = k.inst; key = k.key; above = k.above; patient = k.patient; day = k.day; octets = k.octets; started = k.started }
 
 -- Found rows are sound, whatever the store has.
-pub found_sound : (version : Version) (found : List Values) (rows : List Row) → AreSound version found rows → IsSound rows
-found_sound version found rows sound = record {
+pub found_sound : (found : List Values) (rows : List Row) → AreSound found rows → IsSound rows
+found_sound found rows sound = record {
   rising = sound.good.rising;
-  own = each_moved (λ (row : Row). is_own row ≡ true) (map kept_of found) rows sound.good.same (own_each version found sound.good.each);
+  own = each_moved (λ (row : Row). is_own row ≡ true) (map kept_of found) rows sound.good.same (own_each found sound.good.each);
   held = sound.held;
 }
 
 -- The store has the rows that are found.
 pub found_from : (version : Version) (s : State) (found : List Values) (rows : List Row) → IsAtRest s → IsOfVersion version s.now → (IsTrue s.is_open → IsDatabase s.now)
-    → Shows version s (kept_shown version) found → AreSound version found rows → IsFound version s rows
+    → Shows version s (kept_shown version) found → AreSound found rows → IsFound version s rows
 found_from version s found rows rest ours database shows sound =
     let table = kept_in version s.now in
     let on = shows.rows ours.schema in
@@ -139,30 +139,30 @@ found_from version s found rows rest ours database shows sound =
         table = record {
           apart = apart_shown table apart;
           ids = each_shown (λ r. IsTrue (is_int (rowid r))) table (λ r e. e) (each_moved _ found _ back sound.apart.whole);
-          kept = each_shown (IsKeptIn version) table (shown_kept version) (each_moved (IsKeptIn version) found _ back (each_then (IsGood version) (IsKeptIn version) found (λ r h. h.kept) sound.good.each));
+          kept = each_shown IsKept table shown_kept (each_moved IsKept found _ back (each_then IsGood IsKept found (λ r h. h.kept) sound.good.each));
           same = IsPermutation-trans _ (map kept_of found) rows
               (subst (λ l. IsPermutation l (map kept_of found)) (kept_shown_is table) (IsPermutation-map kept_of _ found on)) sound.good.same;
           rising = sound.good.rising;
         };
       };
-      sound = found_sound version found rows sound;
+      sound = found_sound found rows sound;
     }
 
 -- Where the store has sound rows, these are found.
 pub sound_in : (version : Version) (s : State) (found : List Values) (rows : List Row) → Shows version s (kept_shown version) found → HasRowsOf version s.now rows → IsSound rows
-    → AreSound version found rows
+    → AreSound found rows
 sound_in version s found rows shows has sound =
     let table = kept_in version s.now in
     let on = shows.rows has.version_is.schema in
     let own = each_moved (λ (row : Row). is_own row ≡ true) rows (map kept_of table) (IsPermutation-sym _ _ has.table.same) sound.own in
-    let good = good_each version table has.table.kept own in
+    let good = good_each table has.table.kept own in
     record {
       apart = record {
         whole = each_moved (λ r. IsTrue (is_int (rowid r))) _ found on (shown_each _ table (λ r e. e) has.table.ids);
         apart = IsDistinct-IsPermutation same_id flips _ found on (shown_apart table has.table.apart);
       };
       good = record {
-        each = each_moved (IsGood version) _ found on (shown_each (IsGood version) table (good_shown version) good);
+        each = each_moved IsGood _ found on (shown_each IsGood table good_shown good);
         same = IsPermutation-trans _ (map kept_of table) rows
             (subst (IsPermutation (map kept_of found)) (kept_shown_is table) (IsPermutation-map kept_of found _ (IsPermutation-sym _ _ on))) has.table.same;
         rising = has.table.rising;
@@ -200,13 +200,13 @@ shown_before version a b rows found rest stays clean shows =
 
 pub found_after : (version : Version) (a b : State) (items found : List Values) (rows : List Row) → IsAtRest a → IsOfVersion version a.now
     → (IsTrue a.is_open → IsDatabase a.now) → Stays a b → HasCleanDisk b
-    → Shows version b (kept_shown version) items → found ≡ items → AreSound version found rows → IsFound version a rows
+    → Shows version b (kept_shown version) items → found ≡ items → AreSound found rows → IsFound version a rows
 found_after version a b items found rows rest ours database stays clean shows same sound =
     found_from version a found rows rest ours database
     (subst (Shows version a (kept_shown version)) (sym same) (shown_before version a b (kept_shown version) items rest stays clean shows)) sound
 
 pub sound_after : (version : Version) (a b : State) (items found : List Values) (rows : List Row) → IsAtRest a → Stays a b → HasCleanDisk b
-    → Shows version b (kept_shown version) items → found ≡ items → HasRowsOf version a.now rows → IsSound rows → AreSound version found rows
+    → Shows version b (kept_shown version) items → found ≡ items → HasRowsOf version a.now rows → IsSound rows → AreSound found rows
 sound_after version a b items found rows rest stays clean shows same has sound =
     sound_in version a found rows (subst (Shows version a (kept_shown version)) (sym same) (shown_before version a b (kept_shown version) items rest stays clean shows)) has sound
 

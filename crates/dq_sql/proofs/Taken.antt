@@ -1,221 +1,218 @@
--- From the clauses of the calls to the rows that a choice takes.
-use Rattle.std.proofs.Common.{◌≡◌, ℕ, pos, Option, Bool, true, false, not, ◌&&◌, ◌||◌, ℤ, List, [], ◌∷◌, ◌++◌, None, Some, is_some, map, filter, if◌then◌else◌, IfSome, refl, sym, ◌∙◌, ap, subst}
-use Rattle.std.specs.List.{AllByRecursion}
-use Rattle.std.specs.List.Sorted.{IsPermutation}
+-- What is read of the studies that a choice takes.
+use Rattle.std.proofs.Common.{◌≡◌, ℕ, ℤ, pos, Bool, true, false, not, ◌&&◌, List, [], ◌∷◌, ◌++◌, None, Some, Option, is_some, unwrap_or, option_to_list, map, filter, IfSome, IfOk, Result, Ok, Err, refl, sym, ◌∙◌, ap, subst}
+use Rattle.std.specs.List.Sorted.{IsPermutation, IsSortedByKey}
 use Rattle.std.specs.Str.{bytes_eq}
 use Rattle.std.proofs.lemmas.Bool.{and_parts}
 use Rattle.std.proofs.lemmas.List.{map-append}
+use Rattle.std.proofs.lemmas.List.Elements.{filter_agree}
 use Rattle.std.proofs.lemmas.List.Sorted.{IsPermutation-trans, IsPermutation-append, IsPermutation-filter_both}
-use Rattle.sqlite_value.specs.declared.value.Value.{Value}
 use Rattle.sqlite_value.specs.declared.value.Value.TheVariants.{Int, Blob}
 use Rattle.sqlite_value.specs.Order.{Row as Values, column}
 use Rattle.sqlite_sql.specs.Ops.{is_null}
 use Rattle.sqlite_sql.specs.Term.{Term}
-use Rattle.sqlite_value.specs.declared.keys.Key.{Key}
 use Rattle.sqlite.specs.State.{State, Shown}
-use Rattle.sqlite.specs.Values.{or_null}
 use Rattle.dq_tables.specs.declared.choice.Choice.{Choice}
-use Rattle.dq_tables.specs.declared.row.Kind.{Kind}
-use Rattle.dq_tables.specs.declared.row.Kind.TheVariants.{Study, Entry}
+use Rattle.dq_tables.specs.declared.row.Kind.TheVariants.{Study}
 use Rattle.dq_tables.specs.declared.row.Row.{Row}
-use Rattle.dq_tables.specs.Rows.{record_of}
+use Rattle.dq_tables.specs.Rows.{record_of, octet_order}
 use Rattle.dq_tables.specs.Labels.{patient_of, day_of}
-use Rattle.dq_tables.specs.Choosing.{is_chosen, is_open_or, studies_in, waiting_in}
-use Rattle.dq_tables.specs.Finding.{is_of, rows_of}
-use Rattle.dq_tables.specs.Sound.{IsSound, is_own, may_be_started}
-use Rattle.dq_tables.proofs.Keyed.{both_tests}
-use Rattle.dq_tables.proofs.Order.{each_weaker}
+use Rattle.dq_tables.specs.Choosing.{is_none_or, is_open_or, has_labels, is_chosen, studies_in}
+use Rattle.dq_tables.specs.Finding.{is_of, row_at, rows_of}
+use Rattle.dq_tables.proofs.Order.{both_tests}
+use Rattle.dq_tables.proofs.Keyed.{chosen_of_one}
+use Rattle.dq_sql.specs.declared.choosing.Label.{Label}
+use Rattle.dq_sql.specs.declared.choosing.Label.TheVariants.{Patient, Day}
 use Rattle.dq_sql.specs.declared.version.Version.TheVariants.{Two}
 use Rattle.dq_sql.specs.Tie.{kept_of, IsKept}
 use Rattle.dq_sql.specs.Reading.{ShowsNoWrite, HoldsOf, row_shown}
-use Rattle.dq_sql.specs.Choosing.{is_waiting, waiting_of, says_patient, says_day, ShowsThose, ShowsSaying, ShowsSilent, EndsWithin, last_day_or_blob}
-use Rattle.dq_sql.proofs.Queries.{Means, selecting, shown_columns, by_id}
+use Rattle.dq_sql.specs.Choosing.{says, is_of_patient, is_of_days, ShowsThose, ShowsSaying, ShowsSilent, EndsWithin, last_day_or_blob}
+use Rattle.dq_sql.proofs.Queries.{Means, selecting, shown_columns}
 use Rattle.dq_sql.proofs.Selecting.{passes, selection}
 use Rattle.dq_sql.proofs.Found.{found_rows}
-use Rattle.dq_sql.proofs.Staying.{shown_unchanged}
-use Rattle.dq_sql.proofs.Meaning.{answer_of, of_params, of_own, and_own}
-use Rattle.dq_sql.proofs.Chosen.{day_param, key_finds, patient_finds, days_find, any_finds, key_order_finds, no_patient_finds, no_day_finds, patient_is, day_is, asks_labels, and_false, is_from, is_until}
-use Rattle.dq_sql.proofs.ChoiceTexts.{key_text, key_tests, key_means, key_silent, patient_text, patient_tests, patient_means, patient_silent, days_text, days_tests, days_means, days_silent, any_text, any_tests, any_means, any_silent, key_order_text, key_order_tests, key_order_means, key_order_silent, no_patient_text, no_patient_tests, no_patient_means, no_patient_silent, no_day_text, no_day_tests, no_day_means, no_day_silent}
+use Rattle.dq_sql.proofs.KeyOrder.{key_of, in_key_order}
 use Rattle.dq_sql.proofs.Firsts.{silent_rows}
+use Rattle.dq_sql.proofs.Staying.{shown_unchanged}
+use Rattle.dq_sql.proofs.Meaning.{answer_of, of_params, of_finds, of_own, and_own}
+use Rattle.dq_sql.proofs.Chosen.{AreNatural, patient_finds, days_find, unsaid_patient, unsaid_day, is_from, is_until, and_false}
+use Rattle.dq_sql.proofs.ChoiceTexts.{first_by, patient_text, patient_tests, patient_means, patient_silent, days_text, days_tests, days_means, days_silent, no_patient_text, no_patient_means, no_patient_silent, no_day_text, no_day_means, no_day_silent}
 
 -- ---- one query
 
-module _ (old new : State) (kind : Kind) (inst : List ℕ) (answer : List Values) where
-  shows_those : (text : List ℕ) (tests : List Term) (order : List (Term × Key)) → Means Two text (selecting 0 tests None shown_columns order) → ShowsNoWrite text → (params : Values) (test : Row → Bool)
-      → ((r : Values) → IsKept r → passes tests params r ≡ (is_of kind inst (kept_of r) && test (kept_of r)))
-      → Shown text params old new answer → HoldsOf old (λ rows. ShowsThose kind inst test rows answer)
+module _ (old new : State) (inst : List ℕ) (answer : List Values) where
+  shows_those : (text : List ℕ) (tests : List Term) → Means Two text (selecting 0 tests None shown_columns []) → ShowsNoWrite text → (params : Values) (test : Row → Bool)
+      → ((r : Values) → IsKept r → passes tests params r ≡ (is_of Study inst (kept_of r) && test (kept_of r)))
+      → Shown text params old new answer → HoldsOf old (λ rows. ShowsThose inst test rows answer)
   unfolding rows_of
-  shows_those text tests order means silent params test finds h = record {
+  shows_those text tests means silent params test finds h = record {
     is_open = (shown_unchanged text params old new silent answer h).0.was_open;
     of_rows = λ rows has.
-        let s = selection 0 tests shown_columns order old.now.trees params answer refl (answer_of Two text _ means params old new has.version_is.schema answer h) in
-        subst (λ l. IsPermutation l (map (row_shown kind inst) answer)) (sym (both_tests (is_of kind inst) test rows))
-        (found_rows tests params kind inst (λ row. is_of kind inst row && test row) finds (and_own kind inst test) order old.now rows answer has s);
+        let s = selection 0 tests shown_columns [] old.now.trees params answer refl (answer_of Two text _ means params old new has.version_is.schema answer h) in
+        subst (λ l. IsPermutation l (map (row_shown Study inst) answer)) (sym (both_tests (is_of Study inst) test rows))
+        (found_rows tests params Study inst (λ row. is_of Study inst row && test row) finds (and_own Study inst test) [] old.now rows answer has s);
   }
 
-  module _ (choice : Choice) where
-    pub found_key : (uid : List ℕ) → choice.uid ≡ Some uid
-        → Shown key_text (of_params kind inst (Blob uid ∷ or_null Blob choice.patient ∷ day_param choice.first_day ∷ day_param choice.last_day ∷ [])) old new answer
-        → HoldsOf old (λ rows. ShowsThose kind inst (is_waiting choice) rows answer)
-    found_key uid some h = shows_those key_text key_tests [] key_means key_silent _ (is_waiting choice) (λ r kept. key_finds kind choice inst r kept uid some) h
+  pub found_patient : (patient : List ℕ) → Shown patient_text (of_params Study inst (Blob patient ∷ [])) old new answer
+      → HoldsOf old (λ rows. ShowsSaying Patient (is_of_patient patient) inst rows answer)
+  found_patient patient h =
+      shows_those patient_text patient_tests patient_means patient_silent _ (λ row. is_of_patient patient row && says Patient row) (λ r kept. patient_finds inst r kept patient) h
 
-    pub found_patient : (patient : List ℕ) → choice.uid ≡ None → choice.patient ≡ Some patient
-        → Shown patient_text (of_params kind inst (Blob patient ∷ day_param choice.first_day ∷ day_param choice.last_day ∷ [])) old new answer
-        → HoldsOf old (λ rows. ShowsSaying says_patient kind choice inst rows answer)
-    found_patient patient none some h =
-        shows_those patient_text patient_tests [] patient_means patient_silent _ (λ row. is_waiting choice row && says_patient row)
-        (λ r kept. patient_finds kind choice inst r kept none patient some) h
+  pub found_days : AreNatural → (first last : Option ℕ)
+      → Shown days_text (of_params Study inst (Int (pos (unwrap_or first 0)) ∷ last_day_or_blob last ∷ [])) old new answer
+      → HoldsOf old (λ rows. ShowsSaying Day (is_of_days first last) inst rows answer)
+  found_days natural first last h =
+      shows_those days_text days_tests days_means days_silent _ (λ row. is_of_days first last row && says Day row) (λ r kept. days_find inst r kept natural first last) h
 
-    pub found_days : (first : ℕ) → choice.uid ≡ None → choice.patient ≡ None → choice.first_day ≡ Some first
-        → Shown days_text (of_params kind inst (Int (pos first) ∷ last_day_or_blob choice.last_day ∷ [])) old new answer
-        → HoldsOf old (λ rows. ShowsSaying says_day kind choice inst rows answer)
-    found_days first none unasked some h =
-        shows_those days_text days_tests [] days_means days_silent _ (λ row. is_waiting choice row && says_day row)
-        (λ r kept. days_find kind choice inst r kept none first unasked some) h
+-- ---- those that do not say something
 
-    pub found_any : choice.uid ≡ None → choice.patient ≡ None → choice.first_day ≡ None
-        → Shown any_text (of_params kind inst (day_param choice.last_day ∷ [])) old new answer
-        → HoldsOf old (λ rows. ShowsThose kind inst (is_waiting choice) rows answer)
-    found_any none unasked early h = shows_those any_text any_tests [] any_means any_silent _ (is_waiting choice) (λ r kept. any_finds kind choice inst r kept none unasked early) h
-
-    pub found_in_key_order : choice.uid ≡ None → choice.patient ≡ None → choice.first_day ≡ None
-        → Shown key_order_text (of_params kind inst (day_param choice.last_day ∷ [])) old new answer
-        → HoldsOf old (λ rows. ShowsThose kind inst (is_waiting choice) rows answer)
-    found_in_key_order none unasked early h =
-        shows_those key_order_text key_order_tests by_id key_order_means key_order_silent _ (is_waiting choice)
-        (λ r kept. key_order_finds kind choice inst r kept none unasked early) h
-
--- ---- those that say nothing
-
--- a row is not silent where its column has a value
-null_patient : (v : Value) (said : Option (List ℕ)) → v ≡ or_null Blob said → is_null v ≡ not (is_some said)
-null_patient v None e = ap is_null e
-null_patient v (Some s) e = ap is_null e
-
-null_day : (v : Value) (said : Option ℤ) → v ≡ or_null Int said → is_null v ≡ not (is_some said)
-null_day v None e = ap is_null e
-null_day v (Some z) e = ap is_null e
-
-open_none : (asked : Option (List ℕ)) → is_open_or bytes_eq asked None ≡ true
-open_none None = refl
-open_none (Some p) = refl
-
-patient_part : (i s d : Bool) (asked said : Option (List ℕ))
-    → ((i && (s && (is_some said || d))) && not (is_some said)) ≡ (i && ((s && (is_open_or bytes_eq asked said && d)) && not (is_some said)))
-patient_part false s d asked said = refl
-patient_part true false d asked said = refl
-patient_part true true d asked None = ap (λ b. (b && d) && true) (sym (open_none asked))
-patient_part true true d asked (Some p) = and_false (is_open_or bytes_eq asked (Some p) && d)
-
-day_part : (i s : Bool) (first last : Option ℕ) (said : Option ℤ)
-    → ((i && s) && not (is_some said)) ≡ (i && ((s && (is_from first said && is_until last said)) && not (is_some said)))
-day_part false s first last said = refl
-day_part true false first last said = refl
-day_part true true None None None = refl
-day_part true true None (Some l) None = refl
-day_part true true (Some f) None None = refl
-day_part true true (Some f) (Some l) None = refl
-day_part true true first last (Some z) = and_false (is_from first (Some z) && is_until last (Some z))
-
-module _ (old new : State) (kind : Kind) (inst : List ℕ) (most : ℕ) (answer silent : List Values) (choice : Choice) (none : choice.uid ≡ None) (ends : EndsWithin most answer silent) where
-  abbrev days_asked : Row → Bool
-  days_asked row = is_from choice.first_day (day_of row) && is_until choice.last_day (day_of row)
-
-  abbrev seen_by_patient : Row → Bool
-  seen_by_patient row = is_of kind inst row && (not row.started && (says_patient row || days_asked row))
-
-  patient_silent_is : (row : Row) → (seen_by_patient row && not (says_patient row)) ≡ (is_of kind inst row && (is_waiting choice row && not (says_patient row)))
-  patient_silent_is row =
-      patient_part (is_of kind inst row) (not row.started) (days_asked row) choice.patient (patient_of row)
-      ∙ ap (λ b. is_of kind inst row && ((not row.started && b) && not (says_patient row))) (sym (asks_labels choice row none))
-
-  pub found_without_patient : Shown no_patient_text (of_params kind inst (Int (pos most) ∷ day_param choice.first_day ∷ day_param choice.last_day ∷ [])) old new answer
-      → HoldsOf old (λ rows. ShowsSilent says_patient kind choice inst rows silent)
+module _ (old new : State) (inst : List ℕ) (most : ℕ) (answer silent : List Values) (ends : EndsWithin most answer silent) where
+  found_silent : (at : ℕ) (text : List ℕ) → Means Two text (first_by at) → ShowsNoWrite text → (label : Label)
+      → ((r : Values) → IsKept r → is_null (column r at) ≡ not (says label (kept_of r)))
+      → Shown text (of_params Study inst (Int (pos most) ∷ [])) old new answer → HoldsOf old (λ rows. ShowsSilent label inst rows silent)
   unfolding rows_of
-  found_without_patient h =
-      let params : Values = of_params kind inst (Int (pos most) ∷ day_param choice.first_day ∷ day_param choice.last_day ∷ []) in
+  found_silent at text means shows label unsaid h =
+      let more : Values = Int (pos most) ∷ [] in
+      let params : Values = of_params Study inst more in
       record {
-        is_open = (shown_unchanged no_patient_text params old new no_patient_silent answer h).0.was_open;
+        is_open = (shown_unchanged text params old new shows answer h).0.was_open;
         of_rows = λ rows has.
-            let a = answer_of Two no_patient_text _ no_patient_means params old new has.version_is.schema answer h in
-            let got = silent_rows 5 no_patient_tests params most refl kind inst seen_by_patient says_patient (λ r kept. no_patient_finds kind choice inst r kept (Int (pos most)))
-            (λ r kept. null_patient (column r 5) (patient_of (kept_of r)) (patient_is kind choice inst r kept))
-            (λ row e. of_own kind inst row (and_parts (is_of kind inst row) _ (and_parts (seen_by_patient row) _ e).0).0) old.now rows answer silent has a ends in
-            subst (λ l. IsPermutation l (map (row_shown kind inst) silent))
-            ((λ i. filter (λ row. patient_silent_is row i) rows) ∙ sym (both_tests (is_of kind inst) (λ row. is_waiting choice row && not (says_patient row)) rows)) got;
+            let a = answer_of Two text _ means params old new has.version_is.schema answer h in
+            let got = silent_rows at params most refl Study inst (is_of Study inst) (says label) (of_finds Study inst more) unsaid
+            (λ row e. of_own Study inst row (and_parts (is_of Study inst row) _ e).0) old.now rows answer silent has a ends in
+            subst (λ l. IsPermutation l (map (row_shown Study inst) silent)) (sym (both_tests (is_of Study inst) (λ row. not (says label row)) rows)) got;
       }
 
-  module _ (unasked : choice.patient ≡ None) where
-    abbrev seen_by_day : Row → Bool
-    seen_by_day row = is_of kind inst row && not row.started
+  pub found_no_patient : Shown no_patient_text (of_params Study inst (Int (pos most) ∷ [])) old new answer → HoldsOf old (λ rows. ShowsSilent Patient inst rows silent)
+  found_no_patient = found_silent 5 no_patient_text no_patient_means no_patient_silent Patient (unsaid_patient inst)
 
-    day_silent_is : (row : Row) → (seen_by_day row && not (says_day row)) ≡ (is_of kind inst row && (is_waiting choice row && not (says_day row)))
-    day_silent_is row =
-        day_part (is_of kind inst row) (not row.started) choice.first_day choice.last_day (day_of row)
-        ∙ ap (λ (p : Option (List ℕ)). is_of kind inst row && ((not row.started && (is_open_or bytes_eq p (patient_of row) && days_asked row)) && not (says_day row))) (sym unasked)
-        ∙ ap (λ b. is_of kind inst row && ((not row.started && b) && not (says_day row))) (sym (asks_labels choice row none))
-
-    pub found_without_day : Shown no_day_text (of_params kind inst (Int (pos most) ∷ [])) old new answer → HoldsOf old (λ rows. ShowsSilent says_day kind choice inst rows silent)
-    unfolding rows_of
-    found_without_day h =
-        let params : Values = of_params kind inst (Int (pos most) ∷ []) in
-        record {
-          is_open = (shown_unchanged no_day_text params old new no_day_silent answer h).0.was_open;
-          of_rows = λ rows has.
-              let a = answer_of Two no_day_text _ no_day_means params old new has.version_is.schema answer h in
-              let got = silent_rows 6 no_day_tests params most refl kind inst seen_by_day says_day (λ r kept. no_day_finds kind choice inst r kept (Int (pos most)))
-              (λ r kept. null_day (column r 6) (day_of (kept_of r)) (day_is kind choice inst r kept))
-              (λ row e. of_own kind inst row (and_parts (is_of kind inst row) _ (and_parts (seen_by_day row) _ e).0).0) old.now rows answer silent has a ends in
-              subst (λ l. IsPermutation l (map (row_shown kind inst) silent))
-              ((λ i. filter (λ row. day_silent_is row i) rows) ∙ sym (both_tests (is_of kind inst) (λ row. is_waiting choice row && not (says_day row)) rows)) got;
-        }
+  pub found_no_day : Shown no_day_text (of_params Study inst (Int (pos most) ∷ [])) old new answer → HoldsOf old (λ rows. ShowsSilent Day inst rows silent)
+  found_no_day = found_silent 6 no_day_text no_day_means no_day_silent Day (unsaid_day inst)
 
 pub some_weaker : {X : Type 0} (o : Option X) (P Q : X → Type 0) → ((x : X) → P x → Q x) → IfSome o P → IfSome o Q
 some_weaker None P Q f h = tt
 some_weaker (Some x) P Q f h = f x h
 
--- ---- both parts, in order
+-- ---- both parts
 
-pub both_parts : (says : Row → Bool) (kind : Kind) (choice : Choice) (inst : List ℕ) (rows : List Row) (said silent : List Values)
-    → ShowsSaying says kind choice inst rows said → ShowsSilent says kind choice inst rows silent → ShowsThose kind inst (is_waiting choice) rows (said ++ silent)
-both_parts says kind choice inst rows said silent p q =
-    let all : List Row = rows_of kind inst rows in
-    let silent_too : Row → Bool = λ row. not (says row) in
-    let parted = IsPermutation-filter_both says silent_too (λ row. refl) (filter (is_waiting choice) all) in
-    let first = subst (λ l. IsPermutation l (map (row_shown kind inst) said)) (sym (both_tests (is_waiting choice) says all)) p in
-    let second = subst (λ l. IsPermutation l (map (row_shown kind inst) silent)) (sym (both_tests (is_waiting choice) silent_too all)) q in
-    subst (IsPermutation (filter (is_waiting choice) all)) (sym (map-append (row_shown kind inst) said silent))
+both_parts : (label : Label) (test : Row → Bool) (inst : List ℕ) (rows : List Row) (said silent : List Values)
+    → ((row : Row) → (test row && not (says label row)) ≡ not (says label row))
+    → ShowsSaying label test inst rows said → ShowsSilent label inst rows silent → ShowsThose inst test rows (said ++ silent)
+both_parts label test inst rows said silent passed p q =
+    let all : List Row = rows_of Study inst rows in
+    let unsaid : Row → Bool = λ row. not (says label row) in
+    let parted = IsPermutation-filter_both (says label) unsaid (λ row. refl) (filter test all) in
+    let first = subst (λ l. IsPermutation l (map (row_shown Study inst) said)) (sym (both_tests test (says label) all)) p in
+    let second = subst (λ l. IsPermutation l (map (row_shown Study inst) silent))
+    (sym (both_tests test unsaid all ∙ filter_agree (λ (row : Row). test row && unsaid row) unsaid passed all)) q in
+    subst (IsPermutation (filter test all)) (sym (map-append (row_shown Study inst) said silent))
     (IsPermutation-trans _ _ _ parted (IsPermutation-append _ _ _ _ first second))
 
--- ---- studies, which are never started
+pub ok_both : {A E : Type 0} (r : Result A E) (P Q R : A → Type 0) → ((x : A) → P x → Q x → R x) → IfOk r P → IfOk r Q → IfOk r R
+ok_both (Ok x) P Q R f p q = f x p q
+ok_both (Err e) P Q R f p q = tt
 
-study_waits : (inst : List ℕ) (row : Row) (taken : Bool) → is_own row ≡ true → (is_of Study inst row && (not row.started && taken)) ≡ (is_of Study inst row && taken)
-unfolding is_own
-study_waits inst row taken own = by_kind (is_of Study inst row) refl
-  where
-    by_start : (started : Bool) → may_be_started Study started ≡ true → (true && (not started && taken)) ≡ (true && taken)
-    by_start true e = absurd cc
-    by_start false e = refl
+-- both parts in the order of their keys
+pub in_order_of_both : (label : Label) (test : Row → Bool) (inst : List ℕ) (old : State) (said silent : List Values)
+    → ((row : Row) → (test row && not (says label row)) ≡ not (says label row))
+    → HoldsOf old (λ rows. ShowsSaying label test inst rows said) → HoldsOf old (λ rows. ShowsSilent label inst rows silent)
+    → (list : List Row) → IsPermutation (map (row_shown Study inst) (said ++ silent)) list → IsSortedByKey key_of octet_order list
+    → HoldsOf old (λ rows. list ≡ filter test (rows_of Study inst rows))
+in_order_of_both label test inst old said silent passed p q list same order = record {
+  is_open = p.is_open;
+  of_rows = λ rows has.
+      in_key_order Study inst test rows (map (row_shown Study inst) (said ++ silent)) list has.table.rising
+      (both_parts label test inst rows said silent passed (p.of_rows rows has) (q.of_rows rows has)) same order;
+}
 
-    by_kind : (b : Bool) → is_of Study inst row ≡ b → (b && (not row.started && taken)) ≡ (b && taken)
-    by_kind false e = refl
-    by_kind true e =
-        by_start row.started (subst (λ k. may_be_started k row.started ≡ true) (of_own Study inst row e).0 (and_parts (may_be_started row.kind row.started) _ own).0)
+patient_open : (patient : List ℕ) (said : Option (List ℕ)) → (is_open_or bytes_eq (Some patient) said && not (is_some said)) ≡ not (is_some said)
+patient_open patient None = refl
+patient_open patient (Some s) = sym (and_false (is_open_or bytes_eq (Some patient) (Some s)))
 
-filter_same : (p q : Row → Bool) (rows : List Row) → AllByRecursion (λ row. p row ≡ q row) rows → filter p rows ≡ filter q rows
-filter_same p q [] h = refl
-filter_same p q (row ∷ rows) h = rw h.0 (ap (λ l. if q row then row ∷ l else l) (filter_same p q rows h.1))
+-- what is asked of a patient is met by a study that says none, and so is what is asked of a day
+pub any_patient : (patient : List ℕ) (row : Row) → (is_of_patient patient row && not (says Patient row)) ≡ not (says Patient row)
+any_patient patient row = patient_open patient (patient_of row)
 
-pub studies_wait : (choice : Choice) (inst : List ℕ) (rows : List Row) → IsSound rows → waiting_of Study choice inst rows ≡ studies_in choice inst rows
-unfolding rows_of studies_in
-studies_wait choice inst rows sound =
-    let taken : Row → Bool = λ row. is_chosen choice (record_of row) in
-    both_tests (is_of Study inst) (is_waiting choice) rows
-    ∙ filter_same (λ row. is_of Study inst row && is_waiting choice row) (λ row. is_of Study inst row && taken row) rows
-    (each_weaker _ _ (λ row own. study_waits inst row (taken row) own) rows sound.own)
-    ∙ sym (both_tests (is_of Study inst) taken rows)
+days_open : (first last : Option ℕ) (said : Option ℤ) → ((is_from first said && is_until last said) && not (is_some said)) ≡ not (is_some said)
+days_open None None None = refl
+days_open None (Some l) None = refl
+days_open (Some f) None None = refl
+days_open (Some f) (Some l) None = refl
+days_open first last (Some z) = sym (and_false (is_from first (Some z) && is_until last (Some z)))
 
--- the rows of entries are those that the trait asks for
-pub entries_wait : (choice : Choice) (inst : List ℕ) (rows : List Row) → waiting_of Entry choice inst rows ≡ waiting_in choice inst rows
-unfolding waiting_in
-entries_wait choice inst rows = refl
+pub any_day : (first last : Option ℕ) (row : Row) → (is_of_days first last row && not (says Day row)) ≡ not (says Day row)
+any_day first last row = days_open first last (day_of row)
+
+-- ---- those that a choice takes
+
+abbrev chosen : Choice → Row → Bool
+chosen choice row = is_chosen choice (record_of row)
+
+asks_labels : (choice : Choice) (row : Row) → choice.uid ≡ None → chosen choice row ≡ has_labels choice (patient_of row) (day_of row)
+unfolding is_chosen patient_of day_of
+asks_labels choice row none = ap (λ (u : Option (List ℕ)). is_none_or (bytes_eq row.key) u && has_labels choice (patient_of row) (day_of row)) none
+
+module _ (choice : Choice) (inst : List ℕ) (rows : List Row) (none : choice.uid ≡ None) where
+  twice : (a b : Bool) → (a && (a && b)) ≡ (a && b)
+  twice true b = refl
+  twice false b = refl
+
+  patient_first : (patient : List ℕ) → choice.patient ≡ Some patient → (row : Row) → (is_of_patient patient row && chosen choice row) ≡ chosen choice row
+  patient_first patient some row =
+      let days : Bool = is_from choice.first_day (day_of row) && is_until choice.last_day (day_of row) in
+      let asks : chosen choice row ≡ (is_of_patient patient row && days) =
+      asks_labels choice row none ∙ ap (λ (p : Option (List ℕ)). is_open_or bytes_eq p (patient_of row) && days) some in
+      ap (λ b. is_of_patient patient row && b) asks ∙ twice (is_of_patient patient row) days ∙ sym asks
+
+  chosen_of_patient : (patient : List ℕ) → choice.patient ≡ Some patient
+      → filter (chosen choice) (filter (is_of_patient patient) (rows_of Study inst rows)) ≡ studies_in choice inst rows
+  unfolding studies_in
+  chosen_of_patient patient some =
+      both_tests (is_of_patient patient) (chosen choice) (rows_of Study inst rows)
+      ∙ filter_agree (λ (row : Row). is_of_patient patient row && chosen choice row) (chosen choice) (patient_first patient some) (rows_of Study inst rows)
+
+  module _ (unasked : choice.patient ≡ None) where
+    asks_days : (row : Row) → is_of_days choice.first_day choice.last_day row ≡ chosen choice row
+    asks_days row =
+        sym (asks_labels choice row none
+        ∙ ap (λ (p : Option (List ℕ)). is_open_or bytes_eq p (patient_of row) && is_of_days choice.first_day choice.last_day row) unasked)
+
+    chosen_of_days : filter (is_of_days choice.first_day choice.last_day) (rows_of Study inst rows) ≡ studies_in choice inst rows
+    unfolding studies_in
+    chosen_of_days = filter_agree (is_of_days choice.first_day choice.last_day) (chosen choice) asks_days (rows_of Study inst rows)
+
+    every : (all : List Row) → filter (λ (row : Row). true) all ≡ all
+    every [] = refl
+    every (row ∷ all) = ap (λ (l : List Row). row ∷ l) (every all)
+
+    chosen_of_all : choice.first_day ≡ None → choice.last_day ≡ None → rows_of Study inst rows ≡ studies_in choice inst rows
+    chosen_of_all early late =
+        sym (every (rows_of Study inst rows))
+        ∙ (λ i. filter (is_of_days (sym early i) (sym late i)) (rows_of Study inst rows))
+        ∙ chosen_of_days
+
+-- ---- from what is read to what the choice takes
+
+abbrev HoldsStudies : State → Choice → List ℕ → List Row → Type 0
+HoldsStudies old choice inst list = HoldsOf old (λ rows. list ≡ studies_in choice inst rows)
+
+module _ (old : State) (choice : Choice) (inst : List ℕ) (list : List Row) where
+  pub from_key : (uid : List ℕ) (taken : List Row) → choice.uid ≡ Some uid → HoldsOf old (λ rows. list ≡ option_to_list (row_at Study inst uid rows))
+      → taken ≡ filter (chosen choice) list → HoldsStudies old choice inst taken
+  from_key uid taken asked h is = record {
+    is_open = h.is_open;
+    of_rows = λ rows has. is ∙ ap (filter (chosen choice)) (h.of_rows rows has) ∙ chosen_of_one choice inst uid rows has.table.rising asked;
+  }
+
+  pub from_patient : (patient : List ℕ) (taken : List Row) → choice.uid ≡ None → choice.patient ≡ Some patient
+      → HoldsOf old (λ rows. list ≡ filter (is_of_patient patient) (rows_of Study inst rows)) → taken ≡ filter (chosen choice) list → HoldsStudies old choice inst taken
+  from_patient patient taken none asked h is = record {
+    is_open = h.is_open;
+    of_rows = λ rows has. is ∙ ap (filter (chosen choice)) (h.of_rows rows has) ∙ chosen_of_patient choice inst rows none patient asked;
+  }
+
+  pub from_days : choice.uid ≡ None → choice.patient ≡ None → HoldsOf old (λ rows. list ≡ filter (is_of_days choice.first_day choice.last_day) (rows_of Study inst rows))
+      → HoldsStudies old choice inst list
+  from_days none unasked h = record { is_open = h.is_open; of_rows = λ rows has. h.of_rows rows has ∙ chosen_of_days choice inst rows none unasked }
+
+  pub from_all : choice.uid ≡ None → choice.patient ≡ None → choice.first_day ≡ None → choice.last_day ≡ None → HoldsOf old (λ rows. list ≡ rows_of Study inst rows)
+      → HoldsStudies old choice inst list
+  from_all none unasked early late h = record { is_open = h.is_open; of_rows = λ rows has. h.of_rows rows has ∙ chosen_of_all choice inst rows none unasked early late }

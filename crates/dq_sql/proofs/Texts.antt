@@ -12,7 +12,7 @@ use Rattle.sqlite.specs.Change.{created}
 use Rattle.sqlite_schema.specs.declared.schema.Index.{Index}
 use Rattle.sqlite.proofs.Callers.{IsPlain, command_of, statement_of}
 use Rattle.dq_sql.specs.declared.version.Version.TheVariants.{Two}
-use Rattle.dq_sql.specs.Schema.{schema_of, kept_table, version_table, above_index, patient_index, day_index, kept_schema}
+use Rattle.dq_sql.specs.Schema.{schema_of, kept_table, version_table, above_index, patient_index, day_index, started_index, kept_schema}
 use Rattle.dq_sql.specs.Making.{no_schema, with_kept, with_indexes}
 
 abbrev pub kept_text : List ℕ
@@ -28,7 +28,10 @@ abbrev pub patient_text : List ℕ
 patient_text = codes "CREATE INDEX kept_patient ON kept (kind, inst, patient, id)"
 
 abbrev pub day_text : List ℕ
-day_text = codes "CREATE INDEX kept_day ON kept (kind, inst, started, day, id)"
+day_text = codes "CREATE INDEX kept_day ON kept (kind, inst, day, id)"
+
+abbrev pub started_text : List ℕ
+started_text = codes "CREATE INDEX kept_started ON kept (kind, inst, started, id)"
 
 abbrev pub number_text : List ℕ
 number_text = codes "INSERT INTO version (number) VALUES (2)"
@@ -64,10 +67,14 @@ pub day_is : MakesIt (above_index ∷ patient_index ∷ []) day_text day_index
 unfolding understood everything
 day_is = record { command = refl; whole = refl; defines = refl; plain = (refl, refl) }
 
+pub started_is : MakesIt (above_index ∷ patient_index ∷ day_index ∷ []) started_text started_index
+unfolding understood everything
+started_is = record { command = refl; whole = refl; defines = refl; plain = (refl, refl) }
+
 pub both_made : created with_kept version_table ≡ with_indexes []
 both_made = rw (decimal_digit 1 (omega arith))
 
-pub all_made : with_indexes (above_index ∷ patient_index ∷ day_index ∷ []) ≡ kept_schema
+pub all_made : with_indexes (above_index ∷ patient_index ∷ day_index ∷ started_index ∷ []) ≡ kept_schema
 unfolding schema_of
 all_made = refl
 

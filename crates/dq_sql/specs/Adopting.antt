@@ -18,9 +18,9 @@ use Rattle.dq_tables.specs.Sound.{is_own, HeldEach, IsSound}
 use Rattle.dq_sql.specs.declared.fault.StoreFault.{StoreFault}
 use Rattle.dq_sql.specs.declared.fault.StoreFault.TheVariants.{WrongVersion, BadRows}
 use Rattle.dq_sql.specs.declared.version.Version.{Version}
-use Rattle.dq_sql.specs.Cells.{patient_cell, day_cell, flag}
+use Rattle.dq_sql.specs.Cells.{patient_of, day_of, flag}
 use Rattle.dq_sql.specs.Schema.{version_number, version_table, schema_of}
-use Rattle.dq_sql.specs.Tie.{IsKeptIn, kept_of, same_id, IsOfVersion, HasRowsOf, IsAtRest, Stays}
+use Rattle.dq_sql.specs.Tie.{IsKept, kept_of, same_id, IsOfVersion, HasRowsOf, IsAtRest, Stays}
 
 -- The columns hold the row, but for what they say of its patient and its day.
 pub record HoldsRecord (row : Row) (r : Values) : Type 0 where
@@ -31,14 +31,14 @@ pub record HoldsRecord (row : Row) (r : Values) : Type 0 where
   pub octets : column r 7 ≡ Blob row.octets
   pub started : column r 8 ≡ flag row.started
 
--- the columns say of the row's patient and its day what a version has of them
-pub record HasCells (version : Version) (row : Row) (r : Values) : Type 0 where
-  pub patient : column r 5 ≡ patient_cell version row
-  pub day : column r 6 ≡ day_cell version row
+-- the columns say the row's patient and its day
+pub record HasCells (row : Row) (r : Values) : Type 0 where
+  pub patient : column r 5 ≡ patient_of row
+  pub day : column r 6 ≡ day_of row
 
--- The columns hold a row that is its record's own, as a version has it.
-pub record IsGood (version : Version) (r : Values) : Type 0 where
-  pub kept : IsKeptIn version r
+-- The columns hold a row that is its record's own.
+pub record IsGood (r : Values) : Type 0 where
+  pub kept : IsKept r
   pub own : is_own (kept_of r) ≡ true
 
 -- a row of the same place is there
@@ -46,8 +46,8 @@ abbrev pub IsTaken : List Row → Row → Type 0
 IsTaken rows row = is_some (row_at row.kind row.inst row.key rows) ≡ true
 
 -- All are good, and no two are of one place.
-pub record AreGood (version : Version) (found : List Values) (rows : List Row) : Type 0 where
-  pub each : AllByRecursion (IsGood version) found
+pub record AreGood (found : List Values) (rows : List Row) : Type 0 where
+  pub each : AllByRecursion IsGood found
   pub same : IsPermutation (map kept_of found) rows
   pub rising : IsRising rows
 
@@ -86,9 +86,9 @@ pub record IsShaped (version : Version) (s : State) : Type 0 where
   pub database : IsTrue s.is_open → IsDatabase s.now
 
 -- Found rows are those of a store of sound rows.
-pub record AreSound (version : Version) (found : List Values) (rows : List Row) : Type 0 where
+pub record AreSound (found : List Values) (rows : List Row) : Type 0 where
   pub apart : AreApart found
-  pub good : AreGood version found rows
+  pub good : AreGood found rows
   pub held : HeldEach rows rows
 
 -- The store was open, of the version, and had the rows, which are sound.

@@ -1,47 +1,46 @@
--- Which rows are waiting, and in which parts those that a choice takes are read.
-use Rattle.std.specs.Prelude.{ℕ, ◌<◌, Bool, not, ◌&&◌, if◌then◌else◌, List, [], ◌∷◌, length, map, filter, is_some, Option, Some, None, pos, IsPermutation, ◌≡◌}
+-- In which parts the studies are read that a choice takes.
+use Rattle.std.specs.Prelude.{ℕ, ◌<◌, Bool, not, ◌&&◌, int_le, if◌then◌else◌, List, [], ◌∷◌, length, map, filter, is_some, Option, Some, None, pos, IsPermutation, ◌≡◌}
+use Rattle.std.specs.Str.{bytes_eq}
 use Rattle.sqlite_value.specs.declared.value.Value.{Value}
 use Rattle.sqlite_value.specs.declared.value.Value.TheVariants.{Int, Blob}
 use Rattle.sqlite_value.specs.Order.{Row as Values, column}
 use Rattle.sqlite_sql.specs.Ops.{is_null}
-use Rattle.dq_tables.specs.declared.choice.Choice.{Choice}
-use Rattle.dq_tables.specs.declared.row.Kind.{Kind}
+use Rattle.dq_tables.specs.declared.row.Kind.TheVariants.{Study}
 use Rattle.dq_tables.specs.declared.row.Row.{Row}
-use Rattle.dq_tables.specs.Rows.{record_of}
 use Rattle.dq_tables.specs.Labels.{patient_of, day_of}
-use Rattle.dq_tables.specs.Choosing as choosing
+use Rattle.dq_tables.specs.Choosing.{is_open_or}
 use Rattle.dq_tables.specs.Finding.{rows_of}
+use Rattle.dq_sql.specs.declared.choosing.Label.{Label}
+use Rattle.dq_sql.specs.declared.choosing.Label.TheVariants.{Patient, Day}
 use Rattle.dq_sql.specs.Reading.{row_shown}
 
--- a row is not started, and a choice takes it
-abbrev pub is_waiting : Choice → Row → Bool
-is_waiting choice row = choosing.is_waiting choice (record_of row)
+-- a study says who its patient is, or which its day
+abbrev pub says : Label → Row → Bool
+says Patient row = is_some (patient_of row)
+says Day row = is_some (day_of row)
 
--- the rows of a kind and an institution that wait and that a choice takes
-abbrev pub waiting_of : Kind → Choice → List ℕ → List Row → List Row
-waiting_of kind choice institution rows = filter (is_waiting choice) (rows_of kind institution rows)
+-- the patient of a study is this one, or the study says none
+abbrev pub is_of_patient : List ℕ → Row → Bool
+is_of_patient patient row = is_open_or bytes_eq (Some patient) (patient_of row)
 
--- a row says who its patient is, and which its day
-abbrev pub says_patient : Row → Bool
-says_patient row = is_some (patient_of row)
+-- the day of a study is from the first to the last, or the study says none
+abbrev pub is_of_days : Option ℕ → Option ℕ → Row → Bool
+is_of_days first last row =
+    is_open_or (λ from day. int_le (pos from) day) first (day_of row)
+    && is_open_or (λ until day. int_le day (pos until)) last (day_of row)
 
-abbrev pub says_day : Row → Bool
-says_day row = is_some (day_of row)
+-- An answer shows the studies of an institution that pass a test, in any order.
+abbrev pub ShowsThose : List ℕ → (Row → Bool) → List Row → List Values → Type 0
+ShowsThose institution test rows answer =
+    IsPermutation (filter test (rows_of Study institution rows))
+    (map (row_shown Study institution) answer)
 
--- An answer shows the rows of a kind and an institution that pass a test, in any order.
-abbrev pub ShowsThose : Kind → List ℕ → (Row → Bool) → List Row → List Values → Type 0
-ShowsThose kind institution test rows answer =
-    IsPermutation (filter test (rows_of kind institution rows))
-    (map (row_shown kind institution) answer)
+-- those that pass a test and say something, and those that do not say it
+abbrev pub ShowsSaying : Label → (Row → Bool) → List ℕ → List Row → List Values → Type 0
+ShowsSaying label test institution = ShowsThose institution (λ row. test row && says label row)
 
--- those that a choice takes and that say something, and those that do not
-abbrev pub ShowsSaying : (Row → Bool) → Kind → Choice → List ℕ → List Row → List Values → Type 0
-ShowsSaying says kind choice institution =
-    ShowsThose kind institution (λ row. is_waiting choice row && says row)
-
-abbrev pub ShowsSilent : (Row → Bool) → Kind → Choice → List ℕ → List Row → List Values → Type 0
-ShowsSilent says kind choice institution =
-    ShowsThose kind institution (λ row. is_waiting choice row && not (says row))
+abbrev pub ShowsSilent : Label → List ℕ → List Row → List Values → Type 0
+ShowsSilent label institution = ShowsThose institution (λ row. not (says label row))
 
 -- what an answer shows before the first row whose fifth column is not null
 abbrev pub leading_nulls : List Values → List Values

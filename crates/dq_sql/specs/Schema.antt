@@ -34,7 +34,7 @@ optional name kind = record {
 abbrev pub required : List ℕ → Kind → Column
 required name kind = record (optional name kind) { not_null = true }
 
--- the columns of a record, its place and what it says of a study or an entry
+-- the columns of a record, its place and what it says of a study
 abbrev pub record_columns : List Column
 record_columns =
     required (codes "kind") Integer ∷ required (codes "inst") Text ∷ required (codes "id") Blob
@@ -107,18 +107,22 @@ key_index = kept_index (codes "sqlite_autoindex_kept_1") 1 (1 ∷ 2 ∷ 3 ∷ []
 abbrev pub above_index : Index
 above_index = kept_index (codes "kept_above") 3 (1 ∷ 2 ∷ 4 ∷ 3 ∷ []) false
 
--- that by which the rows of a patient are found
+-- that by which the studies of a patient are found
 abbrev pub patient_index : Index
 patient_index = kept_index (codes "kept_patient") 4 (1 ∷ 2 ∷ 5 ∷ 3 ∷ []) false
 
--- that by which the rows of a day are found, what is started apart
+-- that by which the studies of a day are found
 abbrev pub day_index : Index
-day_index = kept_index (codes "kept_day") 5 (1 ∷ 2 ∷ 8 ∷ 6 ∷ 3 ∷ []) false
+day_index = kept_index (codes "kept_day") 5 (1 ∷ 2 ∷ 6 ∷ 3 ∷ []) false
 
--- Version 2 has two indexes more.
+-- that by which the entries are found that wait
+abbrev pub started_index : Index
+started_index = kept_index (codes "kept_started") 6 (1 ∷ 2 ∷ 8 ∷ 3 ∷ []) false
+
+-- Version 2 has three indexes more.
 abbrev pub further_indexes : Version → List Index
 further_indexes One = []
-further_indexes Two = patient_index ∷ day_index ∷ []
+further_indexes Two = patient_index ∷ day_index ∷ started_index ∷ []
 
 unfoldable pub schema_of : Version → Schema
 schema_of version = record {

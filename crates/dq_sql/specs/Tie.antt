@@ -15,7 +15,7 @@ use Rattle.dq_tables.specs.declared.row.Row.{Row}
 use Rattle.dq_tables.specs.Rows.{number_of, IsRising}
 use Rattle.dq_sql.specs.declared.version.Version.{Version}
 use Rattle.dq_sql.specs.declared.version.Version.TheVariants.{One, Two}
-use Rattle.dq_sql.specs.Cells.{patient_cell, day_cell, flag}
+use Rattle.dq_sql.specs.Cells.{patient_of, day_of, flag}
 use Rattle.dq_sql.specs.Schema.{version_number, schema_of}
 
 -- the kind with a number from 1 to 5
@@ -44,31 +44,28 @@ kept_of r = record {
   started = is_set (column r 8);
 }
 
--- the columns of the table hold a row, as a version has them
-pub record Holds (version : Version) (row : Row) (r : Values) : Type 0 where
+-- the columns of the table hold a row
+pub record Holds (row : Row) (r : Values) : Type 0 where
   pub kind : column r 1 ≡ Int (pos (number_of row.kind))
   pub inst : column r 2 ≡ Text row.inst
   pub key : column r 3 ≡ Blob row.key
   pub above : column r 4 ≡ Blob row.above
-  pub patient : column r 5 ≡ patient_cell version row
-  pub day : column r 6 ≡ day_cell version row
+  pub patient : column r 5 ≡ patient_of row
+  pub day : column r 6 ≡ day_of row
   pub octets : column r 7 ≡ Blob row.octets
   pub started : column r 8 ≡ flag row.started
 
-abbrev pub IsKeptIn : Version → Values → Type 0
-IsKeptIn version r = Holds version (kept_of r) r
-
 abbrev pub IsKept : Values → Type 0
-IsKept = IsKeptIn Two
+IsKept r = Holds (kept_of r) r
 
 abbrev pub same_id : Values → Values → Bool
 same_id a b = is_eq (value_cmp (rowid a) (rowid b))
 
--- A table holds the rows, as a version has them, each once and in any order.
-pub record HoldsRows (version : Version) (table : List Values) (rows : List Row) : Type 0 where
+-- A table holds the rows, each once and in any order.
+pub record HoldsRows (table : List Values) (rows : List Row) : Type 0 where
   pub apart : IsDistinct same_id table
   pub ids : AllByRecursion (λ r. IsTrue (is_int (rowid r))) table
-  pub kept : AllByRecursion (IsKeptIn version) table
+  pub kept : AllByRecursion IsKept table
   pub same : IsPermutation (map kept_of table) rows
   pub rising : IsRising rows
 
@@ -92,7 +89,7 @@ pub record IsOfVersion (version : Version) (d : Database) : Type 0 where
 pub record HasRowsOf (version : Version) (d : Database) (rows : List Row) : Type 0 where
   pub version_is : IsOfVersion version d
   pub database : IsDatabase d
-  pub table : HoldsRows version (kept_in version d) rows
+  pub table : HoldsRows (kept_in version d) rows
 
 -- Rows are kept in a store of version 2.
 abbrev pub HasRows : Database → List Row → Type 0

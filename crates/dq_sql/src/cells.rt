@@ -1,10 +1,9 @@
-//! The columns in which a store says the patient and the day of a study or an entry.
+//! The columns in which a store says the patient and the day of a study.
 ghost use Rattle.std.specs.Prelude.{◌≡◌, IfOk};
 ghost use Rattle.sqlite_value.specs.declared.value.Value.TheVariants.{Int, Blob};
 ghost use Rattle.sqlite.specs.Values.{or_null};
-ghost use Rattle.dq_sql.specs.Cells.{patient_cell, day_cell};
+ghost use Rattle.dq_sql.specs.Cells.{patient_of, day_of};
 
-use crate::version::Version;
 use dq_tables::{Labels, Row};
 use std::alloc::{AllocError, Global};
 
@@ -16,19 +15,13 @@ pub(crate) struct Cells {
 }
 
 impl Cells {
-    /// The cells of a row in a store of the version.
+    /// The cells of a row.
     #[tactic(auto, unfolding(crate::specs::Cells::patient_of, crate::specs::Cells::day_of))]
-    pub(crate) fn of(alloc: Global, row: &Row, version: Version) -> Result<Cells, AllocError>
+    pub(crate) fn of(alloc: Global, row: &Row) -> Result<Cells, AllocError>
         ensures patient { IfOk result
-            (λ cells. or_null (λ octets. Blob octets.items) cells.patient ≡ patient_cell version row.now) }
-        ensures day { IfOk result (λ cells. or_null Int cells.day ≡ day_cell version row.now) }
+            (λ cells. or_null (λ octets. Blob octets.items) cells.patient ≡ patient_of row.now) }
+        ensures day { IfOk result (λ cells. or_null Int cells.day ≡ day_of row.now) }
     {
-        if !version.says_labels(row.kind) {
-            return Ok(Cells {
-                patient: None,
-                day: None,
-            });
-        }
         let Labels { patient, day } = row.labels(alloc)?;
         let patient = patient.map(|octets| octets.into_inner());
         Ok(Cells { patient, day })

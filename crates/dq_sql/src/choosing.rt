@@ -1,42 +1,39 @@
-//! The waiting rows that a choice takes, read by the index that fits what it asks.
+//! The studies that a choice takes, read by the index that fits what it asks.
 //!
 //! A comparison never holds of a null, so no bounds of an index enclose the rows that have one. But
 //! nulls come first in its order: the rows are read in that order, ever more, up to one that has a
 //! value.
-//!
-//! The index that a statement's tests bind most is taken, and among those that are bound alike one that
-//! has the order of `ORDER BY`. So where it is not to be that by days the statement says `started <> 1`,
-//! which binds none, and else `started = 0`.
-ghost use Rattle.std.specs.Prelude.{◌≡◌, None, Some, IfOk, OnOk, IfSome, IsPermutation, IsSortedByKey, take};
-ghost use Rattle.sqlite_value.specs.declared.value.Value.TheVariants.{Blob};
+ghost use Rattle.std.specs.Prelude.{◌≡◌, ◌++◌, IfOk, OnOk, IfSome, IsPermutation, IsSortedByKey, take, filter, map, option_to_list};
 ghost use Rattle.sqlite_value.specs.Value.{owned};
 ghost use Rattle.sqlite_value.specs.Order.{column};
 ghost use Rattle.sqlite_sql.specs.Ops.{is_null};
-ghost use Rattle.sqlite.specs.Values.{or_null};
 ghost use Rattle.sqlite.specs.State.{HasCleanDisk};
 ghost use Rattle.sqlite.specs.Held.{state};
 ghost use Rattle.dq_sql.specs.Tie.{Stays};
-ghost use Rattle.dq_sql.specs.Reading.{HoldsOf, ShowsSame};
-ghost use Rattle.dq_sql.specs.Choosing.{is_waiting, waiting_of, says_patient, says_day, ShowsThose, ShowsSaying, ShowsSilent, leading_nulls, EndsWithin, last_day_or_blob};
+ghost use Rattle.dq_sql.specs.Reading.{HoldsOf, ShowsSame, row_shown};
+ghost use Rattle.dq_sql.specs.Choosing.{is_of_patient, is_of_days, ShowsSaying, ShowsSilent, leading_nulls, EndsWithin, last_day_or_blob};
+ghost use Rattle.dq_sql.specs.declared.choosing.Label.TheVariants.{Patient, Day};
+ghost use Rattle.dq_tables.specs.declared.row.Kind.TheVariants.{Study};
 ghost use Rattle.dq_tables.specs.declared.row.Row.{Row};
 ghost use Rattle.dq_tables.specs.Rows.{octet_order};
+ghost use Rattle.dq_tables.specs.Finding.{row_at, rows_of};
+ghost use Rattle.dq_tables.specs.Choosing.{studies_in};
 
 use crate::judging::value_at;
+use crate::reading;
 use crate::reading::{answered, rows_shown};
 use dq_list::Listed;
+use dq_tables::laws::day_numbers_are_in_order;
 use dq_tables::{Choice, Kind, Row, TableFault};
 use sqlite::types::{ToSql, ValueRef};
 use sqlite::{Alter, Connection};
 use std::alloc::{AllocError, Global};
 
-/// Octets, or null where there are none.
-fn octets_or_null(octets: &Option<Listed<u8>>) -> ValueRef<'_>
-    ensures { owned result ≡ or_null Blob octets.now }
-{
-    match octets {
-        Some(octets) => ValueRef::Blob(octets.as_slice()),
-        None => ValueRef::Null,
-    }
+/// What a study may not say by one value.
+#[derive(Clone, Copy)]
+pub(crate) enum Label {
+    Patient,
+    Day,
 }
 
 /// The last day that is asked for. In SQL's order a blob is above every number.
@@ -49,148 +46,55 @@ fn last_day_or_blob(last: Option<u32>) -> ValueRef<'static>
     }
 }
 
-/// Those with the key that the choice asks. A test of what is null is null, and then holds.
-#[tactic(auto, using(crate::proofs::ChoiceTexts::key_silent))]
-fn with_key<S: Alter>(
-    conn: &mut Connection<S>,
-    kind: Kind,
-    institution: &[u8],
-    choice: &Choice,
-    uid: &[u8],
-) -> Result<Vec<sqlite::Row>, TableFault>
-    requires { choice.now.uid ≡ Some uid.now }
-    ensures found { HasCleanDisk (state S.Store conn.new) → IfOk result (λ answer.
-        HoldsOf (state S.Store conn.old) (λ rows.
-        ShowsThose kind institution.now (is_waiting choice.now) rows answer.items)) }
-    ensures stays { Stays (state S.Store conn.old) (state S.Store conn.new) }
-{
-    answered(
-        conn,
-        "SELECT id, above, octets, started FROM kept WHERE kind = ?1 AND inst = ?2 AND id = ?3 AND started <> 1 AND coalesce(?4 = patient, 1) AND coalesce(?5 <= day, 1) AND coalesce(day <= ?6, 1)",
-        &[
-            u32::from(kind.number()).to_sql(),
-            ValueRef::Text(institution),
-            ValueRef::Blob(uid),
-            octets_or_null(&choice.patient),
-            choice.first_day.to_sql(),
-            choice.last_day.to_sql(),
-        ],
-    )
-}
-
-/// Those of the patient that the choice asks.
+/// The studies of a patient.
 #[tactic(auto, using(crate::proofs::ChoiceTexts::patient_silent))]
 fn of_patient<S: Alter>(
     conn: &mut Connection<S>,
-    kind: Kind,
     institution: &[u8],
-    choice: &Choice,
     patient: &[u8],
 ) -> Result<Vec<sqlite::Row>, TableFault>
-    requires uid { choice.now.uid ≡ None }
-    requires patient { choice.now.patient ≡ Some patient.now }
     ensures found { HasCleanDisk (state S.Store conn.new) → IfOk result (λ answer.
         HoldsOf (state S.Store conn.old) (λ rows.
-        ShowsSaying says_patient kind choice.now institution.now rows answer.items)) }
+        ShowsSaying Patient (is_of_patient patient.now) institution.now rows answer.items)) }
     ensures same { HasCleanDisk (state S.Store conn.new) → OnOk result
         (ShowsSame (state S.Store conn.old) (state S.Store conn.new)) }
     ensures stays { Stays (state S.Store conn.old) (state S.Store conn.new) }
 {
     answered(
         conn,
-        "SELECT id, above, octets, started FROM kept WHERE kind = ?1 AND inst = ?2 AND started <> 1 AND ?3 = patient AND coalesce(?4 <= day, 1) AND coalesce(day <= ?5, 1)",
+        "SELECT id, above, octets, started FROM kept WHERE kind = ?1 AND inst = ?2 AND ?3 = patient",
         &[
-            u32::from(kind.number()).to_sql(),
+            u32::from(Kind::Study.number()).to_sql(),
             ValueRef::Text(institution),
             ValueRef::Blob(patient),
-            choice.first_day.to_sql(),
-            choice.last_day.to_sql(),
         ],
     )
 }
 
-/// Those from the first day on that the choice asks, to its last.
+/// The studies from one day to another. No day is before day 0.
 #[tactic(auto, using(crate::proofs::ChoiceTexts::days_silent))]
 fn of_days<S: Alter>(
     conn: &mut Connection<S>,
-    kind: Kind,
     institution: &[u8],
-    choice: &Choice,
-    first: u32,
+    first: Option<u32>,
+    last: Option<u32>,
 ) -> Result<Vec<sqlite::Row>, TableFault>
-    requires uid { choice.now.uid ≡ None }
-    requires patient { choice.now.patient ≡ None }
-    requires first { choice.now.first_day ≡ Some first }
     ensures found { HasCleanDisk (state S.Store conn.new) → IfOk result (λ answer.
         HoldsOf (state S.Store conn.old) (λ rows.
-        ShowsSaying says_day kind choice.now institution.now rows answer.items)) }
+        ShowsSaying Day (is_of_days first last) institution.now rows answer.items)) }
     ensures same { HasCleanDisk (state S.Store conn.new) → OnOk result
         (ShowsSame (state S.Store conn.old) (state S.Store conn.new)) }
     ensures stays { Stays (state S.Store conn.old) (state S.Store conn.new) }
 {
+    day_numbers_are_in_order();
     answered(
         conn,
-        "SELECT id, above, octets, started FROM kept WHERE kind = ?1 AND inst = ?2 AND started = 0 AND ?3 <= day AND day <= ?4",
+        "SELECT id, above, octets, started FROM kept WHERE kind = ?1 AND inst = ?2 AND ?3 <= day AND day <= ?4",
         &[
-            u32::from(kind.number()).to_sql(),
+            u32::from(Kind::Study.number()).to_sql(),
             ValueRef::Text(institution),
-            first.to_sql(),
-            last_day_or_blob(choice.last_day),
-        ],
-    )
-}
-
-/// Those up to the last day, where the choice asks no more.
-#[tactic(auto, using(crate::proofs::ChoiceTexts::any_silent))]
-fn up_to_day<S: Alter>(
-    conn: &mut Connection<S>,
-    kind: Kind,
-    institution: &[u8],
-    choice: &Choice,
-) -> Result<Vec<sqlite::Row>, TableFault>
-    requires uid { choice.now.uid ≡ None }
-    requires patient { choice.now.patient ≡ None }
-    requires first { choice.now.first_day ≡ None }
-    ensures found { HasCleanDisk (state S.Store conn.new) → IfOk result (λ answer.
-        HoldsOf (state S.Store conn.old) (λ rows.
-        ShowsThose kind institution.now (is_waiting choice.now) rows answer.items)) }
-    ensures stays { Stays (state S.Store conn.old) (state S.Store conn.new) }
-{
-    answered(
-        conn,
-        "SELECT id, above, octets, started FROM kept WHERE kind = ?1 AND inst = ?2 AND started = 0 AND coalesce(day <= ?3, 1)",
-        &[
-            u32::from(kind.number()).to_sql(),
-            ValueRef::Text(institution),
-            choice.last_day.to_sql(),
-        ],
-    )
-}
-
-/// The same, read in the order of their keys: for a kind of which none is ever started, so that all
-/// are read anyhow.
-#[tactic(auto, using(crate::proofs::ChoiceTexts::key_order_silent))]
-fn in_order_up_to_day<S: Alter>(
-    conn: &mut Connection<S>,
-    kind: Kind,
-    institution: &[u8],
-    choice: &Choice,
-) -> Result<Vec<sqlite::Row>, TableFault>
-    requires uid { choice.now.uid ≡ None }
-    requires patient { choice.now.patient ≡ None }
-    requires first { choice.now.first_day ≡ None }
-    ensures found { HasCleanDisk (state S.Store conn.new) → IfOk result (λ answer.
-        HoldsOf (state S.Store conn.old) (λ rows.
-        ShowsThose kind institution.now (is_waiting choice.now) rows answer.items)) }
-    ensures stays { Stays (state S.Store conn.old) (state S.Store conn.new) }
-{
-    answered(
-        conn,
-        "SELECT id, above, octets, started FROM kept WHERE kind = ?1 AND inst = ?2 AND started <> 1 AND coalesce(day <= ?3, 1) ORDER BY id",
-        &[
-            u32::from(kind.number()).to_sql(),
-            ValueRef::Text(institution),
-            choice.last_day.to_sql(),
+            first.unwrap_or(0).to_sql(),
+            last_day_or_blob(last),
         ],
     )
 }
@@ -227,65 +131,76 @@ fn silent_shown(mut answer: Vec<sqlite::Row>, most: u32) -> Option<Vec<sqlite::R
     }
 }
 
-/// Those that do not say their patient, where they are fewer than so many.
+/// The studies that do not say their patient, where they are fewer than so many.
 #[tactic(auto, using(crate::proofs::ChoiceTexts::no_patient_silent))]
-fn without_patient_within<S: Alter>(
+fn without_patient<S: Alter>(
     conn: &mut Connection<S>,
-    kind: Kind,
     institution: &[u8],
-    choice: &Choice,
     most: u32,
 ) -> Result<Option<Vec<sqlite::Row>>, TableFault>
-    requires { choice.now.uid ≡ None }
     ensures found { HasCleanDisk (state S.Store conn.new) → IfOk result (λ silent.
         IfSome silent (λ silent. HoldsOf (state S.Store conn.old) (λ rows.
-        ShowsSilent says_patient kind choice.now institution.now rows silent.items))) }
+        ShowsSilent Patient institution.now rows silent.items))) }
     ensures same { HasCleanDisk (state S.Store conn.new) → OnOk result
         (ShowsSame (state S.Store conn.old) (state S.Store conn.new)) }
     ensures stays { Stays (state S.Store conn.old) (state S.Store conn.new) }
 {
     let answer = answered(
         conn,
-        "SELECT id, above, octets, started, patient FROM kept WHERE kind = ?1 AND inst = ?2 AND started <> 1 AND (patient IS NOT NULL OR coalesce(?4 <= day, 1) AND coalesce(day <= ?5, 1)) ORDER BY patient LIMIT ?3",
+        "SELECT id, above, octets, started, patient FROM kept WHERE kind = ?1 AND inst = ?2 ORDER BY patient LIMIT ?3",
         &[
-            u32::from(kind.number()).to_sql(),
+            u32::from(Kind::Study.number()).to_sql(),
             ValueRef::Text(institution),
             most.to_sql(),
-            choice.first_day.to_sql(),
-            choice.last_day.to_sql(),
         ],
     )?;
     Ok(silent_shown(answer, most))
 }
 
-/// Those that do not say their day, where they are fewer than so many.
+/// The studies that do not say their day, where they are fewer than so many.
 #[tactic(auto, using(crate::proofs::ChoiceTexts::no_day_silent))]
-fn without_day_within<S: Alter>(
+fn without_day<S: Alter>(
     conn: &mut Connection<S>,
-    kind: Kind,
     institution: &[u8],
-    choice: &Choice,
     most: u32,
 ) -> Result<Option<Vec<sqlite::Row>>, TableFault>
-    requires uid { choice.now.uid ≡ None }
-    requires patient { choice.now.patient ≡ None }
     ensures found { HasCleanDisk (state S.Store conn.new) → IfOk result (λ silent.
         IfSome silent (λ silent. HoldsOf (state S.Store conn.old) (λ rows.
-        ShowsSilent says_day kind choice.now institution.now rows silent.items))) }
+        ShowsSilent Day institution.now rows silent.items))) }
     ensures same { HasCleanDisk (state S.Store conn.new) → OnOk result
         (ShowsSame (state S.Store conn.old) (state S.Store conn.new)) }
     ensures stays { Stays (state S.Store conn.old) (state S.Store conn.new) }
 {
     let answer = answered(
         conn,
-        "SELECT id, above, octets, started, day FROM kept WHERE kind = ?1 AND inst = ?2 AND started = 0 ORDER BY day LIMIT ?3",
+        "SELECT id, above, octets, started, day FROM kept WHERE kind = ?1 AND inst = ?2 ORDER BY day LIMIT ?3",
         &[
-            u32::from(kind.number()).to_sql(),
+            u32::from(Kind::Study.number()).to_sql(),
             ValueRef::Text(institution),
             most.to_sql(),
         ],
     )?;
     Ok(silent_shown(answer, most))
+}
+
+/// The studies that do not say something, where they are fewer than so many.
+fn without_within<S: Alter>(
+    conn: &mut Connection<S>,
+    institution: &[u8],
+    label: Label,
+    most: u32,
+) -> Result<Option<Vec<sqlite::Row>>, TableFault>
+    ensures found { HasCleanDisk (state S.Store conn.new) → IfOk result (λ silent.
+        IfSome silent (λ silent. HoldsOf (state S.Store conn.old) (λ rows.
+        ShowsSilent label institution.now rows silent.items))) }
+    ensures same { HasCleanDisk (state S.Store conn.new) → OnOk result
+        (ShowsSame (state S.Store conn.old) (state S.Store conn.new)) }
+    ensures stays { Stays (state S.Store conn.old) (state S.Store conn.new) }
+{
+    match label {
+        Label::Patient => without_patient(conn, institution, most),
+        Label::Day => without_day(conn, institution, most),
+    }
 }
 
 /// So many rows are read first where those are asked that do not say something. Each further time
@@ -294,119 +209,25 @@ const FEWEST: u32 = 8;
 
 const READINGS: usize = 10;
 
-/// Those that do not say their patient.
-fn without_patient<S: Alter>(
+/// The studies that do not say something.
+fn without<S: Alter>(
     conn: &mut Connection<S>,
-    kind: Kind,
     institution: &[u8],
-    choice: &Choice,
+    label: Label,
 ) -> Result<Vec<sqlite::Row>, TableFault>
-    requires { choice.now.uid ≡ None }
     ensures found { HasCleanDisk (state S.Store conn.new) → IfOk result (λ silent.
         HoldsOf (state S.Store conn.old) (λ rows.
-        ShowsSilent says_patient kind choice.now institution.now rows silent.items)) }
+        ShowsSilent label institution.now rows silent.items)) }
     ensures stays { Stays (state S.Store conn.old) (state S.Store conn.new) }
 {
     let mut most = FEWEST;
     'more: for _ in 0..READINGS {
-        if let Some(silent) = without_patient_within(conn, kind, institution, choice, most)? {
+        if let Some(silent) = without_within(conn, institution, label, most)? {
             return Ok(silent);
         }
         most = most.saturating_mul(8);
     }
     Err(TableFault::NoMemory)
-}
-
-/// Those that do not say their day.
-fn without_day<S: Alter>(
-    conn: &mut Connection<S>,
-    kind: Kind,
-    institution: &[u8],
-    choice: &Choice,
-) -> Result<Vec<sqlite::Row>, TableFault>
-    requires uid { choice.now.uid ≡ None }
-    requires patient { choice.now.patient ≡ None }
-    ensures found { HasCleanDisk (state S.Store conn.new) → IfOk result (λ silent.
-        HoldsOf (state S.Store conn.old) (λ rows.
-        ShowsSilent says_day kind choice.now institution.now rows silent.items)) }
-    ensures stays { Stays (state S.Store conn.old) (state S.Store conn.new) }
-{
-    let mut most = FEWEST;
-    'more: for _ in 0..READINGS {
-        if let Some(silent) = without_day_within(conn, kind, institution, choice, most)? {
-            return Ok(silent);
-        }
-        most = most.saturating_mul(8);
-    }
-    Err(TableFault::NoMemory)
-}
-
-/// Those of the patient, and those that do not say theirs.
-fn by_patient<S: Alter>(
-    conn: &mut Connection<S>,
-    kind: Kind,
-    institution: &[u8],
-    choice: &Choice,
-    patient: &[u8],
-) -> Result<Vec<sqlite::Row>, TableFault>
-    requires uid { choice.now.uid ≡ None }
-    requires patient { choice.now.patient ≡ Some patient.now }
-    ensures found { HasCleanDisk (state S.Store conn.new) → IfOk result (λ answer.
-        HoldsOf (state S.Store conn.old) (λ rows.
-        ShowsThose kind institution.now (is_waiting choice.now) rows answer.items)) }
-    ensures stays { Stays (state S.Store conn.old) (state S.Store conn.new) }
-{
-    let mut answer = of_patient(conn, kind, institution, choice, patient)?;
-    let mut silent = without_patient(conn, kind, institution, choice)?;
-    answer.append(&mut silent)?;
-    Ok(answer)
-}
-
-/// Those of the days, and those that do not say theirs.
-fn by_days<S: Alter>(
-    conn: &mut Connection<S>,
-    kind: Kind,
-    institution: &[u8],
-    choice: &Choice,
-    first: u32,
-) -> Result<Vec<sqlite::Row>, TableFault>
-    requires uid { choice.now.uid ≡ None }
-    requires patient { choice.now.patient ≡ None }
-    requires first { choice.now.first_day ≡ Some first }
-    ensures found { HasCleanDisk (state S.Store conn.new) → IfOk result (λ answer.
-        HoldsOf (state S.Store conn.old) (λ rows.
-        ShowsThose kind institution.now (is_waiting choice.now) rows answer.items)) }
-    ensures stays { Stays (state S.Store conn.old) (state S.Store conn.new) }
-{
-    let mut answer = of_days(conn, kind, institution, choice, first)?;
-    let mut silent = without_day(conn, kind, institution, choice)?;
-    answer.append(&mut silent)?;
-    Ok(answer)
-}
-
-/// Those that a choice takes, by the first of its parts that asks something.
-fn chosen<S: Alter>(
-    conn: &mut Connection<S>,
-    kind: Kind,
-    institution: &[u8],
-    choice: &Choice,
-) -> Result<Vec<sqlite::Row>, TableFault>
-    ensures found { HasCleanDisk (state S.Store conn.new) → IfOk result (λ answer.
-        HoldsOf (state S.Store conn.old) (λ rows.
-        ShowsThose kind institution.now (is_waiting choice.now) rows answer.items)) }
-    ensures stays { Stays (state S.Store conn.old) (state S.Store conn.new) }
-{
-    if let Some(uid) = &choice.uid {
-        return with_key(conn, kind, institution, choice, uid.as_slice());
-    }
-    if let Some(patient) = &choice.patient {
-        return by_patient(conn, kind, institution, choice, patient.as_slice());
-    }
-    match (choice.first_day, kind) {
-        (Some(first), _) => by_days(conn, kind, institution, choice, first),
-        (None, Kind::Entry) => up_to_day(conn, kind, institution, choice),
-        (None, _) => in_order_up_to_day(conn, kind, institution, choice),
-    }
 }
 
 /// The rows in the order of their keys.
@@ -419,21 +240,99 @@ fn in_key_order(rows: Listed<Row>) -> Result<Listed<Row>, AllocError>
     Ok(Listed::from_inner(rows))
 }
 
-/// The institution's rows of a kind that are not started and that a choice takes, in the order of
-/// their keys.
-pub(crate) fn waiting_of<S: Alter>(
+/// The studies that two answers show, in the order of their keys.
+fn shown_in_order(
+    alloc: Global,
+    institution: &[u8],
+    mut said: Vec<sqlite::Row>,
+    mut silent: Vec<sqlite::Row>,
+) -> Result<Listed<Row>, TableFault>
+    ensures same { IfOk result (λ sorted.
+        IsPermutation (map (row_shown Study institution.now) (said.items ++ silent.items)) sorted) }
+    ensures order { IfOk result (IsSortedByKey (λ (row : Row). row.key) octet_order) }
+{
+    said.append(&mut silent)?;
+    let rows = rows_shown(alloc, Kind::Study, institution, said.as_slice())?;
+    Ok(in_key_order(rows)?)
+}
+
+/// The study with a key, if there is one.
+fn with_key<S: Alter>(
     conn: &mut Connection<S>,
     alloc: Global,
-    kind: Kind,
+    institution: &[u8],
+    uid: &[u8],
+) -> Result<Listed<Row>, TableFault>
+    ensures found { HasCleanDisk (state S.Store conn.new) → IfOk result (λ list.
+        HoldsOf (state S.Store conn.old) (λ rows.
+        list ≡ option_to_list (row_at Study institution.now uid.now rows))) }
+    ensures stays { Stays (state S.Store conn.old) (state S.Store conn.new) }
+{
+    let mut rows = Listed::empty(alloc);
+    if let Some(row) = reading::row(conn, alloc, Kind::Study, institution, uid)? {
+        rows.push(row)?;
+    }
+    Ok(rows)
+}
+
+/// The studies of a patient, and those that do not say theirs.
+fn by_patient<S: Alter>(
+    conn: &mut Connection<S>,
+    alloc: Global,
+    institution: &[u8],
+    patient: &[u8],
+) -> Result<Listed<Row>, TableFault>
+    ensures found { HasCleanDisk (state S.Store conn.new) → IfOk result (λ list.
+        HoldsOf (state S.Store conn.old) (λ rows.
+        list ≡ filter (is_of_patient patient.now) (rows_of Study institution.now rows))) }
+    ensures stays { Stays (state S.Store conn.old) (state S.Store conn.new) }
+{
+    let said = of_patient(conn, institution, patient)?;
+    let silent = without(conn, institution, Label::Patient)?;
+    shown_in_order(alloc, institution, said, silent)
+}
+
+/// The studies of some days, and those that do not say theirs.
+fn by_days<S: Alter>(
+    conn: &mut Connection<S>,
+    alloc: Global,
+    institution: &[u8],
+    first: Option<u32>,
+    last: Option<u32>,
+) -> Result<Listed<Row>, TableFault>
+    ensures found { HasCleanDisk (state S.Store conn.new) → IfOk result (λ list.
+        HoldsOf (state S.Store conn.old) (λ rows.
+        list ≡ filter (is_of_days first last) (rows_of Study institution.now rows))) }
+    ensures stays { Stays (state S.Store conn.old) (state S.Store conn.new) }
+{
+    let said = of_days(conn, institution, first, last)?;
+    let silent = without(conn, institution, Label::Day)?;
+    shown_in_order(alloc, institution, said, silent)
+}
+
+/// The institution's studies that a choice takes, in the order of their keys, by the first of its
+/// parts that asks something.
+pub(crate) fn studies_in<S: Alter>(
+    conn: &mut Connection<S>,
+    alloc: Global,
     institution: &[u8],
     choice: &Choice,
 ) -> Result<Listed<Row>, TableFault>
     ensures found { HasCleanDisk (state S.Store conn.new) → IfOk result (λ list.
         HoldsOf (state S.Store conn.old) (λ rows.
-        list ≡ waiting_of kind choice.now institution.now rows)) }
+        list ≡ studies_in choice.now institution.now rows)) }
     ensures stays { Stays (state S.Store conn.old) (state S.Store conn.new) }
 {
-    let answer = chosen(conn, kind, institution, choice)?;
-    let rows = rows_shown(alloc, kind, institution, answer.as_slice())?;
-    Ok(in_key_order(rows)?)
+    if let Some(uid) = &choice.uid {
+        let rows = with_key(conn, alloc, institution, uid.as_slice())?;
+        return Ok(choice.among(alloc, rows)?);
+    }
+    if let Some(patient) = &choice.patient {
+        let rows = by_patient(conn, alloc, institution, patient.as_slice())?;
+        return Ok(choice.among(alloc, rows)?);
+    }
+    match (choice.first_day, choice.last_day) {
+        (None, None) => reading::rows_of(conn, alloc, Kind::Study, institution),
+        (first, last) => by_days(conn, alloc, institution, first, last),
+    }
 }

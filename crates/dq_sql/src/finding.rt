@@ -77,22 +77,18 @@ fn is_of_version<S: Alter>(conn: &mut Connection<S>, version: Version) -> Result
     Ok(says_number(found.as_slice(), version))
 }
 
-/// The rows that are found, where they are those of a store of the version with sound rows.
+/// The rows that are found, where they are those of a store with sound rows.
 #[tactic(auto, using(crate::proofs::Sounding::one_good))]
-fn sound_rows(
-    alloc: Global,
-    found: Vec<sqlite::Row>,
-    version: Version,
-) -> Result<Vec<Row>, StoreFault>
-    ensures sound { IfOk result (λ rows. AreSound version found.items rows.items) }
+fn sound_rows(alloc: Global, found: Vec<sqlite::Row>) -> Result<Vec<Row>, StoreFault>
+    ensures sound { IfOk result (λ rows. AreSound found.items rows.items) }
     ensures octets { IfOk result (λ rows. HoldOctets rows.items) }
-    ensures bad { result ≡ Err BadRows → (rows : _) → ¬ AreSound version found.items rows }
+    ensures bad { result ≡ Err BadRows → (rows : _) → ¬ AreSound found.items rows }
     ensures version { result ≢ Err WrongVersion }
 {
     if !ids_apart(alloc, found.as_slice())? {
         return Err(StoreFault::BadRows);
     }
-    let rows = rows_found(alloc, found, version)?;
+    let rows = rows_found(alloc, found)?;
     if are_held(rows.as_slice()) {
         Ok(rows)
     } else {
@@ -142,5 +138,5 @@ pub fn kept_rows<S: Alter>(
         return Err(StoreFault::Store);
     }
     let found = rows_read(conn, version)?;
-    sound_rows(alloc, found, version)
+    sound_rows(alloc, found)
 }

@@ -15,7 +15,6 @@ ghost use Rattle.dq_sql.specs.Adopting.{HoldsRecord, HasCells, IsGood};
 
 use crate::cells::Cells;
 use crate::fault::StoreFault;
-use crate::version::Version;
 use dq_list::Listed;
 use dq_tables::{Kind, Row};
 use sqlite::types::ValueRef;
@@ -155,17 +154,12 @@ fn is_day(value: ValueRef<'_>, day: Option<i64>) -> bool
     }
 }
 
-/// Whether the columns say of the row's patient and its day what the version has of them.
-fn has_cells(
-    alloc: Global,
-    row: &Row,
-    found: &sqlite::Row,
-    version: Version,
-) -> Result<bool, AllocError>
-    ensures { IfOk result (λ has. MatchBool has (HasCells version row.now found.now)
-        (¬ HasCells version row.now found.now)) }
+/// Whether the columns say the row's patient and its day.
+fn has_cells(alloc: Global, row: &Row, found: &sqlite::Row) -> Result<bool, AllocError>
+    ensures { IfOk result (λ has. MatchBool has (HasCells row.now found.now)
+        (¬ HasCells row.now found.now)) }
 {
-    let cells = Cells::of(alloc, row, version)?;
+    let cells = Cells::of(alloc, row)?;
     Ok(is_patient(value_at(found, 5), &cells.patient) && is_day(value_at(found, 6), cells.day))
 }
 
@@ -176,16 +170,11 @@ fn are_octets(_octets: &[u8])
 
 /// The row, where it is its record's own. A store that shows one of 2^31 octets or more has failed.
 #[tactic(auto, using(crate::proofs::Judged::good_from, crate::proofs::Judged::cells_of_good, crate::proofs::Judged::own_of_good, crate::proofs::Judged::record_kept))]
-fn own_row(
-    alloc: Global,
-    row: Row,
-    found: &sqlite::Row,
-    version: Version,
-) -> Result<Row, StoreFault>
+fn own_row(alloc: Global, row: Row, found: &sqlite::Row) -> Result<Row, StoreFault>
     requires { HoldsRecord row found.now }
-    ensures good { IfOk result (λ own. (own ≡ kept_of found.now) × IsGood version found.now) }
+    ensures good { IfOk result (λ own. (own ≡ kept_of found.now) × IsGood found.now) }
     ensures octets { IfOk result (λ own. AreOctets own.octets) }
-    ensures bad { result ≡ Err BadRows → ¬ IsGood version found.now }
+    ensures bad { result ≡ Err BadRows → ¬ IsGood found.now }
     ensures version { result ≢ Err WrongVersion }
 {
     let octets = row.octets.as_slice();
@@ -193,27 +182,23 @@ fn own_row(
     if octets.len() >= TOO_LONG {
         return Err(StoreFault::Store);
     }
-    if has_cells(alloc, &row, found, version)? && row.is_own(alloc)? {
+    if has_cells(alloc, &row, found)? && row.is_own(alloc)? {
         Ok(row)
     } else {
         Err(StoreFault::BadRows)
     }
 }
 
-/// The row that the columns hold as the version has it, where it is its record's own.
+/// The row that the columns hold, where it is its record's own.
 #[tactic(auto, using(crate::proofs::Judged::none_good))]
-pub(crate) fn good_row(
-    alloc: Global,
-    found: &sqlite::Row,
-    version: Version,
-) -> Result<Row, StoreFault>
-    ensures good { IfOk result (λ row. (row ≡ kept_of found.now) × IsGood version found.now) }
+pub(crate) fn good_row(alloc: Global, found: &sqlite::Row) -> Result<Row, StoreFault>
+    ensures good { IfOk result (λ row. (row ≡ kept_of found.now) × IsGood found.now) }
     ensures octets { IfOk result (λ row. AreOctets row.octets) }
-    ensures bad { result ≡ Err BadRows → ¬ IsGood version found.now }
+    ensures bad { result ≡ Err BadRows → ¬ IsGood found.now }
     ensures version { result ≢ Err WrongVersion }
 {
     match record_in(alloc, found)? {
-        Some(row) => own_row(alloc, row, found, version),
+        Some(row) => own_row(alloc, row, found),
         None => Err(StoreFault::BadRows),
     }
 }

@@ -12,15 +12,16 @@ ghost use Rattle.dq_sql.specs.declared.fault.StoreFault.TheVariants.{WrongVersio
 ghost use Rattle.dq_sql.specs.Migrating.{migrated, with_start};
 
 use crate::fault::StoreFault;
+use crate::memory_files::MemoryFile;
 use crate::sql_tables::SqlTables;
 use dq_tables::Tables;
-use sqlite::{Connection, FileStore, Files, MemStore};
+use sqlite::{Connection, FileStore, Files};
 use sqlite_disk::Disk;
 use std::alloc::Global;
 
-/// Tables in memory are honest, whatever was asked of them.
-pub fn tables_in_memory_are_honest(_tables: &SqlTables<MemStore>)
-    ensures { (⟦<SqlTables<MemStore> as Tables>⟧.state _tables.now).honest }
+/// Tables over files in memory are honest, whatever was asked of them.
+pub fn tables_in_memory_are_honest(_tables: &SqlTables<FileStore<MemoryFile>>)
+    ensures { (⟦<SqlTables<FileStore<MemoryFile>> as Tables>⟧.state _tables.now).honest }
 {}
 
 /// A migration leaves each row as it was and where it was, but that an entry is started which a kept

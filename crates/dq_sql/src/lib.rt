@@ -14,6 +14,7 @@ mod ids;
 mod judging;
 mod kept_steps;
 pub mod laws;
+mod memory_files;
 mod migrate_fault;
 mod migrating;
 mod open;
@@ -27,6 +28,7 @@ mod writing;
 
 pub use fault::StoreFault;
 pub use finding::kept_rows;
+pub use memory_files::MemoryFile;
 pub use migrate_fault::MigrateFault;
 pub use sql_tables::SqlTables;
 pub use version::Version;

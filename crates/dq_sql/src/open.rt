@@ -3,7 +3,7 @@ ghost use Rattle.std.specs.Prelude.{◌≡◌, ◌≢◌, [], ◌∷◌, OnOk, M
 ghost use Rattle.sqlite.specs.State.{HasCleanDisk, Survives, KeepsCommit};
 ghost use Rattle.sqlite.specs.Held.{state};
 ghost use Rattle.dq_sql.specs.Making.{no_schema, MakesKept, MakesVersion, MakesIndex, MakesIndexes, SaysVersion, GoesOn};
-ghost use Rattle.dq_sql.specs.Schema.{above_index, patient_index, day_index};
+ghost use Rattle.dq_sql.specs.Schema.{above_index, patient_index, day_index, started_index};
 ghost use Rattle.dq_sql.specs.Tie.{HasRows};
 
 use sqlite::{Alter, Error, Transaction};
@@ -20,10 +20,9 @@ pub(crate) fn is_empty(schema: &Schema) -> bool
 
 /// Makes the table `kept`, of a row for each row that is kept: `kind` is a `Kind`'s number, `inst`
 /// the institution's name, `id` the key, `above` the key of the row above, and `octets` the record.
-/// `patient` is the only value of the Patient ID of a study or an entry, and `day` the Study Date,
-/// or the start date of the entry's only scheduled procedure step, as a number; both are null where
-/// there is no such value, and in other rows. `started` is 1 for an entry that is started, and else
-/// 0.
+/// `patient` is the only value of a study's Patient ID, and `day` that of its Study Date as a number;
+/// both are null where there is no such value, and in other rows. `started` is 1 for an entry that is
+/// started, and else 0.
 fn make_kept<S: Alter>(tx: &mut Transaction<'_, S>) -> Result<usize, Error>
     ensures same_reference { tx.new.conn.ghost_name ≡ tx.old.conn.ghost_name }
     ensures goes_on { HasCleanDisk (state S.Store tx.new.conn.now)
@@ -77,7 +76,7 @@ fn make_above_index<S: Alter>(tx: &mut Transaction<'_, S>) -> Result<usize, Erro
     )
 }
 
-/// Makes the index by which the rows of a patient are found.
+/// Makes the index by which the studies of a patient are found.
 fn make_patient_index<S: Alter>(tx: &mut Transaction<'_, S>) -> Result<usize, Error>
     ensures same_reference { tx.new.conn.ghost_name ≡ tx.old.conn.ghost_name }
     ensures goes_on { HasCleanDisk (state S.Store tx.new.conn.now)
@@ -96,7 +95,7 @@ fn make_patient_index<S: Alter>(tx: &mut Transaction<'_, S>) -> Result<usize, Er
     )
 }
 
-/// Makes the index by which the rows of a day are found, what is started apart.
+/// Makes the index by which the studies of a day are found.
 fn make_day_index<S: Alter>(tx: &mut Transaction<'_, S>) -> Result<usize, Error>
     ensures same_reference { tx.new.conn.ghost_name ≡ tx.old.conn.ghost_name }
     ensures goes_on { HasCleanDisk (state S.Store tx.new.conn.now)
@@ -109,8 +108,24 @@ fn make_day_index<S: Alter>(tx: &mut Transaction<'_, S>) -> Result<usize, Error>
     ensures survives { Survives (state S.Store tx.old.conn.now) (state S.Store tx.new.conn.now)
         (λ _. ⊥) }
 {
+    tx.execute("CREATE INDEX kept_day ON kept (kind, inst, day, id)", &[])
+}
+
+/// Makes the index by which the entries are found that wait.
+fn make_started_index<S: Alter>(tx: &mut Transaction<'_, S>) -> Result<usize, Error>
+    ensures same_reference { tx.new.conn.ghost_name ≡ tx.old.conn.ghost_name }
+    ensures goes_on { HasCleanDisk (state S.Store tx.new.conn.now)
+        → OnOk result (GoesOn (state S.Store tx.old.conn.now) (state S.Store tx.new.conn.now)) }
+    ensures makes { HasCleanDisk (state S.Store tx.new.conn.now)
+        → OnOk result (MakesIndex (above_index ∷ patient_index ∷ day_index ∷ []) started_index
+        (state S.Store tx.old.conn.now).now (state S.Store tx.new.conn.now).now) }
+    ensures kept { HasCleanDisk (state S.Store tx.new.conn.now)
+        → KeepsCommit (state S.Store tx.old.conn.now) (state S.Store tx.new.conn.now) }
+    ensures survives { Survives (state S.Store tx.old.conn.now) (state S.Store tx.new.conn.now)
+        (λ _. ⊥) }
+{
     tx.execute(
-        "CREATE INDEX kept_day ON kept (kind, inst, started, day, id)",
+        "CREATE INDEX kept_started ON kept (kind, inst, started, id)",
         &[],
     )
 }
@@ -131,6 +146,7 @@ fn make_indexes<S: Alter>(tx: &mut Transaction<'_, S>) -> Result<(), Error>
     make_above_index(tx)?;
     make_patient_index(tx)?;
     make_day_index(tx)?;
+    make_started_index(tx)?;
     Ok(())
 }
 

@@ -9,7 +9,6 @@ ghost use Rattle.dq_sql.specs.Adopting.{HoldOctets, IsGood, IsTaken, AreGood};
 
 use crate::fault::StoreFault;
 use crate::judging::good_row;
-use crate::version::Version;
 use dq_tables::{Kind, Row, put_row, search_rows};
 use std::alloc::Global;
 
@@ -24,22 +23,17 @@ fn is_there(rows: &[Row], kind: Kind, institution: &[u8], key: &[u8]) -> bool
 
 /// Puts the row that the columns hold in its place, which is to be free.
 #[tactic(auto, using(crate::proofs::Ordered::put_adds, crate::proofs::Ordered::kept_taken))]
-fn put_found(
-    alloc: Global,
-    rows: &mut Vec<Row>,
-    found: &sqlite::Row,
-    version: Version,
-) -> Result<(), StoreFault>
+fn put_found(alloc: Global, rows: &mut Vec<Row>, found: &sqlite::Row) -> Result<(), StoreFault>
     requires { IsRising rows.old.items }
-    ensures good { OnOk result (IsGood version found.now) }
+    ensures good { OnOk result (IsGood found.now) }
     ensures added { OnOk result (IsPermutation (kept_of found.now ∷ rows.old.items) rows.new.items) }
     ensures rising { OnOk result (IsRising rows.new.items) }
     ensures octets { HoldOctets rows.old.items → OnOk result (HoldOctets rows.new.items) }
-    ensures bad { result ≡ Err BadRows → IsGood version found.now
+    ensures bad { result ≡ Err BadRows → IsGood found.now
         → IsTaken rows.old.items (kept_of found.now) }
     ensures version { result ≢ Err WrongVersion }
 {
-    let row = good_row(alloc, found, version)?;
+    let row = good_row(alloc, found)?;
     if is_there(rows, row.kind, row.inst.as_slice(), row.key.as_slice()) {
         return Err(StoreFault::BadRows);
     }
@@ -48,22 +42,18 @@ fn put_found(
     Ok(())
 }
 
-/// The rows that are found in a store of the version, in order. Each found row is freed as it is
+/// The rows that are found in a store, in order. Each found row is freed as it is
 /// judged, so that the octets of a large store are held once.
 #[tactic(auto, using(crate::proofs::Ordered::none_good))]
-pub(crate) fn rows_found(
-    alloc: Global,
-    found: Vec<sqlite::Row>,
-    version: Version,
-) -> Result<Vec<Row>, StoreFault>
-    ensures good { IfOk result (λ rows. AreGood version found.items rows.items) }
+pub(crate) fn rows_found(alloc: Global, found: Vec<sqlite::Row>) -> Result<Vec<Row>, StoreFault>
+    ensures good { IfOk result (λ rows. AreGood found.items rows.items) }
     ensures octets { IfOk result (λ rows. HoldOctets rows.items) }
-    ensures bad { result ≡ Err BadRows → (rows : _) → ¬ AreGood version found.items rows }
+    ensures bad { result ≡ Err BadRows → (rows : _) → ¬ AreGood found.items rows }
     ensures version { result ≢ Err WrongVersion }
 {
     let mut rows = Vec::new(alloc);
     for row in found {
-        put_found(alloc, &mut rows, &row, version)?;
+        put_found(alloc, &mut rows, &row)?;
     }
     Ok(rows)
 }

@@ -5,7 +5,7 @@ ghost use Rattle.sqlite_value.specs.declared.value.Value.TheVariants.{Blob};
 ghost use Rattle.sqlite.specs.Values.{bound};
 ghost use Rattle.sqlite.specs.State.{HasCleanDisk, Shown};
 ghost use Rattle.sqlite.specs.Held.{state};
-ghost use Rattle.dq_tables.specs.Finding.{row_at, rows_of, rows_above};
+ghost use Rattle.dq_tables.specs.Finding.{row_at, rows_of, rows_above, waiting};
 ghost use Rattle.dq_sql.specs.Tie.{is_set, Stays};
 ghost use Rattle.dq_sql.specs.Reading.{ShowsNoWrite, ShowsSame, HoldsOf, Shows, kept_shown, numbers_shown, IsCount, row_shown};
 
@@ -188,6 +188,28 @@ pub(crate) fn rows_above<S: Alter>(
         ],
     )?;
     rows_shown(alloc, kind, institution, answer.as_slice())
+}
+
+/// The worklist entries of an institution that are not started, in the order of their keys.
+#[tactic(auto, using(crate::proofs::Silent::waiting_silent))]
+pub(crate) fn waiting<S: Alter>(
+    conn: &mut Connection<S>,
+    alloc: Global,
+    institution: &[u8],
+) -> Result<Listed<Row>, TableFault>
+    ensures found { HasCleanDisk (state S.Store conn.new) → IfOk result (λ list.
+        HoldsOf (state S.Store conn.old) (λ rows. list ≡ waiting institution.now rows)) }
+    ensures stays { Stays (state S.Store conn.old) (state S.Store conn.new) }
+{
+    let answer = answered(
+        conn,
+        "SELECT id, above, octets, started FROM kept WHERE kind = ?1 AND inst = ?2 AND started = 0 ORDER BY id",
+        &[
+            u32::from(Kind::Entry.number()).to_sql(),
+            ValueRef::Text(institution),
+        ],
+    )?;
+    rows_shown(alloc, Kind::Entry, institution, answer.as_slice())
 }
 
 /// The number that a count shows. A count stops at the greatest whole number of SQL, which is

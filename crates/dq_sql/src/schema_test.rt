@@ -5,7 +5,8 @@ ghost use Rattle.sqlite_value.specs.declared.keys.Collation.TheVariants.{Binary}
 ghost use Rattle.sqlite_sql.specs.declared.ops.BinaryOp.TheVariants.{And, Compare};
 ghost use Rattle.sqlite_schema.specs.declared.code.Op.TheVariants as node;
 ghost use Rattle.sqlite_schema.specs.Code.{terms_in};
-ghost use Rattle.dq_sql.specs.Schema.{optional, record_columns, further_columns, kept_columns, version_columns, kind_checks, kept_table, version_table, kept_index, key_index, above_index, further_indexes, schema_of};
+ghost use Rattle.dq_sql.specs.Schema.{optional, record_columns, further_columns, kept_columns, version_columns, kind_checks, kept_table, version_table, kept_index, key_index, above_index, patient_index, day_index, started_index, further_indexes, schema_of};
+ghost use Rattle.dq_sql.specs.declared.version.Version.TheVariants.{Two};
 ghost use Rattle.dq_sql.specs.Adopting.{HasVersion};
 ghost use Rattle.dq_sql.specs.SchemaTest.{HasNoMore, HasNoRules, HasKey, BoundsKind, IsKept, HasOthers};
 
@@ -270,17 +271,45 @@ fn are_first_indexes(indexes: &[Index]) -> bool
         && is_index(above, b"kept_above", 3, &[1, 2, 4, 3], false)
 }
 
+/// Whether the indexes are those by which studies are found.
+fn are_study_indexes(indexes: &[Index]) -> bool
+    ensures { IsTrue result → indexes.now ≡ patient_index ∷ day_index ∷ [] }
+{
+    let [patient, day] = indexes else {
+        return false;
+    };
+    is_index(patient, b"kept_patient", 4, &[1, 2, 5, 3], false)
+        && is_index(day, b"kept_day", 5, &[1, 2, 6, 3], false)
+}
+
+/// Whether the indexes are the one by which entries are found that wait.
+fn are_entry_indexes(indexes: &[Index]) -> bool
+    ensures { IsTrue result → indexes.now ≡ started_index ∷ [] }
+{
+    let [started] = indexes else {
+        return false;
+    };
+    is_index(started, b"kept_started", 6, &[1, 2, 8, 3], false)
+}
+
+/// Whether the indexes are those that version 2 has further.
+fn are_indexes_of_two(indexes: &[Index]) -> bool
+    ensures { IsTrue result → indexes.now ≡ further_indexes Two }
+{
+    if indexes.len() < 2 {
+        return false;
+    }
+    let (studies, entries) = indexes.split_at(2);
+    are_study_indexes(studies) && are_entry_indexes(entries)
+}
+
 /// Whether the indexes are those that the version has further.
 fn are_further_indexes(indexes: &[Index], version: Version) -> bool
     ensures { IsTrue result → indexes.now ≡ further_indexes version }
 {
-    match (version, indexes) {
-        (Version::One, []) => true,
-        (Version::Two, [patient, day]) => {
-            is_index(patient, b"kept_patient", 4, &[1, 2, 5, 3], false)
-                && is_index(day, b"kept_day", 5, &[1, 2, 8, 6, 3], false)
-        }
-        _ => false,
+    match version {
+        Version::One => indexes.is_empty(),
+        Version::Two => are_indexes_of_two(indexes),
     }
 }
 

@@ -170,17 +170,12 @@ impl<S: Alter> Tables for SqlTables<S> {
         institution: &[u8],
         choice: &Choice,
     ) -> Result<Listed<Row>, TableFault> {
-        let answer = choosing::waiting_of(&mut self.conn, alloc, Kind::Study, institution, choice);
+        let answer = choosing::studies_in(&mut self.conn, alloc, institution, choice);
         noted(&mut self.failed, answer)
     }
 
-    fn waiting_in(
-        &mut self,
-        alloc: Global,
-        institution: &[u8],
-        choice: &Choice,
-    ) -> Result<Listed<Row>, TableFault> {
-        let answer = choosing::waiting_of(&mut self.conn, alloc, Kind::Entry, institution, choice);
+    fn waiting(&mut self, alloc: Global, institution: &[u8]) -> Result<Listed<Row>, TableFault> {
+        let answer = reading::waiting(&mut self.conn, alloc, institution);
         noted(&mut self.failed, answer)
     }
 

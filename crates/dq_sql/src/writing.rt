@@ -11,7 +11,6 @@ ghost use Rattle.dq_tables.specs.declared.change.Change.TheVariants.{Stored, Ste
 
 use crate::cells::Cells;
 use crate::reading::fault_of;
-use crate::version::Version;
 use dq_list::Listed;
 use dq_tables::{Change, Kind, Row, TableFault};
 use sqlite::types::{ToSql, ValueRef};
@@ -74,7 +73,7 @@ pub(crate) fn put<S: Alter>(
     ensures survives { Survives (state S.Store tx.old.conn.now) (state S.Store tx.new.conn.now)
         (λ _. ⊥) }
 {
-    let cells = Cells::of(alloc, row, Version::Two)?;
+    let cells = Cells::of(alloc, row)?;
     run(
         tx,
         "INSERT INTO kept (kind, inst, id, above, patient, day, octets, started) VALUES (?1, ?2, ?3, ?4, ?5, ?6, ?7, ?8)",
@@ -101,7 +100,7 @@ fn replace<S: Alter>(
     ensures survives { Survives (state S.Store tx.old.conn.now) (state S.Store tx.new.conn.now)
         (λ _. ⊥) }
 {
-    let cells = Cells::of(alloc, row, Version::Two)?;
+    let cells = Cells::of(alloc, row)?;
     run(
         tx,
         "UPDATE kept SET above = ?4, patient = ?5, day = ?6, octets = ?7, started = ?8 WHERE kind = ?1 AND inst = ?2 AND id = ?3",

@@ -26,10 +26,10 @@ use Rattle.dq_tables.specs.Finding.{record_at, row_at, same_kind, is_of}
 use Rattle.dq_tables.specs.Records.{data_set_of}
 use Rattle.dq_tables.specs.Serving.{first_refusal, outcome}
 use Rattle.dq_tables.specs.Sound.{IsSound, is_held}
-use Rattle.dq_tables.proofs.ByKeys.{find_among}
 use Rattle.dq_tables.proofs.Lens.{lens}
 use Rattle.dq_tables.proofs.Listing.{one_kind}
 use Rattle.dq_tables.proofs.Rising.{each_among}
+use Rattle.dq_tables.proofs.Members.{find_among}
 use Rattle.dq_tables.proofs.Seen.{found_own}
 use Rattle.dq_store.specs.Attributes.{study_attributes, series_attributes, image_attributes}
 use Rattle.dq_store.specs.Levels.{keeps_to_its_level, is_of_its_level, data_set_in, stands_whole}

@@ -19,7 +19,7 @@ use dq_config::Institution;
 use dq_dataset::laws::{editing_law, fault_law, spelling_law, written_law};
 use dq_dataset::{Sifted, Syntax, can_be_written};
 use dq_dimse::{Body, Message, status};
-use dq_tables::{Change, Row, TableFault, Tables};
+use dq_tables::{Change, Row, TableFault, Tables, make_change};
 use std::alloc::{AllocError, Global};
 
 /// Stores an instance among the institution's rows, and answers the status (PS3.4 section B.2.3). A
@@ -74,15 +74,35 @@ fn store_instance<T: Tables>(
         (λ records. instance_stored (limits_of institution.now) records sent.now.other
         (instance_of sent.now)) result }
 {
-    let name = institution.name.as_slice();
-    let kept = kept_rows(alloc, tables, name, sent)?;
-    if let Some(status) = kept_refusal(&kept, sent) {
+    let kept = kept_rows(alloc, tables, institution.name.as_slice(), sent)?;
+    store_beside(alloc, tables, institution, &kept, sent)
+}
+
+/// Stores an instance that was read, beside what is kept of its study, series and image.
+fn store_beside<T: Tables>(
+    alloc: Global,
+    tables: &mut T,
+    institution: &Institution,
+    kept: &KeptRows,
+    sent: &Instance<'_>,
+) -> Result<u16, TableFault>
+    requires lengths { HasLengths Explicit sent.now.data_set.now }
+    requires own { HasUids sent.now }
+    requires found { (T.state tables.old).honest
+        → kept_of kept.now
+        ≡ kept_among (of institution.now.name (T.state tables.old).rows) (instance_of sent.now) }
+    ensures { Serves (T.state tables.old) (T.state tables.new) institution.now.name
+        (λ _. instance_stored (limits_of institution.now)
+        (of institution.now.name (T.state tables.old).rows) sent.now.other
+        (instance_of sent.now)) result }
+{
+    if let Some(status) = kept_refusal(kept, sent) {
         return Ok(status);
     }
-    if let Some(status) = limit_refusal(alloc, tables, institution, &kept)? {
+    if let Some(status) = limit_refusal(alloc, tables, institution, kept)? {
         return Ok(status);
     }
-    keep(alloc, tables, name, &kept, sent)
+    keep(alloc, tables, institution.name.as_slice(), kept, sent)
 }
 
 /// Keeps an instance that is not refused, unless it is kept already, and answers the status.
@@ -133,7 +153,7 @@ fn keep_new<T: Tables>(
     editing_law();
     let _elements = sent.data_set.elements();
     let change = new_rows(alloc, name, kept, sent)?;
-    tables.apply(alloc, &change)
+    make_change(alloc, tables, change)
 }
 
 /// The row of the study of an instance, where it is new.

@@ -1,12 +1,19 @@
 -- Dates as numbers YYYYMMDD go with their days.
-use Rattle.std.proofs.Common.{◌≡◌, ℕ, ℤ, pos, ◌+◌, ◌*◌, ◌<◌, ◌≤◌, ◌≤ℤ◌, ◌⊎◌, inl, inr, true, ◌&&◌, nat_le, List, Option, Some, None, option_map, unsigned_abs, refl, sym, ap, ◌∙◌, arith}
+use Rattle.std.proofs.Common.{◌≡◌, ℕ, ℤ, pos, ◌+◌, ◌*◌, ◌<◌, ◌≤◌, ◌≤ℤ◌, ◌⊎◌, inl, inr, true, ◌&&◌, nat_le, List, Option, Some, None, option_map, option_and_then, unsigned_abs, refl, sym, ap, ◌∙◌, arith}
 use Rattle.std.proofs.lemmas.Bool.{and_parts, cases_order}
 use Rattle.std.proofs.lemmas.Bool.Decides.{nat_tests}
 use Rattle.jiff_core.specs.Calendar.{days_in_month, days_from_civil, day_count, IsCivilDate}
 use Rattle.jiff_core.proofs.CalendarLemmas.{days_from_civil-day_count, day_count-lt_year, day_count-lt_month, day_count-day, days_in_month_bounds}
 use Rattle.jiff_core.proofs.SignedLemmas.{signed_arith}
 use Rattle.dq_value.specs.Day.{Ymd, SpellsDate, is_in_calendar, date_in, day_number, day}
-use Rattle.dq_tables.specs.Labels.{date_number, day_named}
+use Rattle.dq_vr.specs.Tags.{study_date}
+use Rattle.dq_dataset.specs.Tree.{ElementList}
+use Rattle.dq_dataset.specs.Values.{sole_at}
+use Rattle.dq_tables.specs.declared.row.Kind.{Kind}
+use Rattle.dq_tables.specs.declared.row.Kind.TheVariants.{Study, Series, Image, Entry, Step}
+use Rattle.dq_tables.specs.declared.row.Row.{Row}
+use Rattle.dq_tables.specs.Records.{data_set_of}
+use Rattle.dq_tables.specs.Labels.{date_number, day_named, day_in, day_of}
 
 -- a date of the calendar, by a year that is not negative
 record IsDated (date : Ymd) : Type 0 where
@@ -102,3 +109,26 @@ module _ (law : OnlyDates) where
   pub ordered : (a b : List ℕ) (x y : ℤ) (m n : ℕ) → day a ≡ Some x → day b ≡ Some y → day_named a ≡ Some m → day_named b ≡ Some n → x ≤ℤ y → m ≤ n
   unfolding day day_named
   ordered a b = ordered_by a b (date_in a) (date_in b) refl refl
+
+  natural_date : (octets : List ℕ) (o : Option Ymd) → date_in octets ≡ o → (z : ℤ) → option_map date_number o ≡ Some z → pos 0 ≤ℤ z
+  natural_date octets None is z e = absurd cc
+  natural_date octets (Some date) is z e =
+      let it = dated octets date (law octets date is) in
+      let number : pos (digits_of it.year date.1 date.2) ≡ z = sym (number_is date it) ∙ cc e in
+      omega (arith, signed_arith, number)
+
+  natural_said : (said : Option (List ℕ)) (z : ℤ) → option_map date_number (option_and_then date_in said) ≡ Some z → pos 0 ≤ℤ z
+  natural_said None z e = absurd cc
+  natural_said (Some octets) z e = natural_date octets (date_in octets) refl z e
+
+  natural_in : (kind : Kind) (d : ElementList) (z : ℤ) → day_in kind d ≡ Some z → pos 0 ≤ℤ z
+  natural_in Study d z e = natural_said (sole_at study_date d) z e
+  natural_in Series d z e = absurd cc
+  natural_in Image d z e = absurd cc
+  natural_in Entry d z e = absurd cc
+  natural_in Step d z e = absurd cc
+
+  -- the day of a study is never negative
+  pub natural : (row : Row) (z : ℤ) → day_of row ≡ Some z → pos 0 ≤ℤ z
+  unfolding day_of
+  natural row z e = natural_in row.kind (data_set_of row.octets) z e

@@ -2,7 +2,6 @@ pub mod Order
 pub mod There
 pub mod Lens
 pub mod InOrder
-pub mod Groups
 pub mod Edits
 pub mod Started
 pub mod Soundness
@@ -16,5 +15,3 @@ pub mod Rising
 pub mod Days
 pub mod Taken
 pub mod Keyed
-pub mod Indexed
-pub mod ByKeys

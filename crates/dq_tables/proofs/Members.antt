@@ -1,5 +1,5 @@
 -- Which rows there are after an edit, in any order.
-use Rattle.std.proofs.Common.{◌≡◌, ℕ, Bool, true, false, not, List, [], ◌∷◌, ◌++◌, Option, Some, None, refl, sym, ◌∙◌, ap, subst, append-nil, append_assoc, filter, arith}
+use Rattle.std.proofs.Common.{◌≡◌, ℕ, Bool, true, false, not, List, [], ◌∷◌, ◌++◌, Option, Some, None, refl, sym, ◌∙◌, ap, subst, append-nil, append_assoc, filter, arith, inl, inr}
 use Rattle.std.specs.List.{AllByRecursion, find}
 use Rattle.std.specs.Ordering.{is_lt, is_eq, is_gt}
 use Rattle.std.specs.declared.cmp.Ordering.{Ordering}
@@ -7,6 +7,7 @@ use Rattle.std.specs.declared.cmp.Ordering.TheVariants.{Less, Equal, Greater}
 use Rattle.std.specs.List.Sorted.{IsPermutation}
 use Rattle.std.proofs.lemmas.List.Elements.{filter-append}
 use Rattle.std.proofs.lemmas.List.Sorted.{IsPermutation-sym, IsPermutation-middle}
+use Rattle.dq_list.specs.Among.{IsAmong}
 use Rattle.dq_tables.specs.declared.row.Kind.{Kind}
 use Rattle.dq_tables.specs.declared.row.Row.{Row}
 use Rattle.dq_tables.specs.Rows.{IsRising, RowPlace, place, row_place_of, row_place_order, rows_before, rows_past, rows_elsewhere, after_edit, Put, Remove, record_of}
@@ -86,6 +87,15 @@ held_or x (Some y) = y
 pub one_inside : {X : Type 0} (x y : X) → Some x ≡ Some y → x ≡ y
 unfolding held_or
 one_inside x y e = ap (held_or x) e
+
+among_step : {X : Type 0} (p : X → Bool) (x y : X) (xs : List X) (b : Bool) → p y ≡ b → find p (y ∷ xs) ≡ Some x
+    → (find p xs ≡ Some x → IsAmong x xs × (p x ≡ true)) → IsAmong x (y ∷ xs) × (p x ≡ true)
+among_step p x y xs true e found on = (let same : y ≡ x = one_inside y x (rw e at found) in (inl same, ap p (sym same) ∙ e))
+among_step p x y xs false e found on = (let later = on (rw e at found) in (inr later.0, later.1))
+
+pub find_among : {X : Type 0} (p : X → Bool) (x : X) (xs : List X) → find p xs ≡ Some x → IsAmong x xs × (p x ≡ true)
+find_among p x [] found = absurd cc
+find_among p x (y ∷ xs) found = among_step p x y xs (p y) refl found (find_among p x xs)
 
 first_passed : {X : Type 0} (p : X → Bool) (x y : X) (xs : List X) (b : Bool) → p x ≡ b → find p (x ∷ xs) ≡ Some y
     → (find p xs ≡ Some y → (ys : List X) × (filter p xs ≡ y ∷ ys)) → (ys : List X) × (filter p (x ∷ xs) ≡ y ∷ ys)

@@ -1,5 +1,5 @@
 -- Rows in order are the only order of themselves.
-use Rattle.std.proofs.Common.{◌≡◌, ◌≢◌, ◌⊎◌, inl, inr, zero, suc, Bool, false, List, [], ◌∷◌, refl, sym, ◌∙◌, ap, ap₂, subst, arith}
+use Rattle.std.proofs.Common.{◌≡◌, ◌≢◌, ◌⊎◌, inl, inr, zero, suc, Bool, false, List, [], ◌∷◌, refl, sym, ◌∙◌, ap, ap₂, subst, arith, ◌+◌, length}
 use Rattle.std.specs.List.{AllByRecursion, IsDistinct, Contains}
 use Rattle.std.specs.List.Sorted.{IsPermutation}
 use Rattle.std.specs.Ordering.{is_lt, is_eq, ordering_reverse}
@@ -8,9 +8,11 @@ use Rattle.std.specs.declared.cmp.Ordering.TheVariants.{Less, Equal, Greater}
 use Rattle.std.proofs.lemmas.List.Sorted.{IsPermutation-sym, Contains-permutation}
 use Rattle.std.proofs.lemmas.Cmp.{tied_itself}
 use Rattle.std.proofs.lemmas.Map.Keys.{IsDistinct-IsPermutation}
+use Rattle.dq_list.specs.Among.{IsAmong}
 use Rattle.dq_tables.specs.declared.row.Row.{Row}
 use Rattle.dq_tables.specs.Rows.{row_place_of, row_place_order, IsRising}
 use Rattle.dq_tables.proofs.Order.{rows_total, greater_from, less_from, each_weaker}
+use Rattle.dq_tables.proofs.Rising.{Rises, only_one}
 
 abbrev place_cmp : Row → Row → Ordering
 place_cmp a b = row_place_order (row_place_of a) (row_place_of b)
@@ -113,3 +115,22 @@ pub in_order : (rows found : List Row) → IsRising rows → IsPermutation rows 
 in_order rows found rising h falls =
     let apart = IsDistinct-IsPermutation same_place flips rows found h (rising_distinct rows rising) in
     sym (one_order rows found rising (distinct_rising found apart falls) h)
+
+-- ---- by their members
+
+abbrev ComesBefore : Row → Row → Type 0
+ComesBefore a b = row_place_order (row_place_of a) (row_place_of b) ≡ Less
+
+not_both : (a b : Row) → ComesBefore a b → ComesBefore b a → ⊥
+not_both a b less more = absurd (let wrong : Less ≡ Greater = sym more ∙ greater_from (row_place_of a) (row_place_of b) less in cc)
+
+rises : (rows : List Row) → IsRising rows → Rises ComesBefore not_both rows
+unfolding IsRising
+rises [] rising = tt
+rises (row ∷ rows) rising = (rising.0, rises rows rising.1)
+
+pub one_list : (xs ys : List Row) → IsRising xs → IsRising ys → ((row : Row) → IsAmong row xs → IsAmong row ys) → ((row : Row) → IsAmong row ys → IsAmong row xs)
+    → xs ≡ ys
+one_list xs ys rising_x rising_y to back =
+    only_one ComesBefore not_both (length xs + length ys) xs ys (rises xs rising_x) (rises ys rising_y) (λ row h. inl (to row h)) (λ row h. inl (back row h))
+    (omega arith) (omega arith)

@@ -1,5 +1,5 @@
 -- What is found among rows is what is found among the institution's records.
-use Rattle.std.proofs.Common.{◌≡◌, ℕ, Bool, true, false, List, [], ◌∷◌, map, length, Option, Some, None, refl, ◌∙◌, ap, arith}
+use Rattle.std.proofs.Common.{◌≡◌, ℕ, Bool, true, false, not, List, [], ◌∷◌, map, length, Option, Some, None, refl, ◌∙◌, ap, arith}
 use Rattle.std.specs.List.{filter}
 use Rattle.std.specs.Option.{option_map}
 use Rattle.std.specs.Str.{bytes_eq}
@@ -10,8 +10,8 @@ use Rattle.dq_tables.specs.declared.row.Kind.{Kind}
 use Rattle.dq_tables.specs.declared.row.Kind.TheVariants.{Study, Entry}
 use Rattle.dq_tables.specs.declared.row.Row.{Row}
 use Rattle.dq_tables.specs.Rows.{Record, of, row_of, record_of}
-use Rattle.dq_tables.specs.Choosing.{is_chosen, is_waiting, studies_in, studies_among, waiting_in, waiting_among}
-use Rattle.dq_tables.specs.Finding.{record_at, records_of, records_above, row_at, rows_of, rows_above, same_kind}
+use Rattle.dq_tables.specs.Choosing.{is_chosen, studies_in, studies_among}
+use Rattle.dq_tables.specs.Finding.{record_at, records_of, records_above, waiting_among, row_at, rows_of, rows_above, waiting, same_kind}
 
 own_row : (h : List ℕ) (row : Row) → bytes_eq row.inst h ≡ true → row ≡ row_of h (record_of row)
 own_row h row same = ap (λ (i : List ℕ). row_of i (record_of row)) ((bytes_eq-Decides row.inst h).0 same)
@@ -72,10 +72,9 @@ unfolding studies_in studies_among
 chosen_own choice h rows = ap (filter (λ (row : Row). is_chosen choice (record_of row))) (listed_own Study h rows)
     ∙ filter_map_row h (λ (row : Row). is_chosen choice (record_of row)) (records_of Study (of h rows))
 
-pub waiting_own : (choice : Choice) (h : List ℕ) (rows : List Row) → waiting_in choice h rows ≡ map (row_of h) (waiting_among choice (of h rows))
-unfolding waiting_in waiting_among
-waiting_own choice h rows = ap (filter (λ (row : Row). is_waiting choice (record_of row))) (listed_own Entry h rows)
-    ∙ filter_map_row h (λ (row : Row). is_waiting choice (record_of row)) (records_of Entry (of h rows))
+pub waiting_own : (h : List ℕ) (rows : List Row) → waiting h rows ≡ map (row_of h) (waiting_among (of h rows))
+waiting_own h rows = ap (filter (λ (row : Row). not row.started)) (listed_own Entry h rows)
+    ∙ filter_map_row h (λ (row : Row). not row.started) (records_of Entry (of h rows))
 
 pub counted_own : (kind : Kind) (h : List ℕ) (rows : List Row) → length (rows_of kind h rows) ≡ length (records_of kind (of h rows))
 counted_own kind h rows = ap length (listed_own kind h rows) ∙ length-map (records_of kind (of h rows)) (row_of h)

@@ -10,16 +10,11 @@ use Rattle.dq_tables.specs.declared.row.Kind.{Kind}
 use Rattle.dq_tables.specs.declared.row.Kind.TheVariants.{Entry}
 use Rattle.dq_tables.specs.declared.row.Row.{Row}
 use Rattle.dq_tables.specs.Rows.{Record, Place, Put, Start, place, row_place_of, record_of, row_of, record_at, of, rows_before, rows_past, rows_elsewhere, after_edit, IsRising}
-use Rattle.dq_tables.specs.Labels.{patient_of}
 use Rattle.dq_tables.specs.Finding.{row_at, IsThere}
-use Rattle.dq_tables.specs.Indexed.{Index, ListsEach, is_listed}
 use Rattle.dq_tables.specs.Sound.{is_own, is_record_of, is_held}
-use Rattle.dq_tables.proofs.ByKeys.{find_among}
 use Rattle.dq_tables.proofs.Edits.{set_is}
-use Rattle.dq_tables.proofs.Indexed.{put_listed}
 use Rattle.dq_tables.proofs.Listing.{its_kind}
-use Rattle.dq_tables.proofs.Members.{apart_is, free_is, one_inside, put_has}
-use Rattle.dq_tables.proofs.Rising.{each_among}
+use Rattle.dq_tables.proofs.Members.{apart_is, free_is, one_inside, put_has, find_among}
 use Rattle.dq_tables.proofs.Seen.{found_own}
 use Rattle.dq_tables.proofs.There.{stands_there, StandsAt}
 
@@ -116,11 +111,3 @@ pub start_keeps : (P : List Row → Type 0) (h key : List ℕ) (rows : List Row)
     → ((row : Row) → row.kind ≡ Entry → IsAmong row rows → P (after_edit row.inst (Put (record_of (started row))) rows))
     → P (after_edit h (Start key) rows)
 start_keeps P h key rows rising holds put = keeps_found P h key rows rising holds put (row_at Entry h key rows) refl
-
--- A started entry is listed where it was.
-pub start_listed : (index : Index) (h key : List ℕ) (rows : List Row) → IsRising rows → ListsEach index rows
-    → ListsEach index (after_edit h (Start key) rows)
-unfolding patient_of
-start_listed index h key rows rising lists =
-    start_keeps (ListsEach index) h key rows rising lists
-    (λ row kind among. put_listed index rows (started row) lists (each_among (λ (r : Row). is_listed index r ≡ true) row rows lists among))

@@ -1,4 +1,4 @@
--- What a query asks of the key, the patient and the day of studies or worklist entries.
+-- What a query asks of the key, the patient and the day of studies.
 use Rattle.std.specs.Prelude.{ℕ, List, Option, Some, None, unwrap_or, option_and_then}
 use Rattle.dq_value.specs.Range.{Ends, ends}
 use Rattle.dq_tables.specs.declared.choice.Choice.{Choice}

@@ -1,8 +1,8 @@
--- Studies and worklist entries chosen by their key, their patient and their day.
-use Rattle.std.specs.Prelude.{ℕ, ℤ, pos, Bool, true, not, ◌&&◌, int_le, List, filter, Option, Some, None}
+-- Studies chosen by their key, their patient and their day.
+use Rattle.std.specs.Prelude.{ℕ, ℤ, pos, Bool, true, ◌&&◌, int_le, List, filter, Option, Some, None}
 use Rattle.std.specs.Str.{bytes_eq}
 use Rattle.dq_tables.specs.declared.choice.Choice.{Choice}
-use Rattle.dq_tables.specs.declared.row.Kind.TheVariants.{Study, Entry}
+use Rattle.dq_tables.specs.declared.row.Kind.TheVariants.{Study}
 use Rattle.dq_tables.specs.declared.row.Row.{Row}
 use Rattle.dq_tables.specs.Rows.{Record, record_of}
 use Rattle.dq_tables.specs.Records.{data_set_of}
@@ -14,11 +14,11 @@ abbrev pub is_none_or : {A : Type 0} → (A → Bool) → Option A → Bool
 is_none_or test None = true
 is_none_or test (Some value) = test value
 
--- what is not asked, and what a study or an entry does not say, lets it through
+-- what is not asked, and what a study does not say, lets it through
 abbrev pub is_open_or : {A B : Type 0} → (A → B → Bool) → Option A → Option B → Bool
 is_open_or test asked said = is_none_or (λ wanted. is_none_or (test wanted) said) asked
 
--- the patient and the day of a study or an entry are those that are asked for
+-- the patient and the day of a study are those that are asked for
 abbrev pub has_labels : Choice → Option (List ℕ) → Option ℤ → Bool
 has_labels choice patient day =
     is_open_or bytes_eq choice.patient patient
@@ -29,8 +29,8 @@ has_labels choice patient day =
 abbrev pub has_asked_key : Choice → List ℕ → Bool
 has_asked_key choice key = is_none_or (bytes_eq key) choice.uid
 
--- A choice takes a study or an entry with the key, whose patient is the one that is asked for, or
--- is not one value, and whose day is not before the first nor after the last, or is not one date.
+-- A choice takes a study with the key, whose patient is the one that is asked for, or is not one
+-- value, and whose day is not before the first nor after the last, or is not one date.
 unfoldable pub is_chosen : Choice → Record → Bool
 is_chosen choice r =
     let d = data_set_of r.octets in
@@ -44,16 +44,3 @@ studies_in choice institution rows =
 
 unfoldable pub studies_among : Choice → List Record → List Record
 studies_among choice records = filter (is_chosen choice) (records_of Study records)
-
--- an entry waits, which no performed procedure step has started (PS3.4 section K.6.1.2), and a choice
--- takes it
-abbrev pub is_waiting : Choice → Record → Bool
-is_waiting choice r = not r.started && is_chosen choice r
-
--- the waiting entries of an institution that are chosen, and the same of its records
-unfoldable pub waiting_in : Choice → List ℕ → List Row → List Row
-waiting_in choice institution rows =
-    filter (λ (row : Row). is_waiting choice (record_of row)) (rows_of Entry institution rows)
-
-unfoldable pub waiting_among : Choice → List Record → List Record
-waiting_among choice records = filter (is_waiting choice) (records_of Entry records)

@@ -1,7 +1,8 @@
 -- What is found among rows, and among the records of one institution.
-use Rattle.std.specs.Prelude.{◌≡◌, ℕ, ◌+◌, ◌<◌, ◌≤◌, take, drop, slice_get, None, Bool, ◌&&◌, List, filter, find, length, Option}
+use Rattle.std.specs.Prelude.{◌≡◌, ℕ, ◌+◌, ◌<◌, ◌≤◌, take, drop, slice_get, None, Bool, not, ◌&&◌, List, filter, find, length, Option}
 use Rattle.std.specs.Str.{bytes_eq}
 use Rattle.dq_tables.specs.declared.row.Kind.{Kind}
+use Rattle.dq_tables.specs.declared.row.Kind.TheVariants.{Entry}
 use Rattle.dq_tables.specs.declared.row.Row.{Row}
 use Rattle.dq_tables.specs.Rows.{Record, RowPlace, rows_before, rows_past}
 unfoldable pub use Rattle.dq_tables.specs.Rows.{same_kind, record_at}
@@ -13,6 +14,11 @@ records_of kind records = filter (λ (r : Record). same_kind r.kind kind) record
 unfoldable pub records_above : Kind → List ℕ → List Record → List Record
 records_above kind above records =
     filter (λ (r : Record). bytes_eq r.above above) (records_of kind records)
+
+-- the worklist entries that wait: no performed procedure step has started them (PS3.4 section
+-- K.6.1.2)
+abbrev pub waiting_among : List Record → List Record
+waiting_among records = filter (λ (r : Record). not r.started) (records_of Entry records)
 
 abbrev pub is_of : Kind → List ℕ → Row → Bool
 is_of kind institution row = same_kind row.kind kind && bytes_eq row.inst institution
@@ -28,6 +34,9 @@ rows_of kind institution rows = filter (is_of kind institution) rows
 unfoldable pub rows_above : Kind → List ℕ → List ℕ → List Row → List Row
 rows_above kind institution above rows =
     filter (λ (row : Row). bytes_eq row.above above) (rows_of kind institution rows)
+
+abbrev pub waiting : List ℕ → List Row → List Row
+waiting institution rows = filter (λ (row : Row). not row.started) (rows_of Entry institution rows)
 
 -- Among rows in order, the one at an index stands at a place.
 pub record IsThere (p : RowPlace) (rows : List Row) (at : ℕ) : Type 0 where

@@ -1,14 +1,13 @@
--- What the data set of a study, or of a worklist entry, says of its patient and its day.
+-- What the data set of a study says of its patient and its day.
 use Rattle.std.specs.Prelude.{ℕ, ℤ, pos, ◌+ℤ◌, ◌*ℤ◌, unsigned_abs, List, Option, None, option_and_then, option_map}
-use Rattle.dq_vr.specs.Tags.{patient_id, study_date, scheduled_procedure_step_sequence, scheduled_procedure_step_start_date}
+use Rattle.dq_vr.specs.Tags.{patient_id, study_date}
 use Rattle.dq_value.specs.Day.{Ymd, date_in}
 use Rattle.dq_dataset.specs.Tree.{ElementList}
 use Rattle.dq_dataset.specs.Values.{sole_at}
 use Rattle.dq_tables.specs.declared.row.Kind.{Kind}
-use Rattle.dq_tables.specs.declared.row.Kind.TheVariants.{Study, Entry}
+use Rattle.dq_tables.specs.declared.row.Kind.TheVariants.{Study}
 use Rattle.dq_tables.specs.declared.row.Row.{Row}
 use Rattle.dq_tables.specs.Records.{data_set_of}
-use Rattle.dq_tables.specs.Keys.{sole_item_at}
 
 -- the number that the digits YYYYMMDD of a date are
 abbrev pub date_number : Ymd → ℤ
@@ -21,25 +20,12 @@ day_named octets = option_map (λ date. unsigned_abs (date_number date)) (date_i
 -- the only value of Patient ID (0010,0020)
 abbrev pub patient_in : Kind → ElementList → Option (List ℕ)
 patient_in Study d = sole_at patient_id d
-patient_in Entry d = sole_at patient_id d
 patient_in kind d = None
 
--- the start date of the only scheduled procedure step of a worklist entry (PS3.4 table K.6-1)
-abbrev pub start_date_in : ElementList → Option (List ℕ)
-start_date_in d =
-    option_and_then (sole_at scheduled_procedure_step_start_date)
-    (sole_item_at scheduled_procedure_step_sequence d)
-
--- what names the day: the only value of a study's Study Date (0008,0020), and of an entry's
--- Scheduled Procedure Step Start Date (0040,0002)
-abbrev pub day_name_in : Kind → ElementList → Option (List ℕ)
-day_name_in Study d = sole_at study_date d
-day_name_in Entry d = start_date_in d
-day_name_in kind d = None
-
--- the day, where that is a date of the calendar
+-- the only value of Study Date (0008,0020), where that is a date of the calendar
 abbrev pub day_in : Kind → ElementList → Option ℤ
-day_in kind d = option_map date_number (option_and_then date_in (day_name_in kind d))
+day_in Study d = option_map date_number (option_and_then date_in (sole_at study_date d))
+day_in kind d = None
 
 unfoldable pub patient_of : Row → Option (List ℕ)
 patient_of row = patient_in row.kind (data_set_of row.octets)

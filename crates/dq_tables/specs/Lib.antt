@@ -8,6 +8,5 @@ pub mod Labels
 pub mod Choosing
 pub mod Asked
 pub mod Sound
-pub mod Indexed
 pub mod Keeping
 pub mod Serving

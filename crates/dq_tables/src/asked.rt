@@ -1,4 +1,4 @@
-//! What a query asks of the key, the patient and the day of studies or worklist entries.
+//! What a query asks of the key, the patient and the day of studies.
 ghost use Rattle.std.specs.Prelude.{◌≡◌, IfOk, option_and_then};
 ghost use Rattle.std.specs.Option.{option_copied};
 ghost use Rattle.dq_tables.specs.Labels.{day_named};

@@ -1,5 +1,5 @@
-//! Studies and worklist entries chosen by what is kept of them beside their octets.
-ghost use Rattle.std.specs.Prelude.{◌≡◌, true, pos, int_le, IsFalse, IfOk};
+//! Studies chosen by what is kept of them beside their octets.
+ghost use Rattle.std.specs.Prelude.{◌≡◌, true, pos, int_le, filter, IsFalse, IfOk};
 ghost use Rattle.std.specs.Str.{bytes_eq};
 ghost use Rattle.dq_tables.specs.Choosing.{has_asked_key, is_open_or, has_labels, is_chosen};
 ghost use Rattle.dq_tables.specs.Rows.{record_of};
@@ -9,24 +9,22 @@ use crate::row::Row;
 use dq_list::Listed;
 use std::alloc::{AllocError, Global};
 
-/// Which studies, or worklist entries, of an institution are asked for. A part that is `None` asks
-/// nothing, and one that does not say its patient, or its day, by one value meets what is asked of
-/// it.
+/// Which studies of an institution are asked for. A part that is `None` asks nothing, and a study
+/// that does not say its patient, or its day, by one value meets what is asked of it.
 #[derive(Drop)]
 pub struct Choice {
     /// The key.
     pub uid: Option<Listed<u8>>,
     /// The only value of Patient ID (0010,0020), trimmed.
     pub patient: Option<Listed<u8>>,
-    /// The first day of the only value of Study Date (0008,0020), or of the Scheduled Procedure Step
-    /// Start Date (0040,0002) of the only scheduled procedure step: YYYYMMDD as a number.
+    /// The first day that the only value of Study Date (0008,0020) may be: YYYYMMDD as a number.
     pub first_day: Option<u32>,
     /// The last day, itself included.
     pub last_day: Option<u32>,
 }
 
 impl Choice {
-    /// Whether the choice takes a study or an entry. What asks no more than the key reads no data set.
+    /// Whether the choice takes a study. What asks no more than the key reads no data set.
     #[tactic(auto, unfolding(crate::specs::Choosing::is_chosen, crate::specs::Labels::patient_of, crate::specs::Labels::day_of))]
     pub(crate) fn takes(&self, alloc: Global, row: &Row) -> Result<bool, AllocError>
         ensures { IfOk result (λ taken. taken ≡ is_chosen self.now (record_of row.now)) }
@@ -39,6 +37,20 @@ impl Choice {
         }
         let labels = row.labels(alloc)?;
         Ok(self.has_labels(&labels))
+    }
+
+    /// Those of some studies that the choice takes, in the same order.
+    pub fn among(&self, alloc: Global, studies: Listed<Row>) -> Result<Listed<Row>, AllocError>
+        ensures { IfOk result (λ taken.
+            taken ≡ filter (λ row. is_chosen self.now (record_of row)) studies) }
+    {
+        let mut taken = Listed::empty(alloc);
+        for study in studies.into_inner() {
+            if self.takes(alloc, &study)? {
+                taken.push(study)?;
+            }
+        }
+        Ok(taken)
     }
 
     fn has_key(&self, key: &[u8]) -> bool

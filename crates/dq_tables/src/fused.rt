@@ -3,8 +3,8 @@ ghost use Rattle.std.specs.Prelude.{◌≡◌, ◌||◌, false, true, length, On
 ghost use Rattle.dq_tables.specs.declared.fault.TableFault.TheVariants.{Store};
 ghost use Rattle.dq_tables.specs.declared.row.Row.{Row};
 ghost use Rattle.dq_tables.specs.Rows.{after, operation_of};
-ghost use Rattle.dq_tables.specs.Finding.{row_at, rows_of, rows_above};
-ghost use Rattle.dq_tables.specs.Choosing.{studies_in, waiting_in};
+ghost use Rattle.dq_tables.specs.Finding.{row_at, rows_of, rows_above, waiting};
+ghost use Rattle.dq_tables.specs.Choosing.{studies_in};
 ghost use Rattle.dq_tables.specs.Sound.{Fits};
 ghost use Rattle.dq_tables.specs.Keeping.{Reads, Writes};
 ghost use Rattle.dq_tables.specs.Faults.{burnt};
@@ -149,22 +149,17 @@ impl<T: Tables> Tables for Fused<T> {
         self.tables.studies_in(alloc, institution, choice)
     }
 
-    fn waiting_in(
-        &mut self,
-        alloc: Global,
-        institution: &[u8],
-        choice: &Choice,
-    ) -> Result<Listed<Row>, TableFault>
+    fn waiting(&mut self, alloc: Global, institution: &[u8]) -> Result<Listed<Row>, TableFault>
         ensures found { (⟦<Fused<T> as Tables>⟧.state self.new).honest → IfOk result
             (λ found. found
-            ≡ waiting_in choice.now institution.now (⟦<Fused<T> as Tables>⟧.state self.old).rows) }
+            ≡ waiting institution.now (⟦<Fused<T> as Tables>⟧.state self.old).rows) }
         ensures reads { Reads (⟦<Fused<T> as Tables>⟧.state self.old)
             (⟦<Fused<T> as Tables>⟧.state self.new) result }
         ensures fuse { self.new.fuse ≡ self.old.fuse }
         ensures blown { self.old.fuse.blown ≡ true → result ≡ Err Store }
     {
         self.check()?;
-        self.tables.waiting_in(alloc, institution, choice)
+        self.tables.waiting(alloc, institution)
     }
 
     fn count(&mut self, alloc: Global, kind: Kind, institution: &[u8]) -> Result<u64, TableFault>

@@ -1,10 +1,9 @@
-//! What the data set of a study, or of a worklist entry, says of its patient and its day.
+//! What the data set of a study says of its patient and its day.
 ghost use Rattle.std.specs.Prelude.{◌≡◌, ◌+ℤ◌, ◌*ℤ◌, pos, unsigned_abs, IfOk};
-ghost use Rattle.std.specs.Option.{option_copied};
 ghost use Rattle.dq_value.specs.Day.{ymd_of};
-ghost use Rattle.dq_tables.specs.Labels.{date_number, day_named, patient_in, start_date_in, day_name_in, day_in, patient_of, day_of};
+ghost use Rattle.dq_tables.specs.Labels.{date_number, day_named, patient_in, day_in, patient_of, day_of};
+ghost use Rattle.dq_tables.specs.declared.row.Kind.TheVariants.{Study};
 
-use crate::keys::sole_item_at;
 use crate::row::{Kind, Row};
 use dq_dataset::DataSet;
 use dq_list::Listed;
@@ -13,33 +12,32 @@ use dq_vr::tags;
 use jiff::civil::Date;
 use std::alloc::{AllocError, Global};
 
-/// The patient and the day of a study or a worklist entry. Rows of other kinds have neither.
+/// The patient and the day of a study. Rows of other kinds have neither.
 #[derive(Drop)]
 pub struct Labels {
     /// The only value of Patient ID (0010,0020), trimmed.
     pub patient: Option<Listed<u8>>,
-    /// The only value of a study's Study Date (0008,0020), or of the Scheduled Procedure Step Start
-    /// Date (0040,0002) of an entry's only scheduled procedure step (PS3.4 table K.6-1), where it
-    /// is a date (PS3.5 section 6.2): YYYYMMDD as a number.
+    /// The only value of Study Date (0008,0020), where it is a date (PS3.5 section 6.2): YYYYMMDD as
+    /// a number.
     pub day: Option<i64>,
 }
 
 impl Row {
-    /// The patient and the day of a study or a worklist entry, read from its data set.
+    /// The patient and the day of a study, read from its data set.
     #[tactic(auto, unfolding(crate::specs::Labels::patient_of, crate::specs::Labels::day_of))]
     pub fn labels(&self, alloc: Global) -> Result<Labels, AllocError>
         ensures patient { IfOk result (λ labels. labels.patient ≡ patient_of self.now) }
         ensures day { IfOk result (λ labels. labels.day ≡ day_of self.now) }
     {
         match self.kind {
-            Kind::Study | Kind::Entry => {
+            Kind::Study => {
                 let data_set = self.data_set(alloc)?;
                 Ok(Labels {
-                    patient: patient_in(alloc, self.kind, &data_set)?,
-                    day: day_in(self.kind, &data_set),
+                    patient: patient_in(alloc, &data_set)?,
+                    day: day_in(&data_set),
                 })
             }
-            Kind::Series | Kind::Image | Kind::Step => Ok(Labels {
+            Kind::Series | Kind::Image | Kind::Entry | Kind::Step => Ok(Labels {
                 patient: None,
                 day: None,
             }),
@@ -47,52 +45,20 @@ impl Row {
     }
 }
 
-fn patient_in(
-    alloc: Global,
-    kind: Kind,
-    data_set: &DataSet,
-) -> Result<Option<Listed<u8>>, AllocError>
-    ensures { IfOk result (λ patient. patient ≡ patient_in kind data_set.now) }
+fn patient_in(alloc: Global, data_set: &DataSet) -> Result<Option<Listed<u8>>, AllocError>
+    ensures { IfOk result (λ patient. patient ≡ patient_in Study data_set.now) }
 {
-    match patient_id(kind, data_set) {
+    match data_set.sole_value(tags::PATIENT_ID) {
         Some(patient) => Ok(Some(Listed::copy_of(alloc, patient)?)),
         None => Ok(None),
     }
 }
 
-fn patient_id(kind: Kind, data_set: &DataSet) -> Option<&[u8]>
-    ensures { option_copied result ≡ patient_in kind data_set.now }
+fn day_in(data_set: &DataSet) -> Option<i64>
+    ensures { result ≡ day_in Study data_set.now }
 {
-    match kind {
-        Kind::Study | Kind::Entry => data_set.sole_value(tags::PATIENT_ID),
-        Kind::Series | Kind::Image | Kind::Step => None,
-    }
-}
-
-fn day_in(kind: Kind, data_set: &DataSet) -> Option<i64>
-    ensures { result ≡ day_in kind data_set.now }
-{
-    let date = date_of(day_name(kind, data_set)?)?;
+    let date = date_of(data_set.sole_value(tags::STUDY_DATE)?)?;
     Some(date_number(date))
-}
-
-/// What names the day.
-fn day_name(kind: Kind, data_set: &DataSet) -> Option<&[u8]>
-    ensures { option_copied result ≡ day_name_in kind data_set.now }
-{
-    match kind {
-        Kind::Study => data_set.sole_value(tags::STUDY_DATE),
-        Kind::Entry => start_date(data_set),
-        Kind::Series | Kind::Image | Kind::Step => None,
-    }
-}
-
-/// The start date of the only scheduled procedure step of an entry.
-fn start_date(data_set: &DataSet) -> Option<&[u8]>
-    ensures { option_copied result ≡ start_date_in data_set.now }
-{
-    let step = sole_item_at(data_set, tags::SCHEDULED_PROCEDURE_STEP_SEQUENCE)?;
-    step.sole_value(tags::SCHEDULED_PROCEDURE_STEP_START_DATE)
 }
 
 /// The day that a value of VR DA names (PS3.5 section 6.2): YYYYMMDD as a number.

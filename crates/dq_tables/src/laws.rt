@@ -9,9 +9,9 @@ ghost use Rattle.dq_tables.specs.declared.row.Kind.TheVariants.{Entry};
 ghost use Rattle.dq_tables.specs.declared.row.Row.{Row};
 ghost use Rattle.dq_tables.specs.declared.change.Change.{Change};
 ghost use Rattle.dq_tables.specs.Rows.{Edit, Put, Remove, Start, record_of, row_place_of, place, rows_elsewhere, after_edit, edited, edited_all, of, IsRising, Operation, by, after, after_all, own_edits, operation_of, row_of};
-ghost use Rattle.dq_tables.specs.Finding.{row_at, rows_of, rows_above, record_at, records_of, records_above};
-ghost use Rattle.dq_tables.specs.Choosing.{studies_in, studies_among, waiting_in, waiting_among};
-ghost use Rattle.dq_tables.specs.Labels.{date_number, day_named};
+ghost use Rattle.dq_tables.specs.Finding.{row_at, rows_of, rows_above, waiting, record_at, records_of, records_above, waiting_among};
+ghost use Rattle.dq_tables.specs.Choosing.{studies_in, studies_among};
+ghost use Rattle.dq_tables.specs.Labels.{date_number, day_named, day_of};
 ghost use Rattle.dq_tables.specs.Records.{AreInOrder};
 ghost use Rattle.dq_tables.specs.Sound.{IsSound, Fits};
 
@@ -72,8 +72,8 @@ pub fn rows_are_found_among_records()
         → rows_above kind h above rows ≡ map (row_of h) (records_above kind above (of h rows)) }
     ensures chosen { (choice : Choice) (h : List ℕ) (rows : List Row)
         → studies_in choice h rows ≡ map (row_of h) (studies_among choice (of h rows)) }
-    ensures waiting { (choice : Choice) (h : List ℕ) (rows : List Row)
-        → waiting_in choice h rows ≡ map (row_of h) (waiting_among choice (of h rows)) }
+    ensures waiting { (h : List ℕ) (rows : List Row)
+        → waiting h rows ≡ map (row_of h) (waiting_among (of h rows)) }
     ensures counted { (kind : Kind) (h : List ℕ) (rows : List Row)
         → length (rows_of kind h rows) ≡ length (records_of kind (of h rows)) }
 {}
@@ -105,7 +105,7 @@ pub fn plain_tables_never_fail()
 
 /// Two lists of rows in order are one list where they have the same members, and so where one is
 /// the other rearranged.
-#[tactic(auto, using(crate::proofs::ByKeys::one_list, crate::proofs::OneOrder::one_order))]
+#[tactic(auto, using(crate::proofs::OneOrder::one_list, crate::proofs::OneOrder::one_order))]
 pub fn rows_have_one_order()
     ensures members { (xs ys : List Row) → IsRising xs → IsRising ys
         → ((row : Row) → IsAmong row xs → IsAmong row ys)
@@ -149,12 +149,13 @@ pub fn started_entries_are_there()
 {}
 
 /// The number YYYYMMDD of a day is that of its date, and a day that is not after another is no
-/// greater number.
+/// greater number. The day of a study is never negative.
 pub fn day_numbers_are_in_order()
     ensures named { (octets : List ℕ)
         → option_map pos (day_named octets) ≡ option_map date_number (date_in octets) }
     ensures ordered { (a b : List ℕ) (x y : ℤ) (m n : ℕ) → day a ≡ Some x → day b ≡ Some y
         → day_named a ≡ Some m → day_named b ≡ Some n → x ≤ℤ y → m ≤ n }
+    ensures natural { (row : Row) (z : ℤ) → day_of row ≡ Some z → pos 0 ≤ℤ z }
 {
     date_law();
 }

@@ -1,10 +1,10 @@
-//! Rows in memory are kept as every keeper keeps them.
+//! Rows in a vector are kept as every keeper keeps them.
 use crate::change::Change;
 use crate::choice::Choice;
 use crate::fault::TableFault;
 use crate::plain::PlainTables;
 use crate::row::{Kind, Row};
-use crate::search::{copies, found, group};
+use crate::scan;
 use crate::tables::Tables;
 use dq_list::Listed;
 use std::alloc::Global;
@@ -30,7 +30,7 @@ impl Tables for PlainTables {
         institution: &[u8],
         key: &[u8],
     ) -> Result<Option<Row>, TableFault> {
-        Ok(found(alloc, self.kept(), kind, institution, key)?)
+        Ok(scan::row_at(alloc, self.kept(), kind, institution, key)?)
     }
 
     fn rows_of(
@@ -39,7 +39,7 @@ impl Tables for PlainTables {
         kind: Kind,
         institution: &[u8],
     ) -> Result<Listed<Row>, TableFault> {
-        Ok(copies(alloc, group(self.kept(), kind, institution))?)
+        Ok(scan::rows_of(alloc, self.kept(), kind, institution)?)
     }
 
     fn rows_above(
@@ -49,7 +49,7 @@ impl Tables for PlainTables {
         institution: &[u8],
         above: &[u8],
     ) -> Result<Listed<Row>, TableFault> {
-        Ok(self.kept_above(alloc, kind, institution, above)?)
+        Ok(scan::rows_above(alloc, self.kept(), kind, institution, above)?)
     }
 
     fn studies_in(
@@ -58,30 +58,25 @@ impl Tables for PlainTables {
         institution: &[u8],
         choice: &Choice,
     ) -> Result<Listed<Row>, TableFault> {
-        Ok(self.chosen(alloc, institution, choice)?)
+        Ok(scan::studies_in(alloc, self.kept(), institution, choice)?)
     }
 
-    fn waiting_in(
-        &mut self,
-        alloc: Global,
-        institution: &[u8],
-        choice: &Choice,
-    ) -> Result<Listed<Row>, TableFault> {
-        Ok(self.waiting(alloc, institution, choice)?)
+    fn waiting(&mut self, alloc: Global, institution: &[u8]) -> Result<Listed<Row>, TableFault> {
+        Ok(scan::waiting(alloc, self.kept(), institution)?)
     }
 
     fn count(&mut self, _alloc: Global, kind: Kind, institution: &[u8]) -> Result<u64, TableFault> {
-        Ok(group(self.kept(), kind, institution).len() as u64)
+        Ok(scan::count_of(self.kept(), kind, institution))
     }
 
     fn count_above(
         &mut self,
-        alloc: Global,
+        _alloc: Global,
         kind: Kind,
         institution: &[u8],
         above: &[u8],
     ) -> Result<u64, TableFault> {
-        Ok(self.counted_above(alloc, kind, institution, above)? as u64)
+        Ok(scan::count_above(self.kept(), kind, institution, above))
     }
 
     fn failed(&self) -> bool {

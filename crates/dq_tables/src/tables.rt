@@ -3,8 +3,8 @@ ghost use Rattle.std.specs.Prelude.{◌≡◌, List, length, IfOk};
 ghost use Rattle.dq_tables.specs.declared.row.Kind.TheVariants.{Study, Series, Image, Entry, Step};
 ghost use Rattle.dq_tables.specs.declared.row.Row.{Row};
 ghost use Rattle.dq_tables.specs.Rows.{after, operation_of};
-ghost use Rattle.dq_tables.specs.Finding.{row_at, rows_of, rows_above};
-ghost use Rattle.dq_tables.specs.Choosing.{studies_in, waiting_in};
+ghost use Rattle.dq_tables.specs.Finding.{row_at, rows_of, rows_above, waiting};
+ghost use Rattle.dq_tables.specs.Choosing.{studies_in};
 ghost use Rattle.dq_tables.specs.Sound.{IsSound, Fits};
 ghost use Rattle.dq_tables.specs.Keeping.{State, Reads, Writes};
 
@@ -69,16 +69,11 @@ pub trait Tables {
             (λ list. list ≡ studies_in choice.now institution.now (state self.old).rows) }
         ensures reads { Reads (state self.old) (state self.new) result };
 
-    /// The institution's worklist entries that no performed procedure step has started and that a
-    /// choice takes (PS3.4 section K.6.1.2).
-    fn waiting_in(
-        &mut self,
-        alloc: Global,
-        institution: &[u8],
-        choice: &Choice,
-    ) -> Result<Listed<Row>, TableFault>
+    /// The institution's worklist entries that no performed procedure step has started (PS3.4
+    /// section K.6.1.2).
+    fn waiting(&mut self, alloc: Global, institution: &[u8]) -> Result<Listed<Row>, TableFault>
         ensures found { (state self.new).honest → IfOk result
-            (λ list. list ≡ waiting_in choice.now institution.now (state self.old).rows) }
+            (λ list. list ≡ waiting institution.now (state self.old).rows) }
         ensures reads { Reads (state self.old) (state self.new) result };
 
     /// How many rows of a kind the institution has.

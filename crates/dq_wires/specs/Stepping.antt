@@ -10,7 +10,7 @@ use Rattle.dq_core.specs.Connections.{is_pending}
 use Rattle.dq_core.specs.Shared.{turn, world_after}
 use Rattle.dq_core.specs.Histories.{newest_after}
 use Rattle.dq_core.specs.Stepping.{TakesNoMemory, Goes, MayLeave, IsPartOf}
-use Rattle.dq_core.specs.Standing.{Standing, StandsFor}
+use Rattle.dq_core.specs.Standing.{Standing, IsWorking, StandsFor}
 use Rattle.dq_core.specs.Looking.{Looked}
 use Rattle.dq_wires.specs.Steps.{Step}
 use Rattle.dq_wires.specs.Steps.Step.{Answered, Asked}
@@ -45,7 +45,8 @@ Moves state old new (Answered event reply) = Stepped state old new event reply
 Moves state old new (Asked number pending) = Asks state old new number pending
 
 -- The server fails at an event, after the first of its operations, and is spent. At what takes no memory
--- a server that stands for a history does not fail, and with Store only where its tables failed.
+-- a server that stands for a history does not fail. It fails with Store only where its tables failed
+-- at this event.
 pub record Fails {Tables : Type 0} (state : Tables → State) (old new : Standing Tables)
     (event : Event) (fault : Fault) : Type 0 where
   pub part : (rows : List Row) (events : List Event) → StandsFor state rows old events
@@ -59,8 +60,7 @@ pub record Fails {Tables : Type 0} (state : Tables → State) (old new : Standin
   pub institutions : new.institutions ≡ old.institutions
   pub spent : new.spent ≡ true
   pub goes : Goes {A = Reply} (state old.tables) (state new.tables) (Err fault)
-  pub store : (rows : List Row) (events : List Event) → StandsFor state rows old events
-      → fault ≡ Store
+  pub store : IsWorking state old → fault ≡ Store
       → ((state old.tables).failed ≡ false) × ((state new.tables).failed ≡ true)
   pub stopped : (fault ≡ Stopped) ↔ (old.spent ≡ true)
   pub unchanged : old.spent ≡ true → new ≡ old

@@ -3,12 +3,10 @@ ghost use Rattle.std.specs.Prelude.{◌≡◌, ◌≤◌, length, IfOk};
 ghost use Rattle.dq_wires.specs.Logs.{IfGot};
 
 use crate::calls::{ReadTurn, WireFault};
-use crate::sockets::SocketWires;
 use crate::wires::Wires;
 use mio::net::TcpStream;
 use std::io::{self, ErrorKind, Read, Write};
 use std::net::{Net, Shutdown, SocketAddr};
-use std::time::{Clock, Duration};
 
 /// The client's end of a connection. No call waits.
 pub trait Client {
@@ -76,20 +74,5 @@ impl Client for SocketClient {
 
     fn end(&mut self) -> Result<(), WireFault> {
         self.stream.shutdown(Shutdown::Write).or(Err(WireFault))
-    }
-}
-
-impl<N: Net + Clock> Clients<SocketWires> for N {
-    type Client = SocketClient;
-
-    fn connect(&self, wires: &SocketWires) -> Result<SocketClient, WireFault> {
-        let Ok(address) = wires.address() else {
-            return Err(WireFault);
-        };
-        SocketClient::connect(self, address).or(Err(WireFault))
-    }
-
-    fn look(&self, wires: &mut SocketWires) -> Result<(), WireFault> {
-        wires.rest(self, Duration::ZERO).or(Err(WireFault))
     }
 }

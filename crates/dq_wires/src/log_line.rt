@@ -1,9 +1,11 @@
-//! The lines that are told of associations.
+//! The lines of a log.
+use crate::given_up::GivenUp;
 use crate::passed::{Party, Titles};
 use dq_value::stripped;
+use jiff::Timestamp;
 use std::fmt;
 
-/// What is told of an association.
+/// What is told of a connection.
 #[derive(Clone, Copy, PartialEq, Eq)]
 pub(crate) enum Told {
     /// It was accepted, with so many presentation contexts.
@@ -24,15 +26,22 @@ pub(crate) enum Told {
         source: u8,
         reason: u8,
     },
-    /// It was accepted before and not aborted, and its connection was given up.
+    /// It was accepted before and not aborted, and its connection is gone.
     Ended,
+    /// Its connection was given up.
+    GivenUp(GivenUp),
 }
 
-/// A line: the number of a connection, and what is told of its association. The institution is that
-/// of its titles, or empty.
+/// What a line tells of: a connection by its number, or none.
+#[derive(Clone, Copy)]
+pub(crate) struct Subject(pub Option<u64>);
+
+/// The line of a connection: the time, its number if it has one, and what is told of it. The
+/// institution is that of its titles, or empty.
 #[derive(Clone, Copy)]
 pub(crate) struct LogLine<'a> {
-    pub number: u64,
+    pub time: Timestamp,
+    pub subject: Subject,
     pub institution: &'a [u8],
     pub told: Told,
 }
@@ -59,9 +68,18 @@ impl fmt::Display for Word<'_> {
     }
 }
 
+impl fmt::Display for Subject {
+    fn fmt<W: fmt::Write>(&self, f: &mut fmt::Formatter<W>) -> fmt::Result {
+        match self.0 {
+            Some(number) => write!(f, "{number}"),
+            None => f.write_str("-"),
+        }
+    }
+}
+
 impl fmt::Display for LogLine<'_> {
     fn fmt<W: fmt::Write>(&self, f: &mut fmt::Formatter<W>) -> fmt::Result {
-        let number = self.number;
+        write!(f, "{:.3} {} ", self.time, self.subject)?;
         match self.told {
             Told::Accepted { titles, contexts } => {
                 let institution = Word(self.institution);
@@ -70,7 +88,7 @@ impl fmt::Display for LogLine<'_> {
                 let noun = if contexts == 1 { "context" } else { "contexts" };
                 write!(
                     f,
-                    "{number} accepted {institution} {called} {calling} {contexts} {noun}"
+                    "accepted {institution} {called} {calling} {contexts} {noun}"
                 )
             }
             Told::Rejected {
@@ -81,10 +99,7 @@ impl fmt::Display for LogLine<'_> {
             } => {
                 let called = Word(stripped(&titles.called));
                 let calling = Word(stripped(&titles.calling));
-                write!(
-                    f,
-                    "{number} rejected {called} {calling} {result} {source} {reason}"
-                )
+                write!(f, "rejected {called} {calling} {result} {source} {reason}")
             }
             Told::Aborted {
                 sender,
@@ -95,9 +110,10 @@ impl fmt::Display for LogLine<'_> {
                     Party::Peer => "peer",
                     Party::Server => "server",
                 };
-                write!(f, "{number} aborted by the {sender} {source} {reason}")
+                write!(f, "aborted by the {sender} {source} {reason}")
             }
-            Told::Ended => write!(f, "{number} ended"),
+            Told::Ended => f.write_str("ended"),
+            Told::GivenUp(given_up) => write!(f, "{given_up}"),
         }
     }
 }

@@ -1,12 +1,14 @@
-//! Wires whose associations are told of in a log.
+//! Wires whose connections are told of in a log.
 ghost use Rattle.std.specs.Prelude.{◌≤◌, length, IfOk};
 ghost use Rattle.dq_wires.specs.Logs.{IfGot};
 
 use crate::association_log::AssociationLog;
 use crate::calls::{ReadTurn, WireFault};
+use crate::given_up::GivesUp;
 use crate::passed::Party;
 use crate::wires::Wires;
 use std::io::Write;
+use std::time::Clock;
 
 /// Wires around others. Each call is handed on, and its answer back: what is served is what the
 /// others serve. The log, where there is one, reads what passes.
@@ -16,13 +18,26 @@ pub struct LoggedWires<W, L> {
     pub log: Option<AssociationLog<L>>,
 }
 
-impl<W: Wires, L: Write + Drop> Wires for LoggedWires<W, L> {
+impl<W, L: Write + Drop> LoggedWires<W, L> {
+    /// The lines of the log have from now on the time of a clock.
+    pub fn read_clock(&mut self, clock: &impl Clock) {
+        if let Some(log) = &mut self.log {
+            log.read_clock(clock);
+        }
+    }
+}
+
+impl<W: Wires + GivesUp, L: Write + Drop> Wires for LoggedWires<W, L> {
     ghost log = { λ logged. W.log logged.wires };
 
     fn accept(&mut self) -> Result<Option<usize>, WireFault> {
         let answer = self.wires.accept();
-        if let (Some(log), Ok(Some(place))) = (&mut self.log, answer) {
-            log.begin(place);
+        if let Some(log) = &mut self.log {
+            match (answer, self.wires.turned_away()) {
+                (Ok(Some(place)), _) => log.begin(place),
+                (_, Some(given_up)) => log.turn_away(given_up),
+                _ => {}
+            }
         }
         answer
     }
@@ -45,7 +60,7 @@ impl<W: Wires, L: Write + Drop> Wires for LoggedWires<W, L> {
 
     fn shut(&mut self, place: usize) -> Result<(), WireFault> {
         if let Some(log) = &mut self.log {
-            log.end(place);
+            log.end(place, self.wires.given_up(place));
         }
         self.wires.shut(place)
     }

@@ -3,6 +3,7 @@ ghost use Rattle.std.specs.Prelude.{◌≡◌, ◌≤◌, [], length, Some, IfOk
 ghost use Rattle.dq_wires.specs.Logs.{Logs, IfGot, what_came};
 
 use crate::calls::{Call, Came, ReadTurn, WireFault};
+use crate::given_up::GivesUp;
 use crate::wires::Wires;
 use dq_list::Listed;
 use std::alloc::{AllocError, Global};
@@ -180,3 +181,5 @@ impl Wires for MemoryWires {
         answer
     }
 }
+
+impl GivesUp for MemoryWires {}

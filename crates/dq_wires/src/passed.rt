@@ -8,12 +8,14 @@ use dq_pdu::{AnsweredContext, Inbox, InboxError, Pdu};
 use std::alloc::Global;
 
 /// The types of PDUs (PS3.8 section 9.3.1).
-mod pdu_type {
+pub(crate) mod pdu_type {
     pub const A_ASSOCIATE_RQ: u8 = 0x01;
 
     pub const A_ASSOCIATE_AC: u8 = 0x02;
 
     pub const A_ASSOCIATE_RJ: u8 = 0x03;
+
+    pub const A_RELEASE_RP: u8 = 0x06;
 
     pub const A_ABORT: u8 = 0x07;
 }

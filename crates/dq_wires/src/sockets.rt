@@ -1,16 +1,16 @@
 //! Wires over sockets.
-ghost use Rattle.std.specs.Prelude.{◌≤◌, length, IfOk};
-ghost use Rattle.dq_wires.specs.Logs.{IfGot};
-
 use crate::calls::{ReadTurn, WireFault};
+use crate::given_up::{GivenUp, GivesUp, Limits, Reason};
 use crate::limits::MOST_WIRES;
+use crate::line::Line;
+use crate::socket::{Door, Socket};
 use crate::wires::Wires;
-use mio::net::{TcpListener, TcpStream};
 use mio::unix::SourceFd;
 use mio::{Events, Interest, Poll, Token};
 use std::alloc::Global;
-use std::io::{self, ErrorKind, Read, Write};
-use std::net::{Net, Shutdown, SocketAddr};
+use std::fs::Files;
+use std::io::{self, ErrorKind};
+use std::net::{Net, SocketAddr};
 use std::os::fd::AsRawFd;
 use std::time::{Clock, Duration, Instant};
 
@@ -29,110 +29,38 @@ const PASSING: [i32; 16] = [
     12, 23, 24, 105, 4, 1, 64, 71, 92, 95, 100, 101, 103, 110, 112, 113,
 ];
 
-// A connection's socket, whether the system may have something for it, and since when no octet has
-// passed.
-#[derive(Drop)]
-struct Line {
-    stream: TcpStream,
-    is_readable: bool,
-    is_writable: bool,
-    silence: Duration,
-}
-
-impl Line {
-    fn new(stream: TcpStream) -> Self {
-        Line {
-            stream,
-            is_readable: true,
-            is_writable: true,
-            silence: Duration::ZERO,
-        }
-    }
-
-    // Whatever the system tells, both are tried.
-    fn wake(&mut self) {
-        self.is_readable = true;
-        self.is_writable = true;
-    }
-
-    fn grow_silent(&mut self, time: Duration) {
-        self.silence = self.silence.saturating_add(time);
-    }
-
-    fn is_silent(&self, quiet: Option<Duration>) -> bool {
-        match quiet {
-            Some(quiet) => self.silence >= quiet,
-            None => false,
-        }
-    }
-
-    fn read(&mut self, buffer: &mut [u8]) -> Result<ReadTurn, WireFault>
-        ensures { IfGot result (λ count. count ≤ length buffer.old) }
-    {
-        if !self.is_readable {
-            return Ok(ReadTurn::Nothing);
-        }
-        match self.stream.read(buffer) {
-            Ok(0) => Ok(ReadTurn::Ended),
-            Ok(count) => {
-                self.silence = Duration::ZERO;
-                Ok(ReadTurn::Got(count))
-            }
-            Err(error) => match error.kind() {
-                ErrorKind::Interrupted => Ok(ReadTurn::Nothing),
-                ErrorKind::WouldBlock => {
-                    self.is_readable = false;
-                    Ok(ReadTurn::Nothing)
-                }
-                _ => Err(WireFault),
-            },
-        }
-    }
-
-    fn write(&mut self, octets: &[u8]) -> Result<usize, WireFault>
-        ensures { IfOk result (λ count. count ≤ length octets.now) }
-    {
-        if !self.is_writable {
-            return Ok(0);
-        }
-        match self.stream.write(octets) {
-            Ok(count) => {
-                self.silence = Duration::ZERO;
-                Ok(count)
-            }
-            Err(error) => match error.kind() {
-                ErrorKind::Interrupted => Ok(0),
-                ErrorKind::WouldBlock => {
-                    self.is_writable = false;
-                    Ok(0)
-                }
-                _ => Err(WireFault),
-            },
-        }
-    }
-}
-
 /// Wires over the sockets of connections that come to a listening one. They ask the system only for
-/// what it has told to be ready, and tell no calls to contracts.
+/// what it has told to be ready, and tell no calls to contracts. A connection that they give up is
+/// one that ended.
 #[derive(Drop)]
 pub struct SocketWires {
     poll: Poll,
     events: Events,
-    listener: TcpListener,
+    door: Door,
     is_called: bool,
     lines: Vec<Option<Line>>,
     is_busy: bool,
-    quiet: Option<Duration>,
+    limits: Limits,
+    turned_away: Option<GivenUp>,
     rested: Option<Instant>,
 }
 
 impl SocketWires {
     /// Listens at an address, on a port that the system chooses where it is 0.
     pub fn listen(alloc: Global, net: &impl Net, address: SocketAddr) -> io::Result<Self> {
+        Self::behind(alloc, net, Door::at_address(net, address)?)
+    }
+
+    /// Listens at a path, for connections of the machine itself. The file is its owner's alone. Where
+    /// the file of a socket is there on which nobody listens, it is made anew.
+    pub fn listen_at<R: Files + Net>(alloc: Global, rt: &R, path: &str) -> io::Result<Self> {
+        Self::behind(alloc, rt, Door::at_path(rt, path)?)
+    }
+
+    // Over the connections that come to a listening socket.
+    fn behind(alloc: Global, net: &impl Net, mut door: Door) -> io::Result<Self> {
         let poll = Poll::new(net)?;
-        let mut listener = TcpListener::bind(net, address)?;
-        poll.registry()
-            .register(&mut listener, LISTENER, Interest::READABLE)?;
+        door.register(poll.registry(), LISTENER)?;
         let events = Events::with_capacity(alloc, MOST_EVENTS)?;
         let mut lines = Vec::new(alloc);
         for _ in 0..MOST_WIRES {
@@ -141,25 +69,25 @@ impl SocketWires {
         Ok(SocketWires {
             poll,
             events,
-            listener,
+            door,
             is_called: true,
             lines,
             is_busy: false,
-            quiet: None,
+            limits: Limits::default(),
+            turned_away: None,
             rested: None,
         })
     }
 
     /// The address at which it listens.
     pub fn address(&self) -> io::Result<SocketAddr> {
-        self.listener.local_addr()
+        self.door.address()
     }
 
-    /// From now on a connection on which no octet passes for so long counts as ended. Of `None` no
-    /// connection does, as at first. The time that a connection is silent is counted from rest to
-    /// rest.
-    pub fn set_quiet(&mut self, quiet: Option<Duration>) {
-        self.quiet = quiet;
+    /// Gives up connections from now on as these limits say, and at first none. Time is counted from
+    /// rest to rest.
+    pub fn set_limits(&mut self, limits: Limits) {
+        self.limits = limits;
     }
 
     /// Waits until something may be done, so long at most. After calls that did something it only
@@ -176,19 +104,17 @@ impl SocketWires {
                 line.wake();
             }
         }
-        if self.quiet.is_some() {
-            self.grow_silent(Instant::now(clock)?);
-        }
+        self.grow_old(Instant::now(clock)?);
         Ok(())
     }
 
-    // The lines were silent since the last rest, for all that is known.
-    fn grow_silent(&mut self, now: Instant) {
+    // The time since the last rest has passed on each line.
+    fn grow_old(&mut self, now: Instant) {
         if let Some(before) = self.rested {
             let time = now.duration_since(before);
             for slot in self.lines.iter_mut() {
                 if let Some(line) = slot {
-                    line.grow_silent(time);
+                    line.grow_old(time);
                 }
             }
         }
@@ -204,7 +130,7 @@ impl SocketWires {
     }
 
     /// Rests together with other wires, which it watches: until something may be done on one of the
-    /// two.
+    /// two. That the others fail is no failure of its own.
     pub fn rest_with(
         &mut self,
         others: &mut Self,
@@ -213,20 +139,43 @@ impl SocketWires {
     ) -> io::Result<()> {
         let most = if others.is_busy { Duration::ZERO } else { most };
         self.rest(clock, most)?;
-        others.rest(clock, Duration::ZERO)
+        let _ = others.rest(clock, Duration::ZERO);
+        Ok(())
+    }
+
+    // The end of a connection of whose address there are as many as may be.
+    fn one_too_many(&self, peer: Option<SocketAddr>) -> Option<GivenUp> {
+        let most = self.limits.peer_connections?;
+        let address = peer?;
+        let held = self.lines.iter().filter(|slot| is_of(slot, address));
+        if held.count() < most {
+            return None;
+        }
+        Some(GivenUp {
+            peer,
+            reason: Reason::PeerConnections,
+        })
     }
 
     // Holds a connection at a place, unless its peer is gone.
-    fn hold(&mut self, place: usize, mut stream: TcpStream) -> Option<usize> {
-        let both = Interest::READABLE | Interest::WRITABLE;
-        stream.set_nodelay(true).ok()?;
-        self.poll
-            .registry()
-            .register(&mut stream, Token(place), both)
-            .ok()?;
+    fn hold(
+        &mut self,
+        place: usize,
+        mut socket: Socket,
+        peer: Option<SocketAddr>,
+    ) -> Option<usize> {
+        socket.register(self.poll.registry(), Token(place)).ok()?;
         let slot = self.lines.get_mut(place)?;
-        *slot = Some(Line::new(stream));
+        *slot = Some(Line::new(socket, peer));
         Some(place)
+    }
+}
+
+// Whether a slot has a connection of an address.
+fn is_of(slot: &Option<Line>, peer: SocketAddr) -> bool {
+    match slot {
+        Some(line) => line.is_of(peer),
+        None => false,
     }
 }
 
@@ -244,16 +193,21 @@ impl Wires for SocketWires {
     ghost log = { λ _. None };
 
     fn accept(&mut self) -> Result<Option<usize>, WireFault> {
+        self.turned_away = None;
         if !self.is_called {
             return Ok(None);
         }
         let Some(place) = self.lines.iter().position(|line| line.is_none()) else {
             return Ok(None);
         };
-        match self.listener.accept() {
-            Ok((stream, _)) => {
+        match self.door.accept() {
+            Ok((socket, peer)) => {
                 self.is_busy = true;
-                Ok(self.hold(place, stream))
+                self.turned_away = self.one_too_many(peer);
+                if self.turned_away.is_some() {
+                    return Ok(None);
+                }
+                Ok(self.hold(place, socket, peer))
             }
             Err(error) => {
                 if error.kind() == ErrorKind::WouldBlock {
@@ -270,13 +224,8 @@ impl Wires for SocketWires {
         let Some(Some(line)) = self.lines.get_mut(place) else {
             return Err(WireFault);
         };
-        match line.read(buffer)? {
-            ReadTurn::Nothing => {
-                if line.is_silent(self.quiet) {
-                    return Ok(ReadTurn::Ended);
-                }
-                Ok(ReadTurn::Nothing)
-            }
+        match line.read(buffer, &self.limits)? {
+            ReadTurn::Nothing => Ok(ReadTurn::Nothing),
             turn => {
                 self.is_busy = true;
                 Ok(turn)
@@ -288,13 +237,8 @@ impl Wires for SocketWires {
         let Some(Some(line)) = self.lines.get_mut(place) else {
             return Err(WireFault);
         };
-        match line.write(octets)? {
-            0 => {
-                if line.is_silent(self.quiet) {
-                    return Err(WireFault);
-                }
-                Ok(0)
-            }
+        match line.write(octets, &self.limits)? {
+            0 => Ok(0),
             count => {
                 self.is_busy = true;
                 Ok(count)
@@ -309,10 +253,20 @@ impl Wires for SocketWires {
         self.is_busy = true;
         match slot.take() {
             None => Err(WireFault),
-            Some(line) => match line.stream.shutdown(Shutdown::Write) {
-                Ok(()) => Ok(()),
-                Err(_) => Err(WireFault),
-            },
+            Some(line) => line.end(),
         }
+    }
+}
+
+impl GivesUp for SocketWires {
+    fn given_up(&self, place: usize) -> Option<GivenUp> {
+        match self.lines.get(place)? {
+            Some(line) => line.given_up(),
+            None => None,
+        }
+    }
+
+    fn turned_away(&self) -> Option<GivenUp> {
+        self.turned_away
     }
 }

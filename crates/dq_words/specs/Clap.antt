@@ -25,16 +25,22 @@ task_app name = with_rule
     (with_rule (with_rule (new_app name) (value_rule (codes "config"))) (value_rule (codes "new")))
     (value_rule (codes "store"))
 
--- the one that serves, without and with what is beyond its connections
+-- the one that serves: with the options of its port, with those that give connections up, and whole
 abbrev pub listening_app : App
 listening_app = with_rule
     (with_rule (with_rule (task_app (codes "serve")) (required_rule (codes "port")))
     (value_rule (codes "turns")))
     (value_rule (codes "listen"))
 
+abbrev pub limiting_app : App
+limiting_app = with_rule
+    (with_rule (with_rule listening_app (value_rule (codes "artim"))) (value_rule (codes "quiet")))
+    (value_rule (codes "peer-connections"))
+
 abbrev pub serve_app : App
 serve_app = with_rule
-    (with_rule (with_rule listening_app (value_rule (codes "console"))) (value_rule (codes "quiet")))
+    (with_rule (with_rule limiting_app (value_rule (codes "console")))
+    (value_rule (codes "log-file")))
     (flag_rule (codes "log"))
 
 -- the one that plays a capture over sockets

@@ -35,15 +35,20 @@ pub record Request : Type 0 where
   pub config : Option (List ℕ)
   pub place : Place
 
--- The port and the address where connections come in, after how many seconds of silence one counts
--- as ended, if it does, and whether what becomes of them is logged; the port of the console, if
--- there is one; after how many turns the service ends, if it ends; and what it goes by.
+-- The port and the address where connections come in; for how many seconds ARTIM runs (PS3.8 section
+-- 9.1.5), 0 for ever; after how many seconds of silence a connection counts as ended, if it does; how
+-- many may come of one address, 0 any number; whether what becomes of them is logged, and the file of
+-- the log if one is named; the path of the console, if there is one; after how many turns the service
+-- ends, if it ends; and what it goes by.
 pub record Serving : Type 0 where
   pub port : ℕ
   pub address : List ℕ
+  pub artim : ℕ
   pub quiet : Option ℕ
+  pub peer_connections : ℕ
   pub is_logged : Bool
-  pub console : Option ℕ
+  pub log_file : Option (List ℕ)
+  pub console : Option (List ℕ)
   pub turns : Option ℕ
   pub config : Option (List ℕ)
   pub place : Place
@@ -93,9 +98,9 @@ port_told text = positive_below (2 ^ 16) text
 abbrev pub seconds_told : List ℕ → Option ℕ
 seconds_told text = positive_below (2 ^ 32) text
 
--- a number of turns, up to 4,294,967,295
-abbrev pub turns_told : List ℕ → Option ℕ
-turns_told text = number_below (2 ^ 32) text
+-- a number of turns, of seconds or of connections, up to 4,294,967,295
+abbrev pub number_told : List ℕ → Option ℕ
+number_told text = number_below (2 ^ 32) text
 
 -- What an option tells, if it is there. None where it is there and tells nothing.
 abbrev pub told_if_given : (List ℕ → Option ℕ) → Option (List ℕ) → Option (Option ℕ)
@@ -105,6 +110,14 @@ told_if_given told (Some text) = option_map Some (told text)
 -- the address where none is named: the machine's own
 abbrev pub loopback_address : List ℕ
 loopback_address = codes "127.0.0.1"
+
+-- for how many seconds ARTIM runs where none are named (PS3.8 section 9.1.5)
+abbrev pub artim_seconds : ℕ
+artim_seconds = 30
+
+-- that as many connections of one address may come as there is room for
+abbrev pub no_peer_limit : ℕ
+no_peer_limit = 0
 
 -- what a subcommand asks for with its options
 abbrev pub request_of : Option (Text × List Row) → Option Request
@@ -116,20 +129,24 @@ request_of subcommand = option_map (λ place. record {
 
 abbrev pub serving_of : Option (Text × List Row) → Option Serving
 serving_of subcommand =
-    option_and_then (λ port. option_and_then (λ turns. option_and_then (λ console.
-    option_and_then (λ quiet. option_map (λ place. record {
+    option_and_then (λ port. option_and_then (λ turns. option_and_then (λ quiet.
+    option_and_then (λ artim. option_and_then (λ peers. option_map (λ place. record {
       port = port;
       address = unwrap_or (value_in (codes "listen") subcommand) loopback_address;
+      artim = unwrap_or artim artim_seconds;
       quiet = quiet;
+      peer_connections = unwrap_or peers no_peer_limit;
       is_logged = is_given (codes "log") subcommand;
-      console = console;
+      log_file = value_in (codes "log-file") subcommand;
+      console = value_in (codes "console") subcommand;
       turns = turns;
       config = value_in (codes "config") subcommand;
       place = place;
     }) (place_named subcommand))
+    (told_if_given number_told (value_in (codes "peer-connections") subcommand)))
+    (told_if_given number_told (value_in (codes "artim") subcommand)))
     (told_if_given seconds_told (value_in (codes "quiet") subcommand)))
-    (told_if_given port_told (value_in (codes "console") subcommand)))
-    (told_if_given turns_told (value_in (codes "turns") subcommand)))
+    (told_if_given number_told (value_in (codes "turns") subcommand)))
     (option_and_then port_told (value_in (codes "port") subcommand))
 
 -- both files have to be named
@@ -175,9 +192,12 @@ abbrev pub serving_in : Service → Serving
 serving_in service = record {
   port = service.port;
   address = service.address.now;
+  artim = service.artim;
   quiet = service.quiet;
+  peer_connections = service.peer_connections;
   is_logged = service.is_logged;
-  console = service.console;
+  log_file = option_copied service.log_file;
+  console = option_copied service.console;
   turns = service.turns;
   config = option_copied service.config;
   place = place_in service.keeper;

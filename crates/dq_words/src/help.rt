@@ -30,4 +30,4 @@ migrate neither a capture nor a configuration):
   4  store 4          a row of it is not that of its record, or the row above it is missing
   4  fault 1, 2       memory ran out, the store failed
   4                   the output cannot be written
-  5  network          no connections can come in";
+  5  network          no connections can come in, or the console or the log file cannot be had";

@@ -4,8 +4,8 @@ ghost use Rattle.std.specs.Option.{option_copied};
 ghost use Rattle.std.specs.Result.{result_ok};
 ghost use Rattle.clap.specs.declared.builder.command.Command.TheViews.{out-Command as fields_of};
 ghost use Rattle.clap.specs.Words.{app_of, rule_of, kind_of, subcommand_rows_of};
-ghost use Rattle.dq_words.specs.Words.{line_of, place_named, place_in, port_told, turns_told, seconds_told, told_if_given, request_in, request_of, serving_in, serving_of, migration_in, migration_of, errand_in, errand_of, asked};
-ghost use Rattle.dq_words.specs.Clap.{value_rule, task_app, listening_app, serve_app, loopback_app, migrate_app, tasks_app, command, value_in, is_given, is_named};
+ghost use Rattle.dq_words.specs.Words.{line_of, place_named, place_in, port_told, number_told, seconds_told, told_if_given, artim_seconds, no_peer_limit, request_in, request_of, serving_in, serving_of, migration_in, migration_of, errand_in, errand_of, asked};
+ghost use Rattle.dq_words.specs.Clap.{value_rule, task_app, listening_app, limiting_app, serve_app, loopback_app, migrate_app, tasks_app, command, value_in, is_given, is_named};
 
 use crate::help::{CAPTURES, STATUSES};
 use clap::error::ErrorKind;
@@ -19,6 +19,12 @@ const PROGRAM_NAME: &str = "dq_server";
 const CONFIGURATION: &str = "The configuration [default: the one that is built in]";
 
 const LOOPBACK_ADDRESS: &str = "127.0.0.1";
+
+/// For how many seconds the ARTIM timer of PS3.8 section 9.1.5 runs where none are named.
+const ARTIM_SECONDS: u32 = 30;
+
+/// The number that stands for any number of connections of one address.
+const NO_PEER_LIMIT: u32 = 0;
 
 /// What is done with a capture.
 #[derive(Clone, Copy, Debug, PartialEq, Eq)]
@@ -49,17 +55,22 @@ pub struct Asked<'a> {
     pub keeper: Keeper<'a>,
 }
 
-/// How is served: the port and the address where connections come in, after how many seconds of
-/// silence one counts as ended, if it does, and whether what becomes of them is logged; the port of
-/// the console, if there is one; after how many turns the service ends, if it ends; the
-/// configuration's file if one is named, and where the rows are kept.
+/// How is served: the port and the address where connections come in; for how many seconds ARTIM
+/// runs (PS3.8 section 9.1.5), 0 for ever; after how many seconds of silence a connection counts as
+/// ended, if it does; how many may come of one address, 0 any number; whether what becomes of them is
+/// logged, and the file of the log if one is named; the path of the console, if there is one; after
+/// how many turns the service ends, if it ends; the configuration's file if one is named, and where
+/// the rows are kept.
 #[derive(Clone, Copy)]
 pub struct Service<'a> {
     pub port: u16,
     pub address: &'a str,
+    pub artim: u32,
     pub quiet: Option<u32>,
+    pub peer_connections: u32,
     pub is_logged: bool,
-    pub console: Option<u16>,
+    pub log_file: Option<&'a str>,
+    pub console: Option<&'a str>,
     pub turns: Option<u32>,
     pub config: Option<&'a str>,
     pub keeper: Keeper<'a>,
@@ -94,10 +105,12 @@ enum Misuse {
     NoPort,
     /// The number of turns is none.
     NoTurns,
-    /// The port of the console is none.
-    NoConsole,
-    /// The number of seconds is none.
+    /// The number of seconds of silence is none.
     NoSeconds,
+    /// The number of seconds of ARTIM is none.
+    NoArtim,
+    /// The number of connections of one address is none.
+    NoPeers,
     /// One of the files of a migration is not named.
     NoFile,
 }
@@ -167,8 +180,8 @@ fn port_told(text: &str) -> Option<u16>
     if port > 0 { Some(port) } else { None }
 }
 
-fn turns_told(text: &str) -> Option<u32>
-    ensures { result ≡ turns_told text.now }
+fn number_told(text: &str) -> Option<u32>
+    ensures { result ≡ number_told text.now }
 {
     if text.starts_with('+') {
         return None;
@@ -197,30 +210,16 @@ fn port_in(matches: &ArgMatches) -> Result<u16, Misuse>
     }
 }
 
-/// The number of turns that an option names, if it is there.
-fn turns_in(matches: &ArgMatches) -> Result<Option<u32>, Misuse>
+/// The number that an option names, if it is there.
+fn number_in(matches: &ArgMatches, name: &str, misuse: Misuse) -> Result<Option<u32>, Misuse>
     ensures { result_ok result
-        ≡ told_if_given turns_told (value_in (codes "turns") (subcommand_rows_of matches.now)) }
+        ≡ told_if_given number_told (value_in name.now (subcommand_rows_of matches.now)) }
 {
-    match value_in(matches, "turns") {
+    match value_in(matches, name) {
         None => Ok(None),
-        Some(text) => match turns_told(text) {
-            Some(turns) => Ok(Some(turns)),
-            None => Err(Misuse::NoTurns),
-        },
-    }
-}
-
-/// The port of the console, if one is named.
-fn console_in(matches: &ArgMatches) -> Result<Option<u16>, Misuse>
-    ensures { result_ok result
-        ≡ told_if_given port_told (value_in (codes "console") (subcommand_rows_of matches.now)) }
-{
-    match value_in(matches, "console") {
-        None => Ok(None),
-        Some(text) => match port_told(text) {
-            Some(port) => Ok(Some(port)),
-            None => Err(Misuse::NoConsole),
+        Some(text) => match number_told(text) {
+            Some(number) => Ok(Some(number)),
+            None => Err(misuse),
         },
     }
 }
@@ -263,16 +262,20 @@ fn service_in<'a>(matches: &ArgMatches<'a>) -> Result<Service<'a>, Misuse>
         ≡ serving_of (subcommand_rows_of matches.now) }
 {
     let port = port_in(matches)?;
-    let turns = turns_in(matches)?;
-    let console = console_in(matches)?;
+    let turns = number_in(matches, "turns", Misuse::NoTurns)?;
     let quiet = quiet_in(matches)?;
+    let artim = number_in(matches, "artim", Misuse::NoArtim)?;
+    let peers = number_in(matches, "peer-connections", Misuse::NoPeers)?;
     let keeper = keeper_in(matches)?;
     Ok(Service {
         port,
         address: value_in(matches, "listen").unwrap_or(LOOPBACK_ADDRESS),
+        artim: artim.unwrap_or(ARTIM_SECONDS),
         quiet,
+        peer_connections: peers.unwrap_or(NO_PEER_LIMIT),
         is_logged: is_given(matches, "log"),
-        console,
+        log_file: value_in(matches, "log-file"),
+        console: value_in(matches, "console"),
         turns,
         config: value_in(matches, "config"),
         keeper,
@@ -349,6 +352,7 @@ fn listening_command<'a>(alloc: Global) -> Result<Command<'a>, AllocError>
     ensures app { IfOk result (λ built. app_of built ≡ listening_app) }
     ensures local { IfOk result (λ built. (fields_of built).has_globals ≡ false) }
 {
+    let command = task_command(alloc, "serve", "Serves connections over TCP")?;
     let port = value_option(
         alloc,
         "port",
@@ -356,23 +360,52 @@ fn listening_command<'a>(alloc: Global) -> Result<Command<'a>, AllocError>
         "The port at which connections come in, 1 to 65535",
     )
     .required(true);
+    let ported = command.arg(port)?;
     let turns = value_option(
         alloc,
         "turns",
         "N",
         "Ends after N turns, 0 to 4294967295 [default: never]",
     );
+    let ended = ported.arg(turns)?;
     let listen = value_option(
         alloc,
         "listen",
         "ADDRESS",
         "The address at which they come in [default: 127.0.0.1]",
     );
-    let command = task_command(alloc, "serve", "Serves connections over TCP")?
-        .arg(port)?
-        .arg(turns)?
-        .arg(listen)?;
-    Ok(command)
+    let listening = ended.arg(listen)?;
+    Ok(listening)
+}
+
+/// The subcommand that serves, with the options that give connections up.
+fn limiting_command<'a>(alloc: Global) -> Result<Command<'a>, AllocError>
+    ensures app { IfOk result (λ built. app_of built ≡ limiting_app) }
+    ensures local { IfOk result (λ built. (fields_of built).has_globals ≡ false) }
+{
+    let listening = listening_command(alloc)?;
+    let artim = value_option(
+        alloc,
+        "artim",
+        "SECONDS",
+        "The time to ask for an association, and to take the last PDU; 0 is no limit [default: 30]",
+    );
+    let limited = listening.arg(artim)?;
+    let quiet = value_option(
+        alloc,
+        "quiet",
+        "SECONDS",
+        "Ends a connection when no octet passes in either direction for so long [default: never]",
+    );
+    let quieted = limited.arg(quiet)?;
+    let peers = value_option(
+        alloc,
+        "peer-connections",
+        "N",
+        "Closes a connection at once when N of its address are there; 0 is no limit [default: 0]",
+    );
+    let limiting = quieted.arg(peers)?;
+    Ok(limiting)
 }
 
 /// The subcommand that serves.
@@ -380,27 +413,27 @@ fn serve_command<'a>(alloc: Global) -> Result<Command<'a>, AllocError>
     ensures app { IfOk result (λ built. app_of built ≡ serve_app) }
     ensures local { IfOk result (λ built. (fields_of built).has_globals ≡ false) }
 {
+    let command = limiting_command(alloc)?;
     let console = value_option(
         alloc,
         "console",
-        "PORT",
-        "The port of 127.0.0.1 that takes orders, 1 to 65535 [default: none is taken]",
+        "PATH",
+        "The Unix socket that takes orders, made for its owner alone [default: none is taken]",
     );
-    let quiet = value_option(
+    let ordered = command.arg(console)?;
+    let log_file = value_option(
         alloc,
-        "quiet",
-        "SECONDS",
-        "Ends a connection on which nothing comes for so long, 1 to 4294967295 [default: never]",
+        "log-file",
+        "FILE",
+        "Tells it at the end of a file, in place of standard error",
     );
+    let filed = ordered.arg(log_file)?;
     let log = Arg::new(alloc, "log")
         .long("log")
         .action(ArgAction::SetTrue)
-        .help("Tells on standard error what becomes of each association");
-    let command = listening_command(alloc)?
-        .arg(console)?
-        .arg(quiet)?
-        .arg(log)?;
-    Ok(command)
+        .help("Tells on standard error what becomes of each connection");
+    let logged = filed.arg(log)?;
+    Ok(logged)
 }
 
 /// The subcommand that plays a capture over sockets.
@@ -453,30 +486,27 @@ fn tasks_command<'a>(alloc: Global) -> Result<Command<'a>, AllocError>
         "replay",
         "Replays a capture from standard input (the default)",
     )?;
+    let replaying = Command::new(alloc, PROGRAM_NAME)
+        .about("A DICOM server")
+        .after_help(CAPTURES)
+        .subcommand(replay)?;
     let report = task_command(
         alloc,
         "report",
         "Counts what is kept after a capture from standard input",
     )?;
-    let command = Command::new(alloc, PROGRAM_NAME)
-        .about("A DICOM server")
-        .after_help(CAPTURES)
-        .subcommand(replay)?
-        .subcommand(report)?;
-    Ok(command)
+    let reporting = replaying.subcommand(report)?;
+    Ok(reporting)
 }
 
 /// The command line of the program.
 fn command<'a>(alloc: Global) -> Result<Command<'a>, AllocError>
     ensures { IfOk result (λ built. app_of built ≡ command) }
 {
-    let serve = serve_command(alloc)?;
-    let loopback = loopback_command(alloc)?;
-    let migrate = migrate_command(alloc)?;
-    let command = tasks_command(alloc)?
-        .subcommand(serve)?
-        .subcommand(loopback)?
-        .subcommand(migrate)?;
+    let tasks = tasks_command(alloc)?;
+    let served = tasks.subcommand(serve_command(alloc)?)?;
+    let looped = served.subcommand(loopback_command(alloc)?)?;
+    let command = looped.subcommand(migrate_command(alloc)?)?;
     Ok(command)
 }
 
@@ -495,13 +525,17 @@ fn misused(alloc: Global, misuse: Misuse) -> Result<clap::Error, AllocError> {
             ErrorKind::ValueValidation,
             "the argument '--turns <N>' takes a number from 0 to 4294967295",
         ),
-        Misuse::NoConsole => (
-            ErrorKind::ValueValidation,
-            "the argument '--console <PORT>' takes a number from 1 to 65535",
-        ),
         Misuse::NoSeconds => (
             ErrorKind::ValueValidation,
             "the argument '--quiet <SECONDS>' takes a number from 1 to 4294967295",
+        ),
+        Misuse::NoArtim => (
+            ErrorKind::ValueValidation,
+            "the argument '--artim <SECONDS>' takes a number from 0 to 4294967295",
+        ),
+        Misuse::NoPeers => (
+            ErrorKind::ValueValidation,
+            "the argument '--peer-connections <N>' takes a number from 0 to 4294967295",
         ),
         Misuse::NoFile => (
             ErrorKind::MissingRequiredArgument,

@@ -1,5 +1,4 @@
 mod Afterwards
-mod Chosen
 mod LookedUp
 mod Matching
 mod MetFirst

@@ -1,5 +1,5 @@
 -- Where a query asks for one step's id, no entry with another id matches, and the entry that is
--- looked up gives the answers of all. Else those give them that wait and are chosen.
+-- looked up gives the answers of all. Else those give them that wait.
 use Rattle.std.proofs.Common.{◌≡◌, ◌≢◌, ℕ, Bool, true, false, not, ◌&&◌, List, [], ◌∷◌, map, find, filter, Option, Some, None, option_map, Result, Ok, Err, inl, inr, refl, sym, ap, subst, ◌∙◌, cond, if◌then◌else◌}
 use Rattle.std.specs.List.{AllByRecursion, filter_map, cons_option}
 use Rattle.std.specs.Option.{option_to_list}
@@ -17,32 +17,27 @@ use Rattle.dq_dataset.specs.Facts.{IsDataSet}
 use Rattle.dq_dataset.specs.Reading.{reading}
 use Rattle.dq_dataset.specs.Canonical.{canonical}
 use Rattle.dq_dataset.specs.Values.{sole_at}
-use Rattle.dq_dataset.proofs.KnownVrs.{read_has_known_vrs, facts_give_known_vrs, read_has_known_inside, facts_give_known_inside}
+use Rattle.dq_dataset.proofs.KnownVrs.{read_has_known_inside, facts_give_known_inside}
 use Rattle.dq_match.specs.Matching.{fits}
 use Rattle.dq_match.specs.Responses.{shown}
 use Rattle.dq_match.specs.Answers.{answer}
 use Rattle.dq_match.specs.Several.{is_plain}
 use Rattle.dq_match.proofs.Answering.{given_of_each, given_skipped}
-use Rattle.dq_tables.specs.declared.choice.Choice.{Choice}
 use Rattle.dq_tables.specs.declared.row.Kind.{Kind}
 use Rattle.dq_tables.specs.declared.row.Kind.TheVariants.{Entry}
 use Rattle.dq_tables.specs.declared.row.Row.{Row}
 use Rattle.dq_tables.specs.Rows.{Record, octet_order, record_of, row_of, of}
-use Rattle.dq_tables.specs.Finding.{same_kind, record_at, row_at, records_of}
+use Rattle.dq_tables.specs.Finding.{same_kind, record_at, row_at, records_of, waiting, waiting_among}
 use Rattle.dq_tables.specs.Records.{AreInOrder, data_set_of}
 use Rattle.dq_tables.specs.Keys.{passing, is_id, sole_item_at, id_of, id_in, entry_id}
 use Rattle.dq_tables.specs.Sound.{IsSound, is_own, is_record_of, may_be_started, is_value, has_key, has_above, is_within}
 use Rattle.dq_tables.proofs.Listing.{of_kind_from, listed_in_order}
 use Rattle.dq_tables.proofs.Rising.{each_among}
-use Rattle.dq_tables.specs.Choosing.{is_chosen, is_waiting, waiting_in, waiting_among}
-use Rattle.dq_tables.proofs.Taken.{DaysAreInOrder}
 use Rattle.dq_tables.proofs.Seen.{found_own, waiting_own}
-use Rattle.dq_worklist.specs.Choosing.{choice_in}
 use Rattle.dq_worklist.specs.Candidates.{id_asked_in, id_asked, entries_with, candidates, answer_of}
 use Rattle.dq_worklist.specs.Queries.{answers}
-use Rattle.dq_worklist.proofs.Chosen.{fit_is_chosen}
 use Rattle.dq_worklist.proofs.Queries.{row_answers}
-use Rattle.dq_worklist.proofs.Steps.{EachAlone, ItemsMet, HasStep, IsKnown, fits_alone}
+use Rattle.dq_worklist.proofs.Steps.{AllKnownInside, EachAlone, ItemsMet, HasStep, fits_alone}
 
 -- ---- what an entry's own key is
 
@@ -80,7 +75,7 @@ value_from None key h = absurd cc
 value_from (Some v) key h = ap (λ (o : List ℕ). Some o) ((bytes_eq-Decides v key).0 h)
 
 abbrev HasOwnId : Record → Type 0
-HasOwnId r = IsKnown (data_set_of r.octets) × (has_key r.kind r.key (data_set_of r.octets) ≡ true)
+HasOwnId r = AllKnownInside (data_set_of r.octets) × (has_key r.kind r.key (data_set_of r.octets) ≡ true)
 
 own_by : (read : Result ElementList ReadFault) (row : Row) → reading Explicit row.octets ≡ read → is_record_of read row ≡ true
     → HasOwnId (record_of row)
@@ -90,7 +85,7 @@ own_by (Ok d) row is own =
     let keys = (and_parts (bytes_eq (canonical Explicit d) row.octets)
     (has_key row.kind row.key d && (has_above row.kind row.above d && is_within row.kind row.octets)) own).1 in
     let key = (and_parts (has_key row.kind row.key d) (has_above row.kind row.above d && is_within row.kind row.octets) keys).0 in
-    rw is (record { outer = read_has_known_vrs Explicit row.octets d is; inner = read_has_known_inside Explicit row.octets d is }, key)
+    rw is (read_has_known_inside Explicit row.octets d is, key)
 
 row_own : (row : Row) → is_own row ≡ true → HasOwnId (record_of row)
 unfolding is_own
@@ -166,11 +161,10 @@ module _ (Given : Type 0) (f : Record → Option Given) (id : List ℕ) where
 
 -- ---- the rows of those that are looked at
 
-pub all_candidates : (institution : List ℕ) (rows : List Row) (keys : ElementList) (choice : Choice) → None ≡ id_asked keys → choice ≡ choice_in keys
-    → waiting_in choice institution rows ≡ map (row_of institution) (candidates (of institution rows) keys)
-all_candidates institution rows keys choice none is =
-    ap (λ (c : Choice). waiting_in c institution rows) is ∙ waiting_own (choice_in keys) institution rows
-    ∙ ap (λ (o : Option (List ℕ)). map (row_of institution) (entries_with (of institution rows) keys o)) none
+pub all_candidates : (institution : List ℕ) (rows : List Row) (keys : ElementList) → None ≡ id_asked keys
+    → waiting institution rows ≡ map (row_of institution) (candidates (of institution rows) keys)
+all_candidates institution rows keys none =
+    waiting_own institution rows ∙ ap (λ (o : Option (List ℕ)). map (row_of institution) (entries_with (of institution rows) o)) none
 
 mapped : (institution : List ℕ) (o : Option Record) → option_to_list (option_map (row_of institution) o) ≡ map (row_of institution) (option_to_list o)
 mapped institution None = refl
@@ -181,7 +175,7 @@ pub one_candidate : (institution : List ℕ) (rows : List Row) (keys : ElementLi
     → listed ≡ map (row_of institution) (candidates (of institution rows) keys)
 one_candidate institution rows keys id row listed asked found is =
     is ∙ ap option_to_list (found ∙ found_own Entry institution id rows) ∙ mapped institution (record_at Entry id (of institution rows))
-    ∙ ap (λ (o : Option (List ℕ)). map (row_of institution) (entries_with (of institution rows) keys o)) asked
+    ∙ ap (λ (o : Option (List ℕ)). map (row_of institution) (entries_with (of institution rows) o)) asked
 
 -- what those give that wait
 waiting_step : (keys : ElementList) (r : Record) (left entries : List Record) (b : Bool) → r.started ≡ b
@@ -203,16 +197,14 @@ none_of : (keys : ElementList) (r : Record) (b : Bool) → answer keys (data_set
 none_of keys r true none = refl
 none_of keys r false none = none
 
-unchosen_by : (keys : ElementList) (r : Record) (b : Bool) → (not b && is_chosen (choice_in keys) r) ≡ false
-    → (is_chosen (choice_in keys) r ≡ false → answer keys (data_set_of r.octets) ≡ None)
-    → (if b then None else answer keys (data_set_of r.octets)) ≡ None
-unchosen_by keys r true passed none = refl
-unchosen_by keys r false passed none = none passed
+started_gives : (keys : ElementList) (r : Record) (b : Bool) → not b ≡ false → (if b then None else answer keys (data_set_of r.octets)) ≡ None
+started_gives keys r true is = refl
+started_gives keys r false is = absurd cc
 
-module _ (each_alone : EachAlone) (items_met : ItemsMet) (days : DaysAreInOrder) (institution : List ℕ) (rows : List Row) (keys : ElementList)
+module _ (each_alone : EachAlone) (items_met : ItemsMet) (institution : List ℕ) (rows : List Row) (keys : ElementList)
     (sound : IsSound rows) (facts : IsDataSet keys) where
-  known_keys : IsKnown keys
-  known_keys = record { outer = facts_give_known_vrs 16 None keys facts; inner = facts_give_known_inside 16 None keys facts }
+  known_keys : AllKnownInside keys
+  known_keys = facts_give_known_inside 16 None keys facts
 
   other_gives_none : (id : List ℕ) → id_asked keys ≡ Some id → (r : Record) → IsAmong r (records_of Entry (of institution rows)) → r.key ≢ id
       → answer keys (data_set_of r.octets) ≡ None
@@ -222,26 +214,17 @@ module _ (each_alone : EachAlone) (items_met : ItemsMet) (days : DaysAreInOrder)
       let held = entry_step r entry.1 own.1 in
       let key = step_asked keys id asked in
       none_by keys (data_set_of r.octets) (fits keys (data_set_of r.octets)) refl (λ fit.
-      other (sym (fits_alone each_alone items_met keys (data_set_of r.octets) key.0.step held.step id r.key known_keys.inner own.0.inner
+      other (sym (fits_alone each_alone items_met keys (data_set_of r.octets) key.0.step held.step id r.key known_keys own.0
       key.0.there held.there key.0.has held.has key.1 fit)))
 
-  unchosen_gives_none : (r : Record) → IsAmong r (records_of Entry (of institution rows)) → is_waiting (choice_in keys) r ≡ false → answer_of keys r ≡ None
-  unchosen_gives_none r h passed =
-      let entry = of_kind_from Entry r (of institution rows) h in
-      let own = own_id institution rows r sound entry.0 in
-      unchosen_by keys r r.started passed (λ unchosen.
-      none_by keys (data_set_of r.octets) (fits keys (data_set_of r.octets)) refl (λ fit.
-      cc (sym unchosen ∙ fit_is_chosen each_alone items_met days keys r entry.1 known_keys own.0 fit)))
-
-  by_choice : filter_map (answer_of keys) (waiting_among (choice_in keys) (of institution rows))
-      ≡ filter_map (answer_of keys) (records_of Entry (of institution rows))
-  unfolding waiting_among
-  by_choice = given_skipped (answer_of keys) (is_waiting (choice_in keys)) (records_of Entry (of institution rows)) unchosen_gives_none
+  -- those that are started give none
+  by_waiting : filter_map (answer_of keys) (waiting_among (of institution rows)) ≡ filter_map (answer_of keys) (records_of Entry (of institution rows))
+  by_waiting = given_skipped (answer_of keys) (λ (r : Record). not r.started) (records_of Entry (of institution rows)) (λ r h is. started_gives keys r r.started is)
 
   by_asked : (o : Option (List ℕ)) → id_asked keys ≡ o
-      → filter_map (answer_of keys) (entries_with (of institution rows) keys o)
+      → filter_map (answer_of keys) (entries_with (of institution rows) o)
       ≡ filter_map (answer_of keys) (records_of Entry (of institution rows))
-  by_asked None is = by_choice
+  by_asked None is = by_waiting
   by_asked (Some id) is =
       one_gives_all _ (answer_of keys) id (of institution rows) (listed_in_order Entry institution rows sound.rising)
       (λ r h other. none_of keys r r.started (other_gives_none id is r h other))

@@ -21,12 +21,12 @@ use Rattle.dq_tables.specs.declared.row.Kind.TheVariants.{Entry}
 use Rattle.dq_tables.specs.declared.row.Row.{Row}
 use Rattle.dq_tables.specs.Rows.{Record, IsRising, of}
 use Rattle.dq_tables.specs.Records.{data_set_of}
-use Rattle.dq_tables.specs.Finding.{records_of}
+use Rattle.dq_tables.specs.Finding.{records_of, waiting_among}
 use Rattle.dq_tables.proofs.Rising.{one_list}
 use Rattle.dq_tables.proofs.Listing.{of_kind_from, of_kind_to, listed_in_order, in_order_filter}
 use Rattle.dq_worklist.specs.declared.asking.Query.{Query}
 use Rattle.dq_worklist.specs.Answers.{Matches, AreAnswers}
-use Rattle.dq_worklist.specs.Queries.{query_in, query_of, waiting, answers, listed_by, listed}
+use Rattle.dq_worklist.specs.Queries.{query_in, query_of, answers, listed_by, listed}
 use Rattle.dq_worklist.proofs.Queries.{listed_answers}
 
 is_not : (b : Bool) → not b ≡ true → b ≡ false
@@ -41,40 +41,40 @@ module _ (records : List Record) (keys : ElementList) where
   waits r = not r.started
 
   abbrev all_matching : List Record
-  all_matching = filter is_fit (waiting records)
+  all_matching = filter is_fit (waiting_among records)
 
   match_from : (r : Record) → IsAmong r all_matching → Matches records keys r
   match_from r h =
-      let kept = filtered_from is_fit r (waiting records) h in
+      let kept = filtered_from is_fit r (waiting_among records) h in
       let left = filtered_from waits r (records_of Entry records) kept.0 in
       let entry = of_kind_from Entry r records left.0 in
       record { kept = entry.0; kind = entry.1; waiting = is_not r.started left.1; fit = kept.1 }
 
-  waiting_to : (r : Record) → Matches records keys r → IsAmong r (waiting records)
+  waiting_to : (r : Record) → Matches records keys r → IsAmong r (waiting_among records)
   waiting_to r matches =
       among_filter waits r (records_of Entry records) (of_kind_to Entry r records matches.kept matches.kind) (ap not matches.waiting)
 
   match_to : (r : Record) → Matches records keys r → IsAmong r all_matching
-  match_to r matches = among_filter is_fit r (waiting records) (waiting_to r matches) matches.fit
+  match_to r matches = among_filter is_fit r (waiting_among records) (waiting_to r matches) matches.fit
 
   all_shown : answers records keys ≡ map (λ (r : Record). shown keys (data_set_of r.octets)) all_matching
   unfolding answers
   all_shown =
       given_where (λ (r : Record). answer keys (data_set_of r.octets)) is_fit (λ (r : Record). shown keys (data_set_of r.octets)) (λ (r : Record). refl)
-      (waiting records)
+      (waiting_among records)
 
   -- a record that matches is shown
   pub match_shown : (r : Record) → Matches records keys r → IsAmong (shown keys (data_set_of r.octets)) (answers records keys)
   unfolding answers
   match_shown r matches =
-      given_to (λ (s : Record). answer keys (data_set_of s.octets)) (shown keys (data_set_of r.octets)) r (waiting records)
+      given_to (λ (s : Record). answer keys (data_set_of s.octets)) (shown keys (data_set_of r.octets)) r (waiting_among records)
       (waiting_to r matches) (fit_to keys (data_set_of r.octets) matches.fit)
 
 are_answers : (institution : List ℕ) (rows : List Row) (keys : ElementList) → IsRising rows
     → AreAnswers (of institution rows) keys (answers (of institution rows) keys)
 are_answers institution rows keys rising = record {
   matching = all_matching (of institution rows) keys;
-  in_order = in_order_filter (is_fit (of institution rows) keys) (waiting (of institution rows))
+  in_order = in_order_filter (is_fit (of institution rows) keys) (waiting_among (of institution rows))
       (in_order_filter (waits (of institution rows) keys) (records_of Entry (of institution rows)) (listed_in_order Entry institution rows rising));
   exactly = λ r. (match_from (of institution rows) keys r, match_to (of institution rows) keys r);
   each_shown = all_shown (of institution rows) keys;

@@ -14,7 +14,7 @@ use Rattle.dq_dataset.specs.declared.data_set.Value.TheVariants.{Octets, Items}
 use Rattle.dq_dataset.specs.Tree.{ElementList, ItemList, no_items, item}
 use Rattle.dq_dataset.specs.View.{elements_of, has_tag}
 use Rattle.dq_dataset.specs.Values.{element_at, sole_at}
-use Rattle.dq_dataset.proofs.KnownVrs.{HasKnownVr, HasKnownInside, HaveKnownVrs}
+use Rattle.dq_dataset.proofs.KnownVrs.{HasKnownInside, HaveKnownVrs}
 use Rattle.dq_match.specs.declared.keys.Place.{Place}
 use Rattle.dq_match.specs.declared.keys.Place.TheVariants.{Outer, Inner}
 use Rattle.dq_match.specs.Keys.{items_in}
@@ -123,8 +123,3 @@ pub record HasStep (tag : Tag) (d : ElementList) (value : List ℕ) : Type 0 whe
   pub step : ElementList
   pub there : sole_item_at scheduled_procedure_step_sequence d ≡ Some step
   pub has : sole_at tag step ≡ Some value
-
--- all elements have their VRs
-pub record IsKnown (d : ElementList) : Type 0 where
-  pub outer : AllByRecursion HasKnownVr (elements_of d)
-  pub inner : AllKnownInside d

@@ -10,10 +10,8 @@ use Rattle.dq_match.specs.Several.{is_plain}
 use Rattle.dq_tables.specs.declared.row.Kind.TheVariants.{Entry}
 use Rattle.dq_tables.specs.Keys.{passing, sole_item_at}
 use Rattle.dq_tables.specs.Rows.{Record}
-use Rattle.dq_tables.specs.Choosing.{waiting_among}
-use Rattle.dq_tables.specs.Finding.{record_at}
+use Rattle.dq_tables.specs.Finding.{record_at, waiting_among}
 use Rattle.dq_tables.specs.Records.{data_set_of}
-use Rattle.dq_worklist.specs.Choosing.{choice_in}
 
 abbrev pub id_asked_in : Option ElementList → Option (List ℕ)
 id_asked_in None = None
@@ -23,13 +21,13 @@ id_asked_in (Some step) = passing is_plain (sole_at scheduled_procedure_step_id 
 unfoldable pub id_asked : ElementList → Option (List ℕ)
 id_asked keys = id_asked_in (sole_item_at scheduled_procedure_step_sequence keys)
 
--- the entry with the id, where one is asked for, and where none is, those that wait and are chosen
-abbrev pub entries_with : List Record → ElementList → Option (List ℕ) → List Record
-entries_with records keys None = waiting_among (choice_in keys) records
-entries_with records keys (Some id) = option_to_list (record_at Entry id records)
+-- the entry with the id, where one is asked for, and where none is, those that wait
+abbrev pub entries_with : List Record → Option (List ℕ) → List Record
+entries_with records None = waiting_among records
+entries_with records (Some id) = option_to_list (record_at Entry id records)
 
 abbrev pub candidates : List Record → ElementList → List Record
-candidates records keys = entries_with records keys (id_asked keys)
+candidates records keys = entries_with records (id_asked keys)
 
 -- the answer that an entry gives to keys, where it waits
 abbrev pub answer_of : ElementList → Record → Option ElementList

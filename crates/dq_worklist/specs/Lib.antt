@@ -1,7 +1,6 @@
 pub mod Answers
 pub mod Orders
 pub mod Queries
-pub mod Choosing
 pub mod Candidates
 pub mod Views
 pub mod Examples

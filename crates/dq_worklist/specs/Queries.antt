@@ -1,5 +1,5 @@
 -- Worklist queries (PS3.4 sections K.4.1 and K.6.1.2).
-use Rattle.std.specs.Prelude.{ℕ, not, List, filter, Result, Ok, Err, if◌then◌else◌}
+use Rattle.std.specs.Prelude.{ℕ, List, Result, Ok, Err, if◌then◌else◌}
 use Rattle.std.specs.List.{filter_map}
 use Rattle.dq_dataset.specs.declared.header.Syntax.{Syntax}
 use Rattle.dq_dataset.specs.Tree.{ElementList}
@@ -12,10 +12,9 @@ use Rattle.dq_match.specs.declared.supported.KeyScope.TheVariants.{Identifier}
 use Rattle.dq_match.specs.Identifiers.{is_query}
 use Rattle.dq_match.specs.Supported.{supported_part, has_unsupported}
 use Rattle.dq_match.specs.Answers.{refused, answer}
-use Rattle.dq_tables.specs.declared.row.Kind.TheVariants.{Entry}
 use Rattle.dq_tables.specs.Rows.{Record}
 use Rattle.dq_tables.specs.Records.{data_set_of}
-use Rattle.dq_tables.specs.Finding.{records_of}
+use Rattle.dq_tables.specs.Finding.{waiting_among}
 use Rattle.dq_worklist.specs.declared.asking.Query.{Query}
 
 -- what an identifier asks for: its supported keys, with well-formed values
@@ -34,15 +33,11 @@ query_in (Ok identifier) = query_at identifier
 unfoldable pub query_of : Message → Syntax → Result Query ℕ
 query_of message syntax = query_in (identifier_in message syntax)
 
--- The entries that wait: those that no performed procedure step has started. They alone are listed
--- (PS3.4 section K.6.1.2).
-abbrev pub waiting : List Record → List Record
-waiting records = filter (λ (r : Record). not r.started) (records_of Entry records)
-
--- the answers to the keys of a query that the entries give which wait, in their order
+-- The answers to the keys of a query that the entries give which wait, in their order. They alone
+-- are listed (PS3.4 section K.6.1.2).
 unfoldable pub answers : List Record → ElementList → List ElementList
 answers records keys =
-    filter_map (λ (r : Record). answer keys (data_set_of r.octets)) (waiting records)
+    filter_map (λ (r : Record). answer keys (data_set_of r.octets)) (waiting_among records)
 
 abbrev pub listed_by : List Record → Result Query ℕ → Found
 listed_by records (Err status) = refused status

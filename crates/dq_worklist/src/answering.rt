@@ -14,7 +14,6 @@ ghost use Rattle.dq_tables.specs.Serving.{Serves};
 ghost use Rattle.dq_worklist.specs.Queries.{listed};
 
 use crate::asking::{Query, query_of};
-use crate::choosing::choice_in;
 use dq_config::Institution;
 use dq_dataset::{DataSet, Syntax};
 use dq_dimse::Message;
@@ -22,7 +21,7 @@ use dq_dimse::status::SUCCESS;
 use dq_list::Listed;
 use dq_match::laws::keys_are_met_alone_and_as_a_period;
 use dq_match::{Found, answer, is_plain, lent_meets};
-use dq_tables::laws::{day_numbers_are_in_order, honest_rows_are_sound};
+use dq_tables::laws::honest_rows_are_sound;
 use dq_tables::{Row, TableFault, Tables, sole_item_at};
 use dq_vr::{Tag, tags};
 use std::alloc::{AllocError, Global};
@@ -60,7 +59,7 @@ fn listed(alloc: Global, row: Option<Row>) -> Result<Listed<Row>, AllocError>
 }
 
 /// The entries that are looked at: where the keys ask for one step's id, no other entry can match,
-/// and where they do not, none that is started or that the choice does not take.
+/// and where they do not, none that is started.
 fn candidates<T: Tables>(
     alloc: Global,
     tables: &mut T,
@@ -73,8 +72,7 @@ fn candidates<T: Tables>(
     ensures reads { Reads (T.state tables.old) (T.state tables.new) result }
 {
     let Some(id) = id_asked(keys) else {
-        let choice = choice_in(alloc, keys)?;
-        return tables.waiting_in(alloc, institution, &choice);
+        return tables.waiting(alloc, institution);
     };
     let row = tables.entry(alloc, institution, id)?;
     Ok(listed(alloc, row)?)
@@ -128,7 +126,6 @@ pub fn query<T: Tables>(
     };
     query.keys.has_facts();
     honest_rows_are_sound::<T>();
-    day_numbers_are_in_order();
     keys_are_met_alone_and_as_a_period();
     let rows = candidates(alloc, tables, institution.name.as_slice(), &query.keys)?;
     let answers = answers_of(alloc, &query.keys, rows.as_slice())?;

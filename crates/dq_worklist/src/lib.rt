@@ -4,7 +4,6 @@
 
 mod answering;
 mod asking;
-mod choosing;
 mod completeness;
 pub mod laws;
 mod refusal;

@@ -16,7 +16,7 @@ use dq_config::Institution;
 use dq_dataset::laws::written_law;
 use dq_dataset::{DataSet, ReadFault, Syntax, read, write};
 use dq_list::Listed;
-use dq_tables::{Change, Kind, RecordKeys, Row, TableFault, Tables};
+use dq_tables::{Change, Kind, RecordKeys, Row, TableFault, Tables, make_change};
 use std::alloc::{AllocError, Global};
 
 /// An order is at most so many octets.
@@ -92,8 +92,7 @@ fn record_refusal<T: Tables>(
     ensures reads { Reads (T.state tables.old) (T.state tables.new) result }
 {
     let name = institution.name.as_slice();
-    let entry = tables.entry(alloc, name, id)?;
-    if entry.is_some() {
+    if tables.entry(alloc, name, id)?.is_some() {
         return Ok(Some(Refusal::Taken));
     }
     let count = tables.count(alloc, Kind::Entry, name)?;
@@ -121,7 +120,7 @@ fn add_entry<T: Tables>(
     written_law();
     let _elements = order.elements.elements();
     let row = entry_row(alloc, name, order)?;
-    tables.apply(alloc, &Change::EntryAdded(row))
+    make_change(alloc, tables, Change::EntryAdded(row))
 }
 
 /// The row of an entry.
@@ -172,5 +171,5 @@ fn remove_entry<T: Tables>(
         inst: Listed::copy_of(alloc, name)?,
         key: Listed::copy_of(alloc, id)?,
     };
-    tables.apply(alloc, &change)
+    make_change(alloc, tables, change)
 }

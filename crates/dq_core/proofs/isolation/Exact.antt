@@ -1,5 +1,5 @@
 -- The rows that each message of a connection is served from are sound, so that its queries are answered exactly.
-use Rattle.std.proofs.Common.{◌≡◌, ℕ, zero, ◌==◌, Bool, true, false, not, if◌then◌else◌, List, [], ◌∷◌, ◌++◌, map, length, drop, Option, Some, None, Result, Ok, Err, refl, sym, ap, ◌∙◌, subst, arith}
+use Rattle.std.proofs.Common.{◌≡◌, ℕ, ◌==◌, Bool, true, false, not, if◌then◌else◌, List, [], ◌∷◌, map, Option, Some, None, Result, Ok, Err, refl, sym, ap, ◌∙◌, subst, arith}
 use Rattle.std.specs.Prelude.{◌≢◌}
 use Rattle.std.specs.List.{AllByRecursion}
 use Rattle.std.specs.Str.{bytes_eq}
@@ -13,9 +13,8 @@ use Rattle.dq_assoc.specs.declared.agreement.Agreement.{Agreement}
 use Rattle.dq_assoc.specs.declared.classes.Service.{Service}
 use Rattle.dq_assoc.specs.declared.classes.Service.TheVariants.{StudyRootFind, WorklistFind}
 use Rattle.dq_assoc.specs.Classes.{service_of, uid_of}
-use Rattle.dq_assoc.specs.Inputs.{inputs}
 use Rattle.dq_assoc.specs.Negotiation.{context_of}
-use Rattle.dq_assoc.specs.Table.{Input, Sent}
+use Rattle.dq_assoc.specs.Table.{Sent}
 use Rattle.dq_config.specs.declared.config.Institution.{Institution}
 use Rattle.dq_config.specs.Limits.{Limits, limits_of}
 use Rattle.dq_match.specs.declared.responses.Found.{Found}
@@ -25,55 +24,15 @@ use Rattle.dq_find.specs.Answers as study_answers
 use Rattle.dq_worklist.specs.Queries as worklist
 use Rattle.dq_worklist.specs.Answers as worklist_answers
 use Rattle.dq_tables.specs.declared.row.Row.{Row}
-use Rattle.dq_tables.specs.Rows.{Record, Operation, of, after}
+use Rattle.dq_tables.specs.Rows.{Record, of}
 use Rattle.dq_tables.specs.Sound.{IsSound}
 use Rattle.dq_core.specs.declared.event.Event.{Event}
-use Rattle.dq_core.specs.declared.event.Event.TheVariants as event
 use Rattle.dq_core.specs.Services.{Response, Responses, responses, pending_response, pending_responses, has_operation, refusal_for, operation, outcome_on, outcome_unless, served}
-use Rattle.dq_core.specs.Own.{stream_of}
-use Rattle.dq_core.specs.Shared.{World, turn, world_after}
 use Rattle.dq_core.specs.Searches.{AreAnswersOf, AreExact}
-use Rattle.dq_core.specs.Soundness.{HoldSound, BringsOctets, BringOctets}
-use Rattle.dq_core.specs.Conversations.{Arrival, InputAt, PageRequest, ConnectionEnd, input_arrivals, arrivals_at, arrivals, IsExactAt}
-use Rattle.dq_core.proofs.isolation.Octets.{each-joined}
-use Rattle.dq_core.proofs.isolation.Keeping.{ServicesKeep, Edits, Stay, stay-taken, turn-kept, history-kept, history-came}
-
--- what comes, comes while rows are sound
-abbrev IsSoundAt : Arrival → Type 0
-IsSoundAt (InputAt world input) = HoldSound world.rows
-IsSoundAt other = Unit {0}
-
-brought-sound : (world : World) (operations : List Operation) (xs : List Input) → Stay HoldSound operations world.rows
-    → AllByRecursion IsSoundAt (input_arrivals world operations xs)
-brought-sound world operations [] s = tt
-brought-sound world [] (Sent m ∷ xs) s = (s, brought-sound world [] xs s)
-brought-sound world (o ∷ operations) (Sent m ∷ xs) s = (s.0, brought-sound (record world { rows = after o world.rows }) operations xs s.1)
-brought-sound world operations (x ∷ xs) s = (stay-taken HoldSound operations world.rows s zero, brought-sound world operations xs s)
-
-module _ (keep : ServicesKeep HoldSound) (lens : Edits) (institutions : List Institution) (rows : List Row) (number : ℕ) (sound : HoldSound rows) where
-  one-sound : (x : Arrival) (b : Bool) → IsSoundAt x → AllByRecursion IsSoundAt (if b then x ∷ [] else [])
-  one-sound x true s = (s, tt)
-  one-sound x false s = tt
-
-  with-sound : (before : List Event) (e : Event) → BringOctets before → BringsOctets e
-      → AllByRecursion IsSoundAt (arrivals_at institutions rows number before e)
-  with-sound before (event.Piece n p) came brings =
-      let world = world_after institutions rows before in
-      let e = event.Piece n p in
-      brought-sound world (turn institutions world e).operations
-      (drop (length (inputs (stream_of number before))) (inputs (stream_of number (before ++ e ∷ []))))
-      (turn-kept HoldSound keep lens institutions world e (history-came institutions rows before came) brings
-      (history-kept HoldSound keep lens institutions rows before came sound).good)
-  with-sound before (event.Pull n) came brings = one-sound PageRequest (n == number) tt
-  with-sound before (event.End n) came brings = one-sound ConnectionEnd (n == number) tt
-  with-sound before e came brings = tt
-
-  after-sound : (before events : List Event) → BringOctets before → BringOctets events
-      → AllByRecursion IsSoundAt (arrivals institutions rows number before events)
-  after-sound before [] came brings = tt
-  after-sound before (e ∷ events) came brings =
-      each-joined _ (arrivals_at institutions rows number before e) (arrivals institutions rows number (before ++ e ∷ []) events)
-      (with-sound before e came brings.0) (after-sound (before ++ e ∷ []) events (each-joined _ before (e ∷ []) came (brings.0, tt)) brings.1)
+use Rattle.dq_core.specs.Soundness.{HoldSound, BringOctets}
+use Rattle.dq_core.specs.Conversations.{Arrival, InputAt, arrivals, IsExactAt}
+use Rattle.dq_core.proofs.isolation.Keeping.{ServicesKeep, Edits}
+use Rattle.dq_core.proofs.isolation.Arriving.{IsMetAt, each-met}
 
 -- ---- queries over sound rows
 
@@ -134,7 +93,7 @@ module _ (limits : Limits) (records : List Record) (a : Agreement) (message : Me
   found_on = (outcome_on a context limits message records).0
 
   -- responses are of what was found
-  responses-are : (r : Responses) (b : Bool) → (message.command.code == c_cancel) ≡ b → context_of a message.context ≡ Some context
+  pub responses-are : (r : Responses) (b : Bool) → (message.command.code == c_cancel) ≡ b → context_of a message.context ≡ Some context
       → (served limits records a message).responses ≡ Some r → r ≡ responses context message.command found_on
   unfolding served
   responses-are r true h on e =
@@ -219,16 +178,16 @@ module _ (studies : StudiesFound) (entries : EntriesFound) (institution : List �
       }
 
 module _ (studies : StudiesFound) (entries : EntriesFound) (i : Institution) where
-  exact-at : (x : Arrival) → IsSoundAt x → IsExactAt i x
+  exact-at : (x : Arrival) → IsMetAt HoldSound x → IsExactAt i x
   exact-at (InputAt world (Sent message)) s = λ a context r on e.
-      exact-responses studies entries i.name world.rows s.sound (limits_of i) a message context r on e
+      exact-responses studies entries i.name world.rows s.0.sound (limits_of i) a message context r on e
   exact-at x s = tt
 
-  each-exact : (xs : List Arrival) → AllByRecursion IsSoundAt xs → AllByRecursion (IsExactAt i) xs
+  each-exact : (xs : List Arrival) → AllByRecursion (IsMetAt HoldSound) xs → AllByRecursion (IsExactAt i) xs
   each-exact [] each = tt
   each-exact (x ∷ xs) each = (exact-at x each.0, each-exact xs each.1)
 
 pub exactly : StudiesFound → EntriesFound → ServicesKeep HoldSound → Edits → (institutions : List Institution) (rows : List Row) (events : List Event)
     (number : ℕ) (i : Institution) → HoldSound rows → BringOctets events → AllByRecursion (IsExactAt i) (arrivals institutions rows number [] events)
 exactly studies entries keep lens institutions rows events number i sound brings =
-    each-exact studies entries i (arrivals institutions rows number [] events) (after-sound keep lens institutions rows number sound [] events tt brings)
+    each-exact studies entries i (arrivals institutions rows number [] events) (each-met HoldSound keep lens institutions rows number sound [] events tt brings)

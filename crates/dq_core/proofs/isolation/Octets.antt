@@ -321,10 +321,13 @@ inputs-small (Asks request ∷ roles) fault s = (tt, after-small (ids_of (agreem
 inputs-small (Carries pdvs ∷ roles) fault s = (misplaced-small (Carries pdvs), tt)
 inputs-small (Ends ending ∷ roles) fault s = (misplaced-small (Ends ending), tt)
 
+-- the inputs of a stream
+pub stream_inputs-small : (stream : List ℕ) → Small stream → AllByRecursion SmallInput (inputs stream)
+stream_inputs-small stream s = inputs-small (map role_of (pdus_in stream).list) (pdus_in stream).fault (stream-small stream s)
+
 -- the inputs that a piece adds
 pub added-small : (stream piece : List ℕ) → Small stream → Small piece → AllByRecursion SmallInput (inputs_added stream piece)
 added-small stream piece s t =
     let whole = stream ++ piece in
     each-dropped SmallInput (length (inputs stream)) (inputs whole)
-    (inputs-small (map role_of (pdus_in whole).list) (pdus_in whole).fault
-    (stream-small whole (each-joined (λ (octet : ℕ). octet < 256) stream piece s t)))
+    (stream_inputs-small whole (each-joined (λ (octet : ℕ). octet < 256) stream piece s t))

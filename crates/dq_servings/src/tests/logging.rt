@@ -6,6 +6,7 @@ use dq_config::Config;
 use dq_list::Listed;
 use dq_wires::{AssociationLog, Came, LoggedWires, MemoryWires, Script, turn_all};
 use std::alloc::{AllocError, Global};
+use std::io::{self, Write};
 use std::test::Fail;
 
 /// An A-ASSOCIATE-RQ for Verification in Implicit VR Little Endian, and an A-RELEASE-RQ (PS3.8
@@ -49,6 +50,49 @@ fn serve(alloc: Global, mut script: Script, size: usize, lines: &mut Vec<u8>) ->
     Ok(())
 }
 
+/// Takes no octet, so often, and then keeps what is written.
+#[derive(Drop)]
+struct Slow<'a> {
+    refusals: u8,
+    lines: &'a mut Vec<u8>,
+}
+
+impl Write for Slow<'_> {
+    fn write(&mut self, octets: &[u8]) -> io::Result<usize> {
+        if self.refusals > 0 {
+            self.refusals -= 1;
+            return Err(io::Error::from(io::ErrorKind::WouldBlock));
+        }
+        self.lines.write(octets)
+    }
+
+    fn flush(&mut self) -> io::Result<()> {
+        Ok(())
+    }
+}
+
+#[test]
+fn lost_lines_are_counted(rt: HostRuntime) -> Result<(), Fail> {
+    let alloc = rt.alloc();
+    let config = Config::built_in(alloc)?;
+    let mut lines = Vec::new(alloc);
+    let slow = Slow {
+        refusals: 2,
+        lines: &mut lines,
+    };
+    let mut log = AssociationLog::new(alloc, config.institutions(), slow)?;
+    log.note("bad line\nschedule DEMO done\n");
+    log.note("withdraw DEMO refused 5\n");
+    drop(log);
+    assert_eq!(rt;
+        lines.as_slice(),
+        b"1970-01-01T00:00:00.000Z - 2 lines are lost\n\
+1970-01-01T00:00:00.000Z - console withdraw DEMO refused 5\n"
+            .as_slice()
+    );
+    Ok(())
+}
+
 #[test]
 fn an_association_is_told(rt: HostRuntime) -> Result<(), Fail> {
     let alloc = rt.alloc();
@@ -58,7 +102,9 @@ fn an_association_is_told(rt: HostRuntime) -> Result<(), Fail> {
         serve(alloc, script, size, &mut lines)?;
         assert_eq!(rt;
             lines.as_slice(),
-            b"1 accepted DEMO ARCHIVE MODALITY 1 context\n1 ended\n".as_slice()
+            b"1970-01-01T00:00:00.000Z 1 accepted DEMO ARCHIVE MODALITY 1 context\n\
+1970-01-01T00:00:00.000Z 1 ended\n"
+                .as_slice()
         );
     }
     Ok(())

@@ -3,13 +3,10 @@ use dq_core::Server;
 use dq_list::Listed;
 use dq_tables::PlainTables;
 use dq_wires::{
-    Call, Came, MOST_WIRES, MemoryWires, Script, SocketWires, TurnFault, Turner, WireFault, Wires,
-    turn_all,
+    Call, Came, MOST_WIRES, MemoryWires, Script, TurnFault, Turner, WireFault, turn_all,
 };
 use std::alloc::{AllocError, Global};
-use std::net::{Ipv4Addr, SocketAddr, TcpStream};
 use std::test::Fail;
-use std::time::Duration;
 
 // A PDU whose type is not known (PS3.8 section 9.3.1), and what it is answered: an abort of the
 // provider, after which the connection is closed.
@@ -201,18 +198,5 @@ fn no_more_are_held_than_fit(rt: HostRuntime) -> Result<(), Fail> {
         held: [true, true],
     };
     assert!(rt; comes_to(alloc, script, 70, outcome)?);
-    Ok(())
-}
-
-#[test]
-fn a_rest_ends_for_other_wires(rt: HostRuntime) -> Result<(), Fail> {
-    let alloc = rt.alloc();
-    let mut wires = SocketWires::listen(alloc, &rt, SocketAddr::from((Ipv4Addr::LOCALHOST, 0)))?;
-    let mut others = SocketWires::listen(alloc, &rt, SocketAddr::from((Ipv4Addr::LOCALHOST, 0)))?;
-    wires.watch(&others)?;
-    assert_eq!(rt; others.accept(), Ok(None));
-    let _peer = TcpStream::connect(&rt, others.address()?)?;
-    wires.rest_with(&mut others, &rt, Duration::from_secs(50))?;
-    assert_eq!(rt; others.accept(), Ok(Some(0)));
     Ok(())
 }

@@ -9,8 +9,8 @@ use Rattle.dq_mpps.proofs.Fitting.{new_step_fits}
 use Rattle.dq_mpps.proofs.Writing.{writes_after}
 use Rattle.dq_mpps.proofs.creating.add_step.Goals as goal
 
-pub apply-requires : goal.apply-requires
-apply-requires g c = λ h.
+pub make_change-requires : goal.make_change-requires
+make_change-requires g c = λ h.
     let old = (g.T.Tables.state c.args.tables.now).rows in
     let mid = (g.T.Tables.state c.entries_named.new.tables).rows in
     let name = c.args.name.now in
@@ -28,8 +28,8 @@ returns g c =
     let old = g.T.Tables.state c.args.tables.now in
     let mid = g.T.Tables.state c.entries_named.new.tables in
     let first = c.in_ok-keys.ensures.reads in
-    writes_after old mid (g.T.Tables.state c.apply.new.self) c.in_ok-keys.keys first
+    writes_after old mid (g.T.Tables.state c.make_change.new.tables) c.in_ok-keys.keys first
     (after (operation_of (StepAdded c.in_ok-row.row c.in_ok-keys.keys)) mid.rows)
     (with_step c.args.name.now c.args.sent.now.uid.now c.args.sent.now.data_set.now old.rows)
     (λ h. λ i. after (operation_of (StepAdded (c.in_ok-row.ensures.row i) (c.in_ok-keys.ensures.found h i))) (first.same h i))
-    c.apply.result c.apply.ensures
+    c.make_change.result c.make_change.ensures

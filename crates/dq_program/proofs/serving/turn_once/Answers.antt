@@ -8,6 +8,6 @@ returns-clause-went g c =
     (c.in_ok-turn_all.ensures.went c.requires.working) (c.in_ok-turn_all.ensures.fault c.requires.working) in
     elim c.match-reception.branch [
       | in-None w ↦ rw (w.turner-is, w.reception-is, w.rest-rested.ensures) turned
-      | in-Some+in_ok-turn-in-Some w ↦ rw (w.turner-is, w.reception-is, w.rest_with-rested.ensures)
+      | in-Some+in_ok-turn-in-Some w ↦ rw (w.turner-is, w.reception-is, w.rest_with-rested.ensures, w.note.ensures)
           (went-then g.T.Tables.state turned (w.in_ok-turn-in-Some.ensures.went (g.N.Wired.Wires.log c.turn_all.new.wires)))
     ]

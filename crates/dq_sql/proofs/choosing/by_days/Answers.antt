@@ -1,22 +1,18 @@
-use Rattle.std.proofs.Common.{sym, subst, arith}
+use Rattle.std.proofs.Common.{arith}
 use Rattle.sqlite.specs.State.{HasCleanDisk}
 use Rattle.sqlite.specs.Held.{state}
-use Rattle.dq_sql.specs.Choosing.{ShowsThose, is_waiting, says_day}
+use Rattle.dq_sql.specs.declared.choosing.Label.TheVariants.{Day}
+use Rattle.dq_sql.specs.Choosing.{is_of_days}
 use Rattle.dq_sql.proofs.Staying.{holds_before}
-use Rattle.dq_sql.proofs.Taken.{both_parts}
+use Rattle.dq_sql.proofs.Taken.{ok_both, in_order_of_both, any_day}
 use Rattle.dq_sql.proofs.choosing.by_days.Goals as goal
 
 pub returns-clause-found : goal.returns-clause-found
 returns-clause-found g c clean =
-    let kind = c.args.kind in
-    let institution = c.args.institution.now in
-    let choice = c.args.choice.now in
-    let between : HasCleanDisk (state g.S.Store c.of_days.new.conn) = omega (arith, c.without_day.ensures.stays.survives.clean) in
-    let said = c.in_ok-answer.ensures.found between in
-    let silent = holds_before (state g.S.Store c.args.conn.now) (state g.S.Store c.of_days.new.conn) _ (c.in_ok-answer.ensures.same between) (c.in_ok-silent.ensures.found clean) in
-    record {
-      is_open = said.is_open;
-      of_rows = λ rows has.
-          subst (ShowsThose kind institution (is_waiting choice) rows) (sym c.in_ok-append.ensures.items)
-          (both_parts says_day kind choice institution rows _ _ (said.of_rows rows has) (silent.of_rows rows has));
-    }
+    let old = state g.S.Store c.args.conn.now in
+    let between : HasCleanDisk (state g.S.Store c.of_days.new.conn) = omega (arith, c.without.ensures.stays.survives.clean) in
+    let silent = holds_before old (state g.S.Store c.of_days.new.conn) _ (c.in_ok-said.ensures.same between) (c.in_ok-silent.ensures.found clean) in
+    ok_both c.shown_in_order.result _ _ _
+    (in_order_of_both Day (is_of_days c.args.first c.args.last) c.args.institution.now old c.in_ok-said.said.items c.in_ok-silent.silent.items (any_day c.args.first c.args.last)
+    (c.in_ok-said.ensures.found between) silent)
+    c.shown_in_order.ensures.same c.shown_in_order.ensures.order

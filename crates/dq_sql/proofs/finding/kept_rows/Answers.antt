@@ -17,7 +17,7 @@ returns-clause-found g c clean =
     let ours : IsShaped c.args.version old = subst (λ v. IsShaped v old) same c.in-Some.ensures.shaped in
     let late : HasCleanDisk mid = omega (arith, c.rows_read.ensures.stays.survives.clean, clean) in
     let is_so : IsOfVersion c.args.version old.now = told _ _ c.if-not-branch.false (c.in_ok-is_of_version.ensures.told late ours.schema) in
-    ok_then (λ rows. AreSound c.args.version c.in_ok-found.found.items rows.items) (λ rows. IsFound c.args.version old rows.items) c.sound_rows.result
+    ok_then (λ rows. AreSound c.in_ok-found.found.items rows.items) (λ rows. IsFound c.args.version old rows.items) c.sound_rows.result
     (λ rows sound. found_after c.args.version old mid c.in_ok-found.found.items c.in_ok-found.found.items rows.items ours.rest is_so ours.database c.is_of_version.ensures.stays late
     (c.in_ok-found.ensures.found clean) refl sound) c.sound_rows.ensures.sound
 

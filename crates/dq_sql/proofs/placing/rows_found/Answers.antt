@@ -8,7 +8,7 @@ use Rattle.dq_sql.proofs.placing.rows_found.Goals as goal
 pub loop-row-init : goal.loop-row-init
 loop-row-init c = record {
   parts = search rules;
-  good = rw c.new-rows.ensures.items (none_good c.args.version);
+  good = rw c.new-rows.ensures.items none_good;
   octets = rw c.new-rows.ensures.items tt;
 }
 
@@ -17,7 +17,7 @@ loop-row-preserved c = record {
   parts =
       let whole : c.loop-row.yielded ++ c.in-Some.row ∷ c.next.new.self.rest.items ≡ c.args.found.items = search rules in
       append_assoc c.loop-row.yielded (c.in-Some.row ∷ []) c.next.new.self.rest.items ∙ whole;
-  good = good_next c.args.version c.loop-row.yielded c.in-Some.row c.loop-row.rows.items c.put_found.new.rows.items
+  good = good_next c.loop-row.yielded c.in-Some.row c.loop-row.rows.items c.put_found.new.rows.items
       c.loop-row.invariant.good c.in_ok-put_found.ensures.good c.in_ok-put_found.ensures.added c.in_ok-put_found.ensures.rising;
   octets = c.in_ok-put_found.ensures.octets c.loop-row.invariant.octets;
 }
@@ -26,6 +26,6 @@ pub returns-in_err-put_found-clause-bad : goal.returns-in_err-put_found-clause-b
 returns-in_err-put_found-clause-bad c bad =
     let left = err_from_is_err_and c.from_residual.result c.from_residual.ensures.1 in
     let whole : c.loop-row.yielded ++ c.in-Some.row ∷ c.next.new.self.rest.items ≡ c.args.found.items = search rules in
-    bad_next c.args.version c.args.found.items c.loop-row.yielded c.next.new.self.rest.items c.in-Some.row c.loop-row.rows.items
+    bad_next c.args.found.items c.loop-row.yielded c.next.new.self.rest.items c.in-Some.row c.loop-row.rows.items
     whole c.loop-row.invariant.good
     (c.in_err-put_found.ensures.bad (ap Err (sym left.2 ∙ same_fault left.0 BadRows (sym left.1 ∙ bad))))

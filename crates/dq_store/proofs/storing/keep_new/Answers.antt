@@ -12,8 +12,8 @@ use Rattle.dq_store.specs.Views.{instance_of, kept_of}
 use Rattle.dq_store.proofs.Fitting.{new_fits, made_of_rows}
 use Rattle.dq_store.proofs.storing.keep_new.Goals as goal
 
-pub apply-requires : goal.apply-requires
-apply-requires g c = λ h.
+pub make_change-requires : goal.make_change-requires
+make_change-requires g c = λ h.
     let sent = c.args.sent.now in
     let d = sent.data_set.now in
     let facts = c.elements-elements.ensures.facts in
@@ -26,7 +26,7 @@ apply-requires g c = λ h.
 
 pub returns : goal.returns
 returns g c =
-    subst (λ (rs : List Row). Writes (g.T.Tables.state c.args.tables.now) (g.T.Tables.state c.apply.new.self) rs
-    c.apply.result)
+    subst (λ (rs : List Row). Writes (g.T.Tables.state c.args.tables.now) (g.T.Tables.state c.make_change.new.tables) rs
+    c.make_change.result)
     (made_of_rows c.args.name.now (instance_of c.args.sent.now) (g.T.Tables.state c.args.tables.now).rows c.in_ok-change.change
-    (kept_of c.args.kept.now) c.in_ok-change.ensures (ap (option_map record_of) c.requires.new)) c.apply.ensures
+    (kept_of c.args.kept.now) c.in_ok-change.ensures (ap (option_map record_of) c.requires.new)) c.make_change.ensures

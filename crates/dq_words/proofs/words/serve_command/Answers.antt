@@ -12,13 +12,13 @@ returns-clause-app c =
     let long = (called c.new.result _ _ c.long.ensures).rule_is ∙ ap (λ (r : Rule). record r { long = Some (codes "log") }) c.new.ensures.rule in
     let log : rule_of c.help-log.result ≡ flag_rule (codes "log") =
     (helped c.action.result _ _ c.help-log.ensures).rule_is ∙ (flagged c.long.result _ c.action.ensures).rule_is ∙ ap (λ (r : Rule). record r { action = Some SetTrue }) long in
-    let console = c.in_ok-arg.ensures.shape c.value_option-console.ensures.local ∙ ap₂ with_rule c.in_ok-listening_command.ensures.app c.value_option-console.ensures.rule in
-    let quiet = c.in_ok-arg-2.ensures.shape c.value_option-quiet.ensures.local ∙ ap₂ with_rule console c.value_option-quiet.ensures.rule in
-    c.in_ok-command.ensures.shape local ∙ ap₂ with_rule quiet log
+    let console = c.in_ok-ordered.ensures.shape c.value_option-console.ensures.local ∙ ap₂ with_rule c.in_ok-command.ensures.app c.value_option-console.ensures.rule in
+    let log_file = c.in_ok-filed.ensures.shape c.value_option-log_file.ensures.local ∙ ap₂ with_rule console c.value_option-log_file.ensures.rule in
+    c.in_ok-logged.ensures.shape local ∙ ap₂ with_rule log_file log
 
 pub returns-clause-local : goal.returns-clause-local
 returns-clause-local c =
     let local = (helped c.action.result _ _ c.help-log.ensures).global_is ∙ (flagged c.long.result _ c.action.ensures).global_is ∙ (called c.new.result _ _ c.long.ensures).global_is ∙ c.new.ensures.optional.1 in
-    let console = c.in_ok-arg.ensures.globals ∙ ap₂ ◌||◌ c.in_ok-listening_command.ensures.local c.value_option-console.ensures.local in
-    let quiet = c.in_ok-arg-2.ensures.globals ∙ ap₂ ◌||◌ console c.value_option-quiet.ensures.local in
-    c.in_ok-command.ensures.globals ∙ ap₂ ◌||◌ quiet local
+    let console = c.in_ok-ordered.ensures.globals ∙ ap₂ ◌||◌ c.in_ok-command.ensures.local c.value_option-console.ensures.local in
+    let log_file = c.in_ok-filed.ensures.globals ∙ ap₂ ◌||◌ console c.value_option-log_file.ensures.local in
+    c.in_ok-logged.ensures.globals ∙ ap₂ ◌||◌ log_file local

@@ -8,12 +8,12 @@ use Rattle.dq_words.proofs.words.tasks_command.Goals as goal
 pub returns-clause-app : goal.returns-clause-app
 returns-clause-app c =
     let top : app_of c.after_help.result ≡ new_app (codes "dq_server") = (after_help c.about.result _ _ c.after_help.ensures).app_is ∙ (about c.new.result _ _ c.about.ensures).app_is ∙ c.new.ensures.app in
-    let one : app_of c.in_ok-subcommand.field-0 ≡ with_subcommand (new_app (codes "dq_server")) (task_app (codes "replay")).top =
-    c.in_ok-subcommand.ensures.shape c.in_ok-replay.ensures.local ∙ ap₂ with_subcommand top (ap (λ (a : App). a.top) c.in_ok-replay.ensures.app) in
-    c.in_ok-command.ensures.shape c.in_ok-report.ensures.local ∙ ap₂ with_subcommand one (ap (λ (a : App). a.top) c.in_ok-report.ensures.app)
+    let one : app_of c.in_ok-replaying.replaying ≡ with_subcommand (new_app (codes "dq_server")) (task_app (codes "replay")).top =
+    c.in_ok-replaying.ensures.shape c.in_ok-replay.ensures.local ∙ ap₂ with_subcommand top (ap (λ (a : App). a.top) c.in_ok-replay.ensures.app) in
+    c.in_ok-reporting.ensures.shape c.in_ok-report.ensures.local ∙ ap₂ with_subcommand one (ap (λ (a : App). a.top) c.in_ok-report.ensures.app)
 
 pub returns-clause-local : goal.returns-clause-local
 returns-clause-local c =
     let top = (after_help c.about.result _ _ c.after_help.ensures).globals_are ∙ (about c.new.result _ _ c.about.ensures).globals_are ∙ c.new.ensures.local in
-    let one = c.in_ok-subcommand.ensures.globals ∙ ap₂ ◌||◌ top c.in_ok-replay.ensures.local in
-    c.in_ok-command.ensures.globals ∙ ap₂ ◌||◌ one c.in_ok-report.ensures.local
+    let one = c.in_ok-replaying.ensures.globals ∙ ap₂ ◌||◌ top c.in_ok-replay.ensures.local in
+    c.in_ok-reporting.ensures.globals ∙ ap₂ ◌||◌ one c.in_ok-report.ensures.local

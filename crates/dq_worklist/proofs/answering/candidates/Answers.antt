@@ -5,10 +5,9 @@ use Rattle.dq_worklist.proofs.answering.candidates.Goals as goal
 
 pub returns-in_default-clause-found : goal.returns-in_default-clause-found
 returns-in_default-clause-found g c = λ h.
-    IfOk-weaker c.waiting_in.result _ _
-    (λ v e. e ∙ all_candidates c.args.institution.now (g.T.Tables.state c.args.tables.now).rows c.args.keys.now c.in_ok-choice.choice
-    c.in_default.ensures c.in_ok-choice.ensures)
-    (c.waiting_in.ensures.found h)
+    IfOk-weaker c.waiting.result _ _
+    (λ v e. e ∙ all_candidates c.args.institution.now (g.T.Tables.state c.args.tables.now).rows c.args.keys.now c.in_default.ensures)
+    (c.waiting.ensures.found h)
 
 pub returns-clause-found : goal.returns-clause-found
 returns-clause-found g c = λ h.

@@ -36,6 +36,6 @@ returns g c =
     (λ h. ap (λ (f : Found). (f, [])) (asked (of name old.rows) message syntax query found (sym c.in_ok-query.ensures.query ∙ c.in-Ok.is)
     (answered_of_candidates (λ place keys held. c.keys_are_met_alone_and_as_a_period.ensures.each place keys held)
     (λ keys others items. c.keys_are_met_alone_and_as_a_period.ensures.items keys others items)
-    (record { named = c.day_numbers_are_in_order.ensures.named; ordered = c.day_numbers_are_in_order.ensures.ordered }) name old.rows query.keys
+    name old.rows query.keys
     (c.honest_rows_are_sound.ensures.sound c.args.tables.now (c.in_ok-rows.ensures.reads.goes.was_honest h)) c.has_facts.ensures
     c.as_slice.result.now c.in_ok-rows.rows found c.as_slice.ensures (c.in_ok-rows.ensures.found h) is_found)))

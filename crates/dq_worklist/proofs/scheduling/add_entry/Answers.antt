@@ -9,8 +9,8 @@ use Rattle.dq_worklist.specs.Views.{held}
 use Rattle.dq_worklist.proofs.Records.{new_fits}
 use Rattle.dq_worklist.proofs.scheduling.add_entry.Goals as goal
 
-pub apply-requires : goal.apply-requires
-apply-requires g c = λ h.
+pub make_change-requires : goal.make_change-requires
+make_change-requires g c = λ h.
     let d = c.args.order.now.elements.now in
     let rows = (g.T.Tables.state c.args.tables.now).rows in
     let back = c.written_law.ensures.read_back Explicit d c.elements-elements.ensures.facts c.requires.kept.lengths tt in

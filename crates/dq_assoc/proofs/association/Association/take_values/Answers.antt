@@ -6,8 +6,8 @@ use Rattle.dq_assoc.proofs.association.Association.take_values.Goals as goal
 
 pub returns-then-read-clause-exact : goal.returns-then-read-clause-exact
 returns-then-read-clause-exact c = λ a h e.
-    on_ok c.closing_step.result _ _
-    (sym (values-closed c.args.agreement a c.args.values.now (sym (c.in_ok-read.ensures.fault a h) ∙ c.if-read.true)))
+    rw c.hold.ensures (on_ok c.closing_step.result _ _
+    (sym (values-closed c.args.agreement a c.args.values.now (sym (c.in_ok-read.ensures.fault a h) ∙ c.if-read.true))))
 
 pub returns-clause-step : goal.returns-clause-step
 returns-clause-step c = λ a h.
@@ -15,7 +15,7 @@ returns-clause-step c = λ a h.
     c.empty.ensures (sym (c.in_ok-read.ensures.fault a h) ∙ c.if-read.false)
 
 pub returns-clause-exact : goal.returns-clause-exact
-returns-clause-exact c = λ a h e. (
+returns-clause-exact c = λ a h e. rw c.hold-2.ensures (
   assembly_from a c.args.values.now,
   sym (values-open c.args.agreement a c.args.values.now (sym (c.in_ok-read.ensures.fault a h) ∙ c.if-read.false)),
   c.in_ok-read.ensures.next a h c.if-read.false,

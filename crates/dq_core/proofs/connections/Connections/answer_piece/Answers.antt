@@ -8,7 +8,7 @@ use Rattle.dq_core.specs.Queries.{query_in}
 use Rattle.dq_core.specs.Tallies.{retallied_by}
 use Rattle.dq_core.proofs.Going.{on-err}
 use Rattle.dq_core.specs.declared.event.Reply.TheVariants as reply
-use Rattle.dq_core.proofs.Turning.{piece-none, piece-empty, piece-taken, piece-part, closes, stays-open, not-there, is-empty, not-quiet}
+use Rattle.dq_core.proofs.Turning.{piece-none, piece-empty, piece-taken, piece-part, closes, stays-open, not-there, is-empty, not-quiet, not-always}
 use Rattle.dq_core.proofs.connections.Connections.answer_piece.Goals as goal
 use Rattle.dq_core.proofs.connections.Connections.answer_piece.Goals.{then-close, else-close}
 
@@ -88,3 +88,11 @@ returns-clause-turned g c = λ world h r honest.
           (λ x held counts. c.in_ok-institution.ensures world x held counts) c.is_sound.ensures
           c.an_association_after_pdus.ensures.waits mid left c.stays_open-is_open.result (c.stays_open-is_open.ensures, refl, refl, refl, counted) e) c.octets_reply-2.ensures)
     ]
+
+pub returns-in_err-institution-clause-always : goal.returns-in_err-institution-clause-always
+returns-in_err-institution-clause-always g c = λ k.
+    absurd (not-always c.args.number c.args.piece.now c.args.self.now c.in-Some.place (sym c.place_of.ensures ∙ c.in-Some.is) c.if-is_empty.ensures k)
+
+pub returns-in_err-answered-clause-always : goal.returns-in_err-answered-clause-always
+returns-in_err-answered-clause-always g c = λ k.
+    absurd (not-always c.args.number c.args.piece.now c.args.self.now c.in-Some.place (sym c.place_of.ensures ∙ c.in-Some.is) c.if-is_empty.ensures k)

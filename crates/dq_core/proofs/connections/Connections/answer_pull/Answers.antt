@@ -4,7 +4,7 @@ use Rattle.std.specs.Option.{option_copied_mut}
 use Rattle.dq_core.specs.declared.event.Reply.TheVariants as reply
 use Rattle.dq_core.specs.Pages.{next_page}
 use Rattle.dq_core.specs.Queries.{query_in}
-use Rattle.dq_core.proofs.Turning.{vacant, pull-none, pull-answered, not-pending}
+use Rattle.dq_core.proofs.Turning.{vacant, pull-none, pull-answered, not-pending, no-search}
 use Rattle.dq_core.proofs.connections.Connections.answer_pull.Goals as goal
 
 pub returns-in_default-clause-turned : goal.returns-in_default-clause-turned
@@ -28,3 +28,8 @@ returns-clause-turned c = λ world h.
     (sym c.place_of.ensures ∙ c.in-Some.is) (sym c.get_mut.ensures.value ∙ ap option_copied_mut c.in-Some-get_mut.is) c.in_ok-octets.ensures.keeps
     (next_page (query_in old.query)) refl c.in_ok-octets.ensures.left c.octets_reply.result
     (c.octets_reply.ensures ∙ ap (λ (octets : List ℕ). reply.Octets c.args.number octets false) c.in_ok-octets.ensures.page)
+
+pub returns-in_err-octets-clause-always : goal.returns-in_err-octets-clause-always
+returns-in_err-octets-clause-always c = λ none.
+    absurd (false≢true (c.in_err-octets.ensures.quiet (no-search c.args.number c.in-Some.place c.args.self.now c.in-Some-get_mut.slot.now
+    (sym c.place_of.ensures ∙ c.in-Some.is) (sym c.get_mut.ensures.value ∙ ap option_copied_mut c.in-Some-get_mut.is) none)))

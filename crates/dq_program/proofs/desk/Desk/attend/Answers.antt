@@ -12,6 +12,6 @@ returns-in-Left-clause-went g c = λ log. went-nowhere g.T.Tables.state log _
 
 pub returns-in_ok-answer-in-Line-clause-went : goal.returns-in_ok-answer-in-Line-clause-went
 returns-in_ok-answer-in-Line-clause-went g c =
-    let answered = c.in_ok-answer-in-Line.ensures.answered in
-    went-by-answer g.T.Tables.state c.in_ok-answer-in-Line.ensures.hold c.in_ok-answer-in-Line.ensures.fault _ _
-    c.calls_are_a_serving.ensures.order c.calls_are_a_serving.ensures.look answered.0 answered.2 answered.3
+    let answered = c.in_ok-answer-in-Line.ensures in
+    went-by-answer g.T.Tables.state answered.hold answered.fault _ _ c.calls_are_a_serving.ensures.order c.calls_are_a_serving.ensures.look
+    c.in_ok-line-in-Line.line c.in_ok-line-in-Line.ensures.orders answered.answered

@@ -1,31 +1,24 @@
-use Rattle.std.proofs.Common.{arith, ◌∙◌}
+use Rattle.std.proofs.Common.{arith}
 use Rattle.sqlite.specs.State.{HasCleanDisk}
 use Rattle.sqlite.specs.Held.{state}
-use Rattle.dq_tables.specs.declared.row.Kind.TheVariants.{Study}
-use Rattle.dq_sql.specs.Choosing.{waiting_of}
-use Rattle.dq_sql.specs.Kept.{kept_sound}
-use Rattle.dq_sql.proofs.Taken.{studies_wait}
+use Rattle.dq_tables.specs.Choosing.{studies_in}
 use Rattle.dq_sql.proofs.Keeping.{rows_set, if_ok, found_in, stays_kept, still_counted}
 use Rattle.dq_sql.proofs.sql_tables.SqlTablesTables.studies_in.Goals as goal
 
 pub invariant_of-self : goal.invariant_of-self
 invariant_of-self g c =
     let it = c.args.self.now in
-    let stays = c.waiting_of-answer.ensures.stays in
+    let stays = c.studies_in-answer.ensures.stays in
     record {
       alone = stays.mode it.alone;
-      keeps = stays_kept (state g.S.Store it.conn) (state g.S.Store c.waiting_of-answer.new.conn) it.history.rows it.alone stays it.keeps;
-      counted = still_counted (state g.S.Store it.conn) (state g.S.Store c.waiting_of-answer.new.conn) it.history.rows it.counts stays.survives it.counted;
+      keeps = stays_kept (state g.S.Store it.conn) (state g.S.Store c.studies_in-answer.new.conn) it.history.rows it.alone stays it.keeps;
+      counted = still_counted (state g.S.Store it.conn) (state g.S.Store c.studies_in-answer.new.conn) it.history.rows it.counts stays.survives it.counted;
     }
 
 pub returns-clause-found : goal.returns-clause-found
 returns-clause-found g c clean =
     let it = c.args.self.now in
-    let choice = c.args.choice.now in
-    let institution = c.args.institution.now in
-    let before : HasCleanDisk (state g.S.Store it.conn) = omega (arith, c.waiting_of-answer.ensures.stays.survives.clean) in
+    let before : HasCleanDisk (state g.S.Store it.conn) = omega (arith, c.studies_in-answer.ensures.stays.survives.clean) in
     rw c.noted.ensures.same
-    (if_ok c.waiting_of-answer.result _ _ (λ found h.
-    found_in rows_set (state g.S.Store it.conn) it.history.rows (waiting_of Study choice institution) found it.keeps before h
-    ∙ studies_wait choice institution it.history.rows (kept_sound (state g.S.Store it.conn) it.history.rows it.keeps before))
-    (c.waiting_of-answer.ensures.found clean))
+    (if_ok c.studies_in-answer.result _ _ (λ found h. found_in rows_set (state g.S.Store it.conn) it.history.rows (studies_in c.args.choice.now c.args.institution.now) found it.keeps before h)
+    (c.studies_in-answer.ensures.found clean))

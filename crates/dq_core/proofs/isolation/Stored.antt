@@ -1,0 +1,131 @@
+-- What the status of a C-STORE says, over rows that the server made.
+use Rattle.std.proofs.Common.{◌≡◌, ℕ, ◌==◌, Bool, true, false, not, if◌then◌else◌, List, [], ◌∷◌, length, Option, Some, None, refl, sym, ap, ◌∙◌, subst, arith}
+use Rattle.std.specs.List.{AllByRecursion}
+use Rattle.std.specs.Result.{result_unwrap_or}
+use Rattle.std.specs.Str.{bytes_eq}
+use Rattle.dq_dataset.specs.declared.header.Syntax.{Syntax}
+use Rattle.dq_dataset.specs.Grammar.{AreOctets}
+use Rattle.dq_dataset.specs.Reading.{reading}
+use Rattle.dq_dataset.specs.Tree.{no_elements}
+use Rattle.dq_dimse.specs.CommandFields.{c_cancel}
+use Rattle.dq_dimse.specs.Received.{Message}
+use Rattle.dq_dimse.specs.Statuses.{success, elements_discarded, sop_class_not_supported, unrecognized_operation}
+use Rattle.dq_assoc.specs.declared.agreement.AgreedContext.{AgreedContext}
+use Rattle.dq_assoc.specs.declared.agreement.Agreement.{Agreement}
+use Rattle.dq_assoc.specs.declared.classes.Service.{Service}
+use Rattle.dq_assoc.specs.declared.classes.Service.TheVariants.{Storage}
+use Rattle.dq_assoc.specs.Classes.{service_of, uid_of}
+use Rattle.dq_assoc.specs.Negotiation.{context_of}
+use Rattle.dq_assoc.specs.Table.{Sent}
+use Rattle.dq_config.specs.declared.config.Institution.{Institution}
+use Rattle.dq_config.specs.Limits.{Limits, limits_of}
+use Rattle.dq_match.specs.declared.responses.Found.{Found}
+use Rattle.dq_tables.specs.declared.row.Row.{Row}
+use Rattle.dq_tables.specs.Rows.{Record, Edit, of, by, after}
+use Rattle.dq_tables.specs.Sound.{IsSound}
+use Rattle.dq_store.specs.Levels.{is_of_its_level, stands_whole}
+use Rattle.dq_store.specs.Storing.{instance_in, stored}
+use Rattle.dq_core.specs.declared.event.Event.{Event}
+use Rattle.dq_core.specs.declared.event.Reply.{Reply}
+use Rattle.dq_core.specs.Runs.{IsRun}
+use Rattle.dq_core.specs.Services.{Responses, Served, served, served_by, has_operation, refusal_for, operation, outcome_on, outcome_unless}
+use Rattle.dq_core.specs.Soundness.{AreMade, BringOctets}
+use Rattle.dq_core.specs.Conversations.{Arrival, InputAt, arrivals}
+use Rattle.dq_core.specs.Stores.{SaysWhatStands, IsToldTruly, IsToldTrulyAt}
+use Rattle.dq_core.proofs.isolation.Octets.{to-octets}
+use Rattle.dq_core.proofs.isolation.Keeping.{Edits, ServicesKeep, within-kept}
+use Rattle.dq_core.proofs.isolation.Soundness.{none-sound}
+use Rattle.dq_core.proofs.isolation.Arriving.{IsMetAt, each-met}
+use Rattle.dq_core.proofs.isolation.Exact.{responses-are}
+
+pub none-made : AreMade []
+none-made = record { sound = none-sound; levels = tt }
+
+module _ (keep : ServicesKeep AreMade) (lens : Edits) where
+  pub run-made : (institutions : List Institution) (rows : List Row) (events : List Event) (given : List Reply) (kept : List Row)
+      → IsRun institutions rows events given kept → BringOctets events → AreMade rows → AreMade kept
+  run-made institutions rows events given kept run brings made =
+      subst AreMade (sym run.rows_then) (within-kept AreMade keep lens institutions rows events brings made (length given) run.operations)
+
+-- ---- what the law of C-STORE says
+
+-- what a status says where it has one of two numbers
+abbrev Says : ℕ → Bool → Type 0
+Says wanted b = (name : List ℕ) (limits : Limits) (rows : List Row) (message : Message) (syntax : Syntax) → AreOctets message.octets → IsSound rows
+    → AllByRecursion (λ (row : Row). is_of_its_level row ≡ true) rows → (stored limits (of name rows) message syntax).0 ≡ wanted
+    → stands_whole (of name (after (by name (stored limits (of name rows) message syntax).1) rows))
+    (instance_in (result_unwrap_or (reading syntax message.octets) no_elements)) ≡ b
+
+-- a refusal is neither
+refused-other : (has is : Bool) (status : ℕ) → (if not has then Some unrecognized_operation else (if not is then Some sop_class_not_supported else None)) ≡ Some status
+    → (status ≡ success → ⊥) × (status ≡ elements_discarded → ⊥)
+refused-other true true status e = cc
+refused-other true false status e =
+    let one : sop_class_not_supported ≡ status = cc in (λ s. absurd (omega (arith, one, s)), λ s. absurd (omega (arith, one, s)))
+refused-other false is status e =
+    let one : unrecognized_operation ≡ status = cc in (λ s. absurd (omega (arith, one, s)), λ s. absurd (omega (arith, one, s)))
+
+module _ (whole : Says success true) (discarded : Says elements_discarded false) (name : List ℕ) (rows : List Row) (limits : Limits) (a : Agreement)
+    (message : Message) (are : AreOctets message.octets) (made : AreMade rows) (context : AgreedContext) where
+  abbrev records : List Record
+  records = of name rows
+
+  abbrev Told : Found × List Edit → Type 0
+  Told outcome = SaysWhatStands (of name (after (by name outcome.1) rows))
+      (instance_in (result_unwrap_or (reading context.syntax message.octets) no_elements)) outcome.0.status
+
+  operation-told : (s : Service) → s ≡ Storage → Told (operation s a.called context.syntax limits message records)
+  operation-told Storage e = record {
+    whole = λ s. whole name limits rows message context.syntax are made.sound.sound made.levels s;
+    discarded = λ s. discarded name limits rows message context.syntax are made.sound.sound made.levels s;
+  }
+  operation-told other e = cc
+
+  outcome-told : (p : Option ℕ) → refusal_for context.class message.command ≡ p → service_of context.class ≡ Storage
+      → Told (outcome_unless p a context limits message records)
+  outcome-told (Some status) e service =
+      let other = refused-other (has_operation (service_of context.class) message.command.code) (bytes_eq message.command.sop_class (uid_of context.class)) status e in
+      record { whole = λ s. absurd (other.0 s); discarded = λ s. absurd (other.1 s) }
+  outcome-told None e service = operation-told (service_of context.class) service
+
+  -- what is served where the message is not a C-CANCEL
+  served-is : (b : Bool) → (message.command.code == c_cancel) ≡ b → context_of a message.context ≡ Some context → (r : Responses)
+      → (served limits records a message).responses ≡ Some r
+      → served limits records a message ≡ served_by context message.command (outcome_on a context limits message records)
+  unfolding served
+  served-is true h on r e =
+      let computed : (served limits records a message).responses ≡ None = rw (on, h) refl in
+      let both : None ≡ Some r = sym computed ∙ e in cc
+  served-is false h on r e = rw (on, h) refl
+
+  message-told : (r : Responses) → context_of a message.context ≡ Some context → service_of context.class ≡ Storage
+      → (served limits records a message).responses ≡ Some r
+      → SaysWhatStands (of name (after (by name (served limits records a message).edits) rows))
+      (instance_in (result_unwrap_or (reading context.syntax message.octets) no_elements)) r.final.0.status
+  message-told r on service e =
+      let is = served-is (message.command.code == c_cancel) refl on r e in
+      let answered = responses-are limits records a message context r (message.command.code == c_cancel) refl on e in
+      subst (λ (status : ℕ). SaysWhatStands (of name (after (by name (served limits records a message).edits) rows))
+      (instance_in (result_unwrap_or (reading context.syntax message.octets) no_elements)) status) (sym (ap (λ (x : Responses). x.final.0.status) answered))
+      (subst (λ (edits : List Edit). SaysWhatStands (of name (after (by name edits) rows))
+      (instance_in (result_unwrap_or (reading context.syntax message.octets) no_elements)) (outcome_on a context limits message records).0.status)
+      (sym (ap (λ (x : Served). x.edits) is)) (outcome-told (refusal_for context.class message.command) refl service))
+
+module _ (whole : Says success true) (discarded : Says elements_discarded false) where
+  pub truly-told : (name : List ℕ) (rows : List Row) (limits : Limits) (a : Agreement) (message : Message) → AreOctets message.octets → AreMade rows
+      → IsToldTruly limits name rows a message
+  truly-told name rows limits a message are made = λ context r on service e.
+      message-told whole discarded name rows limits a message are made context r on service e
+
+  truly-at : (i : Institution) (x : Arrival) → IsMetAt AreMade x → IsToldTrulyAt i x
+  truly-at i (InputAt world (Sent message)) s = λ a. truly-told i.name world.rows (limits_of i) a message (to-octets message.octets s.1) s.0
+  truly-at i x s = tt
+
+  each-truly : (i : Institution) (xs : List Arrival) → AllByRecursion (IsMetAt AreMade) xs → AllByRecursion (IsToldTrulyAt i) xs
+  each-truly i [] each = tt
+  each-truly i (x ∷ xs) each = (truly-at i x each.0, each-truly i xs each.1)
+
+  pub history-told : ServicesKeep AreMade → Edits → (institutions : List Institution) (rows : List Row) (events : List Event) (number : ℕ) (i : Institution)
+      → BringOctets events → AreMade rows → AllByRecursion (IsToldTrulyAt i) (arrivals institutions rows number [] events)
+  history-told keep lens institutions rows events number i brings made =
+      each-truly i (arrivals institutions rows number [] events) (each-met AreMade keep lens institutions rows number made [] events tt brings)

@@ -1,0 +1,31 @@
+//! The sockets of the program, with the log of their connections.
+ghost use Rattle.std.specs.Prelude.{◌≤◌, length, IfOk};
+ghost use Rattle.dq_wires.specs.Logs.{IfGot};
+
+use dq_wires::{LogEnd, LoggedWires, ReadTurn, SocketWires, WireFault, Wires};
+
+/// Sockets whose connections are told of in a log, if there is one.
+#[derive(Drop)]
+pub struct LoggedSockets(pub LoggedWires<SocketWires, LogEnd>);
+
+impl Wires for LoggedSockets {
+    ghost use Rattle.std.specs.Prelude.{None};
+
+    ghost log = { λ _. None };
+
+    fn accept(&mut self) -> Result<Option<usize>, WireFault> {
+        self.0.accept()
+    }
+
+    fn read(&mut self, place: usize, buffer: &mut [u8]) -> Result<ReadTurn, WireFault> {
+        self.0.read(place, buffer)
+    }
+
+    fn write(&mut self, place: usize, octets: &[u8]) -> Result<usize, WireFault> {
+        self.0.write(place, octets)
+    }
+
+    fn shut(&mut self, place: usize) -> Result<(), WireFault> {
+        self.0.shut(place)
+    }
+}

@@ -1,0 +1,212 @@
+//! Connections over sockets, and when they are given up, by a clock that is set.
+use dq_wires::{GivesUp, Limits, ReadTurn, Reason, SocketWires, WireFault, Wires};
+use std::alloc::Global;
+use std::cell::Cell;
+use std::io::{self, Read, Write};
+use std::net::{Ipv4Addr, SocketAddr, TcpStream};
+use std::os::unix::fs::PermissionsExt;
+use std::os::unix::net::UnixStream;
+use std::test::Fail;
+use std::time::{Clock, Duration};
+use std::{env, fs, process};
+
+/// An A-ASSOCIATE-AC without a body, which is enough to be one that was answered, and an A-ABORT
+/// (PS3.8 sections 9.3.3 and 9.3.8).
+const ACCEPTED: [u8; 6] = [2, 0, 0, 0, 0, 0];
+
+const ABORT: [u8; 10] = [7, 0, 0, 0, 0, 4, 0, 0, 2, 0];
+
+/// The header of a P-DATA-TF of 2^24 octets (PS3.8 section 9.3.5).
+const DATA: [u8; 6] = [4, 0, 1, 0, 0, 0];
+
+/// A clock that is set by hand, in seconds.
+#[derive(Drop)]
+struct Hand(Cell<u64>);
+
+impl Clock for Hand {
+    fn monotonic(&self) -> io::Result<Duration> {
+        Ok(Duration::from_secs(self.0.get()))
+    }
+
+    fn since_1970(&self) -> io::Result<Duration> {
+        Ok(Duration::from_secs(self.0.get()))
+    }
+}
+
+fn listen(rt: &HostRuntime, limits: Limits) -> Result<SocketWires, Fail> {
+    let address = SocketAddr::from((Ipv4Addr::LOCALHOST, 0));
+    let mut wires = SocketWires::listen(rt.alloc(), rt, address)?;
+    wires.set_limits(limits);
+    Ok(wires)
+}
+
+/// After 30 seconds by ARTIM.
+fn artim() -> Limits {
+    Limits {
+        artim: Some(Duration::from_secs(30)),
+        ..Limits::default()
+    }
+}
+
+/// Rests so that time has passed by the clock.
+fn pass(wires: &mut SocketWires, clock: &Hand, seconds: u64) -> Result<(), Fail> {
+    wires.rest(clock, Duration::from_millis(20))?;
+    clock.0.set(clock.0.get().saturating_add(seconds));
+    wires.rest(clock, Duration::from_millis(20))?;
+    Ok(())
+}
+
+fn reason_at(wires: &SocketWires, place: usize) -> Option<Reason> {
+    Some(wires.given_up(place)?.reason)
+}
+
+#[test]
+fn who_asks_for_nothing_is_given_up(rt: HostRuntime) -> Result<(), Fail> {
+    let clock = Hand(Cell::new(0));
+    let mut wires = listen(&rt, artim())?;
+    let _peer = TcpStream::connect(&rt, wires.address()?)?;
+    let mut buffer = [0; 16];
+    pass(&mut wires, &clock, 29)?;
+    assert_eq!(rt; wires.accept(), Ok(Some(0)));
+    pass(&mut wires, &clock, 29)?;
+    assert_eq!(rt; wires.read(0, &mut buffer), Ok(ReadTurn::Nothing));
+    pass(&mut wires, &clock, 1)?;
+    assert_eq!(rt; wires.read(0, &mut buffer), Ok(ReadTurn::Ended));
+    assert!(rt; reason_at(&wires, 0) == Some(Reason::Artim));
+    Ok(())
+}
+
+#[test]
+fn who_sends_octet_by_octet_is_given_up(rt: HostRuntime) -> Result<(), Fail> {
+    let clock = Hand(Cell::new(0));
+    let mut wires = listen(&rt, artim())?;
+    let mut peer = TcpStream::connect(&rt, wires.address()?)?;
+    let mut buffer = [0; 16];
+    assert_eq!(rt; wires.accept(), Ok(Some(0)));
+    pass(&mut wires, &clock, 30)?;
+    for _ in 0..2 {
+        peer.write_all(b"\x01")?;
+        wires.rest(&clock, Duration::from_secs(5))?;
+    }
+    assert_eq!(rt; wires.read(0, &mut buffer[..1]), Ok(ReadTurn::Got(1)));
+    assert_eq!(rt; wires.read(0, &mut buffer[..1]), Ok(ReadTurn::Ended));
+    assert!(rt; reason_at(&wires, 0) == Some(Reason::Artim));
+    Ok(())
+}
+
+#[test]
+fn who_was_answered_may_be_silent(rt: HostRuntime) -> Result<(), Fail> {
+    let clock = Hand(Cell::new(0));
+    let mut wires = listen(&rt, artim())?;
+    let _peer = TcpStream::connect(&rt, wires.address()?)?;
+    assert_eq!(rt; wires.accept(), Ok(Some(0)));
+    assert_eq!(rt; wires.write(0, &ACCEPTED), Ok(6));
+    pass(&mut wires, &clock, 3600)?;
+    assert_eq!(rt; wires.read(0, &mut [0; 16]), Ok(ReadTurn::Nothing));
+    assert!(rt; reason_at(&wires, 0).is_none());
+    wires.set_limits(Limits {
+        quiet: Some(Duration::from_secs(60)),
+        ..artim()
+    });
+    assert_eq!(rt; wires.read(0, &mut [0; 16]), Ok(ReadTurn::Ended));
+    assert!(rt; reason_at(&wires, 0) == Some(Reason::Quiet));
+    Ok(())
+}
+
+#[test]
+fn who_takes_no_last_pdu_is_given_up(rt: HostRuntime) -> Result<(), Fail> {
+    let clock = Hand(Cell::new(0));
+    let mut wires = listen(&rt, artim())?;
+    let _peer = TcpStream::connect(&rt, wires.address()?)?;
+    assert_eq!(rt; wires.accept(), Ok(Some(0)));
+    assert_eq!(rt; wires.write(0, &DATA), Ok(6));
+    let mut rest = Vec::new(rt.alloc());
+    rest.resize(1 << 24, 0)?;
+    let taken = wires.write(0, rest.as_slice());
+    let Ok(count) = taken else {
+        return Err(Fail::from("nothing is written"));
+    };
+    rest.extend_from_slice(&ABORT)?;
+    let Some(rest) = rest.as_slice().get(count..) else {
+        return Err(Fail::from("too much is written"));
+    };
+    assert!(rt; rest.len() > ABORT.len());
+    pass(&mut wires, &clock, 3600)?;
+    assert!(rt; wires.write(0, rest).is_ok());
+    pass(&mut wires, &clock, 29)?;
+    assert!(rt; wires.write(0, rest).is_ok());
+    pass(&mut wires, &clock, 1)?;
+    assert_eq!(rt; wires.write(0, rest), Err(WireFault));
+    assert!(rt; reason_at(&wires, 0) == Some(Reason::Artim));
+    Ok(())
+}
+
+#[test]
+fn one_too_many_of_an_address_is_closed(rt: HostRuntime) -> Result<(), Fail> {
+    let clock = Hand(Cell::new(0));
+    let mut wires = listen(
+        &rt,
+        Limits {
+            peer_connections: Some(1),
+            ..Limits::default()
+        },
+    )?;
+    let _first = TcpStream::connect(&rt, wires.address()?)?;
+    let mut second = TcpStream::connect(&rt, wires.address()?)?;
+    pass(&mut wires, &clock, 0)?;
+    assert_eq!(rt; wires.accept(), Ok(Some(0)));
+    assert!(rt; wires.turned_away().is_none());
+    assert_eq!(rt; wires.accept(), Ok(None));
+    let Some(given_up) = wires.turned_away() else {
+        return Err(Fail::from("it is not told"));
+    };
+    assert!(rt; given_up.reason == Reason::PeerConnections);
+    assert!(rt; given_up.peer == Some(second.local_addr()?));
+    assert_eq!(rt; second.read(&mut [0; 1])?, 0);
+    assert_eq!(rt; wires.accept(), Ok(None));
+    assert!(rt; wires.turned_away().is_none());
+    Ok(())
+}
+
+#[test]
+fn a_rest_ends_for_other_wires(rt: HostRuntime) -> Result<(), Fail> {
+    let mut wires = listen(&rt, Limits::default())?;
+    let mut others = listen(&rt, Limits::default())?;
+    wires.watch(&others)?;
+    assert_eq!(rt; others.accept(), Ok(None));
+    let _peer = TcpStream::connect(&rt, others.address()?)?;
+    wires.rest_with(&mut others, &rt, Duration::from_secs(50))?;
+    assert_eq!(rt; others.accept(), Ok(Some(0)));
+    Ok(())
+}
+
+/// A path for a socket of this process, and the wires there.
+fn listen_at(alloc: Global, rt: &HostRuntime, path: &str) -> Result<SocketWires, Fail> {
+    Ok(SocketWires::listen_at(alloc, rt, path)?)
+}
+
+#[test]
+fn a_path_is_its_owners_and_is_made_anew(rt: HostRuntime) -> Result<(), Fail> {
+    let alloc = rt.alloc();
+    let name = format!(in alloc; "newtiron-{}", process::id(rt.process()))?;
+    let folder = env::temp_dir(&rt)?;
+    let at = folder.join(alloc, name.as_str())?;
+    let path = at.as_path().to_string_lossy();
+    let first = listen_at(alloc, &rt, path)?;
+    assert_eq!(rt;
+        fs::metadata(&rt, path)?.permissions().mode() & 0o777,
+        0o600
+    );
+    assert!(rt; SocketWires::listen_at(alloc, &rt, path).is_err());
+    drop(first);
+    let mut wires = listen_at(alloc, &rt, path)?;
+    let _peer = UnixStream::connect(&rt, path)?;
+    wires.rest(&rt, Duration::from_secs(5))?;
+    assert_eq!(rt; wires.accept(), Ok(Some(0)));
+    fs::remove_file(&rt, path)?;
+    fs::write(&rt, path, b"rows")?;
+    assert!(rt; SocketWires::listen_at(alloc, &rt, path).is_err());
+    assert_eq!(rt; fs::read(&rt, path)?.as_slice(), b"rows".as_slice());
+    fs::remove_file(&rt, path)?;
+    Ok(())
+}

@@ -1,0 +1,24 @@
+use Rattle.std.proofs.Common.{arith}
+use Rattle.sqlite.specs.State.{HasCleanDisk}
+use Rattle.sqlite.specs.Held.{state}
+use Rattle.dq_tables.specs.Finding.{waiting}
+use Rattle.dq_sql.proofs.Keeping.{rows_set, if_ok, found_in, stays_kept, still_counted}
+use Rattle.dq_sql.proofs.sql_tables.SqlTablesTables.waiting.Goals as goal
+
+pub invariant_of-self : goal.invariant_of-self
+invariant_of-self g c =
+    let it = c.args.self.now in
+    let stays = c.waiting-answer.ensures.stays in
+    record {
+      alone = stays.mode it.alone;
+      keeps = stays_kept (state g.S.Store it.conn) (state g.S.Store c.waiting-answer.new.conn) it.history.rows it.alone stays it.keeps;
+      counted = still_counted (state g.S.Store it.conn) (state g.S.Store c.waiting-answer.new.conn) it.history.rows it.counts stays.survives it.counted;
+    }
+
+pub returns-clause-found : goal.returns-clause-found
+returns-clause-found g c clean =
+    let it = c.args.self.now in
+    let before : HasCleanDisk (state g.S.Store it.conn) = omega (arith, c.waiting-answer.ensures.stays.survives.clean) in
+    rw c.noted.ensures.same
+    (if_ok c.waiting-answer.result _ _ (λ found h. found_in rows_set (state g.S.Store it.conn) it.history.rows (waiting c.args.institution.now) found it.keeps before h)
+    (c.waiting-answer.ensures.found clean))

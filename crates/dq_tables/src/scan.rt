@@ -1,0 +1,146 @@
+//! Rows, scanned.
+ghost use Rattle.std.specs.Prelude.{◌≡◌, ◌&&◌, IfOk, length, option_copied};
+ghost use Rattle.std.specs.Str.{bytes_eq};
+ghost use Rattle.dq_tables.specs.Finding.{is_of, row_at, rows_of, rows_above, waiting};
+ghost use Rattle.dq_tables.specs.Choosing.{studies_in};
+
+use crate::choice::Choice;
+use crate::row::{Kind, Row};
+use dq_list::Listed;
+use std::alloc::{AllocError, Global};
+
+/// Whether a row is the institution's and of a kind.
+fn is_of(row: &Row, kind: Kind, institution: &[u8]) -> bool
+    ensures { result ≡ is_of kind institution.now row.now }
+{
+    row.kind.number() == kind.number() && row.inst.as_slice() == institution
+}
+
+/// Whether a row is the institution's, of a kind, and has the key.
+fn has_key(row: &Row, kind: Kind, institution: &[u8], key: &[u8]) -> bool
+    ensures { result ≡ (is_of kind institution.now row.now && bytes_eq row.now.key key.now) }
+{
+    is_of(row, kind, institution) && row.key.as_slice() == key
+}
+
+/// The institution's row of a kind with the key.
+#[tactic(auto, unfolding(crate::specs::Finding::row_at))]
+fn find<'a>(rows: &'a [Row], kind: Kind, institution: &[u8], key: &[u8]) -> Option<&'a Row>
+    ensures { option_copied result ≡ row_at kind institution.now key.now rows.now }
+{
+    rows.iter().find(|row| has_key(row, kind, institution, key))
+}
+
+/// A copy of the institution's row of a kind with the key.
+pub(crate) fn row_at(
+    alloc: Global,
+    rows: &[Row],
+    kind: Kind,
+    institution: &[u8],
+    key: &[u8],
+) -> Result<Option<Row>, AllocError>
+    ensures { IfOk result (λ row. row ≡ row_at kind institution.now key.now rows.now) }
+{
+    match find(rows, kind, institution, key) {
+        Some(row) => Ok(Some(row.copied(alloc)?)),
+        None => Ok(None),
+    }
+}
+
+/// Copies of the institution's rows of a kind.
+#[tactic(auto, unfolding(crate::specs::Finding::rows_of))]
+pub(crate) fn rows_of(
+    alloc: Global,
+    rows: &[Row],
+    kind: Kind,
+    institution: &[u8],
+) -> Result<Listed<Row>, AllocError>
+    ensures { IfOk result (λ copies. copies ≡ rows_of kind institution.now rows.now) }
+{
+    let mut copies = Listed::empty(alloc);
+    for row in rows {
+        if is_of(row, kind, institution) {
+            copies.push(row.copied(alloc)?)?;
+        }
+    }
+    Ok(copies)
+}
+
+/// Copies of the institution's rows of a kind under another row.
+#[tactic(auto, unfolding(crate::specs::Finding::rows_of, crate::specs::Finding::rows_above))]
+pub(crate) fn rows_above(
+    alloc: Global,
+    rows: &[Row],
+    kind: Kind,
+    institution: &[u8],
+    above: &[u8],
+) -> Result<Listed<Row>, AllocError>
+    ensures { IfOk result (λ copies.
+        copies ≡ rows_above kind institution.now above.now rows.now) }
+{
+    let mut copies = Listed::empty(alloc);
+    for row in rows {
+        if is_of(row, kind, institution) && row.above.as_slice() == above {
+            copies.push(row.copied(alloc)?)?;
+        }
+    }
+    Ok(copies)
+}
+
+/// How many rows of a kind the institution has.
+#[tactic(auto, unfolding(crate::specs::Finding::rows_of))]
+pub(crate) fn count_of(rows: &[Row], kind: Kind, institution: &[u8]) -> u64
+    ensures { result ≡ length (rows_of kind institution.now rows.now) }
+{
+    rows.iter()
+        .filter(|row| is_of(row, kind, institution))
+        .count() as u64
+}
+
+/// How many rows of a kind the institution has under another row.
+#[tactic(auto, unfolding(crate::specs::Finding::rows_of, crate::specs::Finding::rows_above))]
+pub(crate) fn count_above(rows: &[Row], kind: Kind, institution: &[u8], above: &[u8]) -> u64
+    ensures { result ≡ length (rows_above kind institution.now above.now rows.now) }
+{
+    rows.iter()
+        .filter(|row| is_of(row, kind, institution))
+        .filter(|row| row.above.as_slice() == above)
+        .count() as u64
+}
+
+/// Copies of the institution's studies that a choice takes.
+#[tactic(auto, unfolding(crate::specs::Finding::rows_of, crate::specs::Choosing::studies_in))]
+pub(crate) fn studies_in(
+    alloc: Global,
+    rows: &[Row],
+    institution: &[u8],
+    choice: &Choice,
+) -> Result<Listed<Row>, AllocError>
+    ensures { IfOk result (λ copies. copies ≡ studies_in choice.now institution.now rows.now) }
+{
+    let mut copies = Listed::empty(alloc);
+    for row in rows {
+        if is_of(row, Kind::Study, institution) && choice.takes(alloc, row)? {
+            copies.push(row.copied(alloc)?)?;
+        }
+    }
+    Ok(copies)
+}
+
+/// Copies of the institution's worklist entries that no performed procedure step has started.
+#[tactic(auto, unfolding(crate::specs::Finding::rows_of, crate::specs::Finding::waiting))]
+pub(crate) fn waiting(
+    alloc: Global,
+    rows: &[Row],
+    institution: &[u8],
+) -> Result<Listed<Row>, AllocError>
+    ensures { IfOk result (λ copies. copies ≡ waiting institution.now rows.now) }
+{
+    let mut copies = Listed::empty(alloc);
+    for row in rows {
+        if is_of(row, Kind::Entry, institution) && !row.started {
+            copies.push(row.copied(alloc)?)?;
+        }
+    }
+    Ok(copies)
+}

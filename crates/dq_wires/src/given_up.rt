@@ -1,0 +1,64 @@
+//! Connections that the server's side gives up.
+use std::fmt;
+use std::net::SocketAddr;
+use std::time::Duration;
+
+/// When connections are given up: how long the ARTIM timer runs (PS3.8 section 9.1.5), how long no
+/// octet may pass in either direction, and how many connections of one address there may be; of
+/// `None` never.
+#[derive(Clone, Copy, Default)]
+pub struct Limits {
+    pub artim: Option<Duration>,
+    pub quiet: Option<Duration>,
+    pub peer_connections: Option<usize>,
+}
+
+/// Why a connection is given up.
+#[derive(Clone, Copy, PartialEq, Eq)]
+pub enum Reason {
+    /// The ARTIM timer ran out (PS3.8 section 9.1.5).
+    Artim,
+    /// No octet passed for too long.
+    Quiet,
+    /// There are as many of its address as may be.
+    PeerConnections,
+}
+
+/// A connection that was given up: its peer's address where it has one, and the reason.
+#[derive(Clone, Copy, PartialEq, Eq)]
+pub struct GivenUp {
+    pub peer: Option<SocketAddr>,
+    pub reason: Reason,
+}
+
+/// What may give up connections by itself, and tells which.
+pub trait GivesUp {
+    /// The connection at a place, if it was given up.
+    fn given_up(&self, _place: usize) -> Option<GivenUp> {
+        None
+    }
+
+    /// The connection that was closed when it was last asked for one, if that was so.
+    fn turned_away(&self) -> Option<GivenUp> {
+        None
+    }
+}
+
+impl fmt::Display for Reason {
+    fn fmt<W: fmt::Write>(&self, f: &mut fmt::Formatter<W>) -> fmt::Result {
+        f.write_str(match self {
+            Reason::Artim => "artim",
+            Reason::Quiet => "quiet",
+            Reason::PeerConnections => "peer-connections",
+        })
+    }
+}
+
+impl fmt::Display for GivenUp {
+    fn fmt<W: fmt::Write>(&self, f: &mut fmt::Formatter<W>) -> fmt::Result {
+        match self.peer {
+            Some(peer) => write!(f, "given up {peer} {}", self.reason),
+            None => write!(f, "given up - {}", self.reason),
+        }
+    }
+}
