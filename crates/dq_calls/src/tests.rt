@@ -1,7 +1,6 @@
 mod assemblers;
 mod data_sets;
 mod dictionary;
-mod lists;
 mod matching;
 mod messages;
 mod sieves;

@@ -300,14 +300,3 @@ fn the_long_lengths_are_the_standards(rt: HostRuntime) -> Result<(), Fail> {
     assert_eq!(rt; long, 13);
     Ok(())
 }
-
-#[test]
-fn happy_paths(rt: HostRuntime) {
-    assert!(rt; tags::STUDY_DATE.is_below(tags::PATIENT_NAME));
-    assert!(rt; !tags::PATIENT_NAME.is_below(tags::PATIENT_NAME));
-    assert_eq!(rt; Vr::from_letters(b'P', b'N'), Some(Vr::PN));
-    assert_eq!(rt; Vr::from_letters(b'p', b'n'), None);
-    assert!(rt; Vr::PN.is_text());
-    assert!(rt; !Vr::UI.is_text());
-    assert_eq!(rt; length_form(Vr::UI), LengthForm::Two);
-}

@@ -55,14 +55,6 @@ fn added(alloc: Global) -> Result<Change, Fail>
     Ok(Change::EntryAdded(entry(alloc)?))
 }
 
-#[test]
-fn kinds_and_faults_have_numbers(rt: HostRuntime) -> Result<(), Fail> {
-    assert_eq!(rt; Kind::from_number(Kind::Entry.number()), Some(Kind::Entry));
-    assert_eq!(rt; Kind::from_number(6), None);
-    assert_eq!(rt; TableFault::Store.number(), 2);
-    Ok(())
-}
-
 /// Whether tables have failed, and answer nothing.
 fn is_blown(alloc: Global, tables: &mut Fused<PlainTables>) -> bool {
     let blown = Fuse {
