@@ -326,24 +326,24 @@ fn task_command<'a>(alloc: Global, name: &'a str, about: &'a str) -> Result<Comm
     ensures local { IfOk result (λ built. (fields_of built).has_globals ≡ false) }
 {
     let config = value_option(alloc, "config", "FILE", CONFIGURATION);
+    let configured = Command::new(alloc, name)
+        .about(about)
+        .after_help(STATUSES)
+        .arg(config)?;
     let new = value_option(
         alloc,
         "new",
         "FILE",
         "Keeps the rows in a new store [default: in memory]",
     );
+    let begun = configured.arg(new)?;
     let store = value_option(
         alloc,
         "store",
         "FILE",
         "Keeps the rows in a store that is there",
     );
-    let command = Command::new(alloc, name)
-        .about(about)
-        .after_help(STATUSES)
-        .arg(config)?
-        .arg(new)?
-        .arg(store)?;
+    let command = begun.arg(store)?;
     Ok(command)
 }
 
@@ -461,6 +461,10 @@ fn migrate_command<'a>(alloc: Global) -> Result<Command<'a>, AllocError>
         "The store of version 1, which stays as it is",
     )
     .required(true);
+    let begun = Command::new(alloc, "migrate")
+        .about("Makes a new store of the rows of one of version 1; it reads no standard input")
+        .after_help(STATUSES)
+        .arg(from)?;
     let to = value_option(
         alloc,
         "to",
@@ -468,11 +472,7 @@ fn migrate_command<'a>(alloc: Global) -> Result<Command<'a>, AllocError>
         "The new store, which is made; it must not be there, or be empty",
     )
     .required(true);
-    let command = Command::new(alloc, "migrate")
-        .about("Makes a new store of the rows of one of version 1; it reads no standard input")
-        .after_help(STATUSES)
-        .arg(from)?
-        .arg(to)?;
+    let command = begun.arg(to)?;
     Ok(command)
 }
 
@@ -510,9 +510,9 @@ fn command<'a>(alloc: Global) -> Result<Command<'a>, AllocError>
     Ok(command)
 }
 
-/// The error of options that are not taken.
-fn misused(alloc: Global, misuse: Misuse) -> Result<clap::Error, AllocError> {
-    let (kind, text) = match misuse {
+/// What is wrong with options that are not taken, in words.
+fn reproach(misuse: Misuse) -> (ErrorKind, &'static str) {
+    match misuse {
         Misuse::TwoStores => (
             ErrorKind::ArgumentConflict,
             "the argument '--new <FILE>' cannot be used with '--store <FILE>'",
@@ -541,7 +541,12 @@ fn misused(alloc: Global, misuse: Misuse) -> Result<clap::Error, AllocError> {
             ErrorKind::MissingRequiredArgument,
             "the arguments '--from <FILE>' and '--to <FILE>' are required",
         ),
-    };
+    }
+}
+
+/// The error of options that are not taken.
+fn misused(alloc: Global, misuse: Misuse) -> Result<clap::Error, AllocError> {
+    let (kind, text) = reproach(misuse);
     command(alloc)?.error(kind, text)
 }
 
