@@ -38,3 +38,4 @@ mod Copied
 pub mod OneSchema
 pub mod Restarted
 pub mod InMemory
+mod InTurn

@@ -24,10 +24,10 @@ pub fails_same : (old new : State) (too_big : Type 0) (e : Error) → Fails old 
 fails_same old new too_big e h = rolled_same old new h.3
 
 module _ (sql : List ℕ) (params : Values) (old new : State) (silent : ShowsNoWrite sql) where
-  shows_none : (c : Compiled) → IsStatement old sql params c → c.returning ≡ None
+  pub shows_none : (c : Compiled) → IsStatement old sql params c → c.returning ≡ None
   shows_none c it = subst (λ r. IfOk r (λ c. c.returning ≡ None)) it.is (silent old.now.schema)
 
-  commits_none : (db : Trees) → ¬ CommitsShowing sql params old db
+  pub commits_none : (db : Trees) → ¬ CommitsShowing sql params old db
   unfolding CommitsShowing
   commits_none db h = absurd (let some = rw (shows_none h.0 h.1) at h.2 in cc)
 

@@ -22,6 +22,7 @@ ghost use Rattle.dq_tables.specs.Choosing.{studies_in};
 use crate::judging::value_at;
 use crate::reading;
 use crate::reading::{answered, rows_shown};
+use crate::silents::Silents;
 use dq_list::Listed;
 use dq_tables::laws::day_numbers_are_in_order;
 use dq_tables::{Choice, Kind, Row, TableFault};
@@ -30,7 +31,7 @@ use sqlite::{Alter, Connection};
 use std::alloc::{AllocError, Global};
 
 /// What a study may not say by one value.
-#[derive(Clone, Copy)]
+#[derive(Clone, Copy, PartialEq, Eq)]
 pub(crate) enum Label {
     Patient,
     Day,
@@ -203,26 +204,27 @@ fn without_within<S: Alter>(
     }
 }
 
-/// So many rows are read first where those are asked that do not say something. Each further time
-/// there are eight times as many, at last more than memory has room for.
-const FEWEST: u32 = 8;
-
+/// So often are those read that do not say something: each time eight times as many, at last more than
+/// memory has room for.
 const READINGS: usize = 10;
 
-/// The studies that do not say something.
+/// The studies that do not say something. Eight more are read first than there were the last time, so
+/// that they are read once where few are new.
 fn without<S: Alter>(
     conn: &mut Connection<S>,
     institution: &[u8],
     label: Label,
+    silents: &mut Silents,
 ) -> Result<Vec<sqlite::Row>, TableFault>
     ensures found { HasCleanDisk (state S.Store conn.new) → IfOk result (λ silent.
         HoldsOf (state S.Store conn.old) (λ rows.
         ShowsSilent label institution.now rows silent.items)) }
     ensures stays { Stays (state S.Store conn.old) (state S.Store conn.new) }
 {
-    let mut most = FEWEST;
+    let mut most = silents.most(institution, label);
     'more: for _ in 0..READINGS {
         if let Some(silent) = without_within(conn, institution, label, most)? {
+            silents.note(institution, label, silent.len());
             return Ok(silent);
         }
         most = most.saturating_mul(8);
@@ -278,6 +280,7 @@ fn with_key<S: Alter>(
 /// The studies of a patient, and those that do not say theirs.
 fn by_patient<S: Alter>(
     conn: &mut Connection<S>,
+    silents: &mut Silents,
     alloc: Global,
     institution: &[u8],
     patient: &[u8],
@@ -288,25 +291,26 @@ fn by_patient<S: Alter>(
     ensures stays { Stays (state S.Store conn.old) (state S.Store conn.new) }
 {
     let said = of_patient(conn, institution, patient)?;
-    let silent = without(conn, institution, Label::Patient)?;
+    let silent = without(conn, institution, Label::Patient, silents)?;
     shown_in_order(alloc, institution, said, silent)
 }
 
-/// The studies of some days, and those that do not say theirs.
+/// The studies of the days that a choice asks for, and those that do not say theirs.
 fn by_days<S: Alter>(
     conn: &mut Connection<S>,
+    silents: &mut Silents,
     alloc: Global,
     institution: &[u8],
-    first: Option<u32>,
-    last: Option<u32>,
+    choice: &Choice,
 ) -> Result<Listed<Row>, TableFault>
     ensures found { HasCleanDisk (state S.Store conn.new) → IfOk result (λ list.
         HoldsOf (state S.Store conn.old) (λ rows.
-        list ≡ filter (is_of_days first last) (rows_of Study institution.now rows))) }
+        list ≡ filter (is_of_days choice.now.first_day choice.now.last_day)
+        (rows_of Study institution.now rows))) }
     ensures stays { Stays (state S.Store conn.old) (state S.Store conn.new) }
 {
-    let said = of_days(conn, institution, first, last)?;
-    let silent = without(conn, institution, Label::Day)?;
+    let said = of_days(conn, institution, choice.first_day, choice.last_day)?;
+    let silent = without(conn, institution, Label::Day, silents)?;
     shown_in_order(alloc, institution, said, silent)
 }
 
@@ -314,6 +318,7 @@ fn by_days<S: Alter>(
 /// parts that asks something.
 pub(crate) fn studies_in<S: Alter>(
     conn: &mut Connection<S>,
+    silents: &mut Silents,
     alloc: Global,
     institution: &[u8],
     choice: &Choice,
@@ -328,11 +333,11 @@ pub(crate) fn studies_in<S: Alter>(
         return Ok(choice.among(alloc, rows)?);
     }
     if let Some(patient) = &choice.patient {
-        let rows = by_patient(conn, alloc, institution, patient.as_slice())?;
+        let rows = by_patient(conn, silents, alloc, institution, patient.as_slice())?;
         return Ok(choice.among(alloc, rows)?);
     }
     match (choice.first_day, choice.last_day) {
         (None, None) => reading::rows_of(conn, alloc, Kind::Study, institution),
-        (first, last) => by_days(conn, alloc, institution, first, last),
+        _ => by_days(conn, silents, alloc, institution, choice),
     }
 }

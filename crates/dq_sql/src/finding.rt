@@ -137,6 +137,6 @@ pub fn kept_rows<S: Alter>(
     if shaped != version {
         return Err(StoreFault::Store);
     }
-    let found = rows_read(conn, version)?;
+    let found = rows_read(conn, alloc, version)?;
     sound_rows(alloc, found)
 }

@@ -1,5 +1,5 @@
 //! Laws of tables over a store. Each function's contract is a law; its body does nothing.
-ghost use Rattle.std.specs.Prelude.{◌≡◌, ◌≢◌, List, map, IfOk, IfErr};
+ghost use Rattle.std.specs.Prelude.{◌≡◌, ◌≢◌, List, map, false, IfOk, IfErr};
 ghost use Rattle.sqlite_wal.specs.Files.{outcomes};
 ghost use Rattle.sqlite_wal.specs.Reads.{AreClean};
 ghost use Rattle.sqlite_wal.specs.Recovery.{Image};
@@ -7,6 +7,7 @@ ghost use Rattle.sqlite.specs.State.{HasCleanDisk, Opens};
 ghost use Rattle.sqlite.specs.Files.{file_state};
 ghost use Rattle.sqlite.specs.Start.{FindsIn};
 ghost use Rattle.dq_tables.specs.declared.row.Row.{Row};
+ghost use Rattle.dq_tables.specs.Keeping.{IsSettled};
 ghost use Rattle.dq_tables.specs.Rows.{IsRising};
 ghost use Rattle.dq_sql.specs.declared.fault.StoreFault.TheVariants.{WrongVersion, BadRows};
 ghost use Rattle.dq_sql.specs.Migrating.{migrated, with_start};
@@ -33,7 +34,8 @@ pub fn migrated_rows_are_the_rows_with_started_entries()
 
 /// What a crash leaves of tables is adopted. Let a connection be opened over files that hold what a
 /// crash could leave of the files of tables. Then it is adopted with rows that a crash could leave of
-/// the tables, and is refused neither as of another version nor for its rows.
+/// the tables, and is refused neither as of another version nor for its rows. A crash then leaves the
+/// rows that it has, and no others.
 pub fn what_a_crash_leaves_is_adopted<D: Disk + Drop, E: Disk + Drop>(
     alloc: Global,
     tables: SqlTables<FileStore<D>>,
@@ -42,7 +44,9 @@ pub fn what_a_crash_leaves_is_adopted<D: Disk + Drop, E: Disk + Drop>(
     Files<D>,
     Result<SqlTables<FileStore<E>>, (StoreFault, Connection<FileStore<E>>)>,
 )
-    ensures { AreClean D.Disk result.0.log result.0.db → (image : Image)
+    ensures honest { AreClean D.Disk result.0.log result.0.db
+        → (⟦<SqlTables<FileStore<D>> as Tables>⟧.state tables).honest }
+    ensures adopted { AreClean D.Disk result.0.log result.0.db → (image : Image)
         → outcomes D.Disk result.0.log result.0.db image
         → Opens (file_state conn) → FindsIn image (file_state conn)
         → ∥ ((rows : List Row)
@@ -51,6 +55,10 @@ pub fn what_a_crash_leaves_is_adopted<D: Disk + Drop, E: Disk + Drop>(
         → (⟦<SqlTables<FileStore<E>> as Tables>⟧.state t).rows ≡ rows)
         × IfErr result.1 (λ e. HasCleanDisk (file_state e.1)
         → (e.0 ≢ WrongVersion) × (e.0 ≢ BadRows))) ∥₁ }
+    ensures working { IfOk result.1 (λ t.
+        (⟦<SqlTables<FileStore<E>> as Tables>⟧.state t).failed ≡ false) }
+    ensures settled { IfOk result.1 (λ t. (⟦<SqlTables<FileStore<E>> as Tables>⟧.state t).honest
+        → IsSettled (⟦<SqlTables<FileStore<E>> as Tables>⟧.state t)) }
 {
     let files = tables.into_files();
     (files, SqlTables::adopt_lent(alloc, conn))

@@ -22,6 +22,7 @@ mod opening;
 mod placing;
 mod reading;
 mod schema_test;
+mod silents;
 mod sql_tables;
 mod version;
 mod writing;

@@ -275,11 +275,51 @@ pub(crate) fn count_above<S: Alter>(
     count_shown(answer.as_slice())
 }
 
+/// The rows that a query answers, read and copied one at a time, so that each is held once.
+fn in_turn<S: Alter>(
+    conn: &mut Connection<S>,
+    alloc: Global,
+    query: &str,
+) -> Result<Vec<sqlite::Row>, Error>
+    requires { ShowsNoWrite query.now }
+    ensures shown { HasCleanDisk (state S.Store conn.new) → IfOk result (λ rows.
+        Shown query.now [] (state S.Store conn.old) (state S.Store conn.new) rows.items) }
+    ensures stays { Stays (state S.Store conn.old) (state S.Store conn.new) }
+{
+    let mut all = Vec::new(alloc);
+    let mut rows = conn.query(query, &[])?;
+    'rows: for _ in 0..u64::MAX {
+        let Some(row) = rows.next()? else {
+            return Ok(all);
+        };
+        all.push(row.copy()?)?;
+    }
+    Err(Error::SqliteFailure(ErrorCode::OutOfMemory))
+}
+
+/// `in_turn`, whose error is a fault.
+fn answered_in_turn<S: Alter>(
+    conn: &mut Connection<S>,
+    alloc: Global,
+    query: &str,
+) -> Result<Vec<sqlite::Row>, TableFault>
+    requires { ShowsNoWrite query.now }
+    ensures shown { HasCleanDisk (state S.Store conn.new) → IfOk result (λ rows.
+        Shown query.now [] (state S.Store conn.old) (state S.Store conn.new) rows.items) }
+    ensures stays { Stays (state S.Store conn.old) (state S.Store conn.new) }
+{
+    match in_turn(conn, alloc, query) {
+        Ok(rows) => Ok(rows),
+        Err(error) => Err(fault_of(&error)),
+    }
+}
+
 /// The rows of the table `kept` of a version, each with its rowid, in the order of kind, institution
 /// and id.
 #[tactic(auto, using(crate::proofs::Silent::all_one_silent, crate::proofs::Silent::all_two_silent))]
 pub(crate) fn rows_read<S: Alter>(
     conn: &mut Connection<S>,
+    alloc: Global,
     version: Version,
 ) -> Result<Vec<sqlite::Row>, TableFault>
     ensures found { HasCleanDisk (state S.Store conn.new) → IfOk result (λ answer.
@@ -287,15 +327,15 @@ pub(crate) fn rows_read<S: Alter>(
     ensures stays { Stays (state S.Store conn.old) (state S.Store conn.new) }
 {
     match version {
-        Version::One => answered(
+        Version::One => answered_in_turn(
             conn,
+            alloc,
             "SELECT rowid, kind, inst, id, above, patient, day, octets, 0 FROM kept ORDER BY kind, inst, id",
-            &[],
         ),
-        Version::Two => answered(
+        Version::Two => answered_in_turn(
             conn,
+            alloc,
             "SELECT rowid, kind, inst, id, above, patient, day, octets, started FROM kept ORDER BY kind, inst, id",
-            &[],
         ),
     }
 }

@@ -16,6 +16,7 @@ ghost use Rattle.sqlite_wal.specs.Recovery.{Image};
 use crate::counts::Counts;
 use crate::fault::StoreFault;
 use crate::history::History;
+use crate::silents::Silents;
 use crate::{choosing, reading, writing};
 use dq_list::Listed;
 use dq_tables::{Change, Choice, Kind, Row, TableFault, Tables};
@@ -31,6 +32,7 @@ pub struct SqlTables<S: Alter> {
     failed: bool,
     pub(crate) history: History,
     counts: Counts,
+    silents: Silents,
     ghost alone: { conn.in_transaction ≡ false },
     ghost keeps: { ∥ (HasCleanDisk (state S.Store conn)
         → Keeps (state S.Store conn) history.rows) ∥₁ },
@@ -65,6 +67,7 @@ impl<S: Alter> SqlTables<S> {
             failed: false,
             history: History::from_rows(rows),
             counts: Counts::new(alloc),
+            silents: Silents::new(alloc),
         }
     }
 
@@ -87,6 +90,7 @@ impl<S: Alter> SqlTables<S> {
             failed: _,
             history: _,
             counts: _,
+            silents: _,
         } = self;
         conn
     }
@@ -170,7 +174,13 @@ impl<S: Alter> Tables for SqlTables<S> {
         institution: &[u8],
         choice: &Choice,
     ) -> Result<Listed<Row>, TableFault> {
-        let answer = choosing::studies_in(&mut self.conn, alloc, institution, choice);
+        let answer = choosing::studies_in(
+            &mut self.conn,
+            &mut self.silents,
+            alloc,
+            institution,
+            choice,
+        );
         noted(&mut self.failed, answer)
     }
 

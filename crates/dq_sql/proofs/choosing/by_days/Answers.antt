@@ -13,6 +13,6 @@ returns-clause-found g c clean =
     let between : HasCleanDisk (state g.S.Store c.of_days.new.conn) = omega (arith, c.without.ensures.stays.survives.clean) in
     let silent = holds_before old (state g.S.Store c.of_days.new.conn) _ (c.in_ok-said.ensures.same between) (c.in_ok-silent.ensures.found clean) in
     ok_both c.shown_in_order.result _ _ _
-    (in_order_of_both Day (is_of_days c.args.first c.args.last) c.args.institution.now old c.in_ok-said.said.items c.in_ok-silent.silent.items (any_day c.args.first c.args.last)
+    (in_order_of_both Day (is_of_days c.args.choice.now.first_day c.args.choice.now.last_day) c.args.institution.now old c.in_ok-said.said.items c.in_ok-silent.silent.items (any_day c.args.choice.now.first_day c.args.choice.now.last_day)
     (c.in_ok-said.ensures.found between) silent)
     c.shown_in_order.ensures.same c.shown_in_order.ensures.order

@@ -4,8 +4,8 @@ use Rattle.dq_sql.specs.Kept.{left_sound}
 use Rattle.dq_sql.proofs.Restarted.{reopened}
 use Rattle.dq_sql.proofs.laws.what_a_crash_leaves_is_adopted.Goals as goal
 
-pub returns : goal.returns
-returns g c honest image may opens found =
+pub returns-clause-adopted : goal.returns-clause-adopted
+returns-clause-adopted g c honest image may opens found =
     ∥∥₁_map (c.into_files-files.ensures.left honest image may) (λ it.
     let sound = left_sound _ _ c.args.tables.keeps (c.into_files-files.ensures.honest honest) it.0 it.1 in
     let again = reopened image (file_state c.args.conn) it.0 opens found it.2 sound in
