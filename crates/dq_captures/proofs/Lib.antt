@@ -1,5 +1,6 @@
 pub mod Numbers
 pub mod Lines
 pub mod OneSpelling
+pub mod Bringing
 pub mod Steps
 pub mod Written

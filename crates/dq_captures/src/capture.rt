@@ -3,6 +3,7 @@
 ghost use Rattle.std.specs.Prelude.{◌≡◌, ℕ, ◌++◌, ◌∷◌, [], List, codes, IfOk, IsErrOf, MatchOption, MatchResult};
 ghost use Rattle.dq_core.specs.declared.event.Event.{Event};
 ghost use Rattle.dq_core.specs.Histories.{rises_from, newest_after};
+ghost use Rattle.dq_core.specs.Soundness.{BringOctets};
 ghost use Rattle.dq_captures.specs.Captures.{lines_of, is_skipped, IsNumber, AreOctets, SpellsPiece, SpellsOrder, Spells, AreCapture, IsFirstBadLine, Finds};
 
 use dq_config::is_name;
@@ -201,9 +202,17 @@ pub fn read_capture(alloc: Global, text: &str) -> Result<Vec<Event>, CaptureFaul
     // Lines that tell events are read, unless memory runs out.
     ensures only { (events : List Event) → AreCapture (lines_of text.now) events →
         MatchResult result (λ read. read.items ≡ events) (λ fault. fault ≡ CaptureFault.NoMemory) }
+    // What the events bring are octets, numbers below 256.
+    ensures octets { IfOk result (λ events. BringOctets events.items) }
 {
     read_lines(alloc, text)
 }
+
+/// What the events of a capture bring are octets, numbers below 256.
+pub fn captures_bring_octets()
+    ensures { (lines : List (List ℕ)) (events : List Event) →
+        AreCapture lines events → BringOctets events }
+{}
 
 /// Lines tell at most one list of events.
 pub fn lines_tell_one()

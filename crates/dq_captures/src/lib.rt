@@ -5,6 +5,6 @@ mod capture;
 mod printing;
 mod surroundings;
 
-pub use capture::{CaptureFault, event_of, read_capture};
+pub use capture::{CaptureFault, captures_bring_octets, event_of, read_capture};
 pub use printing::{PrintFault, octets_text, print_replies, printed_line};
 pub use surroundings::{Folder, Host, Sink, Source, Unread};

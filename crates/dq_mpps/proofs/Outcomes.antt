@@ -19,7 +19,8 @@ use Rattle.dq_tables.specs.Rows.{Record, Edit, Put}
 use Rattle.dq_dimse.specs.Receiving.{is_over}
 use Rattle.dq_tables.specs.Serving.{first_refusal, outcome}
 use Rattle.dq_tables.proofs.Refusing.{first_in, first_past}
-use Rattle.dq_mpps.specs.Steps.{data_set_limit, spelled_step, step_record}
+use Rattle.dq_dimse.specs.Limits.{other_limit}
+use Rattle.dq_mpps.specs.Steps.{spelled_step, step_record}
 use Rattle.dq_mpps.specs.Creating.{created}
 use Rattle.dq_mpps.specs.Changing.{kept_data_set, is_too_long, attribute_refusals, changed}
 use Rattle.dq_mpps.specs.Views.{step_created, step_changed}
@@ -33,22 +34,22 @@ read_is (Ok d') d some = cc
 read_is (Err fault) d some = cc
 
 not_read : (limits : Limits) (records : List Record) (message : Message) (syntax : Syntax) (r : Result ElementList ReadFault)
-    → is_over data_set_limit message ≡ false
+    → is_over other_limit message ≡ false
     → reading syntax message.octets ≡ r → result_ok r ≡ None → created limits records message syntax ≡ (processing_failure, [])
 unfolding created
 not_read limits records message syntax (Ok d) h same none = cc
 not_read limits records message syntax (Err fault) h same none = rw (h, same) refl
 
 module _ (limits : Limits) (records : List Record) (message : Message) (syntax : Syntax) where
-  pub create_over : is_over data_set_limit message ≡ true → created limits records message syntax ≡ (resource_limitation, [])
+  pub create_over : is_over other_limit message ≡ true → created limits records message syntax ≡ (resource_limitation, [])
   unfolding created
   create_over h = rw h refl
 
-  pub create_unread : is_over data_set_limit message ≡ false → result_ok (reading syntax message.octets) ≡ None
+  pub create_unread : is_over other_limit message ≡ false → result_ok (reading syntax message.octets) ≡ None
       → created limits records message syntax ≡ (processing_failure, [])
   create_unread h none = not_read limits records message syntax (reading syntax message.octets) h refl none
 
-  module _ (d : ElementList) (h : is_over data_set_limit message ≡ false) (read : reading syntax message.octets ≡ Ok d) where
+  module _ (d : ElementList) (h : is_over other_limit message ≡ false) (read : reading syntax message.octets ≡ Ok d) where
     pub create_unnamed : is_uid message.command.sop_instance ≡ false → created limits records message syntax ≡ (invalid_sop_instance, [])
     unfolding created
     create_unnamed no_uid = rw (h, read, no_uid) refl
@@ -96,22 +97,22 @@ module _ (uid : List ℕ) (sent : ElementList) (r : Record) (kept : ElementList)
       let there = spelled ∙ ap (λ (d : ElementList). canonical Explicit (merged d sent)) kept_is in
       accepted h short ∙ ap (λ (o : List ℕ). (success, Put (spelled_step uid o) ∷ [])) (sym there)
 
-set_not_read : (records : List Record) (message : Message) (syntax : Syntax) (r : Result ElementList ReadFault) → is_over data_set_limit message ≡ false
+set_not_read : (records : List Record) (message : Message) (syntax : Syntax) (r : Result ElementList ReadFault) → is_over other_limit message ≡ false
     → reading syntax message.octets ≡ r → result_ok r ≡ None → changed records message syntax ≡ (processing_failure, [])
 unfolding changed
 set_not_read records message syntax (Ok d) h same none = cc
 set_not_read records message syntax (Err fault) h same none = rw (h, same) refl
 
 module _ (records : List Record) (message : Message) (syntax : Syntax) where
-  pub set_over : is_over data_set_limit message ≡ true → changed records message syntax ≡ (resource_limitation, [])
+  pub set_over : is_over other_limit message ≡ true → changed records message syntax ≡ (resource_limitation, [])
   unfolding changed
   set_over h = rw h refl
 
-  pub set_unread : is_over data_set_limit message ≡ false → result_ok (reading syntax message.octets) ≡ None
+  pub set_unread : is_over other_limit message ≡ false → result_ok (reading syntax message.octets) ≡ None
       → changed records message syntax ≡ (processing_failure, [])
   set_unread h none = set_not_read records message syntax (reading syntax message.octets) h refl none
 
-  pub set_handed_on : (d : ElementList) → is_over data_set_limit message ≡ false → reading syntax message.octets ≡ Ok d
+  pub set_handed_on : (d : ElementList) → is_over other_limit message ≡ false → reading syntax message.octets ≡ Ok d
       → changed records message syntax ≡ step_changed message.command.sop_instance d (record_at Step message.command.sop_instance records)
   unfolding changed
   set_handed_on d h read = rw (h, read) refl

@@ -15,7 +15,8 @@ use Rattle.dq_tables.specs.Rows.{Record, Edit, Put}
 use Rattle.dq_tables.specs.Finding.{record_at, records_of}
 use Rattle.dq_tables.specs.Serving.{first_refusal, outcome}
 use Rattle.dq_tables.proofs.Refusing.{stopped}
-use Rattle.dq_mpps.specs.Steps.{data_set_limit, step_record}
+use Rattle.dq_dimse.specs.Limits.{other_limit}
+use Rattle.dq_mpps.specs.Steps.{step_record}
 use Rattle.dq_mpps.specs.Creating.{creation_refusals, creation, created}
 use Rattle.dq_mpps.specs.Creating as creating
 use Rattle.dq_mpps.specs.Changing.{kept_data_set, is_ended, changes_fixed, sends_unknown_status, is_too_long, change_refusals, changed}
@@ -51,7 +52,7 @@ created_again limits records message syntax kept found =
     let sent = result_unwrap_or data_set no_elements in
     let uid = message.command.sop_instance in
     let before =
-    (is_over data_set_limit message, resource_limitation) ∷ (is_err data_set, processing_failure) ∷ (not (is_uid uid), invalid_sop_instance) ∷ [] in
+    (is_over other_limit message, resource_limitation) ∷ (is_err data_set, processing_failure) ∷ (not (is_uid uid), invalid_sop_instance) ∷ [] in
     let others = creating.attribute_refusals sent ++ (nat_le limits.steps (length (records_of Step records)), resource_limitation) ∷ [] in
     rw found (stopped (success, creation records uid sent) before others duplicate_sop_instance)
 
@@ -63,7 +64,7 @@ ended_stays records message syntax kept found ended =
     let data_set = reading syntax message.octets in
     let sent = result_unwrap_or data_set no_elements in
     let step = kept_data_set (Some kept) in
-    let before = (is_over data_set_limit message, resource_limitation) ∷ (is_err data_set, processing_failure) ∷ (false, no_such_sop_instance) ∷ [] in
+    let before = (is_over other_limit message, resource_limitation) ∷ (is_err data_set, processing_failure) ∷ (false, no_such_sop_instance) ∷ [] in
     let others = (changes_fixed step sent, invalid_attribute_value) ∷ (sends_unknown_status sent, invalid_attribute_value)
     ∷ (is_too_long (merged step sent), resource_limitation) ∷ [] in
     rw (found, ended) (stopped (success, Put (step_record message.command.sop_instance (merged step sent)) ∷ []) before others processing_failure)

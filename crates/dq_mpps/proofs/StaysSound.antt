@@ -33,7 +33,8 @@ use Rattle.dq_tables.proofs.Members.{find_among}
 use Rattle.dq_tables.proofs.Seen.{found_own}
 use Rattle.dq_tables.proofs.Soundness.{change_sound}
 use Rattle.dq_tables.proofs.Started.{started, start_keeps}
-use Rattle.dq_mpps.specs.Steps.{data_set_limit, step_record}
+use Rattle.dq_dimse.specs.Limits.{other_limit}
+use Rattle.dq_mpps.specs.Steps.{step_record}
 use Rattle.dq_mpps.specs.Creating as creating
 use Rattle.dq_mpps.specs.Creating.{created}
 use Rattle.dq_mpps.specs.Changing.{kept_data_set, step_limit, is_too_long, attribute_refusals, changed}
@@ -43,22 +44,22 @@ use Rattle.dq_mpps.proofs.Outcomes.{create_over, create_unread, create_unnamed, 
 
 -- ---- what is short
 
-pub short_octets : (message : Message) → is_over data_set_limit message ≡ false → length message.octets < 2 ^ 31
+pub short_octets : (message : Message) → is_over other_limit message ≡ false → length message.octets < 2 ^ 31
 short_octets message short = by message.over short
   where
-    by : (over : Bool) → (over || nat_lt data_set_limit (length message.octets)) ≡ false → length message.octets < 2 ^ 31
+    by : (over : Bool) → (over || nat_lt other_limit (length message.octets)) ≡ false → length message.octets < 2 ^ 31
     by true e = cc
     by false e = grind (arith, nat_tests)
 
-pub short_message : (message : Message) → is_over data_set_limit message ≡ false → length message.octets ≤ data_set_limit
+pub short_message : (message : Message) → is_over other_limit message ≡ false → length message.octets ≤ other_limit
 short_message message short = by message.over short
   where
-    by : (over : Bool) → (over || nat_lt data_set_limit (length message.octets)) ≡ false → length message.octets ≤ data_set_limit
+    by : (over : Bool) → (over || nat_lt other_limit (length message.octets)) ≡ false → length message.octets ≤ other_limit
     by true e = cc
     by false e = grind (arith, nat_tests)
 
 -- a step is at most twice as long in the spelling that is kept
-pub short_new : (syntax : Syntax) (octets : List ℕ) (d : ElementList) → IsSpelled syntax octets d → length octets ≤ data_set_limit
+pub short_new : (syntax : Syntax) (octets : List ℕ) (d : ElementList) → IsSpelled syntax octets d → length octets ≤ other_limit
     → nat_le (length (canonical Explicit d)) step_limit ≡ true
 short_new syntax octets d spelled short =
     let twice = (spelled_is_short Explicit syntax octets d spelled).twice in
@@ -104,33 +105,33 @@ module _ (P : List Row → Type 0) (h : List ℕ) (rows : List Row) (holds : P r
   unless_refused None done kept = kept
 
   module _ (limits : Limits)
-      (keeps : (d : ElementList) → is_over data_set_limit message ≡ false → reading syntax message.octets ≡ Ok d → is_uid uid ≡ true
+      (keeps : (d : ElementList) → is_over other_limit message ≡ false → reading syntax message.octets ≡ Ok d → is_uid uid ≡ true
       → record_at Step uid (of h rows) ≡ None → P (after (by h (creating.creation (of h rows) uid d)) rows)) where
-    new_stays : (d : ElementList) → is_over data_set_limit message ≡ false → reading syntax message.octets ≡ Ok d → is_uid uid ≡ true
+    new_stays : (d : ElementList) → is_over other_limit message ≡ false → reading syntax message.octets ≡ Ok d → is_uid uid ≡ true
         → (kept : Option Record) → record_at Step uid (of h rows) ≡ kept → Stays (step_created limits uid d (of h rows))
     new_stays d short read named (Some r) there = rw there holds
     new_stays d short read named None free =
         unless_refused (first_refusal (creating.step_refusals limits (of h rows) uid d)) (0, creating.creation (of h rows) uid d)
         (keeps d short read named free)
 
-    named_stays : (d : ElementList) → is_over data_set_limit message ≡ false → reading syntax message.octets ≡ Ok d
+    named_stays : (d : ElementList) → is_over other_limit message ≡ false → reading syntax message.octets ≡ Ok d
         → (named : Bool) → is_uid uid ≡ named → Stays (created limits (of h rows) message syntax)
     named_stays d short read false other = refused_stays _ _ (create_unnamed limits (of h rows) message syntax d short read other)
     named_stays d short read true named =
         subst Stays (sym (create_handed_on limits (of h rows) message syntax d short read named))
         (new_stays d short read named (record_at Step uid (of h rows)) refl)
 
-    created_of : (r : Result ElementList ReadFault) → is_over data_set_limit message ≡ false → reading syntax message.octets ≡ r
+    created_of : (r : Result ElementList ReadFault) → is_over other_limit message ≡ false → reading syntax message.octets ≡ r
         → Stays (created limits (of h rows) message syntax)
     created_of (Ok d) short read = named_stays d short read (is_uid uid) refl
     created_of (Err fault) short read = refused_stays _ _ (create_unread limits (of h rows) message syntax short (rw read refl))
 
-    created_by : (long : Bool) → is_over data_set_limit message ≡ long → Stays (created limits (of h rows) message syntax)
+    created_by : (long : Bool) → is_over other_limit message ≡ long → Stays (created limits (of h rows) message syntax)
     created_by true long = refused_stays _ _ (create_over limits (of h rows) message syntax long)
     created_by false short = created_of (reading syntax message.octets) short refl
 
     pub created_stays : P (after (by h (created limits (of h rows) message syntax).1) rows)
-    created_stays = created_by (is_over data_set_limit message) refl
+    created_stays = created_by (is_over other_limit message) refl
 
   module _ (keeps : (d : ElementList) → reading syntax message.octets ≡ Ok d → (r : Record) → record_at Step uid (of h rows) ≡ Some r
       → is_too_long (merged (kept_data_set (Some r)) d) ≡ false
@@ -154,18 +155,18 @@ module _ (P : List Row → Type 0) (h : List ℕ) (rows : List Row) (holds : P r
     step_stays d read None none = holds
     step_stays d read (Some r) there = clear_stays d read r there (first_refusal (attribute_refusals (kept_data_set (Some r)) d)) refl
 
-    changed_of : (r : Result ElementList ReadFault) → is_over data_set_limit message ≡ false → reading syntax message.octets ≡ r
+    changed_of : (r : Result ElementList ReadFault) → is_over other_limit message ≡ false → reading syntax message.octets ≡ r
         → Stays (changed (of h rows) message syntax)
     changed_of (Ok d) short read =
         subst Stays (sym (set_handed_on (of h rows) message syntax d short read)) (step_stays d read (record_at Step uid (of h rows)) refl)
     changed_of (Err fault) short read = refused_stays _ _ (set_unread (of h rows) message syntax short (rw read refl))
 
-    changed_by : (long : Bool) → is_over data_set_limit message ≡ long → Stays (changed (of h rows) message syntax)
+    changed_by : (long : Bool) → is_over other_limit message ≡ long → Stays (changed (of h rows) message syntax)
     changed_by true long = refused_stays _ _ (set_over (of h rows) message syntax long)
     changed_by false short = changed_of (reading syntax message.octets) short refl
 
     pub changed_stays : P (after (by h (changed (of h rows) message syntax).1) rows)
-    changed_stays = changed_by (is_over data_set_limit message) refl
+    changed_stays = changed_by (is_over other_limit message) refl
 
 -- ---- that they are sound
 

@@ -15,6 +15,7 @@ use Rattle.dq_dataset.specs.Canonical.{canonical}
 use Rattle.dq_dataset.specs.Editing.{merged}
 use Rattle.dq_dataset.specs.Same.{has_element}
 use Rattle.dq_dataset.specs.Values.{element_at}
+use Rattle.dq_dimse.specs.Limits.{other_limit}
 use Rattle.dq_dimse.specs.Received.{Message}
 use Rattle.dq_dimse.specs.Receiving.{is_over}
 use Rattle.dq_dimse.specs.Statuses.{success, processing_failure, no_such_sop_instance, invalid_attribute_value, resource_limitation}
@@ -25,7 +26,7 @@ use Rattle.dq_tables.specs.Finding.{same_kind, record_at}
 use Rattle.dq_tables.specs.Records.{data_set_of}
 use Rattle.dq_tables.specs.Serving.{first_refusal, outcome}
 use Rattle.dq_mpps.specs.Attributes.{is_fixed}
-use Rattle.dq_mpps.specs.Steps.{in_progress, completed, discontinued, has_status, data_set_limit, step_record}
+use Rattle.dq_mpps.specs.Steps.{in_progress, completed, discontinued, has_status, step_record}
 
 -- the data set of the step that is kept
 abbrev pub kept_data_set : Option Record → ElementList
@@ -77,7 +78,7 @@ abbrev pub change_refusals
     : List Record → Message → Result ElementList ReadFault → List (Bool × ℕ)
 change_refusals records message data_set =
     let sent = result_unwrap_or data_set no_elements in
-    (is_over data_set_limit message, resource_limitation)
+    (is_over other_limit message, resource_limitation)
     ∷ (is_err data_set, processing_failure)
     ∷ step_refusals (record_at Step message.command.sop_instance records) sent
 

@@ -13,6 +13,7 @@ use Rattle.dq_dataset.specs.declared.data_set.Value.TheVariants.{Octets, Items}
 use Rattle.dq_dataset.specs.Tree.{ElementList, no_elements}
 use Rattle.dq_dataset.specs.Reading.{reading}
 use Rattle.dq_dataset.specs.Values.{element_at}
+use Rattle.dq_dimse.specs.Limits.{other_limit}
 use Rattle.dq_dimse.specs.Received.{Message}
 use Rattle.dq_dimse.specs.Receiving.{is_over}
 use Rattle.dq_dimse.specs.Statuses.{success, processing_failure, duplicate_sop_instance, invalid_sop_instance, missing_attribute, missing_attribute_value, invalid_attribute_value, resource_limitation}
@@ -23,7 +24,7 @@ use Rattle.dq_tables.specs.Finding.{record_at, records_of}
 use Rattle.dq_tables.specs.Serving.{first_refusal, outcome}
 use Rattle.dq_tables.specs.Starting.{entries_named}
 use Rattle.dq_mpps.specs.Attributes.{required_attributes}
-use Rattle.dq_mpps.specs.Steps.{in_progress, has_status, data_set_limit, step_record}
+use Rattle.dq_mpps.specs.Steps.{in_progress, has_status, step_record}
 
 -- The element has a value, or as a sequence an item.
 unfoldable pub has_value : Option Element → Bool
@@ -58,7 +59,7 @@ abbrev pub creation_refusals
     : Limits → List Record → Message → Result ElementList ReadFault → List (Bool × ℕ)
 creation_refusals limits records message data_set =
     let sent = result_unwrap_or data_set no_elements in
-    (is_over data_set_limit message, resource_limitation)
+    (is_over other_limit message, resource_limitation)
     ∷ (is_err data_set, processing_failure)
     ∷ (not (is_uid message.command.sop_instance), invalid_sop_instance)
     ∷ step_refusals limits records message.command.sop_instance sent

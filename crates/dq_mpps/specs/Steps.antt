@@ -23,10 +23,6 @@ discontinued = codes "DISCONTINUED"
 unfoldable pub has_status : List ℕ → ElementList → Bool
 has_status status d = is_value (sole_at performed_procedure_step_status d) status
 
--- the greatest number of octets of the data set of a message
-abbrev pub data_set_limit : ℕ
-data_set_limit = 0x100000
-
 -- the record of a step under its SOP Instance UID, with its data set whole
 abbrev pub spelled_step : List ℕ → List ℕ → Record
 spelled_step uid octets =

@@ -13,7 +13,8 @@ use Rattle.dq_config.specs.Limits.{Limits}
 use Rattle.dq_tables.specs.Rows.{Record, Edit}
 use Rattle.dq_tables.specs.Serving.{first_refusal, outcome}
 use Rattle.dq_tables.proofs.Refusing.{first_in, first_past}
-use Rattle.dq_store.specs.Storing.{Instance, Kept, kept_among, instance_in, is_named, data_set_limit, keeps_too_much, kept_refusals, limit_refusals, storage_refusals, stored_status, stored_edits, stored}
+use Rattle.dq_dimse.specs.Limits.{store_limit}
+use Rattle.dq_store.specs.Storing.{Instance, Kept, kept_among, instance_in, is_named, keeps_too_much, kept_refusals, limit_refusals, storage_refusals, stored_status, stored_edits, stored}
 use Rattle.dq_store.specs.Views.{instance_stored, kept_status}
 
 abbrev kept_by : Bool → Kept → Instance → ℕ × List Edit
@@ -45,27 +46,27 @@ not_provided true x none = cc
 not_provided false x none = refl
 
 not_read : (limits : Limits) (records : List Record) (message : Message) (syntax : Syntax) (r : Result ElementList ReadFault)
-    → is_over data_set_limit message ≡ false → reading syntax message.octets ≡ r → result_ok r ≡ None
+    → is_over store_limit message ≡ false → reading syntax message.octets ≡ r → result_ok r ≡ None
     → stored limits records message syntax ≡ (cannot_understand, [])
 unfolding stored
 not_read limits records message syntax (Ok d) h same none = cc
 not_read limits records message syntax (Err fault) h same none = rw (h, same) refl
 
 module _ (limits : Limits) (records : List Record) (message : Message) (syntax : Syntax) where
-  pub over : is_over data_set_limit message ≡ true → stored limits records message syntax ≡ (out_of_resources, [])
+  pub over : is_over store_limit message ≡ true → stored limits records message syntax ≡ (out_of_resources, [])
   unfolding stored
   over h = rw h refl
 
-  pub unread : is_over data_set_limit message ≡ false → result_ok (reading syntax message.octets) ≡ None
+  pub unread : is_over store_limit message ≡ false → result_ok (reading syntax message.octets) ≡ None
       → stored limits records message syntax ≡ (cannot_understand, [])
   unread h none = not_read limits records message syntax (reading syntax message.octets) h refl none
 
-  pub too_much : (d : ElementList) → is_over data_set_limit message ≡ false → reading syntax message.octets ≡ Ok d → keeps_too_much d ≡ true
+  pub too_much : (d : ElementList) → is_over store_limit message ≡ false → reading syntax message.octets ≡ Ok d → keeps_too_much d ≡ true
       → stored limits records message syntax ≡ (out_of_resources, [])
   unfolding stored
   too_much d h read large = rw (h, read, large) refl
 
-  module _ (d : ElementList) (h : is_over data_set_limit message ≡ false) (read : reading syntax message.octets ≡ Ok d)
+  module _ (d : ElementList) (h : is_over store_limit message ≡ false) (read : reading syntax message.octets ≡ Ok d)
       (small : keeps_too_much d ≡ false) where
     pub unnamed : is_named message.command d ≡ false → stored limits records message syntax ≡ (does_not_match_sop_class, [])
     unfolding stored

@@ -27,7 +27,7 @@ use Rattle.dq_dimse.specs.Received.{Message}
 use Rattle.dq_dimse.specs.Receiving.{is_over}
 use Rattle.dq_config.specs.Limits.{Limits}
 use Rattle.dq_tables.specs.Rows.{Record}
-use Rattle.dq_store.specs.Storing.{Instance, data_set_limit, instance_in, is_named, keeps_too_much, stored}
+use Rattle.dq_store.specs.Storing.{Instance, instance_in, is_named, keeps_too_much, stored}
 use Rattle.dq_store.specs.Views.{instance_stored}
 use Rattle.dq_store.proofs.Outcomes.{unread, too_much, not_provided, unnamed, handed_on}
 use Rattle.dq_store.proofs.Sieved.{named_kept, kept_decides}
@@ -41,28 +41,28 @@ not_true true true e = absurd cc
 not_true true false e = refl
 not_true false b e = absurd cc
 
-limit_most : (stored : Bool) → (if stored then store_limit else other_limit) ≤ data_set_limit
+limit_most : (stored : Bool) → (if stored then store_limit else other_limit) ≤ store_limit
 limit_most true = omega arith
 limit_most false = omega arith
 
 module _ (syntax : Syntax) (held : HeldMessage) (m : Message) (h : StandsFor syntax held m) where
   -- octets of a C-STORE that are held are none, since it passed its limit
-  pub octets_over : (octets : List ℕ) → is_stored held.command ≡ true → held.body ≡ Octets octets → is_over data_set_limit m ≡ true
+  pub octets_over : (octets : List ℕ) → is_stored held.command ≡ true → held.body ≡ Octets octets → is_over store_limit m ≡ true
   octets_over octets stored is =
       let sent : is_stored m.command ≡ true = ap is_stored (sym h.command) ∙ stored in
       let here : not m.over ≡ false = ap (λ (b : Bool). b && not m.over) (sym sent) ∙ sym h.sifted ∙ ap is_sifted is in
-      ap (λ (b : Bool). b || nat_lt data_set_limit (length m.octets)) (not_false m.over here)
+      ap (λ (b : Bool). b || nat_lt store_limit (length m.octets)) (not_false m.over here)
 
   module _ (answer : Answer) (is : held.body ≡ Sifted answer) where
     not_past : m.over ≡ false
     not_past = not_true (is_stored m.command) m.over (sym (ap is_sifted is) ∙ h.sifted)
 
-    pub short : length m.octets ≤ data_set_limit
+    pub short : length m.octets ≤ store_limit
     short = (let most = limit_most (is_stored m.command) in let less = h.short not_past in omega (arith, most, less))
 
-    pub not_over : is_over data_set_limit m ≡ false
+    pub not_over : is_over store_limit m ≡ false
     not_over =
-        ap (λ (b : Bool). b || nat_lt data_set_limit (length m.octets)) not_past ∙ le-ltb data_set_limit (length m.octets) short
+        ap (λ (b : Bool). b || nat_lt store_limit (length m.octets)) not_past ∙ le-ltb store_limit (length m.octets) short
 
     pub is_answer : IsSifted syntax kept_attributes m.octets answer
     is_answer = subst (λ (b : Body). BodyStandsFor syntax b m.octets) is h.body

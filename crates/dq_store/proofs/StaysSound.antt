@@ -25,7 +25,8 @@ use Rattle.dq_tables.specs.Serving.{first_refusal, outcome}
 use Rattle.dq_tables.specs.Sound.{IsSound, is_value}
 use Rattle.dq_tables.proofs.Order.{each_appended, each_filtered, is_before, is_past}
 use Rattle.dq_tables.proofs.Soundness.{change_sound}
-use Rattle.dq_store.specs.Storing.{Instance, Kept, kept_among, instance_in, is_named, data_set_limit, keeps_too_much, instance_refusals, study_record, series_record, image_record, put_new, stored_edits, stored}
+use Rattle.dq_dimse.specs.Limits.{store_limit}
+use Rattle.dq_store.specs.Storing.{Instance, Kept, kept_among, instance_in, is_named, keeps_too_much, instance_refusals, study_record, series_record, image_record, put_new, stored_edits, stored}
 use Rattle.dq_store.specs.Views.{instance_stored, kept_status, new_rows}
 use Rattle.dq_store.proofs.Fitting.{new_fits, made_of_rows}
 use Rattle.dq_store.proofs.Outcomes.{over, unread, too_much, unnamed, handed_on}
@@ -88,7 +89,7 @@ module _ (P : List Row → Type 0) (h : List ℕ) (rows : List Row) (holds : P r
       unless_refused (first_refusal (instance_refusals limits (of h rows) sent))
       (kept_status other (kept_among (of h rows) sent) sent, stored_edits (kept_among (of h rows) sent) sent) kept
 
-  named_stays : (d : ElementList) → is_over data_set_limit message ≡ false → reading syntax message.octets ≡ Ok d → keeps_too_much d ≡ false
+  named_stays : (d : ElementList) → is_over store_limit message ≡ false → reading syntax message.octets ≡ Ok d → keeps_too_much d ≡ false
       → (named : Bool) → is_named message.command d ≡ named → Stays made
   named_stays d short read small false other = refused_stays _ (unnamed limits (of h rows) message syntax d short read small other)
   named_stays d short read small true named =
@@ -97,21 +98,21 @@ module _ (P : List Row → Type 0) (h : List ℕ) (rows : List Row) (holds : P r
       (instance_stays (has_other kept_attributes d) (instance_in k)
       (keeps d read small (named_uids message.command k (named_kept message.command d ∙ named))))
 
-  small_stays : (d : ElementList) → is_over data_set_limit message ≡ false → reading syntax message.octets ≡ Ok d
+  small_stays : (d : ElementList) → is_over store_limit message ≡ false → reading syntax message.octets ≡ Ok d
       → (large : Bool) → keeps_too_much d ≡ large → Stays made
   small_stays d short read true large = refused_stays _ (too_much limits (of h rows) message syntax d short read large)
   small_stays d short read false small = named_stays d short read small (is_named message.command d) refl
 
-  read_stays : (r : Result ElementList ReadFault) → is_over data_set_limit message ≡ false → reading syntax message.octets ≡ r → Stays made
+  read_stays : (r : Result ElementList ReadFault) → is_over store_limit message ≡ false → reading syntax message.octets ≡ r → Stays made
   read_stays (Ok d) short read = small_stays d short read (keeps_too_much d) refl
   read_stays (Err fault) short read = refused_stays _ (unread limits (of h rows) message syntax short (rw read refl))
 
-  short_stays : (long : Bool) → is_over data_set_limit message ≡ long → Stays made
+  short_stays : (long : Bool) → is_over store_limit message ≡ long → Stays made
   short_stays true long = refused_stays _ (over limits (of h rows) message syntax long)
   short_stays false short = read_stays (reading syntax message.octets) short refl
 
   pub stored_stays : P (after (by h (stored limits (of h rows) message syntax).1) rows)
-  stored_stays = short_stays (is_over data_set_limit message) refl
+  stored_stays = short_stays (is_over store_limit message) refl
 
 -- ---- that they are sound
 

@@ -18,6 +18,7 @@ use Rattle.dq_dataset.specs.Same.{has_element}
 use Rattle.dq_dataset.specs.Sieve.{is_over_limit}
 use Rattle.dq_dimse.specs.Attributes.{kept_attributes}
 use Rattle.dq_dimse.specs.declared.command.Command.{Command}
+use Rattle.dq_dimse.specs.Limits.{store_limit}
 use Rattle.dq_dimse.specs.Received.{Message}
 use Rattle.dq_dimse.specs.Receiving.{is_over}
 use Rattle.dq_dimse.specs.Statuses.{success, out_of_resources, does_not_match_sop_class, cannot_understand, instance_kept_elsewhere, series_kept_elsewhere, elements_discarded}
@@ -58,10 +59,6 @@ is_named command d =
     (is_value (uid_at sop_class_uid d) command.sop_class
     && is_value (uid_at sop_instance_uid d) command.sop_instance)
     && (is_some (uid_at study_instance_uid d) && is_some (uid_at series_instance_uid d))
-
--- the greatest number of octets of the data set of a message
-abbrev pub data_set_limit : ℕ
-data_set_limit = 0xFFFFFFFF
 
 -- The canonical Explicit spelling of the elements kept of the data set is over the limit of a sieve.
 abbrev pub keeps_too_much : ElementList → Bool
@@ -129,7 +126,7 @@ abbrev pub storage_refusals
     : Limits → List Record → Message → Result ElementList ReadFault → List (Bool × ℕ)
 storage_refusals limits records message data_set =
     let sent = result_unwrap_or data_set no_elements in
-    (is_over data_set_limit message, out_of_resources)
+    (is_over store_limit message, out_of_resources)
     ∷ (is_err data_set, cannot_understand)
     ∷ (keeps_too_much sent, out_of_resources)
     ∷ (not (is_named message.command sent), does_not_match_sop_class)

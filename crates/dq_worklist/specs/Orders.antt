@@ -14,6 +14,7 @@ use Rattle.dq_dataset.specs.Tree.{ElementList}
 use Rattle.dq_dataset.specs.Reading.{reading}
 use Rattle.dq_dataset.specs.Canonical.{canonical}
 use Rattle.dq_dataset.specs.Values.{element_at, values_in, sole_at}
+use Rattle.dq_dimse.specs.Limits.{other_limit}
 use Rattle.dq_config.specs.Limits.{Limits}
 use Rattle.dq_tables.specs.declared.row.Kind.TheVariants.{Entry}
 use Rattle.dq_tables.specs.declared.row.Row.{Row}
@@ -75,9 +76,9 @@ read_order (Err fault) = None
 
 -- ---- scheduling
 
--- the greatest number of octets of an order
+-- the greatest number of octets of an order: that of a data set which is no C-STORE's
 abbrev pub order_limit : ℕ
-order_limit = 0x100000
+order_limit = other_limit
 
 abbrev pub has_entry : List Record → List ℕ → Bool
 has_entry records id = is_some (record_at Entry id records)
