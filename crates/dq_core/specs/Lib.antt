@@ -25,3 +25,4 @@ pub mod Looking
 pub mod Examples
 pub mod Soundness
 pub mod Stores
+pub mod Notes

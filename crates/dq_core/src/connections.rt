@@ -20,6 +20,7 @@ ghost use Rattle.dq_core.specs.Slots.{has_slot, has_search, AreHeld, IsHeld, Sta
 
 use crate::event::Reply;
 use crate::fault::Fault;
+use crate::notes::{Heard, Notes};
 use crate::service::Host;
 use crate::slot::{Called, Slot, Taken};
 use crate::tally::Tally;
@@ -159,6 +160,7 @@ impl Connections {
         tables: &mut T,
         number: u64,
         piece: &[u8],
+        notes: &mut Notes,
     ) -> Result<Reply, Fault>
         ensures goes { Goes (T.state tables.old) (T.state tables.new) result }
         ensures turned { (world : World) →
@@ -194,9 +196,20 @@ impl Connections {
             return Ok(Reply::Ignored);
         };
         let was_open = slot.home.is_some();
-        let (institution, taken) = take_piece(alloc, &self.config, &self.tally, slot, piece)?;
+        let (institution, taken, heard) = take_piece(
+            alloc,
+            &self.config,
+            &self.tally,
+            slot,
+            piece,
+        )?;
         let close = taken.step.close;
         let is_open = stays_open(slot, close);
+        notes.turn_to(number);
+        if !was_open {
+            note_home(notes, slot, heard);
+        }
+        let ending = heard.ending(&taken.step);
         let agreement = slot.association.agreement();
         let query = slot.query.take();
         let host = Host {
@@ -204,8 +217,9 @@ impl Connections {
             institution,
             agreement,
         };
-        let answered = host.answer(query, taken, tables)?;
+        let answered = host.answer(query, taken, tables, notes)?;
         slot.query = answered.query;
+        notes.close(ending);
         retally(
             &self.config,
             &mut self.tally,
@@ -360,15 +374,22 @@ fn end_home(config: &Config, tally: &mut Tally, slot: Option<&Slot>)
     }
 }
 
+/// Notes the association that a connection has, if it has one.
+fn note_home(notes: &mut Notes, slot: &Slot, heard: Heard) {
+    if let Some(home) = &slot.home {
+        notes.accept(home, slot.association.agreement(), heard);
+    }
+}
+
 /// Takes a piece on the connection that has a slot: gives the institution that has the connection,
-/// and what is to be answered.
+/// what is to be answered, and what a log is told of.
 fn take_piece<'a>(
     alloc: Global,
     config: &'a Config,
     tally: &Tally,
     slot: &mut Slot,
     piece: &[u8],
-) -> Result<(Option<&'a Institution>, Taken), AllocError>
+) -> Result<(Option<&'a Institution>, Taken, Heard), AllocError>
     ensures { (world : World) (c : Connection) → IsHeld config.now slot.old c →
         IsTallied config.now tally.now.counts.items world.connections → IfOk result (λ x.
         Took config.now world c piece.now (option_copied x.0) x.1 slot.old slot.new) }
@@ -382,12 +403,13 @@ fn take_piece<'a>(
         return Err(AllocError);
     };
     let institution = owner_of(config, slot, fed.pdus.as_slice());
+    let heard = Heard::of(fed.pdus.as_slice());
     let called = Called {
         institution,
         verdict: verdict_for(config, tally, institution),
     };
     let taken = slot.take(alloc, called, fed)?;
-    Ok((institution, taken))
+    Ok((institution, taken, heard))
 }
 
 fn octets_reply(number: u64, octets: Vec<u8>, close: bool) -> Reply

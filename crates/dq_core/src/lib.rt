@@ -5,6 +5,7 @@ mod connections;
 mod event;
 mod fault;
 pub mod laws;
+mod notes;
 mod orders;
 mod pages;
 mod server;
@@ -14,4 +15,5 @@ mod tally;
 
 pub use event::{Event, Reply};
 pub use fault::Fault;
+pub use notes::{Note, Noted, Notes, Party, Sought, Titles};
 pub use server::{Outcome, Server, run, well_formed};

@@ -22,6 +22,7 @@ use crate::connections::Connections;
 use crate::event::{Event, Reply};
 use crate::fault::Fault;
 use crate::laws::{institutions_are_isolated, institutions_have_own_names, runs_are_isolated};
+use crate::notes::Notes;
 use crate::orders::{schedule_entry, withdraw_entry};
 use dq_config::{Config, Institution};
 use dq_list::Listed;
@@ -36,6 +37,7 @@ pub struct Server<T> {
     connections: Connections,
     tables: T,
     spent: bool,
+    notes: Notes,
 }
 
 impl<T> Model for Server<T> {
@@ -97,6 +99,7 @@ impl<T: Tables> Server<T> {
             connections,
             tables,
             spent: false,
+            notes: Notes::none(alloc),
         }
     }
 
@@ -156,6 +159,7 @@ impl<T: Tables> Server<T> {
             connections: _,
             tables,
             spent: _,
+            notes: _,
         } = self;
         tables
     }
@@ -236,6 +240,14 @@ impl<T: Tables> Server<T> {
         }
     }
 
+    /// The notes of what was served since it was last asked, for a log. What was served before it
+    /// was asked first is not noted.
+    pub fn take_notes(&mut self) -> Notes
+        ensures { self.new ≡ self.old }
+    {
+        self.notes.give()
+    }
+
     /// Lets the connections go. From then on nothing is answered.
     fn spend(&mut self)
         ensures spent { self.new.spent ≡ true }
@@ -275,10 +287,18 @@ impl<T: Tables> Server<T> {
             Event::Open(number) => Ok(self.connections.open(self.alloc, number)?),
             Event::Piece(number, piece) => {
                 let piece = piece.as_slice();
-                self.connections
-                    .answer_piece(self.alloc, &mut self.tables, number, piece)
+                self.connections.answer_piece(
+                    self.alloc,
+                    &mut self.tables,
+                    number,
+                    piece,
+                    &mut self.notes,
+                )
             }
-            Event::End(number) => Ok(self.connections.end(number)),
+            Event::End(number) => {
+                self.notes.end(number);
+                Ok(self.connections.end(number))
+            }
             Event::Pull(number) => Ok(self.connections.answer_pull(self.alloc, number)?),
             Event::Schedule { inst, octets } => schedule_entry(
                 self.alloc,

@@ -16,10 +16,12 @@ ghost use Rattle.dq_core.specs.Queries.{query_in};
 ghost use Rattle.dq_core.specs.Slots.{IsTaken, answer_of};
 
 use crate::fault::Fault;
+use crate::notes::Notes;
 use crate::pages::OpenQuery;
 use crate::slot::Taken;
 use dq_assoc::{AgreedContext, Agreement, Service, SopClass};
 use dq_config::Institution;
+use dq_dataset::DataSet;
 use dq_dimse::{Command, Message, command_field, status};
 use dq_find::find;
 use dq_list::Listed;
@@ -180,6 +182,28 @@ impl Asked<'_> {
             None => self.operate(tables),
         }
     }
+
+    /// The identifier of a C-FIND, where it can be read.
+    fn identifier(self) -> Result<Option<DataSet>, AllocError> {
+        if self.message.command.code != command_field::C_FIND {
+            return Ok(None);
+        }
+        let Provider { alloc, .. } = self.provider;
+        Ok(self.message.identifier(alloc, self.context.syntax)?.ok())
+    }
+
+    /// Notes what the message was answered, where notes are kept.
+    fn note(self, found: &Found, notes: &mut Notes) {
+        if notes.are_kept() {
+            let identifier = self.identifier().unwrap_or(None);
+            notes.serve(
+                self.context.class.service(),
+                found.status,
+                found.answers.len(),
+                identifier.as_ref(),
+            );
+        }
+    }
 }
 
 impl Provider<'_> {
@@ -191,6 +215,7 @@ impl Provider<'_> {
         message: Message,
         tables: &mut T,
         out: &mut Vec<u8>,
+        notes: &mut Notes,
     ) -> Result<Option<OpenQuery>, Fault>
         ensures goes { Goes (T.state tables.old) (T.state tables.new) result }
         ensures does { (T.state tables.new).honest → (sent : Received) →
@@ -221,6 +246,7 @@ impl Provider<'_> {
             message: &message,
         };
         let found = asked.outcome(tables)?;
+        asked.note(&found, notes);
         let query = OpenQuery::new(self.agreement, context, message.command, found);
         Ok(query.send_page(self.alloc, out)?)
     }
@@ -233,6 +259,7 @@ impl Provider<'_> {
         message: Message,
         tables: &mut T,
         out: &mut Vec<u8>,
+        notes: &mut Notes,
     ) -> Result<Option<OpenQuery>, Fault>
         ensures goes { Goes (T.state tables.old) (T.state tables.new) result }
         ensures does { (T.state tables.new).honest → (sent : Received) →
@@ -252,13 +279,13 @@ impl Provider<'_> {
         ensures fault { IfErr result (λ fault. fault ≢ Fault.Stopped) }
     {
         let Some(open) = query else {
-            return self.serve(message, tables, out);
+            return self.serve(message, tables, out, notes);
         };
         if message.command.code == command_field::C_CANCEL {
             return Ok(open.cancel(self.alloc, message.command.id, out)?);
         }
         open.send_rest(self.alloc, out)?;
-        self.serve(message, tables, out)
+        self.serve(message, tables, out, notes)
     }
 
     /// Answers messages, in order.
@@ -268,6 +295,7 @@ impl Provider<'_> {
         messages: Vec<Message>,
         tables: &mut T,
         out: &mut Vec<u8>,
+        notes: &mut Notes,
     ) -> Result<Option<OpenQuery>, Fault>
         ensures goes { Goes (T.state tables.old) (T.state tables.new) result }
         ensures does { (T.state tables.new).honest → (sent : List Received) →
@@ -289,7 +317,7 @@ impl Provider<'_> {
         own_records_are_edited();
         let mut query = query;
         for message in messages {
-            query = self.respond(query, message, tables, out)?;
+            query = self.respond(query, message, tables, out, notes)?;
         }
         Ok(query)
     }
@@ -301,6 +329,7 @@ impl Provider<'_> {
         query: Option<OpenQuery>,
         taken: Taken,
         tables: &mut T,
+        notes: &mut Notes,
     ) -> Result<Answered, Fault>
         ensures goes { Goes (T.state tables.old) (T.state tables.new) result }
         ensures does { (T.state tables.new).honest → (t : Pure) →
@@ -324,7 +353,7 @@ impl Provider<'_> {
         let Taken { opening, step } = taken;
         let mut octets = opening.into_inner();
         let messages = step.messages.into_inner();
-        let query = self.respond_all(query, messages, tables, &mut octets)?;
+        let query = self.respond_all(query, messages, tables, &mut octets, notes)?;
         octets.extend_from_slice(step.octets.as_slice())?;
         Ok(Answered { octets, query })
     }
@@ -338,6 +367,7 @@ impl Host<'_> {
         query: Option<OpenQuery>,
         taken: Taken,
         tables: &mut T,
+        notes: &mut Notes,
     ) -> Result<Answered, Fault>
         ensures goes { Goes (T.state tables.old) (T.state tables.new) result }
         ensures does { (T.state tables.new).honest → (t : Pure) →
@@ -364,7 +394,7 @@ impl Host<'_> {
             institution,
             agreement,
         };
-        provider.answer(query, taken, tables)
+        provider.answer(query, taken, tables, notes)
     }
 }
 

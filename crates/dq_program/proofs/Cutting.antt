@@ -1,5 +1,5 @@
 -- Replies that are cut short.
-use Rattle.std.proofs.Common.{◌≡◌, ℕ, ◌≤◌, List, length, take, Option, inl, inr, refl, ap, ◌∙◌, arith}
+use Rattle.std.proofs.Common.{◌≡◌, ◌⊎◌, ℕ, ◌≤◌, List, length, take, Option, inl, inr, refl, ap, ◌∙◌, arith}
 use Rattle.std.specs.Io.KnownBytes.{Keeps, Appends}
 use Rattle.std.proofs.lemmas.List.{length-take, take-take}
 use Rattle.dq_core.specs.declared.event.Reply.{Reply}
@@ -7,7 +7,8 @@ use Rattle.dq_core.specs.declared.fault.Fault.{Fault}
 use Rattle.dq_captures.specs.declared.printing.PrintFault.{PrintFault}
 use Rattle.dq_captures.specs.declared.printing.PrintFault.TheVariants.{NoMemory, Output}
 use Rattle.dq_captures.specs.Printing.{printed}
-use Rattle.dq_program.specs.Program.{AreGiven, PrintsFirst, Cuts, EndsTask, stop_of_printing}
+use Rattle.dq_program.specs.Program.{no_memory, AreGiven, PrintsFirst, Cuts, EndsTask, stop_of_printing}
+use Rattle.dq_program.specs.declared.stop.Stop.TheVariants as stop
 use Rattle.dq_captures.specs.Surroundings.{AppendsPart}
 use Rattle.dq_captures.proofs.Written.{AppendsPart-replies, AppendsPart-whole, Appends-kept}
 
@@ -42,3 +43,8 @@ pub AppendsPart-unflushed : (before mid after : Option (List ℕ)) (all given : 
 AppendsPart-unflushed before mid after all given end are written kept =
     AppendsPart-given before after all given end are (AppendsPart-whole before after (printed given)
     (Appends-kept before mid after (printed given) written kept))
+
+-- what keeps lines from being written
+pub unprinted-is : (unprinted : PrintFault) → (stop_of_printing unprinted ≡ stop.Fault no_memory) ⊎ (stop_of_printing unprinted ≡ stop.Output)
+unprinted-is NoMemory = inl refl
+unprinted-is Output = inr refl

@@ -3,3 +3,4 @@ pub mod Inputs
 pub mod Cutting
 pub mod Ends
 pub mod Serviced
+pub mod Replaying

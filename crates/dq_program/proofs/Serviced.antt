@@ -25,7 +25,7 @@ use Rattle.dq_program.specs.declared.desk.Line.TheVariants as line
 use Rattle.dq_program.specs.Desk.{HasOrders, Answered}
 use Rattle.dq_program.specs.declared.stop.Stop.{Stop}
 use Rattle.dq_program.specs.declared.stop.Stop.TheVariants as stop
-use Rattle.dq_program.specs.Serving.{turns_in, WentOn, Attended, IsConsoleStop, IsServiceStop, Served}
+use Rattle.dq_program.specs.Serving.{turns_in, orders_in, WentOn, Attended, IsConsoleStop, IsServiceStop, Served}
 
 pub turns-joined : (some later : List Act) → turns_in (some ++ later) ≡ turns_in some ++ turns_in later
 turns-joined [] later = refl
@@ -35,6 +35,15 @@ turns-joined (Ordered event reply ∷ acts) later = turns-joined acts later
 pub all-turns : (turns : List Turn) → turns_in (all_turned turns) ≡ turns
 all-turns [] = refl
 all-turns (turn ∷ turns) = ap (λ (rest : List Turn). turn ∷ rest) (all-turns turns)
+
+pub orders-joined : (some later : List Act) → orders_in (some ++ later) ≡ orders_in some ++ orders_in later
+orders-joined [] later = refl
+orders-joined (Turned turn ∷ acts) later = orders-joined acts later
+orders-joined (Ordered event reply ∷ acts) later = ap (λ (rest : List Act). Ordered event reply ∷ rest) (orders-joined acts later)
+
+pub no-orders : (turns : List Turn) → orders_in (all_turned turns) ≡ []
+no-orders [] = refl
+no-orders (turn ∷ turns) = no-orders turns
 
 module _ {Tables : Type 0} (state : Tables → State) where
   -- the laws of servings that are used
@@ -52,66 +61,73 @@ module _ {Tables : Type 0} (state : Tables → State) where
   LooksServe = (rows : List Row) (before now : Option (List Call)) (first mid next : Standing Tables) (hold : Hold) (acts : List Act)
       → Serving state rows before now first mid hold acts → Looked state mid next → Serving state rows before now first next hold acts
 
-  pub went-nowhere : (log : Option (List Call)) (it : Turning Tables) → WentOn state log log it it 0
+  pub went-nowhere : (log : Option (List Call)) (it : Turning Tables) → WentOn state log log it it 0 []
   went-nowhere log it = record {
     acts = [];
     counted = refl;
+    ordered = refl;
     serves = λ rows start first done s. rw append-nil s;
     working = λ works. works;
   }
 
-  module _ {before now after : Option (List Call)} {old mid new : Turning Tables} {count more : ℕ} where
-    pub went-then : WentOn state before now old mid count → WentOn state now after mid new more → WentOn state before after old new (count + more)
+  module _ {before now after : Option (List Call)} {old mid new : Turning Tables} {count more : ℕ} {orders later : List Act} where
+    pub went-then : WentOn state before now old mid count orders → WentOn state now after mid new more later
+        → WentOn state before after old new (count + more) (orders ++ later)
     went-then one next = record {
       acts = one.acts ++ next.acts;
       counted = ap length (turns-joined one.acts next.acts) ∙ length-append (turns_in one.acts) (turns_in next.acts)
           ∙ ap₂ (λ (n m : ℕ). n + m) one.counted next.counted;
+      ordered = orders-joined one.acts next.acts ∙ ap₂ (λ (some more : List Act). some ++ more) one.ordered next.ordered;
       serves = λ rows start first done s. rw (← append_assoc done one.acts next.acts)
           (next.serves rows start first (done ++ one.acts) (one.serves rows start first done s));
       working = λ works. next.working (one.working works);
     }
 
   pub went-by-turns : {before after : Option (List Call)} {old new : Turning Tables} {count : ℕ} → TurnsServe
-      → TurnsWent (Moves state) before after old.server new.server old.hold new.hold count → new.fault ≡ None → WentOn state before after old new count
+      → TurnsWent (Moves state) before after old.server new.server old.hold new.hold count → new.fault ≡ None → WentOn state before after old new count []
   went-by-turns {before} {after} {old} {new} {count} law went works = record {
     acts = all_turned went.turns;
     counted = ap length (all-turns went.turns) ∙ went.whole;
+    ordered = no-orders went.turns;
     serves = λ rows start first done s. law rows start before after first old.server new.server old.hold new.hold done count s went;
     working = λ worked. works;
   }
 
   module _ {old new : Turning Tables} (hold : new.hold ≡ old.hold) (fault : new.fault ≡ old.fault) where
     pub went-by-order : OrdersServe → (event : Event) (reply : Reply) → IsOrder event → Stepped state old.server new.server event reply
-        → Attended state old new
+        → Attended state old new (Ordered event reply ∷ [])
     went-by-order law event reply order step = λ log. record {
       acts = Ordered event reply ∷ [];
       counted = refl;
+      ordered = refl;
       serves = λ rows start first done s.
           rw hold (law rows start log first old.server new.server old.hold done event reply s order step);
       working = λ works. fault ∙ works;
     }
 
-    pub went-by-look : LooksServe → Looked state old.server new.server → Attended state old new
+    pub went-by-look : LooksServe → Looked state old.server new.server → Attended state old new []
     went-by-look law look = λ log. record {
       acts = [];
       counted = refl;
+      ordered = refl;
       serves = λ rows start first done s. rw (hold, append-nil) (law rows start log first old.server new.server old.hold done s look);
       working = λ works. fault ∙ works;
     }
 
-    pub went-by-nothing : new.server ≡ old.server → Attended state old new
+    pub went-by-nothing : new.server ≡ old.server → Attended state old new []
     went-by-nothing same = λ log. record {
       acts = [];
       counted = refl;
+      ordered = refl;
       serves = λ rows start first done s. rw (same, hold, append-nil) s;
       working = λ works. fault ∙ works;
     }
 
     pub went-by-answer : (names : List (List ℕ)) (text : List ℕ) → OrdersServe → LooksServe → (l : Line) → HasOrders l
-        → Answered state names old.server new.server l text → Attended state old new
-    went-by-answer names text orders looks (line.Order event) order answered = went-by-order orders event answered.0 order answered.1
-    went-by-answer names text orders looks line.Report order answered = went-by-look looks answered.0
-    went-by-answer names text orders looks line.Bad order answered = went-by-nothing answered.0
+        → Answered state names old.server new.server l text → (orders : List Act) × Attended state old new orders
+    went-by-answer names text orders looks (line.Order event) order answered = (_, went-by-order orders event answered.0 order answered.1)
+    went-by-answer names text orders looks line.Report order answered = ([], went-by-look looks answered.0)
+    went-by-answer names text orders looks line.Bad order answered = ([], went-by-nothing answered.0)
 
 -- what the console may end a service by is what a service may end by
 pub console-stops : (cause : Stop) → IsConsoleStop cause → IsServiceStop cause
@@ -137,16 +153,19 @@ module _ {Tables : Type 0} (state : Tables → State) (rows : List Row) where
   AreReplied = (rows : List Row) (first last : Standing Tables) (acts : List Act) (cut : Cut) → ServedOver state rows first last acts cut
       → (state last.tables).honest → replies_of (served_steps acts cut) ≡ replies first.institutions rows (served_events acts cut)
 
-  pub service-of : {before after : Option (List Call)} {old new : Turning Tables} {count made : ℕ} (institutions : List Institution) → WholeServes → AreReplied
+  pub service-of : {before after : Option (List Call)} {old new : Turning Tables} {count made : ℕ} {orders : List Act} {console : Option (List ℕ)} (institutions : List Institution)
+      → WholeServes → AreReplied
       → Serving state rows before before old.server old.server old.hold [] → (state new.server.tables).honest → old.server.institutions ≡ institutions
-      → made ≡ count → WentOn state before after old new made → Served institutions rows count before after
-  service-of {before} {after} {old} {new} institutions whole replied begun honest same number went =
+      → made ≡ count → (console ≡ None → orders ≡ []) → WentOn state before after old new made orders
+      → Served institutions rows count console before after
+  service-of {before} {after} {old} {new} institutions whole replied begun honest same number none went =
       let service = went.serves rows before old.server [] begun in
       let served = whole rows before after old.server new.server new.hold went.acts service in
       let steps = append-nil (flat_map act_steps went.acts) in
       record {
         acts = went.acts;
         counted = went.counted ∙ number;
+        unordered = λ is. went.ordered ∙ none is;
         are = service.are;
         calls = service.calls;
         answered = rw (same, steps) at (replied rows old.server new.server went.acts NoRoom served honest);

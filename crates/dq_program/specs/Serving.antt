@@ -40,21 +40,29 @@ turns_in [] = []
 turns_in (Turned turn ∷ acts) = turn ∷ turns_in acts
 turns_in (Ordered event reply ∷ acts) = turns_in acts
 
--- Whatever serving had come to `old` has come to `new` by further acts, so many turns among them.
--- The calls of the wires went on from `before` to `after`.
+-- the orders of the console among acts, with their replies
+abbrev pub orders_in : List Act → List Act
+orders_in [] = []
+orders_in (Turned turn ∷ acts) = orders_in acts
+orders_in (Ordered event reply ∷ acts) = Ordered event reply ∷ orders_in acts
+
+-- Whatever serving had come to `old` has come to `new` by further acts: so many turns, and these
+-- orders of the console. The calls of the wires went on from `before` to `after`.
 pub record WentOn {Tables : Type 0} (state : Tables → State) (before after : Option (List Call))
-    (old new : Turning Tables) (count : ℕ) : Type 0 where
+    (old new : Turning Tables) (count : ℕ) (orders : List Act) : Type 0 where
   pub acts : List Act
   pub counted : length (turns_in acts) ≡ count
+  pub ordered : orders_in acts ≡ orders
   pub serves : (rows : List Row) (start : Option (List Call)) (first : Standing Tables)
       (done : List Act) → Serving state rows start before first old.server old.hold done
       → Serving state rows start after first new.server new.hold (done ++ acts)
   pub working : old.fault ≡ None → new.fault ≡ None
 
--- The console was attended to, by no turn.
+-- The console was attended to: these orders were stepped, and no turn was made.
 abbrev pub Attended : {Tables : Type 0} → (Tables → State) → Turning Tables → Turning Tables
-    → Type 0
-Attended state old new = (log : Option (List Call)) → WentOn state log log old new 0
+    → List Act → Type 0
+Attended state old new orders =
+    (log : Option (List Call)) → WentOn state log log old new 0 orders
 
 -- the fault of a service: that of a run, or that the server had stopped before
 abbrev pub IsServiceFault : ℕ → Type 0
@@ -72,12 +80,13 @@ IsConsoleStop (stop.Fault number) = IsServiceFault number
 IsConsoleStop other = ⊥
 
 -- So many turns were made over wires, from rows that were there, and orders of the console were
--- stepped between them. The calls of the wires are exactly those of the turns, and what was
--- answered is what the plain server answers.
+-- stepped between them: none where no console is asked for. The calls of the wires are exactly those
+-- of the turns, and what was answered is what the plain server answers.
 pub record Served (institutions : List Institution) (rows : List Row) (count : ℕ)
-    (before after : Option (List Call)) : Type 0 where
+    (console : Option (List ℕ)) (before after : Option (List Call)) : Type 0 where
   pub acts : List Act
   pub counted : length (turns_in acts) ≡ count
+  pub unordered : console ≡ None → orders_in acts ≡ []
   pub are : AreActs nothing_held acts
   pub calls : LogsAll before after (flat_map act_calls acts)
   pub answered : replies_of (flat_map act_steps acts)

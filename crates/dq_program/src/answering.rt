@@ -1,5 +1,5 @@
 //! The replies to a capture, printed.
-ghost use Rattle.std.specs.Prelude.{◌≡◌, ◌≢◌, false, List, Some, IsTrue, IfOk, IfErr, OnOk};
+ghost use Rattle.std.specs.Prelude.{◌≡◌, ◌≢◌, ◌⊎◌, false, List, Some, IsTrue, IfOk, IfErr, OnOk};
 ghost use Rattle.std.specs.Io.KnownBytes.{Appends};
 ghost use Rattle.dq_core.specs.declared.event.Reply.{Reply};
 ghost use Rattle.dq_core.specs.Histories.{is_well_formed};
@@ -49,6 +49,9 @@ fn print_all<W: Sink>(
         (Appends (W.written output.old) (W.written output.new) (printed all)) }
     ensures flushed { OnOk result (W.is_flushed output.new) }
     ensures ends { IfErr result (EndsTask (W.may_fail output.old)) }
+    // All replies were printed, or memory ran out, or the output failed.
+    ensures whole { IfErr result (λ stop. Appends (W.written output.old) (W.written output.new)
+        (printed replies.now) ⊎ (stop ≡ Stop.Fault no_memory) ⊎ (stop ≡ Stop.Output)) }
     ensures cut { (all : List Reply) → AreGiven all replies.now fault → IfErr result
         (Cuts (W.written output.old) (W.written output.new) all) }
 {

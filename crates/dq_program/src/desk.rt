@@ -1,6 +1,7 @@
 //! The console: orders of the worklist, and reports, that come as lines over wires of their own.
-ghost use Rattle.std.specs.Prelude.{◌≡◌, [], ◌++◌, length, IfOk, IfErr, OnOk, MatchBool};
+ghost use Rattle.std.specs.Prelude.{◌≡◌, List, [], ◌++◌, length, IfOk, IfErr, OnOk, MatchBool};
 ghost use Rattle.dq_core.specs.Looking.{Looked};
+ghost use Rattle.dq_wires.specs.Servings.{Act};
 ghost use Rattle.dq_wires.specs.Turners.{IsOrder};
 ghost use Rattle.dq_program.specs.declared.desk.Line.{Line};
 ghost use Rattle.dq_program.specs.Reports.{count_text, report_line, reported};
@@ -360,7 +361,8 @@ impl<W: Wires + Drop> Desk<W> {
     // The turn of one caller. The answer is whether it is still there. The first bad line is the
     // last that is taken of it.
     fn attend<T: Tables>(&mut self, at: usize, turner: &mut Turner<T>) -> Result<bool, Stop>
-        ensures went { OnOk result (Attended T.state turner.old turner.new) }
+        ensures went { OnOk result ((orders : List Act)
+            × Attended T.state turner.old turner.new orders) }
         ensures stops { IfErr result IsConsoleStop }
         ensures callers { length self.new.callers.items ≡ length self.old.callers.items }
     {
@@ -388,7 +390,8 @@ impl<W: Wires + Drop> Desk<W> {
     /// of a caller, or of the wires, ends that caller alone: only a fault of the server, or want of
     /// memory for an answer, ends more.
     pub fn turn<T: Tables>(&mut self, turner: &mut Turner<T>) -> Result<(), Stop>
-        ensures went { OnOk result (Attended T.state turner.old turner.new) }
+        ensures went { OnOk result ((orders : List Act)
+            × Attended T.state turner.old turner.new orders) }
         ensures stops { IfErr result IsConsoleStop }
     {
         self.let_in();

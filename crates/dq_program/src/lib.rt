@@ -5,6 +5,7 @@
 
 mod answering;
 mod desk;
+pub mod laws;
 mod logged_sockets;
 mod looping;
 mod migrating;

@@ -3,10 +3,10 @@ ghost use Rattle.std.specs.Prelude.{◌≡◌, [], IfOk, IfSome};
 
 use crate::logged_sockets::LoggedSockets;
 use dq_captures::Host;
-use dq_config::Institution;
+use dq_tables::Tables;
 use dq_wires::{
     AssociationLog, Client, Clients, Limits, LogEnd, LoggedWires, SocketClient, SocketWires,
-    WireFault, Wires,
+    Turner, WireFault, Wires,
 };
 use std::alloc::{AllocError, Global};
 use std::io;
@@ -35,11 +35,9 @@ impl From<AllocError> for Unheard {
     }
 }
 
-/// The log of connections: the institutions that are served, and its file, unless it is standard
-/// error.
+/// The log of connections: its file, unless it is standard error.
 #[derive(Clone, Copy)]
 pub struct Logging<'a> {
-    pub institutions: &'a [Institution],
     pub file: Option<&'a str>,
 }
 
@@ -87,8 +85,17 @@ pub trait Network {
     ) -> io::Result<()>
         ensures { Self.Wired.log wires.new ≡ Self.Wired.log wires.old };
 
-    /// Tells notes of the console, a line each, in the log of the wires, if they have one.
+    /// Tells in the log of the wires, if they have one, what was served since this was last asked.
+    fn tell<T: Tables>(&self, wires: &mut Self::Wired, turner: &mut Turner<T>)
+        ensures log { Self.Wired.log wires.new ≡ Self.Wired.log wires.old }
+        ensures turner { turner.new ≡ turner.old };
+
+    /// Tells notes of the console there, a line each.
     fn note(&self, wires: &mut Self::Wired, notes: &str)
+        ensures { Self.Wired.log wires.new ≡ Self.Wired.log wires.old };
+
+    /// Tells there that the server stops: by a fault of a number, or for want of connections.
+    fn note_stop(&self, wires: &mut Self::Wired, fault: Option<u8>)
         ensures { Self.Wired.log wires.new ≡ Self.Wired.log wires.old };
 
     /// Calls the wires from the same process.
@@ -149,7 +156,7 @@ fn log_of(
 ) -> Result<AssociationLog<LogEnd>, Unheard> {
     match log_end(alloc, rt, logging.file) {
         Ok(end) => {
-            let mut log = AssociationLog::new(alloc, logging.institutions, end)?;
+            let mut log = AssociationLog::new(alloc, end);
             log.read_clock(rt);
             Ok(log)
         }
@@ -226,9 +233,21 @@ impl<H: Host> Network for H {
         rested
     }
 
+    fn tell<T: Tables>(&self, wires: &mut Self::Wired, turner: &mut Turner<T>) {
+        if let Some(log) = &mut wires.0.log {
+            log.tell(&turner.take_notes(), self.runtime());
+        }
+    }
+
     fn note(&self, wires: &mut Self::Wired, notes: &str) {
         if let Some(log) = &mut wires.0.log {
             log.note(notes);
+        }
+    }
+
+    fn note_stop(&self, wires: &mut Self::Wired, fault: Option<u8>) {
+        if let Some(log) = &mut wires.0.log {
+            log.stop(fault);
         }
     }
 

@@ -142,8 +142,8 @@ fn do_job<Rt: AllocGlobal + Folder + Stores + Network, R: Source, W: Sink>(
         × IsConfigured (Rt.held rt.now) serving.config institutions
         × IfSome (rows_at (Rt.stored rt.now) serving.place) (λ rows.
         (wires : Rt.Wired) × (left : Rt.Wired) × IsUncalled (Rt.Wired.log wires)
-        × Served institutions rows (turn_count serving.turns) (Rt.Wired.log wires)
-        (Rt.Wired.log left))) }
+        × Served institutions rows (turn_count serving.turns) serving.console
+        (Rt.Wired.log wires) (Rt.Wired.log left))) }
     ensures ready { (serving : Serving) → errand_in job.entry ≡ Serves serving → OnOk result
         (Appends (W.written output.old) (W.written output.new) (ready_text serving.port)) }
     ensures unserved { (serving : Serving) → errand_in job.entry ≡ Serves serving → IfErr result
@@ -260,8 +260,8 @@ pub fn perform<Rt: AllocGlobal + Folder + Stores + Network, S: AsStr, R: Source,
         × IsConfigured (Rt.held rt.now) serving.config institutions
         × IfSome (rows_at (Rt.stored rt.now) serving.place) (λ rows.
         (wires : Rt.Wired) × (left : Rt.Wired) × IsUncalled (Rt.Wired.log wires)
-        × Served institutions rows (turn_count serving.turns) (Rt.Wired.log wires)
-        (Rt.Wired.log left)) }
+        × Served institutions rows (turn_count serving.turns) serving.console
+        (Rt.Wired.log wires) (Rt.Wired.log left)) }
     ensures ready { (serving : Serving) → asked (map S.text words.now) ≡ Some (Serves serving) →
         result ≡ 0 → Appends (W.written output.old) (W.written output.new)
         (ready_text serving.port) }

@@ -4,6 +4,9 @@ ghost use Rattle.std.specs.Option.{option_copied};
 ghost use Rattle.std.specs.Io.KnownBytes.{Appends};
 ghost use Rattle.dq_config.specs.declared.config.Institution.{Institution};
 ghost use Rattle.dq_core.specs.Standing.{StandsFor};
+ghost use Rattle.dq_wires.specs.Stepping.{Moves};
+ghost use Rattle.dq_wires.specs.Turns.{TurnsWent};
+ghost use Rattle.dq_wires.specs.Servings.{Act};
 ghost use Rattle.dq_words.specs.Words.{place_in};
 ghost use Rattle.dq_program.specs.Program.{AreHonest, IsConfigured, rows_at};
 ghost use Rattle.dq_program.specs.Serving.{ready_text, turn_count, IsUncalled, WentOn, IsServiceStop, Served, EndsService, StopsService};
@@ -19,7 +22,7 @@ use dq_config::Institution;
 use dq_core::Server;
 use dq_tables::Tables;
 use dq_wires::laws::{calls_are_a_serving, servings_are_answered};
-use dq_wires::{Limits, Turner, Wires, turn_all};
+use dq_wires::{Limits, TurnFault, Turner, Wires, turn_all};
 use dq_words::{Keeper, Service};
 use std::alloc::{AllocError, Global};
 use std::time::Duration;
@@ -67,14 +70,24 @@ fn limits_of(service: Service<'_>) -> Limits {
 }
 
 /// The log that the words of a service ask for.
-fn logging_of<'a>(service: Service<'a>, institutions: &'a [Institution]) -> Option<Logging<'a>> {
+fn logging_of(service: Service<'_>) -> Option<Logging<'_>> {
     if service.is_logged || service.log_file.is_some() {
         return Some(Logging {
-            institutions,
             file: service.log_file,
         });
     }
     None
+}
+
+/// Tells in the log why the server stops.
+fn note_stop<N: Network>(network: &N, wires: &mut N::Wired, stop: Stop)
+    ensures { N.Wired.log wires.new ≡ N.Wired.log wires.old }
+{
+    match stop {
+        Stop::Fault(number) => network.note_stop(wires, Some(number)),
+        Stop::Network => network.note_stop(wires, None),
+        _ => {}
+    }
 }
 
 /// Listens where the words of a service say.
@@ -85,13 +98,15 @@ fn listen<N: Network>(
     institutions: &[Institution],
 ) -> Result<Reception<N::Wired>, Stop>
     ensures uncalled { IfOk result (λ it. IsUncalled (N.Wired.log it.wires)) }
+    ensures console { option_copied service.entry.console ≡ None →
+        IfOk result (λ it. it.desk ≡ None) }
     ensures stops { IfErr result IsServiceStop }
 {
     let listening = Listening {
         address: service.address,
         port: service.port,
         limits: limits_of(service),
-        log: logging_of(service, institutions),
+        log: logging_of(service),
     };
     let mut wires = network.listen(alloc, listening)?;
     let Some(path) = service.console else {
@@ -113,6 +128,24 @@ fn rest_of<T: Tables>(turner: &Turner<T>, most: Duration) -> Duration {
     most
 }
 
+/// One turn of all connections. The log is told what is served in it.
+fn turn_told<N: Network, T: Tables>(
+    network: &N,
+    turner: &mut Turner<T>,
+    wires: &mut N::Wired,
+) -> Result<(), TurnFault>
+    requires working { turner.old.fault ≡ None }
+    ensures went { OnOk result (TurnsWent (Moves T.state) (N.Wired.log wires.old)
+        (N.Wired.log wires.new) turner.old.server turner.new.server turner.old.hold
+        turner.new.hold 1) }
+    ensures fault { OnOk result (turner.new.fault ≡ None) }
+{
+    network.tell(wires, turner);
+    let turned = turn_all(turner, wires, 1);
+    network.tell(wires, turner);
+    turned
+}
+
 /// One turn of all connections and of the console, and a rest.
 fn turn_once<N: Network, T: Tables>(
     network: &N,
@@ -121,12 +154,14 @@ fn turn_once<N: Network, T: Tables>(
     rest: Duration,
 ) -> Result<(), Stop>
     requires working { turner.old.fault ≡ None }
-    ensures went { OnOk result (WentOn T.state (N.Wired.log reception.old.wires)
-        (N.Wired.log reception.new.wires) turner.old turner.new 1) }
+    ensures went { OnOk result ((orders : List Act) × WentOn T.state
+        (N.Wired.log reception.old.wires) (N.Wired.log reception.new.wires)
+        turner.old turner.new 1 orders × (reception.old.desk ≡ None → orders ≡ [])) }
+    ensures console { reception.old.desk ≡ None → reception.new.desk ≡ None }
     ensures stops { IfErr result IsServiceStop }
 {
     calls_are_a_serving::<T>();
-    turn_all(turner, &mut reception.wires, 1)?;
+    turn_told(network, turner, &mut reception.wires)?;
     let rest = rest_of(turner, rest);
     let rested = match &mut reception.desk {
         None => network.rest(&mut reception.wires, rest),
@@ -140,6 +175,27 @@ fn turn_once<N: Network, T: Tables>(
         return Err(Stop::Network);
     }
     Ok(())
+}
+
+/// The same. The log is told where the server stops.
+fn turn_noted<N: Network, T: Tables>(
+    network: &N,
+    turner: &mut Turner<T>,
+    reception: &mut Reception<N::Wired>,
+    rest: Duration,
+) -> Result<(), Stop>
+    requires working { turner.old.fault ≡ None }
+    ensures went { OnOk result ((orders : List Act) × WentOn T.state
+        (N.Wired.log reception.old.wires) (N.Wired.log reception.new.wires)
+        turner.old turner.new 1 orders × (reception.old.desk ≡ None → orders ≡ [])) }
+    ensures console { reception.old.desk ≡ None → reception.new.desk ≡ None }
+    ensures stops { IfErr result IsServiceStop }
+{
+    let turned = turn_once(network, turner, reception, rest);
+    if let Err(stop) = turned {
+        note_stop(network, &mut reception.wires, stop);
+    }
+    turned
 }
 
 /// How many turns, and how long is rested after each at most.
@@ -175,12 +231,13 @@ fn turn_on<N: Network, T: Tables>(
     pace: Pace,
 ) -> Result<(), Stop>
     requires working { turner.old.fault ≡ None }
-    ensures went { OnOk result (WentOn T.state (N.Wired.log reception.old.wires)
-        (N.Wired.log reception.new.wires) turner.old turner.new pace.turns) }
+    ensures went { OnOk result ((orders : List Act) × WentOn T.state
+        (N.Wired.log reception.old.wires) (N.Wired.log reception.new.wires)
+        turner.old turner.new pace.turns orders × (reception.old.desk ≡ None → orders ≡ [])) }
     ensures stops { IfErr result IsServiceStop }
 {
     for _turn in 0..pace.turns {
-        turn_once(network, turner, reception, pace.rest)?;
+        turn_noted(network, turner, reception, pace.rest)?;
     }
     Ok(())
 }
@@ -207,7 +264,8 @@ pub fn serve_by<N: Network, T: Tables + Drop, W: Sink>(
     ensures flushed { OnOk result (W.is_flushed output.new) }
     ensures served { AreHonest T.state → OnOk result ((wires : N.Wired) × (left : N.Wired)
         × IsUncalled (N.Wired.log wires) × Served server.institutions (T.state server.tables).rows
-        (turn_count service.entry.turns) (N.Wired.log wires) (N.Wired.log left)) }
+        (turn_count service.entry.turns) (option_copied service.entry.console)
+        (N.Wired.log wires) (N.Wired.log left)) }
     ensures ends { IfErr result (EndsService (W.may_fail output.old) (W.written output.old)
         (W.written output.new) service.entry.port) }
 {
@@ -239,8 +297,8 @@ pub fn serve<Rt: AllocGlobal + Folder + Stores + Network, W: Sink>(
         × IsConfigured (Rt.held rt.now) (option_copied service.entry.config) institutions
         × IfSome (rows_at (Rt.stored rt.now) (place_in service.entry.keeper)) (λ rows.
         (wires : Rt.Wired) × (left : Rt.Wired) × IsUncalled (Rt.Wired.log wires)
-        × Served institutions rows (turn_count service.entry.turns) (Rt.Wired.log wires)
-        (Rt.Wired.log left))) }
+        × Served institutions rows (turn_count service.entry.turns)
+        (option_copied service.entry.console) (Rt.Wired.log wires) (Rt.Wired.log left))) }
     ensures stops { IfErr result (StopsService (Rt.may_fail rt.now) (Rt.held rt.now)
         (option_copied service.entry.config) (W.may_fail output.old) (W.written output.old)
         (W.written output.new) service.entry.port) }

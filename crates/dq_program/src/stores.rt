@@ -1,6 +1,7 @@
 //! What keeps rows: memory, and stores that are files.
 ghost use Rattle.std.specs.Prelude.{◌≡◌, false, ℕ, List, [], Option, Some, IfOk, IfSome};
 ghost use Rattle.dq_tables.specs.declared.row.Row.{Row};
+ghost use Rattle.dq_core.specs.Soundness.{HoldSound};
 
 use crate::stop::Stop;
 use dq_tables::Tables;
@@ -41,10 +42,12 @@ pub trait Stores {
             (λ _. (Self.File.state tables).rows ≡ [])) }
         ensures failed { IfOk result (λ tables. (Self.File.state tables).failed ≡ false) };
 
-    /// The rows of the store that a file holds.
+    /// The rows of the store that a file holds. They are sound, and each holds a data set.
     fn store(&self, alloc: Global, path: &str) -> Result<Self::File, Unkept>
         ensures rows { IfOk result (λ tables. IfSome (stored self.now path.now)
             (λ rows. (Self.File.state tables).rows ≡ rows)) }
+        ensures sound { IfOk result (λ tables.
+            (Self.File.state tables).honest → HoldSound (Self.File.state tables).rows) }
         ensures failed { IfOk result (λ tables. (Self.File.state tables).failed ≡ false) };
 
     /// The rows of a store of the version before, migrated to a store that is made in a file. The

@@ -7,8 +7,10 @@ ghost use Rattle.sqlite.specs.Files.{file_state, IsOpened};
 ghost use Rattle.sqlite.specs.Start.{FindsIn};
 ghost use Rattle.dq_tables.specs.declared.row.Row.{Row};
 ghost use Rattle.dq_tables.specs.Sound.{IsSound};
+ghost use Rattle.dq_core.specs.Soundness.{HoldSound};
 ghost use Rattle.dq_sql.specs.Restarting.{HoldsRows};
 
+use dq_core::laws::rows_stay_sound;
 use dq_program::{Host, Stores, Unkept};
 use dq_sql::{MigrateFault, SqlTables, StoreFault};
 use dq_tables::{PlainTables, Tables};
@@ -89,9 +91,14 @@ pub fn kept_at<S: Start>(
     ensures rows { (rows : List Row) → HoldsRows (image_at S.Start) rows → IsSound rows
         → IfOk result (λ t. (⟦<SqlTables<FileStore<FileFrom<S>>> as Tables>⟧.state t).honest
         → (⟦<SqlTables<FileStore<FileFrom<S>>> as Tables>⟧.state t).rows ≡ rows) }
+    // Whatever the files hold, the rows are sound, and each holds a data set.
+    ensures sound { IfOk result (λ t.
+        (⟦<SqlTables<FileStore<FileFrom<S>>> as Tables>⟧.state t).honest
+        → HoldSound (⟦<SqlTables<FileStore<FileFrom<S>>> as Tables>⟧.state t).rows) }
     ensures failed { IfOk result (λ t.
         (⟦<SqlTables<FileStore<FileFrom<S>>> as Tables>⟧.state t).failed ≡ false) }
 {
+    rows_stay_sound();
     let conn = opened(rt, path, start)?;
     match SqlTables::adopt_lent(alloc, conn) {
         Ok(tables) => Ok(tables),

@@ -2,7 +2,7 @@
 use Rattle.std.proofs.Common.{◌≡◌, ◌<◌, ◌≤◌, ◌+◌, ◌⊎◌, ◌&&◌, ℕ, suc, nat_lt, Bool, true, false, List, [], ◌∷◌, ◌++◌, length, map, refl, ap, inl, inr, arith, length-append}
 use Rattle.std.specs.List.{flat_map}
 use Rattle.std.proofs.lemmas.List.{append-nil, take-append-drop}
-use Rattle.dq_wires.specs.declared.limits.TheConstants.{MOST_WIRES}
+use Rattle.dq_wires.specs.Limits.{most_wires}
 use Rattle.dq_wires.specs.Held.{Held, new_held}
 use Rattle.dq_wires.specs.Deeds.{Deed, IsDue, deed_after}
 use Rattle.dq_wires.specs.Deeds.Deed.{Sent, Broke, Lost, Closed, Heard, Silent, Pulled, Left}
@@ -79,14 +79,14 @@ first-true : (a b : Bool) → (a && b) ≡ true → a ≡ true
 first-true true b e = refl
 first-true false b e = e
 
-taken-fits : (h : Hold) (taking : Taking) → IsTaking h taking → length h.held ≤ MOST_WIRES → length (with_taken h taking).held ≤ MOST_WIRES
+taken-fits : (h : Hold) (taking : Taking) → IsTaking h taking → length h.held ≤ most_wires → length (with_taken h taking).held ≤ most_wires
 taken-fits h Full takes n = n
 taken-fits h Nobody takes n = n
 taken-fits h (Came place number reply) takes n =
-    let room = first-true (nat_lt (length h.held) MOST_WIRES) (nat_lt h.newest greatest_number) takes.0 in grind (arith, length-append h.held (new_held place number ∷ []))
+    let room = first-true (nat_lt (length h.held) most_wires) (nat_lt h.newest greatest_number) takes.0 in grind (arith, length-append h.held (new_held place number ∷ []))
 
-pub turns-fit : (h : Hold) (turns : List Turn) → length h.held ≤ MOST_WIRES → AreTurns h turns → length (after_turns h turns).held ≤ MOST_WIRES
+pub turns-fit : (h : Hold) (turns : List Turn) → length h.held ≤ most_wires → AreTurns h turns → length (after_turns h turns).held ≤ most_wires
 turns-fit h [] n are = n
 turns-fit h (t ∷ turns) n are =
-    let taken : length (with_taken h t.taking).held ≤ MOST_WIRES = taken-fits h t.taking are.0.takes n in
+    let taken : length (with_taken h t.taking).held ≤ most_wires = taken-fits h t.taking are.0.takes n in
     turns-fit (after_turn h t) turns (omega (arith, count-kept t.done, ap length are.0.each, taken)) are.1

@@ -9,7 +9,7 @@ use Rattle.dq_wires.specs.declared.calls.Call.TheVariants.{Read, Write, Shut}
 use Rattle.dq_wires.specs.declared.calls.Came.{Came}
 use Rattle.dq_wires.specs.declared.calls.Came.TheVariants as came
 use Rattle.dq_wires.specs.declared.fault.TurnFault.{TurnFault}
-use Rattle.dq_wires.specs.declared.limits.TheConstants.{READ_MOST}
+use Rattle.dq_wires.specs.Limits.{most_read}
 use Rattle.dq_wires.specs.Logs.{Logs}
 use Rattle.dq_wires.specs.Held.{Held}
 use Rattle.dq_wires.specs.Steps.{Step, Runs, Stops}
@@ -58,7 +58,7 @@ module _ {State : Type 0} {Goes : State → State → Step → Type 0} {before a
       record { deed = Closed answer; due = (sent, closed); calls = rw at at told; steps = refl; kept = refl }
 
   module _ {new : State} where
-    pub went-waiting : (next : Held) (place room : ℕ) → IsListening wire → place ≡ wire.place → room ≡ READ_MOST
+    pub went-waiting : (next : Held) (place room : ℕ) → IsListening wire → place ≡ wire.place → room ≡ most_read
         → Logs before after (Read place room came.Nothing) → Waits Goes old new wire next → Went Goes before after old new wire next true
     went-waiting next place room listening at all told (inl silent) = record {
       deed = Silent;
@@ -86,8 +86,8 @@ module _ {State : Type 0} {Goes : State → State → Step → Type 0} {before a
       kept = refl;
     }
 
-    pub went-heard : (next : Held) (place room : ℕ) (octets : List ℕ) → IsListening wire → length octets ≤ READ_MOST → place ≡ wire.place
-        → room ≡ READ_MOST → Logs before after (Read place room (came.Octets octets)) → Hears Goes old new wire next octets
+    pub went-heard : (next : Held) (place room : ℕ) (octets : List ℕ) → IsListening wire → length octets ≤ most_read → place ≡ wire.place
+        → room ≡ most_read → Logs before after (Read place room (came.Octets octets)) → Hears Goes old new wire next octets
         → Went Goes before after old new wire next true
     went-heard next place room octets listening bound at all told hears = record {
       deed = Heard octets hears.reply;
@@ -98,18 +98,18 @@ module _ {State : Type 0} {Goes : State → State → Step → Type 0} {before a
     }
 
     pub went-left : (mid : Option (List Call)) (next : Held) (place room : ℕ) (came : Came) → IsListening wire → IsEnd came → place ≡ wire.place
-        → room ≡ READ_MOST → Logs before mid (Read place room came) → Ends Goes mid after old new wire
+        → room ≡ most_read → Logs before mid (Read place room came) → Ends Goes mid after old new wire
         → Went Goes before after old new wire next false
     went-left mid next place room came listening ended at all told ends = record {
       deed = Left came ends.reply ends.answer;
       due = (listening, ended);
-      calls = logs-then before mid after (Read wire.place READ_MOST came ∷ []) (Shut wire.place ends.answer ∷ []) (rw (at, all) at told) ends.calls;
+      calls = logs-then before mid after (Read wire.place most_read came ∷ []) (Shut wire.place ends.answer ∷ []) (rw (at, all) at told) ends.calls;
       steps = run-one Goes (Answered (End wire.number) ends.reply) ends.goes;
       kept = refl;
     }
 
 module _ {State : Type 0} {Fails : State → State → Event → Fault → Type 0} {before after : Option (List Call)} {old new : State} {wire : Held} {fault : TurnFault} where
-  pub off-unheard : (place room : ℕ) (octets : List ℕ) → IsListening wire → length octets ≤ READ_MOST → place ≡ wire.place → room ≡ READ_MOST
+  pub off-unheard : (place room : ℕ) (octets : List ℕ) → IsListening wire → length octets ≤ most_read → place ≡ wire.place → room ≡ most_read
       → Logs before after (Read place room (came.Octets octets)) → FailsToHear Fails old new wire octets fault
       → WentOff Fails before after old new wire fault
   off-unheard place room octets listening bound at all told (inl unkept) =
@@ -117,13 +117,13 @@ module _ {State : Type 0} {Fails : State → State → Event → Fault → Type 
   off-unheard place room octets listening bound at all told (inr unanswered) =
       record { at = Unanswered octets; fits = (listening, bound); calls = rw (at, all) at told; stops = unanswered }
 
-  pub off-unpulled : (place room : ℕ) → IsListening wire → place ≡ wire.place → room ≡ READ_MOST
+  pub off-unpulled : (place room : ℕ) → IsListening wire → place ≡ wire.place → room ≡ most_read
       → Logs before after (Read place room came.Nothing) → Stops Fails old new (Some (Pull wire.number)) fault
       → WentOff Fails before after old new wire fault
   off-unpulled place room listening at all told stops =
       record { at = Unpulled; fits = listening; calls = rw (at, all) at told; stops = stops }
 
-  pub off-unended : (place room : ℕ) (came : Came) → IsListening wire → IsEnd came → place ≡ wire.place → room ≡ READ_MOST
+  pub off-unended : (place room : ℕ) (came : Came) → IsListening wire → IsEnd came → place ≡ wire.place → room ≡ most_read
       → Logs before after (Read place room came) → Stops Fails old new (Some (End wire.number)) fault
       → WentOff Fails before after old new wire fault
   off-unended place room came listening ended at all told stops =

@@ -8,7 +8,7 @@ use Rattle.dq_wires.specs.declared.calls.Came.{Came}
 use Rattle.dq_wires.specs.declared.calls.Came.TheVariants as came
 use Rattle.dq_wires.specs.declared.calls.Call.{Call}
 use Rattle.dq_wires.specs.declared.calls.Call.TheVariants.{Read, Write, Shut}
-use Rattle.dq_wires.specs.declared.limits.TheConstants.{READ_MOST}
+use Rattle.dq_wires.specs.Limits.{most_read}
 use Rattle.dq_wires.specs.Held.{Held, answered}
 use Rattle.dq_wires.specs.Steps.{Step}
 use Rattle.dq_wires.specs.Steps.Step.{Answered, Asked}
@@ -58,7 +58,7 @@ IsDue wire (Sent count) = IsSending wire × (count ≤ length wire.unsent)
 IsDue wire (Broke reply shut) = IsSending wire × (wire.closed ≡ false)
 IsDue wire (Lost shut) = IsSending wire × (wire.closed ≡ true)
 IsDue wire (Closed shut) = (wire.unsent ≡ []) × (wire.closed ≡ true)
-IsDue wire (Heard octets reply) = IsListening wire × (length octets ≤ READ_MOST)
+IsDue wire (Heard octets reply) = IsListening wire × (length octets ≤ most_read)
 IsDue wire Silent = IsListening wire
 IsDue wire (Pulled reply) = IsListening wire
 IsDue wire (Left came reply shut) = IsListening wire × IsEnd came
@@ -74,11 +74,11 @@ deed_calls wire (Broke reply shut) =
     Write wire.place wire.unsent failed ∷ Shut wire.place shut ∷ []
 deed_calls wire (Lost shut) = Write wire.place wire.unsent failed ∷ Shut wire.place shut ∷ []
 deed_calls wire (Closed shut) = Shut wire.place shut ∷ []
-deed_calls wire (Heard octets reply) = Read wire.place READ_MOST (came.Octets octets) ∷ []
-deed_calls wire Silent = Read wire.place READ_MOST came.Nothing ∷ []
-deed_calls wire (Pulled reply) = Read wire.place READ_MOST came.Nothing ∷ []
+deed_calls wire (Heard octets reply) = Read wire.place most_read (came.Octets octets) ∷ []
+deed_calls wire Silent = Read wire.place most_read came.Nothing ∷ []
+deed_calls wire (Pulled reply) = Read wire.place most_read came.Nothing ∷ []
 deed_calls wire (Left came reply shut) =
-    Read wire.place READ_MOST came ∷ Shut wire.place shut ∷ []
+    Read wire.place most_read came ∷ Shut wire.place shut ∷ []
 
 abbrev pub stepped : Event → Reply → List Step
 stepped event reply = Answered event reply ∷ []
@@ -119,18 +119,18 @@ pub data Break : Type 0 where
   Unbroken : Break
 
 abbrev pub IsBreak : Held → Break → Type 0
-IsBreak wire (Unkept octets) = IsListening wire × (length octets ≤ READ_MOST)
-IsBreak wire (Unanswered octets) = IsListening wire × (length octets ≤ READ_MOST)
+IsBreak wire (Unkept octets) = IsListening wire × (length octets ≤ most_read)
+IsBreak wire (Unanswered octets) = IsListening wire × (length octets ≤ most_read)
 IsBreak wire Unpulled = IsListening wire
 IsBreak wire (Unended came) = IsListening wire × IsEnd came
 IsBreak wire Unbroken = IsSending wire × (wire.closed ≡ false)
 
 -- its only call
 abbrev pub break_calls : Held → Break → List Call
-break_calls wire (Unkept octets) = Read wire.place READ_MOST (came.Octets octets) ∷ []
-break_calls wire (Unanswered octets) = Read wire.place READ_MOST (came.Octets octets) ∷ []
-break_calls wire Unpulled = Read wire.place READ_MOST came.Nothing ∷ []
-break_calls wire (Unended came) = Read wire.place READ_MOST came ∷ []
+break_calls wire (Unkept octets) = Read wire.place most_read (came.Octets octets) ∷ []
+break_calls wire (Unanswered octets) = Read wire.place most_read (came.Octets octets) ∷ []
+break_calls wire Unpulled = Read wire.place most_read came.Nothing ∷ []
+break_calls wire (Unended came) = Read wire.place most_read came ∷ []
 break_calls wire Unbroken = Write wire.place wire.unsent failed ∷ []
 
 -- the event at which the server failed, if it did

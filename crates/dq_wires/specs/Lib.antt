@@ -1,3 +1,4 @@
+pub mod Limits
 pub mod Faults
 pub mod Logs
 pub mod Scripts
@@ -13,6 +14,5 @@ pub mod Octets
 pub mod Serving
 pub mod Servings
 pub mod Cuts
-pub mod Passed
-pub mod Namings
 pub mod Looping
+pub mod Lines

@@ -10,7 +10,7 @@ use Rattle.dq_wires.specs.declared.calls.Call.{Call}
 use Rattle.dq_wires.specs.declared.calls.Call.TheVariants.{Accept}
 use Rattle.dq_wires.specs.declared.fault.TurnFault.{TurnFault}
 use Rattle.dq_wires.specs.declared.fault.TurnFault.TheVariants.{Network}
-use Rattle.dq_wires.specs.declared.limits.TheConstants.{MOST_WIRES}
+use Rattle.dq_wires.specs.Limits.{most_wires}
 use Rattle.dq_wires.specs.Logs.{LogsAll}
 use Rattle.dq_wires.specs.Held.{Held, new_held}
 use Rattle.dq_wires.specs.Steps.{Step, Runs, Stops}
@@ -48,7 +48,7 @@ greatest_number = 2 ^ 64 - 1
 
 -- whether there is room for one more, and a number
 abbrev pub has_room : Hold → Bool
-has_room h = nat_lt (length h.held) MOST_WIRES && nat_lt h.newest greatest_number
+has_room h = nat_lt (length h.held) most_wires && nat_lt h.newest greatest_number
 
 -- How a turn begins.
 pub data Taking : Type 0 where

@@ -31,8 +31,13 @@ pub struct GivenUp {
     pub reason: Reason,
 }
 
-/// What may give up connections by itself, and tells which.
+/// What knows the peers of connections, and may give up connections by itself.
 pub trait GivesUp {
+    /// The address of the peer at a place, if it is known.
+    fn peer(&self, _place: usize) -> Option<SocketAddr> {
+        None
+    }
+
     /// The connection at a place, if it was given up.
     fn given_up(&self, _place: usize) -> Option<GivenUp> {
         None

@@ -13,7 +13,7 @@ ghost use Rattle.dq_core.specs.Standing.{Standing, StandsFor};
 ghost use Rattle.dq_core.specs.Looking.{Looked};
 ghost use Rattle.dq_wires.specs.declared.calls.Call.{Call};
 ghost use Rattle.dq_wires.specs.declared.fault.TurnFault.{TurnFault};
-ghost use Rattle.dq_wires.specs.declared.limits.TheConstants.{MOST_WIRES};
+ghost use Rattle.dq_wires.specs.Limits.{most_wires};
 ghost use Rattle.dq_wires.specs.Held.{Held};
 ghost use Rattle.dq_wires.specs.Steps.{Step, Runs, replies_of};
 ghost use Rattle.dq_wires.specs.Deeds.{Deed, IsDue};
@@ -66,8 +66,8 @@ pub fn numbers_rise()
 
 /// No more connections are held than there is room for.
 pub fn no_more_are_held_than_fit()
-    ensures { (h : Hold) (turns : List Turn) → length h.held ≤ MOST_WIRES → AreTurns h turns →
-        length (after_turns h turns).held ≤ MOST_WIRES }
+    ensures { (h : Hold) (turns : List Turn) → length h.held ≤ most_wires → AreTurns h turns →
+        length (after_turns h turns).held ≤ most_wires }
 {}
 
 /// What a look leaves is not seen by the steps after it: a step after a look is that step alone.

@@ -16,8 +16,6 @@ mod log_line;
 mod logged;
 mod looping;
 mod memory;
-mod passed;
-mod passing;
 mod rounds;
 mod socket;
 mod sockets;

@@ -4,18 +4,22 @@ ghost use Rattle.dq_wires.specs.Logs.{IfGot};
 
 use crate::calls::{ReadTurn, WireFault};
 use crate::given_up::{GivenUp, Limits, Reason};
-use crate::passed::{HEADER, pdu_type};
 use crate::socket::Socket;
 use std::io::ErrorKind;
 use std::net::SocketAddr;
 use std::time::Duration;
 
 /// The PDUs after which the server sends no other (PS3.8 section 9.2).
-const LAST_PDUS: [u8; 3] = [
-    pdu_type::A_ASSOCIATE_RJ,
-    pdu_type::A_RELEASE_RP,
-    pdu_type::A_ABORT,
-];
+const LAST_PDUS: [u8; 3] = [A_ASSOCIATE_RJ, A_RELEASE_RP, A_ABORT];
+
+const A_ASSOCIATE_RJ: u8 = 0x03;
+
+const A_RELEASE_RP: u8 = 0x06;
+
+const A_ABORT: u8 = 0x07;
+
+/// A PDU's type, a reserved octet and the length of its body (PS3.8 section 9.3.1).
+const HEADER: usize = 6;
 
 /// Where the PDUs begin that are written, however their octets are cut (PS3.8 section 9.3.1): the
 /// octets of a header that is not whole, how many they are, and how many of a body are to come.
@@ -110,6 +114,11 @@ impl Line {
             written: Headers::NONE,
             reason: None,
         }
+    }
+
+    /// Its peer's address.
+    pub(crate) fn peer(&self) -> Option<SocketAddr> {
+        self.peer
     }
 
     /// Its end, if it was given up.

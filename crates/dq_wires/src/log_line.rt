@@ -1,55 +1,68 @@
 //! The lines of a log.
 use crate::given_up::GivenUp;
-use crate::passed::{Party, Titles};
+use crate::watched::Tally;
+use dq_assoc::Service;
+use dq_core::{Noted, Party, Sought, Titles};
+use dq_list::Listed;
 use dq_value::stripped;
+use dq_vr::Tag;
 use jiff::Timestamp;
 use std::fmt;
+use std::net::SocketAddr;
 
-/// What is told of a connection.
-#[derive(Clone, Copy, PartialEq, Eq)]
-pub(crate) enum Told {
-    /// It was accepted, with so many presentation contexts.
-    Accepted {
-        titles: Titles,
-        contexts: usize,
+/// What a line tells.
+#[derive(Clone, Copy)]
+pub(crate) enum Told<'a> {
+    /// What was noted, with the peer's address, and how many milliseconds its turn took.
+    Noted {
+        noted: &'a Noted,
+        peer: Option<SocketAddr>,
+        milliseconds: u64,
     },
-    /// It was rejected (PS3.8 section 9.3.4).
-    Rejected {
-        titles: Titles,
-        result: u8,
-        source: u8,
-        reason: u8,
+    /// An association ended, by what was noted, after so many milliseconds.
+    Ended {
+        noted: &'a Noted,
+        tally: Tally,
+        milliseconds: u64,
     },
-    /// It was aborted (PS3.8 section 9.3.8).
-    Aborted {
-        sender: Party,
-        source: u8,
-        reason: u8,
-    },
-    /// It was accepted before and not aborted, and its connection is gone.
-    Ended,
-    /// Its connection was given up.
+    /// A connection was given up.
     GivenUp(GivenUp),
+    /// An order of the console, and what was answered.
+    Console(&'a str),
+    /// The server stops by a fault of a number, or for want of connections.
+    Stopped(Option<u8>),
+    /// So many lines could not be written.
+    Lost(u64),
 }
 
-/// What a line tells of: a connection by its number, or none.
-#[derive(Clone, Copy)]
-pub(crate) struct Subject(pub Option<u64>);
-
-/// The line of a connection: the time, its number if it has one, and what is told of it. The
-/// institution is that of its titles, or empty.
+/// A line: the time, the number of the connection that it is about, or none, and what is told.
 #[derive(Clone, Copy)]
 pub(crate) struct LogLine<'a> {
     pub time: Timestamp,
-    pub subject: Subject,
-    pub institution: &'a [u8],
-    pub told: Told,
+    pub number: Option<u64>,
+    pub told: Told<'a>,
 }
 
 /// Octets as one word: `-` where there are none, and `?` for each that is no graphic character of
 /// ASCII.
 #[derive(Clone, Copy)]
 struct Word<'a>(&'a [u8]);
+
+/// An address, or `-`.
+#[derive(Clone, Copy)]
+struct Address(Option<SocketAddr>);
+
+/// A pair of titles, the called one first.
+#[derive(Clone, Copy)]
+struct Pair(Titles);
+
+/// Tags as eight hexadecimal digits each, or `-` where there are none.
+#[derive(Clone, Copy)]
+struct Keys<'a>(&'a [Tag]);
+
+/// A rejection: its three numbers, and in words what this server means by them.
+#[derive(Clone, Copy)]
+struct Rejection(u8, u8, u8);
 
 impl fmt::Display for Word<'_> {
     fn fmt<W: fmt::Write>(&self, f: &mut fmt::Formatter<W>) -> fmt::Result {
@@ -68,52 +81,181 @@ impl fmt::Display for Word<'_> {
     }
 }
 
-impl fmt::Display for Subject {
+impl fmt::Display for Address {
     fn fmt<W: fmt::Write>(&self, f: &mut fmt::Formatter<W>) -> fmt::Result {
         match self.0 {
-            Some(number) => write!(f, "{number}"),
+            Some(peer) => write!(f, "{peer}"),
             None => f.write_str("-"),
         }
     }
 }
 
+impl fmt::Display for Pair {
+    fn fmt<W: fmt::Write>(&self, f: &mut fmt::Formatter<W>) -> fmt::Result {
+        let called = Word(stripped(&self.0.called));
+        let calling = Word(stripped(&self.0.calling));
+        write!(f, "{called} {calling}")
+    }
+}
+
+impl fmt::Display for Keys<'_> {
+    fn fmt<W: fmt::Write>(&self, f: &mut fmt::Formatter<W>) -> fmt::Result {
+        let mut mark = "";
+        for tag in self.0 {
+            write!(f, "{mark}{:04x}{:04x}", tag.group, tag.element)?;
+            mark = ",";
+        }
+        if self.0.is_empty() {
+            return f.write_str("-");
+        }
+        Ok(())
+    }
+}
+
+impl fmt::Display for Rejection {
+    fn fmt<W: fmt::Write>(&self, f: &mut fmt::Formatter<W>) -> fmt::Result {
+        let Rejection(result, source, reason) = *self;
+        let words = match (source, reason) {
+            (1, 1) => "no institution has these titles, or a maximum length below 8",
+            (1, 2) => "another application context than DICOM's",
+            (2, 2) => "another protocol version",
+            (3, 2) => "the institution has as many associations as it may",
+            _ => "-",
+        };
+        write!(f, "{result} {source} {reason} {words}")
+    }
+}
+
+/// How an association ended, in a word.
+fn ending_of(noted: &Noted) -> &'static str {
+    match noted {
+        Noted::Released => "released",
+        Noted::Aborted { .. } => "aborted",
+        _ => "lost",
+    }
+}
+
+/// Who aborts, in a word.
+fn name_of(party: Party) -> &'static str {
+    match party {
+        Party::Peer => "peer",
+        Party::Server => "server",
+    }
+}
+
+/// What is searched by a service.
+fn searched_by(service: Service) -> &'static str {
+    match service {
+        Service::WorklistFind => "worklist",
+        _ => "study",
+    }
+}
+
+fn word_of(value: &Listed<u8>) -> Word<'_> {
+    Word(stripped(value.as_slice()))
+}
+
+/// Writes what a C-FIND asks for, if it could be read.
+fn write_sought<W: fmt::Write>(f: &mut fmt::Formatter<W>, sought: Option<&Sought>) -> fmt::Result {
+    let Some(sought) = sought else {
+        return f.write_str("unreadable");
+    };
+    write!(
+        f,
+        "modality {} station {} day {} keys {}",
+        word_of(&sought.modality),
+        word_of(&sought.station),
+        word_of(&sought.day),
+        Keys(sought.keys.as_slice())
+    )
+}
+
+/// Writes what was noted. The end of an association has a line of its own.
+fn write_noted<W: fmt::Write>(
+    f: &mut fmt::Formatter<W>,
+    noted: &Noted,
+    peer: Address,
+    milliseconds: u64,
+) -> fmt::Result {
+    match noted {
+        Noted::Accepted {
+            institution,
+            titles,
+            contexts,
+        } => {
+            let name = Word(institution.as_slice());
+            let noun = if *contexts == 1 {
+                "context"
+            } else {
+                "contexts"
+            };
+            write!(
+                f,
+                "accepted {name} {} {peer} {contexts} {noun}",
+                Pair(*titles)
+            )
+        }
+        Noted::Rejected {
+            titles,
+            result,
+            source,
+            reason,
+        } => {
+            let rejection = Rejection(*result, *source, *reason);
+            write!(f, "rejected {} {peer} {rejection}", Pair(*titles))
+        }
+        Noted::Aborted {
+            party,
+            source,
+            reason,
+        } => write!(f, "aborted by the {} {source} {reason}", name_of(*party)),
+        Noted::Served {
+            service,
+            status,
+            answers,
+            sought,
+        } => {
+            write!(f, "{} query ", searched_by(*service))?;
+            write_sought(f, sought.as_ref())?;
+            write!(
+                f,
+                " status {status:04x} answers {answers} ms {milliseconds}"
+            )
+        }
+        Noted::Released | Noted::Ended => Ok(()),
+    }
+}
+
 impl fmt::Display for LogLine<'_> {
     fn fmt<W: fmt::Write>(&self, f: &mut fmt::Formatter<W>) -> fmt::Result {
-        write!(f, "{:.3} {} ", self.time, self.subject)?;
+        write!(f, "{:.3} ", self.time)?;
+        match self.number {
+            Some(number) => write!(f, "{number} ")?,
+            None => f.write_str("- ")?,
+        }
         match self.told {
-            Told::Accepted { titles, contexts } => {
-                let institution = Word(self.institution);
-                let called = Word(stripped(&titles.called));
-                let calling = Word(stripped(&titles.calling));
-                let noun = if contexts == 1 { "context" } else { "contexts" };
+            Told::Noted {
+                noted,
+                peer,
+                milliseconds,
+            } => write_noted(f, noted, Address(peer), milliseconds),
+            Told::Ended {
+                noted,
+                tally,
+                milliseconds,
+            } => {
+                let (seconds, rest) = (milliseconds / 1000, milliseconds % 1000);
                 write!(
                     f,
-                    "accepted {institution} {called} {calling} {contexts} {noun}"
+                    "ended {} {seconds}.{rest:03} s {tally}",
+                    ending_of(noted)
                 )
             }
-            Told::Rejected {
-                titles,
-                result,
-                source,
-                reason,
-            } => {
-                let called = Word(stripped(&titles.called));
-                let calling = Word(stripped(&titles.calling));
-                write!(f, "rejected {called} {calling} {result} {source} {reason}")
-            }
-            Told::Aborted {
-                sender,
-                source,
-                reason,
-            } => {
-                let sender = match sender {
-                    Party::Peer => "peer",
-                    Party::Server => "server",
-                };
-                write!(f, "aborted by the {sender} {source} {reason}")
-            }
-            Told::Ended => f.write_str("ended"),
             Told::GivenUp(given_up) => write!(f, "{given_up}"),
+            Told::Console(note) => write!(f, "console {note}"),
+            Told::Stopped(Some(fault)) => write!(f, "stopped fault {fault}"),
+            Told::Stopped(None) => f.write_str("stopped network"),
+            Told::Lost(count) => write!(f, "{count} lines are lost"),
         }
     }
 }

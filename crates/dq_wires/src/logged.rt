@@ -5,13 +5,13 @@ ghost use Rattle.dq_wires.specs.Logs.{IfGot};
 use crate::association_log::AssociationLog;
 use crate::calls::{ReadTurn, WireFault};
 use crate::given_up::GivesUp;
-use crate::passed::Party;
 use crate::wires::Wires;
 use std::io::Write;
 use std::time::Clock;
 
 /// Wires around others. Each call is handed on, and its answer back: what is served is what the
-/// others serve. The log, where there is one, reads what passes.
+/// others serve. The log, where there is one, is told which connections come, and which are given
+/// up.
 #[derive(Drop)]
 pub struct LoggedWires<W, L> {
     pub wires: W,
@@ -34,7 +34,7 @@ impl<W: Wires + GivesUp, L: Write + Drop> Wires for LoggedWires<W, L> {
         let answer = self.wires.accept();
         if let Some(log) = &mut self.log {
             match (answer, self.wires.turned_away()) {
-                (Ok(Some(place)), _) => log.begin(place),
+                (Ok(Some(place)), _) => log.begin(place, self.wires.peer(place)),
                 (_, Some(given_up)) => log.turn_away(given_up),
                 _ => {}
             }
@@ -43,19 +43,11 @@ impl<W: Wires + GivesUp, L: Write + Drop> Wires for LoggedWires<W, L> {
     }
 
     fn read(&mut self, place: usize, buffer: &mut [u8]) -> Result<ReadTurn, WireFault> {
-        let answer = self.wires.read(place, buffer);
-        if let (Some(log), Ok(ReadTurn::Got(count))) = (&mut self.log, answer) {
-            log.pass(place, Party::Peer, &buffer[..count]);
-        }
-        answer
+        self.wires.read(place, buffer)
     }
 
     fn write(&mut self, place: usize, octets: &[u8]) -> Result<usize, WireFault> {
-        let answer = self.wires.write(place, octets);
-        if let (Some(log), Ok(count)) = (&mut self.log, answer) {
-            log.pass(place, Party::Server, &octets[..count]);
-        }
-        answer
+        self.wires.write(place, octets)
     }
 
     fn shut(&mut self, place: usize) -> Result<(), WireFault> {

@@ -1,6 +1,7 @@
 //! Turns of all connections.
 ghost use Rattle.std.specs.Prelude.{◌≡◌, ◌+◌, length, IsTrue, IfErr, OnOk};
 ghost use Rattle.dq_core.specs.Histories.{is_above};
+ghost use Rattle.dq_wires.specs.Limits.{most_read};
 ghost use Rattle.dq_wires.specs.Stepping.{Moves, Fails};
 ghost use Rattle.dq_wires.specs.Turns.{has_room, TurnsWent, TurnsCut};
 ghost use Rattle.dq_wires.specs.Rounds.{RoundWent, RoundCut, TakingWent, TurnWent, TurnCut};
@@ -24,7 +25,7 @@ fn turn_held<T: Tables, W: Wires>(
     wires: &mut W,
     buffer: &mut [u8],
 ) -> Result<(), TurnFault>
-    requires room { length buffer.old ≡ READ_MOST }
+    requires room { length buffer.old ≡ most_read }
     ensures went { OnOk result (RoundWent (Moves T.state) (W.log wires.old)
         (W.log wires.new) server.old server.new held.old.items held.new.items) }
     ensures cut { IfErr result (RoundCut (Moves T.state)

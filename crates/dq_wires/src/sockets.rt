@@ -259,6 +259,13 @@ impl Wires for SocketWires {
 }
 
 impl GivesUp for SocketWires {
+    fn peer(&self, place: usize) -> Option<SocketAddr> {
+        match self.lines.get(place)? {
+            Some(line) => line.peer(),
+            None => None,
+        }
+    }
+
     fn given_up(&self, place: usize) -> Option<GivenUp> {
         match self.lines.get(place)? {
             Some(line) => line.given_up(),

@@ -12,7 +12,7 @@ use crate::rounds::turn_times;
 use crate::stepping::step_order;
 use crate::wire::Wire;
 use crate::wires::Wires;
-use dq_core::{Event, Fault, Reply, Server};
+use dq_core::{Event, Fault, Notes, Reply, Server};
 use dq_tables::{Kind, Tables};
 use std::alloc::Global;
 use std::marker::Model;
@@ -72,6 +72,14 @@ impl<T: Tables> Turner<T> {
         ensures { result.now ≡ self.now.server }
     {
         &self.server
+    }
+
+    /// The notes of what was served since it was last asked, for a log. What was served before it
+    /// was asked first is not noted.
+    pub fn take_notes(&mut self) -> Notes
+        ensures { self.new ≡ self.old }
+    {
+        self.server.take_notes()
     }
 
     /// Whether octets were answered that are not yet written.

@@ -3,6 +3,7 @@ ghost use Rattle.std.specs.Prelude.{◌≡◌, length, Some, IfOk, IfErr, OnOk, 
 ghost use Rattle.dq_core.specs.declared.event.Event.TheVariants.{End, Pull};
 ghost use Rattle.dq_wires.specs.Steps.{Stops};
 ghost use Rattle.dq_wires.specs.Deeds.{IsSending, IsListening};
+ghost use Rattle.dq_wires.specs.Limits.{most_read};
 ghost use Rattle.dq_wires.specs.Stepping.{Moves, Fails};
 ghost use Rattle.dq_wires.specs.Going.{Ends, Hears, Waits, FailsToHear, Went, WentOff};
 
@@ -110,7 +111,7 @@ fn receive<T: Tables, W: Wires>(
     buffer: &mut [u8],
 ) -> Result<bool, TurnFault>
     requires listening { IsListening wire.old }
-    requires room { length buffer.old ≡ READ_MOST }
+    requires room { length buffer.old ≡ most_read }
     ensures went { IfOk result (Went (Moves T.state) (W.log wires.old)
         (W.log wires.new) server.old server.new wire.old wire.new) }
     ensures off { IfErr result (WentOff (Fails T.state) (W.log wires.old)
@@ -147,7 +148,7 @@ pub(crate) fn turn_wire<T: Tables, W: Wires>(
     wires: &mut W,
     buffer: &mut [u8],
 ) -> Result<bool, TurnFault>
-    requires room { length buffer.old ≡ READ_MOST }
+    requires room { length buffer.old ≡ most_read }
     ensures went { IfOk result (Went (Moves T.state) (W.log wires.old)
         (W.log wires.new) server.old server.new wire.old wire.new) }
     ensures off { IfErr result (WentOff (Fails T.state) (W.log wires.old)

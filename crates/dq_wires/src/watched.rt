@@ -1,116 +1,116 @@
 //! A connection that is told of in a log.
-ghost use Rattle.std.specs.Prelude.{◌≤◌, length, IfOk};
+ghost use Rattle.std.specs.Prelude.{◌≡◌};
+ghost use Rattle.dq_wires.specs.Lines.{ended_by, left_by};
 
-use crate::log_line::Told;
-use crate::passed::{Party, Passed, Titles};
-use crate::passing::Passing;
-use dq_pdu::InboxError;
-use std::alloc::Global;
+use dq_assoc::Service;
+use dq_core::Noted;
+use dq_dimse::status;
+use jiff::Timestamp;
+use std::fmt;
+use std::net::SocketAddr;
 
-/// How far an association is.
-#[derive(Clone, Copy, PartialEq, Eq)]
-enum Standing {
-    /// It was not answered.
-    Asked,
-    /// It was accepted.
-    Open,
-    /// It was rejected or aborted, and nothing more is told.
-    Over,
+/// What was served over an association: how many objects were stored, how many C-FINDs were
+/// answered and by how many answers, how many messages of performed procedure steps were taken, and
+/// how many messages were refused.
+#[derive(Clone, Copy, Default)]
+pub(crate) struct Tally {
+    stores: u64,
+    searches: u64,
+    answers: u64,
+    steps: u64,
+    refused: u64,
 }
 
-/// A connection: its place among the wires, its number, what passes on it in both directions, and
-/// the titles of its request.
-#[derive(Drop)]
+/// An association that is open: since when, and what was served over it.
+#[derive(Clone, Copy)]
+pub(crate) struct Opened {
+    pub since: Timestamp,
+    pub tally: Tally,
+}
+
+/// A connection: its place among the wires, its number, its peer's address if it is known, its
+/// association if one is open, and whether it is given up.
+#[derive(Clone, Copy)]
 pub(crate) struct Watched {
-    place: usize,
-    number: u64,
-    heard: Passing,
-    said: Passing,
-    titles: Option<Titles>,
-    standing: Standing,
+    pub place: usize,
+    pub number: u64,
+    pub peer: Option<SocketAddr>,
+    pub opened: Option<Opened>,
+    pub is_shut: bool,
 }
 
 impl Watched {
     /// One that has just come.
-    pub(crate) fn new(alloc: Global, place: usize, number: u64) -> Self {
+    pub(crate) fn new(place: usize, number: u64, peer: Option<SocketAddr>) -> Self {
         Watched {
             place,
             number,
-            heard: Passing::new(alloc, Party::Peer),
-            said: Passing::new(alloc, Party::Server),
-            titles: None,
-            standing: Standing::Asked,
+            peer,
+            opened: None,
+            is_shut: false,
         }
     }
 
-    pub(crate) fn place(&self) -> usize {
-        self.place
+    /// Counts what is noted of it.
+    pub(crate) fn count(&mut self, noted: &Noted, time: Timestamp) {
+        match noted {
+            Noted::Accepted { .. } => {
+                self.opened = Some(Opened {
+                    since: time,
+                    tally: Tally::default(),
+                });
+            }
+            Noted::Served {
+                service,
+                status,
+                answers,
+                ..
+            } => {
+                if let Some(opened) = &mut self.opened {
+                    opened.tally.add(*service, *status, *answers);
+                }
+            }
+            _ => {}
+        }
     }
 
-    pub(crate) fn number(&self) -> u64 {
-        self.number
-    }
-
-    /// Lets the first of the octets that one party sends pass, no further than to the end of a PDU:
-    /// how many they are, and what is to be told of them.
-    pub(crate) fn pass(
-        &mut self,
-        sender: Party,
-        octets: &[u8],
-    ) -> Result<(usize, Option<Told>), InboxError>
-        ensures { IfOk result (λ passed. passed.0 ≤ length octets.now) }
+    /// The association that is open, where what is noted ends it.
+    pub(crate) fn close(&mut self, noted: &Noted) -> Option<Opened>
+        ensures ended { result ≡ ended_by noted.now self.old.opened }
+        ensures left { self.new ≡ record self.old { opened = left_by noted.now self.old.opened } }
     {
-        let (count, passed) = match sender {
-            Party::Peer => self.heard.take(octets)?,
-            Party::Server => self.said.take(octets)?,
-        };
-        match passed {
-            Some(passed) => Ok((count, self.take(sender, passed))),
-            None => Ok((count, None)),
+        match noted {
+            Noted::Released | Noted::Ended | Noted::Aborted { .. } => self.opened.take(),
+            _ => None,
         }
     }
+}
 
-    // What is told of a PDU. The first request counts.
-    fn take(&mut self, sender: Party, passed: Passed) -> Option<Told> {
-        if self.standing == Standing::Over {
-            return None;
+impl Tally {
+    // Counts a message of a service that was answered.
+    fn add(&mut self, service: Service, status: u16, answers: usize) {
+        if status != status::SUCCESS && status != status::ELEMENTS_DISCARDED {
+            self.refused = self.refused.saturating_add(1);
+            return;
         }
-        match passed {
-            Passed::Request(titles) => {
-                self.titles = self.titles.or(Some(titles));
-                None
+        match service {
+            Service::Verification => {}
+            Service::Storage => self.stores = self.stores.saturating_add(1),
+            Service::StudyRootFind | Service::WorklistFind => {
+                self.searches = self.searches.saturating_add(1);
+                self.answers = self.answers.saturating_add(answers as u64);
             }
-            Passed::Accept(contexts) => {
-                let titles = self.titles?;
-                self.standing = Standing::Open;
-                Some(Told::Accepted { titles, contexts })
-            }
-            Passed::Reject(result, source, reason) => {
-                let titles = self.titles?;
-                self.standing = Standing::Over;
-                Some(Told::Rejected {
-                    titles,
-                    result,
-                    source,
-                    reason,
-                })
-            }
-            Passed::Abort(source, reason) => {
-                self.standing = Standing::Over;
-                Some(Told::Aborted {
-                    sender,
-                    source,
-                    reason,
-                })
-            }
+            Service::PerformedProcedureStep => self.steps = self.steps.saturating_add(1),
         }
     }
+}
 
-    /// What is told when the connection is given up.
-    pub(crate) fn end(&self) -> Option<Told> {
-        match self.standing {
-            Standing::Open => Some(Told::Ended),
-            Standing::Asked | Standing::Over => None,
-        }
+impl fmt::Display for Tally {
+    fn fmt<W: fmt::Write>(&self, f: &mut fmt::Formatter<W>) -> fmt::Result {
+        write!(
+            f,
+            "stores {} searches {} answers {} steps {} refused {}",
+            self.stores, self.searches, self.answers, self.steps, self.refused
+        )
     }
 }

@@ -1,11 +1,12 @@
 //! What is logged of an association that comes and goes in parts. All other lines are for the suites.
 ghost use Rattle.std.specs.Prelude.{◌<◌};
 
+use super::sockets::Hand;
 use super::wires::turner;
-use dq_config::Config;
 use dq_list::Listed;
 use dq_wires::{AssociationLog, Came, LoggedWires, MemoryWires, Script, turn_all};
 use std::alloc::{AllocError, Global};
+use std::cell::Cell;
 use std::io::{self, Write};
 use std::test::Fail;
 
@@ -31,22 +32,30 @@ fn call(alloc: Global, size: usize) -> Result<Script, AllocError>
     Ok(script)
 }
 
+/// Seconds from 1970-01-01 on to 2024-07-05T08:00:00Z.
+const NOW: u64 = 1_720_166_400;
+
 /// More turns than are needed octet by octet.
 const TURNS: u64 = 600;
 
-/// Serves, and writes so many octets at a time.
+/// Serves, and writes so many octets at a time. After each turn the log is told its notes.
 fn serve(alloc: Global, mut script: Script, size: usize, lines: &mut Vec<u8>) -> Result<(), Fail> {
     for _ in 0..TURNS {
         script.writes.push_back(Ok(size))?;
     }
-    let config = Config::built_in(alloc)?;
-    let log = AssociationLog::new(alloc, config.institutions(), lines)?;
     let mut wires = LoggedWires {
         wires: MemoryWires::new(alloc, script),
-        log: Some(log),
+        log: Some(AssociationLog::new(alloc, lines)),
     };
     let mut turner = turner(alloc)?;
-    turn_all(&mut turner, &mut wires, TURNS)?;
+    let clock = Hand(Cell::new(NOW));
+    let _before = turner.take_notes();
+    for _ in 0..TURNS {
+        turn_all(&mut turner, &mut wires, 1)?;
+        if let Some(log) = &mut wires.log {
+            log.tell(&turner.take_notes(), &clock);
+        }
+    }
     Ok(())
 }
 
@@ -74,13 +83,12 @@ impl Write for Slow<'_> {
 #[test]
 fn lost_lines_are_counted(rt: HostRuntime) -> Result<(), Fail> {
     let alloc = rt.alloc();
-    let config = Config::built_in(alloc)?;
     let mut lines = Vec::new(alloc);
     let slow = Slow {
         refusals: 2,
         lines: &mut lines,
     };
-    let mut log = AssociationLog::new(alloc, config.institutions(), slow)?;
+    let mut log = AssociationLog::new(alloc, slow);
     log.note("bad line\nschedule DEMO done\n");
     log.note("withdraw DEMO refused 5\n");
     drop(log);
@@ -102,8 +110,8 @@ fn an_association_is_told(rt: HostRuntime) -> Result<(), Fail> {
         serve(alloc, script, size, &mut lines)?;
         assert_eq!(rt;
             lines.as_slice(),
-            b"1970-01-01T00:00:00.000Z 1 accepted DEMO ARCHIVE MODALITY 1 context\n\
-1970-01-01T00:00:00.000Z 1 ended\n"
+            b"2024-07-05T08:00:00.000Z 1 accepted DEMO ARCHIVE MODALITY - 1 context\n\
+2024-07-05T08:00:00.000Z 1 ended released 0.000 s stores 0 searches 0 answers 0 steps 0 refused 0\n"
                 .as_slice()
         );
     }

@@ -1,14 +1,10 @@
 //! Connections over sockets, and when they are given up, by a clock that is set.
 use dq_wires::{GivesUp, Limits, ReadTurn, Reason, SocketWires, WireFault, Wires};
-use std::alloc::Global;
 use std::cell::Cell;
-use std::io::{self, Read, Write};
+use std::io::{self, Write};
 use std::net::{Ipv4Addr, SocketAddr, TcpStream};
-use std::os::unix::fs::PermissionsExt;
-use std::os::unix::net::UnixStream;
 use std::test::Fail;
 use std::time::{Clock, Duration};
-use std::{env, fs, process};
 
 /// An A-ASSOCIATE-AC without a body, which is enough to be one that was answered, and an A-ABORT
 /// (PS3.8 sections 9.3.3 and 9.3.8).
@@ -21,7 +17,7 @@ const DATA: [u8; 6] = [4, 0, 1, 0, 0, 0];
 
 /// A clock that is set by hand, in seconds.
 #[derive(Drop)]
-struct Hand(Cell<u64>);
+pub(super) struct Hand(pub Cell<u64>);
 
 impl Clock for Hand {
     fn monotonic(&self) -> io::Result<Duration> {
@@ -142,33 +138,6 @@ fn who_takes_no_last_pdu_is_given_up(rt: HostRuntime) -> Result<(), Fail> {
 }
 
 #[test]
-fn one_too_many_of_an_address_is_closed(rt: HostRuntime) -> Result<(), Fail> {
-    let clock = Hand(Cell::new(0));
-    let mut wires = listen(
-        &rt,
-        Limits {
-            peer_connections: Some(1),
-            ..Limits::default()
-        },
-    )?;
-    let _first = TcpStream::connect(&rt, wires.address()?)?;
-    let mut second = TcpStream::connect(&rt, wires.address()?)?;
-    pass(&mut wires, &clock, 0)?;
-    assert_eq!(rt; wires.accept(), Ok(Some(0)));
-    assert!(rt; wires.turned_away().is_none());
-    assert_eq!(rt; wires.accept(), Ok(None));
-    let Some(given_up) = wires.turned_away() else {
-        return Err(Fail::from("it is not told"));
-    };
-    assert!(rt; given_up.reason == Reason::PeerConnections);
-    assert!(rt; given_up.peer == Some(second.local_addr()?));
-    assert_eq!(rt; second.read(&mut [0; 1])?, 0);
-    assert_eq!(rt; wires.accept(), Ok(None));
-    assert!(rt; wires.turned_away().is_none());
-    Ok(())
-}
-
-#[test]
 fn a_rest_ends_for_other_wires(rt: HostRuntime) -> Result<(), Fail> {
     let mut wires = listen(&rt, Limits::default())?;
     let mut others = listen(&rt, Limits::default())?;
@@ -177,36 +146,5 @@ fn a_rest_ends_for_other_wires(rt: HostRuntime) -> Result<(), Fail> {
     let _peer = TcpStream::connect(&rt, others.address()?)?;
     wires.rest_with(&mut others, &rt, Duration::from_secs(50))?;
     assert_eq!(rt; others.accept(), Ok(Some(0)));
-    Ok(())
-}
-
-/// A path for a socket of this process, and the wires there.
-fn listen_at(alloc: Global, rt: &HostRuntime, path: &str) -> Result<SocketWires, Fail> {
-    Ok(SocketWires::listen_at(alloc, rt, path)?)
-}
-
-#[test]
-fn a_path_is_its_owners_and_is_made_anew(rt: HostRuntime) -> Result<(), Fail> {
-    let alloc = rt.alloc();
-    let name = format!(in alloc; "newtiron-{}", process::id(rt.process()))?;
-    let folder = env::temp_dir(&rt)?;
-    let at = folder.join(alloc, name.as_str())?;
-    let path = at.as_path().to_string_lossy();
-    let first = listen_at(alloc, &rt, path)?;
-    assert_eq!(rt;
-        fs::metadata(&rt, path)?.permissions().mode() & 0o777,
-        0o600
-    );
-    assert!(rt; SocketWires::listen_at(alloc, &rt, path).is_err());
-    drop(first);
-    let mut wires = listen_at(alloc, &rt, path)?;
-    let _peer = UnixStream::connect(&rt, path)?;
-    wires.rest(&rt, Duration::from_secs(5))?;
-    assert_eq!(rt; wires.accept(), Ok(Some(0)));
-    fs::remove_file(&rt, path)?;
-    fs::write(&rt, path, b"rows")?;
-    assert!(rt; SocketWires::listen_at(alloc, &rt, path).is_err());
-    assert_eq!(rt; fs::read(&rt, path)?.as_slice(), b"rows".as_slice());
-    fs::remove_file(&rt, path)?;
     Ok(())
 }

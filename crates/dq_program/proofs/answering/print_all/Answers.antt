@@ -1,5 +1,6 @@
-use Rattle.std.proofs.Common.{ap, Err}
-use Rattle.dq_program.proofs.Cutting.{Cuts-unprinted, EndsTask-unprinted, AppendsPart-unflushed}
+use Rattle.std.proofs.Common.{ap, Err, inl, inr}
+use Rattle.dq_captures.proofs.Written.{Appends-kept}
+use Rattle.dq_program.proofs.Cutting.{Cuts-unprinted, EndsTask-unprinted, AppendsPart-unflushed, unprinted-is}
 use Rattle.dq_program.proofs.answering.print_all.Goals as goal
 
 pub returns-in-Err-clause-cut : goal.returns-in-Err-clause-cut
@@ -13,3 +14,9 @@ returns-in-Err-clause-ends g c = rw c.from.ensures (EndsTask-unprinted _ c.in-Er
 pub returns-then-is_err-clause-cut : goal.returns-then-is_err-clause-cut
 returns-then-is_err-clause-cut g c = λ all are.
     AppendsPart-unflushed _ _ _ all c.args.replies.now c.args.fault are c.in_default.ensures.written c.finish.ensures.written
+
+pub returns-in-Err-clause-whole : goal.returns-in-Err-clause-whole
+returns-in-Err-clause-whole g c = rw c.from.ensures (inr (unprinted-is c.in-Err.unprinted))
+
+pub returns-in-Some-clause-whole : goal.returns-in-Some-clause-whole
+returns-in-Some-clause-whole g c = inl (Appends-kept _ _ _ _ c.in_default.ensures.written c.finish.ensures.written)

@@ -19,5 +19,5 @@ returns-clause-served g c = λ honest.
       c.turn_on.new.reception.wires,
       c.in_ok-reception.ensures.uncalled,
       service-of g.T.Tables.state rows c.args.server.institutions c.calls_are_a_serving.ensures.whole c.servings_are_answered.ensures.replies
-          begun (honest _) same c.of.ensures went,
+          begun (honest _) same c.of.ensures (λ none. went.2 (c.in_ok-reception.ensures.console none)) went.1,
     )) c.turn_on.ensures.went

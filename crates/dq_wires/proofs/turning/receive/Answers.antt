@@ -2,13 +2,13 @@ use Rattle.std.proofs.Common.{◌≡◌, ◌≤◌, length, take, Some, arith}
 use Rattle.std.proofs.lemmas.List.{length-take}
 use Rattle.std.specs.Result.{result_err}
 use Rattle.std.proofs.lemmas.Grind.{common_steps}
-use Rattle.dq_wires.specs.declared.limits.TheConstants.{READ_MOST}
+use Rattle.dq_wires.specs.Limits.{most_read}
 use Rattle.dq_wires.proofs.Doing.{went-heard, went-waiting, went-left, off-unheard, off-unpulled, off-unended, handed-on}
 use Rattle.dq_wires.proofs.turning.receive.Goals as goal
 
 pub returns-in_ok-hear-in-Ok-Got-clause-went : goal.returns-in_ok-hear-in-Ok-Got-clause-went
 returns-in_ok-hear-in-Ok-Got-clause-went g c =
-    let bound : length (take c.in-Ok-Got.count c.read.new.buffer) ≤ READ_MOST =
+    let bound : length (take c.in-Ok-Got.count c.read.new.buffer) ≤ most_read =
     omega (arith, length-take c.in-Ok-Got.count c.read.new.buffer, c.read.auto.buffer) in
     went-heard _ _ _ _ c.requires.listening bound c.place.ensures c.requires.room (rw c.in-Ok-Got.field-0-is at c.in-Ok-Got.ensures.told)
     c.in_ok-hear-in-Ok-Got.ensures.hears
@@ -16,7 +16,7 @@ returns-in_ok-hear-in-Ok-Got-clause-went g c =
 pub returns-in_err-hear-in-Ok-Got-clause-off : goal.returns-in_err-hear-in-Ok-Got-clause-off
 returns-in_err-hear-in-Ok-Got-clause-off g c =
     let left : result_err c.from_residual.result ≡ Some c.in_err-hear-in-Ok-Got.field-0.0 = grind (arith, common_steps) in
-    let bound : length (take c.in-Ok-Got.count c.read.new.buffer) ≤ READ_MOST =
+    let bound : length (take c.in-Ok-Got.count c.read.new.buffer) ≤ most_read =
     omega (arith, length-take c.in-Ok-Got.count c.read.new.buffer, c.read.auto.buffer) in
     handed-on c.from_residual.result _ left (off-unheard _ _ _ c.requires.listening bound c.place.ensures c.requires.room
     (rw c.in-Ok-Got.field-0-is at c.in-Ok-Got.ensures.told) c.in_err-hear-in-Ok-Got.ensures.stops)

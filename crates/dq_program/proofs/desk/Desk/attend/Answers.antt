@@ -1,14 +1,15 @@
+use Rattle.std.proofs.Common.{[]}
 use Rattle.dq_program.proofs.Serviced.{went-nowhere, went-by-answer}
 use Rattle.dq_program.proofs.desk.Desk.attend.Goals as goal
 
 pub returns-in_default-clause-went : goal.returns-in_default-clause-went
-returns-in_default-clause-went g c = λ log. went-nowhere g.T.Tables.state log _
+returns-in_default-clause-went g c = ([], λ log. went-nowhere g.T.Tables.state log _)
 
 pub returns-in-Held-clause-went : goal.returns-in-Held-clause-went
-returns-in-Held-clause-went g c = λ log. went-nowhere g.T.Tables.state log _
+returns-in-Held-clause-went g c = ([], λ log. went-nowhere g.T.Tables.state log _)
 
 pub returns-in-Left-clause-went : goal.returns-in-Left-clause-went
-returns-in-Left-clause-went g c = λ log. went-nowhere g.T.Tables.state log _
+returns-in-Left-clause-went g c = ([], λ log. went-nowhere g.T.Tables.state log _)
 
 pub returns-in_ok-answer-in-Line-clause-went : goal.returns-in_ok-answer-in-Line-clause-went
 returns-in_ok-answer-in-Line-clause-went g c =

@@ -1,0 +1,347 @@
+//! Notes of what is served, for a log. Of a data set they hold nothing but the tags of a query's keys,
+//! and what it asks of the modality, the station and the day.
+ghost use Rattle.std.specs.Prelude.{◌≡◌, take, IfOk};
+ghost use Rattle.std.specs.Option.{option_copied};
+ghost use Rattle.dq_dataset.specs.Values.{octets_in};
+ghost use Rattle.dq_core.specs.Notes.{noted_most, noted_octets, asked, asked_of_entries, asked_of_studies, asked_by};
+
+use dq_assoc::{Agreement, Service, Step};
+use dq_dataset::{DataSet, Element, Value};
+use dq_list::Listed;
+use dq_pdu::Pdu;
+use dq_tables::sole_item_at;
+use dq_vr::{Tag, tags};
+use std::alloc::{AllocError, Global};
+use std::mem;
+
+/// So many octets of a value are noted, and so many keys.
+const NOTED_MOST: usize = 64;
+
+/// The titles of a request, as they came (PS3.8 section 9.3.2).
+#[derive(Clone, Copy, Debug, PartialEq, Eq)]
+pub struct Titles {
+    pub called: [u8; 16],
+    pub calling: [u8; 16],
+}
+
+/// Who aborts an association.
+#[derive(Clone, Copy, Debug, PartialEq, Eq)]
+pub enum Party {
+    Peer,
+    Server,
+}
+
+/// What a C-FIND asks for: the tags of its keys, those of a worklist's step after the others, and
+/// the values of three of them. What is not asked is empty.
+#[derive(Drop)]
+pub struct Sought {
+    pub keys: Listed<Tag>,
+    pub modality: Listed<u8>,
+    pub station: Listed<u8>,
+    pub day: Listed<u8>,
+}
+
+/// What was served on a connection.
+#[derive(Drop)]
+pub enum Noted {
+    /// An association was accepted at the institution of a name, with so many presentation contexts.
+    Accepted {
+        institution: Listed<u8>,
+        titles: Titles,
+        contexts: usize,
+    },
+    /// One was rejected: result, source and reason of PS3.8 section 9.3.4.
+    Rejected {
+        titles: Titles,
+        result: u8,
+        source: u8,
+        reason: u8,
+    },
+    /// Source and reason of PS3.8 section 9.3.8.
+    Aborted {
+        party: Party,
+        source: u8,
+        reason: u8,
+    },
+    /// The association was released.
+    Released,
+    /// The connection ended.
+    Ended,
+    /// A message of a service was answered with a status, and a C-FIND with so many answers.
+    Served {
+        service: Service,
+        status: u16,
+        answers: usize,
+        sought: Option<Sought>,
+    },
+}
+
+/// A note, with the number of its connection.
+#[derive(Drop)]
+pub struct Note {
+    pub number: u64,
+    pub noted: Noted,
+}
+
+/// Notes in order, and how many there was no memory for.
+#[derive(Drop)]
+pub struct Notes {
+    pub list: Vec<Note>,
+    pub lost: u64,
+    alloc: Global,
+    number: u64,
+    is_kept: bool,
+}
+
+/// What the PDUs of a piece tell that no answer does: the titles of a request, and the source and
+/// the reason of an abort.
+#[derive(Clone, Copy)]
+pub(crate) struct Heard {
+    titles: Option<Titles>,
+    abort: Option<(u8, u8)>,
+}
+
+impl Notes {
+    /// Nothing is noted.
+    pub(crate) fn none(alloc: Global) -> Self {
+        Notes {
+            list: Vec::new(alloc),
+            lost: 0,
+            alloc,
+            number: 0,
+            is_kept: false,
+        }
+    }
+
+    /// Gives the notes away. From then on what is served is noted.
+    pub(crate) fn give(&mut self) -> Notes {
+        let mut fresh = Notes::none(self.alloc);
+        fresh.is_kept = true;
+        mem::replace(self, fresh)
+    }
+
+    /// Notes are of the connection with a number from now on.
+    pub(crate) fn turn_to(&mut self, number: u64) {
+        self.number = number;
+    }
+
+    fn put(&mut self, noted: Noted) {
+        let note = Note {
+            number: self.number,
+            noted,
+        };
+        if self.is_kept && self.list.push(note).is_err() {
+            self.lose();
+        }
+    }
+
+    fn lose(&mut self) {
+        self.lost = self.lost.saturating_add(1);
+    }
+
+    /// An association is open at the institution of a name.
+    pub(crate) fn accept(
+        &mut self,
+        home: &Listed<u8>,
+        agreement: Option<&Agreement>,
+        heard: Heard,
+    ) {
+        let (Some(agreement), Some(titles)) = (agreement, heard.titles) else {
+            return;
+        };
+        match Listed::copy_of(self.alloc, home.as_slice()) {
+            Ok(institution) => self.put(Noted::Accepted {
+                institution,
+                titles,
+                contexts: agreement.contexts.len(),
+            }),
+            Err(AllocError) => self.lose(),
+        }
+    }
+
+    /// What a connection is closed by.
+    pub(crate) fn close(&mut self, ending: Option<Noted>) {
+        if let Some(noted) = ending {
+            self.put(noted);
+        }
+    }
+
+    /// The connection with a number ended.
+    pub(crate) fn end(&mut self, number: u64) {
+        self.number = number;
+        self.put(Noted::Ended);
+    }
+
+    /// Whether what is served is noted.
+    pub(crate) fn are_kept(&self) -> bool {
+        self.is_kept
+    }
+
+    /// A message was served.
+    pub(crate) fn serve(
+        &mut self,
+        service: Service,
+        status: u16,
+        answers: usize,
+        identifier: Option<&DataSet>,
+    ) {
+        let sought = match identifier {
+            Some(identifier) => match sought_in(self.alloc, service, identifier) {
+                Ok(sought) => Some(sought),
+                Err(AllocError) => return self.lose(),
+            },
+            None => None,
+        };
+        self.put(Noted::Served {
+            service,
+            status,
+            answers,
+            sought,
+        });
+    }
+}
+
+impl Heard {
+    /// What the first of the PDUs tells of a request, and the first abort among them.
+    pub(crate) fn of(pdus: &[Pdu]) -> Heard {
+        let titles = match pdus.first() {
+            Some(Pdu::Request(request)) => Some(Titles {
+                called: request.called,
+                calling: request.calling,
+            }),
+            _ => None,
+        };
+        let mut abort = None;
+        for pdu in pdus {
+            if let Pdu::Abort(source, reason) = pdu {
+                abort = abort.or(Some((*source, *reason)));
+            }
+        }
+        Heard { titles, abort }
+    }
+
+    /// What a step closes a connection by, if it does: the PDU that it answers, and an abort of the
+    /// peer where it answers none (PS3.8 section 9.2).
+    pub(crate) fn ending(self, step: &Step) -> Option<Noted> {
+        if !step.close {
+            return None;
+        }
+        match step.octets.as_slice() {
+            [] => {
+                let (source, reason) = self.abort?;
+                Some(Noted::Aborted {
+                    party: Party::Peer,
+                    source,
+                    reason,
+                })
+            }
+            [3, _, _, _, _, _, _, result, source, reason] => Some(Noted::Rejected {
+                titles: self.titles?,
+                result: *result,
+                source: *source,
+                reason: *reason,
+            }),
+            [6, ..] => Some(Noted::Released),
+            [7, _, _, _, _, _, _, _, source, reason] => Some(Noted::Aborted {
+                party: Party::Server,
+                source: *source,
+                reason: *reason,
+            }),
+            _ => None,
+        }
+    }
+}
+
+/// The octets of an element, none where it is absent or a sequence.
+fn octets_in(element: Option<&Element>) -> &[u8]
+    ensures { result.now ≡ octets_in (option_copied element.entry) }
+{
+    match element {
+        None => &[],
+        Some(element) => match &element.value {
+            Value::Octets(octets) => octets.as_slice(),
+            Value::Items(_) => &[],
+        },
+    }
+}
+
+/// The first octets, as many as are noted.
+fn front_of(octets: &[u8]) -> &[u8]
+    ensures { result.now ≡ take noted_most octets.now }
+{
+    if octets.len() <= NOTED_MOST {
+        octets
+    } else {
+        &octets[..NOTED_MOST]
+    }
+}
+
+/// What is noted of an element of a data set.
+fn noted_octets(
+    alloc: Global,
+    data_set: Option<&DataSet>,
+    tag: Tag,
+) -> Result<Listed<u8>, AllocError>
+    ensures { IfOk result (λ octets. octets ≡ noted_octets tag (option_copied data_set.entry)) }
+{
+    match data_set {
+        None => Ok(Listed::empty(alloc)),
+        Some(data_set) => Listed::copy_of(alloc, front_of(octets_in(data_set.get(tag)))),
+    }
+}
+
+/// Adds the tags of elements, as many as are noted.
+fn add_tags(tags: &mut Listed<Tag>, elements: &[Element]) -> Result<(), AllocError> {
+    for element in elements {
+        if tags.len() < NOTED_MOST {
+            tags.push(element.tag)?;
+        }
+    }
+    Ok(())
+}
+
+/// What the identifier of a query of studies asks for.
+fn studies_sought(alloc: Global, identifier: &DataSet) -> Result<Sought, AllocError>
+    ensures { IfOk result (λ sought. asked sought ≡ asked_of_studies identifier.now) }
+{
+    let mut keys = Listed::empty(alloc);
+    add_tags(&mut keys, identifier.elements())?;
+    let mut modality = noted_octets(alloc, Some(identifier), tags::MODALITIES_IN_STUDY)?;
+    if modality.is_empty() {
+        modality = noted_octets(alloc, Some(identifier), tags::MODALITY)?;
+    }
+    Ok(Sought {
+        keys,
+        modality,
+        station: Listed::empty(alloc),
+        day: noted_octets(alloc, Some(identifier), tags::STUDY_DATE)?,
+    })
+}
+
+/// What the identifier of a worklist query asks for.
+fn entries_sought(alloc: Global, identifier: &DataSet) -> Result<Sought, AllocError>
+    ensures { IfOk result (λ sought. asked sought ≡ asked_of_entries identifier.now) }
+{
+    let step = sole_item_at(identifier, tags::SCHEDULED_PROCEDURE_STEP_SEQUENCE);
+    let mut keys = Listed::empty(alloc);
+    add_tags(&mut keys, identifier.elements())?;
+    if let Some(step) = step {
+        add_tags(&mut keys, step.elements())?;
+    }
+    Ok(Sought {
+        keys,
+        modality: noted_octets(alloc, step, tags::MODALITY)?,
+        station: noted_octets(alloc, step, tags::SCHEDULED_STATION_AE_TITLE)?,
+        day: noted_octets(alloc, step, tags::SCHEDULED_PROCEDURE_STEP_START_DATE)?,
+    })
+}
+
+/// What the identifier of a C-FIND of a service asks for.
+fn sought_in(alloc: Global, service: Service, identifier: &DataSet) -> Result<Sought, AllocError>
+    ensures { IfOk result (λ sought. asked sought ≡ asked_by service identifier.now) }
+{
+    match service {
+        Service::WorklistFind => entries_sought(alloc, identifier),
+        _ => studies_sought(alloc, identifier),
+    }
+}

@@ -1,0 +1,38 @@
+-- Which lines of a log a note of the server leads to.
+use Rattle.std.specs.Prelude.{Bool, true, false, if◌then◌else◌, Option, None}
+use Rattle.dq_assoc.specs.declared.classes.Service.{Service}
+use Rattle.dq_assoc.specs.declared.classes.Service.TheVariants.{StudyRootFind, WorklistFind}
+use Rattle.dq_core.specs.declared.notes.Noted.{Noted}
+use Rattle.dq_core.specs.declared.notes.Noted.TheVariants.{Accepted, Rejected, Aborted, Released, Ended, Served}
+use Rattle.dq_wires.specs.declared.watched.Opened.{Opened}
+
+abbrev pub is_search : Service → Bool
+is_search StudyRootFind = true
+is_search WorklistFind = true
+is_search _ = false
+
+-- It has a line of its own: of messages only those of a C-FIND.
+abbrev pub has_line : Noted → Bool
+has_line (Accepted institution titles contexts) = true
+has_line (Rejected titles result source reason) = true
+has_line (Aborted party source reason) = true
+has_line Released = false
+has_line Ended = false
+has_line (Served service status answers sought) = is_search service
+
+-- It ends an association, if one is open.
+abbrev pub ends : Noted → Bool
+ends (Accepted institution titles contexts) = false
+ends (Rejected titles result source reason) = false
+ends (Aborted party source reason) = true
+ends Released = true
+ends Ended = true
+ends (Served service status answers sought) = false
+
+-- the association whose end is told
+abbrev pub ended_by : Noted → Option Opened → Option Opened
+ended_by noted opened = if ends noted then opened else None
+
+-- the one that is open then
+abbrev pub left_by : Noted → Option Opened → Option Opened
+left_by noted opened = if ends noted then None else opened
