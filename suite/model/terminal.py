@@ -2,7 +2,7 @@
 
 A block of lines with four spaces before them is a terminal where its first line begins with `$ ` or `dq_server `, or its last one is
 `^C`. Such a line is typed, in a shell of its own. The lines under it are all that comes, where `...` stands for any lines, and one time
-(RFC 3339) for another. The exit status is that of the refusal in the last line, or else 0. A command that serves stays: `^C` ends it,
+(RFC 3339), port of 127.0.0.1, or number of seconds or milliseconds in a line of the log for another. The exit status is that of the refusal in the last line, or else 0. A command that serves stays: `^C` ends it,
 and lines above `^C` are what it has told since. A line without `$` under which nothing stands is not played.
 
 A fenced block under a line that ends in "`NAME`:" is the file of that name. What else a page needs is made for it (GIVEN).
@@ -26,7 +26,7 @@ LEFT_OUT = ("./build", "./test", "apt ")
 OF_DCMTK = ("dump2dcm", "echoscu", "storescu", "findscu")
 # The seconds that a command may take.
 LONGEST = 60
-TIME = re.compile(r"\d{4}-\d\d-\d\dT\d\d:\d\d:\d\d(\.\d+)?Z")
+TIME = re.compile(r"\d{4}-\d\d-\d\dT\d\d:\d\d:\d\d(\.\d+)?Z|(?<=127\.0\.0\.1:)\d+|\d+\.\d{3}(?= s )|(?<= ms )\d+$", re.M)
 # The exit status of a refusal, by its first word.
 REFUSALS = {"config": 2, "capture": 3, "store": 4, "fault": 4, "network": 5}
 # What is made before a page is played: an image, and a store of version 1.
