@@ -11,13 +11,10 @@ command_limit = 16_384
 abbrev pub store_limit : ℕ
 store_limit = 4_294_967_295
 
--- The data set of any other command is at most 1 MiB, and so is an Identifier (PS3.4 sections
+-- The data set of any other command, an Identifier among them, is at most 1 MiB (PS3.4 sections
 -- C.4.1.1.3 and K.4.1.1.3 set no limit).
 abbrev pub other_limit : ℕ
 other_limit = 1_048_576
-
-abbrev pub identifier_limit : ℕ
-identifier_limit = 1_048_576
 
 -- The longest body of a PDU that is sent is 16 KiB, or what the peer takes where that is less
 -- (PS3.8 annex D.1).

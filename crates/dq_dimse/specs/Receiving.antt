@@ -4,7 +4,7 @@ use Rattle.std.specs.Result.{result_ok}
 use Rattle.dq_dataset.specs.declared.header.Syntax.{Syntax}
 use Rattle.dq_dataset.specs.Reading.{reading}
 use Rattle.dq_dataset.specs.Tree.{ElementList}
-pub use Rattle.dq_dimse.specs.Limits.{identifier_limit}
+pub use Rattle.dq_dimse.specs.Limits.{other_limit}
 use Rattle.dq_dimse.specs.Received.{Message}
 use Rattle.dq_dimse.specs.Statuses.{out_of_resources, cannot_understand}
 
@@ -20,5 +20,5 @@ unless_unread (Some identifier) = Ok identifier
 -- they spell no data set (PS3.4 sections C.4.1.1.4 and K.4.1.1.4)
 unfoldable pub identifier_in : Message → Syntax → Result ElementList ℕ
 identifier_in message syntax =
-    if is_over identifier_limit message then Err out_of_resources
+    if is_over other_limit message then Err out_of_resources
     else unless_unread (result_ok (reading syntax message.octets))
