@@ -1,5 +1,5 @@
 #!/usr/bin/env python3
-"""Sends entries of the worklist to a server that was started with `--console PATH`, or takes one away.
+"""Sends entries of the worklist to a server that was started with `--console PATH`, takes one away, or has its store copied.
 
 This file works alone, where only the program was copied: it needs Python 3.9 and no other package. It prints the
 server's answer. The exit status is 0 for `done`, 1 for a refusal, and 2 if nothing was sent or answered.
@@ -7,6 +7,7 @@ server's answer. The exit status is 0 for `done`, 1 for a refusal, and 2 if noth
   send_entry.py --console PATH INSTITUTION [FILE]            an entry from FILE, or from standard input
   send_entry.py --console PATH INSTITUTION --withdraw ID     takes the entry with this ID away
   send_entry.py --console PATH INSTITUTION --watch FOLDER    each file that comes into FOLDER, until it is ended
+  send_entry.py --console PATH --backup FILE                 copies the server's store into FILE, which is new
 
 An entry is a DICOM file (`.wl`, as wlmscpfs takes them), or readable lines. A DICOM file is one of PS3.10 in Implicit or
 Explicit VR Little Endian. Readable lines have an attribute each, by its keyword of PS3.6; a sequence has its items in
@@ -117,7 +118,10 @@ PATIENCE, LOOK_EVERY = 60, 1
 MEANINGS = {"refused 1": "the data set is too long, or cannot be read", "refused 2": "the entry is not complete",
             "refused 3": "an entry with this Scheduled Procedure Step ID is kept",
             "refused 4": "the institution keeps as many as it may", "refused 5": "there is no such entry",
-            "refused 6": "no institution has the name", "bad line": "the server does not understand the order"}
+            "refused 6": "no institution has the name", "bad line": "the server does not understand the order",
+            "refused taken": "there is something at the path, or at that of its log", "refused full": "the disk is full",
+            "refused failed": "there can be no file at the path, or the disk failed", "refused memory": "the server has no memory for it",
+            "refused no store": "the server keeps its rows in memory alone"}
 
 
 def dictionary():
@@ -350,8 +354,8 @@ def file_entry(octets):
     rest, syntax = Octets(octets, 132, len(octets)), None
     while octets[rest.at:rest.at + 2] == b"\x02\x00":
         tag = rest.tag()
-        value = read_element(rest, tag, True, 0)[1]
-        if tag == TRANSFER_SYNTAX:
+        vr, value = read_element(rest, tag, True, 0)
+        if tag == TRANSFER_SYNTAX and vr != "SQ":
             syntax = value.rstrip(b"\0 ").decode("latin-1")
     if syntax is None:
         raise NotTaken("its file meta information names no transfer syntax")
@@ -587,14 +591,31 @@ def write_whole(path, text):
 
 def parser():
     words = argparse.ArgumentParser(description=__doc__, formatter_class=argparse.RawDescriptionHelpFormatter,
-                                    usage="%(prog)s --console PATH INSTITUTION [FILE | --withdraw ID | --watch FOLDER]")
-    words.add_argument("institution", metavar="INSTITUTION", help="the institution's name in the configuration")
+                                    usage="%(prog)s --console PATH INSTITUTION [FILE | --withdraw ID | --watch FOLDER]\n"
+                                    "       %(prog)s --console PATH --backup FILE")
+    words.add_argument("institution", metavar="INSTITUTION", nargs="?", help="the institution's name in the configuration")
     words.add_argument("file", metavar="FILE", nargs="?", help="an entry: a DICOM file, or readable lines")
     words.add_argument("--console", metavar="PATH", required=True, help="the socket that the server's --console names")
     other = words.add_mutually_exclusive_group()
     other.add_argument("--withdraw", metavar="ID", help="the Scheduled Procedure Step ID of the entry to take away")
     other.add_argument("--watch", metavar="FOLDER", help="the folder whose files are scheduled")
+    other.add_argument("--backup", metavar="FILE", help="a path on the server's machine where nothing is yet")
     return words
+
+
+def back_up(options):
+    """Has the store copied; the exit status."""
+    # (the server may run in another folder)
+    path = os.path.abspath(options.backup)
+    if "\n" in path:
+        raise NotTaken("a path with a line feed cannot be sent")
+    with Console(options.console) as console:
+        try:
+            answer = console.answer_to(f"backup {path}")
+        except OSError as error:
+            raise NotTaken(f"no answer ({error}): look at the copy before you use it") from None
+    print(in_words(answer))
+    return status_of(answer)
 
 
 def send(options):
@@ -617,12 +638,18 @@ def send(options):
 def main():
     words = parser()
     options = words.parse_args()
+    if options.backup is not None and options.institution is not None:
+        words.error("--backup goes with no INSTITUTION")
+    if options.backup is None and options.institution is None:
+        words.error("the following arguments are required: INSTITUTION")
     if options.file is not None and (options.watch is not None or options.withdraw is not None):
         words.error("a FILE goes with neither --withdraw nor --watch")
     sys.stdout.reconfigure(errors="backslashreplace")
     # (Ctrl-C ends it as SIGTERM does, at any place)
     signal.signal(signal.SIGINT, signal.SIG_DFL)
     try:
+        if options.backup is not None:
+            return back_up(options)
         if not re.fullmatch("[A-Z0-9_]{1,16}", options.institution):
             raise NotTaken(f"'{options.institution}' is no institution's name: 1 to 16 of A to Z, 0 to 9 and _")
         if options.watch is None:

@@ -89,7 +89,7 @@ class Terminal:
     """A folder with what a page needs, and the server that runs in it."""
 
     def __init__(self, program, folder):
-        self.folder, self.server, self.port = pathlib.Path(folder), None, str(free_port())
+        self.folder, self.server, self.port = pathlib.Path(folder), None, PORT
         for name in ("captures", "suite", "tools"):
             (self.folder / name).symlink_to(TOP / name)
         for name in ("run", "bin/dq_server"):
@@ -149,6 +149,8 @@ class Terminal:
             text, status = self.ended()
             shown = shown[:-1]
         elif " serve " in command:
+            # (one that is free now: beside other suites it may not be for long)
+            self.port = str(free_port())
             text, status = self.served(command, [line.replace(PORT, self.port) for line in shown])
         else:
             text, status = self.typed(command)

@@ -19,6 +19,13 @@ pub record Looked {Tables : Type 0} (state : Tables → State) (old new : Standi
   pub spent : new.spent ≡ old.spent
   pub goes : Goes {A = Unit {0}} (state old.tables) (state new.tables) (Ok tt)
 
+-- Nothing of what keeps the rows changes, but that what was honest may no longer be so.
+pub record LeavesAlone (old new : State) : Type 0 where
+  pub was_honest : new.honest → old.honest
+  pub same : new.rows ≡ old.rows
+  pub failed : new.failed ≡ old.failed
+  pub crash : new.honest → (r : List Row) → new.may_leave r → old.may_leave r
+
 -- The server fails at it, and is spent. Its rows stay, and a crash leaves nothing that it could not
 -- leave before. It fails with Store only where its tables failed at this look.
 pub record FailsToLook {Tables : Type 0} (state : Tables → State) (old new : Standing Tables)

@@ -79,7 +79,7 @@ impl Connections {
         self.spares.clear();
     }
 
-    /// The numbers rise from place to place, and there are not too many to be counted.
+    /// There are not too many connections to be counted.
     fn is_sound(&self)
         ensures { length self.now.places.entries < 2 ^ 63 }
     {

@@ -5,6 +5,7 @@ mod connections;
 mod event;
 mod fault;
 pub mod laws;
+mod look;
 mod notes;
 mod orders;
 mod pages;
@@ -15,5 +16,6 @@ mod tally;
 
 pub use event::{Event, Reply};
 pub use fault::Fault;
+pub use look::Look;
 pub use notes::{Note, Noted, Notes, Party, Sought, Titles};
 pub use server::{Outcome, Server, run, well_formed};

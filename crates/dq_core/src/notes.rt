@@ -5,7 +5,7 @@ ghost use Rattle.std.specs.Option.{option_copied};
 ghost use Rattle.dq_dataset.specs.Values.{octets_in};
 ghost use Rattle.dq_core.specs.Notes.{noted_most, noted_octets, asked, asked_of_entries, asked_of_studies, asked_by};
 
-use dq_assoc::{Agreement, Service, Step};
+use dq_assoc::{Agreement, PeerLimit, Service, Step};
 use dq_dataset::{DataSet, Element, Value};
 use dq_list::Listed;
 use dq_pdu::Pdu;
@@ -50,12 +50,14 @@ pub enum Noted {
         titles: Titles,
         contexts: usize,
     },
-    /// One was rejected: result, source and reason of PS3.8 section 9.3.4.
+    /// One was rejected: result, source and reason of PS3.8 section 9.3.4, and whether the maximum
+    /// length that was asked for has room for data (PS3.8 annex D.1).
     Rejected {
         titles: Titles,
         result: u8,
         source: u8,
         reason: u8,
+        has_room: bool,
     },
     /// Source and reason of PS3.8 section 9.3.8.
     Aborted {
@@ -93,11 +95,12 @@ pub struct Notes {
     is_kept: bool,
 }
 
-/// What the PDUs of a piece tell that no answer does: the titles of a request, and the source and
-/// the reason of an abort.
+/// What the PDUs of a piece tell that no answer does: the titles of a request, whether its maximum
+/// length has room for data, and the source and the reason of an abort.
 #[derive(Clone, Copy)]
 pub(crate) struct Heard {
     titles: Option<Titles>,
+    has_room: bool,
     abort: Option<(u8, u8)>,
 }
 
@@ -204,12 +207,15 @@ impl Notes {
 impl Heard {
     /// What the first of the PDUs tells of a request, and the first abort among them.
     pub(crate) fn of(pdus: &[Pdu]) -> Heard {
-        let titles = match pdus.first() {
-            Some(Pdu::Request(request)) => Some(Titles {
-                called: request.called,
-                calling: request.calling,
-            }),
-            _ => None,
+        let (titles, has_room) = match pdus.first() {
+            Some(Pdu::Request(request)) => (
+                Some(Titles {
+                    called: request.called,
+                    calling: request.calling,
+                }),
+                PeerLimit::of(request.maximum_length).is_some(),
+            ),
+            _ => (None, false),
         };
         let mut abort = None;
         for pdu in pdus {
@@ -217,7 +223,11 @@ impl Heard {
                 abort = abort.or(Some((*source, *reason)));
             }
         }
-        Heard { titles, abort }
+        Heard {
+            titles,
+            has_room,
+            abort,
+        }
     }
 
     /// What a step closes a connection by, if it does: the PDU that it answers, and an abort of the
@@ -240,6 +250,7 @@ impl Heard {
                 result: *result,
                 source: *source,
                 reason: *reason,
+                has_room: self.has_room,
             }),
             [6, ..] => Some(Noted::Released),
             [7, _, _, _, _, _, _, _, source, reason] => Some(Noted::Aborted {

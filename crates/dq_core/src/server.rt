@@ -22,6 +22,7 @@ use crate::connections::Connections;
 use crate::event::{Event, Reply};
 use crate::fault::Fault;
 use crate::laws::{institutions_are_isolated, institutions_have_own_names, runs_are_isolated};
+use crate::look::Look;
 use crate::notes::Notes;
 use crate::orders::{schedule_entry, withdraw_entry};
 use dq_config::{Config, Institution};
@@ -246,6 +247,23 @@ impl<T: Tables> Server<T> {
         ensures { self.new ≡ self.old }
     {
         self.notes.give()
+    }
+
+    /// Looks at what keeps the rows. It is no event, and changes nothing. After a fault every look is
+    /// answered Stopped.
+    pub fn look<L: Look<T>>(&mut self, look: &L) -> Result<L::Seen, Fault>
+        ensures shows { (T.state self.new.tables).honest → IfOk result (λ seen.
+            L.shows look.now (T.state self.old.tables).rows seen) }
+        ensures looked { OnOk result (Looked T.state self.old self.new) }
+        ensures stopped { IfErr result (λ fault. fault ≡ Fault.Stopped) }
+        ensures spent { IsOk result ↔ (self.old.spent ≡ false) }
+        ensures unchanged { OnErr result (self.new ≡ self.old) }
+    {
+        if self.spent {
+            Err(Fault::Stopped)
+        } else {
+            Ok(look.look(&mut self.tables))
+        }
     }
 
     /// Lets the connections go. From then on nothing is answered.

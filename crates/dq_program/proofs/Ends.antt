@@ -1,6 +1,6 @@
 -- How a task that stops is told of.
-use Rattle.std.proofs.Common.{◌≡◌, ◌≢◌, ◌≤◌, ◌⊎◌, ℕ, List, Option, Some, None, IfSome, inl, inr, refl, sym, ◌∙◌, arith}
-use Rattle.std.specs.Io.KnownBytes.{Keeps}
+use Rattle.std.proofs.Common.{◌≡◌, ◌≢◌, ◌≤◌, ◌⊎◌, ℕ, List, Option, Some, None, IfSome, inl, inr, refl, sym, subst, ◌∙◌, arith}
+use Rattle.std.specs.Io.KnownBytes.{Keeps, Appends}
 use Rattle.clap.specs.declared.error.kind.ErrorKind.{ErrorKind}
 use Rattle.clap.specs.declared.error.kind.ErrorKind.TheVariants as kind
 use Rattle.dq_config.specs.declared.config.Institution.{Institution}
@@ -13,7 +13,7 @@ use Rattle.dq_words.specs.declared.words.Task.TheVariants.{Replay, Report}
 use Rattle.dq_words.specs.declared.words.Task.{Task}
 use Rattle.dq_words.specs.Words.{Request, Serving, Migrating, Errand, Serves, Loops, Migrates}
 use Rattle.dq_program.specs.Serving.{StopsService}
-use Rattle.dq_program.specs.Program.{no_memory, status_of, IsBadConfig, IsBadCapture, RefusesFile, HasConfig, IsRunFault, CutsTask, StopsPlay, EndsLoop, EndsMigration, rows_at, text_of, IsBy, PrintsFirst}
+use Rattle.dq_program.specs.Program.{no_memory, status_of, IsBadConfig, IsBadCapture, RefusesFile, HasConfig, IsRunFault, CutsTask, StopsPlay, EndsLoop, EndsMigration, rows_at, text_of, IsInStore, unclosed, IsBy, PrintsFirst}
 use Rattle.dq_captures.specs.Surroundings.{AppendsPart}
 
 -- a file is refused by its configuration, or for want of memory
@@ -97,9 +97,17 @@ pub unread_migration : (found : Option Errand) (files : Migrating) (fails : Type
     → found ≡ Some (Migrates files) → (k ≢ kind.OutOfMemory → found ≡ None) → (k ≡ kind.OutOfMemory → (status ≡ 4) × Told (Fault no_memory))
     → (cause : Stop) × (status ≡ status_of cause) × Told cause × EndsMigration fails written written cause
 unread_migration found files fails written Told k status is other memory = elim (memory_or_not k) [
-  | inl so ↦ let told = memory so in (Fault no_memory, told.0, told.1, (keeps written, refl))
+  | inl so ↦ let told = memory so in (Fault no_memory, told.0, told.1, inl (keeps written, refl))
   | inr not ↦ let none : found ≡ None = other not in absurd (cc)
 ]
+
+-- a store that is not closed is told of as one
+abbrev IsStoreStop : Stop → Type 0
+IsStoreStop (Store number) = Unit {0}
+IsStoreStop other = ⊥
+
+other_stop : (cause : Stop) → cause ≡ unclosed → IsStoreStop cause
+other_stop cause is = subst IsStoreStop (sym is) tt
 
 pub status_bounds : (cause : Stop) → (1 ≤ status_of cause) × (status_of cause ≤ 5)
 status_bounds Usage = (omega arith, omega arith)
@@ -128,6 +136,8 @@ module _ (request : Request) (file_fails : List ℕ → Type 0) (held : List ℕ
       Keeps before after ⊎ ((request.task ≡ Replay) × PrintsFirst before after (replies institutions rows events)))))
       ⊎ IsBy held request.config input (λ institutions events.
       Told Output × fails × IfSome (rows_at stored request.place) (λ rows. AppendsPart before after (text_of request.task institutions rows events)))
+      ⊎ (IsInStore request.place × IsBy held request.config input (λ institutions events.
+      Told unclosed × IfSome (rows_at stored request.place) (λ rows. Appends before after (text_of request.task institutions rows events))))
 
   cut_fault : (task : Task) → request.task ≡ task → (number : ℕ) (institutions : List Institution) (events : List Event) (rows : List Row)
       → CutsTask task before after institutions rows events (Fault number)
@@ -148,7 +158,8 @@ module _ (request : Request) (file_fails : List ℕ → Type 0) (held : List ℕ
   play_network (inl refused) = file_stop file_fails held request.config Network refused.1
   play_network (inr (inl refused)) = refused.2
   play_network (inr (inr (institutions, events, by, tells, inl refused))) = refused.1
-  play_network (inr (inr (institutions, events, by, tells, inr ended))) = ended.0
+  play_network (inr (inr (institutions, events, by, tells, inr (inl ended)))) = ended.0
+  play_network (inr (inr (institutions, events, by, tells, inr (inr kept)))) = absurd (other_stop Network kept.1)
 
   play_status : (cause : Stop) → Stops cause → status_of cause ≤ 4
   play_status Network stops = absurd (play_network stops)
@@ -166,7 +177,8 @@ module _ (request : Request) (file_fails : List ℕ → Type 0) (held : List ℕ
       (file.0, number, file.1, file.2, told, refused.0)
   configs (Config number) status told (inr (inl refused)) = absurd refused.2
   configs (Config number) status told (inr (inr (institutions, events, by, tells, inl refused))) = absurd refused.1
-  configs (Config number) status told (inr (inr (institutions, events, by, tells, inr ended))) = absurd ended.0
+  configs (Config number) status told (inr (inr (institutions, events, by, tells, inr (inl ended)))) = absurd ended.0
+  configs (Config number) status told (inr (inr (institutions, events, by, tells, inr (inr kept)))) = absurd (other_stop (Config number) kept.1)
   configs Usage status told stops = absurd (omega (arith, status))
   configs (Capture number) status told stops = absurd (omega (arith, status))
   configs (Store number) status told stops = absurd (omega (arith, status))
@@ -179,7 +191,8 @@ module _ (request : Request) (file_fails : List ℕ → Type 0) (held : List ℕ
   captures (Capture number) status told (inl refused) = absurd (file_stop file_fails held request.config (Capture number) refused.1)
   captures (Capture number) status told (inr (inl refused)) = (number, refused.1, refused.2, told, refused.0)
   captures (Capture number) status told (inr (inr (institutions, events, by, tells, inl refused))) = absurd refused.1
-  captures (Capture number) status told (inr (inr (institutions, events, by, tells, inr ended))) = absurd ended.0
+  captures (Capture number) status told (inr (inr (institutions, events, by, tells, inr (inl ended)))) = absurd ended.0
+  captures (Capture number) status told (inr (inr (institutions, events, by, tells, inr (inr kept)))) = absurd (other_stop (Capture number) kept.1)
   captures Usage status told stops = absurd (omega (arith, status))
   captures (Config number) status told stops = absurd (omega (arith, status))
   captures (Store number) status told stops = absurd (omega (arith, status))
@@ -196,11 +209,14 @@ module _ (request : Request) (file_fails : List ℕ → Type 0) (held : List ℕ
   faults (Store number) status told (inr (inl refused)) = absurd refused.2
   faults (Store number) status told (inr (inr (institutions, events, by, tells, inl refused))) =
       inr (inl (number, (institutions, events, by, tells, (told, refused.0))))
-  faults (Store number) status told (inr (inr (institutions, events, by, tells, inr ended))) = absurd ended.0
+  faults (Store number) status told (inr (inr (institutions, events, by, tells, inr (inl ended)))) = absurd ended.0
+  faults (Store number) status told (inr (inr (institutions, events, by, tells, inr (inr kept)))) =
+      inr (inr (inr (inr (kept.0, (institutions, events, by, tells, (subst Told kept.1 told, kept.2))))))
   faults (Fault number) status told (inl refused) = inl (memory Told number (file_stop file_fails held request.config (Fault number) refused.1) told, refused.0)
   faults (Fault number) status told (inr (inl refused)) = inl (memory Told number refused.2 told, refused.0)
   faults (Fault number) status told (inr (inr (institutions, events, by, tells, inl refused))) = inl (memory Told number refused.1 told, refused.0)
-  faults (Fault number) status told (inr (inr (institutions, events, by, tells, inr ended))) =
+  faults (Fault number) status told (inr (inr (institutions, events, by, tells, inr (inr kept)))) = absurd (other_stop (Fault number) kept.1)
+  faults (Fault number) status told (inr (inr (institutions, events, by, tells, inr (inl ended)))) =
       inr (inr (inl (
         number,
         ended.0,
@@ -215,14 +231,15 @@ module _ (request : Request) (file_fails : List ℕ → Type 0) (held : List ℕ
   faults Output status told (inl refused) = absurd (file_stop file_fails held request.config Output refused.1)
   faults Output status told (inr (inl refused)) = absurd refused.2
   faults Output status told (inr (inr (institutions, events, by, tells, inl refused))) = absurd refused.1
-  faults Output status told (inr (inr (institutions, events, by, tells, inr ended))) =
-      inr (inr (inr (
+  faults Output status told (inr (inr (institutions, events, by, tells, inr (inr kept)))) = absurd (other_stop Output kept.1)
+  faults Output status told (inr (inr (institutions, events, by, tells, inr (inl ended)))) =
+      inr (inr (inr (inl (
         institutions,
         events,
         by,
         tells,
         (told, ended.0, known (rows_at stored request.place) (cut_output request.task institutions events) ended.1),
-      )))
+      ))))
   faults Network status told stops = absurd (omega (arith, status))
 
   -- what is told of a task that stops, by its exit status

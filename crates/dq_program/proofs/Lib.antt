@@ -2,5 +2,10 @@ pub mod Counting
 pub mod Inputs
 pub mod Cutting
 pub mod Ends
+pub mod Heeding
+pub mod Lines
+pub mod Rounded
 pub mod Serviced
 pub mod Replaying
+pub mod Storing
+pub mod Visiting

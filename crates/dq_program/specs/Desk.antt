@@ -1,6 +1,7 @@
 -- What the console is told, and what it answers.
-use Rattle.std.specs.Prelude.{◌≡◌, ◌≢◌, ℕ, List, [], ◌∷◌, ◌++◌, codes}
+use Rattle.std.specs.Prelude.{◌≡◌, ◌≢◌, ℕ, Bool, true, false, List, [], ◌∷◌, ◌++◌, codes, string_bytes, Result, OnOk}
 use Rattle.std.specs.Str.{IsUtf8}
+use Rattle.dq_tables.specs.declared.row.Row.{Row}
 use Rattle.dq_tables.specs.Keeping.{State}
 use Rattle.dq_core.specs.declared.event.Event.{Event}
 use Rattle.dq_core.specs.declared.event.Reply.{Reply}
@@ -9,30 +10,58 @@ use Rattle.dq_core.specs.Looking.{Looked}
 use Rattle.dq_wires.specs.Stepping.{Stepped}
 use Rattle.dq_wires.specs.Turners.{IsOrder}
 use Rattle.dq_program.specs.declared.desk.Line.{Line}
-use Rattle.dq_program.specs.declared.desk.Line.TheVariants.{Order, Report, Bad}
+use Rattle.dq_program.specs.declared.desk.Line.TheVariants.{Order, Report, Backup, Bad}
 use Rattle.dq_captures.specs.Captures.{line_feed, Spells}
 use Rattle.dq_captures.specs.Printing.{printed_line}
+use Rattle.dq_program.specs.declared.stores.Uncopied.{Uncopied}
+use Rattle.dq_program.specs.Backups.{backup_text}
 use Rattle.dq_program.specs.Reports.{reported}
 
--- What a line tells: an order, spelled as in a capture; that a report is wanted; or neither.
+-- What a line tells: an order, spelled as in a capture; that a report is wanted; that a copy of all
+-- rows is, at a path; or none of these.
 abbrev pub Tells : List ℕ → Line → Type 0
 Tells line (Order event) = Spells line event
 Tells line Report = line ≡ codes "report"
+Tells line (Backup path) = line ≡ codes "backup " ++ string_bytes path
 Tells line Bad = IsUtf8 line
-    → (line ≢ codes "report") × ((event : Event) → Spells line event → IsOrder event → ⊥)
+    → (line ≢ codes "report") × ((path : List ℕ) → line ≡ codes "backup " ++ path → ⊥)
+    × ((event : Event) → Spells line event → IsOrder event → ⊥)
 
 -- Its order is one of the console's.
 abbrev pub HasOrders : Line → Type 0
 HasOrders (Order event) = IsOrder event
 HasOrders Report = Unit {0}
+HasOrders (Backup path) = Unit {0}
 HasOrders Bad = Unit {0}
 
+-- whether it tells nothing
+abbrev pub is_bad : Line → Bool
+is_bad (Order event) = false
+is_bad Report = false
+is_bad (Backup path) = false
+is_bad Bad = true
+
+-- what is answered to one that tells nothing
+abbrev pub bad_line : List ℕ
+bad_line = codes "bad line" ++ line_feed ∷ []
+
+-- A copy of all rows was asked for. The server is as it was, whether it is made or not. `done` says
+-- that what a copy of these rows is is there.
+pub record BacksUp {Tables : Type 0} (state : Tables → State) (copied : List Row → Type 0)
+    (old new : Standing Tables) (text : List ℕ) : Type 0 where
+  pub looked : Looked state old new
+  pub made : Result (Unit {0}) Uncopied
+  pub text_is : text ≡ backup_text made
+  pub is_copied : (state new.tables).honest → OnOk made (copied (state old.tables).rows)
+
 -- What is answered to it. An order is stepped, and its reply is printed as in a replay. A report
--- counts the rows that are there. Anything else changes nothing.
-module _ {Tables : Type 0} (state : Tables → State) (names : List (List ℕ)) where
+-- counts the rows that are there. A copy says whether it is made. Anything else changes nothing.
+module _ {Tables : Type 0} (state : Tables → State) (copied : List Row → Type 0)
+    (names : List (List ℕ)) where
   abbrev pub Answered : Standing Tables → Standing Tables → Line → List ℕ → Type 0
   Answered old new (Order event) text =
       (reply : Reply) × Stepped state old new event reply × (text ≡ printed_line reply)
   Answered old new Report text = Looked state old new
       × ((state new.tables).honest → text ≡ reported (state old.tables).rows names)
-  Answered old new Bad text = (new ≡ old) × (text ≡ codes "bad line" ++ line_feed ∷ [])
+  Answered old new (Backup path) text = BacksUp state copied old new text
+  Answered old new Bad text = (new ≡ old) × (text ≡ bad_line)

@@ -1,6 +1,10 @@
+pub mod Backups
+pub mod Console
 pub mod Desk
+pub mod Heeding
 pub mod Looping
 pub mod Program
 pub mod Replays
 pub mod Reports
+pub mod Rounds
 pub mod Serving

@@ -165,6 +165,10 @@ RefusesStore (stop.Store number) = Unit {0}
 RefusesStore (stop.Fault number) = number ≡ no_memory
 RefusesStore other = ⊥
 
+-- All was done and printed, but the log of the store is not copied into its database file.
+abbrev pub unclosed : Stop
+unclosed = stop.Store 5
+
 -- ---- what is printed
 
 -- whatever keeps rows so is honest
@@ -223,6 +227,21 @@ text_of Replay institutions rows events = printed (replies institutions rows eve
 text_of Report institutions rows events =
     reported (world_after institutions rows events).rows (names_of institutions)
 
+-- rows are kept in a store
+abbrev pub IsInStore : Place → Type 0
+IsInStore InMemory = ⊥
+IsInStore (InNewStore path) = Unit {0}
+IsInStore (InStore path) = Unit {0}
+
+-- Where rows are kept in a store, one was closed, with rows that are so.
+abbrev pub ClosesAt : Place → (List Row → Type 0) → (List Row → Type 0) → Type 0
+ClosesAt place closed AreSo = IsInStore place → (kept : List Row) × closed kept × AreSo kept
+
+-- the rows are those after the events, where the rows before them are known
+abbrev pub AreAfter : Option (List Row) → List Institution → List Event → List Row → Type 0
+AreAfter first institutions events kept =
+    IfSome first (λ rows. kept ≡ (world_after institutions rows events).rows)
+
 -- how it is cut short
 abbrev pub CutsTask : Task → Option (List ℕ) → Option (List ℕ) → List Institution → List Row
     → List Event → Stop → Type 0
@@ -242,12 +261,13 @@ EndsLoop may_fail before after other = Keeps before after
 abbrev pub migrated_line : List ℕ
 migrated_line = codes "migrated" ++ line_feed ∷ []
 
--- What a migration stops by: a refused store, where nothing was printed, or an output that fails, after the first octets
--- of the line.
+-- What a migration stops by: a refused store, where nothing was printed; an output that fails, after the first octets
+-- of the line; or a new store that is not closed, after the line.
 abbrev pub EndsMigration : Type 0 → Option (List ℕ) → Option (List ℕ) → Stop → Type 0
 EndsMigration may_fail before after stop.Output =
     may_fail × AppendsPart before after migrated_line
-EndsMigration may_fail before after cause = Keeps before after × RefusesStore cause
+EndsMigration may_fail before after cause = (Keeps before after × RefusesStore cause)
+    ⊎ ((cause ≡ unclosed) × Appends before after migrated_line)
 
 -- It is so by some configuration of the file and some events that the input tells.
 abbrev pub IsBy : (List ℕ → Option (List ℕ)) → Option (List ℕ) → Option (List ℕ)
@@ -260,8 +280,8 @@ IsBy held file input IsSo = (institutions : List Institution) × (events : List 
 abbrev pub HasConfig : (List ℕ → Option (List ℕ)) → Option (List ℕ) → Type 0
 HasConfig held file = (institutions : List Institution) × IsConfigured held file institutions
 
--- What a task stops by: a refused configuration, capture or store, where nothing was printed, or an
--- early end.
+-- What a task stops by: a refused configuration, capture or store, where nothing was printed; an
+-- early end; or a store that is not closed, where all was printed.
 module _ (request : Request) (file_fails : List ℕ → Type 0) (held : List ℕ → Option (List ℕ))
     (stored : List ℕ → Option (List Row)) (input_fails : Type 0) (input : Option (List ℕ))
     (fails : Type 0) (before after : Option (List ℕ)) where
@@ -269,6 +289,8 @@ module _ (request : Request) (file_fails : List ℕ → Type 0) (held : List ℕ
   EndsPlay cause institutions events = (Keeps before after × RefusesStore cause)
       ⊎ (EndsTask fails cause × IfSome (rows_at stored request.place) (λ rows.
       CutsTask request.task before after institutions rows events cause))
+      ⊎ (IsInStore request.place × (cause ≡ unclosed) × IfSome (rows_at stored request.place)
+      (λ rows. Appends before after (text_of request.task institutions rows events)))
 
   abbrev pub StopsPlay : Stop → Type 0
   StopsPlay cause = (Keeps before after × RefusesFile file_fails held request.config cause)

@@ -15,10 +15,11 @@ use Rattle.dq_wires.specs.Steps.{events_of, replies_of}
 use Rattle.dq_wires.specs.Turns.{Turn}
 use Rattle.dq_wires.specs.Turners.{Turning}
 use Rattle.dq_wires.specs.Servings.{Act, act_calls, act_steps, nothing_held, AreActs, Serving}
-use Rattle.dq_wires.specs.Servings.Act.{Turned, Ordered}
+use Rattle.dq_wires.specs.Servings.Act.{Turned}
 use Rattle.dq_program.specs.declared.stop.Stop.{Stop}
 use Rattle.dq_program.specs.declared.stop.Stop.TheVariants as stop
-use Rattle.dq_program.specs.Program.{numbered_line, HasConfig, IsRunFault, RefusesFile, RefusesStore}
+use Rattle.dq_program.specs.Console.{Calling, Attending, IsAttending, attending_acts, attending_calls, after_attending}
+use Rattle.dq_program.specs.Program.{numbered_line, HasConfig, IsRunFault, RefusesFile, RefusesStore, unclosed}
 use Rattle.dq_captures.specs.Surroundings.{AppendsPart}
 
 -- the line that is printed once connections can come in
@@ -34,25 +35,10 @@ turn_count (Some turns) = turns
 abbrev pub IsUncalled : Option (List Call) → Type 0
 IsUncalled log = IfSome log (λ calls. calls ≡ [])
 
--- the turns among acts
-abbrev pub turns_in : List Act → List Turn
-turns_in [] = []
-turns_in (Turned turn ∷ acts) = turn ∷ turns_in acts
-turns_in (Ordered event reply ∷ acts) = turns_in acts
-
--- the orders of the console among acts, with their replies
-abbrev pub orders_in : List Act → List Act
-orders_in [] = []
-orders_in (Turned turn ∷ acts) = orders_in acts
-orders_in (Ordered event reply ∷ acts) = Ordered event reply ∷ orders_in acts
-
--- Whatever serving had come to `old` has come to `new` by further acts: so many turns, and these
--- orders of the console. The calls of the wires went on from `before` to `after`.
+-- Whatever serving had come to `old` has come to `new` by these acts. The calls of the wires went on
+-- from `before` to `after`.
 pub record WentOn {Tables : Type 0} (state : Tables → State) (before after : Option (List Call))
-    (old new : Turning Tables) (count : ℕ) (orders : List Act) : Type 0 where
-  pub acts : List Act
-  pub counted : length (turns_in acts) ≡ count
-  pub ordered : orders_in acts ≡ orders
+    (old new : Turning Tables) (acts : List Act) : Type 0 where
   pub serves : (rows : List Row) (start : Option (List Call)) (first : Standing Tables)
       (done : List Act) → Serving state rows start before first old.server old.hold done
       → Serving state rows start after first new.server new.hold (done ++ acts)
@@ -62,7 +48,39 @@ pub record WentOn {Tables : Type 0} (state : Tables → State) (before after : O
 abbrev pub Attended : {Tables : Type 0} → (Tables → State) → Turning Tables → Turning Tables
     → List Act → Type 0
 Attended state old new orders =
-    (log : Option (List Call)) → WentOn state log log old new 0 orders
+    (log : Option (List Call)) → WentOn state log log old new orders
+
+-- ---- rounds
+
+-- A turn of all connections, and then one of the console, if there is one.
+pub data Round : Type 0 where
+  Plain : Turn → Round
+  Consoled : Turn → Attending → Round
+
+abbrev pub round_acts : Round → List Act
+round_acts (Plain turn) = Turned turn ∷ []
+round_acts (Consoled turn attending) = Turned turn ∷ attending_acts attending
+
+abbrev pub rounds_acts : List Round → List Act
+rounds_acts rounds = flat_map round_acts rounds
+
+-- the calls of the console's wires
+abbrev pub console_calls : Round → List Call
+console_calls (Plain turn) = []
+console_calls (Consoled turn attending) = attending_calls attending
+
+-- Without a console they are plain.
+abbrev pub ArePlain : List Round → Type 0
+ArePlain [] = Unit {0}
+ArePlain (Plain turn ∷ rounds) = ArePlain rounds
+ArePlain (Consoled turn attending ∷ rounds) = ⊥
+
+-- With one, each turn of it goes on with the callers that the one before left.
+abbrev pub AreConsoled : List Calling → List Round → Type 0
+AreConsoled callers [] = Unit {0}
+AreConsoled callers (Plain turn ∷ rounds) = ⊥
+AreConsoled callers (Consoled turn attending ∷ rounds) =
+    IsAttending callers attending × AreConsoled (after_attending attending) rounds
 
 -- the fault of a service: that of a run, or that the server had stopped before
 abbrev pub IsServiceFault : ℕ → Type 0
@@ -79,21 +97,35 @@ abbrev pub IsConsoleStop : Stop → Type 0
 IsConsoleStop (stop.Fault number) = IsServiceFault number
 IsConsoleStop other = ⊥
 
--- So many turns were made over wires, from rows that were there, and orders of the console were
--- stepped between them: none where no console is asked for. The calls of the wires are exactly those
--- of the turns, and what was answered is what the plain server answers.
-pub record Served (institutions : List Institution) (rows : List Row) (count : ℕ)
-    (console : Option (List ℕ)) (before after : Option (List Call)) : Type 0 where
-  pub acts : List Act
-  pub counted : length (turns_in acts) ≡ count
-  pub unordered : console ≡ None → orders_in acts ≡ []
-  pub are : AreActs nothing_held acts
-  pub calls : LogsAll before after (flat_map act_calls acts)
-  pub answered : replies_of (flat_map act_steps acts)
-      ≡ replies institutions rows (events_of (flat_map act_steps acts))
+-- Without a console rounds are plain. With one, over wires which were not called before, the calls
+-- of these are exactly those of its turns: so each order is told by a line that a caller sent, and
+-- is answered by the line of its reply.
+module _ {Wired : Type 0} (log : Wired → Option (List Call)) where
+  abbrev pub HasConsole : Option (List ℕ) → List Round → Type 0
+  HasConsole None rounds = ArePlain rounds
+  HasConsole (Some path) rounds = (wires : Wired) × (left : Wired)
+      × IsUncalled (log wires) × AreConsoled [] rounds
+      × LogsAll (log wires) (log left) (flat_map console_calls rounds)
+
+-- So many rounds were made from rows that were there, over wires which were not called before. The
+-- calls are exactly those of the turns, and what was answered is what the plain server answers.
+pub record Served {Wired : Type 0} (log : Wired → Option (List Call))
+    (institutions : List Institution) (rows : List Row) (count : ℕ)
+    (console : Option (List ℕ)) : Type 0 where
+  pub wires : Wired
+  pub left : Wired
+  pub uncalled : IsUncalled (log wires)
+  pub rounds : List Round
+  pub counted : length rounds ≡ count
+  pub are : AreActs nothing_held (rounds_acts rounds)
+  pub calls : LogsAll (log wires) (log left) (flat_map act_calls (rounds_acts rounds))
+  pub answered : replies_of (flat_map act_steps (rounds_acts rounds))
+      ≡ replies institutions rows (events_of (flat_map act_steps (rounds_acts rounds)))
+  pub consoled : HasConsole log console rounds
 
 -- How a service ends early: by a fault or for want of connections, before or after it was ready;
--- or because the output fails, after some octets of its line.
+-- because the output fails, after some octets of its line; or by a store that is not closed, after
+-- all its turns.
 abbrev pub EndsService : Type 0 → Option (List ℕ) → Option (List ℕ) → ℕ → Stop → Type 0
 EndsService may_fail before after port (stop.Fault number) =
     IsServiceFault number × (Keeps before after ⊎ Appends before after (ready_text port))
@@ -101,6 +133,8 @@ EndsService may_fail before after port stop.Network =
     Keeps before after ⊎ Appends before after (ready_text port)
 EndsService may_fail before after port stop.Output =
     may_fail × AppendsPart before after (ready_text port)
+EndsService may_fail before after port (stop.Store number) =
+    (stop.Store number ≡ unclosed) × Appends before after (ready_text port)
 EndsService may_fail before after port other = ⊥
 
 -- What a service stops by: a refused configuration or store, where nothing was printed, or an early

@@ -1,31 +1,34 @@
-//! The console: orders of the worklist, and reports, that come as lines over wires of their own.
-ghost use Rattle.std.specs.Prelude.{◌≡◌, List, [], ◌++◌, length, IfOk, IfErr, OnOk, MatchBool};
+//! The console: orders of the worklist, reports and copies of the store, that are asked for by lines
+//! over wires of their own.
+ghost use Rattle.std.specs.Prelude.{◌≡◌, ℕ, List, [], ◌++◌, codes, IfOk, IfErr, OnOk, MatchBool, MatchOption};
 ghost use Rattle.dq_core.specs.Looking.{Looked};
-ghost use Rattle.dq_wires.specs.Servings.{Act};
+ghost use Rattle.dq_wires.specs.Logs.{LogsAll};
 ghost use Rattle.dq_wires.specs.Turners.{IsOrder};
 ghost use Rattle.dq_program.specs.declared.desk.Line.{Line};
 ghost use Rattle.dq_program.specs.Reports.{count_text, report_line, reported};
-ghost use Rattle.dq_program.specs.Desk.{Tells, HasOrders, Answered};
+ghost use Rattle.dq_program.specs.Backups.{backup_text};
+ghost use Rattle.dq_program.specs.Console.{Attending, IsAttending, attending_calls, attending_acts, after_attending};
+ghost use Rattle.dq_program.specs.Desk.{Tells, HasOrders, is_bad, BacksUp, Answered};
+ghost use Rattle.dq_program.specs.Heeding.{DoesIf, Heeded, Visited, AllVisited, LetsIn};
 ghost use Rattle.dq_program.specs.Serving.{Attended, IsConsoleStop};
 
+use crate::backup::{Backups, Copying};
+use crate::caller::{Caller, Next};
 use crate::reporting::{KINDS, count_text};
 use crate::stop::Stop;
+use crate::stores::Uncopied;
 use dq_captures::{event_of, printed_line};
 use dq_core::laws::looks_are_one_look;
 use dq_core::{Event, Fault};
 use dq_list::Listed;
 use dq_tables::{Kind, Tables};
 use dq_wires::laws::calls_are_a_serving;
-use dq_wires::{READ_MOST, ReadTurn, Turner, WireFault, Wires};
+use dq_wires::{READ_MOST, Turner, WireFault, Wires};
 use std::alloc::{AllocError, Global};
 use std::mem;
 
 /// The most callers at a time.
 const MOST_CALLERS: usize = 8;
-
-/// The most octets of a line: those of an entry of 1,048,576 octets in hexadecimal, and of the words
-/// before them.
-const LINE_MOST: usize = 2_097_152 + 256;
 
 const BAD_LINE: &str = "bad line\n";
 
@@ -34,6 +37,7 @@ const BAD_LINE: &str = "bad line\n";
 enum Line {
     Order(Event),
     Report,
+    Backup(String),
     Bad,
 }
 
@@ -46,11 +50,21 @@ fn is_order(event: &Event) -> bool
     }
 }
 
-fn is_bad(line: &Line) -> bool {
+fn is_bad(line: &Line) -> bool
+    ensures { result ≡ is_bad line.now }
+{
     match line {
         Line::Bad => true,
-        Line::Order(_) | Line::Report => false,
+        Line::Order(_) | Line::Report | Line::Backup(_) => false,
     }
+}
+
+/// The path of a copy that a line asks for.
+fn backup_path(line: &str) -> Option<&str>
+    ensures { MatchOption result ((path : List ℕ) → line.now ≡ codes "backup " ++ path → ⊥)
+        (λ path. line.now ≡ codes "backup " ++ path.now) }
+{
+    line.strip_prefix("backup ")
 }
 
 fn line_of(alloc: Global, text: &str) -> Result<Line, AllocError>
@@ -59,6 +73,9 @@ fn line_of(alloc: Global, text: &str) -> Result<Line, AllocError>
 {
     if text == "report" {
         return Ok(Line::Report);
+    }
+    if let Some(path) = backup_path(text) {
+        return Ok(Line::Backup(String::from_str(alloc, path)?));
     }
     match event_of(alloc, text)? {
         Some(event) => {
@@ -133,16 +150,48 @@ fn report<T: Tables>(
     Ok(text)
 }
 
-/// What is answered to a line, once what it tells is done.
-fn answer_to<T: Tables>(
+/// What is answered to a copy of all rows.
+fn backup_text(made: Result<(), Uncopied>) -> &'static str
+    ensures { result.now ≡ backup_text made }
+{
+    match made {
+        Ok(()) => "done\n",
+        Err(refusal) => refusal.text(),
+    }
+}
+
+/// Copies all rows into a new file at a path, and says whether it is done, or why not.
+fn back_up<T: Tables, B: Backups<T>>(
     alloc: Global,
     turner: &mut Turner<T>,
+    backups: &B,
+    path: &str,
+) -> Result<Vec<u8>, Fault>
+    ensures answered { IfOk result (λ text. BacksUp T.state (B.copied backups.now)
+        turner.old.server turner.new.server text.items) }
+    ensures hold { turner.new.hold ≡ turner.old.hold }
+    ensures fault { turner.new.fault ≡ turner.old.fault }
+{
+    let copying = Copying {
+        backups,
+        alloc,
+        path,
+    };
+    let made = turner.look(&copying)?;
+    Ok(Vec::from_slice(alloc, backup_text(made).as_bytes())?)
+}
+
+/// What is answered to a line, once what it tells is done.
+fn answer_to<T: Tables, B: Backups<T>>(
+    alloc: Global,
+    turner: &mut Turner<T>,
+    backups: &B,
     names: &[Listed<u8>],
     line: Line,
 ) -> Result<Vec<u8>, Stop>
     requires { HasOrders line }
-    ensures answered { IfOk result (λ text. Answered T.state names.now turner.old.server
-        turner.new.server line text.items) }
+    ensures answered { IfOk result (λ text. Answered T.state (B.copied backups.now) names.now
+        turner.old.server turner.new.server line text.items) }
     ensures hold { turner.new.hold ≡ turner.old.hold }
     ensures fault { OnOk result (turner.new.fault ≡ turner.old.fault) }
     ensures stops { IfErr result IsConsoleStop }
@@ -153,6 +202,7 @@ fn answer_to<T: Tables>(
             Ok(printed_line(alloc, &reply)?.into_bytes())
         }
         Line::Report => Ok(report(alloc, turner, names)?),
+        Line::Backup(path) => Ok(back_up(alloc, turner, backups, path.as_str())?),
         Line::Bad => Ok(Vec::from_slice(alloc, BAD_LINE.as_bytes())?),
     }
 }
@@ -168,8 +218,8 @@ fn line_in(alloc: Global, octets: &[u8]) -> Result<Line, AllocError>
     }
 }
 
-/// What a note says of a line before its answer: an order's word and institution. There is no note
-/// of a report. An entry is not told, nor whose it is.
+/// What a note says of a line before its answer: an order's word and institution, or that of a copy.
+/// There is no note of a report. An entry is not told, nor whose it is.
 fn note_of(alloc: Global, line: &Line) -> Result<Option<String>, AllocError> {
     match line {
         Line::Order(Event::Schedule { inst, octets: _ }) => {
@@ -180,6 +230,7 @@ fn note_of(alloc: Global, line: &Line) -> Result<Option<String>, AllocError> {
             let name = str::from_utf8(inst.as_slice()).unwrap_or("-");
             Ok(Some(format!(in alloc; "withdraw {name} ")?))
         }
+        Line::Backup(_) => Ok(Some(String::from_str(alloc, "backup ")?)),
         Line::Bad => Ok(Some(String::new(alloc))),
         Line::Order(_) | Line::Report => Ok(None),
     }
@@ -194,216 +245,189 @@ fn keep_note(notes: &mut String, note: Option<String>, answer: &[u8]) -> Result<
     Ok(())
 }
 
-/// What comes next of a caller: a line, nothing yet, or that it is gone.
+/// Who attends to callers of the console: over wires of its own, for institutions of these names,
+/// with notes of what it did.
 #[derive(Drop)]
-enum Next {
-    Line(Vec<u8>),
-    Held,
-    Left,
-}
-
-impl Next {
-    fn of(held: bool) -> Self {
-        if held { Next::Held } else { Next::Left }
-    }
-}
-
-/// One who calls the console: its place among the wires, what came of a line that is not whole yet,
-/// how much of it was searched for its end, the answer, how much of it is written, and whether
-/// nothing more is taken.
-#[derive(Drop)]
-struct Caller {
+pub struct Clerk<W> {
     alloc: Global,
-    place: usize,
-    came: Vec<u8>,
-    searched: usize,
-    answer: Vec<u8>,
-    written: usize,
-    is_over: bool,
-}
-
-impl Caller {
-    fn new(alloc: Global, place: usize) -> Self {
-        Caller {
-            alloc,
-            place,
-            came: Vec::new(alloc),
-            searched: 0,
-            answer: Vec::new(alloc),
-            written: 0,
-            is_over: false,
-        }
-    }
-
-    fn is_sending(&self) -> bool {
-        self.written < self.answer.len()
-    }
-
-    fn put(&mut self, answer: Vec<u8>) {
-        self.answer = answer;
-        self.written = 0;
-    }
-
-    // Offers what is not written of the answer. The answer is whether the caller is still there.
-    fn send<W: Wires>(&mut self, wires: &mut W) -> bool {
-        match wires.write(self.place, self.answer.get(self.written..).unwrap_or(&[])) {
-            Ok(count) => {
-                self.written = self.written.saturating_add(count);
-                true
-            }
-            Err(WireFault) => false,
-        }
-    }
-
-    // The next whole line, without its end, and an empty one in the place of one that is too long.
-    fn take_line(&mut self) -> Result<Option<Vec<u8>>, AllocError> {
-        let fresh = self.came.get(self.searched..).unwrap_or(&[]);
-        let Some(at) = fresh.iter().position(|octet| *octet == b'\n') else {
-            self.searched = self.came.len();
-            if self.came.len() > LINE_MOST {
-                return Ok(Some(Vec::new(self.alloc)));
-            }
-            return Ok(None);
-        };
-        let end = self.searched + at;
-        let rest = self.came.split_off(end + 1)?;
-        let mut line = mem::replace(&mut self.came, rest);
-        line.truncate(if end > LINE_MOST { 0 } else { end });
-        self.searched = 0;
-        Ok(Some(line))
-    }
-
-    // Keeps what came. The answer is whether the caller is still there.
-    fn receive<W: Wires>(&mut self, wires: &mut W, buffer: &mut [u8]) -> Result<bool, AllocError> {
-        match wires.read(self.place, buffer) {
-            Ok(ReadTurn::Got(count)) => {
-                self.came.extend_from_slice(&buffer[..count])?;
-                Ok(true)
-            }
-            Ok(ReadTurn::Nothing) => Ok(true),
-            Ok(ReadTurn::Ended) | Err(WireFault) => Ok(false),
-        }
-    }
-
-    // What comes next: what is not written of an answer goes first, then a line that is whole is
-    // taken, and else is read. A caller for whom there is no memory is let go.
-    fn next<W: Wires>(&mut self, wires: &mut W, buffer: &mut [u8]) -> Next {
-        if self.is_sending() {
-            return Next::of(self.send(wires));
-        }
-        if self.is_over {
-            return Next::Left;
-        }
-        match self.take_line() {
-            Ok(Some(line)) => Next::Line(line),
-            Ok(None) => Next::of(self.receive(wires, buffer).unwrap_or(false)),
-            Err(AllocError) => Next::Left,
-        }
-    }
-}
-
-/// The console of a server, over wires of its own, with notes of what it did.
-#[derive(Drop)]
-pub struct Desk<W> {
-    alloc: Global,
-    wires: W,
+    pub wires: W,
     names: Vec<Listed<u8>>,
-    callers: Vec<Caller>,
     buffer: Vec<u8>,
     notes: String,
 }
 
-impl<W: Wires + Drop> Desk<W> {
-    /// Over wires, for institutions of these names.
-    pub fn new(alloc: Global, wires: W, names: Vec<Listed<u8>>) -> Result<Self, AllocError>
-        ensures wires { IfOk result (λ desk. desk.wires ≡ wires) }
-        ensures names { IfOk result (λ desk. desk.names.items ≡ names.items) }
-        ensures callers { IfOk result (λ desk. desk.callers.items ≡ []) }
-    {
-        let mut buffer = Vec::new(alloc);
-        buffer.resize(READ_MOST, 0)?;
-        Ok(Desk {
-            alloc,
-            wires,
-            names,
-            callers: Vec::new(alloc),
-            buffer,
-            notes: String::new(alloc),
-        })
-    }
-
-    /// The wires over which it is called.
-    pub fn wires(&mut self) -> &mut W
-        ensures { result.now ≡ self.old.wires }
-    {
-        &mut self.wires
-    }
-
-    /// The notes of the orders and bad lines since it was last asked, a line each.
-    pub fn take_notes(&mut self) -> String
-        ensures { self.new.wires ≡ self.old.wires }
-    {
-        mem::replace(&mut self.notes, String::new(self.alloc))
-    }
-
-    // Lets a caller in where there is room. One for whom there is no memory is let go.
-    fn let_in(&mut self) {
-        if self.callers.len() >= MOST_CALLERS {
-            return;
-        }
-        if let Ok(Some(place)) = self.wires.accept() {
-            if self.callers.push(Caller::new(self.alloc, place)).is_err() {
-                let _ = self.wires.shut(place);
-            }
-        }
-    }
-
-    // The turn of one caller. The answer is whether it is still there. The first bad line is the
-    // last that is taken of it.
-    fn attend<T: Tables>(&mut self, at: usize, turner: &mut Turner<T>) -> Result<bool, Stop>
-        ensures went { OnOk result ((orders : List Act)
-            × Attended T.state turner.old turner.new orders) }
+impl<W: Wires + Drop> Clerk<W> {
+    // Does what a line tells, and gives the caller its answer. The first bad line is the last that
+    // is taken of a caller. Where there is no memory for the line, nothing is done: the answer is
+    // whether there was.
+    fn obey<T: Tables, B: Backups<T>>(
+        &mut self,
+        caller: &mut Caller,
+        octets: &[u8],
+        turner: &mut Turner<T>,
+        backups: &B,
+    ) -> Result<bool, Stop>
+        ensures does { IfOk result (DoesIf T.state turner.old turner.new octets.now caller.old
+            caller.new) }
+        ensures wires { self.new.wires ≡ self.old.wires }
         ensures stops { IfErr result IsConsoleStop }
-        ensures callers { length self.new.callers.items ≡ length self.old.callers.items }
     {
         calls_are_a_serving::<T>();
-        let Some(caller) = self.callers.get_mut(at) else {
+        let Ok(line) = line_in(self.alloc, octets) else {
             return Ok(false);
         };
+        let Ok(note) = note_of(self.alloc, &line) else {
+            return Ok(false);
+        };
+        let is_last = is_bad(&line);
+        let names = self.names.as_slice();
+        let answer = answer_to(self.alloc, turner, backups, names, line)?;
+        let _ = keep_note(&mut self.notes, note, answer.as_slice());
+        caller.put(answer, is_last);
+        Ok(true)
+    }
+
+    // The turn of a caller, but for its shut. The answer is whether it is still there.
+    fn heed<T: Tables, B: Backups<T>>(
+        &mut self,
+        caller: &mut Caller,
+        turner: &mut Turner<T>,
+        backups: &B,
+    ) -> Result<bool, Stop>
+        ensures went { IfOk result (Heeded T.state (W.log self.old.wires) (W.log self.new.wires)
+            turner.old turner.new caller.old caller.new) }
+        ensures stops { IfErr result IsConsoleStop }
+    {
         match caller.next(&mut self.wires, self.buffer.as_mut_slice()) {
             Next::Held => Ok(true),
             Next::Left => Ok(false),
             Next::Line(octets) => {
-                let line = line_in(self.alloc, octets.as_slice())?;
-                let note = note_of(self.alloc, &line)?;
-                caller.is_over = is_bad(&line);
-                let answer = answer_to(self.alloc, turner, self.names.as_slice(), line)?;
-                let _ = keep_note(&mut self.notes, note, answer.as_slice());
-                caller.put(answer);
+                if !self.obey(caller, octets.as_slice(), turner, backups)? {
+                    return Ok(false);
+                }
                 Ok(caller.send(&mut self.wires))
             }
         }
     }
 
-    /// One turn: a caller is let in where there is room, and from each that is there a line is
-    /// taken and answered, if one has come whole. Nothing is asked of other connections. What fails
-    /// of a caller, or of the wires, ends that caller alone: only a fault of the server, or want of
-    /// memory for an answer, ends more.
-    pub fn turn<T: Tables>(&mut self, turner: &mut Turner<T>) -> Result<(), Stop>
-        ensures went { OnOk result ((orders : List Act)
-            × Attended T.state turner.old turner.new orders) }
+    // The turn of a caller, which is let go if it is gone.
+    fn visit<T: Tables, B: Backups<T>>(
+        &mut self,
+        caller: &mut Caller,
+        turner: &mut Turner<T>,
+        backups: &B,
+    ) -> Result<bool, Stop>
+        ensures went { IfOk result (Visited T.state (W.log self.old.wires) (W.log self.new.wires)
+            turner.old turner.new caller.old caller.new) }
+        ensures stops { IfErr result IsConsoleStop }
+    {
+        let place = caller.place();
+        if self.heed(caller, turner, backups)? {
+            return Ok(true);
+        }
+        let _ = self.wires.shut(place);
+        Ok(false)
+    }
+}
+
+/// The console of a server, with those who call it.
+#[derive(Drop)]
+pub struct Desk<W> {
+    pub clerk: Clerk<W>,
+    pub callers: Vec<Caller>,
+}
+
+impl<W: Wires + Drop> Desk<W> {
+    /// Over wires, for institutions of these names.
+    pub fn new(alloc: Global, wires: W, names: Vec<Listed<u8>>) -> Result<Self, AllocError>
+        ensures wires { IfOk result (λ desk. desk.clerk.wires ≡ wires) }
+        ensures names { IfOk result (λ desk. desk.clerk.names.items ≡ names.items) }
+        ensures callers { IfOk result (λ desk. desk.callers.items ≡ []) }
+    {
+        let mut buffer = Vec::new(alloc);
+        buffer.resize(READ_MOST, 0)?;
+        Ok(Desk {
+            clerk: Clerk {
+                alloc,
+                wires,
+                names,
+                buffer,
+                notes: String::new(alloc),
+            },
+            callers: Vec::new(alloc),
+        })
+    }
+
+    /// The notes of the orders and bad lines since it was last asked, a line each.
+    pub fn take_notes(&mut self) -> String
+        ensures wires { self.new.clerk.wires ≡ self.old.clerk.wires }
+        ensures callers { self.new.callers.items ≡ self.old.callers.items }
+    {
+        mem::replace(&mut self.clerk.notes, String::new(self.clerk.alloc))
+    }
+
+    // Lets a caller in where there is room. One for whom there is no memory is let go.
+    fn let_in(&mut self)
+        ensures { LetsIn (W.log self.old.clerk.wires) (W.log self.new.clerk.wires)
+            self.old.callers.items self.new.callers.items }
+    {
+        if self.callers.len() >= MOST_CALLERS {
+            return;
+        }
+        let place = match self.clerk.wires.accept() {
+            Ok(Some(place)) => place,
+            Ok(None) => return,
+            Err(WireFault) => return,
+        };
+        let caller = Caller::new(self.clerk.alloc, place);
+        if self.callers.push(caller).is_ok() {
+            return;
+        }
+        let _ = self.clerk.wires.shut(place);
+    }
+
+    // The turns of the callers, in order.
+    fn attend<T: Tables, B: Backups<T>>(
+        &mut self,
+        turner: &mut Turner<T>,
+        backups: &B,
+    ) -> Result<(), Stop>
+        ensures went { OnOk result (AllVisited T.state (W.log self.old.clerk.wires)
+            (W.log self.new.clerk.wires) turner.old turner.new self.old.callers.items
+            self.new.callers.items) }
+        ensures stops { IfErr result IsConsoleStop }
+    {
+        let mut at = 0;
+        while at < self.callers.len() {
+            if self.clerk.visit(&mut self.callers[at], turner, backups)? {
+                at += 1;
+            } else {
+                let _ = self.callers.remove(at);
+            }
+        }
+        Ok(())
+    }
+
+    /// One turn: a caller is let in where there is room, and each that is there has its turn: what
+    /// is not written of its answer is offered, or else a line is taken and answered, if one has
+    /// come whole, or else is read. Nothing is asked of other connections. What fails of a caller,
+    /// or of the wires, ends that caller alone: only a fault of the server, or want of memory for an
+    /// answer, ends more.
+    pub fn turn<T: Tables, B: Backups<T>>(
+        &mut self,
+        turner: &mut Turner<T>,
+        backups: &B,
+    ) -> Result<(), Stop>
+        ensures went { OnOk result ((attending : Attending)
+            × IsAttending self.old.callers.items attending
+            × LogsAll (W.log self.old.clerk.wires) (W.log self.new.clerk.wires)
+            (attending_calls attending)
+            × Attended T.state turner.old turner.new (attending_acts attending)
+            × (self.new.callers.items ≡ after_attending attending)) }
         ensures stops { IfErr result IsConsoleStop }
     {
         self.let_in();
-        let mut at = 0;
-        while at < self.callers.len() {
-            if self.attend(at, turner)? {
-                at += 1;
-            } else {
-                let caller = self.callers.remove(at);
-                let _ = self.wires.shut(caller.place);
-            }
-        }
+        self.attend(turner, backups)?;
         Ok(())
     }
 }

@@ -4,6 +4,8 @@
 #![tactic(auto)]
 
 mod answering;
+mod backup;
+mod caller;
 mod desk;
 pub mod laws;
 mod logged_sockets;
@@ -22,4 +24,4 @@ pub use dq_captures::{
 };
 pub use network::{Listening, Logging, Network, Unheard};
 pub use program::{perform, unworded};
-pub use stores::{Stores, Unkept};
+pub use stores::{Stores, Unclosed, Uncopied, Unkept};

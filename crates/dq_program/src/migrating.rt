@@ -1,6 +1,7 @@
 //! A store of the version before, made anew.
-ghost use Rattle.std.specs.Prelude.{◌≡◌, IfErr, IfSome, OnOk};
+ghost use Rattle.std.specs.Prelude.{◌≡◌, List, IfErr, IfSome, OnOk};
 ghost use Rattle.std.specs.Io.KnownBytes.{Appends};
+ghost use Rattle.dq_tables.specs.declared.row.Row.{Row};
 ghost use Rattle.dq_program.specs.Program.{migrated_line, EndsMigration};
 
 use crate::reporting::put_whole;
@@ -12,8 +13,8 @@ use dq_words::Migration;
 /// What is printed once the new store is made.
 const MIGRATED: &[u8] = b"migrated\n";
 
-/// Makes a new store of the rows of one of the version before, and prints that it is made. Neither
-/// a configuration nor a capture is read.
+/// Makes a new store of the rows of one of the version before, prints that it is made, and closes it.
+/// Neither a configuration nor a capture is read.
 pub fn migrate<Rt: AllocGlobal + Stores, W: Sink>(
     rt: &Rt,
     files: Migration<'_>,
@@ -21,12 +22,14 @@ pub fn migrate<Rt: AllocGlobal + Stores, W: Sink>(
 ) -> Result<(), Stop>
     ensures done { OnOk result
         (Appends (W.written output.old) (W.written output.new) migrated_line) }
-    ensures made { OnOk result ((tables : Rt.File) × IfSome
-        (Rt.migrated rt.now files.entry.from.now) (λ rows. (Rt.File.state tables).rows ≡ rows)) }
+    ensures made { OnOk result ((kept : List Row) × Rt.closed rt.now kept × IfSome
+        (Rt.migrated rt.now files.entry.from.now) (λ rows. kept ≡ rows)) }
     ensures flushed { OnOk result (W.is_flushed output.new) }
     ensures ends { IfErr result
         (EndsMigration (W.may_fail output.old) (W.written output.old) (W.written output.new)) }
 {
-    let _made = rt.migrate(rt.alloc(), files.from, files.to)?;
-    put_whole(MIGRATED, output)
+    let made = rt.migrate(rt.alloc(), files.from, files.to)?;
+    put_whole(MIGRATED, output)?;
+    rt.close(made)?;
+    Ok(())
 }

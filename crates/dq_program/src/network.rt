@@ -63,14 +63,16 @@ pub trait Network {
         ensures { IfOk result (λ wires. IfSome (Self.Wired.log wires) (λ calls. calls ≡ [])) };
 
     /// Listens at a path of the machine itself, beside other wires: who rests over both is woken by
-    /// either.
+    /// either. The new wires were not called.
     fn listen_beside(
         &self,
         alloc: Global,
         path: &str,
         wires: &mut Self::Wired,
     ) -> Result<Self::Wired, Unheard>
-        ensures { Self.Wired.log wires.new ≡ Self.Wired.log wires.old };
+        ensures beside { IfOk result (λ wires.
+            IfSome (Self.Wired.log wires) (λ calls. calls ≡ [])) }
+        ensures same { Self.Wired.log wires.new ≡ Self.Wired.log wires.old };
 
     /// Waits until something may be done over the wires, so long at most.
     fn rest(&self, wires: &mut Self::Wired, most: Duration) -> io::Result<()>
@@ -83,7 +85,8 @@ pub trait Network {
         beside: &mut Self::Wired,
         most: Duration,
     ) -> io::Result<()>
-        ensures { Self.Wired.log wires.new ≡ Self.Wired.log wires.old };
+        ensures same { Self.Wired.log wires.new ≡ Self.Wired.log wires.old }
+        ensures beside { Self.Wired.log beside.new ≡ Self.Wired.log beside.old };
 
     /// Tells in the log of the wires, if they have one, what was served since this was last asked.
     fn tell<T: Tables>(&self, wires: &mut Self::Wired, turner: &mut Turner<T>)

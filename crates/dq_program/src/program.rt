@@ -1,20 +1,21 @@
 //! The program without its surroundings: words, a configuration, an input, stores and two outputs,
 //! and the exit status.
-ghost use Rattle.std.specs.Prelude.{◌≡◌, ◌≢◌, ◌≤◌, ◌⊎◌, ℕ, List, Option, None, Some, false, map, IsTrue, IfErr, IfSome, OnOk};
+ghost use Rattle.std.specs.Prelude.{◌≡◌, ◌≢◌, ◌≤◌, ◌⊎◌, ℕ, List, Option, None, Some, false, map, IsTrue, IfOk, IfErr, IfSome, OnOk};
 ghost use Rattle.dq_config.specs.declared.config.Institution.{Institution};
 ghost use Rattle.std.specs.Option.{option_copied};
 ghost use Rattle.std.specs.IoError.{error_kind};
 ghost use Rattle.std.specs.Io.KnownBytes.{Keeps, Appends};
 ghost use Rattle.clap.specs.Words.{kind_of};
 ghost use Rattle.dq_core.specs.Histories.{is_well_formed, opened_numbers};
-ghost use Rattle.dq_core.specs.Shared.{replies};
+ghost use Rattle.dq_core.specs.Shared.{replies, world_after};
+ghost use Rattle.dq_tables.specs.declared.row.Row.{Row};
 ghost use Rattle.dq_wires.specs.declared.looping.Sent.{Sent};
 ghost use Rattle.dq_wires.specs.Looping.{sent_number};
 ghost use Rattle.dq_captures.specs.Surroundings.{AppendsPart};
 ghost use Rattle.dq_words.specs.Words.{Request, Serving, Migrating, Plays, Serves, Loops, Migrates, asked, place_in, request_in, errand_in};
 ghost use Rattle.dq_program.specs.Looping.{sent_text};
-ghost use Rattle.dq_program.specs.Program.{no_memory, status_of, IsTold, no_text_line, IsBadConfig, IsBadCapture, RefusesStore, AreHonest, IsRunFault, EndsTask, CutsTask, StopsPlay, EndsLoop, migrated_line, EndsMigration, rows_at, text_of, IsBy, IsConfigured, HasConfig, PrintsFirst};
-ghost use Rattle.dq_program.specs.Serving.{ready_text, turn_count, IsUncalled, Served, StopsService};
+ghost use Rattle.dq_program.specs.Program.{no_memory, status_of, IsTold, no_text_line, IsBadConfig, IsBadCapture, RefusesStore, AreHonest, IsRunFault, EndsTask, CutsTask, StopsPlay, EndsLoop, migrated_line, EndsMigration, rows_at, text_of, IsInStore, ClosesAt, AreAfter, unclosed, IsBy, IsConfigured, HasConfig, PrintsFirst};
+ghost use Rattle.dq_program.specs.Serving.{ready_text, turn_count, Served, StopsService};
 
 use crate::answering::answer;
 use crate::looping::loop_over;
@@ -36,7 +37,7 @@ use std::convert::AsStr;
 use std::io;
 use std::io::ErrorKind as IoKind;
 
-/// Does a task over the rows that are there.
+/// Does a task over the rows that are there, and gives back what keeps them.
 fn do_task<T: Tables + Drop, W: Sink>(
     alloc: Global,
     task: Task,
@@ -44,9 +45,11 @@ fn do_task<T: Tables + Drop, W: Sink>(
     tables: T,
     events: Vec<Event>,
     output: &mut W,
-) -> Result<(), Stop>
+) -> Result<T, Stop>
     requires formed { IsTrue (is_well_formed events.items) }
     requires unfailed { (T.state tables).failed ≡ false }
+    ensures kept { AreHonest T.state → IfOk result (λ kept. (T.state kept).rows
+        ≡ (world_after config (T.state tables).rows events.items).rows) }
     ensures done { AreHonest T.state → OnOk result (Appends (W.written output.old)
         (W.written output.new) (text_of task config (T.state tables).rows events.items)) }
     ensures flushed { OnOk result (W.is_flushed output.new) }
@@ -60,7 +63,7 @@ fn do_task<T: Tables + Drop, W: Sink>(
     }
 }
 
-/// Does a task over the rows that a keeper has.
+/// Does a task over the rows that a keeper has, and closes it where it is a store.
 fn do_over<Rt: AllocGlobal + Stores, W: Sink>(
     rt: &Rt,
     asked: Asked<'_>,
@@ -72,32 +75,42 @@ fn do_over<Rt: AllocGlobal + Stores, W: Sink>(
     ensures done { OnOk result (IfSome (rows_at (Rt.stored rt.now) (place_in asked.entry.keeper))
         (λ rows. Appends (W.written output.old) (W.written output.new)
         (text_of asked.entry.task config rows events.items))) }
+    ensures closed { OnOk result (ClosesAt (place_in asked.entry.keeper) (Rt.closed rt.now)
+        (AreAfter (rows_at (Rt.stored rt.now) (place_in asked.entry.keeper)) config
+        events.items)) }
     ensures flushed { OnOk result (W.is_flushed output.new) }
     ensures stops { IfErr result (λ stop.
         (Keeps (W.written output.old) (W.written output.new) × RefusesStore stop)
         ⊎ (EndsTask (W.may_fail output.old) stop
         × IfSome (rows_at (Rt.stored rt.now) (place_in asked.entry.keeper)) (λ rows.
         CutsTask asked.entry.task (W.written output.old) (W.written output.new) config rows
-        events.items stop))) }
+        events.items stop))
+        ⊎ (IsInStore (place_in asked.entry.keeper) × (stop ≡ unclosed)
+        × IfSome (rows_at (Rt.stored rt.now) (place_in asked.entry.keeper)) (λ rows.
+        Appends (W.written output.old) (W.written output.new)
+        (text_of asked.entry.task config rows events.items)))) }
 {
     match asked.keeper {
         Keeper::Memory => {
             let tables = rt.memory(rt.alloc())?;
-            do_task(rt.alloc(), asked.task, config, tables, events, output)
+            do_task(rt.alloc(), asked.task, config, tables, events, output)?;
         }
         Keeper::New(path) => {
             let tables = rt.new_store(rt.alloc(), path)?;
-            do_task(rt.alloc(), asked.task, config, tables, events, output)
+            let filled = do_task(rt.alloc(), asked.task, config, tables, events, output)?;
+            rt.close(filled)?;
         }
         Keeper::Found(path) => {
             let tables = rt.store(rt.alloc(), path)?;
-            do_task(rt.alloc(), asked.task, config, tables, events, output)
+            let kept = do_task(rt.alloc(), asked.task, config, tables, events, output)?;
+            rt.close(kept)?;
         }
     }
+    Ok(())
 }
 
-/// Does what is asked: reads the configuration, then the capture, opens what keeps the rows, and
-/// prints the replies or the report.
+/// Does what is asked: reads the configuration, then the capture, opens what keeps the rows, prints
+/// the replies or the report, and closes the store, if there is one.
 fn play<Rt: AllocGlobal + Folder + Stores, R: Source, W: Sink>(
     rt: &Rt,
     asked: Asked<'_>,
@@ -109,6 +122,10 @@ fn play<Rt: AllocGlobal + Folder + Stores, R: Source, W: Sink>(
         IfSome (rows_at (Rt.stored rt.now) (place_in asked.entry.keeper)) (λ rows.
         Appends (W.written output.old) (W.written output.new)
         (text_of asked.entry.task institutions rows events)))) }
+    ensures closed { OnOk result (IsBy (Rt.held rt.now) (option_copied asked.entry.config)
+        (R.octets input) (λ institutions events. ClosesAt (place_in asked.entry.keeper)
+        (Rt.closed rt.now) (AreAfter (rows_at (Rt.stored rt.now) (place_in asked.entry.keeper))
+        institutions events))) }
     ensures flushed { OnOk result (W.is_flushed output.new) }
     ensures stops { IfErr result (StopsPlay (request_in asked.entry) (Rt.may_fail rt.now)
         (Rt.held rt.now) (Rt.stored rt.now) (R.may_fail input) (R.octets input)
@@ -133,6 +150,10 @@ fn do_job<Rt: AllocGlobal + Folder + Stores + Network, R: Source, W: Sink>(
         IfSome (rows_at (Rt.stored rt.now) request.place) (λ rows.
         Appends (W.written output.old) (W.written output.new)
         (text_of request.task institutions rows events)))) }
+    ensures closed { (request : Request) → errand_in job.entry ≡ Plays request → OnOk result
+        (IsBy (Rt.held rt.now) request.config (R.octets input) (λ institutions events.
+        ClosesAt request.place (Rt.closed rt.now)
+        (AreAfter (rows_at (Rt.stored rt.now) request.place) institutions events))) }
     ensures unplayed { (request : Request) → errand_in job.entry ≡ Plays request → IfErr result
         (StopsPlay request (Rt.may_fail rt.now) (Rt.held rt.now) (Rt.stored rt.now)
         (R.may_fail input) (R.octets input) (W.may_fail output.old) (W.written output.old)
@@ -141,11 +162,11 @@ fn do_job<Rt: AllocGlobal + Folder + Stores + Network, R: Source, W: Sink>(
         ((institutions : List Institution)
         × IsConfigured (Rt.held rt.now) serving.config institutions
         × IfSome (rows_at (Rt.stored rt.now) serving.place) (λ rows.
-        (wires : Rt.Wired) × (left : Rt.Wired) × IsUncalled (Rt.Wired.log wires)
-        × Served institutions rows (turn_count serving.turns) serving.console
-        (Rt.Wired.log wires) (Rt.Wired.log left))) }
+        Served Rt.Wired.log institutions rows (turn_count serving.turns) serving.console)) }
     ensures ready { (serving : Serving) → errand_in job.entry ≡ Serves serving → OnOk result
         (Appends (W.written output.old) (W.written output.new) (ready_text serving.port)) }
+    ensures shut { (serving : Serving) → errand_in job.entry ≡ Serves serving → OnOk result
+        (ClosesAt serving.place (Rt.closed rt.now) (λ _. Unit {0})) }
     ensures unserved { (serving : Serving) → errand_in job.entry ≡ Serves serving → IfErr result
         (StopsService (Rt.may_fail rt.now) (Rt.held rt.now) serving.config
         (W.may_fail output.old) (W.written output.old) (W.written output.new) serving.port) }
@@ -156,8 +177,8 @@ fn do_job<Rt: AllocGlobal + Folder + Stores + Network, R: Source, W: Sink>(
     ensures unlooped { (file : Option (List ℕ)) → errand_in job.entry ≡ Loops file → IfErr result
         (EndsLoop (W.may_fail output.old) (W.written output.old) (W.written output.new)) }
     ensures migrated { (files : Migrating) → errand_in job.entry ≡ Migrates files → OnOk result
-        (((tables : Rt.File)
-        × IfSome (Rt.migrated rt.now files.from) (λ rows. (Rt.File.state tables).rows ≡ rows))
+        (((kept : List Row) × Rt.closed rt.now kept
+        × IfSome (Rt.migrated rt.now files.from) (λ rows. kept ≡ rows))
         × Appends (W.written output.old) (W.written output.new) migrated_line) }
     ensures unmigrated { (files : Migrating) → errand_in job.entry ≡ Migrates files →
         IfErr result (EndsMigration (W.may_fail output.old) (W.written output.old)
@@ -197,8 +218,9 @@ fn refused<E: Sink>(error: &clap::Error, errors: &mut E) -> u8
 
 /// Plays the program: what opens its files and its stores and listens, its words, its input, its
 /// output and where it tells of errors. The exit status is 0 where all was done, 1 for words that
-/// are not understood, 2 for a refused configuration, 3 for a bad capture, 4 for a fault, a refused
-/// store, or where the output cannot be written, and 5 where no connections can come in.
+/// are not understood, 2 for a refused configuration, 3 for a bad capture, 4 for a fault, a store
+/// that is refused or not closed, or where the output cannot be written, and 5 where no connections
+/// can come in.
 pub fn perform<Rt: AllocGlobal + Folder + Stores + Network, S: AsStr, R: Source, W: Sink, E: Sink>(
     rt: &Rt,
     words: &[S],
@@ -220,6 +242,11 @@ pub fn perform<Rt: AllocGlobal + Folder + Stores + Network, S: AsStr, R: Source,
         (λ institutions events. IfSome (rows_at (Rt.stored rt.now) request.place) (λ rows.
         Appends (W.written output.old) (W.written output.new)
         (text_of request.task institutions rows events))) }
+    // A store is then closed: its database file has all rows alone, those after the events.
+    ensures closed { (request : Request) → asked (map S.text words.now) ≡ Some (Plays request) →
+        result ≡ 0 → IsBy (Rt.held rt.now) request.config (R.octets input)
+        (λ institutions events. ClosesAt request.place (Rt.closed rt.now)
+        (AreAfter (rows_at (Rt.stored rt.now) request.place) institutions events)) }
     ensures config { (request : Request) → asked (map S.text words.now) ≡ Some (Plays request) →
         result ≡ 2 → (path : List ℕ) × (number : ℕ) × (request.config ≡ Some path)
         × IsBadConfig (Rt.may_fail rt.now path) (Rt.held rt.now path) number
@@ -231,8 +258,8 @@ pub fn perform<Rt: AllocGlobal + Folder + Stores + Network, S: AsStr, R: Source,
         × IsTold (E.may_fail errors.old) (E.written errors.old) (E.written errors.new)
         (Stop.Capture number) × Keeps (W.written output.old) (W.written output.new) }
     // Want of memory or a refused store, where nothing was printed; a fault of the run, where
-    // nothing was printed, or the lines of the first replies, and none of a report; or an output
-    // that fails, where the first octets of the lines were.
+    // nothing was printed, or the lines of the first replies, and none of a report; an output that
+    // fails, where the first octets of the lines were; or a store that is not closed, where all was.
     ensures fault { (request : Request) → asked (map S.text words.now) ≡ Some (Plays request) →
         result ≡ 4 →
         (IsTold (E.may_fail errors.old) (E.written errors.old) (E.written errors.new)
@@ -252,19 +279,25 @@ pub fn perform<Rt: AllocGlobal + Folder + Stores + Network, S: AsStr, R: Source,
         IsTold (E.may_fail errors.old) (E.written errors.old) (E.written errors.new) Stop.Output
         × W.may_fail output.old × IfSome (rows_at (Rt.stored rt.now) request.place) (λ rows.
         AppendsPart (W.written output.old) (W.written output.new)
-        (text_of request.task institutions rows events))) }
+        (text_of request.task institutions rows events)))
+        ⊎ (IsInStore request.place
+        × IsBy (Rt.held rt.now) request.config (R.octets input) (λ institutions events.
+        IsTold (E.may_fail errors.old) (E.written errors.old) (E.written errors.new) unclosed
+        × IfSome (rows_at (Rt.stored rt.now) request.place) (λ rows.
+        Appends (W.written output.old) (W.written output.new)
+        (text_of request.task institutions rows events)))) }
     // Serving connections: so many turns were made as are asked for, over wires that had not been
     // called.
     ensures served { (serving : Serving) → asked (map S.text words.now) ≡ Some (Serves serving) →
         result ≡ 0 → (institutions : List Institution)
         × IsConfigured (Rt.held rt.now) serving.config institutions
         × IfSome (rows_at (Rt.stored rt.now) serving.place) (λ rows.
-        (wires : Rt.Wired) × (left : Rt.Wired) × IsUncalled (Rt.Wired.log wires)
-        × Served institutions rows (turn_count serving.turns) serving.console
-        (Rt.Wired.log wires) (Rt.Wired.log left)) }
+        Served Rt.Wired.log institutions rows (turn_count serving.turns) serving.console) }
     ensures ready { (serving : Serving) → asked (map S.text words.now) ≡ Some (Serves serving) →
         result ≡ 0 → Appends (W.written output.old) (W.written output.new)
         (ready_text serving.port) }
+    ensures shut { (serving : Serving) → asked (map S.text words.now) ≡ Some (Serves serving) →
+        result ≡ 0 → ClosesAt serving.place (Rt.closed rt.now) (λ _. Unit {0}) }
     ensures stops { (serving : Serving) → asked (map S.text words.now) ≡ Some (Serves serving) →
         result ≢ 0 → (stop : Stop) × (result ≡ status_of stop)
         × IsTold (E.may_fail errors.old) (E.written errors.old) (E.written errors.new) stop
@@ -280,10 +313,11 @@ pub fn perform<Rt: AllocGlobal + Folder + Stores + Network, S: AsStr, R: Source,
         × (result ≡ status_of stop)
         × IsTold (E.may_fail errors.old) (E.written errors.old) (E.written errors.new) stop
         × EndsLoop (W.may_fail output.old) (W.written output.old) (W.written output.new) stop }
-    // Migrating a store: a keeper of its rows was made in a new one, and a line was printed.
+    // Migrating a store: a new one of its rows was made and closed, and a line was printed.
     ensures migrated { (files : Migrating) →
-        asked (map S.text words.now) ≡ Some (Migrates files) → result ≡ 0 → ((tables : Rt.File)
-        × IfSome (Rt.migrated rt.now files.from) (λ rows. (Rt.File.state tables).rows ≡ rows))
+        asked (map S.text words.now) ≡ Some (Migrates files) → result ≡ 0 → ((kept : List Row)
+        × Rt.closed rt.now kept
+        × IfSome (Rt.migrated rt.now files.from) (λ rows. kept ≡ rows))
         × Appends (W.written output.old) (W.written output.new) migrated_line }
     ensures unmigrated { (files : Migrating) →
         asked (map S.text words.now) ≡ Some (Migrates files) → result ≢ 0 → (stop : Stop)

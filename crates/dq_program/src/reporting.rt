@@ -90,6 +90,7 @@ fn lines_of<T: Tables>(
 ) -> Result<Vec<u8>, Fault>
     ensures lines { AreHonest T.state → IfOk result (λ text. text.items
         ≡ reported (T.state tables.old).rows names.now) }
+    ensures same { AreHonest T.state → (T.state tables.new).rows ≡ (T.state tables.old).rows }
     ensures fault { IfErr result (λ fault. fault ≢ Fault.Stopped) }
 {
     let mut text = Vec::new(alloc);
@@ -134,22 +135,25 @@ fn kept_after<T: Tables + Drop>(
     }
 }
 
-/// The text of a report.
+/// The text of a report, and what keeps the rows that it counts.
 fn report_of<T: Tables + Drop>(
     alloc: Global,
     config: Config,
     tables: T,
     events: Vec<Event>,
-) -> Result<Vec<u8>, Fault>
+) -> Result<(Vec<u8>, T), Fault>
     requires formed { IsTrue (is_well_formed events.items) }
     requires unfailed { (T.state tables).failed ≡ false }
-    ensures text { AreHonest T.state → IfOk result (λ text. text.items
+    ensures text { AreHonest T.state → IfOk result (λ it. it.0.items
         ≡ text_of Report config (T.state tables).rows events.items) }
+    ensures kept { AreHonest T.state → IfOk result (λ it. (T.state it.1).rows
+        ≡ (world_after config (T.state tables).rows events.items).rows) }
     ensures fault { IfErr result (λ fault. fault ≢ Fault.Stopped) }
 {
     let names = names_of(alloc, config.institutions())?;
     let mut kept = kept_after(alloc, config, tables, events)?;
-    lines_of(alloc, &mut kept, names.as_slice())
+    let text = lines_of(alloc, &mut kept, names.as_slice())?;
+    Ok((text, kept))
 }
 
 /// Writes a text and hands it on.
@@ -169,17 +173,19 @@ pub fn put_whole<W: Sink>(text: &[u8], output: &mut W) -> Result<(), Stop>
 }
 
 /// Counts what is kept after the events of a capture, over the rows that are there, and prints a
-/// line for each institution in the order of the configuration. Where a fault comes, no line is
-/// printed.
+/// line for each institution in the order of the configuration. It gives back what keeps the rows.
+/// Where a fault comes, no line is printed.
 pub fn report<T: Tables + Drop, W: Sink>(
     alloc: Global,
     config: Config,
     tables: T,
     events: Vec<Event>,
     output: &mut W,
-) -> Result<(), Stop>
+) -> Result<T, Stop>
     requires formed { IsTrue (is_well_formed events.items) }
     requires unfailed { (T.state tables).failed ≡ false }
+    ensures kept { AreHonest T.state → IfOk result (λ kept. (T.state kept).rows
+        ≡ (world_after config (T.state tables).rows events.items).rows) }
     ensures done { AreHonest T.state → OnOk result (Appends (W.written output.old)
         (W.written output.new) (text_of Report config (T.state tables).rows events.items)) }
     ensures flushed { OnOk result (W.is_flushed output.new) }
@@ -187,6 +193,7 @@ pub fn report<T: Tables + Drop, W: Sink>(
     ensures cut { AreHonest T.state → IfErr result (Breaks (W.written output.old)
         (W.written output.new) (text_of Report config (T.state tables).rows events.items)) }
 {
-    let text = report_of(alloc, config, tables, events)?;
-    put_whole(text.as_slice(), output)
+    let (text, kept) = report_of(alloc, config, tables, events)?;
+    put_whole(text.as_slice(), output)?;
+    Ok(kept)
 }

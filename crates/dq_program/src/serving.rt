@@ -4,13 +4,14 @@ ghost use Rattle.std.specs.Option.{option_copied};
 ghost use Rattle.std.specs.Io.KnownBytes.{Appends};
 ghost use Rattle.dq_config.specs.declared.config.Institution.{Institution};
 ghost use Rattle.dq_core.specs.Standing.{StandsFor};
-ghost use Rattle.dq_wires.specs.Stepping.{Moves};
-ghost use Rattle.dq_wires.specs.Turns.{TurnsWent};
-ghost use Rattle.dq_wires.specs.Servings.{Act};
+ghost use Rattle.dq_wires.specs.Stepping.{Moves, Fails};
+ghost use Rattle.dq_wires.specs.Turns.{TurnsWent, TurnsCut};
 ghost use Rattle.dq_words.specs.Words.{place_in};
-ghost use Rattle.dq_program.specs.Program.{AreHonest, IsConfigured, rows_at};
-ghost use Rattle.dq_program.specs.Serving.{ready_text, turn_count, IsUncalled, WentOn, IsServiceStop, Served, EndsService, StopsService};
+ghost use Rattle.dq_program.specs.Program.{AreHonest, IsConfigured, rows_at, ClosesAt};
+ghost use Rattle.dq_program.specs.Rounds.{RoundsWent, RoundsCut, Beside};
+ghost use Rattle.dq_program.specs.Serving.{ready_text, turn_count, IsUncalled, IsServiceStop, ArePlain, Served, EndsService, StopsService};
 
+use crate::backup::{Backups, OfFiles, OfMemory};
 use crate::desk::Desk;
 use crate::network::{Listening, Logging, Network};
 use crate::reading::configured;
@@ -27,11 +28,11 @@ use dq_words::{Keeper, Service};
 use std::alloc::{AllocError, Global};
 use std::time::Duration;
 
-/// Where connections come in: the wires, and the console if there is one.
+/// Where connections come in beside a console: their wires, and the console.
 #[derive(Drop)]
 struct Reception<W> {
     wires: W,
-    desk: Option<Desk<W>>,
+    desk: Desk<W>,
 }
 
 /// The console at a path, beside other wires.
@@ -43,6 +44,8 @@ fn desk_beside<N: Network>(
     wires: &mut N::Wired,
 ) -> Result<Desk<N::Wired>, Stop>
     ensures same { N.Wired.log wires.new ≡ N.Wired.log wires.old }
+    ensures uncalled { IfOk result (λ desk. IsUncalled (N.Wired.log desk.clerk.wires)) }
+    ensures callers { IfOk result (λ desk. desk.callers.items ≡ []) }
     ensures stops { IfErr result IsServiceStop }
 {
     let beside = network.listen_beside(alloc, path, wires)?;
@@ -91,15 +94,8 @@ fn note_stop<N: Network>(network: &N, wires: &mut N::Wired, stop: Stop)
 }
 
 /// Listens where the words of a service say.
-fn listen<N: Network>(
-    alloc: Global,
-    network: &N,
-    service: Service<'_>,
-    institutions: &[Institution],
-) -> Result<Reception<N::Wired>, Stop>
-    ensures uncalled { IfOk result (λ it. IsUncalled (N.Wired.log it.wires)) }
-    ensures console { option_copied service.entry.console ≡ None →
-        IfOk result (λ it. it.desk ≡ None) }
+fn listen<N: Network>(alloc: Global, network: &N, service: Service<'_>) -> Result<N::Wired, Stop>
+    ensures uncalled { IfOk result (λ wires. IsUncalled (N.Wired.log wires)) }
     ensures stops { IfErr result IsServiceStop }
 {
     let listening = Listening {
@@ -108,15 +104,7 @@ fn listen<N: Network>(
         limits: limits_of(service),
         log: logging_of(service),
     };
-    let mut wires = network.listen(alloc, listening)?;
-    let Some(path) = service.console else {
-        return Ok(Reception { wires, desk: None });
-    };
-    let desk = desk_beside(alloc, network, path, institutions, &mut wires)?;
-    Ok(Reception {
-        wires,
-        desk: Some(desk),
-    })
+    Ok(network.listen(alloc, listening)?)
 }
 
 /// How long may be rested before the next turn. What was answered and not yet offered waits for
@@ -138,6 +126,9 @@ fn turn_told<N: Network, T: Tables>(
     ensures went { OnOk result (TurnsWent (Moves T.state) (N.Wired.log wires.old)
         (N.Wired.log wires.new) turner.old.server turner.new.server turner.old.hold
         turner.new.hold 1) }
+    ensures cut { IfErr result (TurnsCut (Moves T.state) (Fails T.state)
+        (N.Wired.log wires.old) (N.Wired.log wires.new) turner.old.server turner.new.server
+        turner.old.hold 1) }
     ensures fault { OnOk result (turner.new.fault ≡ None) }
 {
     network.tell(wires, turner);
@@ -146,52 +137,99 @@ fn turn_told<N: Network, T: Tables>(
     turned
 }
 
-/// One turn of all connections and of the console, and a rest.
+/// One turn of all connections, and a rest.
 fn turn_once<N: Network, T: Tables>(
     network: &N,
     turner: &mut Turner<T>,
-    reception: &mut Reception<N::Wired>,
+    wires: &mut N::Wired,
     rest: Duration,
 ) -> Result<(), Stop>
     requires working { turner.old.fault ≡ None }
-    ensures went { OnOk result ((orders : List Act) × WentOn T.state
-        (N.Wired.log reception.old.wires) (N.Wired.log reception.new.wires)
-        turner.old turner.new 1 orders × (reception.old.desk ≡ None → orders ≡ [])) }
-    ensures console { reception.old.desk ≡ None → reception.new.desk ≡ None }
+    ensures went { OnOk result (RoundsWent T.state (N.Wired.log wires.old)
+        (N.Wired.log wires.new) turner.old turner.new 1 ArePlain) }
+    ensures cut { IfErr result (λ _. RoundsCut T.state (N.Wired.log wires.old)
+        (N.Wired.log wires.new) turner.old 1 ArePlain) }
     ensures stops { IfErr result IsServiceStop }
 {
     calls_are_a_serving::<T>();
-    turn_told(network, turner, &mut reception.wires)?;
+    turn_told(network, turner, wires)?;
     let rest = rest_of(turner, rest);
-    let rested = match &mut reception.desk {
-        None => network.rest(&mut reception.wires, rest),
-        Some(desk) => {
-            desk.turn(turner)?;
-            network.note(&mut reception.wires, desk.take_notes().as_str());
-            network.rest_with(&mut reception.wires, desk.wires(), rest)
-        }
-    };
-    if rested.is_err() {
+    if network.rest(wires, rest).is_err() {
         return Err(Stop::Network);
     }
     Ok(())
 }
 
-/// The same. The log is told where the server stops.
-fn turn_noted<N: Network, T: Tables>(
+/// One turn of all connections, then one of the console, and a rest.
+fn turn_beside<N: Network, T: Tables, B: Backups<T>>(
     network: &N,
+    backups: &B,
     turner: &mut Turner<T>,
     reception: &mut Reception<N::Wired>,
     rest: Duration,
 ) -> Result<(), Stop>
     requires working { turner.old.fault ≡ None }
-    ensures went { OnOk result ((orders : List Act) × WentOn T.state
-        (N.Wired.log reception.old.wires) (N.Wired.log reception.new.wires)
-        turner.old turner.new 1 orders × (reception.old.desk ≡ None → orders ≡ [])) }
-    ensures console { reception.old.desk ≡ None → reception.new.desk ≡ None }
+    ensures went { OnOk result (RoundsWent T.state (N.Wired.log reception.old.wires)
+        (N.Wired.log reception.new.wires) turner.old turner.new 1
+        (Beside (N.Wired.log reception.old.desk.clerk.wires)
+        (N.Wired.log reception.new.desk.clerk.wires)
+        reception.old.desk.callers.items reception.new.desk.callers.items)) }
     ensures stops { IfErr result IsServiceStop }
 {
-    let turned = turn_once(network, turner, reception, rest);
+    calls_are_a_serving::<T>();
+    turn_told(network, turner, &mut reception.wires)?;
+    let rest = rest_of(turner, rest);
+    reception.desk.turn(turner, backups)?;
+    let notes = reception.desk.take_notes();
+    network.note(&mut reception.wires, notes.as_str());
+    let beside = &mut reception.desk.clerk.wires;
+    if network
+        .rest_with(&mut reception.wires, beside, rest)
+        .is_err()
+    {
+        return Err(Stop::Network);
+    }
+    Ok(())
+}
+
+/// One turn without a console. The log is told where the server stops.
+fn turn_noted<N: Network, T: Tables>(
+    network: &N,
+    turner: &mut Turner<T>,
+    wires: &mut N::Wired,
+    rest: Duration,
+) -> Result<(), Stop>
+    requires working { turner.old.fault ≡ None }
+    ensures went { OnOk result (RoundsWent T.state (N.Wired.log wires.old)
+        (N.Wired.log wires.new) turner.old turner.new 1 ArePlain) }
+    ensures cut { IfErr result (λ _. RoundsCut T.state (N.Wired.log wires.old)
+        (N.Wired.log wires.new) turner.old 1 ArePlain) }
+    ensures stops { IfErr result IsServiceStop }
+{
+    let turned = turn_once(network, turner, wires, rest);
+    if let Err(stop) = turned {
+        note_stop(network, wires, stop);
+    }
+    turned
+}
+
+/// The same with one.
+fn turn_noted_beside<N: Network, T: Tables, B: Backups<T>>(
+    network: &N,
+    backups: &B,
+    turner: &mut Turner<T>,
+    reception: &mut Reception<N::Wired>,
+    rest: Duration,
+) -> Result<(), Stop>
+    requires working { turner.old.fault ≡ None }
+    ensures went { OnOk result (RoundsWent T.state (N.Wired.log reception.old.wires)
+        (N.Wired.log reception.new.wires) turner.old turner.new 1
+        (Beside (N.Wired.log reception.old.desk.clerk.wires)
+        (N.Wired.log reception.new.desk.clerk.wires)
+        reception.old.desk.callers.items reception.new.desk.callers.items)) }
+    ensures stops { IfErr result IsServiceStop }
+{
+    let turned = turn_beside(network, backups, turner, reception, rest);
     if let Err(stop) = turned {
         note_stop(network, &mut reception.wires, stop);
     }
@@ -223,21 +261,44 @@ impl Pace {
     }
 }
 
-/// So many turns.
-fn turn_on<N: Network, T: Tables>(
+/// So many turns without a console.
+fn serve_alone<N: Network, T: Tables>(
     network: &N,
+    turner: &mut Turner<T>,
+    wires: &mut N::Wired,
+    pace: Pace,
+) -> Result<(), Stop>
+    requires working { turner.old.fault ≡ None }
+    ensures went { OnOk result (RoundsWent T.state (N.Wired.log wires.old)
+        (N.Wired.log wires.new) turner.old turner.new pace.turns ArePlain) }
+    ensures cut { IfErr result (λ _. RoundsCut T.state (N.Wired.log wires.old)
+        (N.Wired.log wires.new) turner.old pace.turns ArePlain) }
+    ensures stops { IfErr result IsServiceStop }
+{
+    for _turn in 0..pace.turns {
+        turn_noted(network, turner, wires, pace.rest)?;
+    }
+    Ok(())
+}
+
+/// The same with one.
+fn serve_beside<N: Network, T: Tables, B: Backups<T>>(
+    network: &N,
+    backups: &B,
     turner: &mut Turner<T>,
     reception: &mut Reception<N::Wired>,
     pace: Pace,
 ) -> Result<(), Stop>
     requires working { turner.old.fault ≡ None }
-    ensures went { OnOk result ((orders : List Act) × WentOn T.state
-        (N.Wired.log reception.old.wires) (N.Wired.log reception.new.wires)
-        turner.old turner.new pace.turns orders × (reception.old.desk ≡ None → orders ≡ [])) }
+    ensures went { OnOk result (RoundsWent T.state (N.Wired.log reception.old.wires)
+        (N.Wired.log reception.new.wires) turner.old turner.new pace.turns
+        (Beside (N.Wired.log reception.old.desk.clerk.wires)
+        (N.Wired.log reception.new.desk.clerk.wires)
+        reception.old.desk.callers.items reception.new.desk.callers.items)) }
     ensures stops { IfErr result IsServiceStop }
 {
     for _turn in 0..pace.turns {
-        turn_noted(network, turner, reception, pace.rest)?;
+        turn_noted_beside(network, backups, turner, reception, pace.rest)?;
     }
     Ok(())
 }
@@ -249,42 +310,62 @@ fn ready_text(alloc: Global, port: u16) -> Result<String, AllocError>
     format!(in alloc; "ready {port}\n")
 }
 
-/// Listens, prints that connections can come in, and serves them by a server that was asked for
-/// nothing yet.
-pub fn serve_by<N: Network, T: Tables + Drop, W: Sink>(
-    alloc: Global,
+/// Prints that connections can come in.
+fn put_ready<W: Sink>(alloc: Global, port: u16, output: &mut W) -> Result<(), Stop>
+    ensures ready { OnOk result (Appends (W.written output.old) (W.written output.new)
+        (ready_text port)) }
+    ensures flushed { OnOk result (W.is_flushed output.new) }
+    ensures ends { IfErr result (EndsService (W.may_fail output.old) (W.written output.old)
+        (W.written output.new) port) }
+{
+    let line = ready_text(alloc, port)?;
+    put_whole(line.as_bytes(), output)
+}
+
+/// Listens, prints that connections can come in, serves them by a server that was asked for nothing
+/// yet, and gives back what keeps the rows.
+pub fn serve_by<N: AllocGlobal + Network, T: Tables + Drop, B: Backups<T>, W: Sink>(
     network: &N,
+    backups: &B,
     service: Service<'_>,
     server: Server<T>,
     output: &mut W,
-) -> Result<(), Stop>
+) -> Result<T, Stop>
     requires begins { StandsFor T.state (T.state server.tables).rows server [] }
     ensures ready { OnOk result (Appends (W.written output.old) (W.written output.new)
         (ready_text service.entry.port)) }
     ensures flushed { OnOk result (W.is_flushed output.new) }
-    ensures served { AreHonest T.state → OnOk result ((wires : N.Wired) × (left : N.Wired)
-        × IsUncalled (N.Wired.log wires) × Served server.institutions (T.state server.tables).rows
-        (turn_count service.entry.turns) (option_copied service.entry.console)
-        (N.Wired.log wires) (N.Wired.log left)) }
+    ensures served { AreHonest T.state → OnOk result (Served N.Wired.log server.institutions
+        (T.state server.tables).rows (turn_count service.entry.turns)
+        (option_copied service.entry.console)) }
     ensures ends { IfErr result (EndsService (W.may_fail output.old) (W.written output.old)
         (W.written output.new) service.entry.port) }
 {
     calls_are_a_serving::<T>();
     servings_are_answered::<T>();
-    let mut reception = listen(alloc, network, service, server.institutions())?;
-    let line = ready_text(alloc, service.port)?;
-    put_whole(line.as_bytes(), output)?;
-    let mut turner = Turner::new(alloc, server);
-    turn_on(
-        network,
-        &mut turner,
-        &mut reception,
-        Pace::of(service.turns),
-    )
+    let alloc = network.alloc();
+    let pace = Pace::of(service.turns);
+    let mut wires = listen(alloc, network, service)?;
+    match service.console {
+        None => {
+            put_ready(alloc, service.port, output)?;
+            let mut turner = Turner::new(alloc, server);
+            serve_alone(network, &mut turner, &mut wires, pace)?;
+            Ok(turner.into_server().into_tables())
+        }
+        Some(path) => {
+            let desk = desk_beside(alloc, network, path, server.institutions(), &mut wires)?;
+            put_ready(alloc, service.port, output)?;
+            let mut reception = Reception { wires, desk };
+            let mut turner = Turner::new(alloc, server);
+            serve_beside(network, backups, &mut turner, &mut reception, pace)?;
+            Ok(turner.into_server().into_tables())
+        }
+    }
 }
 
 /// Serves connections: reads the configuration, opens what keeps the rows, listens, prints that
-/// connections can come in, and turns.
+/// connections can come in, turns, and closes the store, if there is one.
 pub fn serve<Rt: AllocGlobal + Folder + Stores + Network, W: Sink>(
     rt: &Rt,
     service: Service<'_>,
@@ -296,9 +377,10 @@ pub fn serve<Rt: AllocGlobal + Folder + Stores + Network, W: Sink>(
     ensures served { OnOk result ((institutions : List Institution)
         × IsConfigured (Rt.held rt.now) (option_copied service.entry.config) institutions
         × IfSome (rows_at (Rt.stored rt.now) (place_in service.entry.keeper)) (λ rows.
-        (wires : Rt.Wired) × (left : Rt.Wired) × IsUncalled (Rt.Wired.log wires)
-        × Served institutions rows (turn_count service.entry.turns)
-        (option_copied service.entry.console) (Rt.Wired.log wires) (Rt.Wired.log left))) }
+        Served Rt.Wired.log institutions rows (turn_count service.entry.turns)
+        (option_copied service.entry.console))) }
+    ensures closed { OnOk result (ClosesAt (place_in service.entry.keeper) (Rt.closed rt.now)
+        (λ _. Unit {0})) }
     ensures stops { IfErr result (StopsService (Rt.may_fail rt.now) (Rt.held rt.now)
         (option_copied service.entry.config) (W.may_fail output.old) (W.written output.old)
         (W.written output.new) service.entry.port) }
@@ -307,15 +389,18 @@ pub fn serve<Rt: AllocGlobal + Folder + Stores + Network, W: Sink>(
     match service.keeper {
         Keeper::Memory => {
             let server = Server::new(rt.alloc(), config, rt.memory(rt.alloc())?)?;
-            serve_by(rt.alloc(), rt, service, server, output)
+            serve_by(rt, &OfMemory, service, server, output)?;
         }
         Keeper::New(path) => {
             let server = Server::new(rt.alloc(), config, rt.new_store(rt.alloc(), path)?)?;
-            serve_by(rt.alloc(), rt, service, server, output)
+            let filled = serve_by(rt, &OfFiles(rt), service, server, output)?;
+            rt.close(filled)?;
         }
         Keeper::Found(path) => {
             let server = Server::new(rt.alloc(), config, rt.store(rt.alloc(), path)?)?;
-            serve_by(rt.alloc(), rt, service, server, output)
+            let kept = serve_by(rt, &OfFiles(rt), service, server, output)?;
+            rt.close(kept)?;
         }
     }
+    Ok(())
 }

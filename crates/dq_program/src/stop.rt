@@ -4,7 +4,7 @@ ghost use Rattle.std.specs.Io.KnownBytes.{Appends};
 ghost use Rattle.dq_program.specs.Program.{stop_of_file, stop_of_input, stop_text, status_of};
 
 use crate::network::Unheard;
-use crate::stores::Unkept;
+use crate::stores::{Unclosed, Unkept};
 use dq_captures::{CaptureFault, PrintFault, Sink, Unread};
 use dq_config::ConfigFault;
 use dq_core::Fault;
@@ -22,7 +22,8 @@ pub enum Stop {
     Config(u8),
     /// A bad line of the capture. 0 stands for one that cannot be read, is too long, or is no text.
     Capture(u64),
-    /// A refused store, with the number of what is wrong with it.
+    /// A refused store, with the number of what is wrong with it. 5 stands for one that all was done
+    /// with, and whose log could not be copied into the database file.
     Store(u8),
     /// The number of a fault.
     Fault(u8),
@@ -83,6 +84,17 @@ impl From<Unkept> for Stop {
             Unkept::Store(number) => Stop::Store(number),
             Unkept::NoMemory => Stop::from(AllocError),
         }
+    }
+}
+
+impl From<Unclosed> for Stop {
+    ghost use Rattle.std.specs.Prelude.{◌≡◌};
+    ghost use Rattle.dq_program.specs.Program.{unclosed};
+
+    ghost from_gives = { λ _ stop. stop ≡ unclosed };
+
+    fn from(_unclosed: Unclosed) -> Stop {
+        Stop::Store(5)
     }
 }
 

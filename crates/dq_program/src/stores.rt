@@ -1,7 +1,9 @@
 //! What keeps rows: memory, and stores that are files.
-ghost use Rattle.std.specs.Prelude.{◌≡◌, false, ℕ, List, [], Option, Some, IfOk, IfSome};
+ghost use Rattle.std.specs.Prelude.{◌≡◌, false, ℕ, List, [], Option, Some, IfOk, IfSome, OnOk};
 ghost use Rattle.dq_tables.specs.declared.row.Row.{Row};
+ghost use Rattle.dq_core.specs.Looking.{LeavesAlone};
 ghost use Rattle.dq_core.specs.Soundness.{HoldSound};
+ghost use Rattle.dq_program.specs.Backups.{refusal_text};
 
 use crate::stop::Stop;
 use dq_tables::Tables;
@@ -14,6 +16,40 @@ pub enum Unkept {
     /// where it is of another version, 4 where its rows are bad.
     Store(u8),
     NoMemory,
+}
+
+/// The log of a store could not be copied into its database file. Nothing is lost: the two files
+/// together hold the rows.
+#[derive(Clone, Copy, Debug, PartialEq, Eq)]
+pub struct Unclosed;
+
+/// Why a copy of a store is not made.
+#[derive(Clone, Copy, Debug, PartialEq, Eq)]
+pub enum Uncopied {
+    /// There is something at the path already.
+    Taken,
+    /// The disk is full.
+    Full,
+    /// One of the two stores failed, or there can be no file at the path.
+    Failed,
+    NoMemory,
+    /// The rows are in memory alone.
+    NoStore,
+}
+
+impl Uncopied {
+    /// The line that tells it.
+    pub fn text(self) -> &'static str
+        ensures { result.now ≡ refusal_text self }
+    {
+        match self {
+            Uncopied::Taken => "refused taken\n",
+            Uncopied::Full => "refused full\n",
+            Uncopied::Failed => "refused failed\n",
+            Uncopied::NoMemory => "refused memory\n",
+            Uncopied::NoStore => "refused no store\n",
+        }
+    }
 }
 
 /// What keeps rows.
@@ -30,6 +66,9 @@ pub trait Stores {
     /// The rows that the store of the version before at a path has once it is migrated, where they
     /// are known.
     ghost migrated: { Self → List ℕ → Option (List Row) };
+
+    /// What there is once a store of these rows is closed.
+    ghost closed: { Self → List Row → Type 0 };
 
     /// No rows, kept in memory.
     fn memory(&self, alloc: Global) -> Result<Self::Memory, Unkept>
@@ -55,6 +94,17 @@ pub trait Stores {
     fn migrate(&self, alloc: Global, from: &str, to: &str) -> Result<Self::File, Unkept>
         ensures { IfOk result (λ tables. IfSome (migrated self.now from.now)
             (λ rows. (Self.File.state tables).rows ≡ rows)) };
+
+    /// Copies all rows of a store into a new file at a path, and closes that. The store is only read,
+    /// and its own files are not opened again.
+    fn backup(&self, alloc: Global, tables: &mut Self::File, path: &str) -> Result<(), Uncopied>
+        ensures alone { LeavesAlone (Self.File.state tables.old) (Self.File.state tables.new) }
+        ensures copied { (Self.File.state tables.new).honest →
+            OnOk result (closed self.now (Self.File.state tables.old).rows) };
+
+    /// Closes a store: its log is copied into the database file, which then has all rows alone.
+    fn close(&self, tables: Self::File) -> Result<(), Unclosed>
+        ensures { OnOk result (closed self.now (Self.File.state tables).rows) };
 
     /// Nothing but the program writes memory.
     ghost memory_is_honest: { (tables : Self.Memory) → (Self.Memory.state tables).honest };

@@ -294,10 +294,10 @@ fn new_tables<S: OfFiles>(alloc: Global, files: Files<File>) -> Result<Option<Sq
     let Some(conn) = S::opened(alloc, files) else {
         return Ok(None);
     };
-    match SqlTables::open(alloc, conn) {
+    match SqlTables::open_lent(alloc, conn) {
         Ok(tables) => Ok(Some(tables)),
-        Err(StoreFault::Store) => Ok(None),
-        Err(fault) => Err(fault.into()),
+        Err((StoreFault::Store, _)) => Ok(None),
+        Err((fault, _)) => Err(fault.into()),
     }
 }
 
@@ -305,17 +305,138 @@ fn files_of<S: OfFiles>(tables: SqlTables<S>) -> Files<File> {
     tables.into_connection().into_store().closed()
 }
 
-/// A connection to what a crash leaves of files, which is what was synced, if they can be opened.
-fn reopened<S: OfFiles>(alloc: Global, mut files: Files<File>) -> Option<Connection<S>> {
-    files.log.crash();
-    files.db.crash();
+/// What a crash leaves of what was written since the last sync. Each is an outcome of the model that
+/// the program opens its files under.
+#[derive(Clone, Copy)]
+enum Remains {
+    /// Nothing.
+    Synced,
+    /// All, as where the process is killed.
+    Written,
+    /// The first of each two blocks of 512 octets.
+    FirstBlocks,
+    /// The second of each two blocks.
+    SecondBlocks,
+    /// The later half. A log is written from its front on, so that this is a crash after writes that
+    /// reached the disk in another order.
+    LaterHalf,
+    /// The right places, with octets that nobody wrote.
+    Torn,
+}
+
+const OUTCOMES: [Remains; 6] = [
+    Remains::Synced,
+    Remains::Written,
+    Remains::FirstBlocks,
+    Remains::SecondBlocks,
+    Remains::LaterHalf,
+    Remains::Torn,
+];
+
+/// An octet that no store here has often.
+const TORN: u8 = 0xa5;
+
+impl Remains {
+    /// Whether what was written at a place is left there.
+    fn keeps(self, at: usize, middle: usize) -> bool {
+        match self {
+            Remains::Synced | Remains::Torn => false,
+            Remains::Written => true,
+            Remains::FirstBlocks => at / 512 % 2 == 0,
+            Remains::SecondBlocks => at / 512 % 2 == 1,
+            Remains::LaterHalf => at >= middle,
+        }
+    }
+
+    /// The octet at a place, of what was synced and what was written there.
+    fn octet(self, at: usize, middle: usize, synced: Option<u8>, written: Option<u8>) -> u8 {
+        let old = synced.unwrap_or(0);
+        let Some(new) = written else {
+            return old;
+        };
+        if synced == Some(new) || self.keeps(at, middle) {
+            return new;
+        }
+        match self {
+            Remains::Torn => TORN,
+            _ => old,
+        }
+    }
+}
+
+/// The place in the middle of what was written.
+fn middle(synced: &[u8], written: &[u8]) -> usize {
+    let (mut first, mut last) = (written.len(), 0);
+    for at in 0..written.len() {
+        if synced.get(at) != written.get(at) {
+            first = first.min(at);
+            last = at;
+        }
+    }
+    first.saturating_add(last.saturating_sub(first) / 2)
+}
+
+/// The octets that a crash leaves of a file. One that was cut may be as long as it was.
+fn mixed(
+    alloc: Global,
+    synced: &[u8],
+    written: &[u8],
+    left: Remains,
+) -> Result<Vec<u8>, AllocError> {
+    match left {
+        Remains::Synced => return Vec::from_slice(alloc, synced),
+        Remains::Written => return Vec::from_slice(alloc, written),
+        _ => {}
+    }
+    let middle = middle(synced, written);
+    let mut octets = Vec::new(alloc);
+    for at in 0..synced.len().max(written.len()) {
+        let (old, new) = (synced.get(at).copied(), written.get(at).copied());
+        octets.push(left.octet(at, middle, old, new))?;
+    }
+    Ok(octets)
+}
+
+/// A file with these octets.
+fn file_with(alloc: Global, octets: &[u8]) -> Option<File> {
+    let mut file = Fuse::new(Memory::new(alloc), u64::MAX);
+    if octets.is_empty() {
+        return Some(file);
+    }
+    file.write_at(0, octets).ok()?;
+    file.sync().ok()?;
+    Some(file)
+}
+
+/// What a crash leaves of a file.
+fn crashed(alloc: Global, mut file: File, left: Remains) -> Option<File> {
+    let written = Vec::from_slice(alloc, file.inner().bytes()).ok()?;
+    file.crash();
+    let octets = mixed(alloc, file.inner().bytes(), &written, left).ok()?;
+    file_with(alloc, &octets)
+}
+
+/// A connection to what a crash leaves of files, if they can be opened.
+fn reopened<S: OfFiles>(alloc: Global, files: Files<File>, left: Remains) -> Option<Connection<S>> {
+    let Files { log, db } = files;
+    let files = Files {
+        log: crashed(alloc, log, left)?,
+        db: crashed(alloc, db, left)?,
+    };
     S::opened(alloc, files)
 }
 
 /// Tables over what a crash leaves of files.
-fn adopted<S: OfFiles>(alloc: Global, files: Files<File>) -> Result<SqlTables<S>, Fail> {
-    let conn = reopened(alloc, files).ok_or("what a crash leaves is a database")?;
-    Ok(SqlTables::adopt(alloc, conn)?)
+fn adopted<S: OfFiles>(
+    alloc: Global,
+    files: Files<File>,
+    left: Remains,
+) -> Result<SqlTables<S>, Fail> {
+    let conn = reopened(alloc, files, left).ok_or("what a crash leaves is a database")?;
+    match SqlTables::adopt_lent(alloc, conn) {
+        Ok(tables) => Ok(tables),
+        Err((fault, _)) => Err(fault.into()),
+    }
 }
 
 /// What came of a run: whether a file stopped in it, how many instances were answered as kept, and
@@ -328,13 +449,13 @@ struct Run {
 }
 
 /// A run over tables.
-fn ran<S: OfFiles>(alloc: Global, tables: SqlTables<S>) -> Result<Run, Fail> {
+fn ran<S: OfFiles>(alloc: Global, tables: SqlTables<S>, after: Remains) -> Result<Run, Fail> {
     let (answered, tables) = answered(alloc, tables)?;
     let mut files = files_of(tables);
     Ok(Run {
         is_stopped: have_stopped(&mut files),
         answered,
-        left: left(alloc, adopted::<S>(alloc, files)?)?,
+        left: left(alloc, adopted::<S>(alloc, files, after)?)?,
     })
 }
 
@@ -347,6 +468,7 @@ fn stop_at_each_call<S: OfFiles>(
     rt: &impl Abort,
     alloc: Global,
     stopping: Stopping,
+    after: Remains,
 ) -> Result<(), Fail> {
     let mut was_stopped = false;
     for calls in 0..CALLS {
@@ -357,7 +479,7 @@ fn stop_at_each_call<S: OfFiles>(
             is_stopped,
             answered,
             left,
-        } = ran(alloc, tables)?;
+        } = ran(alloc, tables, after)?;
         if !is_stopped {
             assert_eq!(rt; (answered, left, was_stopped), (2, 2, true));
             return Ok(());
@@ -370,8 +492,11 @@ fn stop_at_each_call<S: OfFiles>(
 }
 
 fn each_file_stops<S: OfFiles>(rt: &impl Abort, alloc: Global) -> Result<(), Fail> {
-    stop_at_each_call::<S>(rt, alloc, Stopping::Log)?;
-    stop_at_each_call::<S>(rt, alloc, Stopping::Database)
+    for left in OUTCOMES {
+        stop_at_each_call::<S>(rt, alloc, Stopping::Log, left)?;
+        stop_at_each_call::<S>(rt, alloc, Stopping::Database, left)?;
+    }
+    Ok(())
 }
 
 #[test]

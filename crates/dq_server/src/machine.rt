@@ -2,22 +2,28 @@
 ghost use Rattle.std.specs.Prelude.{◌≡◌, false, List, IfOk};
 ghost use Rattle.sqlite_store.specs.FileStore.{files};
 ghost use Rattle.sqlite_wal.specs.Files.{image_at};
+ghost use Rattle.sqlite_wal.specs.Reads.{AreClean};
 ghost use Rattle.sqlite.specs.State.{HasCleanDisk};
+ghost use Rattle.sqlite.specs.Closing.{IsCopied};
 ghost use Rattle.sqlite.specs.Files.{file_state, IsOpened};
+ghost use Rattle.sqlite.specs.Held.{state};
 ghost use Rattle.sqlite.specs.Start.{FindsIn};
 ghost use Rattle.dq_tables.specs.declared.row.Row.{Row};
 ghost use Rattle.dq_tables.specs.Sound.{IsSound};
+ghost use Rattle.dq_core.specs.Looking.{LeavesAlone};
 ghost use Rattle.dq_core.specs.Soundness.{HoldSound};
+ghost use Rattle.dq_sql.specs.Filling.{IsFilled};
 ghost use Rattle.dq_sql.specs.Restarting.{HoldsRows};
+ghost use Rattle.dq_server.specs.Closing.{HaveAlone};
 
 use dq_core::laws::rows_stay_sound;
-use dq_program::{Host, Stores, Unkept};
+use dq_program::{Host, Stores, Unclosed, Uncopied, Unkept};
 use dq_sql::{MigrateFault, SqlTables, StoreFault};
 use dq_tables::{PlainTables, Tables};
-use sqlite::{Connection, Error, ErrorCode, FileFrom, FileStore, Start, Wary};
+use sqlite::{Alter, Connection, Error, ErrorCode, FileFrom, FileStore, Files, Start, Wary};
 use sqlite_disk::Disk;
-use std::alloc::Global;
-use std::fs;
+use std::alloc::{AllocError, Global};
+use std::{fs, io};
 
 /// The machine that the program runs on.
 #[derive(Clone, Copy)]
@@ -55,6 +61,17 @@ fn unopened(error: &Error) -> Unkept {
     }
 }
 
+/// Why the file of a copy is not opened, or not closed. What has its name, or that of its log, is not
+/// overwritten.
+fn unwritten(error: &Error) -> Uncopied {
+    match error {
+        Error::SqliteFailure(ErrorCode::OutOfMemory) => Uncopied::NoMemory,
+        Error::SqliteFailure(ErrorCode::DiskFull) => Uncopied::Full,
+        Error::SqliteFailure(ErrorCode::NotADatabase | ErrorCode::DatabaseBusy) => Uncopied::Taken,
+        _ => Uncopied::Failed,
+    }
+}
+
 /// Why a store is not migrated.
 fn unmigrated(fault: MigrateFault) -> Unkept {
     match fault {
@@ -69,14 +86,14 @@ pub fn opened<S: Start>(
     rt: &HostRuntime,
     path: &str,
     start: S,
-) -> Result<Connection<FileStore<FileFrom<S>>>, Unkept>
+) -> Result<Connection<FileStore<FileFrom<S>>>, Error>
     ensures opened { IfOk result (λ c. HasCleanDisk (file_state c) → IsOpened c) }
     ensures found { IfOk result (λ c. HasCleanDisk (file_state c)
         → FindsIn (image_at S.Start) (file_state c)) }
 {
     match Connection::open_from(rt, path, false, start) {
         Ok(conn) => Ok(conn),
-        Err((error, _)) => Err(unopened(&error)),
+        Err((error, _)) => Err(error),
     }
 }
 
@@ -99,21 +116,125 @@ pub fn kept_at<S: Start>(
         (⟦<SqlTables<FileStore<FileFrom<S>>> as Tables>⟧.state t).failed ≡ false) }
 {
     rows_stay_sound();
-    let conn = opened(rt, path, start)?;
+    let conn = match opened(rt, path, start) {
+        Ok(conn) => conn,
+        Err(error) => return Err(unopened(&error)),
+    };
     match SqlTables::adopt_lent(alloc, conn) {
         Ok(tables) => Ok(tables),
         Err((fault, _)) => Err(unkept(fault)),
     }
 }
 
+/// Closes a store, and gives back its files. The database file then has all rows alone.
+pub fn closed_files<D: Disk + Drop>(tables: SqlTables<FileStore<D>>) -> Result<Files<D>, Unclosed>
+    ensures alone { IfOk result (HaveAlone D.Disk
+        (⟦<SqlTables<FileStore<D>> as Tables>⟧.state tables).rows) }
+{
+    match tables.close() {
+        Ok(files) => Ok(files),
+        Err(_) => Err(Unclosed),
+    }
+}
+
+/// Why a store is not made by a copy, of which this connection is left.
+fn uncopied<D: Disk + Drop>(fault: StoreFault, left: Connection<FileStore<D>>) -> Uncopied {
+    if fault == StoreFault::NoMemory {
+        return Uncopied::NoMemory;
+    }
+    if left.into_store().tally().refused > 0 {
+        return Uncopied::Full;
+    }
+    Uncopied::Failed
+}
+
+/// Copies all rows into the new store of a connection, which is given back.
+fn filled_copy<S: Alter + Drop>(
+    alloc: Global,
+    tables: &mut SqlTables<S>,
+    new: Connection<S>,
+) -> Result<Connection<S>, (StoreFault, Connection<S>)>
+    ensures alone { LeavesAlone (⟦<SqlTables<S> as Tables>⟧.state tables.old)
+        (⟦<SqlTables<S> as Tables>⟧.state tables.new) }
+    ensures made { (⟦<SqlTables<S> as Tables>⟧.state tables.new).honest → IfOk result (λ c.
+        HasCleanDisk (state S.Store c) → IsFilled (state S.Store c)
+        (⟦<SqlTables<S> as Tables>⟧.state tables.old).rows) }
+{
+    tables.copy_to(alloc, new)
+}
+
+/// Copies the log of a store into its database file, and gives back the files.
+fn closed_copy<D: Disk + Drop>(filled: Connection<FileStore<D>>) -> Result<Files<D>, Error>
+    ensures { IfOk result (λ files. AreClean D.Disk files.log files.db → IsCopied filled files) }
+{
+    match filled.close_files() {
+        Ok(files) => Ok(files),
+        Err((error, _)) => Err(error),
+    }
+}
+
+/// Copies all rows into the new store of a connection, and gives back its files, once it is closed.
+/// The new database file then has all rows alone.
+pub fn copied_files(
+    alloc: Global,
+    tables: &mut SqlTables<FileStore<FileFrom<Wary>>>,
+    new: Connection<FileStore<FileFrom<Wary>>>,
+) -> Result<Files<FileFrom<Wary>>, Uncopied>
+    ensures alone { LeavesAlone
+        (⟦<SqlTables<FileStore<FileFrom<Wary>>> as Tables>⟧.state tables.old)
+        (⟦<SqlTables<FileStore<FileFrom<Wary>>> as Tables>⟧.state tables.new) }
+    ensures copied { (⟦<SqlTables<FileStore<FileFrom<Wary>>> as Tables>⟧.state tables.new).honest →
+        IfOk result (HaveAlone ⟦<FileFrom<Wary> as Disk>⟧
+        (⟦<SqlTables<FileStore<FileFrom<Wary>>> as Tables>⟧.state tables.old).rows) }
+{
+    let filled = match filled_copy(alloc, tables, new) {
+        Ok(filled) => filled,
+        Err((fault, left)) => return Err(uncopied(fault, left)),
+    };
+    match closed_copy(filled) {
+        Ok(files) => Ok(files),
+        Err(error) => Err(unwritten(&error)),
+    }
+}
+
+/// Where the log of a file is.
+fn log_path(alloc: Global, path: &str) -> Result<String, Uncopied> {
+    match format!(in alloc; "{path}-wal") {
+        Ok(log) => Ok(log),
+        Err(AllocError) => Err(Uncopied::NoMemory),
+    }
+}
+
 impl Machine<'_> {
     /// A connection to a file, which is made where it is not there. A crash is read without the
     /// hypothesis that a torn write leaves each octet old or new.
-    fn connected(&self, path: &str) -> Result<Connection<FileStore<FileFrom<Wary>>>, Unkept>
+    fn connected(&self, path: &str) -> Result<Connection<FileStore<FileFrom<Wary>>>, Error>
         ensures wary { IfOk result (λ c.
             ⟦<FileFrom<Wary> as Disk>⟧.is_mixing (files c.store).0 ≡ false) }
     {
         opened(self.rt, path, Wary)
+    }
+
+    /// The same, with why there is no store.
+    fn found(&self, path: &str) -> Result<Connection<FileStore<FileFrom<Wary>>>, Unkept> {
+        match self.connected(path) {
+            Ok(conn) => Ok(conn),
+            Err(error) => Err(unopened(&error)),
+        }
+    }
+
+    /// The same, for a copy, of which neither file is there.
+    fn made(
+        &self,
+        alloc: Global,
+        path: &str,
+    ) -> Result<Connection<FileStore<FileFrom<Wary>>>, Uncopied> {
+        self.is_free(path)?;
+        self.is_free(log_path(alloc, path)?.as_str())?;
+        match self.connected(path) {
+            Ok(conn) => Ok(conn),
+            Err(error) => Err(unwritten(&error)),
+        }
     }
 
     /// Whether there is a file, which a connection would make.
@@ -123,10 +244,21 @@ impl Machine<'_> {
         }
         Ok(())
     }
+
+    /// Whether nothing has a name. What has it is not opened: it may be a file of the store itself.
+    fn is_free(&self, path: &str) -> Result<(), Uncopied> {
+        match fs::symlink_metadata(self.rt, path) {
+            Ok(_) => Err(Uncopied::Taken),
+            Err(error) if error.kind() == io::ErrorKind::NotFound => Ok(()),
+            Err(error) if error.kind() == io::ErrorKind::OutOfMemory => Err(Uncopied::NoMemory),
+            Err(_) => Err(Uncopied::Failed),
+        }
+    }
 }
 
 impl Stores for Machine<'_> {
     ghost use Rattle.std.specs.Prelude.{None};
+    ghost use Rattle.dq_server.specs.Closing.{IsClosed};
 
     type Memory = PlainTables;
 
@@ -137,12 +269,14 @@ impl Stores for Machine<'_> {
 
     ghost migrated = { λ _ _. None };
 
+    ghost closed = { λ _ rows. IsClosed ⟦<FileFrom<Wary> as Disk>⟧ rows };
+
     fn memory(&self, alloc: Global) -> Result<Self::Memory, Unkept> {
         Ok(PlainTables::new(alloc))
     }
 
     fn new_store(&self, alloc: Global, path: &str) -> Result<Self::File, Unkept> {
-        match SqlTables::open_lent(alloc, self.connected(path)?) {
+        match SqlTables::open_lent(alloc, self.found(path)?) {
             Ok(tables) => Ok(tables),
             Err((fault, _)) => Err(unkept(fault)),
         }
@@ -156,11 +290,21 @@ impl Stores for Machine<'_> {
     fn migrate(&self, alloc: Global, from: &str, to: &str) -> Result<Self::File, Unkept> {
         // The old file is locked while the new one is opened, so that they cannot be one.
         self.is_there(from)?;
-        let mut old = self.connected(from)?;
-        match SqlTables::migrate_lent(alloc, &mut old, self.connected(to)?) {
+        let mut old = self.found(from)?;
+        match SqlTables::migrate_lent(alloc, &mut old, self.found(to)?) {
             Ok(tables) => Ok(tables),
             Err((fault, _)) => Err(unmigrated(fault)),
         }
+    }
+
+    fn backup(&self, alloc: Global, tables: &mut Self::File, path: &str) -> Result<(), Uncopied> {
+        let _files = copied_files(alloc, tables, self.made(alloc, path)?)?;
+        Ok(())
+    }
+
+    fn close(&self, tables: Self::File) -> Result<(), Unclosed> {
+        let _files = closed_files(tables)?;
+        Ok(())
     }
 
     ghost memory_is_honest = { λ _. tt };

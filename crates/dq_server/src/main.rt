@@ -1,19 +1,32 @@
 //! A DICOM server, over captures and over sockets: events in, the octets of its answers out.
 #![tactic(auto)]
 
+pub mod laws;
 mod machine;
 
-use dq_program::{perform, unworded};
+use dq_program::{Folder, Network, Sink, Source, Stores, perform, unworded};
 use machine::Machine;
 use std::env;
 use std::io::{self, BufWriter, Write};
 use std::process::ExitCode;
 
+/// Plays the program over whatever it runs on. It is a function of its own so that the check of `play`
+/// does not carry what `perform` says of the machine's two keepers of rows.
+fn performed<Rt: AllocGlobal + Folder + Stores + Network, R: Source, W: Sink, E: Sink>(
+    rt: &Rt,
+    words: &[String],
+    input: R,
+    output: &mut W,
+    errors: &mut E,
+) -> u8 {
+    perform(rt, words, input, output, errors)
+}
+
 fn play<E: Write>(rt: &HostRuntime, errors: &mut E) -> io::Result<u8> {
     let words: Vec<String> = env::args(rt)?.skip(1).collect(rt.alloc())?;
     let mut output = BufWriter::new(rt.alloc(), io::writer(rt))?;
     let machine = Machine { rt };
-    Ok(perform(&machine, words.as_slice(), rt.reader(), &mut output, errors))
+    Ok(performed(&machine, words.as_slice(), rt.reader(), &mut output, errors))
 }
 
 fn main(rt: HostRuntime) -> ExitCode {

@@ -11,10 +11,10 @@ is_search StudyRootFind = true
 is_search WorklistFind = true
 is_search _ = false
 
--- It has a line of its own: of messages only those of a C-FIND.
+-- It has a line of its own: of messages only those on a presentation context of a query.
 abbrev pub has_line : Noted → Bool
 has_line (Accepted institution titles contexts) = true
-has_line (Rejected titles result source reason) = true
+has_line (Rejected titles result source reason has_room) = true
 has_line (Aborted party source reason) = true
 has_line Released = false
 has_line Ended = false
@@ -23,7 +23,7 @@ has_line (Served service status answers sought) = is_search service
 -- It ends an association, if one is open.
 abbrev pub ends : Noted → Bool
 ends (Accepted institution titles contexts) = false
-ends (Rejected titles result source reason) = false
+ends (Rejected titles result source reason has_room) = false
 ends (Aborted party source reason) = true
 ends Released = true
 ends Ended = true
@@ -33,6 +33,6 @@ ends (Served service status answers sought) = false
 abbrev pub ended_by : Noted → Option Opened → Option Opened
 ended_by noted opened = if ends noted then opened else None
 
--- the one that is open then
+-- the association that is open after the note
 abbrev pub left_by : Noted → Option Opened → Option Opened
 left_by noted opened = if ends noted then None else opened

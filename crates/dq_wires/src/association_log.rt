@@ -24,8 +24,8 @@ use std::time::Clock;
 ///   (PS3.8 section 9.3.8), also where no association had been accepted;
 /// - `1 worklist query modality CT station CT1 day 20240705 keys 00100010,00400100 status 0000
 ///   answers 3 ms 2`, and the same with `study`: what a C-FIND asks for of the modality, the station
-///   and the day, the tags of all keys, the last status, how many answers were found, and how long
-///   the turn took in which they were;
+///   and the day, the tags of all keys, the status of the final response unless the search is
+///   cancelled, how many answers were found, and how long the turn took in which they were;
 /// - `1 ended released 3.250 s stores 2 searches 1 answers 3 steps 0 refused 1`: an accepted
 ///   association ended, also as `aborted`, or `lost` with its connection;
 /// - `4 given up 192.0.2.7:40112 artim`, and the same with `quiet`: the peer's address, and why;
@@ -39,12 +39,14 @@ use std::time::Clock;
 /// of ASCII, and `-` for an empty one. Nothing else is told of a data set: the notes of the server,
 /// from which the lines are, hold nothing else.
 ///
-/// A line that cannot be written is counted, and the next one that can says how many were lost.
+/// A line that cannot be written is counted, and the next one that can says how many were lost. It
+/// begins a line of its own where the one before was cut.
 #[derive(Drop)]
 pub struct AssociationLog<L> {
     alloc: Global,
     lines: L,
     lost: u64,
+    is_torn: bool,
     time: Timestamp,
     newest: u64,
     watched: Vec<Watched>,
@@ -57,6 +59,7 @@ impl<L: Write + Drop> AssociationLog<L> {
             alloc,
             lines,
             lost: 0,
+            is_torn: false,
             time: Timestamp::UNIX_EPOCH,
             newest: 0,
             watched: Vec::new(alloc),
@@ -177,11 +180,15 @@ impl<L: Write + Drop> AssociationLog<L> {
             number,
             told,
         };
-        let Ok(text) = format!(in self.alloc; "{line}\n") else {
+        let start = if self.is_torn { "\n" } else { "" };
+        let Ok(text) = format!(in self.alloc; "{start}{line}\n") else {
             return false;
         };
         match self.lines.write(text.as_bytes()) {
-            Ok(count) => count == text.len() && self.lines.flush().is_ok(),
+            Ok(count) => {
+                self.is_torn = count < text.len() && (count > 0 || self.is_torn);
+                count == text.len() && self.lines.flush().is_ok()
+            }
             Err(_) => false,
         }
     }

@@ -60,9 +60,15 @@ struct Pair(Titles);
 #[derive(Clone, Copy)]
 struct Keys<'a>(&'a [Tag]);
 
-/// A rejection: its three numbers, and in words what this server means by them.
+/// A rejection: its three numbers, and in words what this server means by them. One pair of them
+/// stands for titles that are nobody's, and for a maximum length without room for data.
 #[derive(Clone, Copy)]
-struct Rejection(u8, u8, u8);
+struct Rejection {
+    result: u8,
+    source: u8,
+    reason: u8,
+    has_room: bool,
+}
 
 impl fmt::Display for Word<'_> {
     fn fmt<W: fmt::Write>(&self, f: &mut fmt::Formatter<W>) -> fmt::Result {
@@ -114,9 +120,15 @@ impl fmt::Display for Keys<'_> {
 
 impl fmt::Display for Rejection {
     fn fmt<W: fmt::Write>(&self, f: &mut fmt::Formatter<W>) -> fmt::Result {
-        let Rejection(result, source, reason) = *self;
+        let Rejection {
+            result,
+            source,
+            reason,
+            has_room,
+        } = *self;
         let words = match (source, reason) {
-            (1, 1) => "no institution has these titles, or a maximum length below 8",
+            (1, 1) if !has_room => "a maximum length below 8",
+            (1, 1) => "no institution has these titles",
             (1, 2) => "another application context than DICOM's",
             (2, 2) => "another protocol version",
             (3, 2) => "the institution has as many associations as it may",
@@ -158,7 +170,7 @@ fn word_of(value: &Listed<u8>) -> Word<'_> {
 /// Writes what a C-FIND asks for, if it could be read.
 fn write_sought<W: fmt::Write>(f: &mut fmt::Formatter<W>, sought: Option<&Sought>) -> fmt::Result {
     let Some(sought) = sought else {
-        return f.write_str("unreadable");
+        return f.write_str("unread");
     };
     write!(
         f,
@@ -200,8 +212,14 @@ fn write_noted<W: fmt::Write>(
             result,
             source,
             reason,
+            has_room,
         } => {
-            let rejection = Rejection(*result, *source, *reason);
+            let rejection = Rejection {
+                result: *result,
+                source: *source,
+                reason: *reason,
+                has_room: *has_room,
+            };
             write!(f, "rejected {} {peer} {rejection}", Pair(*titles))
         }
         Noted::Aborted {

@@ -1,5 +1,5 @@
 //! The server over wires.
-ghost use Rattle.std.specs.Prelude.{◌≡◌, [], length, IsTrue, None, Some, Err, IfOk, IfErr, IfSome, OnOk};
+ghost use Rattle.std.specs.Prelude.{◌≡◌, [], length, IsTrue, None, Some, Err, IfOk, IfErr, IfSome, OnOk, OnErr};
 ghost use Rattle.dq_core.specs.Histories.{is_above};
 ghost use Rattle.dq_core.specs.Looking.{Looked, FailsToLook};
 ghost use Rattle.dq_tables.specs.Finding.{rows_of};
@@ -12,7 +12,7 @@ use crate::rounds::turn_times;
 use crate::stepping::step_order;
 use crate::wire::Wire;
 use crate::wires::Wires;
-use dq_core::{Event, Fault, Notes, Reply, Server};
+use dq_core::{Event, Fault, Look, Notes, Reply, Server};
 use dq_tables::{Kind, Tables};
 use std::alloc::Global;
 use std::marker::Model;
@@ -82,6 +82,21 @@ impl<T: Tables> Turner<T> {
         self.server.take_notes()
     }
 
+    /// The server, when no more turns are made.
+    pub fn into_server(self) -> Server<T>
+        ensures { result ≡ self.server }
+    {
+        let Turner {
+            alloc: _,
+            server,
+            held: _,
+            newest: _,
+            buffer: _,
+            fault: _,
+        } = self;
+        server
+    }
+
     /// Whether octets were answered that are not yet written.
     pub(crate) fn is_sending(&self) -> bool {
         self.held.iter().any(|wire| wire.is_sending())
@@ -139,6 +154,19 @@ impl<T: Tables> Turner<T> {
                 Err(fault)
             }
         }
+    }
+
+    /// Looks at what keeps the rows. It is no event, and changes nothing.
+    pub fn look<L: Look<T>>(&mut self, look: &L) -> Result<L::Seen, Fault>
+        ensures shows { (T.state self.new.server.tables).honest → IfOk result (λ seen.
+            L.shows look.now (T.state self.old.server.tables).rows seen) }
+        ensures looked { OnOk result (Looked T.state self.old.server self.new.server) }
+        ensures stopped { IfErr result (λ fault. fault ≡ Fault.Stopped) }
+        ensures unchanged { OnErr result (self.new ≡ self.old) }
+        ensures hold { self.new.hold ≡ self.old.hold }
+        ensures fault { self.new.fault ≡ self.old.fault }
+    {
+        self.server.look(look)
     }
 }
 

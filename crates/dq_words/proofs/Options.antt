@@ -9,6 +9,7 @@ use Rattle.clap.specs.declared.builder.command.Command.TheViews.{out-Command as 
 use Rattle.clap.specs.declared.builder.command.Command.TheOpen.{Command-F}
 use Rattle.clap.specs.Simple.{app_of_fields}
 use Rattle.clap.specs.Words.{Rule, app_of, rule_of}
+use Rattle.dq_words.specs.Clap.{with_version}
 
 -- its rule, and that it is still asked for in its own command alone
 pub record IsOption (a b : Arg) (rule : Rule) : Type 0 where
@@ -43,3 +44,11 @@ about a b text is = record { app_is = ap app_of_fields is; globals_are = ap glob
 
 pub after_help : (a b : Command) (text : Bor (List ℕ)) → fields_of b ≡ record (fields_of a) { after_help = Some text } → IsToldOf a b
 after_help a b text is = record { app_is = ap app_of_fields is; globals_are = ap globals is }
+
+-- a command, once its version is said
+pub record IsVersionOf (a b : Command) : Type 0 where
+  pub app_is : app_of b ≡ with_version (app_of a)
+  pub globals_are : (fields_of b).has_globals ≡ (fields_of a).has_globals
+
+pub version : (a b : Command) (text : Bor (List ℕ)) → fields_of b ≡ record (fields_of a) { version = Some text } → IsVersionOf a b
+version a b text is = record { app_is = ap app_of_fields is; globals_are = ap globals is }

@@ -53,10 +53,17 @@ migrate_app = with_rule
     (with_rule (new_app (codes "migrate")) (required_rule (codes "from")))
     (required_rule (codes "to"))
 
+-- a command that tells its version when it is asked for it
+abbrev pub with_version : App → App
+with_version app = record app { top = record app.top { has_version = true } }
+
+abbrev pub program_app : App
+program_app = with_version (new_app (codes "dq_server"))
+
 -- the program, with its tasks over a capture
 abbrev pub tasks_app : App
 tasks_app = with_subcommand
-    (with_subcommand (new_app (codes "dq_server")) (task_app (codes "replay")).top)
+    (with_subcommand program_app (task_app (codes "replay")).top)
     (task_app (codes "report")).top
 
 abbrev pub command : App

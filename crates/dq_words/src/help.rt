@@ -21,13 +21,14 @@ pub(crate) const STATUSES: &str = "\
 Exit status, and what is told on standard error (serve has no capture, loopback no store, and
 migrate neither a capture nor a configuration):
   0                   all was done
-  1                   the words are not understood, or help is asked for
+  1                   the words are not understood, or help or the version is asked for
   2  config 0         the configuration cannot be read, or is no text
   2  config 1 to 6    bad syntax, bad name, bad title, name taken, route taken, bad limit
   3  capture line N   line N is none of a capture; 0: it cannot be read, is too long, or no text
   4  store 2          the store failed, is not a store of rows, or is to be new and is not
   4  store 3          the store is of another version; that of migrate --from is not of version 1
   4  store 4          a row of it is not that of its record, or the row above it is missing
+  4  store 5          all was done, but the log could not be copied into the database file
   4  fault 1, 2       memory ran out, the store failed
   4                   the output cannot be written
   5  network          no connections can come in, or the console or the log file cannot be had";

@@ -15,6 +15,9 @@ use std::convert::AsStr;
 
 const PROGRAM_NAME: &str = "dq_server";
 
+/// The version of the program, with which CHANGELOG.md begins.
+const VERSION: &str = "0.1.0";
+
 /// What is said of the option that names the configuration.
 const CONFIGURATION: &str = "The configuration [default: the one that is built in]";
 
@@ -55,12 +58,12 @@ pub struct Asked<'a> {
     pub keeper: Keeper<'a>,
 }
 
-/// How is served: the port and the address where connections come in; for how many seconds ARTIM
-/// runs (PS3.8 section 9.1.5), 0 for ever; after how many seconds of silence a connection counts as
-/// ended, if it does; how many may come of one address, 0 any number; whether what becomes of them is
-/// logged, and the file of the log if one is named; the path of the console, if there is one; after
-/// how many turns the service ends, if it ends; the configuration's file if one is named, and where
-/// the rows are kept.
+/// What `serve` is asked for: the port and the address where connections come in; for how many
+/// seconds ARTIM runs (PS3.8 section 9.1.5), 0 for ever; after how many seconds of silence a
+/// connection counts as ended, if it does; how many may come of one address, 0 any number; whether
+/// what becomes of them is logged, and the file of the log if one is named; the path of the console,
+/// if there is one; after how many turns the service ends, if it ends; the configuration's file if
+/// one is named, and where the rows are kept.
 #[derive(Clone, Copy)]
 pub struct Service<'a> {
     pub port: u16,
@@ -256,7 +259,7 @@ fn asked_in<'a>(matches: &ArgMatches<'a>) -> Result<Asked<'a>, Misuse>
     })
 }
 
-/// How is served.
+/// What the options of `serve` ask for.
 fn service_in<'a>(matches: &ArgMatches<'a>) -> Result<Service<'a>, Misuse>
     ensures { option_map serving_in (result_ok result)
         ≡ serving_of (subcommand_rows_of matches.now) }
@@ -425,7 +428,7 @@ fn serve_command<'a>(alloc: Global) -> Result<Command<'a>, AllocError>
         alloc,
         "log-file",
         "FILE",
-        "Tells it at the end of a file, in place of standard error",
+        "Appends these lines to a file, in place of standard error",
     );
     let filed = ordered.arg(log_file)?;
     let log = Arg::new(alloc, "log")
@@ -487,7 +490,8 @@ fn tasks_command<'a>(alloc: Global) -> Result<Command<'a>, AllocError>
         "Replays a capture from standard input (the default)",
     )?;
     let replaying = Command::new(alloc, PROGRAM_NAME)
-        .about("A DICOM server")
+        .about("A DICOM server for metadata, of several hospitals")
+        .version(VERSION)
         .after_help(CAPTURES)
         .subcommand(replay)?;
     let report = task_command(

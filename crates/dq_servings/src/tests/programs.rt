@@ -1,6 +1,6 @@
-//! The program over a writer that takes few octets and fails, and a reader that is interrupted. Its
-//! words, files and sockets are for the suites.
-use dq_program::{Host, Stores, Unkept, perform};
+//! The program over a writer that takes few octets and fails, a reader that is interrupted, and a store
+//! that is not closed. Its words, files and sockets are for the suites.
+use dq_program::{Host, Stores, Unclosed, Uncopied, Unkept, perform};
 use dq_tables::PlainTables;
 use std::alloc::Global;
 use std::io::{self, Read, Write};
@@ -78,7 +78,7 @@ impl Host for Bench<'_> {
     }
 }
 
-// Tests keep rows in memory alone.
+// Tests keep rows in memory alone, also those of a new store, which they do not close.
 impl Stores for Bench<'_> {
     ghost use Rattle.std.specs.Prelude.{None};
 
@@ -90,12 +90,14 @@ impl Stores for Bench<'_> {
 
     ghost migrated = { λ _ _. None };
 
+    ghost closed = { λ _ _. Unit {0} };
+
     fn memory(&self, alloc: Global) -> Result<PlainTables, Unkept> {
         Ok(PlainTables::new(alloc))
     }
 
-    fn new_store(&self, _alloc: Global, _path: &str) -> Result<PlainTables, Unkept> {
-        Err(Unkept::Store(2))
+    fn new_store(&self, alloc: Global, _path: &str) -> Result<PlainTables, Unkept> {
+        Ok(PlainTables::new(alloc))
     }
 
     fn store(&self, _alloc: Global, _path: &str) -> Result<PlainTables, Unkept> {
@@ -106,9 +108,41 @@ impl Stores for Bench<'_> {
         Err(Unkept::Store(2))
     }
 
+    fn backup(
+        &self,
+        _alloc: Global,
+        _tables: &mut PlainTables,
+        _path: &str,
+    ) -> Result<(), Uncopied> {
+        Err(Uncopied::Failed)
+    }
+
+    fn close(&self, _tables: PlainTables) -> Result<(), Unclosed> {
+        Err(Unclosed)
+    }
+
     ghost memory_is_honest = { λ _. tt };
 
     ghost known_is_honest = { λ _ _ _ known. cc };
+}
+
+#[test]
+fn tells_of_a_store_that_is_not_closed(rt: HostRuntime) -> Result<(), Fail> {
+    let mut output = Narrow {
+        room: 100,
+        taken: Vec::new(rt.alloc()),
+    };
+    let mut errors = Vec::new(rt.alloc());
+    let input = Halting {
+        rest: UNKNOWN_UNIT.as_bytes(),
+        interrupted: false,
+    };
+    let words = ["replay", "--new", "rows.db"];
+    let status = perform(&Bench { rt: &rt }, &words, input, &mut output, &mut errors);
+    assert_eq!(rt; status, 4);
+    assert_eq!(rt; output.taken.as_slice(), UNKNOWN_UNIT_REPLIES.as_bytes());
+    assert_eq!(rt; errors.as_slice(), b"store 5\n".as_slice());
+    Ok(())
 }
 
 #[test]

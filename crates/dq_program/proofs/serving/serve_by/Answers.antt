@@ -1,23 +1,46 @@
-use Rattle.std.proofs.Common.{◌≡◌, [], ap}
+use Rattle.std.proofs.Common.{◌≡◌, [], Some, None, ap}
 use Rattle.dq_core.specs.Standing.{Standing, StandsFor}
 use Rattle.dq_wires.specs.Servings.{Serving}
-use Rattle.dq_program.proofs.Serviced.{ok-then, service-of}
+use Rattle.dq_program.proofs.Serviced.{service-of}
 use Rattle.dq_program.proofs.serving.serve_by.Goals as goal
 
-pub returns-clause-served : goal.returns-clause-served
-returns-clause-served g c = λ honest.
+pub returns-in_ok-serve_alone-in-None-clause-served : goal.returns-in_ok-serve_alone-in-None-clause-served
+returns-in_ok-serve_alone-in-None-clause-served g c = λ honest.
     let rows = (g.T.Tables.state c.args.server.tables).rows in
     let turner = c.new-turner.result in
-    let log = g.N.Wired.Wires.log c.in_ok-reception.reception.wires in
     let start = c.new-turner.ensures.server in
+    let wires = c.in_ok-wires.wires in
+    let log = g.N.Wired.Wires.log wires in
     let stands : StandsFor g.T.Tables.state rows turner.server [] = rw start c.requires.begins in
     let begun : Serving g.T.Tables.state rows log log turner.server turner.server turner.hold [] =
     rw c.new-turner.ensures.hold (c.calls_are_a_serving.ensures.begins rows log turner.server stands) in
     let same : turner.server.institutions ≡ c.args.server.institutions = ap (λ (s : Standing g.row.T.Denot). s.institutions) start in
-    ok-then c.turn_on.result (λ went. (
-      c.in_ok-reception.reception.wires,
-      c.turn_on.new.reception.wires,
-      c.in_ok-reception.ensures.uncalled,
-      service-of g.T.Tables.state rows c.args.server.institutions c.calls_are_a_serving.ensures.whole c.servings_are_answered.ensures.replies
-          begun (honest _) same c.of.ensures (λ none. went.2 (c.in_ok-reception.ensures.console none)) went.1,
-    )) c.turn_on.ensures.went
+    let went = c.in_ok-serve_alone-in-None.ensures.went in
+    rw c.in-None.is
+    (service-of g.T.Tables.state rows g.N.Wired.Wires.log wires c.serve_alone.new.wires None c.args.server.institutions went.rounds
+    c.calls_are_a_serving.ensures.whole c.servings_are_answered.ensures.replies begun (honest _) same c.of-pace.ensures
+    c.in_ok-wires.ensures.uncalled went.counted went.so went.went)
+
+pub returns-in_ok-serve_beside-in-Some-clause-served : goal.returns-in_ok-serve_beside-in-Some-clause-served
+returns-in_ok-serve_beside-in-Some-clause-served g c = λ honest.
+    let rows = (g.T.Tables.state c.args.server.tables).rows in
+    let turner = c.new-turner-in-Some.result in
+    let start = c.new-turner-in-Some.ensures.server in
+    let wires = c.desk_beside.new.wires in
+    let log = g.N.Wired.Wires.log wires in
+    let stands : StandsFor g.T.Tables.state rows turner.server [] = rw start c.requires.begins in
+    let begun : Serving g.T.Tables.state rows log log turner.server turner.server turner.hold [] =
+    rw c.new-turner-in-Some.ensures.hold (c.calls_are_a_serving.ensures.begins rows log turner.server stands) in
+    let same : turner.server.institutions ≡ c.args.server.institutions = ap (λ (s : Standing g.row.T.Denot). s.institutions) start in
+    let went = c.in_ok-serve_beside-in-Some.ensures.went in
+    let desk = c.in_ok-desk-in-Some.ensures in
+    rw c.in-Some.is
+    (service-of g.T.Tables.state rows g.N.Wired.Wires.log wires c.serve_beside.new.reception.wires (Some _) c.args.server.institutions
+    went.rounds c.calls_are_a_serving.ensures.whole c.servings_are_answered.ensures.replies begun (honest _) same c.of-pace.ensures
+    (rw c.desk_beside.ensures.same c.in_ok-wires.ensures.uncalled) went.counted (
+      c.in_ok-desk-in-Some.desk.clerk.wires,
+      c.serve_beside.new.reception.desk.clerk.wires,
+      desk.uncalled,
+      rw desk.callers at went.so.are,
+      went.so.calls,
+    ) went.went)

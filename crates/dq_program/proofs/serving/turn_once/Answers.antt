@@ -1,17 +1,18 @@
-use Rattle.std.proofs.Common.{[], refl}
-use Rattle.dq_program.proofs.Serviced.{went-by-turns, went-then}
-use Rattle.dq_program.proofs.serving.turn_once.Goals.{in-None, in-Some+in_ok-turn-in-Some}
+use Rattle.dq_program.proofs.Rounded.{plain-rounds, cut-turn, cut-after, at-error}
 use Rattle.dq_program.proofs.serving.turn_once.Goals as goal
 
 pub returns-clause-went : goal.returns-clause-went
 returns-clause-went g c =
-    let turned = went-by-turns g.T.Tables.state {new = c.turn_told.new.turner} c.calls_are_a_serving.ensures.turns
-    c.in_ok-turn_told.ensures.went c.in_ok-turn_told.ensures.fault in
-    elim c.match-reception.branch [
-      | in-None w ↦ rw (w.turner-is, w.reception-is, w.rest-rested.ensures) ([], turned, λ none. refl)
-      | in-Some+in_ok-turn-in-Some w ↦ rw (w.turner-is, w.reception-is, w.rest_with-rested.ensures, w.note.ensures) (
-        w.in_ok-turn-in-Some.ensures.went.0,
-        went-then g.T.Tables.state turned (w.in_ok-turn-in-Some.ensures.went.1 (g.N.Wired.Wires.log c.turn_told.new.wires)),
-        λ none. let is = w.in-Some.is in absurd (cc),
-      )
-    ]
+    rw c.rest.ensures (plain-rounds g.T.Tables.state {new = c.turn_told.new.turner} c.calls_are_a_serving.ensures.turns
+    c.in_ok-turn_told.ensures.went c.in_ok-turn_told.ensures.fault)
+
+pub returns-in_err-turn_told-clause-cut : goal.returns-in_err-turn_told-clause-cut
+returns-in_err-turn_told-clause-cut g c =
+    at-error c.from_residual.result (cut-turn g.T.Tables.state c.turn_told.new.turner c.calls_are_a_serving.ensures.cut
+    c.in_err-turn_told.ensures.cut)
+
+pub returns-then-is_err-clause-cut : goal.returns-then-is_err-clause-cut
+returns-then-is_err-clause-cut g c =
+    rw c.rest.ensures (cut-after g.T.Tables.state c.calls_are_a_serving.ensures.whole
+    (plain-rounds g.T.Tables.state {new = c.turn_told.new.turner} c.calls_are_a_serving.ensures.turns
+    c.in_ok-turn_told.ensures.went c.in_ok-turn_told.ensures.fault))

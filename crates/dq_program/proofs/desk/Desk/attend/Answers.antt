@@ -1,18 +1,24 @@
-use Rattle.std.proofs.Common.{[]}
-use Rattle.dq_program.proofs.Serviced.{went-nowhere, went-by-answer}
+use Rattle.std.proofs.Common.{◌<◌, length, arith}
+use Rattle.dq_program.proofs.Visiting.{visits-begin, visits-end, visits-kept, visits-gone}
 use Rattle.dq_program.proofs.desk.Desk.attend.Goals as goal
 
-pub returns-in_default-clause-went : goal.returns-in_default-clause-went
-returns-in_default-clause-went g c = ([], λ log. went-nowhere g.T.Tables.state log _)
+pub loop-at-init : goal.loop-at-init
+loop-at-init g c = record { so = visits-begin g.T.Tables.state _ _ _ }
 
-pub returns-in-Held-clause-went : goal.returns-in-Held-clause-went
-returns-in-Held-clause-went g c = ([], λ log. went-nowhere g.T.Tables.state log _)
+pub loop-at-preserved : goal.loop-at-preserved
+loop-at-preserved g c =
+    let within : c.loop-at.at < length c.loop-at.self.callers.items = omega (arith, c.loop-at.self.callers.ok.0) in
+    record {
+      so = rw c.remove.ensures.items
+          (visits-gone g.T.Tables.state c.loop-at.invariant.so within _ c.index_mut.ensures.value c.if-branch.false c.in_ok-visit.ensures.went);
+    }
 
-pub returns-in-Left-clause-went : goal.returns-in-Left-clause-went
-returns-in-Left-clause-went g c = ([], λ log. went-nowhere g.T.Tables.state log _)
+pub loop-at-preserved-then-branch : goal.loop-at-preserved-then-branch
+loop-at-preserved-then-branch g c =
+    let within : c.loop-at.at < length c.loop-at.self.callers.items = omega (arith, c.loop-at.self.callers.ok.0) in
+    record {
+      so = visits-kept g.T.Tables.state c.loop-at.invariant.so within _ c.index_mut.ensures.value c.if-branch.true c.in_ok-visit.ensures.went;
+    }
 
-pub returns-in_ok-answer-in-Line-clause-went : goal.returns-in_ok-answer-in-Line-clause-went
-returns-in_ok-answer-in-Line-clause-went g c =
-    let answered = c.in_ok-answer-in-Line.ensures in
-    went-by-answer g.T.Tables.state answered.hold answered.fault _ _ c.calls_are_a_serving.ensures.order c.calls_are_a_serving.ensures.look
-    c.in_ok-line-in-Line.line c.in_ok-line-in-Line.ensures.orders answered.answered
+pub returns-clause-went : goal.returns-clause-went
+returns-clause-went g c = visits-end g.T.Tables.state c.loop-at.invariant.so (omega (arith, c.loop-at.self.callers.ok.0))

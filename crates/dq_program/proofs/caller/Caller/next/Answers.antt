@@ -1,0 +1,19 @@
+use Rattle.std.proofs.Common.{◌≡◌, false, refl, sym, ap, ◌∙◌}
+use Rattle.dq_program.specs.Console.{Calling}
+use Rattle.dq_program.specs.Console.Heed.{Offered}
+use Rattle.dq_program.proofs.Heeding.{comes, reads}
+use Rattle.dq_program.proofs.caller.Caller.next.Goals as goal
+
+pub returns-then-is_sending : goal.returns-then-is_sending
+returns-then-is_sending g c =
+    let sent = c.send.ensures in
+    comes c.send.result c.of.result c.of.ensures
+    record { heed = Offered sent.0; is = c.if-is_sending.ensures; quiet = refl; calls = sent.1; leaves = sent.2 }
+
+pub returns-in-Ok-None : goal.returns-in-Ok-None
+returns-in-Ok-None g c =
+    let none = rw c.in-Ok-None.field-0-is at c.in-Ok-None.ensures in
+    let got = rw none.1 at c.receive.ensures in
+    let over : c.args.self.now.is_over ≡ false = ap (λ (v : Calling). v.is_over) (sym c.self.view_is) ∙ c.if-self.false in
+    comes c.receive.result c.of-in-Ok-None.result c.of-in-Ok-None.ensures
+    (reads _ c.receive.result (c.if-is_sending.ensures, over) none.0 got)

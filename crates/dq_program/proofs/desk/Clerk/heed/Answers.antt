@@ -1,0 +1,10 @@
+use Rattle.std.proofs.Common.{ap, ◌∙◌}
+use Rattle.dq_program.proofs.Visiting.{heeded-line}
+use Rattle.dq_program.proofs.desk.Clerk.heed.Goals as goal
+
+pub returns-else-not-branch-clause-went : goal.returns-else-not-branch-clause-went
+returns-else-not-branch-clause-went g c =
+    let next = c.in-Line.ensures in
+    heeded-line g.T.Tables.state {new = c.obey.new.turner} {next = c.send.new.self} next.0 next.1 next.2 next.3
+    (ap g.W.Wires.log c.obey.ensures.wires ∙ next.4)
+    (rw (c.if-not-branch.false, c.as_slice.ensures.value) at c.in_ok-obey-in-Line.ensures.does) c.send.ensures

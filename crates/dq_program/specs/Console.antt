@@ -1,0 +1,286 @@
+-- What is done for those who call the console, told by the calls of its wires.
+use Rattle.std.specs.Prelude.{◌≡◌, ◌≢◌, ◌⊎◌, ◌<◌, ◌≤◌, ◌+◌, ◌^◌, ◌==◌, ℕ, Bool, true, false, nat_lt, if◌then◌else◌, List, [], ◌∷◌, ◌++◌, length, take, drop, map, codes, Option, Some, None, Result, Ok, Err}
+use Rattle.std.specs.List.{flat_map, position_or_len}
+use Rattle.dq_core.specs.declared.event.Event.{Event}
+use Rattle.dq_core.specs.declared.event.Reply.{Reply}
+use Rattle.dq_wires.specs.declared.calls.WireFault.{WireFault}
+use Rattle.dq_wires.specs.declared.calls.Came.{Came}
+use Rattle.dq_wires.specs.declared.calls.Came.TheVariants as what
+use Rattle.dq_wires.specs.declared.calls.Call.{Call}
+use Rattle.dq_wires.specs.declared.calls.Call.TheVariants.{Accept, Read, Write, Shut}
+use Rattle.dq_wires.specs.Deeds.{Shutting}
+use Rattle.dq_wires.specs.Servings.{Act}
+use Rattle.dq_wires.specs.Servings.Act.{Ordered}
+use Rattle.dq_wires.specs.Turners.{IsOrder}
+use Rattle.dq_wires.specs.Turns.{refused}
+use Rattle.dq_captures.specs.Captures.{line_feed}
+use Rattle.dq_captures.specs.Printing.{printed_line}
+use Rattle.dq_program.specs.declared.desk.Line.TheVariants as line
+use Rattle.dq_program.specs.declared.stores.Uncopied.{Uncopied}
+use Rattle.dq_program.specs.Backups.{backup_text}
+use Rattle.dq_program.specs.Desk.{Tells, bad_line}
+
+-- A caller: its place among the wires, the octets that came and are not taken, those of its answer
+-- that are not written, and whether nothing more is taken of it.
+pub record Calling : Type 0 where
+  pub place : ℕ
+  pub came : List ℕ
+  pub unsent : List ℕ
+  pub is_over : Bool
+
+-- as it comes
+abbrev pub new_calling : ℕ → Calling
+new_calling place = record { place = place; came = []; unsent = []; is_over = false }
+
+-- ---- lines
+
+-- The most octets of a line: those of an entry of 2 ^ 20 octets in hexadecimal, and of the words
+-- before them.
+abbrev pub line_most : ℕ
+line_most = 2 ^ 21 + 256
+
+abbrev pub is_line_end : ℕ → Bool
+is_line_end octet = octet == line_feed
+
+-- where the first line ends; the length, where none is whole
+abbrev pub line_end : List ℕ → ℕ
+line_end octets = position_or_len is_line_end octets
+
+-- The first line is whole, or longer than a line may be.
+abbrev pub HasLine : List ℕ → Type 0
+HasLine octets = (line_end octets < length octets) ⊎ (line_most < length octets)
+
+-- It is neither.
+abbrev pub HasNone : List ℕ → Type 0
+HasNone octets = (line_end octets ≡ length octets) × (length octets ≤ line_most)
+
+-- The line that ends there. One that is too long is taken as an empty one, which tells nothing.
+abbrev pub line_to : ℕ → List ℕ → List ℕ
+line_to end octets = if nat_lt line_most end then [] else take end octets
+
+abbrev pub first_line : List ℕ → List ℕ
+first_line octets = line_to (line_end octets) octets
+
+-- what came after it
+abbrev pub other_lines : List ℕ → List ℕ
+other_lines octets = drop (line_end octets + 1) octets
+
+-- ---- answers
+
+-- What was done at a line: an order was stepped, with this reply; a report was answered; a copy of
+-- all rows was made or refused; or nothing.
+pub data Answer : Type 0 where
+  Obeyed : Event → Reply → Answer
+  Reported : List ℕ → Answer
+  BackedUp : Result (Unit {0}) Uncopied → Answer
+  Unread : Answer
+
+-- which lines it is for
+abbrev pub IsAnswer : List ℕ → Answer → Type 0
+IsAnswer text (Obeyed event reply) = Tells text (line.Order event) × IsOrder event
+IsAnswer text (Reported report) = Tells text line.Report
+IsAnswer text (BackedUp made) = (path : List ℕ) × (text ≡ codes "backup " ++ path)
+IsAnswer text Unread = Tells text line.Bad
+
+-- An order is answered by the line of its reply, as in a replay.
+abbrev pub answer_text : Answer → List ℕ
+answer_text (Obeyed event reply) = printed_line reply
+answer_text (Reported report) = report
+answer_text (BackedUp made) = backup_text made
+answer_text Unread = bad_line
+
+abbrev pub answer_acts : Answer → List Act
+answer_acts (Obeyed event reply) = Ordered event reply ∷ []
+answer_acts (Reported report) = []
+answer_acts (BackedUp made) = []
+answer_acts Unread = []
+
+abbrev pub is_unread : Answer → Bool
+is_unread (Obeyed event reply) = false
+is_unread (Reported report) = false
+is_unread (BackedUp made) = false
+is_unread Unread = true
+
+-- ---- the turn of a caller
+
+-- What is done for a caller in its turn.
+pub data Heed : Type 0 where
+  -- what was not written of its answer was offered
+  Offered : Result ℕ WireFault → Heed
+  -- all was written, and nothing more is taken
+  Closed : Heed
+  -- from it was read, so many octets at most, and what came is kept
+  Heard : ℕ → Came → Heed
+  -- from it was read; it sends no more, or there is no memory for what came
+  Lost : ℕ → Came → Heed
+  -- there is no memory for its next line
+  Forgotten : Heed
+  -- its next line was taken, and this answer offered
+  Took : Answer → Result ℕ WireFault → Heed
+
+-- all was written, and more may be taken
+abbrev pub IsListening : Calling → Type 0
+IsListening caller = (caller.unsent ≡ []) × (caller.is_over ≡ false)
+
+-- more may come
+abbrev pub IsThere : Came → Type 0
+IsThere (what.Octets octets) = Unit {0}
+IsThere what.Nothing = Unit {0}
+IsThere what.Ended = ⊥
+IsThere what.Failed = ⊥
+
+-- Which caller it is for: what is not written goes first, then a line is taken, and else is read.
+abbrev pub IsHeed : Calling → Heed → Type 0
+IsHeed caller (Offered taken) = caller.unsent ≢ []
+IsHeed caller Closed = (caller.unsent ≡ []) × (caller.is_over ≡ true)
+IsHeed caller (Heard room came) = IsListening caller × HasNone caller.came × IsThere came
+IsHeed caller (Lost room came) =
+    IsListening caller × HasNone caller.came × (came ≢ what.Nothing)
+IsHeed caller Forgotten = IsListening caller
+IsHeed caller (Took answer taken) = IsListening caller × HasLine caller.came
+    × IsAnswer (first_line caller.came) answer
+
+abbrev pub heed_calls : Calling → Heed → List Call
+heed_calls caller (Offered taken) = Write caller.place caller.unsent taken ∷ []
+heed_calls caller Closed = []
+heed_calls caller (Heard room came) = Read caller.place room came ∷ []
+heed_calls caller (Lost room came) = Read caller.place room came ∷ []
+heed_calls caller Forgotten = []
+heed_calls caller (Took answer taken) = Write caller.place (answer_text answer) taken ∷ []
+
+abbrev pub heed_acts : Heed → List Act
+heed_acts (Offered taken) = []
+heed_acts Closed = []
+heed_acts (Heard room came) = []
+heed_acts (Lost room came) = []
+heed_acts Forgotten = []
+heed_acts (Took answer taken) = answer_acts answer
+
+abbrev pub without_line : Calling → Calling
+without_line caller = record caller { came = other_lines caller.came }
+
+-- The answer is to be written. The first line that tells nothing is the last that is taken.
+abbrev pub answered : Calling → List ℕ → Bool → Calling
+answered caller text is_over = record caller { unsent = text; is_over = is_over }
+
+abbrev pub with_octets : Calling → Came → Calling
+with_octets caller (what.Octets octets) = record caller { came = caller.came ++ octets }
+with_octets caller what.Nothing = caller
+with_octets caller what.Ended = caller
+with_octets caller what.Failed = caller
+
+-- the caller after a write, if it is still there: the first of what was offered is written
+abbrev pub after_write : Calling → Result ℕ WireFault → List Calling
+after_write caller (Ok count) = record caller { unsent = drop count caller.unsent } ∷ []
+after_write caller (Err fault) = []
+
+-- the caller afterwards, if it is still there
+abbrev pub after_heed : Calling → Heed → List Calling
+after_heed caller (Offered taken) = after_write caller taken
+after_heed caller Closed = []
+after_heed caller (Heard room came) = with_octets caller came ∷ []
+after_heed caller (Lost room came) = []
+after_heed caller Forgotten = []
+after_heed caller (Took answer taken) =
+    after_write (answered (without_line caller) (answer_text answer) (is_unread answer)) taken
+
+-- ---- a turn of the console
+
+-- A caller as its turn came, what was done, and what the shut was answered if it was let go.
+pub record Visit : Type 0 where
+  pub caller : Calling
+  pub heed : Heed
+  pub shut : Option Shutting
+
+abbrev pub caller_of : Visit → Calling
+caller_of visit = visit.caller
+
+abbrev pub kept_of : Visit → List Calling
+kept_of visit = after_heed visit.caller visit.heed
+
+abbrev pub visit_acts : Visit → List Act
+visit_acts visit = heed_acts visit.heed
+
+abbrev pub shut_calls : Calling → Option Shutting → List Call
+shut_calls caller None = []
+shut_calls caller (Some answer) = Shut caller.place answer ∷ []
+
+abbrev pub visit_calls : Visit → List Call
+visit_calls visit = heed_calls visit.caller visit.heed ++ shut_calls visit.caller visit.shut
+
+-- Who is still there is not shut, and who is gone is.
+abbrev pub IsShut : List Calling → Option Shutting → Type 0
+IsShut [] None = ⊥
+IsShut [] (Some answer) = Unit {0}
+IsShut (caller ∷ callers) None = Unit {0}
+IsShut (caller ∷ callers) (Some answer) = ⊥
+
+abbrev pub IsVisit : Visit → Type 0
+IsVisit visit = IsHeed visit.caller visit.heed × IsShut (kept_of visit) visit.shut
+
+abbrev pub AreVisits : List Visit → Type 0
+AreVisits [] = Unit {0}
+AreVisits (visit ∷ visits) = IsVisit visit × AreVisits visits
+
+-- the most callers at a time
+abbrev pub most_callers : ℕ
+most_callers = 8
+
+-- How a turn begins.
+pub data Letting : Type 0 where
+  -- there is no room for one more
+  Full : Letting
+  -- none came
+  Nobody : Letting
+  -- none can be accepted
+  Unaccepted : Letting
+  -- one came at this place
+  LetIn : ℕ → Letting
+  -- one came at this place, and there is no memory for it
+  TurnedAway : ℕ → Shutting → Letting
+
+abbrev pub HasRoom : List Calling → Type 0
+HasRoom callers = length callers < most_callers
+
+abbrev pub IsLetting : List Calling → Letting → Type 0
+IsLetting callers Full = most_callers ≤ length callers
+IsLetting callers Nobody = HasRoom callers
+IsLetting callers Unaccepted = HasRoom callers
+IsLetting callers (LetIn place) = HasRoom callers
+IsLetting callers (TurnedAway place answer) = HasRoom callers
+
+abbrev pub letting_calls : Letting → List Call
+letting_calls Full = []
+letting_calls Nobody = Accept (Ok None) ∷ []
+letting_calls Unaccepted = Accept refused ∷ []
+letting_calls (LetIn place) = Accept (Ok (Some place)) ∷ []
+letting_calls (TurnedAway place answer) = Accept (Ok (Some place)) ∷ Shut place answer ∷ []
+
+-- the new caller is the last
+abbrev pub with_let_in : List Calling → Letting → List Calling
+with_let_in callers Full = callers
+with_let_in callers Nobody = callers
+with_let_in callers Unaccepted = callers
+with_let_in callers (LetIn place) = callers ++ new_calling place ∷ []
+with_let_in callers (TurnedAway place answer) = callers
+
+-- a turn of the console
+pub record Attending : Type 0 where
+  pub letting : Letting
+  pub visits : List Visit
+
+-- Each caller has one visit, the new one too, in order.
+pub record IsAttending (callers : List Calling) (a : Attending) : Type 0 where
+  pub lets : IsLetting callers a.letting
+  pub each : map caller_of a.visits ≡ with_let_in callers a.letting
+  pub are : AreVisits a.visits
+
+abbrev pub attending_calls : Attending → List Call
+attending_calls a = letting_calls a.letting ++ flat_map visit_calls a.visits
+
+-- the orders that were stepped, with their replies
+abbrev pub attending_acts : Attending → List Act
+attending_acts a = flat_map visit_acts a.visits
+
+abbrev pub after_attending : Attending → List Calling
+after_attending a = flat_map kept_of a.visits

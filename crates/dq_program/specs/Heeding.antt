@@ -1,0 +1,103 @@
+-- How parts of a turn of the console went. This is there for the prover.
+use Rattle.std.specs.Prelude.{◌≡◌, ◌≢◌, ℕ, Bool, true, false, if◌then◌else◌, List, [], ◌∷◌, map, Option, Some, None, Result}
+use Rattle.std.specs.List.{flat_map}
+use Rattle.dq_tables.specs.Keeping.{State}
+use Rattle.dq_wires.specs.declared.calls.WireFault.{WireFault}
+use Rattle.dq_wires.specs.declared.calls.Came.{Came}
+use Rattle.dq_wires.specs.declared.calls.Came.TheVariants as what
+use Rattle.dq_wires.specs.declared.calls.Call.{Call}
+use Rattle.dq_wires.specs.declared.calls.Call.TheVariants.{Read, Write}
+use Rattle.dq_wires.specs.Deeds.{Shutting}
+use Rattle.dq_wires.specs.Logs.{Logs, LogsAll}
+use Rattle.dq_wires.specs.Turners.{Turning}
+use Rattle.dq_program.specs.declared.caller.Next.{Next}
+use Rattle.dq_program.specs.declared.caller.Next.TheVariants as next
+use Rattle.dq_program.specs.Console.{Calling, HasNone, HasLine, first_line, without_line, IsListening, IsThere, with_octets, after_write, Answer, IsAnswer, answer_text, answer_acts, is_unread, answered, Heed, IsHeed, heed_calls, heed_acts, after_heed, Letting, IsLetting, letting_calls, with_let_in, Visit, caller_of, kept_of, visit_calls, visit_acts, IsShut, AreVisits}
+use Rattle.dq_program.specs.Serving.{Attended}
+
+-- what is taken of a caller
+abbrev pub Takes : Calling → Calling → Option (List ℕ) → Type 0
+Takes old new None = HasNone old.came × (new ≡ old)
+Takes old new (Some line) =
+    HasLine old.came × (line ≡ first_line old.came) × (new ≡ without_line old)
+
+-- What is not written was offered: the caller is still there, or the write failed.
+abbrev pub Writes : Option (List Call) → Option (List Call) → Calling → Calling → Bool → Type 0
+Writes before after old new there = (taken : Result ℕ WireFault)
+    × Logs before after (Write old.place old.unsent taken)
+    × (after_write old taken ≡ (if there then new ∷ [] else []))
+
+-- From a caller was read, so many octets at most. What came is kept; or no more comes, or there is
+-- no memory for it.
+abbrev pub Reads : Option (List Call) → Option (List Call) → ℕ → Calling → Calling → Bool → Type 0
+Reads before after room old new true = (came : Came) × Logs before after (Read old.place room came)
+    × IsThere came × (new ≡ with_octets old came)
+Reads before after room old new false = (came : Came)
+    × Logs before after (Read old.place room came) × (came ≢ what.Nothing)
+
+-- something was done for a caller, which took no line, and it is still there or not
+pub record Quiet (before after : Option (List Call)) (old new : Calling)
+    (there : Bool) : Type 0 where
+  pub heed : Heed
+  pub is : IsHeed old heed
+  pub quiet : heed_acts heed ≡ []
+  pub calls : LogsAll before after (heed_calls old heed)
+  pub leaves : after_heed old heed ≡ (if there then new ∷ [] else [])
+
+-- what comes next of a caller
+abbrev pub ComesNext : Option (List Call) → Option (List Call) → Calling → Calling → Next → Type 0
+ComesNext before after old new next.Held = Quiet before after old new true
+ComesNext before after old new next.Left = Quiet before after old new false
+ComesNext before after old new (next.Line line) = IsListening old × HasLine old.came
+    × (line.items ≡ first_line old.came) × (new ≡ without_line old) × (after ≡ before)
+
+module _ {Tables : Type 0} (state : Tables → State) where
+  -- what a line tells was done, and the caller has its answer
+  pub record Does (old new : Turning Tables) (line : List ℕ) (caller next : Calling) : Type 0 where
+    pub answer : Answer
+    pub is : IsAnswer line answer
+    pub acts : Attended state old new (answer_acts answer)
+    pub leaves : next ≡ answered caller (answer_text answer) (is_unread answer)
+
+  -- the same; or there was no memory for the line, and nothing was done
+  abbrev pub DoesIf : Turning Tables → Turning Tables → List ℕ → Calling → Calling → Bool → Type 0
+  DoesIf old new line caller next true = Does old new line caller next
+  DoesIf old new line caller next false = new ≡ old
+
+  -- the turn of a caller was made, but for its shut if it is gone
+  pub record Heeded (before after : Option (List Call)) (old new : Turning Tables)
+      (caller next : Calling) (there : Bool) : Type 0 where
+    pub heed : Heed
+    pub is : IsHeed caller heed
+    pub calls : LogsAll before after (heed_calls caller heed)
+    pub acts : Attended state old new (heed_acts heed)
+    pub leaves : after_heed caller heed ≡ (if there then next ∷ [] else [])
+
+  -- it was made
+  pub record Visited (before after : Option (List Call)) (old new : Turning Tables)
+      (caller next : Calling) (there : Bool) : Type 0 where
+    pub heed : Heed
+    pub is : IsHeed caller heed
+    pub shut : Option Shutting
+    pub shuts : IsShut (after_heed caller heed) shut
+    pub calls : LogsAll before after
+        (visit_calls (record { caller = caller; heed = heed; shut = shut }))
+    pub acts : Attended state old new (heed_acts heed)
+    pub leaves : after_heed caller heed ≡ (if there then next ∷ [] else [])
+
+  -- the turns of all were made
+  pub record AllVisited (before after : Option (List Call)) (old new : Turning Tables)
+      (from to : List Calling) : Type 0 where
+    pub visits : List Visit
+    pub each : map caller_of visits ≡ from
+    pub are : AreVisits visits
+    pub calls : LogsAll before after (flat_map visit_calls visits)
+    pub acts : Attended state old new (flat_map visit_acts visits)
+    pub kept : to ≡ flat_map kept_of visits
+
+-- a turn began
+pub record LetsIn (before after : Option (List Call)) (from to : List Calling) : Type 0 where
+  pub letting : Letting
+  pub lets : IsLetting from letting
+  pub calls : LogsAll before after (letting_calls letting)
+  pub leaves : to ≡ with_let_in from letting
