@@ -1,0 +1,160 @@
+"""Servers that the measurements over sockets start, the program and its peers, and what their clients do."""
+import contextlib
+import multiprocessing
+import pathlib
+import socket
+import subprocess
+import time
+
+from measure import CONFIGURATION, ECHO, PROGRAM, associate, store
+from client import HOST, Client, Serving, free_port, until
+
+LONGEST = 90
+QUICK_ACK = getattr(socket, "TCP_QUICKACK", 12)
+DCMQRSCP = """NetworkTCPPort = {port}
+MaxPDUSize = 16384
+MaxAssociations = 100
+HostTable BEGIN
+HostTable END
+VendorTable BEGIN
+VendorTable END
+AETable BEGIN
+ARCHIVE {folder} RW (4000, 1024mb) ANY
+AETable END
+"""
+
+
+class TooLong(Exception):
+    """A peer takes more time than anybody waits."""
+
+
+class Program:
+    """The program over a store in a file."""
+    name = "newtiron"
+
+    def __init__(self, folder, configuration=CONFIGURATION):
+        self.server = Serving(PROGRAM, "--config", configuration, "--new", folder / "rows.db")
+        self.port = self.server.port
+
+    def memory(self):
+        return self.server.memory()
+
+    def end(self):
+        self.server.end()
+
+
+class Peer:
+    """A server that another command starts."""
+
+    def __init__(self, folder):
+        self.port = free_port()
+        self.child = subprocess.Popen(self.command(folder), stdout=subprocess.DEVNULL, stderr=subprocess.DEVNULL)
+        until(self.listens)
+
+    def listens(self):
+        with contextlib.suppress(OSError):
+            socket.create_connection((HOST, self.port)).close()
+            return True
+        return False
+
+    def memory(self):
+        """That of the process that listens; a peer that forks has others."""
+        for line in pathlib.Path(f"/proc/{self.child.pid}/status").read_text().split("\n"):
+            if line.startswith("VmRSS:"):
+                return int(line.split()[1]) / 1024
+        return 0.0
+
+    def end(self):
+        self.child.terminate()
+        self.child.wait()
+
+
+class Dcmqrscp(Peer):
+    name = "dcmqrscp"
+
+    def command(self, folder):
+        (folder / "images").mkdir()
+        (folder / "dcmqrscp.cfg").write_text(DCMQRSCP.format(port=self.port, folder=folder / "images"))
+        return ["dcmqrscp", "-c", folder / "dcmqrscp.cfg"]
+
+
+class Storescp(Peer):
+    name = "storescp"
+
+    def command(self, folder):
+        (folder / "files").mkdir()
+        return ["storescp", "-aet", "ARCHIVE", "-od", folder / "files", str(self.port)]
+
+
+class Octets(Peer):
+    name = "octets"
+
+    def __init__(self, _):
+        listener = socket.create_server((HOST, 0), backlog=128)
+        self.port = listener.getsockname()[1]
+        self.child = multiprocessing.Process(target=self.serve, args=(listener,), daemon=True)
+        self.child.start()
+        listener.close()
+
+    def end(self):
+        self.child.terminate()
+        self.child.join()
+
+    @staticmethod
+    def serve(listener):
+        while True:
+            stream, _ = listener.accept()
+            stream.setsockopt(socket.IPPROTO_TCP, socket.TCP_NODELAY, 1)
+            with contextlib.suppress(OSError):
+                while octets := stream.recv(1 << 14):
+                    stream.sendall(octets)
+
+
+def associated(port, *names):
+    client = Client(port)
+    client.send(associate(*names))
+    if client.pdu()[0] != 2:
+        raise SystemExit("an association was not accepted")
+    return client
+
+
+def ask(stream, octets, length, is_prompt=True):
+    """Sends octets, and receives so many."""
+    stream.send(octets)
+    while length > 0:
+        length -= len(stream.recv(length))
+        stream.setsockopt(socket.IPPROTO_TCP, QUICK_ACK, is_prompt)
+
+
+def answer_length(client):
+    """How many octets answer an echo."""
+    client.send(ECHO)
+    client.fill(6)
+    length = 6 + int.from_bytes(client.octets[2:6], "big")
+    client.receive(length)
+    return length
+
+
+def timed(count, work):
+    """How many a second, where the work is done so often."""
+    begun = time.monotonic()
+    for at in range(count):
+        work(at)
+        if time.monotonic() - begun > LONGEST:
+            raise TooLong
+    return count / (time.monotonic() - begun)
+
+
+def image(at, studies):
+    study = b"1.2.%d" % (at % studies + 1)
+    return store(1, study, study + b".1", study + b".1.%d" % at, PatientName=b"DOE^%d" % at, PatientID=b"P%d" % (at % studies),
+                 StudyID=b"1", SeriesNumber=b"1", PixelData=bytes(700))
+
+
+def stores(server, count, studies):
+    with associated(server.port, "CT", "study") as client:
+        def one(at):
+            client.send(image(at, studies))
+            if client.status() not in (0, 0xB006):
+                raise SystemExit("an instance was not stored")
+        return timed(count, one)
