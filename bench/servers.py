@@ -1,5 +1,6 @@
 """Servers that the measurements over sockets start, the program and its peers, and what their clients do."""
 import contextlib
+import json
 import multiprocessing
 import pathlib
 import socket
@@ -84,6 +85,18 @@ class Storescp(Peer):
     def command(self, folder):
         (folder / "files").mkdir()
         return ["storescp", "-aet", "ARCHIVE", "-od", folder / "files", str(self.port)]
+
+
+class Orthanc(Peer):
+    name = "Orthanc"
+
+    def command(self, folder):
+        settings = {"DicomPort": self.port, "DicomAet": "ARCHIVE", "DicomCheckCalledAet": False, "DicomServerEnabled": True,
+                    "DicomAlwaysAllowEcho": True, "DicomAlwaysAllowStore": True, "DicomAlwaysAllowFind": True,
+                    "HttpServerEnabled": False, "StorageDirectory": str(folder / "images"),
+                    "IndexDirectory": str(folder / "images"), "LimitFindResults": 0, "SyncStorageArea": False, "DicomThreadsCount": 4, "Plugins": []}
+        (folder / "orthanc.json").write_text(json.dumps(settings))
+        return ["Orthanc", folder / "orthanc.json"]
 
 
 class Octets(Peer):
