@@ -101,8 +101,10 @@ class Terminal:
         self.told = self.folder / "bin/told"
 
     def run(self, command, **how):
+        # (a suite that runs in the background has Ctrl-C ignored, and so would what it starts)
         return subprocess.Popen(["bash", "-c", command.replace(PORT, self.port)], cwd=self.folder, env=self.environment,
-                                stdin=subprocess.DEVNULL, stderr=subprocess.STDOUT, start_new_session=True, **how)
+                                stdin=subprocess.DEVNULL, stderr=subprocess.STDOUT, start_new_session=True,
+                                preexec_fn=lambda: signal.signal(signal.SIGINT, signal.SIG_DFL), **how)
 
     def typed(self, command):
         """All that a command tells, and its exit status."""

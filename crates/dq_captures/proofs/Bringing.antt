@@ -1,5 +1,5 @@
 -- What the events of a capture bring are octets.
-use Rattle.std.proofs.Common.{◌≡◌, ℕ, List, [], ◌∷◌, Result, Ok, Err, IfOk, inl, inr, arith}
+use Rattle.std.proofs.Common.{ℕ, List, [], ◌∷◌, Result, Ok, Err, IfOk, inl, inr, arith}
 use Rattle.hex.specs.Hex.{IsBytes}
 use Rattle.hex.proofs.HexLemmas.{decode_of-ok}
 use Rattle.dq_core.specs.declared.event.Event.{Event}

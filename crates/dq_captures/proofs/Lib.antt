@@ -4,3 +4,4 @@ pub mod OneSpelling
 pub mod Bringing
 pub mod Steps
 pub mod Written
+pub mod Spelling

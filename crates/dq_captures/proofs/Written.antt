@@ -4,9 +4,8 @@ use Rattle.std.specs.Io.KnownBytes.{Keeps, Appends}
 use Rattle.std.proofs.Math.Seq.{take-append-add}
 use Rattle.std.proofs.lemmas.List.{take-append-le, take_min, take_all}
 use Rattle.std.proofs.lemmas.Grind.{flat_map-append}
-use Rattle.dq_core.specs.declared.event.Reply.{Reply}
-use Rattle.dq_captures.specs.Printing.{printed_line, printed}
-use Rattle.dq_captures.specs.Surroundings.{AppendsPart}
+use Rattle.std.specs.List.{flat_map}
+use Rattle.dq_captures.specs.Surroundings.{AppendsPart, BreaksOff}
 
 take_of_front : (k : ℕ) (line rest : List ℕ) → take (min k (length line)) (line ++ rest) ≡ take k line
 take_of_front k line rest = take-append-le (min k (length line)) line rest (omega arith) ∙ take_min k line
@@ -23,7 +22,7 @@ AppendsPart-after (Some xs) (Some ys) (Some zs) done line rest first part =
     take-append-add done (line ++ rest) k ∙ ap (λ l. done ++ l) (take_of_front part.0 line rest) in
     (length done + k, part.1 ∙ ap (λ l. l ++ take part.0 line) first ∙ append_assoc xs done (take part.0 line) ∙ ap (λ l. xs ++ l) (sym octets))
 
-Appends-none : (known : Option (List ℕ)) → Appends known known []
+pub Appends-none : (known : Option (List ℕ)) → Appends known known []
 Appends-none None = tt
 Appends-none (Some xs) = sym (append-nil xs)
 
@@ -35,29 +34,56 @@ AppendsPart-whole None after octets whole = (0, tt)
 AppendsPart-whole (Some xs) None octets whole = absurd whole
 AppendsPart-whole (Some xs) (Some ys) octets whole = (length octets, whole ∙ ap (λ l. xs ++ l) (sym (take_all (length octets) octets (omega arith))))
 
--- ---- lines
+pub OnErr-known : {T E P : Type 0} (r : Result T E) → P → OnErr r P
+OnErr-known (Ok x) known = tt
+OnErr-known (Err e) known = known
 
--- the lines before a reply's, its own, and those after it
-printed-at : (replies : List Reply) (i : ℕ) (reply : Reply) → i < length replies → reply ≡ get_or replies i reply
-    → printed replies ≡ printed (take i replies) ++ (printed_line reply ++ printed (drop (suc i) replies))
-printed-at replies i reply below here =
-    let rest : drop i replies ≡ reply ∷ drop (suc i) replies = drop-cons replies i reply below ∙ ap (λ r. r ∷ drop (suc i) replies) (sym here) in
-    ap printed (sym (take-append-drop i replies)) ∙ flat_map-append printed_line (take i replies) (drop i replies)
-    ∙ ap (λ l. printed (take i replies) ++ printed l) rest
+-- ---- one text after another
 
-pub AppendsPart-line : (before mid after : Option (List ℕ)) (replies : List Reply) (i : ℕ) (reply : Reply) (line : List ℕ) → i < length replies
-    → reply ≡ get_or replies i reply
-    → line ≡ printed_line reply → Appends before mid (printed (take i replies)) → AppendsPart mid after line → AppendsPart before after (printed replies)
-AppendsPart-line before mid after replies i reply line below here spells done part =
-    rw (printed-at replies i reply below here) (AppendsPart-after before mid after (printed (take i replies)) (printed_line reply)
-    (printed (drop (suc i) replies)) done (rw spells at part))
+pub Appends-then : (before mid after : Option (List ℕ)) (first later : List ℕ) → Appends before mid first → Appends mid after later
+    → Appends before after (first ++ later)
+Appends-then None mid after first later a b = tt
+Appends-then (Some xs) None after first later a b = absurd a
+Appends-then (Some xs) (Some ys) None first later a b = absurd b
+Appends-then (Some xs) (Some ys) (Some zs) first later a b = b ∙ ap (λ l. l ++ later) a ∙ append_assoc xs first later
 
-pub AppendsPart-replies : (before after : Option (List ℕ)) (replies : List Reply) (k : ℕ) → AppendsPart before after (printed (take k replies))
-    → AppendsPart before after (printed replies)
-AppendsPart-replies before after replies k part =
-    let whole : printed replies ≡ printed (take k replies) ++ printed (drop k replies) =
-    ap printed (sym (take-append-drop k replies)) ∙ flat_map-append printed_line (take k replies) (drop k replies) in
-    rw whole (AppendsPart-front before after (printed (take k replies)) (printed (drop k replies)) part)
+-- the first text broke off
+pub BreaksOff-first : {May : Type 0} (before after : Option (List ℕ)) (first later : List ℕ) → BreaksOff May before after first
+    → BreaksOff May before after (first ++ later)
+BreaksOff-first before after first later off = (off.0, AppendsPart-front before after first later off.1)
+
+-- it was written, and the next one broke off
+pub BreaksOff-later : {May Then : Type 0} (before mid after : Option (List ℕ)) (first later : List ℕ) → (Then → May)
+    → Appends before mid first → BreaksOff Then mid after later → BreaksOff May before after (first ++ later)
+BreaksOff-later before mid after first later fails done off = (
+  fails off.0,
+  rw append-nil at (AppendsPart-after before mid after first later [] done off.1),
+)
+
+-- ---- items of a list, a text each
+
+module _ {X : Type 0} (text : X → List ℕ) where
+  -- the texts before that of an item, its own, and those after it
+  texts-at : (xs : List X) (i : ℕ) (x : X) → i < length xs → x ≡ get_or xs i x
+      → flat_map text xs ≡ flat_map text (take i xs) ++ (text x ++ flat_map text (drop (suc i) xs))
+  texts-at xs i x below here =
+      let rest : drop i xs ≡ x ∷ drop (suc i) xs = drop-cons xs i x below ∙ ap (λ r. r ∷ drop (suc i) xs) (sym here) in
+      ap (flat_map text) (sym (take-append-drop i xs)) ∙ flat_map-append text (take i xs) (drop i xs)
+      ∙ ap (λ l. flat_map text (take i xs) ++ flat_map text l) rest
+
+  pub BreaksOff-item : {May Then : Type 0} (before mid after : Option (List ℕ)) (xs : List X) (i : ℕ) (x : X) → i < length xs → x ≡ get_or xs i x → (Then → May)
+      → Appends before mid (flat_map text (take i xs)) → BreaksOff Then mid after (text x) → BreaksOff May before after (flat_map text xs)
+  BreaksOff-item before mid after xs i x below here fails done off = (
+    fails off.0,
+    rw (texts-at xs i x below here) (AppendsPart-after before mid after (flat_map text (take i xs)) (text x) (flat_map text (drop (suc i) xs)) done off.1),
+  )
+
+  pub AppendsPart-items : (before after : Option (List ℕ)) (xs : List X) (k : ℕ) → AppendsPart before after (flat_map text (take k xs))
+      → AppendsPart before after (flat_map text xs)
+  AppendsPart-items before after xs k part =
+      let whole : flat_map text xs ≡ flat_map text (take k xs) ++ flat_map text (drop k xs) =
+      ap (flat_map text) (sym (take-append-drop k xs)) ∙ flat_map-append text (take k xs) (drop k xs) in
+      rw whole (AppendsPart-front before after (flat_map text (take k xs)) (flat_map text (drop k xs)) part)
 
 -- ---- one write after another
 
@@ -86,10 +112,6 @@ Appends-kept None mid after octets done kept = tt
 Appends-kept (Some xs) None after octets done kept = absurd done
 Appends-kept (Some xs) (Some ys) None octets done kept = absurd kept
 Appends-kept (Some xs) (Some ys) (Some zs) octets done kept = kept ∙ done
-
-pub OnErr-known : {T E P : Type 0} (r : Result T E) → P → OnErr r P
-OnErr-known (Ok x) known = tt
-OnErr-known (Err e) known = known
 
 pub Written-kept : (before mid after : Option (List ℕ)) (octets rest : List ℕ) → Written before mid octets rest → Keeps mid after
     → Written before after octets rest

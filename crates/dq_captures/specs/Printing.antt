@@ -12,19 +12,25 @@ abbrev pub octets_text : List ℕ → List ℕ
 octets_text [] = codes "-"
 octets_text (octet ∷ octets) = encode_lower (octet ∷ octets)
 
-abbrev pub close_text : Bool → List ℕ
-close_text close = if close then codes " close" else []
+-- the end of a line, in which it is told whether the connection is closed
+abbrev pub line_end : Bool → List ℕ
+line_end close = if close then codes " close" ++ line_feed ∷ [] else line_feed ∷ []
+
+-- `N HEX`, and ` close` where the connection is closed
+abbrev pub octets_line : ℕ → List ℕ → Bool → List ℕ
+octets_line number octets close =
+    (decimal number ++ codes " ") ++ (octets_text octets ++ line_end close)
+
+-- a text, and a number after it
+abbrev pub numbered_line : List ℕ → ℕ → List ℕ
+numbered_line text number = text ++ (decimal number ++ line_feed ∷ [])
 
 -- `N HEX`, and ` close` where the connection is closed; `done`; `refused N`; `ignored`
-abbrev pub reply_text : Reply → List ℕ
-reply_text (Octets number octets close) =
-    decimal number ++ codes " " ++ octets_text octets ++ close_text close
-reply_text Done = codes "done"
-reply_text (Refused number) = codes "refused " ++ decimal number
-reply_text Ignored = codes "ignored"
-
 abbrev pub printed_line : Reply → List ℕ
-printed_line reply = reply_text reply ++ line_feed ∷ []
+printed_line (Octets number octets close) = octets_line number octets close
+printed_line Done = codes "done" ++ line_feed ∷ []
+printed_line (Refused number) = numbered_line (codes "refused ") number
+printed_line Ignored = codes "ignored" ++ line_feed ∷ []
 
 -- a line for each reply
 abbrev pub printed : List Reply → List ℕ

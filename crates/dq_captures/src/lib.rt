@@ -6,5 +6,5 @@ mod printing;
 mod surroundings;
 
 pub use capture::{CaptureFault, captures_bring_octets, event_of, read_capture};
-pub use printing::{PrintFault, octets_text, print_replies, printed_line};
+pub use printing::{PrintFault, print_replies, printed_line, put_numbered, put_sent, put_text};
 pub use surroundings::{Folder, Host, Sink, Source, Unread};

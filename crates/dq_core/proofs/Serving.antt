@@ -17,7 +17,7 @@ use Rattle.dq_config.specs.Limits.{limits_of}
 use Rattle.dq_match.specs.declared.responses.Found.{Found}
 use Rattle.dq_tables.specs.declared.row.Row.{Row}
 use Rattle.dq_tables.specs.Rows.{of, by, after, Operation, after_all}
-use Rattle.dq_core.specs.Services.{responses, outcome_on, served}
+use Rattle.dq_core.specs.Services.{responses, message_outcome, served}
 use Rattle.dq_core.specs.Pages.{OpenQuery, message_id, rest, page, cancel_reaction, reaction}
 use Rattle.dq_core.specs.Stepping.{IsPartOf}
 use Rattle.dq_core.specs.Doing.{Did, DidPart, served_answer}
@@ -36,14 +36,18 @@ module _ (i : Institution) (a : Agreement) (m : Message) where
   DoesPart query r0 r1 IsLeft = DidPart (Some i) (served_answer (limits_of i) a (of i.name r0) query m) r0 r1 IsLeft
 
   -- a message that has no response
-  pub did-stray : (r : List Row) (x : List ℕ) → context_of a m.context ≡ None → Does None r r x x None
+  stray-by : (r : List Row) (x : List ℕ) (b : Bool) → (m.command.code == c_cancel) ≡ b → context_of a m.context ≡ None → Does None r r x x None
   unfolding served reaction
-  did-stray r x e = rw e (record { octets = sym (append-nil x); rows = refl; query = refl })
+  stray-by r x true h e = rw h (record { octets = sym (append-nil x); rows = refl; query = refl })
+  stray-by r x false h e = rw (h, e) (record { octets = sym (append-nil x); rows = refl; query = refl })
+
+  pub did-stray : (r : List Row) (x : List ℕ) → context_of a m.context ≡ None → Does None r r x x None
+  did-stray r x e = stray-by r x (m.command.code == c_cancel) refl e
 
   module _ (c : AgreedContext) (e : context_of a m.context ≡ Some c) where
     pub did-cancel : (r : List Row) (x : List ℕ) → (m.command.code == c_cancel) ≡ true → Does None r r x x None
     unfolding served reaction
-    did-cancel r x h = rw (e, h) (record { octets = sym (append-nil x); rows = refl; query = refl })
+    did-cancel r x h = rw h (record { octets = sym (append-nil x); rows = refl; query = refl })
 
     -- the responses to the message, of which none was sent
     abbrev unsent : Command → Found → OpenQuery
@@ -52,13 +56,13 @@ module _ (i : Institution) (a : Agreement) (m : Message) where
     -- a message was served: its edits were made, and the first page of its responses was sent
     pub did-served : (r0 r1 : List Row) (x0 x1 : List ℕ) (found : Found) (query : OpenQuery) (next : Option OpenQuery)
         → (m.command.code == c_cancel) ≡ false
-        → found ≡ (outcome_on a c (limits_of i) m (of i.name r0)).0 → r1 ≡ after (by i.name (outcome_on a c (limits_of i) m (of i.name r0)).1) r0
+        → found ≡ (message_outcome a c (limits_of i) m (of i.name r0)).0 → r1 ≡ after (by i.name (message_outcome a c (limits_of i) m (of i.name r0)).1) r0
         → query ≡ unsent m.command found → x1 ≡ x0 ++ (page query).octets → next ≡ (page query).query → Does None r0 r1 x0 x1 next
     unfolding served reaction
     did-served r0 r1 x0 x1 found query next h answered done sent added left =
         let there = found_id m.context a.contexts c e in
         let of_message : OpenQuery =
-        record { context = m.context; limit = a.limit; left = responses c m.command (outcome_on a c (limits_of i) m (of i.name r0)).0 } in
+        record { context = m.context; limit = a.limit; left = responses c m.command (message_outcome a c (limits_of i) m (of i.name r0)).0 } in
         let same : query ≡ of_message =
         sent ∙ ap (λ (n : ℕ). record { context = n; limit = a.limit; left = responses c m.command found }) there
         ∙ ap (λ (f : Found). record { context = m.context; limit = a.limit; left = responses c m.command f }) answered in
@@ -70,11 +74,11 @@ module _ (i : Institution) (a : Agreement) (m : Message) where
 
     -- its edits were made, and not all of the page could be sent
     pub part-served : (r0 r1 : List Row) (IsLeft : List Row → Type 0) → (m.command.code == c_cancel) ≡ false
-        → r1 ≡ after (by i.name (outcome_on a c (limits_of i) m (of i.name r0)).1) r0 → ((r : List Row) → IsLeft r → r ≡ r1)
+        → r1 ≡ after (by i.name (message_outcome a c (limits_of i) m (of i.name r0)).1) r0 → ((r : List Row) → IsLeft r → r ≡ r1)
         → DoesPart None r0 r1 IsLeft
     unfolding served reaction
     part-served r0 r1 IsLeft h done only = rw (e, h) (record {
-      done = by i.name (outcome_on a c (limits_of i) m (of i.name r0)).1 ∷ [];
+      done = by i.name (message_outcome a c (limits_of i) m (of i.name r0)).1 ∷ [];
       later = [];
       whole = refl;
       made = done;
@@ -83,12 +87,12 @@ module _ (i : Institution) (a : Agreement) (m : Message) where
 
     -- its edits were not made
     pub part-unserved : (r0 r1 : List Row) (IsLeft : List Row → Type 0) → (m.command.code == c_cancel) ≡ false → r1 ≡ r0
-        → ((r : List Row) → IsLeft r → (r ≡ r0) ⊎ (r ≡ after (by i.name (outcome_on a c (limits_of i) m (of i.name r0)).1) r0))
+        → ((r : List Row) → IsLeft r → (r ≡ r0) ⊎ (r ≡ after (by i.name (message_outcome a c (limits_of i) m (of i.name r0)).1) r0))
         → DoesPart None r0 r1 IsLeft
     unfolding served reaction
     part-unserved r0 r1 IsLeft h same crash = rw (e, h, same) (record {
       done = [];
-      later = by i.name (outcome_on a c (limits_of i) m (of i.name r0)).1 ∷ [];
+      later = by i.name (message_outcome a c (limits_of i) m (of i.name r0)).1 ∷ [];
       whole = refl;
       made = refl;
       crash = crash;

@@ -1,7 +1,7 @@
 -- What a message is answered with and what it changes, and what the console's orders change. A
 -- service sees the limits and the records of one institution, what was agreed, and the message: no
 -- name, no route, no other's record.
-use Rattle.std.specs.Prelude.{ℕ, Bool, false, not, ◌==◌, ◌||◌, if◌then◌else◌, bit_or, List, [], map, Option, Some, None, is_some}
+use Rattle.std.specs.Prelude.{ℕ, Bool, true, false, ◌==◌, ◌||◌, if◌then◌else◌, bit_or, List, [], map, Option, Some, None, is_some}
 use Rattle.dq_dataset.specs.declared.header.Syntax.{Syntax}
 use Rattle.dq_dataset.specs.Tree.{ElementList}
 use Rattle.dq_dataset.specs.Canonical.{canonical}
@@ -9,6 +9,7 @@ use Rattle.dq_dimse.specs.declared.command.Command.{Command}
 use Rattle.dq_dimse.specs.Received.{Message}
 use Rattle.dq_dimse.specs.CommandFields.{c_cancel, c_echo, c_find, c_store, n_create, n_set, response_bit}
 use Rattle.dq_dimse.specs.Statuses.{success, cancel, pending, pending_without_optional_keys, sop_class_not_supported, unrecognized_operation}
+use Rattle.std.specs.Option.{option_map_or}
 use Rattle.std.specs.Str.{bytes_eq}
 use Rattle.dq_assoc.specs.declared.agreement.AgreedContext.{AgreedContext}
 use Rattle.dq_assoc.specs.declared.agreement.Agreement.{Agreement}
@@ -28,6 +29,8 @@ use Rattle.dq_worklist.specs.Orders.{scheduled, withdrawn}
 use Rattle.dq_mpps.specs.Creating.{created}
 use Rattle.dq_mpps.specs.Changing.{changed}
 use Rattle.dq_tables.specs.Rows.{Record, Edit}
+use Rattle.dq_core.specs.declared.dimse_operation.DimseOperation.{DimseOperation}
+use Rattle.dq_core.specs.declared.dimse_operation.DimseOperation.TheVariants.{Echo, Store, FindStudies, FindEntries, CreateStep, SetStep}
 
 -- a response: its command, and its data set if it has one
 abbrev pub Response : Type 0
@@ -111,13 +114,25 @@ responses context command found = record {
   cancelled = response context.class command cancel None;
 }
 
--- the operations of each service (PS3.4 sections A.2, B.2, C.4.1, K.4.1 and F.7.2)
-abbrev pub has_operation : Service → ℕ → Bool
-has_operation service.Verification code = code == c_echo
-has_operation service.Storage code = code == c_store
-has_operation service.StudyRootFind code = code == c_find
-has_operation service.WorklistFind code = code == c_find
-has_operation service.PerformedProcedureStep code = code == n_create || code == n_set
+-- The operation of a service that a Command Field names, if the service has it (PS3.4 annexes A, B, C,
+-- K and F).
+abbrev pub operation_named : Service → ℕ → Option DimseOperation
+operation_named service.Verification code = if code == c_echo then Some Echo else None
+operation_named service.Storage code = if code == c_store then Some Store else None
+operation_named service.StudyRootFind code = if code == c_find then Some FindStudies else None
+operation_named service.WorklistFind code = if code == c_find then Some FindEntries else None
+operation_named service.PerformedProcedureStep code =
+    if code == n_create then Some CreateStep
+    else (if code == n_set then Some SetStep else None)
+
+-- the Command Field that asks for an operation (PS3.7 annex E)
+abbrev pub command_field_of : DimseOperation → ℕ
+command_field_of Echo = c_echo
+command_field_of Store = c_store
+command_field_of FindStudies = c_find
+command_field_of FindEntries = c_find
+command_field_of CreateStep = n_create
+command_field_of SetStep = n_set
 
 -- a status without answers
 abbrev pub status_alone : ℕ → Found
@@ -127,66 +142,52 @@ status_alone status = record { status = status; optional = false; answers = [] }
 abbrev pub alone : ℕ × List Edit → Found × List Edit
 alone outcome = (status_alone outcome.0, outcome.1)
 
--- the status of an operation on a performed procedure step, and the edits that go with it
-abbrev pub performed : Limits → List Record → Message → Syntax → ℕ × List Edit
-performed limits records message syntax =
-    if message.command.code == n_create then created limits records message syntax
-    else changed records message syntax
-
--- what an operation of a service answers, and the edits that go with it; the title is the one that
--- the peer called
-abbrev pub operation : Service → List ℕ → Syntax → Limits → Message → List Record
+-- what an operation answers, and the edits that go with it; the title is the one that the peer called
+abbrev pub operation_outcome : DimseOperation → List ℕ → Syntax → Limits → Message → List Record
     → Found × List Edit
-operation service.Verification called syntax limits message records = alone (success, [])
-operation service.Storage called syntax limits message records =
+operation_outcome Echo called syntax limits message records = alone (success, [])
+operation_outcome Store called syntax limits message records =
     alone (stored limits records message syntax)
-operation service.StudyRootFind called syntax limits message records =
+operation_outcome FindStudies called syntax limits message records =
     (found records called message syntax, [])
-operation service.WorklistFind called syntax limits message records =
+operation_outcome FindEntries called syntax limits message records =
     (listed records message syntax, [])
-operation service.PerformedProcedureStep called syntax limits message records =
-    alone (performed limits records message syntax)
+operation_outcome CreateStep called syntax limits message records =
+    alone (created limits records message syntax)
+operation_outcome SetStep called syntax limits message records =
+    alone (changed records message syntax)
 
 -- The operation is tested first, and then whether the class is that of the context (PS3.7 annex C).
-abbrev pub refusal_for : SopClass → Command → Option ℕ
-refusal_for class command =
-    if not (has_operation (service_of class) command.code) then Some unrecognized_operation
-    else (if not (bytes_eq command.sop_class (uid_of class)) then Some sop_class_not_supported
-    else None)
-
-abbrev pub outcome_unless : Option ℕ → Agreement → AgreedContext → Limits → Message
+abbrev pub outcome_of : Option DimseOperation → Bool → List ℕ → Syntax → Limits → Message
     → List Record → Found × List Edit
-outcome_unless (Some status) agreement context limits message records = alone (status, [])
-outcome_unless None agreement context limits message records =
-    operation (service_of context.class) agreement.called context.syntax limits message records
+outcome_of None is_its_class called syntax limits message records =
+    alone (unrecognized_operation, [])
+outcome_of (Some operation) false called syntax limits message records =
+    alone (sop_class_not_supported, [])
+outcome_of (Some operation) true called syntax limits message records =
+    operation_outcome operation called syntax limits message records
 
--- A command is refused, or its operation is done.
-abbrev pub outcome_on : Agreement → AgreedContext → Limits → Message → List Record
+-- the outcome of a message on a context that was accepted
+abbrev pub message_outcome : Agreement → AgreedContext → Limits → Message → List Record
     → Found × List Edit
-outcome_on agreement context limits message =
-    outcome_unless (refusal_for context.class message.command) agreement context limits message
+message_outcome agreement context limits message =
+    outcome_of (operation_named (service_of context.class) message.command.code)
+    (bytes_eq message.command.sop_class (uid_of context.class))
+    agreement.called context.syntax limits message
 
 -- the responses of an outcome, and its edits
 abbrev pub served_by : AgreedContext → Command → Found × List Edit → Served
 served_by context command outcome =
     record { responses = Some (responses context command outcome.0); edits = outcome.1 }
 
--- A C-CANCEL has no response.
-abbrev pub context_answer : Limits → List Record → Agreement → Message → AgreedContext → Served
-context_answer limits records agreement message context =
-    if message.command.code == c_cancel then no_response
-    else served_by context message.command (outcome_on agreement context limits message records)
-
--- a message comes on a context that was accepted
-abbrev pub served_on : Option AgreedContext → Limits → List Record → Agreement → Message → Served
-served_on None limits records agreement message = no_response
-served_on (Some context) limits records agreement message =
-    context_answer limits records agreement message context
-
--- what a message on an association is answered with and changes
+-- What a message on an association is answered with and changes. A C-CANCEL has no response, and a
+-- message on a context that was not accepted has none.
 unfoldable pub served : Limits → List Record → Agreement → Message → Served
 served limits records agreement message =
-    served_on (context_of agreement message.context) limits records agreement message
+    if message.command.code == c_cancel then no_response
+    else option_map_or (λ (context : AgreedContext). served_by context message.command
+    (message_outcome agreement context limits message records))
+    (context_of agreement message.context) no_response
 
 abbrev pub ordered_by : Option ℕ × List Edit → Ordered
 ordered_by outcome = record { refusal = outcome.0; edits = outcome.1 }

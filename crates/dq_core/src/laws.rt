@@ -28,16 +28,17 @@ ghost use Rattle.dq_core.specs.Renumbering.{KeepsOrder, renumbered, renumbered_r
 ghost use Rattle.dq_dataset.specs.declared.header.Syntax.{Syntax};
 ghost use Rattle.dq_dataset.specs.Grammar.{AreOctets};
 ghost use Rattle.dq_dataset.specs.Tree.{ElementList};
+ghost use Rattle.dq_dimse.specs.CommandFields.{c_find};
 ghost use Rattle.dq_dimse.specs.Received.{Message};
 ghost use Rattle.dq_dimse.specs.Statuses.{success};
 ghost use Rattle.dq_assoc.specs.declared.agreement.AgreedContext.{AgreedContext};
 ghost use Rattle.dq_assoc.specs.declared.agreement.Agreement.{Agreement};
 ghost use Rattle.dq_assoc.specs.declared.classes.Service.TheVariants.{StudyRootFind, WorklistFind};
-ghost use Rattle.dq_assoc.specs.Classes.{service_of};
+ghost use Rattle.dq_assoc.specs.Classes.{service_of, uid_of};
 ghost use Rattle.dq_find.specs.declared.query.Query.{Query};
 ghost use Rattle.dq_find.specs.Queries as study;
 ghost use Rattle.dq_worklist.specs.Queries as worklist;
-ghost use Rattle.dq_core.specs.Services.{Order, refusal_for, outcome_on, served, ordered};
+ghost use Rattle.dq_core.specs.Services.{Order, message_outcome, served, ordered};
 ghost use Rattle.dq_core.specs.Soundness.{HoldSound, AreMade, HoldsOctets, BringsOctets, BringOctets, CameAsOctets};
 ghost use Rattle.dq_core.specs.Stores.{IsToldTruly, IsToldTrulyAt};
 ghost use Rattle.dq_core.specs.Conversations.{Arrival, arrivals, IsAnswered, IsAnsweredRun, IsAnsweredAt, conversation_on, exchange, AreFinished, without_page_requests};
@@ -252,7 +253,7 @@ pub fn agreeing_histories_are_answered_alike()
     rows_stay_in_order();
 }
 
-/// A Study Root query that is not refused is answered with the records of its level that are under
+/// A Study Root C-FIND of the context's class is answered with the records of its level that are under
 /// its unique keys and fit, in the order of their keys, each as it is shown (`dq_find::laws` says
 /// which and in what order). It changes nothing.
 #[tactic(auto, using(crate::proofs::isolation::Searching::study_search))]
@@ -260,9 +261,9 @@ pub fn searches_answer_what_matches()
     ensures { (agreement : Agreement) (context : AgreedContext) (limits : Limits)
         (message : Message) (records : List Record) (query : Query) →
         service_of context.class ≡ StudyRootFind →
-        refusal_for context.class message.command ≡ None →
+        message.command.code ≡ c_find → message.command.sop_class ≡ uid_of context.class →
         study.query_of message context.syntax ≡ Ok query →
-        outcome_on agreement context limits message records
+        message_outcome agreement context limits message records
         ≡ (
           record {
             status = success;
@@ -279,10 +280,10 @@ pub fn worklists_answer_what_matches()
     ensures { (agreement : Agreement) (context : AgreedContext) (limits : Limits)
         (message : Message) (records : List Record) (keys : ElementList) (optional : Bool) →
         service_of context.class ≡ WorklistFind →
-        refusal_for context.class message.command ≡ None →
+        message.command.code ≡ c_find → message.command.sop_class ≡ uid_of context.class →
         worklist.query_of message context.syntax
         ≡ Ok (record { keys = keys; optional = optional }) →
-        outcome_on agreement context limits message records
+        message_outcome agreement context limits message records
         ≡ (
           record {
             status = success;

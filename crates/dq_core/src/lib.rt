@@ -2,6 +2,7 @@
 #![tactic(auto)]
 
 mod connections;
+mod dimse_operation;
 mod event;
 mod fault;
 pub mod laws;
@@ -14,6 +15,7 @@ mod service;
 mod slot;
 mod tally;
 
+pub use dimse_operation::DimseOperation;
 pub use event::{Event, Reply};
 pub use fault::Fault;
 pub use look::Look;

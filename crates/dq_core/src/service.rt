@@ -4,32 +4,31 @@ ghost use Rattle.std.specs.Prelude.{◌≡◌, ◌≢◌, ◌++◌, [], List, tr
 ghost use Rattle.std.specs.Option.{option_copied};
 ghost use Rattle.dq_dimse.specs.Holding.{StandForAll, StandsFor, StandsOn, plain_message};
 ghost use Rattle.dq_dimse.specs.Received.{Message as Received};
-ghost use Rattle.dq_assoc.specs.Classes.{service_of};
 ghost use Rattle.dq_assoc.specs.Holding.{accepted_by};
 ghost use Rattle.dq_config.specs.Limits.{limits_of};
 ghost use Rattle.dq_tables.specs.Rows.{of};
-ghost use Rattle.dq_tables.specs.Serving.{Serves};
-ghost use Rattle.dq_core.specs.Services.{has_operation, refusal_for, status_alone, performed, operation, outcome_on};
+ghost use Rattle.dq_core.specs.Services.{command_field_of, status_alone, operation_outcome, message_outcome};
 ghost use Rattle.dq_core.specs.Stepping.{Goes, MayLeave};
 ghost use Rattle.dq_core.specs.Doing.{Operates, Did, DidPart, Taken as Pure, served_answer, messages_answer, taken_answer};
 ghost use Rattle.dq_core.specs.Queries.{query_in};
 ghost use Rattle.dq_core.specs.Slots.{IsTaken, answer_of};
 
+use crate::dimse_operation::DimseOperation;
 use crate::fault::Fault;
 use crate::notes::Notes;
 use crate::pages::OpenQuery;
 use crate::slot::Taken;
-use dq_assoc::{AgreedContext, Agreement, Service, SopClass};
+use dq_assoc::{AgreedContext, Agreement};
 use dq_config::Institution;
-use dq_dataset::DataSet;
-use dq_dimse::{Command, Message, command_field, status};
+use dq_dataset::{DataSet, Syntax};
+use dq_dimse::{Message, command_field, status};
 use dq_find::find;
 use dq_list::Listed;
 use dq_match::Found;
 use dq_mpps::{create, set};
 use dq_store::store;
+use dq_tables::Tables;
 use dq_tables::laws::own_records_are_edited;
-use dq_tables::{TableFault, Tables};
 use dq_worklist::query;
 use std::alloc::{AllocError, Global};
 
@@ -57,42 +56,6 @@ pub(crate) struct Answered {
     pub query: Option<OpenQuery>,
 }
 
-/// A message that is served: by whom, and on which context.
-#[derive(Clone, Copy)]
-pub(crate) struct Asked<'a> {
-    pub provider: Provider<'a>,
-    pub context: AgreedContext,
-    pub message: &'a Message,
-}
-
-/// Whether a service has the operation of a Command Field (PS3.4).
-fn has_operation(service: Service, code: u16) -> bool
-    ensures { result ≡ has_operation service code }
-{
-    match service {
-        Service::Verification => code == command_field::C_ECHO,
-        Service::Storage => code == command_field::C_STORE,
-        Service::StudyRootFind => code == command_field::C_FIND,
-        Service::WorklistFind => code == command_field::C_FIND,
-        Service::PerformedProcedureStep => {
-            code == command_field::N_CREATE || code == command_field::N_SET
-        }
-    }
-}
-
-/// The status that a command is refused with on a context of a class, if it is (PS3.7 annex C).
-fn refusal_for(class: SopClass, command: &Command) -> Option<u16>
-    ensures { result ≡ refusal_for class command.now }
-{
-    if !has_operation(class.service(), command.code) {
-        return Some(status::UNRECOGNIZED_OPERATION);
-    }
-    if command.sop_class.as_slice() != class.uid() {
-        return Some(status::SOP_CLASS_NOT_SUPPORTED);
-    }
-    None
-}
-
 /// A status without answers.
 fn status_alone(alloc: Global, status: u16) -> Found
     ensures { result ≡ status_alone status }
@@ -104,40 +67,32 @@ fn status_alone(alloc: Global, status: u16) -> Found
     }
 }
 
-impl Asked<'_> {
-    /// Creates or changes a performed procedure step, and answers the status (PS3.4 section F.7.2).
-    fn perform<T: Tables>(self, tables: &mut T) -> Result<u16, TableFault>
-        ensures { Serves (T.state tables.old) (T.state tables.new)
-            self.entry.provider.institution.now.name
-            (λ records. performed (limits_of self.entry.provider.institution.now) records
-            (plain_message self.entry.message.now) self.entry.context.syntax) result }
-    {
-        let Provider {
-            alloc,
-            institution,
-            ..
-        } = self.provider;
-        let message = self.message;
-        let syntax = self.context.syntax;
-        if message.command.code == command_field::N_CREATE {
-            create(alloc, tables, institution, message, syntax)
-        } else {
-            set(alloc, tables, institution, message, syntax)
-        }
+/// The identifier of a C-FIND, where it can be read.
+fn identifier(
+    alloc: Global,
+    message: &Message,
+    syntax: Syntax,
+) -> Result<Option<DataSet>, AllocError> {
+    if message.command.code != command_field::C_FIND {
+        return Ok(None);
     }
+    Ok(message.identifier(alloc, syntax)?.ok())
+}
 
-    /// Makes the edits of an operation of the context's service, and answers it. Each service has
-    /// its place here.
-    fn operate<T: Tables>(self, tables: &mut T) -> Result<Found, Fault>
-        requires { has_operation (service_of self.context.class) self.message.now.command.code
-            ≡ true }
-        ensures serves { (sent : Received) →
-            StandsFor self.entry.context.syntax self.entry.message.now sent →
-            Operates (T.state tables.old) (T.state tables.new)
-            self.entry.provider.institution.now.name
-            (operation (service_of self.entry.context.class)
-            self.entry.provider.agreement.now.called self.entry.context.syntax
-            (limits_of self.entry.provider.institution.now) sent) result }
+impl Provider<'_> {
+    /// Makes the edits of an operation, and answers it. Each operation has its place here.
+    fn perform<T: Tables>(
+        self,
+        operation: DimseOperation,
+        message: &Message,
+        syntax: Syntax,
+        tables: &mut T,
+    ) -> Result<Found, Fault>
+        requires { command_field_of operation ≡ message.now.command.code }
+        ensures serves { (sent : Received) → StandsFor syntax message.now sent →
+            Operates (T.state tables.old) (T.state tables.new) self.entry.institution.now.name
+            (operation_outcome operation self.entry.agreement.now.called syntax
+            (limits_of self.entry.institution.now) sent) result }
         ensures goes { Goes (T.state tables.old) (T.state tables.new) result }
         ensures fault { IfErr result (λ fault. fault ≢ Fault.Stopped) }
     {
@@ -145,68 +100,67 @@ impl Asked<'_> {
             alloc,
             institution,
             agreement,
-        } = self.provider;
-        let message = self.message;
-        let syntax = self.context.syntax;
-        match self.context.class.service() {
-            Service::Verification => Ok(status_alone(alloc, status::SUCCESS)),
-            Service::Storage => {
+        } = self;
+        match operation {
+            DimseOperation::Echo => Ok(status_alone(alloc, status::SUCCESS)),
+            DimseOperation::Store => {
                 let status = store(alloc, tables, institution, message, syntax)?;
                 Ok(status_alone(alloc, status))
             }
-            Service::StudyRootFind => {
+            DimseOperation::FindStudies => {
                 let called = &agreement.called;
                 Ok(find(alloc, tables, institution, called, message, syntax)?)
             }
-            Service::WorklistFind => Ok(query(alloc, tables, institution, message, syntax)?),
-            Service::PerformedProcedureStep => {
-                let status = self.perform(tables)?;
+            DimseOperation::FindEntries => Ok(query(alloc, tables, institution, message, syntax)?),
+            DimseOperation::CreateStep => {
+                let status = create(alloc, tables, institution, message, syntax)?;
+                Ok(status_alone(alloc, status))
+            }
+            DimseOperation::SetStep => {
+                let status = set(alloc, tables, institution, message, syntax)?;
                 Ok(status_alone(alloc, status))
             }
         }
     }
 
-    /// The outcome of a command that has a response: its refusal, or else that of its operation.
-    fn outcome<T: Tables>(self, tables: &mut T) -> Result<Found, Fault>
-        ensures serves { (sent : Received) →
-            StandsFor self.entry.context.syntax self.entry.message.now sent →
-            Operates (T.state tables.old) (T.state tables.new)
-            self.entry.provider.institution.now.name
-            (outcome_on self.entry.provider.agreement.now self.entry.context
-            (limits_of self.entry.provider.institution.now) sent) result }
+    /// The outcome of a message that has a response: its refusal, or that of its operation. The
+    /// operation is tested first, and then the class (PS3.7 annex C).
+    fn outcome<T: Tables>(
+        self,
+        context: AgreedContext,
+        message: &Message,
+        tables: &mut T,
+    ) -> Result<Found, Fault>
+        ensures serves { (sent : Received) → StandsFor context.syntax message.now sent →
+            Operates (T.state tables.old) (T.state tables.new) self.entry.institution.now.name
+            (message_outcome self.entry.agreement.now context
+            (limits_of self.entry.institution.now) sent) result }
         ensures goes { Goes (T.state tables.old) (T.state tables.new) result }
         ensures fault { IfErr result (λ fault. fault ≢ Fault.Stopped) }
     {
-        match refusal_for(self.context.class, &self.message.command) {
-            Some(status) => Ok(status_alone(self.provider.alloc, status)),
-            None => self.operate(tables),
+        let command = &message.command;
+        let Some(operation) = DimseOperation::of(context.class.service(), command.code) else {
+            return Ok(status_alone(self.alloc, status::UNRECOGNIZED_OPERATION));
+        };
+        if command.sop_class.as_slice() != context.class.uid() {
+            return Ok(status_alone(self.alloc, status::SOP_CLASS_NOT_SUPPORTED));
         }
+        self.perform(operation, message, context.syntax, tables)
     }
 
-    /// The identifier of a C-FIND, where it can be read.
-    fn identifier(self) -> Result<Option<DataSet>, AllocError> {
-        if self.message.command.code != command_field::C_FIND {
-            return Ok(None);
-        }
-        let Provider { alloc, .. } = self.provider;
-        Ok(self.message.identifier(alloc, self.context.syntax)?.ok())
-    }
-
-    /// Notes what the message was answered, where notes are kept.
-    fn note(self, found: &Found, notes: &mut Notes) {
+    /// Notes what a message was answered, where notes are kept.
+    fn note(self, context: AgreedContext, message: &Message, found: &Found, notes: &mut Notes) {
         if notes.are_kept() {
-            let identifier = self.identifier().unwrap_or(None);
+            let identifier = identifier(self.alloc, message, context.syntax).unwrap_or(None);
             notes.serve(
-                self.context.class.service(),
+                context.class.service(),
                 found.status,
                 found.answers.len(),
                 identifier.as_ref(),
             );
         }
     }
-}
 
-impl Provider<'_> {
     /// Serves a message while no C-FIND is open: makes its edits, and sends the first page of its
     /// responses. None comes on a context that was not accepted, and none to a C-CANCEL. Gives back
     /// what is left of the responses.
@@ -240,13 +194,8 @@ impl Provider<'_> {
         if message.command.code == command_field::C_CANCEL {
             return Ok(None);
         }
-        let asked = Asked {
-            provider: self,
-            context,
-            message: &message,
-        };
-        let found = asked.outcome(tables)?;
-        asked.note(&found, notes);
+        let found = self.outcome(context, &message, tables)?;
+        self.note(context, &message, &found, notes);
         let query = OpenQuery::new(self.agreement, context, message.command, found);
         Ok(query.send_page(self.alloc, out)?)
     }

@@ -1,5 +1,5 @@
 -- A change that adds a step, or replaces one, fits the rows.
-use Rattle.std.proofs.Common.{◌≡◌, ℕ, Bool, true, false, ◌&&◌, leb, List, [], ◌∷◌, length, Option, Some, None, is_some, find, refl, sym, ◌∙◌, ap, subst, if◌then◌else◌, Result, Ok, Err}
+use Rattle.std.proofs.Common.{◌≡◌, ℕ, Bool, true, false, ◌&&◌, List, [], ◌∷◌, Some, None, is_some, find, refl, sym, ◌∙◌, ap, subst, if◌then◌else◌, Result, Ok, Err}
 use Rattle.std.specs.List.{AllByRecursion}
 use Rattle.std.specs.Option.{option_map}
 use Rattle.std.specs.Str.{bytes_eq}
@@ -14,11 +14,11 @@ use Rattle.dq_dataset.specs.declared.fault.ReadFault.{ReadFault}
 use Rattle.dq_tables.specs.declared.row.Kind.{Kind}
 use Rattle.dq_tables.specs.declared.row.Kind.TheVariants.{Entry, Step}
 use Rattle.dq_tables.specs.declared.row.Row.{Row}
-use Rattle.dq_tables.specs.Rows.{of, row_of, record_of}
-use Rattle.dq_tables.specs.Finding.{same_kind, is_of, row_at, record_at, rows_of, records_of}
+use Rattle.dq_tables.specs.Rows.{of, row_of}
+use Rattle.dq_tables.specs.Finding.{same_kind, is_of, row_at, record_at}
 use Rattle.dq_tables.specs.Sound.{is_record_of, may_be_started, is_own, OwnEach, is_held, has_key, has_above, is_within, IsNew, FitsStep, IsChanged}
 use Rattle.dq_tables.specs.Starting.{entries_named}
-use Rattle.dq_tables.proofs.Seen.{found_own, found_record, counted_own}
+use Rattle.dq_tables.proofs.Seen.{found_own}
 use Rattle.dq_tables.proofs.Listing.{one_kind}
 use Rattle.dq_mpps.specs.Steps.{spelled_step, step_record}
 use Rattle.dq_mpps.proofs.Named.{named_are_there}
@@ -50,14 +50,6 @@ new_step_fits h uid d rows keys back uid_is free keys_are = record {
   step_new = new_fits h uid d rows back uid_is free;
   there = subst (AllByRecursion (λ (key : List ℕ). is_some (row_at Entry h key rows) ≡ true)) (sym keys_are) (named_are_there h rows d);
 }
-
-some_mapped : {A B : Type 0} (f : A → B) (o : Option A) → is_some (option_map f o) ≡ is_some o
-some_mapped f None = refl
-some_mapped f (Some x) = refl
-
--- a row is found where a record is
-pub kept_is : (h uid : List ℕ) (rows : List Row) (row : Option Row) → row ≡ row_at Step h uid rows → is_some row ≡ is_some (record_at Step uid (of h rows))
-kept_is h uid rows row found = ap is_some (found ∙ found_own Step h uid rows) ∙ some_mapped (row_of h) (record_at Step uid (of h rows))
 
 -- ---- a step that is kept has a UID
 
@@ -104,16 +96,3 @@ changed_fits h uid d octets rows row own found spelled back =
       own = subst (λ (o : List ℕ). is_own (row_of h (spelled_step uid o)) ≡ true) (sym spelled)
           (own_step h uid d back_again (kept_uid h uid rows row own (sym found)));
     }
-
--- the record of a row that is found
-pub kept_record : (h uid : List ℕ) (rows : List Row) (row : Option Row) → row ≡ row_at Step h uid rows
-    → record_at Step uid (of h rows) ≡ option_map record_of row
-kept_record h uid rows row found = sym (found_record Step h uid rows row found)
-
--- the rows of a kind are as many as the records
-pub full_is : (h name : List ℕ) (rows : List Row) (from limit count : ℕ) → h ≡ name → from ≡ limit → count ≡ length (rows_of Step h rows)
-    → leb from count ≡ leb limit (length (records_of Step (of name rows)))
-full_is h name rows from limit count named same counted =
-    let of_records : count ≡ length (records_of Step (of name rows)) =
-    counted ∙ counted_own Step h rows ∙ ap (λ (n : List ℕ). length (records_of Step (of n rows))) named in
-    λ i. leb (same i) (of_records i)

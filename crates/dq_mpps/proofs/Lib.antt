@@ -7,4 +7,3 @@ pub mod Outcomes
 pub mod Refusals
 pub mod Standing
 pub mod StaysSound
-pub mod Writing

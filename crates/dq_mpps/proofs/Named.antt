@@ -1,5 +1,5 @@
 -- The ids that a step names, in their order, and the entries that are kept under them.
-use Rattle.std.proofs.Common.{◌≡◌, ◌+◌, ℕ, Bool, true, false, ◌&&◌, ◌||◌, List, [], ◌∷◌, ◌++◌, map, filter, find, length, Option, Some, None, is_some, option_map, Ok, append-nil, append_assoc, inl, inr, refl, sym, ◌∙◌, ap, arith, if◌then◌else◌}
+use Rattle.std.proofs.Common.{◌≡◌, ◌+◌, ℕ, Bool, true, false, ◌&&◌, ◌||◌, List, [], ◌∷◌, ◌++◌, map, filter, find, length, is_some, Ok, append-nil, append_assoc, inl, inr, refl, sym, ◌∙◌, ap, arith, if◌then◌else◌}
 use Rattle.std.specs.Global.{Vec}
 use Rattle.std.specs.BTreeSet.{insert_key}
 use Rattle.std.specs.List.{AllByRecursion, list_any}
@@ -17,7 +17,7 @@ use Rattle.dq_list.proofs.Among.{among_filter, filtered_from}
 use Rattle.dq_dataset.specs.Tree.{ElementList}
 use Rattle.dq_tables.specs.declared.row.Kind.TheVariants.{Entry}
 use Rattle.dq_tables.specs.declared.row.Row.{Row}
-use Rattle.dq_tables.specs.Rows.{Record, octet_order, IsRising, of, row_of}
+use Rattle.dq_tables.specs.Rows.{Record, octet_order, IsRising, of}
 use Rattle.dq_tables.specs.Finding.{same_kind, record_at, row_at, records_of}
 use Rattle.dq_tables.specs.Keeping.{State, Reads}
 use Rattle.dq_tables.specs.Records.{AreInOrder}
@@ -26,7 +26,9 @@ use Rattle.dq_tables.proofs.Calling.{reads_then, reads_right}
 use Rattle.dq_tables.proofs.Listing.{listed_in_order, in_order_filter}
 use Rattle.dq_tables.proofs.Order.{each_filtered}
 use Rattle.dq_tables.proofs.Rising.{Rises, only_one}
-use Rattle.dq_tables.proofs.Seen.{found_own}
+use Rattle.dq_archive.specs.declared.archive.Archive.{Archive}
+use Rattle.dq_archive.specs.Archives.{IsSame, state_in, records_in, Looks}
+use Rattle.dq_archive.proofs.Looking.{there_own, same_then}
 use Rattle.dq_mpps.specs.Views.{octets_of, AreNamed, ids_kept}
 
 -- ---- a set of ids
@@ -241,34 +243,30 @@ kept_is_named name rows step ids rising named =
 
 -- ---- looking them up
 
--- after calls that read: the keys that were found, and those of the ids that are left
-pub record KeptSoFar (old new : State) (name : List ℕ) (keys left whole : List (List ℕ)) : Type 0 where
-  pub reads : Reads old new (Ok keys)
-  pub so_far : new.honest → keys ++ ids_kept (of name old.rows) left ≡ ids_kept (of name old.rows) whole
-
-there_is : (name id : List ℕ) (rows : List Row) → is_some (row_at Entry name id rows) ≡ is_some (record_at Entry id (of name rows))
-there_is name id rows = ap is_some (found_own Entry name id rows) ∙ some_mapped (record_at Entry id (of name rows))
-  where
-    some_mapped : (o : Option Record) → is_some (option_map (row_of name) o) ≡ is_some o
-    some_mapped None = refl
-    some_mapped (Some r) = refl
+-- the keys that were found so far, and those of the ids that are left
+pub record KeptSoFar {T : Type 0} (state : T → State) (old new : Archive T) (keys left whole : List (List ℕ)) : Type 0 where
+  pub same : IsSame old new
+  pub reads : Reads (state_in state old) (state_in state new) (Ok keys)
+  pub so_far : (state_in state new).honest → keys ++ ids_kept (records_in state old) left ≡ ids_kept (records_in state old) whole
 
 moved_on : (keys others : List (List ℕ)) (id : List ℕ) (b : Bool)
     → (keys ++ (if b then id ∷ [] else [])) ++ others ≡ keys ++ (if b then id ∷ others else others)
 moved_on keys others id true = append_assoc keys (id ∷ []) others
 moved_on keys others id false = ap (λ (ks : List (List ℕ)). ks ++ others) (append-nil keys)
 
-pub looked_up : (old mid new : State) (name : List ℕ) (keys keys' : List (List ℕ)) (before after : List (Vec ℕ)) (id : Vec ℕ) (octets : List ℕ) (whole : List (List ℕ))
-    (entry : Option Row) (b : Bool) → KeptSoFar old mid name keys (octets_of before) whole → before ≡ id ∷ after → octets ≡ id.items
-    → Reads mid new (Ok entry) → (new.honest → entry ≡ row_at Entry name octets mid.rows) → is_some entry ≡ b
-    → keys' ≡ keys ++ (if b then id.items ∷ [] else []) → KeptSoFar old new name keys' (octets_of after) whole
-looked_up old mid new name keys keys' before after id octets whole entry b so_far next same reads found there put = record {
-  reads = reads_right old new entry keys' (reads_then old mid new keys (Ok entry) so_far.reads reads);
+pub looked_up : {T : Type 0} (state : T → State) (old mid new : Archive T) (keys keys' : List (List ℕ)) (before after : List (Vec ℕ)) (id : Vec ℕ) (octets : List ℕ)
+    (whole : List (List ℕ)) (b : Bool) → KeptSoFar state old mid keys (octets_of before) whole → before ≡ id ∷ after → octets ≡ id.items
+    → Looks state mid new (λ records. is_some (record_at Entry octets records)) (Ok b)
+    → keys' ≡ keys ++ (if b then id.items ∷ [] else []) → KeptSoFar state old new keys' (octets_of after) whole
+looked_up state old mid new keys keys' before after id octets whole b so_far next same has put = record {
+  same = same_then old mid new so_far.same has.same;
+  reads = reads_right (state_in state old) (state_in state new) b keys'
+      (reads_then (state_in state old) (state_in state mid) (state_in state new) keys (Ok b) so_far.reads has.reads);
   so_far = λ h.
-      (let was = reads.goes.was_honest h in
-      let records = of name old.rows in
-      let kept : is_some (record_at Entry id.items records) ≡ b =
-      sym (there_is name id.items old.rows) ∙ (λ i. is_some (row_at Entry name (sym same i) (sym (so_far.reads.same was) i))) ∙ ap is_some (sym (found h)) ∙ there in
+      (let was = has.reads.goes.was_honest h in
+      let records = records_in state old in
+      let stay : records_in state mid ≡ records = λ i. of (so_far.same.institution i).now.name (so_far.reads.same was i) in
+      let kept : is_some (record_at Entry id.items records) ≡ b = (λ i. is_some (record_at Entry (sym same i) (sym stay i))) ∙ sym (has.answered h) in
       ap (λ (ks : List (List ℕ)). ks ++ ids_kept records (octets_of after)) put ∙ moved_on keys (ids_kept records (octets_of after)) id.items b
       ∙ ap (λ (c : Bool). keys ++ (if c then id.items ∷ ids_kept records (octets_of after) else ids_kept records (octets_of after))) (sym kept)
       ∙ ap (λ (vs : List (Vec ℕ)). keys ++ ids_kept records (octets_of vs)) (sym next) ∙ so_far.so_far was);
@@ -283,6 +281,6 @@ pub named_are_there : (name : List ℕ) (rows : List Row) (step : ElementList)
     → AllByRecursion (λ (id : List ℕ). is_some (row_at Entry name id rows) ≡ true) (entries_named (of name rows) step)
 named_are_there name rows step =
     all_of (λ (id : List ℕ). is_some (row_at Entry name id rows) ≡ true) (entries_named (of name rows) step)
-    (λ id h. there_is name id rows
+    (λ id h. there_own Entry name id rows
     ∙ (and_parts (is_some (record_at Entry id (of name rows))) (names step id)
     (sym (is_named step id (of name rows)) ∙ among_in id (entries_named (of name rows) step) h)).0)

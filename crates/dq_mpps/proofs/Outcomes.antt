@@ -1,5 +1,5 @@
 -- What is answered of a message, by the refusals before and after.
-use Rattle.std.proofs.Common.{◌≡◌, ℕ, Bool, true, false, List, [], ◌∷◌, Option, Some, None, Result, Ok, Err, refl, sym, ◌∙◌, ap, subst}
+use Rattle.std.proofs.Common.{◌≡◌, ℕ, Bool, true, false, List, [], ◌∷◌, Option, Some, None, is_some, Result, Ok, Err, refl, sym, ◌∙◌, ap, subst, if◌then◌else◌}
 use Rattle.std.specs.Option.{IfSome}
 use Rattle.std.specs.Result.{result_ok}
 use Rattle.dq_value.specs.Uid.{is_uid}
@@ -21,7 +21,7 @@ use Rattle.dq_tables.specs.Serving.{first_refusal, outcome}
 use Rattle.dq_tables.proofs.Refusing.{first_in, first_past}
 use Rattle.dq_dimse.specs.Limits.{other_limit}
 use Rattle.dq_mpps.specs.Steps.{spelled_step, step_record}
-use Rattle.dq_mpps.specs.Creating.{created}
+use Rattle.dq_mpps.specs.Creating.{step_refusals, created}
 use Rattle.dq_mpps.specs.Changing.{kept_data_set, is_too_long, attribute_refusals, changed}
 use Rattle.dq_mpps.specs.Views.{step_created, step_changed}
 
@@ -58,6 +58,15 @@ module _ (limits : Limits) (records : List Record) (message : Message) (syntax :
         ≡ step_created limits message.command.sop_instance d records
     unfolding created
     create_handed_on uid = rw (h, read, uid) refl
+
+free_by : (r : Option Record) (status : ℕ) (others : Option ℕ) → (if is_some r then Some status else others) ≡ None → r ≡ None
+free_by None status others none = refl
+free_by (Some r) status others none = cc
+
+-- none is kept with the UID of a step that is not refused
+pub free_if_accepted : (limits : Limits) (records : List Record) (uid : List ℕ) (d : ElementList) → first_refusal (step_refusals limits records uid d) ≡ None
+    → record_at Step uid records ≡ None
+free_if_accepted limits records uid d none = free_by (record_at Step uid records) _ _ none
 
 -- ---- changes
 

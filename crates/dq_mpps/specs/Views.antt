@@ -1,5 +1,5 @@
--- What is left to answer once a data set has been read, and edits that the code makes.
-use Rattle.std.specs.Prelude.{ℕ, ◌≡◌, None, List, [], ◌∷◌, map, filter, Option, is_some}
+-- What is left to answer once a data set has been read, and the entries that a step names.
+use Rattle.std.specs.Prelude.{ℕ, ◌≡◌, List, [], ◌∷◌, map, filter, Option, is_some}
 use Rattle.std.specs.Global.{Vec}
 use Rattle.std.specs.List.{list_any}
 use Rattle.std.specs.List.Sorted.{IsStrictlySortedBy}
@@ -8,9 +8,8 @@ use Rattle.dq_dataset.specs.Tree.{ElementList}
 use Rattle.dq_dataset.specs.Editing.{merged}
 use Rattle.dq_dimse.specs.Statuses.{success}
 use Rattle.dq_config.specs.Limits.{Limits}
-use Rattle.dq_tables.specs.declared.row.Kind.TheVariants.{Entry, Step}
-use Rattle.dq_tables.specs.declared.row.Row.{Row}
-use Rattle.dq_tables.specs.Rows.{Record, Edit, Put, octet_order, of, by, after}
+use Rattle.dq_tables.specs.declared.row.Kind.TheVariants.{Entry}
+use Rattle.dq_tables.specs.Rows.{Record, Edit, Put, octet_order}
 use Rattle.dq_tables.specs.Finding.{record_at}
 use Rattle.dq_tables.specs.Serving.{first_refusal, outcome}
 use Rattle.dq_tables.specs.Starting.{names}
@@ -29,19 +28,6 @@ abbrev pub step_changed : List ℕ → ElementList → Option Record → ℕ × 
 step_changed uid sent kept =
     outcome (first_refusal (step_refusals kept sent))
     (success, Put (step_record uid (merged (kept_data_set kept) sent)) ∷ [])
-
--- none is kept with the UID
-abbrev pub IsFree : List ℕ → List ℕ → List Row → Type 0
-IsFree name uid rows = record_at Step uid (of name rows) ≡ None
-
--- the rows with a record put among those of an institution
-abbrev pub with_put : List ℕ → Record → List Row → List Row
-with_put name r rows = after (by name (Put r ∷ [])) rows
-
--- the rows with a new step of an institution, and its entries started that the step names
-abbrev pub with_step : List ℕ → List ℕ → ElementList → List Row → List Row
-with_step name uid step rows =
-    after (by name (creating.creation (of name rows) uid step)) rows
 
 -- the octets of vectors
 abbrev pub octets_of : List (Vec ℕ) → List (List ℕ)

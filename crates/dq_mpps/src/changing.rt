@@ -6,22 +6,20 @@ ghost use Rattle.dq_dataset.specs.Canonical.{canonical};
 ghost use Rattle.dq_dataset.specs.Editing.{merged};
 ghost use Rattle.dq_dimse.specs.Holding.{plain_message};
 ghost use Rattle.dq_tables.specs.declared.row.Kind.TheVariants.{Step};
-ghost use Rattle.dq_tables.specs.Rows.{row_of};
 ghost use Rattle.dq_tables.specs.Finding.{record_at};
-ghost use Rattle.dq_tables.specs.Sound.{IsChanged};
-ghost use Rattle.dq_tables.specs.Keeping.{Writes};
 ghost use Rattle.dq_tables.specs.Serving.{Serves, first_refusal};
-ghost use Rattle.dq_mpps.specs.Steps.{spelled_step};
+ghost use Rattle.dq_archive.specs.Archives.{Decides};
 ghost use Rattle.dq_mpps.specs.Changing.{is_too_long, attribute_refusals, changed};
-ghost use Rattle.dq_mpps.specs.Views.{step_changed, with_put};
+ghost use Rattle.dq_mpps.specs.Views.{step_changed};
 
 use crate::attributes::changes_fixed;
 use crate::steps::{DATA_SET_LIMIT, Sent, is_ended, sends_unknown_status, step_row};
+use dq_archive::{Archive, Decision};
 use dq_config::Institution;
 use dq_dataset::laws::{editing_law, written_law};
 use dq_dataset::{DataSet, Syntax, can_be_written, write};
 use dq_dimse::{Message, status};
-use dq_tables::{Change, TableFault, Tables, make_change};
+use dq_tables::{Change, Kind, TableFault, Tables};
 use std::alloc::{AllocError, Global};
 
 /// A step is at most so many octets.
@@ -39,42 +37,54 @@ pub fn set<T: Tables>(
     ensures { Serves (T.state tables.old) (T.state tables.new) institution.now.name
         (λ records. changed records (plain_message message.now) syntax) result }
 {
+    let mut archive = Archive::new(alloc, tables, institution);
+    let decision = decide_change(&mut archive, message, syntax)?;
+    archive.carry_out(decision)
+}
+
+/// What an N-SET makes of the steps.
+fn decide_change<T: Tables>(
+    archive: &mut Archive<'_, T>,
+    message: &Message,
+    syntax: Syntax,
+) -> Result<Decision<u16>, TableFault>
+    ensures { Decides T.state archive.old archive.new
+        (λ records. changed records (plain_message message.now) syntax) result }
+{
     if message.is_over(DATA_SET_LIMIT) {
-        return Ok(status::RESOURCE_LIMITATION);
+        return Ok(Decision::unchanged(status::RESOURCE_LIMITATION));
     }
-    let Some(data_set) = message.data_set(alloc, syntax)? else {
-        return Ok(status::PROCESSING_FAILURE);
+    let Some(data_set) = message.data_set(archive.alloc, syntax)? else {
+        return Ok(Decision::unchanged(status::PROCESSING_FAILURE));
     };
     let sent = Sent {
         uid: message.command.sop_instance.as_slice(),
         data_set: &data_set,
     };
-    set_step(alloc, tables, institution.name.as_slice(), &sent)
+    decide_changed_step(archive, &sent)
 }
 
-/// Changes the step with the UID.
-fn set_step<T: Tables>(
-    alloc: Global,
-    tables: &mut T,
-    name: &[u8],
+/// The same of a data set that was read, by the step that is kept with the UID.
+fn decide_changed_step<T: Tables>(
+    archive: &mut Archive<'_, T>,
     sent: &Sent<'_>,
-) -> Result<u16, TableFault>
-    ensures { Serves (T.state tables.old) (T.state tables.new) name.now
-        (λ records. step_changed sent.now.uid.now sent.now.data_set.now
-        (record_at Step sent.now.uid.now records)) result }
+) -> Result<Decision<u16>, TableFault>
+    ensures { Decides T.state archive.old archive.new (λ records. step_changed sent.now.uid.now
+        sent.now.data_set.now (record_at Step sent.now.uid.now records)) result }
 {
-    let Some(row) = tables.step(alloc, name, sent.uid)? else {
-        return Ok(status::NO_SUCH_SOP_INSTANCE);
+    let Some(row) = archive.row(Kind::Step, sent.uid)? else {
+        return Ok(Decision::unchanged(status::NO_SUCH_SOP_INSTANCE));
     };
-    let kept = row.data_set(alloc)?;
+    let kept = row.data_set(archive.alloc)?;
     if let Some(status) = attribute_refusal(&kept, sent.data_set) {
-        return Ok(status);
+        return Ok(Decision::unchanged(status));
     }
-    let Some(octets) = merged_octets(alloc, &kept, sent.data_set)? else {
-        return Ok(status::RESOURCE_LIMITATION);
+    let Some(octets) = merged_octets(archive.alloc, &kept, sent.data_set)? else {
+        return Ok(Decision::unchanged(status::RESOURCE_LIMITATION));
     };
-    change_step(alloc, tables, name, sent.uid, octets)?;
-    Ok(status::SUCCESS)
+    let name = archive.institution.name.as_slice();
+    let changed = step_row(archive.alloc, name, sent.uid, octets)?;
+    Ok(Decision::with_change(status::SUCCESS, Change::StepChanged(changed)))
 }
 
 /// The status that refuses what is sent, by the step as it is kept.
@@ -117,21 +127,4 @@ fn merged_octets(
         return Ok(None);
     }
     Ok(Some(octets))
-}
-
-/// Puts a step in the place of the one that is kept.
-fn change_step<T: Tables>(
-    alloc: Global,
-    tables: &mut T,
-    name: &[u8],
-    uid: &[u8],
-    octets: Vec<u8>,
-) -> Result<(), TableFault>
-    requires { (T.state tables.old).honest → IsChanged (T.state tables.old).rows Step
-        (row_of name.now (spelled_step uid.now octets.items)) }
-    ensures { Writes (T.state tables.old) (T.state tables.new)
-        (with_put name.now (spelled_step uid.now octets.items) (T.state tables.old).rows) result }
-{
-    let row = step_row(alloc, name, uid, octets)?;
-    make_change(alloc, tables, Change::StepChanged(row))
 }

@@ -1,50 +1,55 @@
 -- Replies that are cut short.
-use Rattle.std.proofs.Common.{◌≡◌, ◌⊎◌, ℕ, ◌≤◌, List, length, take, Option, inl, inr, refl, ap, ◌∙◌, arith}
+use Rattle.std.proofs.Common.{◌≡◌, ◌≢◌, ◌⊎◌, ℕ, ◌≤◌, ◌<◌, List, [], length, take, Option, Some, None, inl, inr, refl, sym, ap, ◌∙◌}
 use Rattle.std.specs.Io.KnownBytes.{Keeps, Appends}
-use Rattle.std.proofs.lemmas.List.{length-take, take-take}
+use Rattle.dq_config.specs.declared.config.Institution.{Institution}
+use Rattle.dq_tables.specs.declared.row.Row.{Row}
+use Rattle.dq_core.specs.declared.event.Event.{Event}
 use Rattle.dq_core.specs.declared.event.Reply.{Reply}
 use Rattle.dq_core.specs.declared.fault.Fault.{Fault}
-use Rattle.dq_captures.specs.declared.printing.PrintFault.{PrintFault}
-use Rattle.dq_captures.specs.declared.printing.PrintFault.TheVariants.{NoMemory, Output}
-use Rattle.dq_captures.specs.Printing.{printed}
-use Rattle.dq_program.specs.Program.{no_memory, AreGiven, PrintsFirst, Cuts, EndsTask, stop_of_printing}
-use Rattle.dq_program.specs.declared.stop.Stop.TheVariants as stop
+use Rattle.dq_core.specs.declared.fault.Fault.TheVariants as fault
+use Rattle.dq_core.specs.Faults.{number_of as fault_number}
+use Rattle.dq_core.specs.Runs.{FaultsAfter, HasNoRoom}
+use Rattle.dq_core.specs.Shared.{replies}
+use Rattle.dq_captures.specs.Printing.{printed_line, printed}
 use Rattle.dq_captures.specs.Surroundings.{AppendsPart}
-use Rattle.dq_captures.proofs.Written.{AppendsPart-replies, AppendsPart-whole, Appends-kept}
+use Rattle.dq_captures.proofs.Written.{AppendsPart-items, AppendsPart-whole, Appends-kept}
+use Rattle.dq_program.specs.Program.{AreGiven, FaultsAt, CutsGiven, Cuts}
+use Rattle.dq_program.specs.declared.stop.Stop.{Stop}
+use Rattle.dq_program.specs.declared.stop.Stop.TheVariants as stop
 
-PrintsFirst-given : (before after : Option (List ℕ)) (all given : List Reply) (end : Option Fault) → AreGiven all given end → PrintsFirst before after given
-    → PrintsFirst before after all
-PrintsFirst-given before after all given end are first =
-    let shorter : length given ≤ length all = omega (arith, ap length are.first, length-take (length given) all) in
-    let same : take first.0 given ≡ take first.0 all =
-    ap (take first.0) are.first ∙ take-take first.0 (length given) all (omega (arith, first.1)) in
-    (first.0, omega (arith, first.1), rw same at first.2)
+one_fault : (one other : Fault) → Some one ≡ Some other → one ≡ other
+one_fault one other is = cc
 
-AppendsPart-given : (before after : Option (List ℕ)) (all given : List Reply) (end : Option Fault) → AreGiven all given end
-    → AppendsPart before after (printed given) → AppendsPart before after (printed all)
-AppendsPart-given before after all given end are part = AppendsPart-replies before after all (length given) (rw are.first at part)
+module _ (institutions : List Institution) (rows : List Row) (events : List Event) (given : List Reply) (end : Option Fault) where
+  -- where a run ended
+  pub faults-at : {Tables : Type 0} {tables left : Tables} (why : Fault) → end ≡ Some why → (end ≢ None → length given < length events)
+      → (end ≢ None → FaultsAfter institutions rows events (length given) ⊎ HasNoRoom tables given end left)
+      → FaultsAt institutions rows events (length given) (fault_number why)
+  faults-at why is fewer came =
+      let ended : end ≢ None = λ none. cc in (
+        fewer ended,
+        elim (came ended) [
+          | inl after ↦ inl after
+          | inr room ↦ inr (ap length room.no_reply, ap fault_number (one_fault why fault.NoMemory (sym is ∙ room.no_memory)))
+        ],
+      )
 
-pub Cuts-unprinted : (before after : Option (List ℕ)) (all given : List Reply) (end : Option Fault) (unprinted : PrintFault)
-    → AreGiven all given end
-    → (unprinted ≡ NoMemory → PrintsFirst before after given)
-    → (unprinted ≡ Output → AppendsPart before after (printed given))
-    → Cuts before after all (stop_of_printing unprinted)
-Cuts-unprinted before after all given end NoMemory are first part = inr (PrintsFirst-given before after all given end are (first refl))
-Cuts-unprinted before after all given end Output are first part = AppendsPart-given before after all given end are (part refl)
-
-pub EndsTask-unprinted : (may_fail : Type 0) (unprinted : PrintFault) → (unprinted ≡ Output → may_fail) → EndsTask may_fail (stop_of_printing unprinted)
-EndsTask-unprinted may_fail NoMemory fails = inl refl
-EndsTask-unprinted may_fail Output fails = fails refl
+  -- replies that were given are cut short as those to the events are
+  pub cuts-given : (before after : Option (List ℕ)) (cause : Stop) → AreGiven institutions rows events given end → CutsGiven before after given end cause
+      → Cuts before after institutions rows events cause
+  cuts-given before after (stop.Fault number) are cut = (
+    length given,
+    rw (← cut.2) at (are.ends cut.0 cut.1),
+    rw are.first at cut.3,
+  )
+  cuts-given before after stop.Output are part = AppendsPart-items printed_line before after (replies institutions rows events) (length given) (rw are.first at part)
+  cuts-given before after stop.Usage are cut = cut
+  cuts-given before after (stop.Config number) are cut = cut
+  cuts-given before after (stop.Capture number) are cut = cut
+  cuts-given before after (stop.Store number) are cut = cut
+  cuts-given before after stop.Network are cut = cut
 
 -- all lines were written, and not handed on
-pub AppendsPart-unflushed : (before mid after : Option (List ℕ)) (all given : List Reply) (end : Option Fault) → AreGiven all given end
-    → Appends before mid (printed given) → Keeps mid after
-    → AppendsPart before after (printed all)
-AppendsPart-unflushed before mid after all given end are written kept =
-    AppendsPart-given before after all given end are (AppendsPart-whole before after (printed given)
-    (Appends-kept before mid after (printed given) written kept))
-
--- what keeps lines from being written
-pub unprinted-is : (unprinted : PrintFault) → (stop_of_printing unprinted ≡ stop.Fault no_memory) ⊎ (stop_of_printing unprinted ≡ stop.Output)
-unprinted-is NoMemory = inl refl
-unprinted-is Output = inr refl
+pub AppendsPart-unflushed : (before mid after : Option (List ℕ)) (octets : List ℕ) → Appends before mid octets → Keeps mid after
+    → AppendsPart before after octets
+AppendsPart-unflushed before mid after octets written kept = AppendsPart-whole before after octets (Appends-kept before mid after octets written kept)

@@ -1,28 +1,38 @@
 -- Rounds of a service, one after the other.
-use Rattle.std.proofs.Common.{◌≡◌, ◌<◌, ◌≤◌, ◌+◌, ℕ, List, [], ◌∷◌, ◌++◌, length, map, refl, sym, ◌∙◌, ap, ap₂, append_assoc, length-append, arith, Option, None, Result, Ok, Err, IfErr}
+use Rattle.std.proofs.Common.{◌≡◌, ◌<◌, ◌≤◌, ◌+◌, ℕ, List, [], ◌∷◌, ◌++◌, length, map, inl, inr, refl, sym, ◌∙◌, ap, ap₂, append_assoc, length-append, arith, Option, Some, None}
 use Rattle.std.proofs.lemmas.List.{append-nil, length-map}
 use Rattle.std.proofs.lemmas.Grind.{flat_map-append}
 use Rattle.std.specs.List.{flat_map}
 use Rattle.dq_tables.specs.Keeping.{State}
+use Rattle.dq_core.specs.declared.event.Event.{Event}
+use Rattle.dq_core.specs.declared.event.Event.TheVariants.{Open}
+use Rattle.dq_core.specs.declared.fault.Fault.{Fault}
+use Rattle.dq_core.specs.declared.fault.Fault.TheVariants as fault
+use Rattle.dq_core.specs.Faults.{number_of as fault_number}
+use Rattle.dq_core.specs.Standing.{Standing}
 use Rattle.dq_wires.specs.declared.calls.Call.{Call}
+use Rattle.dq_wires.specs.Deeds.{break_event}
 use Rattle.dq_wires.specs.Logs.{LogsAll}
 use Rattle.dq_wires.specs.declared.fault.TurnFault.{TurnFault}
 use Rattle.dq_wires.specs.Servings.{Act, act_calls, all_turned}
+use Rattle.dq_wires.specs.Servings.Act.{Turned}
+use Rattle.dq_wires.specs.Steps.{Stops}
 use Rattle.dq_wires.specs.Stepping.{Moves, Fails}
-use Rattle.dq_wires.specs.Turns.{Turn, TurnsWent, TurnsCut, Cut, cut_calls}
-use Rattle.dq_wires.specs.Turns.Cut.{NoRoom}
+use Rattle.dq_wires.specs.Turns.{Turn, TurnsWent, TurnsCut, Cut, cut_calls, CutStops}
+use Rattle.dq_wires.specs.Turns.Cut.{NoRoom, Unaccepted, Unopened, Midway}
 use Rattle.dq_wires.specs.Turners.{Turning}
 use Rattle.dq_wires.proofs.Logging.{logs-then, logs-none}
-use Rattle.dq_program.specs.Console.{Calling, Attending, IsAttending, attending_calls, attending_acts, after_attending}
-use Rattle.dq_program.specs.Serving.{WentOn, Attended, Round, round_acts, rounds_acts, console_calls, ArePlain, AreConsoled}
+use Rattle.dq_program.specs.declared.stop.Stop.{Stop}
+use Rattle.dq_program.specs.declared.stop.Stop.TheVariants as stop
+use Rattle.dq_program.specs.Console.{Calling, Attending, IsAttending, attending_calls, attending_acts, after_attending, interruption_acts}
+use Rattle.dq_program.specs.Desk.{IsLeft}
+use Rattle.dq_program.specs.Heeding.{Interrupted}
+use Rattle.dq_program.specs.Program.{stop_of_turning}
+use Rattle.dq_program.specs.Serving.{WentOn, Attended, Round, round_acts, rounds_acts, console_calls, callers_left, ArePlain, ArePlainTo, AreConsoled, Halt, halt_acts, halt_calls, IsHalt, HasCause, IsServiceFault, IsConsoleStop}
 use Rattle.dq_program.specs.Serving.Round.{Plain, Consoled}
-use Rattle.dq_program.specs.Rounds.{RoundsWent, RoundsCut, callers_left, Beside}
+use Rattle.dq_program.specs.Serving.Halt.{InTurn, AtConsole}
+use Rattle.dq_program.specs.Rounds.{RoundsWent, RoundsCut, Beside, BesideCut}
 use Rattle.dq_program.proofs.Serviced.{TurnsServe, TurnsCutServe, WholeServes, went-nowhere, went-then, went-by-turns}
-
--- what holds where there is an error
-pub at-error : {T E P : Type 0} (r : Result T E) → P → IfErr r (λ _. P)
-at-error (Ok x) holds = tt
-at-error (Err e) holds = holds
 
 -- no turn is whole of one that was cut off
 none-below : {X : Type 0} (xs : List X) → length xs < 1 → xs ≡ []
@@ -40,6 +50,10 @@ pub plain-then : (some later : List Round) → ArePlain some → ArePlain later 
 plain-then [] later a b = b
 plain-then (Plain turn ∷ some) later a b = plain-then some later a b
 plain-then (Consoled turn attending ∷ some) later a b = absurd a
+
+pub plain-then-cut : (some later : List Round) (halt : Halt) → ArePlain some → ArePlainTo later halt → ArePlainTo (some ++ later) halt
+plain-then-cut some later (InTurn cut) a b = plain-then some later a b
+plain-then-cut some later (AtConsole turn it) a b = absurd b
 
 abbrev plain : Turn → Round
 plain turn = Plain turn
@@ -79,6 +93,64 @@ beside-then {before} {mid} {after} {from} {via} {to} some later one next =
       leaves = next.leaves ∙ ap (λ (callers : List Calling). callers_left callers later) one.leaves ∙ sym (left-then from some later);
     }
 
+pub beside-then-cut : {before mid after : Option (List Call)} {from via : List Calling} (some later : List Round) (halt : Halt) → Beside before mid from via some
+    → BesideCut mid after via later halt → BesideCut before after from (some ++ later) halt
+beside-then-cut {before} {mid} {after} {from} {via} some later halt one next =
+    let are : AreConsoled (callers_left from some) later = rw one.leaves at next.are in
+    let is : IsHalt (callers_left (callers_left from some) later) halt = rw one.leaves at next.is in
+    record {
+      are = consoled-then from some later one.are are;
+      is = rw (left-then from some later) is;
+      calls = rw (flat_map-append console_calls some later, append_assoc (flat_map console_calls some) (flat_map console_calls later) (halt_calls halt))
+          (logs-then before mid after (flat_map console_calls some) (flat_map console_calls later ++ halt_calls halt) one.calls next.calls);
+    }
+
+-- no turn of the console was begun
+pub beside-cut-none : (log : Option (List Call)) (callers : List Calling) (cut : Cut) → BesideCut log log callers [] (InTurn cut)
+beside-cut-none log callers cut = record { are = tt; is = tt; calls = logs-none log }
+
+-- its turns were made
+pub beside-cut-whole : {before after : Option (List Call)} {from to : List Calling} (rounds : List Round) → Beside before after from to rounds
+    → BesideCut before after from rounds (InTurn NoRoom)
+beside-cut-whole rounds one = record { are = one.are; is = tt; calls = rw append-nil one.calls }
+
+-- ---- why a service is stopped
+
+service-fault : (why : Fault) → IsServiceFault (fault_number why)
+service-fault fault.NoMemory = inl (inl refl)
+service-fault fault.Store = inl (inr refl)
+service-fault fault.Stopped = inr refl
+
+console-cause : (breaks : Type 0) (cause : Stop) → IsConsoleStop cause → HasCause breaks NoRoom cause
+console-cause breaks (stop.Fault number) is = is
+console-cause breaks stop.Usage is = is
+console-cause breaks (stop.Config number) is = is
+console-cause breaks (stop.Capture number) is = is
+console-cause breaks (stop.Store number) is = is
+console-cause breaks stop.Output is = is
+console-cause breaks stop.Network is = absurd is
+
+module _ {Tables : Type 0} (state : Tables → State) (breaks : Type 0) (old new : Standing Tables) where
+  stops-cause : (cut : Cut) (event : Option Event) (fault : TurnFault) → Stops (Fails state) old new event fault → HasCause breaks cut (stop_of_turning fault)
+  stops-cause cut None fault stops = rw stops.1 (inl (inl refl))
+  stops-cause cut (Some event) fault stops = rw stops.1 (service-fault stops.0)
+
+  stops-left : (event : Option Event) (fault : TurnFault) → Stops (Fails state) old new event fault → IsLeft state old new
+  stops-left None fault stops = inl stops.0
+  stops-left (Some event) fault stops = inr (inl (event, stops.0, stops.2))
+
+  cut-cause : (cut : Cut) (fault : TurnFault) → CutStops (Fails state) old new cut fault → HasCause breaks cut (stop_of_turning fault)
+  cut-cause NoRoom fault stops = stops-cause NoRoom None fault stops
+  cut-cause Unaccepted fault stops = rw stops.1 (inr refl)
+  cut-cause (Unopened place number) fault stops = stops-cause (Unopened place number) (Some (Open number)) fault stops
+  cut-cause (Midway taking done wire at) fault stops = stops-cause (Midway taking done wire at) (break_event wire at) fault stops
+
+  cut-left : (cut : Cut) (fault : TurnFault) → CutStops (Fails state) old new cut fault → IsLeft state old new
+  cut-left NoRoom fault stops = stops-left None fault stops
+  cut-left Unaccepted fault stops = inl stops.0
+  cut-left (Unopened place number) fault stops = stops-left (Some (Open number)) fault stops
+  cut-left (Midway taking done wire at) fault stops = stops-left (break_event wire at) fault stops
+
 module _ {Tables : Type 0} (state : Tables → State) where
   pub rounds-none : {AreSo : List Round → Type 0} (log : Option (List Call)) (it : Turning Tables) → AreSo [] → RoundsWent state log log it it 0 AreSo
   rounds-none log it so = record { rounds = []; counted = refl; so = so; went = went-nowhere state log it }
@@ -104,53 +176,92 @@ module _ {Tables : Type 0} (state : Tables → State) where
   }
 
   -- a turn of all connections was cut off
-  pub cut-turn : {before after : Option (List Call)} {old : Turning Tables} (new : Turning Tables) {fault : TurnFault} → TurnsCutServe state
-      → TurnsCut (Moves state) (Fails state) before after old.server new.server old.hold 1 fault → RoundsCut state before after old 1 ArePlain
-  cut-turn {before} {after} {old} new {fault} law off = record {
+  pub cut-turn : {breaks : Type 0} {before after : Option (List Call)} {old : Turning Tables} (new : Turning Tables) {fault : TurnFault}
+      {AreSo : List Round → Halt → Type 0} → ((cut : Cut) → AreSo [] (InTurn cut)) → TurnsCutServe state
+      → TurnsCut (Moves state) (Fails state) before after old.server new.server old.hold 1 fault
+      → RoundsCut state breaks before after old new.server 1 AreSo (stop_of_turning fault)
+  cut-turn {breaks} {before} {after} {old} new {fault} so law off = record {
     rounds = [];
     most = omega arith;
-    so = tt;
-    cut = off.cut;
+    halt = InTurn off.cut;
+    so = so off.cut;
+    causes = cut-cause state breaks off.mid new.server off.cut fault off.stops;
     off = λ rows start first done s.
         let none : off.turns ≡ [] = none-below off.turns off.fewer in
         record {
           last = off.mid;
           served = rw none at (law rows start before after first old.server new.server old.hold done 1 fault s off);
           calls = cut-calls start before after done off.cut s.calls (rw none at off.calls);
+          left = cut-left state breaks off.mid new.server off.cut fault off.stops;
         };
   }
 
   -- rounds were made, and what is to be waited for failed
-  pub cut-after : {before after : Option (List Call)} {old new : Turning Tables} {count : ℕ} {AreSo : List Round → Type 0} → WholeServes state
-      → RoundsWent state before after old new count AreSo → RoundsCut state before after old count AreSo
-  cut-after {before} {after} {old} {new} whole went = record {
+  pub cut-after : {breaks : Type 0} {before after : Option (List Call)} {old new : Turning Tables} {count : ℕ} {AreSo : List Round → Type 0}
+      {CutSo : List Round → Halt → Type 0} → ((rounds : List Round) → AreSo rounds → CutSo rounds (InTurn NoRoom)) → WholeServes state → breaks
+      → RoundsWent state before after old new count AreSo → RoundsCut state breaks before after old new.server count CutSo stop.Network
+  cut-after {before = before} {after} {old} {new} so whole broke went = record {
     rounds = went.rounds;
     most = omega (arith, went.counted);
-    so = went.so;
-    cut = NoRoom;
+    halt = InTurn NoRoom;
+    so = so went.rounds went.so;
+    causes = inl broke;
     off = λ rows start first done s.
         let later = went.went.serves rows start first done s in
-        record {
+        rw (append-nil (rounds_acts went.rounds)) (record {
           last = new.server;
           served = whole rows start after first new.server new.hold (done ++ rounds_acts went.rounds) later;
           calls = rw append-nil later.calls;
-        };
+          left = inl refl;
+        });
   }
 
-  -- rounds, and then one that was cut off
-  pub rounds-cut : {before mid after : Option (List Call)} {old one : Turning Tables} {made count : ℕ} {First Later Both : List Round → Type 0}
-      → ((some later : List Round) → First some → Later later → Both (some ++ later)) → made + 1 ≤ count
-      → RoundsWent state before mid old one made First → RoundsCut state mid after one 1 Later → RoundsCut state before after old count Both
+  -- rounds, and then one that was stopped
+  pub rounds-cut : {breaks : Type 0} {before mid after : Option (List Call)} {old one : Turning Tables} {new : Standing Tables} {made count : ℕ} {cause : Stop}
+      {First : List Round → Type 0} {Later Both : List Round → Halt → Type 0}
+      → ((some later : List Round) (halt : Halt) → First some → Later later halt → Both (some ++ later) halt) → made + 1 ≤ count
+      → RoundsWent state before mid old one made First → RoundsCut state breaks mid after one new 1 Later cause
+      → RoundsCut state breaks before after old new count Both cause
   rounds-cut {after = after} join within first next = record {
     rounds = first.rounds ++ next.rounds;
     most = omega (arith, within, first.counted, next.most, length-append first.rounds next.rounds);
-    so = join first.rounds next.rounds first.so next.so;
-    cut = next.cut;
+    halt = next.halt;
+    so = join first.rounds next.rounds next.halt first.so next.so;
+    causes = next.causes;
     off = λ rows start server done s.
         let acts = rounds_acts first.rounds in
-        rw (flat_map-append round_acts first.rounds next.rounds, ← append_assoc done acts (rounds_acts next.rounds))
+        let rest = rounds_acts next.rounds ++ halt_acts next.halt in
+        rw (flat_map-append round_acts first.rounds next.rounds, append_assoc acts (rounds_acts next.rounds) (halt_acts next.halt), ← append_assoc done acts rest)
         (next.off rows start server (done ++ acts) (first.went.serves rows start server done s));
   }
+
+  -- a turn of all connections, and then one of the console that was interrupted
+  module _ {breaks : Type 0} {before after beside left : Option (List Call)} {old mid new : Turning Tables} {from : List Calling} {cause : Stop}
+      (law : TurnsServe state) (whole : WholeServes state) (at : Interrupted state beside left mid new from) (is : IsConsoleStop cause) where
+    interrupted-round : (turns : List Turn) → length turns ≡ 1 → WentOn state before after old mid (all_turned turns)
+        → RoundsCut state breaks before after old new.server 1 (BesideCut beside left from) cause
+    interrupted-round [] one went = absurd (cc)
+    interrupted-round (turn ∷ []) one went = record {
+      rounds = [];
+      most = omega arith;
+      halt = AtConsole turn at.it;
+      so = record { are = tt; is = at.is; calls = at.calls };
+      causes = console-cause breaks cause is;
+      off = λ rows start first done s.
+          let all = went-then state went (at.acts after) in
+          let later = all.serves rows start first done s in
+          record {
+            last = at.last.server;
+            served = whole rows start after first at.last.server at.last.hold (done ++ (Turned turn ∷ interruption_acts at.it)) later;
+            calls = rw append-nil later.calls;
+            left = at.left;
+          };
+    }
+    interrupted-round (turn ∷ more ∷ turns) one went = absurd (cc)
+
+    pub cut-console : TurnsWent (Moves state) before after old.server mid.server old.hold mid.hold 1 → mid.fault ≡ None
+        → RoundsCut state breaks before after old new.server 1 (BesideCut beside left from) cause
+    cut-console went works = interrupted-round went.turns went.whole (went-by-turns state law went works)
 
   -- a turn of all connections, and then one of the console
   module _ {before after beside left : Option (List Call)} {old mid new : Turning Tables} {from to : List Calling} (law : TurnsServe state)

@@ -1,5 +1,5 @@
 -- Services that go on.
-use Rattle.std.proofs.Common.{◌≡◌, ℕ, List, [], ◌∷◌, ◌++◌, length, ◌∙◌, ap, ap₂, append_assoc, Option, None, Bool}
+use Rattle.std.proofs.Common.{◌≡◌, ℕ, List, [], ◌∷◌, ◌++◌, length, inl, inr, refl, ◌∙◌, ap, ap₂, append_assoc, Option, Some, None, Bool}
 use Rattle.std.proofs.lemmas.List.{append-nil}
 use Rattle.std.specs.List.{flat_map}
 use Rattle.dq_config.specs.declared.config.Institution.{Institution}
@@ -23,11 +23,13 @@ use Rattle.dq_wires.specs.Turns.{Hold, TurnsWent, TurnsCut}
 use Rattle.dq_wires.specs.Turners.{Turning, IsOrder}
 use Rattle.dq_program.specs.declared.desk.Line.{Line}
 use Rattle.dq_program.specs.declared.desk.Line.TheVariants as line
-use Rattle.dq_program.specs.Desk.{HasOrders, Tells, Answered, is_bad}
+use Rattle.dq_program.specs.declared.stop.Stop.{Stop}
+use Rattle.dq_program.specs.Desk.{HasOrders, Tells, Answered, is_bad, LooksInPart, Unanswered}
 use Rattle.dq_program.specs.Console.{Calling, answered}
 use Rattle.dq_program.specs.Console.Answer.{Obeyed, Reported, BackedUp, Unread}
-use Rattle.dq_program.specs.Heeding.{Does}
-use Rattle.dq_program.specs.Serving.{WentOn, Attended, Round, rounds_acts, HasConsole, IsUncalled, Served}
+use Rattle.dq_program.specs.Heeding.{Does, Halted}
+use Rattle.dq_program.specs.Rounds.{RoundsCut}
+use Rattle.dq_program.specs.Serving.{WentOn, Attended, Round, rounds_acts, Halt, halt_acts, halt_cut, HasConsole, HasConsoleTo, IsUncalled, Served, ServedUpTo}
 
 module _ {Tables : Type 0} (state : Tables → State) where
   -- the laws of servings that are used
@@ -127,6 +129,35 @@ module _ {Tables : Type 0} (state : Tables → State) where
         leaves = put ∙ ap₂ (λ (t : List ℕ) (b : Bool). answered caller t b) is.1 bad;
       }
 
+  -- a turner as it was, but for its server
+  abbrev at-server : Turning Tables → Standing Tables → Turning Tables
+  at-server old at = record { server = at; hold = old.hold; fault = old.fault }
+
+  -- there is no answer to a line, for a fault
+  module _ {old new : Turning Tables} (octets : List ℕ) (orders : OrdersServe) (looks : LooksServe) where
+    looks-halted : LooksInPart state old.server new.server → Halted state old new octets
+    looks-halted looked = record {
+      order = None;
+      is = tt;
+      last = at-server old looked.0;
+      acts = went-by-look {old = old} {new = at-server old looked.0} refl refl looks looked.1;
+      left = looked.2;
+    }
+
+    pub line-halted : (l : Line) → Tells octets l → HasOrders l → Unanswered state old.server new.server l → Halted state old new octets
+    line-halted (line.Order event) tells order (inl fails) =
+        record { order = None; is = tt; last = old; acts = λ log. went-nowhere log old; left = inr (inl (event, fails.0, fails.1)) }
+    line-halted (line.Order event) tells order (inr stepped) = record {
+      order = Some (event, stepped.0);
+      is = (tells, order);
+      last = at-server old new.server;
+      acts = went-by-order {old = old} {new = at-server old new.server} refl refl orders event stepped.0 order stepped.1;
+      left = inl refl;
+    }
+    line-halted line.Report tells order looked = looks-halted looked
+    line-halted (line.Backup path) tells order looked = looks-halted looked
+    line-halted line.Bad tells order same = record { order = None; is = tt; last = old; acts = λ log. went-nowhere log old; left = inl same }
+
 -- what has gone on from a beginning is a service
 module _ {Tables : Type 0} (state : Tables → State) (rows : List Row) where
   abbrev pub AreReplied : Type 0
@@ -151,5 +182,30 @@ module _ {Tables : Type 0} (state : Tables → State) (rows : List Row) where
         are = service.are;
         calls = service.calls;
         answered = rw (same, steps) at (replied rows old.server new.server (rounds_acts rounds) NoRoom served honest);
+        consoled = consoled;
+      }
+
+  -- one that was cut off
+  pub service-cut : {Wired : Type 0} (log : Wired → Option (List Call)) (wires left : Wired) {breaks : Type 0} {old : Turning Tables} {new : Standing Tables}
+      {count made : ℕ} {AreSo : List Round → Halt → Type 0} {cause : Stop} (console : Option (List ℕ)) (institutions : List Institution) → AreReplied
+      → Serving state rows (log wires) (log wires) old.server old.server old.hold [] → ((tables : Tables) → (state tables).honest)
+      → old.server.institutions ≡ institutions → made ≡ count → IsUncalled (log wires)
+      → (off : RoundsCut state breaks (log wires) (log left) old new made AreSo cause) → HasConsoleTo log console off.rounds off.halt
+      → ServedUpTo log breaks institutions rows count console cause
+  service-cut log wires left {old = old} console institutions replied begun honest same number uncalled off consoled =
+      let cut = off.off rows (log wires) old.server [] begun in
+      record {
+        wires = wires;
+        left = left;
+        uncalled = uncalled;
+        rounds = off.rounds;
+        most = rw number at off.most;
+        halt = off.halt;
+        causes = off.causes;
+        are = cut.served.are;
+        fits = cut.served.fits;
+        calls = cut.calls;
+        answered = rw same at (replied rows old.server cut.last (rounds_acts off.rounds ++ halt_acts off.halt) (halt_cut off.halt) cut.served
+            (honest cut.last.tables));
         consoled = consoled;
       }

@@ -13,7 +13,7 @@ use Rattle.dq_wires.proofs.Logging.{logs-then, logs-none}
 use Rattle.dq_wires.proofs.Rounding.{flat_map-more, map-more, get-at, set-at, remove-at}
 use Rattle.dq_program.specs.Console.{Calling, HasLine, first_line, without_line, IsListening, answered, answer_text, is_unread, heed_calls, after_heed, Attending, IsAttending, letting_calls, attending_calls, attending_acts, after_attending, Visit, IsVisit, AreVisits, caller_of, kept_of, visit_calls, visit_acts, shut_calls}
 use Rattle.dq_program.specs.Console.Heed.{Took, Forgotten}
-use Rattle.dq_program.specs.Heeding.{Writes, Does, LetsIn, Heeded, Visited, AllVisited}
+use Rattle.dq_program.specs.Heeding.{Writes, Does, LetsIn, HaltedAt, Heeded, Visited, AllVisited, SomeVisited, Interrupted}
 use Rattle.dq_program.specs.Serving.{Attended}
 use Rattle.dq_program.proofs.Serviced.{went-nowhere, went-then}
 
@@ -178,6 +178,51 @@ module _ {Tables : Type 0} (state : Tables → State) where
             → VisitsSo before after old new from (remove (set callers at next) at) at
         by [] each holds = absurd (omega (arith, so.place, within, ap length holds, length-append (flat_map kept_of so.visits) []))
         by (caller ∷ others) each holds = is-gone others caller each holds (rw (found ∙ next-is others caller each holds w) at went) is
+
+    -- a fault came in the turn of the next
+    pub visits-halted : {after : Option (List Call)} {new : Turning Tables} → at < length callers → (w : Calling) → w ≡ get_or callers at w
+        → HaltedAt state now after mid new w → SomeVisited state before after old new from
+    visits-halted {after} {new} within w found halted = by so.others so.each so.holds where
+      by : (others : List Calling) → map caller_of so.visits ++ others ≡ from → callers ≡ flat_map kept_of so.visits ++ others
+          → SomeVisited state before after old new from
+      by [] each holds = absurd (omega (arith, so.place, within, ap length holds, length-append (flat_map kept_of so.visits) []))
+      by (caller ∷ others) each holds =
+          let is : HaltedAt state now after mid new caller = rw (found ∙ next-is others caller each holds w) at halted in
+          record {
+            visits = so.visits;
+            caller = caller;
+            others = others;
+            each = each;
+            are = so.are;
+            calls = rw is.2 so.calls;
+            listening = is.0;
+            has = is.1;
+            order = is.3.order;
+            is = is.3.is;
+            last = is.3.last;
+            acts = attended-then so.acts is.3.acts;
+            left = is.3.left;
+          }
+
+  -- a turn of the console that was interrupted
+  pub interrupts : {before mid after : Option (List Call)} {old new : Turning Tables} {from via : List Calling} → LetsIn before mid from via
+      → SomeVisited state mid after old new via → Interrupted state before after old new from
+  interrupts {before} {mid} {after} lets some = record {
+    it = record { letting = lets.letting; visits = some.visits; caller = some.caller; order = some.order };
+    is = record {
+      lets = lets.lets;
+      others = some.others;
+      each = some.each ∙ lets.leaves;
+      are = some.are;
+      listening = some.listening;
+      has = some.has;
+      is = some.is;
+    };
+    calls = logs-then before mid after (letting_calls lets.letting) (flat_map visit_calls some.visits) lets.calls some.calls;
+    last = some.last;
+    acts = some.acts;
+    left = some.left;
+  }
 
   -- a turn of the console
   pub attends : {before mid after : Option (List Call)} {old new : Turning Tables} {from via to : List Calling} → LetsIn before mid from via

@@ -284,3 +284,38 @@ attending_acts a = flat_map visit_acts a.visits
 
 abbrev pub after_attending : Attending → List Calling
 after_attending a = flat_map kept_of a.visits
+
+-- ---- a turn of the console that a fault ended
+
+-- After the turns of some callers it ended at a line of another, to which there is no answer. An
+-- order that this line tells may have been stepped, with this reply.
+pub record Interruption : Type 0 where
+  pub letting : Letting
+  pub visits : List Visit
+  pub caller : Calling
+  pub order : Option (Event × Reply)
+
+-- which line the order is of
+abbrev pub IsUnanswered : List ℕ → Option (Event × Reply) → Type 0
+IsUnanswered text None = Unit {0}
+IsUnanswered text (Some order) = Tells text (line.Order order.0) × IsOrder order.0
+
+abbrev pub order_acts : Option (Event × Reply) → List Act
+order_acts None = []
+order_acts (Some order) = Ordered order.0 order.1 ∷ []
+
+-- The turn was one up to there.
+pub record IsInterruption (callers : List Calling) (it : Interruption) : Type 0 where
+  pub lets : IsLetting callers it.letting
+  pub others : List Calling
+  pub each : map caller_of it.visits ++ it.caller ∷ others ≡ with_let_in callers it.letting
+  pub are : AreVisits it.visits
+  pub listening : IsListening it.caller
+  pub has : HasLine it.caller.came
+  pub is : IsUnanswered (first_line it.caller.came) it.order
+
+abbrev pub interruption_calls : Interruption → List Call
+interruption_calls it = letting_calls it.letting ++ flat_map visit_calls it.visits
+
+abbrev pub interruption_acts : Interruption → List Act
+interruption_acts it = flat_map visit_acts it.visits ++ order_acts it.order

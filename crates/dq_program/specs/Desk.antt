@@ -1,13 +1,14 @@
 -- What the console is told, and what it answers.
-use Rattle.std.specs.Prelude.{◌≡◌, ◌≢◌, ℕ, Bool, true, false, List, [], ◌∷◌, ◌++◌, codes, string_bytes, Result, OnOk}
+use Rattle.std.specs.Prelude.{◌≡◌, ◌≢◌, ◌⊎◌, ℕ, Bool, true, false, List, [], ◌∷◌, ◌++◌, codes, string_bytes, Result, OnOk}
 use Rattle.std.specs.Str.{IsUtf8}
 use Rattle.dq_tables.specs.declared.row.Row.{Row}
 use Rattle.dq_tables.specs.Keeping.{State}
 use Rattle.dq_core.specs.declared.event.Event.{Event}
 use Rattle.dq_core.specs.declared.event.Reply.{Reply}
 use Rattle.dq_core.specs.Standing.{Standing}
-use Rattle.dq_core.specs.Looking.{Looked}
-use Rattle.dq_wires.specs.Stepping.{Stepped}
+use Rattle.dq_core.specs.declared.fault.Fault.{Fault}
+use Rattle.dq_core.specs.Looking.{Looked, FailsToLook}
+use Rattle.dq_wires.specs.Stepping.{Stepped, Fails}
 use Rattle.dq_wires.specs.Turners.{IsOrder}
 use Rattle.dq_program.specs.declared.desk.Line.{Line}
 use Rattle.dq_program.specs.declared.desk.Line.TheVariants.{Order, Report, Backup, Bad}
@@ -65,3 +66,22 @@ module _ {Tables : Type 0} (state : Tables → State) (copied : List Row → Typ
       × ((state new.tables).honest → text ≡ reported (state old.tables).rows names)
   Answered old new (Backup path) text = BacksUp state copied old new text
   Answered old new Bad text = (new ≡ old) × (text ≡ bad_line)
+
+-- What a fault leaves of a server: it is as it was, or it failed at an event or at a look.
+module _ {Tables : Type 0} (state : Tables → State) where
+  abbrev pub IsLeft : Standing Tables → Standing Tables → Type 0
+  IsLeft old new = (new ≡ old) ⊎ ((event : Event) × (why : Fault) × Fails state old new event why)
+      ⊎ ((why : Fault) × FailsToLook state old new why)
+
+  -- some looks, and then a fault
+  abbrev pub LooksInPart : Standing Tables → Standing Tables → Type 0
+  LooksInPart old new = (last : Standing Tables) × Looked state old last × IsLeft last new
+
+  -- It is not answered, for a fault: its order failed, or was stepped and there is no memory for the
+  -- answer; or nothing but looks came about.
+  abbrev pub Unanswered : Standing Tables → Standing Tables → Line → Type 0
+  Unanswered old new (Order event) = ((why : Fault) × Fails state old new event why)
+      ⊎ ((reply : Reply) × Stepped state old new event reply)
+  Unanswered old new Report = LooksInPart old new
+  Unanswered old new (Backup path) = LooksInPart old new
+  Unanswered old new Bad = new ≡ old

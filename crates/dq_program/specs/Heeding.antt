@@ -1,7 +1,9 @@
 -- How parts of a turn of the console went. This is there for the prover.
-use Rattle.std.specs.Prelude.{◌≡◌, ◌≢◌, ℕ, Bool, true, false, if◌then◌else◌, List, [], ◌∷◌, map, Option, Some, None, Result}
+use Rattle.std.specs.Prelude.{◌≡◌, ◌≢◌, ℕ, Bool, true, false, if◌then◌else◌, List, [], ◌∷◌, ◌++◌, map, Option, Some, None, Result}
 use Rattle.std.specs.List.{flat_map}
 use Rattle.dq_tables.specs.Keeping.{State}
+use Rattle.dq_core.specs.declared.event.Event.{Event}
+use Rattle.dq_core.specs.declared.event.Reply.{Reply}
 use Rattle.dq_wires.specs.declared.calls.WireFault.{WireFault}
 use Rattle.dq_wires.specs.declared.calls.Came.{Came}
 use Rattle.dq_wires.specs.declared.calls.Came.TheVariants as what
@@ -12,7 +14,8 @@ use Rattle.dq_wires.specs.Logs.{Logs, LogsAll}
 use Rattle.dq_wires.specs.Turners.{Turning}
 use Rattle.dq_program.specs.declared.caller.Next.{Next}
 use Rattle.dq_program.specs.declared.caller.Next.TheVariants as next
-use Rattle.dq_program.specs.Console.{Calling, HasNone, HasLine, first_line, without_line, IsListening, IsThere, with_octets, after_write, Answer, IsAnswer, answer_text, answer_acts, is_unread, answered, Heed, IsHeed, heed_calls, heed_acts, after_heed, Letting, IsLetting, letting_calls, with_let_in, Visit, caller_of, kept_of, visit_calls, visit_acts, IsShut, AreVisits}
+use Rattle.dq_program.specs.Console.{Calling, HasNone, HasLine, first_line, without_line, IsListening, IsThere, with_octets, after_write, Answer, IsAnswer, answer_text, answer_acts, is_unread, answered, Heed, IsHeed, heed_calls, heed_acts, after_heed, Letting, IsLetting, letting_calls, with_let_in, Visit, caller_of, kept_of, visit_calls, visit_acts, IsShut, AreVisits, IsUnanswered, order_acts, Interruption, IsInterruption, interruption_calls, interruption_acts}
+use Rattle.dq_program.specs.Desk.{IsLeft}
 use Rattle.dq_program.specs.Serving.{Attended}
 
 -- what is taken of a caller
@@ -64,6 +67,20 @@ module _ {Tables : Type 0} (state : Tables → State) where
   DoesIf old new line caller next true = Does old new line caller next
   DoesIf old new line caller next false = new ≡ old
 
+  -- A fault came at a line, and there is no answer to it.
+  pub record Halted (old new : Turning Tables) (line : List ℕ) : Type 0 where
+    pub order : Option (Event × Reply)
+    pub is : IsUnanswered line order
+    pub last : Turning Tables
+    pub acts : Attended state old last (order_acts order)
+    pub left : IsLeft state last.server new.server
+
+  -- in the turn of a caller, whose line was taken
+  abbrev pub HaltedAt : Option (List Call) → Option (List Call) → Turning Tables → Turning Tables
+      → Calling → Type 0
+  HaltedAt before after old new caller = IsListening caller × HasLine caller.came
+      × (after ≡ before) × Halted old new (first_line caller.came)
+
   -- the turn of a caller was made, but for its shut if it is gone
   pub record Heeded (before after : Option (List Call)) (old new : Turning Tables)
       (caller next : Calling) (there : Bool) : Type 0 where
@@ -94,6 +111,33 @@ module _ {Tables : Type 0} (state : Tables → State) where
     pub calls : LogsAll before after (flat_map visit_calls visits)
     pub acts : Attended state old new (flat_map visit_acts visits)
     pub kept : to ≡ flat_map kept_of visits
+
+  -- the turns of some were made, and a fault came in that of the next
+  pub record SomeVisited (before after : Option (List Call)) (old new : Turning Tables)
+      (from : List Calling) : Type 0 where
+    pub visits : List Visit
+    pub caller : Calling
+    pub others : List Calling
+    pub each : map caller_of visits ++ caller ∷ others ≡ from
+    pub are : AreVisits visits
+    pub calls : LogsAll before after (flat_map visit_calls visits)
+    pub listening : IsListening caller
+    pub has : HasLine caller.came
+    pub order : Option (Event × Reply)
+    pub is : IsUnanswered (first_line caller.came) order
+    pub last : Turning Tables
+    pub acts : Attended state old last (flat_map visit_acts visits ++ order_acts order)
+    pub left : IsLeft state last.server new.server
+
+  -- a turn of the console was interrupted
+  pub record Interrupted (before after : Option (List Call)) (old new : Turning Tables)
+      (callers : List Calling) : Type 0 where
+    pub it : Interruption
+    pub is : IsInterruption callers it
+    pub calls : LogsAll before after (interruption_calls it)
+    pub last : Turning Tables
+    pub acts : Attended state old last (interruption_acts it)
+    pub left : IsLeft state last.server new.server
 
 -- a turn began
 pub record LetsIn (before after : Option (List Call)) (from to : List Calling) : Type 0 where

@@ -1,6 +1,7 @@
 pub mod Backups
 pub mod Console
 pub mod Desk
+pub mod Errands
 pub mod Heeding
 pub mod Looping
 pub mod Program

@@ -1,7 +1,6 @@
 -- What the program does with its words, a configuration and a capture.
 use Rattle.std.specs.Prelude.{◌≡◌, ◌≢◌, ℕ, zero, suc, ◌<◌, ◌≤◌, ◌⊎◌, codes, IfSome}
 use Rattle.std.specs.Prelude.{List, [], ◌∷◌, ◌++◌, length, take, Option, None, Some, option_map, Ok, Err}
-use Rattle.std.specs.Fmt.{decimal}
 use Rattle.std.specs.Str.{IsUtf8}
 use Rattle.std.specs.Io.KnownBytes.{Keeps, Appends}
 use Rattle.dq_config.specs.declared.config.Institution.{Institution}
@@ -15,11 +14,10 @@ use Rattle.dq_core.specs.declared.event.Reply.{Reply}
 use Rattle.dq_core.specs.declared.fault.Fault.{Fault}
 use Rattle.dq_core.specs.declared.fault.Fault.TheVariants as fault
 use Rattle.dq_core.specs.Faults.{number_of as fault_number}
+use Rattle.dq_core.specs.Runs.{FaultsAfter}
 use Rattle.dq_core.specs.Shared.{replies, world_after}
 use Rattle.dq_captures.specs.declared.capture.CaptureFault.{CaptureFault}
 use Rattle.dq_captures.specs.declared.capture.CaptureFault.TheVariants as capture
-use Rattle.dq_captures.specs.declared.printing.PrintFault.{PrintFault}
-use Rattle.dq_captures.specs.declared.printing.PrintFault.TheVariants as printing
 use Rattle.dq_program.specs.declared.network.Unheard.{Unheard}
 use Rattle.dq_program.specs.declared.network.Unheard.TheVariants as unheard
 use Rattle.dq_captures.specs.declared.surroundings.Unread.{Unread}
@@ -27,9 +25,9 @@ use Rattle.dq_captures.specs.declared.surroundings.Unread.TheVariants as unread
 use Rattle.dq_program.specs.declared.stop.Stop.{Stop}
 use Rattle.dq_program.specs.declared.stop.Stop.TheVariants as stop
 use Rattle.dq_captures.specs.Captures.{line_feed, lines_of, AreCapture, IsFirstBadLine}
-use Rattle.dq_captures.specs.Printing.{printed}
+use Rattle.dq_captures.specs.Printing.{numbered_line, printed}
 use Rattle.dq_program.specs.Reports.{names_of, reported}
-use Rattle.dq_captures.specs.Surroundings.{AppendsPart}
+use Rattle.dq_captures.specs.Surroundings.{AppendsPart, BreaksOff}
 use Rattle.dq_program.specs.declared.stores.Unkept.{Unkept}
 use Rattle.dq_program.specs.declared.stores.Unkept.TheVariants as unkept
 use Rattle.dq_words.specs.declared.words.Task.{Task}
@@ -57,10 +55,6 @@ stop_of_config other = stop.Config (config_number other)
 abbrev pub stop_of_capture : CaptureFault → Stop
 stop_of_capture (capture.Line number) = stop.Capture number
 stop_of_capture capture.NoMemory = stop.Fault no_memory
-
-abbrev pub stop_of_printing : PrintFault → Stop
-stop_of_printing printing.NoMemory = stop.Fault no_memory
-stop_of_printing printing.Output = stop.Output
 
 -- a file that is not read, and a capture
 abbrev pub stop_of_file : Unread → Stop
@@ -95,9 +89,6 @@ status_of (stop.Store number) = 4
 status_of (stop.Fault number) = 4
 status_of stop.Output = 4
 status_of stop.Network = 5
-
-abbrev pub numbered_line : List ℕ → ℕ → List ℕ
-numbered_line text number = text ++ decimal number ++ line_feed ∷ []
 
 -- What is told of a stop on standard error. For usage that is the command line's own text.
 abbrev pub stop_text : Stop → List ℕ
@@ -186,23 +177,40 @@ EndsTask may_fail (stop.Fault number) = IsRunFault number
 EndsTask may_fail stop.Output = may_fail
 EndsTask may_fail other = ⊥
 
--- the lines of the first replies, and not of all
-abbrev pub PrintsFirst : Option (List ℕ) → Option (List ℕ) → List Reply → Type 0
-PrintsFirst before after given = (count : ℕ) × (count < length given)
-    × Appends before after (printed (take count given))
+-- A fault of this number ended a run that had answered so many events: it came in the next of them,
+-- which is none that takes no memory; or there was no room to begin.
+abbrev pub FaultsAt : List Institution → List Row → List Event → ℕ → ℕ → Type 0
+FaultsAt institutions rows events answered number = (answered < length events)
+    × (FaultsAfter institutions rows events answered
+    ⊎ ((answered ≡ 0) × (number ≡ no_memory)))
 
--- How replies are cut short: at a fault nothing or whole lines were printed, and not all; where the
--- output fails, the first octets of the lines.
-abbrev pub Cuts : Option (List ℕ) → Option (List ℕ) → List Reply → Stop → Type 0
-Cuts before after given (stop.Fault number) = Keeps before after ⊎ PrintsFirst before after given
-Cuts before after given stop.Output = AppendsPart before after (printed given)
-Cuts before after given other = ⊥
+-- The replies of a run: all, or where a fault came those before it.
+pub record AreGiven (institutions : List Institution) (rows : List Row) (events : List Event)
+    (given : List Reply) (end : Option Fault) : Type 0 where
+  pub whole : end ≡ None → given ≡ replies institutions rows events
+  pub first : given ≡ take (length given) (replies institutions rows events)
+  pub ends : (why : Fault) → end ≡ Some why
+      → FaultsAt institutions rows events (length given) (fault_number why)
 
--- The replies of a run: all, or where a fault came the first of them.
-pub record AreGiven (all given : List Reply) (end : Option Fault) : Type 0 where
-  pub whole : end ≡ None → given ≡ all
-  pub first : given ≡ take (length given) all
-  pub fewer : end ≢ None → length given < length all
+-- How replies that were given are cut short: a fault came, and all of them were printed before it is
+-- told; or the output failed, and the first octets of their lines were.
+abbrev pub CutsGiven : Option (List ℕ) → Option (List ℕ) → List Reply → Option Fault → Stop
+    → Type 0
+CutsGiven before after given end (stop.Fault number) = (why : Fault) × (end ≡ Some why)
+    × (number ≡ fault_number why) × Appends before after (printed given)
+CutsGiven before after given end stop.Output = AppendsPart before after (printed given)
+CutsGiven before after given end other = ⊥
+
+-- How the replies to events are cut short: at a fault of the run the lines of those before it were
+-- printed, all of them; where the output fails, the first octets of the lines.
+abbrev pub Cuts : Option (List ℕ) → Option (List ℕ) → List Institution → List Row → List Event
+    → Stop → Type 0
+Cuts before after institutions rows events (stop.Fault number) = (answered : ℕ)
+    × FaultsAt institutions rows events answered number
+    × Appends before after (printed (take answered (replies institutions rows events)))
+Cuts before after institutions rows events stop.Output =
+    AppendsPart before after (printed (replies institutions rows events))
+Cuts before after institutions rows events other = ⊥
 
 -- How a text that is printed at once is cut short: at a fault nothing was printed; where the output
 -- fails, its first octets.
@@ -246,16 +254,9 @@ AreAfter first institutions events kept =
 abbrev pub CutsTask : Task → Option (List ℕ) → Option (List ℕ) → List Institution → List Row
     → List Event → Stop → Type 0
 CutsTask Replay before after institutions rows events =
-    Cuts before after (replies institutions rows events)
+    Cuts before after institutions rows events
 CutsTask Report before after institutions rows events =
     Breaks before after (text_of Report institutions rows events)
-
--- What a play over sockets stops by: where the output fails some octets may have been written, and
--- else nothing was printed.
-abbrev pub EndsLoop : Type 0 → Option (List ℕ) → Option (List ℕ) → Stop → Type 0
-EndsLoop may_fail before after stop.Output = may_fail
-EndsLoop may_fail before after stop.Usage = ⊥
-EndsLoop may_fail before after other = Keeps before after
 
 -- what is printed once a store is migrated
 abbrev pub migrated_line : List ℕ
@@ -280,6 +281,16 @@ IsBy held file input IsSo = (institutions : List Institution) × (events : List 
 abbrev pub HasConfig : (List ℕ → Option (List ℕ)) → Option (List ℕ) → Type 0
 HasConfig held file = (institutions : List Institution) × IsConfigured held file institutions
 
+-- A task printed its whole text. Where rows are kept in a store it is then closed: its database file
+-- has all rows alone, those after the events.
+abbrev pub IsPlayed : (List ℕ → Option (List ℕ)) → (List ℕ → Option (List Row))
+    → (List Row → Type 0) → Option (List ℕ) → Option (List ℕ) → Option (List ℕ) → Request → Type 0
+IsPlayed held stored closed input before after request =
+    IsBy held request.config input (λ institutions events.
+    IfSome (rows_at stored request.place) (λ rows.
+    Appends before after (text_of request.task institutions rows events))
+    × ClosesAt request.place closed (AreAfter (rows_at stored request.place) institutions events))
+
 -- What a task stops by: a refused configuration, capture or store, where nothing was printed; an
 -- early end; or a store that is not closed, where all was printed.
 module _ (request : Request) (file_fails : List ℕ → Type 0) (held : List ℕ → Option (List ℕ))
@@ -297,9 +308,10 @@ module _ (request : Request) (file_fails : List ℕ → Type 0) (held : List ℕ
       ⊎ (Keeps before after × HasConfig held request.config × RefusesCapture input_fails input cause)
       ⊎ IsBy held request.config input (EndsPlay cause)
 
--- a stop is told by its line, unless that fails
+-- a stop is told by its line, or by the first octets of it where that fails
 abbrev pub IsTold : Type 0 → Option (List ℕ) → Option (List ℕ) → Stop → Type 0
-IsTold may_fail before after cause = may_fail ⊎ Appends before after (stop_text cause)
+IsTold may_fail before after cause =
+    Appends before after (stop_text cause) ⊎ BreaksOff may_fail before after (stop_text cause)
 
 -- what is told of a word that is no text
 abbrev pub no_text_line : List ℕ

@@ -1,5 +1,5 @@
 -- What serving connections does.
-use Rattle.std.specs.Prelude.{◌≡◌, ◌⊎◌, ◌^◌, ◌-◌, ℕ, List, [], ◌∷◌, ◌++◌, length, codes, Option, Some, None, IfSome}
+use Rattle.std.specs.Prelude.{◌≡◌, ◌⊎◌, ◌≤◌, ◌^◌, ◌-◌, ℕ, List, [], ◌∷◌, ◌++◌, length, codes, Option, Some, None, IfSome}
 use Rattle.std.specs.List.{flat_map}
 use Rattle.std.specs.Io.KnownBytes.{Keeps, Appends}
 use Rattle.dq_config.specs.declared.config.Institution.{Institution}
@@ -12,15 +12,18 @@ use Rattle.dq_tables.specs.Keeping.{State}
 use Rattle.dq_wires.specs.declared.calls.Call.{Call}
 use Rattle.dq_wires.specs.Logs.{LogsAll}
 use Rattle.dq_wires.specs.Steps.{events_of, replies_of}
-use Rattle.dq_wires.specs.Turns.{Turn}
+use Rattle.dq_wires.specs.Turns.{Turn, Cut, IsCut, cut_calls}
+use Rattle.dq_wires.specs.Turns.Cut.{NoRoom, Unaccepted}
 use Rattle.dq_wires.specs.Turners.{Turning}
-use Rattle.dq_wires.specs.Servings.{Act, act_calls, act_steps, nothing_held, AreActs, Serving}
+use Rattle.dq_wires.specs.Servings.{Act, act_calls, act_steps, nothing_held, AreActs, after_acts, served_steps, served_events, Serving}
+use Rattle.dq_words.specs.Words.{Serving as Service}
 use Rattle.dq_wires.specs.Servings.Act.{Turned}
 use Rattle.dq_program.specs.declared.stop.Stop.{Stop}
 use Rattle.dq_program.specs.declared.stop.Stop.TheVariants as stop
-use Rattle.dq_program.specs.Console.{Calling, Attending, IsAttending, attending_acts, attending_calls, after_attending}
-use Rattle.dq_program.specs.Program.{numbered_line, HasConfig, IsRunFault, RefusesFile, RefusesStore, unclosed}
-use Rattle.dq_captures.specs.Surroundings.{AppendsPart}
+use Rattle.dq_program.specs.Console.{Calling, Attending, IsAttending, attending_acts, attending_calls, after_attending, Interruption, IsInterruption, interruption_acts, interruption_calls}
+use Rattle.dq_program.specs.Program.{no_memory, IsRunFault, IsConfigured, RefusesFile, RefusesStore, rows_at, ClosesAt, unclosed}
+use Rattle.dq_captures.specs.Printing.{numbered_line}
+use Rattle.dq_captures.specs.Surroundings.{BreaksOff}
 
 -- the line that is printed once connections can come in
 abbrev pub ready_text : ℕ → List ℕ
@@ -82,20 +85,68 @@ AreConsoled callers (Plain turn ∷ rounds) = ⊥
 AreConsoled callers (Consoled turn attending ∷ rounds) =
     IsAttending callers attending × AreConsoled (after_attending attending) rounds
 
+-- the callers that rounds leave
+abbrev pub callers_left : List Calling → List Round → List Calling
+callers_left callers [] = callers
+callers_left callers (Plain turn ∷ rounds) = callers_left callers rounds
+callers_left callers (Consoled turn attending ∷ rounds) =
+    callers_left (after_attending attending) rounds
+
+-- ---- where a service is stopped, and why
+
+-- The part of a round at which a service was stopped.
+pub data Halt : Type 0 where
+  -- the turn of all connections, up to this cut; or nothing, where the network failed after a round
+  InTurn : Cut → Halt
+  -- a turn of all connections, and that of the console up to this
+  AtConsole : Turn → Interruption → Halt
+
+abbrev pub halt_acts : Halt → List Act
+halt_acts (InTurn cut) = []
+halt_acts (AtConsole turn it) = Turned turn ∷ interruption_acts it
+
+abbrev pub halt_cut : Halt → Cut
+halt_cut (InTurn cut) = cut
+halt_cut (AtConsole turn it) = NoRoom
+
+-- the calls of the console's wires
+abbrev pub halt_calls : Halt → List Call
+halt_calls (InTurn cut) = []
+halt_calls (AtConsole turn it) = interruption_calls it
+
+-- It is one for these callers of the console.
+abbrev pub IsHalt : List Calling → Halt → Type 0
+IsHalt callers (InTurn cut) = Unit {0}
+IsHalt callers (AtConsole turn it) = IsInterruption callers it
+
+-- Without a console it is a cut.
+abbrev pub ArePlainTo : List Round → Halt → Type 0
+ArePlainTo rounds (InTurn cut) = ArePlain rounds
+ArePlainTo rounds (AtConsole turn it) = ⊥
+
 -- the fault of a service: that of a run, or that the server had stopped before
 abbrev pub IsServiceFault : ℕ → Type 0
 IsServiceFault number = IsRunFault number ⊎ (number ≡ fault_number fault.Stopped)
-
--- a fault, or the want of connections
-abbrev pub IsServiceStop : Stop → Type 0
-IsServiceStop (stop.Fault number) = IsServiceFault number
-IsServiceStop stop.Network = Unit {0}
-IsServiceStop other = ⊥
 
 -- what the console may end a service by: a fault, and never a want of its own connections
 abbrev pub IsConsoleStop : Stop → Type 0
 IsConsoleStop (stop.Fault number) = IsServiceFault number
 IsConsoleStop other = ⊥
+
+-- Why a service is stopped at a cut: for a fault; or because no connections can come in, where the
+-- network broke or an accept failed.
+abbrev pub HasCause : Type 0 → Cut → Stop → Type 0
+HasCause breaks cut (stop.Fault number) = IsServiceFault number
+HasCause breaks cut stop.Network = breaks ⊎ (cut ≡ Unaccepted)
+HasCause breaks cut other = ⊥
+
+-- Why nobody is listened for: want of memory, or the network broke.
+abbrev pub IsUnheard : Type 0 → Stop → Type 0
+IsUnheard breaks (stop.Fault number) = number ≡ no_memory
+IsUnheard breaks stop.Network = breaks
+IsUnheard breaks other = ⊥
+
+-- ---- services
 
 -- Without a console rounds are plain. With one, over wires which were not called before, the calls
 -- of these are exactly those of its turns: so each order is told by a line that a caller sent, and
@@ -123,25 +174,70 @@ pub record Served {Wired : Type 0} (log : Wired → Option (List Call))
       ≡ replies institutions rows (events_of (flat_map act_steps (rounds_acts rounds)))
   pub consoled : HasConsole log console rounds
 
--- How a service ends early: by a fault or for want of connections, before or after it was ready;
--- because the output fails, after some octets of its line; or by a store that is not closed, after
--- all its turns.
-abbrev pub EndsService : Type 0 → Option (List ℕ) → Option (List ℕ) → ℕ → Stop → Type 0
-EndsService may_fail before after port (stop.Fault number) =
-    IsServiceFault number × (Keeps before after ⊎ Appends before after (ready_text port))
-EndsService may_fail before after port stop.Network =
-    Keeps before after ⊎ Appends before after (ready_text port)
-EndsService may_fail before after port stop.Output =
-    may_fail × AppendsPart before after (ready_text port)
-EndsService may_fail before after port (stop.Store number) =
-    (stop.Store number ≡ unclosed) × Appends before after (ready_text port)
-EndsService may_fail before after port other = ⊥
+-- The console of a service that was stopped: its calls are exactly those of the rounds, and of the
+-- part of one.
+module _ {Wired : Type 0} (log : Wired → Option (List Call)) where
+  abbrev pub HasConsoleTo : Option (List ℕ) → List Round → Halt → Type 0
+  HasConsoleTo None rounds halt = ArePlainTo rounds halt
+  HasConsoleTo (Some path) rounds halt = (wires : Wired) × (left : Wired)
+      × IsUncalled (log wires) × AreConsoled [] rounds × IsHalt (callers_left [] rounds) halt
+      × LogsAll (log wires) (log left) (flat_map console_calls rounds ++ halt_calls halt)
 
--- What a service stops by: a refused configuration or store, where nothing was printed, or an early
--- end.
-abbrev pub StopsService : (List ℕ → Type 0) → (List ℕ → Option (List ℕ)) → Option (List ℕ)
-    → Type 0 → Option (List ℕ) → Option (List ℕ) → ℕ → Stop → Type 0
-StopsService unread held file may_fail before after port cause =
-    (Keeps before after × RefusesFile unread held file cause)
-    ⊎ (HasConfig held file × ((Keeps before after × RefusesStore cause)
-    ⊎ EndsService may_fail before after port cause))
+-- Rounds were made, at most so many, and the next was stopped, for this cause. The calls are exactly
+-- those of the turns and of the part of one, and what was answered is what the plain server answers.
+pub record ServedUpTo {Wired : Type 0} (log : Wired → Option (List Call)) (breaks : Type 0)
+    (institutions : List Institution) (rows : List Row) (count : ℕ)
+    (console : Option (List ℕ)) (cause : Stop) : Type 0 where
+  pub wires : Wired
+  pub left : Wired
+  pub uncalled : IsUncalled (log wires)
+  pub rounds : List Round
+  pub most : length rounds ≤ count
+  pub halt : Halt
+  pub causes : HasCause breaks (halt_cut halt) cause
+  pub are : AreActs nothing_held (rounds_acts rounds ++ halt_acts halt)
+  pub fits : IsCut (after_acts nothing_held (rounds_acts rounds ++ halt_acts halt)) (halt_cut halt)
+  pub calls : LogsAll (log wires) (log left)
+      (flat_map act_calls (rounds_acts rounds ++ halt_acts halt) ++ cut_calls (halt_cut halt))
+  pub answered : replies_of (served_steps (rounds_acts rounds ++ halt_acts halt) (halt_cut halt))
+      ≡ replies institutions rows
+      (served_events (rounds_acts rounds ++ halt_acts halt) (halt_cut halt))
+  pub consoled : HasConsoleTo log console rounds halt
+
+-- How a service ends early: for want of memory, or because nobody can come in, before it was ready;
+-- for a cause after it was, and what went before is so; because the output fails, after some octets
+-- of its line; or by a store that is not closed, after all its turns.
+module _ (breaks may_fail : Type 0) (before after : Option (List ℕ)) (port : ℕ)
+    (IsSo : Stop → Type 0) where
+  abbrev pub EndsService : Stop → Type 0
+  EndsService (stop.Fault number) = (Keeps before after × (number ≡ no_memory))
+      ⊎ (Appends before after (ready_text port) × IsServiceFault number × IsSo (stop.Fault number))
+  EndsService stop.Network = (Keeps before after × breaks)
+      ⊎ (Appends before after (ready_text port) × IsSo stop.Network)
+  EndsService stop.Output = BreaksOff may_fail before after (ready_text port)
+  EndsService (stop.Store number) =
+      (stop.Store number ≡ unclosed) × Appends before after (ready_text port)
+  EndsService other = ⊥
+
+module _ {Wired : Type 0} (log : Wired → Option (List Call))
+    (held : List ℕ → Option (List ℕ)) (stored : List ℕ → Option (List Row))
+    (before after : Option (List ℕ)) (serving : Service) where
+  -- So many turns were made as are asked for, over wires that had not been called, after the line
+  -- was printed, and nothing else.
+  abbrev pub IsServed : (List Row → Type 0) → Type 0
+  IsServed closed = Appends before after (ready_text serving.port)
+      × ((institutions : List Institution) × IsConfigured held serving.config institutions
+      × IfSome (rows_at stored serving.place) (λ rows.
+      Served log institutions rows (turn_count serving.turns) serving.console))
+      × ClosesAt serving.place closed (λ _. Unit {0})
+
+  -- What a service stops by: a refused configuration or store, where nothing was printed, or an
+  -- early end.
+  abbrev pub StopsService : Type 0 → (List ℕ → Type 0) → Type 0 → Stop → Type 0
+  StopsService breaks unread may_fail cause =
+      (Keeps before after × RefusesFile unread held serving.config cause)
+      ⊎ ((institutions : List Institution) × IsConfigured held serving.config institutions
+      × ((Keeps before after × RefusesStore cause)
+      ⊎ EndsService breaks may_fail before after serving.port (λ why.
+      IfSome (rows_at stored serving.place) (λ rows. ServedUpTo log breaks institutions rows
+      (turn_count serving.turns) serving.console why)) cause))

@@ -1,65 +1,53 @@
 //! The replies to a capture, printed.
-ghost use Rattle.std.specs.Prelude.{◌≡◌, ◌≢◌, ◌⊎◌, false, List, Some, None, IsTrue, IfOk, IfErr, OnOk};
+ghost use Rattle.std.specs.Prelude.{◌≡◌, ◌≢◌, false, None, Some, IsTrue, IsOk, IfOk, IfErr, OnOk};
 ghost use Rattle.std.specs.Io.KnownBytes.{Appends};
-ghost use Rattle.dq_core.specs.declared.event.Reply.{Reply};
 ghost use Rattle.dq_core.specs.Histories.{is_well_formed};
 ghost use Rattle.dq_core.specs.Shared.{replies, world_after};
 ghost use Rattle.dq_captures.specs.Printing.{printed};
-ghost use Rattle.dq_program.specs.Program.{no_memory, AreGiven, AreHonest, Cuts, EndsTask};
+ghost use Rattle.dq_program.specs.Program.{AreGiven, AreHonest, CutsGiven, Cuts, EndsTask};
 
+use crate::reading::History;
 use crate::stop::Stop;
 use dq_captures::{Sink, print_replies};
-use dq_config::Config;
-use dq_core::laws::replies_in_turn;
-use dq_core::{Event, Fault, Reply, run};
-use dq_list::Listed;
+use dq_core::{Fault, Outcome, Reply, run};
 use dq_tables::Tables;
 use std::alloc::Global;
 
-/// The replies to events over the rows that are there, and the fault that came, if one did.
-fn replies_to<T: Tables + Drop>(
+/// What a history comes to over the rows that are there.
+pub fn outcome_of<T: Tables + Drop>(
     alloc: Global,
-    config: Config,
+    history: History,
     tables: T,
-    events: Vec<Event>,
-) -> Result<(Listed<Reply>, Option<Fault>, T), Stop>
-    requires formed { IsTrue (is_well_formed events.items) }
+) -> Result<Outcome<T>, Fault>
+    requires formed { IsTrue (is_well_formed history.events.items) }
     requires unfailed { (T.state tables).failed ≡ false }
-    ensures given { AreHonest T.state → IfOk result
-        (λ ran. AreGiven (replies config (T.state tables).rows events.items) ran.0 ran.1) }
-    ensures kept { AreHonest T.state → IfOk result (λ ran. ran.1 ≡ None → (T.state ran.2).rows
-        ≡ (world_after config (T.state tables).rows events.items).rows) }
-    ensures fault { IfOk result (λ ran. ran.1 ≢ Some Fault.Stopped) }
-    ensures stops { IfErr result (λ stop. stop ≡ Stop.Fault no_memory) }
+    ensures given { AreHonest T.state → IfOk result (λ outcome. AreGiven history.config
+        (T.state tables).rows history.events.items outcome.replies outcome.fault) }
+    ensures kept { AreHonest T.state → IfOk result (λ outcome. outcome.fault ≡ None →
+        (T.state outcome.tables).rows
+        ≡ (world_after history.config (T.state tables).rows history.events.items).rows) }
+    ensures fault { IfOk result (λ outcome. outcome.fault ≢ Some Fault.Stopped) }
+    ensures outcome { IsOk result }
 {
-    replies_in_turn();
-    match run(alloc, config, tables, events) {
-        Ok(outcome) => Ok((outcome.replies, outcome.fault, outcome.tables)),
-        Err(fault) => Err(Stop::from(fault)),
-    }
+    let History { config, events } = history;
+    let outcome = run(alloc, config, tables, events)?;
+    Ok(outcome)
 }
 
 /// Prints replies, hands them on, and stops where a fault came.
-fn print_all<W: Sink>(
-    alloc: Global,
-    replies: &[Reply],
-    fault: Option<Fault>,
-    output: &mut W,
-) -> Result<(), Stop>
+fn print_all<W: Sink>(replies: &[Reply], fault: Option<Fault>, output: &mut W) -> Result<(), Stop>
     requires { fault ≢ Some Fault.Stopped }
-    ensures done { (all : List Reply) → AreGiven all replies.now fault → OnOk result
-        (Appends (W.written output.old) (W.written output.new) (printed all)) }
+    ensures done { OnOk result
+        (Appends (W.written output.old) (W.written output.new) (printed replies.now)) }
     ensures flushed { OnOk result (W.is_flushed output.new) }
     ensures unfaulted { OnOk result (fault ≡ None) }
     ensures ends { IfErr result (EndsTask (W.may_fail output.old)) }
-    // All replies were printed, or memory ran out, or the output failed.
-    ensures whole { IfErr result (λ stop. Appends (W.written output.old) (W.written output.new)
-        (printed replies.now) ⊎ (stop ≡ Stop.Fault no_memory) ⊎ (stop ≡ Stop.Output)) }
-    ensures cut { (all : List Reply) → AreGiven all replies.now fault → IfErr result
-        (Cuts (W.written output.old) (W.written output.new) all) }
+    // All replies are printed before a fault is told.
+    ensures cut { IfErr result (CutsGiven (W.written output.old) (W.written output.new)
+        replies.now fault) }
 {
-    if let Err(unprinted) = print_replies(alloc, replies, output) {
-        return Err(Stop::from(unprinted));
+    if print_replies(replies, output).is_err() {
+        return Err(Stop::Output);
     }
     if output.finish().is_err() {
         return Err(Stop::Output);
@@ -74,24 +62,28 @@ fn print_all<W: Sink>(
 /// what keeps the rows.
 pub fn answer<T: Tables + Drop, W: Sink>(
     alloc: Global,
-    config: Config,
+    history: History,
     tables: T,
-    events: Vec<Event>,
     output: &mut W,
 ) -> Result<T, Stop>
-    requires formed { IsTrue (is_well_formed events.items) }
+    requires formed { IsTrue (is_well_formed history.events.items) }
     requires unfailed { (T.state tables).failed ≡ false }
     ensures kept { AreHonest T.state → IfOk result (λ kept. (T.state kept).rows
-        ≡ (world_after config (T.state tables).rows events.items).rows) }
+        ≡ (world_after history.config (T.state tables).rows history.events.items).rows) }
     ensures done { AreHonest T.state → OnOk result
         (Appends (W.written output.old) (W.written output.new)
-        (printed (replies config (T.state tables).rows events.items))) }
+        (printed (replies history.config (T.state tables).rows history.events.items))) }
     ensures flushed { OnOk result (W.is_flushed output.new) }
     ensures ends { IfErr result (EndsTask (W.may_fail output.old)) }
     ensures cut { AreHonest T.state → IfErr result (Cuts (W.written output.old)
-        (W.written output.new) (replies config (T.state tables).rows events.items)) }
+        (W.written output.new) history.config (T.state tables).rows history.events.items) }
 {
-    let (replies, fault, kept) = replies_to(alloc, config, tables, events)?;
-    print_all(alloc, replies.as_slice(), fault, output)?;
+    let outcome = outcome_of(alloc, history, tables)?;
+    let Outcome {
+        replies,
+        fault,
+        tables: kept,
+    } = outcome;
+    print_all(replies.as_slice(), fault, output)?;
     Ok(kept)
 }

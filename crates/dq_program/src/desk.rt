@@ -1,6 +1,6 @@
 //! The console: orders of the worklist, reports and copies of the store, that are asked for by lines
 //! over wires of their own.
-ghost use Rattle.std.specs.Prelude.{◌≡◌, ℕ, List, [], ◌++◌, codes, IfOk, IfErr, OnOk, MatchBool, MatchOption};
+ghost use Rattle.std.specs.Prelude.{◌≡◌, ℕ, List, [], ◌++◌, codes, IfOk, IfErr, OnOk, OnErr, MatchBool, MatchOption};
 ghost use Rattle.dq_core.specs.Looking.{Looked};
 ghost use Rattle.dq_wires.specs.Logs.{LogsAll};
 ghost use Rattle.dq_wires.specs.Turners.{IsOrder};
@@ -8,8 +8,8 @@ ghost use Rattle.dq_program.specs.declared.desk.Line.{Line};
 ghost use Rattle.dq_program.specs.Reports.{count_text, report_line, reported};
 ghost use Rattle.dq_program.specs.Backups.{backup_text};
 ghost use Rattle.dq_program.specs.Console.{Attending, IsAttending, attending_calls, attending_acts, after_attending};
-ghost use Rattle.dq_program.specs.Desk.{Tells, HasOrders, is_bad, BacksUp, Answered};
-ghost use Rattle.dq_program.specs.Heeding.{DoesIf, Heeded, Visited, AllVisited, LetsIn};
+ghost use Rattle.dq_program.specs.Desk.{Tells, HasOrders, is_bad, BacksUp, Answered, LooksInPart, Unanswered};
+ghost use Rattle.dq_program.specs.Heeding.{DoesIf, Halted, HaltedAt, Heeded, Visited, AllVisited, SomeVisited, Interrupted, LetsIn};
 ghost use Rattle.dq_program.specs.Serving.{Attended, IsConsoleStop};
 
 use crate::backup::{Backups, Copying};
@@ -102,7 +102,9 @@ fn put_count<T: Tables>(
     ensures looked { OnOk result (Looked T.state turner.old.server turner.new.server) }
     ensures hold { turner.new.hold ≡ turner.old.hold }
     ensures fault { OnOk result (turner.new.fault ≡ turner.old.fault) }
+    ensures cut { OnErr result (LooksInPart T.state turner.old.server turner.new.server) }
 {
+    looks_are_one_look::<T>();
     let count = turner.count(kind, name)?;
     text.extend_from_slice(count_text(alloc, kind, count)?.as_bytes())?;
     Ok(())
@@ -120,6 +122,7 @@ fn put_line<T: Tables>(
     ensures looked { OnOk result (Looked T.state turner.old.server turner.new.server) }
     ensures hold { turner.new.hold ≡ turner.old.hold }
     ensures fault { OnOk result (turner.new.fault ≡ turner.old.fault) }
+    ensures cut { OnErr result (LooksInPart T.state turner.old.server turner.new.server) }
 {
     looks_are_one_look::<T>();
     text.extend_from_slice(name)?;
@@ -141,6 +144,7 @@ fn report<T: Tables>(
     ensures looked { OnOk result (Looked T.state turner.old.server turner.new.server) }
     ensures hold { turner.new.hold ≡ turner.old.hold }
     ensures fault { OnOk result (turner.new.fault ≡ turner.old.fault) }
+    ensures cut { OnErr result (LooksInPart T.state turner.old.server turner.new.server) }
 {
     looks_are_one_look::<T>();
     let mut text = Vec::new(alloc);
@@ -171,7 +175,9 @@ fn back_up<T: Tables, B: Backups<T>>(
         turner.old.server turner.new.server text.items) }
     ensures hold { turner.new.hold ≡ turner.old.hold }
     ensures fault { turner.new.fault ≡ turner.old.fault }
+    ensures cut { OnErr result (LooksInPart T.state turner.old.server turner.new.server) }
 {
+    looks_are_one_look::<T>();
     let copying = Copying {
         backups,
         alloc,
@@ -194,12 +200,14 @@ fn answer_to<T: Tables, B: Backups<T>>(
         turner.old.server turner.new.server line text.items) }
     ensures hold { turner.new.hold ≡ turner.old.hold }
     ensures fault { OnOk result (turner.new.fault ≡ turner.old.fault) }
+    ensures cut { OnErr result
+        (Unanswered T.state turner.old.server turner.new.server line) }
     ensures stops { IfErr result IsConsoleStop }
 {
     match line {
         Line::Order(event) => {
             let reply = turner.console(event)?;
-            Ok(printed_line(alloc, &reply)?.into_bytes())
+            Ok(printed_line(alloc, &reply)?)
         }
         Line::Report => Ok(report(alloc, turner, names)?),
         Line::Backup(path) => Ok(back_up(alloc, turner, backups, path.as_str())?),
@@ -270,6 +278,7 @@ impl<W: Wires + Drop> Clerk<W> {
         ensures does { IfOk result (DoesIf T.state turner.old turner.new octets.now caller.old
             caller.new) }
         ensures wires { self.new.wires ≡ self.old.wires }
+        ensures cut { OnErr result (Halted T.state turner.old turner.new octets.now) }
         ensures stops { IfErr result IsConsoleStop }
     {
         calls_are_a_serving::<T>();
@@ -296,6 +305,8 @@ impl<W: Wires + Drop> Clerk<W> {
     ) -> Result<bool, Stop>
         ensures went { IfOk result (Heeded T.state (W.log self.old.wires) (W.log self.new.wires)
             turner.old turner.new caller.old caller.new) }
+        ensures cut { OnErr result (HaltedAt T.state (W.log self.old.wires)
+            (W.log self.new.wires) turner.old turner.new caller.old) }
         ensures stops { IfErr result IsConsoleStop }
     {
         match caller.next(&mut self.wires, self.buffer.as_mut_slice()) {
@@ -319,6 +330,8 @@ impl<W: Wires + Drop> Clerk<W> {
     ) -> Result<bool, Stop>
         ensures went { IfOk result (Visited T.state (W.log self.old.wires) (W.log self.new.wires)
             turner.old turner.new caller.old caller.new) }
+        ensures cut { OnErr result (HaltedAt T.state (W.log self.old.wires)
+            (W.log self.new.wires) turner.old turner.new caller.old) }
         ensures stops { IfErr result IsConsoleStop }
     {
         let place = caller.place();
@@ -395,6 +408,8 @@ impl<W: Wires + Drop> Desk<W> {
         ensures went { OnOk result (AllVisited T.state (W.log self.old.clerk.wires)
             (W.log self.new.clerk.wires) turner.old turner.new self.old.callers.items
             self.new.callers.items) }
+        ensures cut { OnErr result (SomeVisited T.state (W.log self.old.clerk.wires)
+            (W.log self.new.clerk.wires) turner.old turner.new self.old.callers.items) }
         ensures stops { IfErr result IsConsoleStop }
     {
         let mut at = 0;
@@ -424,6 +439,8 @@ impl<W: Wires + Drop> Desk<W> {
             (attending_calls attending)
             × Attended T.state turner.old turner.new (attending_acts attending)
             × (self.new.callers.items ≡ after_attending attending)) }
+        ensures cut { OnErr result (Interrupted T.state (W.log self.old.clerk.wires)
+            (W.log self.new.clerk.wires) turner.old turner.new self.old.callers.items) }
         ensures stops { IfErr result IsConsoleStop }
     {
         self.let_in();

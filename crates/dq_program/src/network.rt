@@ -1,5 +1,5 @@
 //! Where connections come in.
-ghost use Rattle.std.specs.Prelude.{◌≡◌, [], IfOk, IfSome};
+ghost use Rattle.std.specs.Prelude.{◌≡◌, [], IfOk, IfSome, IsErrOf, OnErr};
 
 use crate::logged_sockets::LoggedSockets;
 use dq_captures::Host;
@@ -58,9 +58,14 @@ pub trait Network {
     /// A client of theirs.
     type Caller: Client + Drop;
 
+    /// It may be that nobody can be listened for, or waited for.
+    ghost may_break: { Self → Type 0 };
+
     /// Listens at a port of an address. The wires were not called.
     fn listen(&self, alloc: Global, listening: Listening<'_>) -> Result<Self::Wired, Unheard>
-        ensures { IfOk result (λ wires. IfSome (Self.Wired.log wires) (λ calls. calls ≡ [])) };
+        ensures uncalled { IfOk result (λ wires.
+            IfSome (Self.Wired.log wires) (λ calls. calls ≡ [])) }
+        ensures failed { IsErrOf result Unheard.Failed → may_break self.now };
 
     /// Listens at a path of the machine itself, beside other wires: who rests over both is woken by
     /// either. The new wires were not called.
@@ -72,11 +77,13 @@ pub trait Network {
     ) -> Result<Self::Wired, Unheard>
         ensures beside { IfOk result (λ wires.
             IfSome (Self.Wired.log wires) (λ calls. calls ≡ [])) }
-        ensures same { Self.Wired.log wires.new ≡ Self.Wired.log wires.old };
+        ensures same { Self.Wired.log wires.new ≡ Self.Wired.log wires.old }
+        ensures failed { IsErrOf result Unheard.Failed → may_break self.now };
 
     /// Waits until something may be done over the wires, so long at most.
     fn rest(&self, wires: &mut Self::Wired, most: Duration) -> io::Result<()>
-        ensures { Self.Wired.log wires.new ≡ Self.Wired.log wires.old };
+        ensures same { Self.Wired.log wires.new ≡ Self.Wired.log wires.old }
+        ensures failed { OnErr result (may_break self.now) };
 
     /// Waits until something may be done over the wires, or over those that listen beside them.
     fn rest_with(
@@ -86,7 +93,8 @@ pub trait Network {
         most: Duration,
     ) -> io::Result<()>
         ensures same { Self.Wired.log wires.new ≡ Self.Wired.log wires.old }
-        ensures beside { Self.Wired.log beside.new ≡ Self.Wired.log beside.old };
+        ensures beside { Self.Wired.log beside.new ≡ Self.Wired.log beside.old }
+        ensures failed { OnErr result (may_break self.now) };
 
     /// Tells in the log of the wires, if they have one, what was served since this was last asked.
     fn tell<T: Tables>(&self, wires: &mut Self::Wired, turner: &mut Turner<T>)
@@ -186,6 +194,8 @@ impl<H: Host> Network for H {
     type Wired = LoggedSockets;
 
     type Caller = SocketClient;
+
+    ghost may_break = { λ _. Unit {0} };
 
     fn listen(&self, alloc: Global, listening: Listening<'_>) -> Result<Self::Wired, Unheard> {
         let Ok(address) = listening.address.parse::<IpAddr>() else {

@@ -12,6 +12,13 @@ use dq_config::Config;
 use dq_core::Event;
 use std::alloc::Global;
 
+/// A configuration, and the events that a capture tells.
+#[derive(Drop)]
+pub struct History {
+    pub config: Config,
+    pub events: Vec<Event>,
+}
+
 /// The most octets that a capture may have.
 const CAPTURE_LIMIT: u64 = 67_108_864;
 

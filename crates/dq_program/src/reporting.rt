@@ -8,10 +8,12 @@ ghost use Rattle.dq_words.specs.declared.words.Task.TheVariants.{Report};
 ghost use Rattle.dq_program.specs.Program.{text_of, AreHonest, Breaks, EndsTask};
 ghost use Rattle.dq_program.specs.Reports.{kind_word, count_text, report_line, names_of, reported};
 
+use crate::answering::outcome_of;
+use crate::reading::History;
 use crate::stop::Stop;
 use dq_captures::Sink;
-use dq_config::{Config, Institution};
-use dq_core::{Event, Fault, Outcome, run};
+use dq_config::Institution;
+use dq_core::{Fault, Outcome};
 use dq_list::Listed;
 use dq_tables::{Kind, Tables};
 use std::alloc::{AllocError, Global};
@@ -111,24 +113,19 @@ pub fn names_of(alloc: Global, institutions: &[Institution]) -> Result<Vec<Liste
     Ok(names)
 }
 
-/// What is kept after events, over the rows that are there.
-fn kept_after<T: Tables + Drop>(
-    alloc: Global,
-    config: Config,
-    tables: T,
-    events: Vec<Event>,
-) -> Result<T, Fault>
-    requires formed { IsTrue (is_well_formed events.items) }
+/// What is kept after a history, over the rows that are there.
+fn kept_after<T: Tables + Drop>(alloc: Global, history: History, tables: T) -> Result<T, Fault>
+    requires formed { IsTrue (is_well_formed history.events.items) }
     requires unfailed { (T.state tables).failed ≡ false }
     ensures kept { AreHonest T.state → IfOk result (λ kept. (T.state kept).rows
-        ≡ (world_after config (T.state tables).rows events.items).rows) }
+        ≡ (world_after history.config (T.state tables).rows history.events.items).rows) }
     ensures fault { IfErr result (λ fault. fault ≢ Fault.Stopped) }
 {
     let Outcome {
         replies: _,
         fault,
         tables,
-    } = run(alloc, config, tables, events)?;
+    } = outcome_of(alloc, history, tables)?;
     match fault {
         None => Ok(tables),
         Some(fault) => Err(fault),
@@ -138,20 +135,19 @@ fn kept_after<T: Tables + Drop>(
 /// The text of a report, and what keeps the rows that it counts.
 fn report_of<T: Tables + Drop>(
     alloc: Global,
-    config: Config,
+    history: History,
     tables: T,
-    events: Vec<Event>,
 ) -> Result<(Vec<u8>, T), Fault>
-    requires formed { IsTrue (is_well_formed events.items) }
+    requires formed { IsTrue (is_well_formed history.events.items) }
     requires unfailed { (T.state tables).failed ≡ false }
     ensures text { AreHonest T.state → IfOk result (λ it. it.0.items
-        ≡ text_of Report config (T.state tables).rows events.items) }
+        ≡ text_of Report history.config (T.state tables).rows history.events.items) }
     ensures kept { AreHonest T.state → IfOk result (λ it. (T.state it.1).rows
-        ≡ (world_after config (T.state tables).rows events.items).rows) }
+        ≡ (world_after history.config (T.state tables).rows history.events.items).rows) }
     ensures fault { IfErr result (λ fault. fault ≢ Fault.Stopped) }
 {
-    let names = names_of(alloc, config.institutions())?;
-    let mut kept = kept_after(alloc, config, tables, events)?;
+    let names = names_of(alloc, history.config.institutions())?;
+    let mut kept = kept_after(alloc, history, tables)?;
     let text = lines_of(alloc, &mut kept, names.as_slice())?;
     Ok((text, kept))
 }
@@ -177,23 +173,22 @@ pub fn put_whole<W: Sink>(text: &[u8], output: &mut W) -> Result<(), Stop>
 /// Where a fault comes, no line is printed.
 pub fn report<T: Tables + Drop, W: Sink>(
     alloc: Global,
-    config: Config,
+    history: History,
     tables: T,
-    events: Vec<Event>,
     output: &mut W,
 ) -> Result<T, Stop>
-    requires formed { IsTrue (is_well_formed events.items) }
+    requires formed { IsTrue (is_well_formed history.events.items) }
     requires unfailed { (T.state tables).failed ≡ false }
     ensures kept { AreHonest T.state → IfOk result (λ kept. (T.state kept).rows
-        ≡ (world_after config (T.state tables).rows events.items).rows) }
+        ≡ (world_after history.config (T.state tables).rows history.events.items).rows) }
     ensures done { AreHonest T.state → OnOk result (Appends (W.written output.old)
-        (W.written output.new) (text_of Report config (T.state tables).rows events.items)) }
+        (W.written output.new) (text_of Report history.config (T.state tables).rows history.events.items)) }
     ensures flushed { OnOk result (W.is_flushed output.new) }
     ensures ends { IfErr result (EndsTask (W.may_fail output.old)) }
     ensures cut { AreHonest T.state → IfErr result (Breaks (W.written output.old)
-        (W.written output.new) (text_of Report config (T.state tables).rows events.items)) }
+        (W.written output.new) (text_of Report history.config (T.state tables).rows history.events.items)) }
 {
-    let (text, kept) = report_of(alloc, config, tables, events)?;
+    let (text, kept) = report_of(alloc, history, tables)?;
     put_whole(text.as_slice(), output)?;
     Ok(kept)
 }

@@ -1,31 +1,32 @@
 //! Connections that come in, served.
-ghost use Rattle.std.specs.Prelude.{◌≡◌, List, [], None, IfErr, IfSome, OnOk, string_bytes, IfOk};
+ghost use Rattle.std.specs.Prelude.{◌≡◌, List, [], None, IfErr, IfSome, OnOk, IfOk};
 ghost use Rattle.std.specs.Option.{option_copied};
 ghost use Rattle.std.specs.Io.KnownBytes.{Appends};
 ghost use Rattle.dq_config.specs.declared.config.Institution.{Institution};
 ghost use Rattle.dq_core.specs.Standing.{StandsFor};
 ghost use Rattle.dq_wires.specs.Stepping.{Moves, Fails};
 ghost use Rattle.dq_wires.specs.Turns.{TurnsWent, TurnsCut};
-ghost use Rattle.dq_words.specs.Words.{place_in};
+ghost use Rattle.dq_words.specs.Words.{place_in, serving_in};
+ghost use Rattle.dq_captures.specs.Surroundings.{BreaksOff};
 ghost use Rattle.dq_program.specs.Program.{AreHonest, IsConfigured, rows_at, ClosesAt};
-ghost use Rattle.dq_program.specs.Rounds.{RoundsWent, RoundsCut, Beside};
-ghost use Rattle.dq_program.specs.Serving.{ready_text, turn_count, IsUncalled, IsServiceStop, ArePlain, Served, EndsService, StopsService};
+ghost use Rattle.dq_program.specs.Rounds.{RoundsWent, RoundsCut, Beside, BesideCut};
+ghost use Rattle.dq_program.specs.Serving.{ready_text, turn_count, IsUncalled, ArePlain, ArePlainTo, IsUnheard, Served, ServedUpTo, EndsService, StopsService};
 
 use crate::backup::{Backups, OfFiles, OfMemory};
 use crate::desk::Desk;
 use crate::network::{Listening, Logging, Network};
 use crate::reading::configured;
-use crate::reporting::{names_of, put_whole};
+use crate::reporting::names_of;
 use crate::stop::Stop;
 use crate::stores::Stores;
-use dq_captures::{Folder, Sink};
+use dq_captures::{Folder, Sink, put_numbered};
 use dq_config::Institution;
 use dq_core::Server;
 use dq_tables::Tables;
 use dq_wires::laws::{calls_are_a_serving, servings_are_answered};
 use dq_wires::{Limits, TurnFault, Turner, Wires, turn_all};
 use dq_words::{Keeper, Service};
-use std::alloc::{AllocError, Global};
+use std::alloc::Global;
 use std::time::Duration;
 
 /// Where connections come in beside a console: their wires, and the console.
@@ -46,7 +47,7 @@ fn desk_beside<N: Network>(
     ensures same { N.Wired.log wires.new ≡ N.Wired.log wires.old }
     ensures uncalled { IfOk result (λ desk. IsUncalled (N.Wired.log desk.clerk.wires)) }
     ensures callers { IfOk result (λ desk. desk.callers.items ≡ []) }
-    ensures stops { IfErr result IsServiceStop }
+    ensures stops { IfErr result (IsUnheard (N.may_break network.now)) }
 {
     let beside = network.listen_beside(alloc, path, wires)?;
     Ok(Desk::new(alloc, beside, names_of(alloc, institutions)?)?)
@@ -96,7 +97,7 @@ fn note_stop<N: Network>(network: &N, wires: &mut N::Wired, stop: Stop)
 /// Listens where the words of a service say.
 fn listen<N: Network>(alloc: Global, network: &N, service: Service<'_>) -> Result<N::Wired, Stop>
     ensures uncalled { IfOk result (λ wires. IsUncalled (N.Wired.log wires)) }
-    ensures stops { IfErr result IsServiceStop }
+    ensures stops { IfErr result (IsUnheard (N.may_break network.now)) }
 {
     let listening = Listening {
         address: service.address,
@@ -147,9 +148,9 @@ fn turn_once<N: Network, T: Tables>(
     requires working { turner.old.fault ≡ None }
     ensures went { OnOk result (RoundsWent T.state (N.Wired.log wires.old)
         (N.Wired.log wires.new) turner.old turner.new 1 ArePlain) }
-    ensures cut { IfErr result (λ _. RoundsCut T.state (N.Wired.log wires.old)
-        (N.Wired.log wires.new) turner.old 1 ArePlain) }
-    ensures stops { IfErr result IsServiceStop }
+    ensures cut { IfErr result (RoundsCut T.state (N.may_break network.now)
+        (N.Wired.log wires.old) (N.Wired.log wires.new) turner.old turner.new.server 1
+        ArePlainTo) }
 {
     calls_are_a_serving::<T>();
     turn_told(network, turner, wires)?;
@@ -174,7 +175,10 @@ fn turn_beside<N: Network, T: Tables, B: Backups<T>>(
         (Beside (N.Wired.log reception.old.desk.clerk.wires)
         (N.Wired.log reception.new.desk.clerk.wires)
         reception.old.desk.callers.items reception.new.desk.callers.items)) }
-    ensures stops { IfErr result IsServiceStop }
+    ensures cut { IfErr result (RoundsCut T.state (N.may_break network.now)
+        (N.Wired.log reception.old.wires) (N.Wired.log reception.new.wires) turner.old
+        turner.new.server 1 (BesideCut (N.Wired.log reception.old.desk.clerk.wires)
+        (N.Wired.log reception.new.desk.clerk.wires) reception.old.desk.callers.items)) }
 {
     calls_are_a_serving::<T>();
     turn_told(network, turner, &mut reception.wires)?;
@@ -202,9 +206,9 @@ fn turn_noted<N: Network, T: Tables>(
     requires working { turner.old.fault ≡ None }
     ensures went { OnOk result (RoundsWent T.state (N.Wired.log wires.old)
         (N.Wired.log wires.new) turner.old turner.new 1 ArePlain) }
-    ensures cut { IfErr result (λ _. RoundsCut T.state (N.Wired.log wires.old)
-        (N.Wired.log wires.new) turner.old 1 ArePlain) }
-    ensures stops { IfErr result IsServiceStop }
+    ensures cut { IfErr result (RoundsCut T.state (N.may_break network.now)
+        (N.Wired.log wires.old) (N.Wired.log wires.new) turner.old turner.new.server 1
+        ArePlainTo) }
 {
     let turned = turn_once(network, turner, wires, rest);
     if let Err(stop) = turned {
@@ -227,7 +231,10 @@ fn turn_noted_beside<N: Network, T: Tables, B: Backups<T>>(
         (Beside (N.Wired.log reception.old.desk.clerk.wires)
         (N.Wired.log reception.new.desk.clerk.wires)
         reception.old.desk.callers.items reception.new.desk.callers.items)) }
-    ensures stops { IfErr result IsServiceStop }
+    ensures cut { IfErr result (RoundsCut T.state (N.may_break network.now)
+        (N.Wired.log reception.old.wires) (N.Wired.log reception.new.wires) turner.old
+        turner.new.server 1 (BesideCut (N.Wired.log reception.old.desk.clerk.wires)
+        (N.Wired.log reception.new.desk.clerk.wires) reception.old.desk.callers.items)) }
 {
     let turned = turn_beside(network, backups, turner, reception, rest);
     if let Err(stop) = turned {
@@ -271,9 +278,9 @@ fn serve_alone<N: Network, T: Tables>(
     requires working { turner.old.fault ≡ None }
     ensures went { OnOk result (RoundsWent T.state (N.Wired.log wires.old)
         (N.Wired.log wires.new) turner.old turner.new pace.turns ArePlain) }
-    ensures cut { IfErr result (λ _. RoundsCut T.state (N.Wired.log wires.old)
-        (N.Wired.log wires.new) turner.old pace.turns ArePlain) }
-    ensures stops { IfErr result IsServiceStop }
+    ensures cut { IfErr result (RoundsCut T.state (N.may_break network.now)
+        (N.Wired.log wires.old) (N.Wired.log wires.new) turner.old turner.new.server pace.turns
+        ArePlainTo) }
 {
     for _turn in 0..pace.turns {
         turn_noted(network, turner, wires, pace.rest)?;
@@ -295,7 +302,10 @@ fn serve_beside<N: Network, T: Tables, B: Backups<T>>(
         (Beside (N.Wired.log reception.old.desk.clerk.wires)
         (N.Wired.log reception.new.desk.clerk.wires)
         reception.old.desk.callers.items reception.new.desk.callers.items)) }
-    ensures stops { IfErr result IsServiceStop }
+    ensures cut { IfErr result (RoundsCut T.state (N.may_break network.now)
+        (N.Wired.log reception.old.wires) (N.Wired.log reception.new.wires) turner.old
+        turner.new.server pace.turns (BesideCut (N.Wired.log reception.old.desk.clerk.wires)
+        (N.Wired.log reception.new.desk.clerk.wires) reception.old.desk.callers.items)) }
 {
     for _turn in 0..pace.turns {
         turn_noted_beside(network, backups, turner, reception, pace.rest)?;
@@ -303,23 +313,21 @@ fn serve_beside<N: Network, T: Tables, B: Backups<T>>(
     Ok(())
 }
 
-/// The line that is printed once connections can come in.
-fn ready_text(alloc: Global, port: u16) -> Result<String, AllocError>
-    ensures { IfOk result (λ text. string_bytes text ≡ ready_text port) }
-{
-    format!(in alloc; "ready {port}\n")
-}
-
 /// Prints that connections can come in.
-fn put_ready<W: Sink>(alloc: Global, port: u16, output: &mut W) -> Result<(), Stop>
+fn put_ready<W: Sink>(port: u16, output: &mut W) -> Result<(), Stop>
     ensures ready { OnOk result (Appends (W.written output.old) (W.written output.new)
         (ready_text port)) }
     ensures flushed { OnOk result (W.is_flushed output.new) }
-    ensures ends { IfErr result (EndsService (W.may_fail output.old) (W.written output.old)
-        (W.written output.new) port) }
+    ensures cut { IfErr result (λ stop. (stop ≡ Stop.Output) × BreaksOff (W.may_fail output.old)
+        (W.written output.old) (W.written output.new) (ready_text port)) }
 {
-    let line = ready_text(alloc, port)?;
-    put_whole(line.as_bytes(), output)
+    if put_numbered("ready ", u64::from(port), output).is_err() {
+        return Err(Stop::Output);
+    }
+    if output.finish().is_err() {
+        return Err(Stop::Output);
+    }
+    Ok(())
 }
 
 /// Listens, prints that connections can come in, serves them by a server that was asked for nothing
@@ -338,8 +346,11 @@ pub fn serve_by<N: AllocGlobal + Network, T: Tables + Drop, B: Backups<T>, W: Si
     ensures served { AreHonest T.state → OnOk result (Served N.Wired.log server.institutions
         (T.state server.tables).rows (turn_count service.entry.turns)
         (option_copied service.entry.console)) }
-    ensures ends { IfErr result (EndsService (W.may_fail output.old) (W.written output.old)
-        (W.written output.new) service.entry.port) }
+    ensures ends { IfErr result (EndsService (N.may_break network.now) (W.may_fail output.old)
+        (W.written output.old) (W.written output.new) service.entry.port (λ stop.
+        AreHonest T.state → ServedUpTo N.Wired.log (N.may_break network.now)
+        server.institutions (T.state server.tables).rows (turn_count service.entry.turns)
+        (option_copied service.entry.console) stop)) }
 {
     calls_are_a_serving::<T>();
     servings_are_answered::<T>();
@@ -348,14 +359,14 @@ pub fn serve_by<N: AllocGlobal + Network, T: Tables + Drop, B: Backups<T>, W: Si
     let mut wires = listen(alloc, network, service)?;
     match service.console {
         None => {
-            put_ready(alloc, service.port, output)?;
+            put_ready(service.port, output)?;
             let mut turner = Turner::new(alloc, server);
             serve_alone(network, &mut turner, &mut wires, pace)?;
             Ok(turner.into_server().into_tables())
         }
         Some(path) => {
             let desk = desk_beside(alloc, network, path, server.institutions(), &mut wires)?;
-            put_ready(alloc, service.port, output)?;
+            put_ready(service.port, output)?;
             let mut reception = Reception { wires, desk };
             let mut turner = Turner::new(alloc, server);
             serve_beside(network, backups, &mut turner, &mut reception, pace)?;
@@ -381,9 +392,9 @@ pub fn serve<Rt: AllocGlobal + Folder + Stores + Network, W: Sink>(
         (option_copied service.entry.console))) }
     ensures closed { OnOk result (ClosesAt (place_in service.entry.keeper) (Rt.closed rt.now)
         (λ _. Unit {0})) }
-    ensures stops { IfErr result (StopsService (Rt.may_fail rt.now) (Rt.held rt.now)
-        (option_copied service.entry.config) (W.may_fail output.old) (W.written output.old)
-        (W.written output.new) service.entry.port) }
+    ensures stops { IfErr result (StopsService Rt.Wired.log (Rt.held rt.now) (Rt.stored rt.now)
+        (W.written output.old) (W.written output.new) (serving_in service.entry)
+        (Rt.may_break rt.now) (Rt.may_fail rt.now) (W.may_fail output.old)) }
 {
     let config = configured(rt, service.config)?;
     match service.keeper {

@@ -1,11 +1,12 @@
 //! Why the program stops, what is told of it, and its exit status.
 ghost use Rattle.std.specs.Prelude.{◌≡◌, OnOk, OnErr};
 ghost use Rattle.std.specs.Io.KnownBytes.{Appends};
+ghost use Rattle.dq_captures.specs.Surroundings.{BreaksOff};
 ghost use Rattle.dq_program.specs.Program.{stop_of_file, stop_of_input, stop_text, status_of};
 
 use crate::network::Unheard;
 use crate::stores::{Unclosed, Unkept};
-use dq_captures::{CaptureFault, PrintFault, Sink, Unread};
+use dq_captures::{CaptureFault, Sink, Unread, put_numbered, put_text};
 use dq_config::ConfigFault;
 use dq_core::Fault;
 use dq_wires::TurnFault;
@@ -110,20 +111,6 @@ impl From<Fault> for Stop {
     }
 }
 
-impl From<PrintFault> for Stop {
-    ghost use Rattle.std.specs.Prelude.{◌≡◌};
-    ghost use Rattle.dq_program.specs.Program.{stop_of_printing};
-
-    ghost from_gives = { λ fault stop. stop ≡ stop_of_printing fault };
-
-    fn from(fault: PrintFault) -> Stop {
-        match fault {
-            PrintFault::NoMemory => Stop::from(AllocError),
-            PrintFault::Output => Stop::Output,
-        }
-    }
-}
-
 impl From<TurnFault> for Stop {
     ghost use Rattle.std.specs.Prelude.{◌≡◌};
     ghost use Rattle.dq_program.specs.Program.{stop_of_turning};
@@ -191,14 +178,15 @@ impl Stop {
     pub fn tell<E: Sink>(self, errors: &mut E) -> io::Result<()>
         ensures written { OnOk result
             (Appends (E.written errors.old) (E.written errors.new) (stop_text self)) }
-        ensures failed { OnErr result (E.may_fail errors.old) }
+        ensures part { OnErr result (BreaksOff (E.may_fail errors.old) (E.written errors.old)
+            (E.written errors.new) (stop_text self)) }
     {
         match self {
-            Stop::Config(number) => errors.put_line(format_args!("config {number}")),
-            Stop::Capture(number) => errors.put_line(format_args!("capture line {number}")),
-            Stop::Store(number) => errors.put_line(format_args!("store {number}")),
-            Stop::Fault(number) => errors.put_line(format_args!("fault {number}")),
-            Stop::Network => errors.put_line("network"),
+            Stop::Config(number) => put_numbered("config ", u64::from(number), errors),
+            Stop::Capture(number) => put_numbered("capture line ", number, errors),
+            Stop::Store(number) => put_numbered("store ", u64::from(number), errors),
+            Stop::Fault(number) => put_numbered("fault ", u64::from(number), errors),
+            Stop::Network => put_text("network\n", errors),
             Stop::Usage | Stop::Output => Ok(()),
         }
     }

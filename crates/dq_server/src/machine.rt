@@ -6,24 +6,27 @@ ghost use Rattle.sqlite_wal.specs.Reads.{AreClean};
 ghost use Rattle.sqlite.specs.State.{HasCleanDisk};
 ghost use Rattle.sqlite.specs.Closing.{IsCopied};
 ghost use Rattle.sqlite.specs.Files.{file_state, IsOpened};
-ghost use Rattle.sqlite.specs.Held.{state};
 ghost use Rattle.sqlite.specs.Start.{FindsIn};
 ghost use Rattle.dq_tables.specs.declared.row.Row.{Row};
 ghost use Rattle.dq_tables.specs.Sound.{IsSound};
 ghost use Rattle.dq_core.specs.Looking.{LeavesAlone};
 ghost use Rattle.dq_core.specs.Soundness.{HoldSound};
-ghost use Rattle.dq_sql.specs.Filling.{IsFilled};
 ghost use Rattle.dq_sql.specs.Restarting.{HoldsRows};
 ghost use Rattle.dq_server.specs.Closing.{HaveAlone};
 
+use crate::memory::RowsInMemory;
 use dq_core::laws::rows_stay_sound;
 use dq_program::{Host, Stores, Unclosed, Uncopied, Unkept};
 use dq_sql::{MigrateFault, SqlTables, StoreFault};
-use dq_tables::{PlainTables, Tables};
-use sqlite::{Alter, Connection, Error, ErrorCode, FileFrom, FileStore, Files, Start, Wary};
+use dq_tables::Tables;
+use sqlite::{Connection, Error, ErrorCode, FileFrom, FileStore, Files, Start, Wary};
 use sqlite_disk::Disk;
 use std::alloc::{AllocError, Global};
+use std::io::{IsTerminal, Write};
 use std::{fs, io};
+
+/// How many octets a store has at least, for a terminal to be told that it is read.
+const LARGE_STORE: u64 = 10_000_000;
 
 /// The machine that the program runs on.
 #[derive(Clone, Copy)]
@@ -148,21 +151,6 @@ fn uncopied<D: Disk + Drop>(fault: StoreFault, left: Connection<FileStore<D>>) -
     Uncopied::Failed
 }
 
-/// Copies all rows into the new store of a connection, which is given back.
-fn filled_copy<S: Alter + Drop>(
-    alloc: Global,
-    tables: &mut SqlTables<S>,
-    new: Connection<S>,
-) -> Result<Connection<S>, (StoreFault, Connection<S>)>
-    ensures alone { LeavesAlone (⟦<SqlTables<S> as Tables>⟧.state tables.old)
-        (⟦<SqlTables<S> as Tables>⟧.state tables.new) }
-    ensures made { (⟦<SqlTables<S> as Tables>⟧.state tables.new).honest → IfOk result (λ c.
-        HasCleanDisk (state S.Store c) → IsFilled (state S.Store c)
-        (⟦<SqlTables<S> as Tables>⟧.state tables.old).rows) }
-{
-    tables.copy_to(alloc, new)
-}
-
 /// Copies the log of a store into its database file, and gives back the files.
 fn closed_copy<D: Disk + Drop>(filled: Connection<FileStore<D>>) -> Result<Files<D>, Error>
     ensures { IfOk result (λ files. AreClean D.Disk files.log files.db → IsCopied filled files) }
@@ -187,7 +175,7 @@ pub fn copied_files(
         IfOk result (HaveAlone ⟦<FileFrom<Wary> as Disk>⟧
         (⟦<SqlTables<FileStore<FileFrom<Wary>>> as Tables>⟧.state tables.old).rows) }
 {
-    let filled = match filled_copy(alloc, tables, new) {
+    let filled = match tables.copy_to(alloc, new) {
         Ok(filled) => filled,
         Err((fault, left)) => return Err(uncopied(fault, left)),
     };
@@ -202,6 +190,14 @@ fn log_path(alloc: Global, path: &str) -> Result<String, Uncopied> {
     match format!(in alloc; "{path}-wal") {
         Ok(log) => Ok(log),
         Err(AllocError) => Err(Uncopied::NoMemory),
+    }
+}
+
+/// Tells a terminal that a large store is read, which takes seconds: some 2 for 100,000 rows of 50 MB.
+fn tell_reading(rt: &HostRuntime, path: &str, octets: u64) {
+    let mut errors = rt.stderr();
+    if octets >= LARGE_STORE && errors.is_terminal() {
+        let _ = writeln!(errors, "reading {path}: {} MB", octets / 1_000_000);
     }
 }
 
@@ -237,12 +233,17 @@ impl Machine<'_> {
         }
     }
 
-    /// Whether there is a file, which a connection would make.
+    /// Whether there is a plain file, which a connection would make. It is not opened: what is no plain
+    /// file may keep a program waiting that opens it.
     fn is_there(&self, path: &str) -> Result<(), Unkept> {
-        if fs::open(self.rt, path).is_err() {
-            return Err(unkept(StoreFault::Store));
+        match fs::metadata(self.rt, path) {
+            Ok(found) if found.is_file() => {
+                tell_reading(self.rt, path, found.len());
+                Ok(())
+            }
+            Err(error) if error.kind() == io::ErrorKind::OutOfMemory => Err(Unkept::NoMemory),
+            _ => Err(unkept(StoreFault::Store)),
         }
-        Ok(())
     }
 
     /// Whether nothing has a name. What has it is not opened: it may be a file of the store itself.
@@ -257,10 +258,11 @@ impl Machine<'_> {
 }
 
 impl Stores for Machine<'_> {
-    ghost use Rattle.std.specs.Prelude.{None};
+    ghost use Rattle.std.specs.Prelude.{None, refl};
+    ghost use Rattle.dq_sql.proofs.InMemory.{clean_over};
     ghost use Rattle.dq_server.specs.Closing.{IsClosed};
 
-    type Memory = PlainTables;
+    type Memory = RowsInMemory;
 
     type File = SqlTables<FileStore<FileFrom<Wary>>>;
 
@@ -272,7 +274,10 @@ impl Stores for Machine<'_> {
     ghost closed = { λ _ rows. IsClosed ⟦<FileFrom<Wary> as Disk>⟧ rows };
 
     fn memory(&self, alloc: Global) -> Result<Self::Memory, Unkept> {
-        Ok(PlainTables::new(alloc))
+        match RowsInMemory::new(alloc) {
+            Ok(tables) => Ok(tables),
+            Err(AllocError) => Err(Unkept::NoMemory),
+        }
     }
 
     fn new_store(&self, alloc: Global, path: &str) -> Result<Self::File, Unkept> {
@@ -307,7 +312,7 @@ impl Stores for Machine<'_> {
         Ok(())
     }
 
-    ghost memory_is_honest = { λ _. tt };
+    ghost memory_is_honest = { λ t. clean_over t.tables.conn (λ _. refl) };
 
     ghost known_is_honest = { λ _ _ _ known. cc };
 }

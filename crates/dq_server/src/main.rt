@@ -3,6 +3,7 @@
 
 pub mod laws;
 mod machine;
+mod memory;
 
 use dq_program::{Folder, Network, Sink, Source, Stores, perform, unworded};
 use machine::Machine;
@@ -22,11 +23,22 @@ fn performed<Rt: AllocGlobal + Folder + Stores + Network, R: Source, W: Sink, E:
     perform(rt, words, input, output, errors)
 }
 
+/// Plays the program on the machine. It is a function of its own so that the check of `play` does not
+/// carry the machine's keepers of rows.
+fn performed_on<R: Source, W: Sink, E: Sink>(
+    rt: &HostRuntime,
+    words: &[String],
+    input: R,
+    output: &mut W,
+    errors: &mut E,
+) -> u8 {
+    performed(&Machine { rt }, words, input, output, errors)
+}
+
 fn play<E: Write>(rt: &HostRuntime, errors: &mut E) -> io::Result<u8> {
     let words: Vec<String> = env::args(rt)?.skip(1).collect(rt.alloc())?;
     let mut output = BufWriter::new(rt.alloc(), io::writer(rt))?;
-    let machine = Machine { rt };
-    Ok(performed(&machine, words.as_slice(), rt.reader(), &mut output, errors))
+    Ok(performed_on(rt, words.as_slice(), rt.reader(), &mut output, errors))
 }
 
 fn main(rt: HostRuntime) -> ExitCode {

@@ -16,18 +16,18 @@ use dq_tables::Tables;
 use sqlite::{Alter, Connection};
 use std::alloc::Global;
 
-impl<S: Alter> SqlTables<S> {
+impl<S: Alter + Drop> SqlTables<S> {
     /// Copies all rows into a store that has nothing yet, in one transaction, and gives this back. The
     /// tables are read alone, and stay as they are.
     ///
     /// It answers `Store` where the new store has anything already, where a transaction is open, and
     /// where one of the two stores fails. After a refusal the new store shows what it showed, and a
     /// crash leaves what it could leave before, or all rows.
-    pub fn copy_to<T: Alter + Drop>(
+    pub fn copy_to(
         &mut self,
         alloc: Global,
-        mut new: Connection<T>,
-    ) -> Result<Connection<T>, (StoreFault, Connection<T>)>
+        mut new: Connection<S>,
+    ) -> Result<Connection<S>, (StoreFault, Connection<S>)>
         ensures rows { (⟦<SqlTables<S> as Tables>⟧.state self.new).rows
             ≡ (⟦<SqlTables<S> as Tables>⟧.state self.old).rows }
         ensures failed { (⟦<SqlTables<S> as Tables>⟧.state self.new).failed
@@ -38,12 +38,12 @@ impl<S: Alter> SqlTables<S> {
             → (⟦<SqlTables<S> as Tables>⟧.state self.new).may_leave r
             → (⟦<SqlTables<S> as Tables>⟧.state self.old).may_leave r }
         ensures made { (⟦<SqlTables<S> as Tables>⟧.state self.new).honest → IfOk result (λ c.
-            HasCleanDisk (state T.Store c)
-            → IsFilled (state T.Store c) (⟦<SqlTables<S> as Tables>⟧.state self.old).rows) }
-        ensures taken { (state T.Store new).now.schema ≢ no_schema
+            HasCleanDisk (state S.Store c)
+            → IsFilled (state S.Store c) (⟦<SqlTables<S> as Tables>⟧.state self.old).rows) }
+        ensures taken { (state S.Store new).now.schema ≢ no_schema
             → IsErrAnd result (λ e. (e.0 ≡ Store) × (e.1 ≡ new)) }
         ensures refused { (⟦<SqlTables<S> as Tables>⟧.state self.new).honest → IfErr result (λ e.
-            IsNotMade (state T.Store new) (state T.Store e.1)
+            IsNotMade (state S.Store new) (state S.Store e.1)
             (⟦<SqlTables<S> as Tables>⟧.state self.old).rows) }
     {
         if !is_new_store(&new) {

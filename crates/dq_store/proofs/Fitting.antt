@@ -24,8 +24,7 @@ use Rattle.dq_dataset.proofs.Views.{elements_of-as_elements}
 use Rattle.dq_tables.specs.declared.row.Kind.{Kind}
 use Rattle.dq_tables.specs.declared.row.Kind.TheVariants.{Study, Series, Image}
 use Rattle.dq_tables.specs.declared.row.Row.{Row}
-use Rattle.dq_tables.specs.declared.change.Change.{Change}
-use Rattle.dq_tables.specs.Rows.{Record, RowPlace, Edit, Put, IsRising, IsOf, of, row_of, place_of, place, within, row_place_of, row_place_order, rows_before, rows_past, after_edit, after_edits, put_if, edits_of, after, by, operation_of}
+use Rattle.dq_tables.specs.Rows.{Record, RowPlace, Put, IsRising, IsOf, of, row_of, place_of, place, within, row_place_of, row_place_order, rows_before, rows_past, after_edit, after_edits, put_if, edits_of}
 use Rattle.dq_tables.specs.Finding.{row_at}
 use Rattle.dq_tables.specs.Keys.{uid_at}
 use Rattle.dq_tables.specs.Sound.{is_own, is_held, is_value, has_key, has_above, is_within, IsNew, IsNewIf, FitsStored}
@@ -228,11 +227,6 @@ module _ (h : List ℕ) (made : Instance) where
   put_is None new = refl
   put_is (Some k) new = refl
 
-  edits_are : (kept : Kept) → kept.image ≡ None → edits_of (new_rows h kept made) ≡ stored_edits kept made
+  pub edits_are : (kept : Kept) → kept.image ≡ None → edits_of (new_rows h kept made) ≡ stored_edits kept made
   unfolding stored_edits
   edits_are kept new = rw (new, put_is kept.study (study_record made), put_is kept.series (series_record made)) refl
-
-  pub made_of_rows : (rows : List Row) (change : Change) (kept : Kept) → change ≡ new_rows h kept made → kept.image ≡ None
-      → after (operation_of change) rows ≡ after (by h (stored_edits kept made)) rows
-  made_of_rows rows change kept e new =
-      ap (λ (c : Change). after (operation_of c) rows) e ∙ ap (λ (es : List Edit). after (by h es) rows) (edits_are kept new)

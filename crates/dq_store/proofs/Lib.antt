@@ -5,7 +5,6 @@ mod Sifted
 mod Standing
 pub mod Fitting
 pub mod Outcomes
-pub mod Calls
 pub mod Staying
 mod StaysSound
 mod Whole

@@ -1,5 +1,5 @@
 -- What is answered of an instance, by what is kept of it.
-use Rattle.std.proofs.Common.{◌≡◌, ℕ, Bool, true, false, List, [], Option, Some, None, Result, Ok, Err, refl, sym, ◌∙◌, ap, subst, if◌then◌else◌, ◌⊎◌, inl, inr}
+use Rattle.std.proofs.Common.{◌≡◌, ℕ, Bool, true, false, List, [], Option, Some, None, Result, Ok, Err, refl, sym, ◌∙◌, ap, if◌then◌else◌, ◌⊎◌, inl, inr}
 use Rattle.std.specs.Result.{result_ok, result_unwrap_or}
 use Rattle.dq_list.specs.Readers.{provided}
 use Rattle.dq_dataset.specs.declared.fault.ReadFault.{ReadFault}
@@ -12,32 +12,41 @@ use Rattle.dq_dimse.specs.Statuses.{out_of_resources, does_not_match_sop_class, 
 use Rattle.dq_config.specs.Limits.{Limits}
 use Rattle.dq_tables.specs.Rows.{Record, Edit}
 use Rattle.dq_tables.specs.Serving.{first_refusal, outcome}
-use Rattle.dq_tables.proofs.Refusing.{first_in, first_past}
 use Rattle.dq_dimse.specs.Limits.{store_limit}
-use Rattle.dq_store.specs.Storing.{Instance, Kept, kept_among, instance_in, is_named, keeps_too_much, kept_refusals, limit_refusals, storage_refusals, stored_status, stored_edits, stored}
-use Rattle.dq_store.specs.Views.{instance_stored, kept_status}
+use Rattle.dq_store.specs.declared.keeping.KeptRows.{KeptRows}
+use Rattle.dq_store.specs.Storing.{Instance, Kept, kept_among, instance_in, is_named, keeps_too_much, instance_refusals, storage_refusals, stored_status, stored_edits, stored}
+use Rattle.dq_store.specs.Views.{rows_among, unless_refused, kept_of, instance_stored, kept_status}
+use Rattle.dq_store.proofs.Records.{kept_is}
 
 abbrev kept_by : Bool → Kept → Instance → ℕ × List Edit
 kept_by other kept sent = (kept_status other kept sent, stored_edits kept sent)
 
-module _ (limits : Limits) (records : List Record) (other : Bool) (sent : Instance) (kept : Kept) (found : kept ≡ kept_among records sent) where
-  pub kept_refused : (status : ℕ) → first_refusal (kept_refusals kept sent) ≡ Some status → instance_stored limits records other sent ≡ (status, [])
-  unfolding instance_stored
-  kept_refused status refused =
-      let there = subst (λ (k : Kept). first_refusal (kept_refusals k sent) ≡ Some status) found refused in
-      ap (λ (o : Option ℕ). outcome o (kept_by other (kept_among records sent) sent))
-      (first_in (kept_refusals (kept_among records sent) sent) (limit_refusals limits records (kept_among records sent)) status there)
+refused_by : (refusal : Option ℕ) (rows : KeptRows) (status : ℕ) → Err status ≡ unless_refused refusal rows → refusal ≡ Some status
+refused_by None rows status is = cc
+refused_by (Some s) rows status is = cc
 
-  -- what follows where nothing that is kept refuses it
-  pub by_limits : (refusal : Option ℕ) → first_refusal (kept_refusals kept sent) ≡ None → first_refusal (limit_refusals limits records kept) ≡ refusal
-      → instance_stored limits records other sent ≡ outcome refusal (kept_by other kept sent)
+not_refused : (refusal : Option ℕ) (rows kept : KeptRows) → Ok kept ≡ unless_refused refusal rows → (refusal ≡ None) × (kept ≡ rows)
+not_refused None rows kept is = (refl, cc)
+not_refused (Some s) rows kept is = cc
+
+module _ (limits : Limits) (records : List Record) (other : Bool) (sent : Instance) (name : List ℕ) where
+  abbrev found : Result KeptRows ℕ
+  found = unless_refused (first_refusal (instance_refusals limits records sent)) (rows_among name records sent)
+
+  pub refused_instance : (status : ℕ) → Err status ≡ found → instance_stored limits records other sent ≡ (status, [])
   unfolding instance_stored
-  by_limits refusal clear first =
-      let there = subst (λ (k : Kept). first_refusal (kept_refusals k sent) ≡ None) found clear in
-      ap (λ (o : Option ℕ). outcome o (kept_by other (kept_among records sent) sent))
-      (first_past (kept_refusals (kept_among records sent) sent) (limit_refusals limits records (kept_among records sent)) there)
-      ∙ sym (ap (λ (k : Kept). outcome (first_refusal (limit_refusals limits records k)) (kept_by other k sent)) found)
-      ∙ ap (λ (o : Option ℕ). outcome o (kept_by other kept sent)) first
+  refused_instance status is =
+      ap (λ (o : Option ℕ). outcome o (kept_by other (kept_among records sent) sent)) (refused_by _ (rows_among name records sent) status is)
+
+  pub kept_instance : (kept : KeptRows) → Ok kept ≡ found → instance_stored limits records other sent ≡ kept_by other (kept_of kept) sent
+  unfolding instance_stored
+  kept_instance kept is =
+      let both = not_refused _ (rows_among name records sent) kept is in
+      ap (λ (o : Option ℕ). outcome o (kept_by other (kept_among records sent) sent)) both.0
+      ∙ sym (ap (λ (k : Kept). kept_by other k sent) (kept_is name records sent kept both.1))
+
+  pub kept_records : (kept : KeptRows) → Ok kept ≡ found → kept_of kept ≡ kept_among records sent
+  kept_records kept is = kept_is name records sent kept (not_refused _ (rows_among name records sent) kept is).1
 
 -- ---- what is answered before what is kept is asked
 

@@ -28,7 +28,7 @@ use Rattle.dq_tables.proofs.Soundness.{change_sound}
 use Rattle.dq_dimse.specs.Limits.{store_limit}
 use Rattle.dq_store.specs.Storing.{Instance, Kept, kept_among, instance_in, is_named, keeps_too_much, instance_refusals, study_record, series_record, image_record, put_new, stored_edits, stored}
 use Rattle.dq_store.specs.Views.{instance_stored, kept_status, new_rows}
-use Rattle.dq_store.proofs.Fitting.{new_fits, made_of_rows}
+use Rattle.dq_store.proofs.Fitting.{new_fits, edits_are}
 use Rattle.dq_store.proofs.Outcomes.{over, unread, too_much, unnamed, handed_on}
 use Rattle.dq_store.proofs.Sieved.{named_kept, kept_decides}
 
@@ -127,7 +127,7 @@ module _ (h : List ℕ) (rows : List Row) (sound : IsSound rows) (sent : Instanc
   sound_by (Some r) there = rw there sound
   sound_by None new =
       let kept = kept_among (of h rows) sent in
-      subst IsSound (made_of_rows h sent rows (new_rows h kept sent) kept refl new)
+      subst (λ (es : List Edit). IsSound (after (by h es) rows)) (edits_are h sent kept new)
       (change_sound rows (new_rows h kept sent) sound (new_fits h sent back study_is series_is image_is rows sound.rising kept refl new))
 
   pub edits_sound : IsSound (after (by h (stored_edits (kept_among (of h rows) sent) sent)) rows)

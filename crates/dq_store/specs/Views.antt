@@ -1,5 +1,5 @@
 -- Between what the code holds and the definitions.
-use Rattle.std.specs.Prelude.{◌≡◌, ℕ, Bool, if◌then◌else◌, List, Option, Some, None, option_map}
+use Rattle.std.specs.Prelude.{◌≡◌, ℕ, Bool, if◌then◌else◌, List, Option, Some, None, option_map, Result, Ok, Err}
 use Rattle.dq_vr.specs.Tags.{sop_instance_uid, study_instance_uid, series_instance_uid}
 use Rattle.dq_dimse.specs.Statuses.{elements_discarded}
 use Rattle.dq_config.specs.Limits.{Limits}
@@ -27,6 +27,19 @@ kept_of rows = record {
   series = option_map record_of rows.series;
   image = option_map record_of rows.image;
 }
+
+-- the rows that are kept already under an institution's name
+abbrev pub rows_among : List ℕ → List Record → Instance → KeptRows
+rows_among name records sent = record {
+  study = option_map (row_of name) (kept_among records sent).study;
+  series = option_map (row_of name) (kept_among records sent).series;
+  image = option_map (row_of name) (kept_among records sent).image;
+}
+
+-- the rows, or the status that refuses
+abbrev pub unless_refused : Option ℕ → KeptRows → Result KeptRows ℕ
+unless_refused None kept = Ok kept
+unless_refused (Some status) kept = Err status
 
 -- the UIDs are those of the data set
 pub record HasUids (sent : SentInstance) : Type 0 where

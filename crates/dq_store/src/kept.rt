@@ -1,20 +1,20 @@
 //! What is kept already, and what is kept of an instance.
-ghost use Rattle.std.specs.Prelude.{◌≡◌, IfOk, option_map, unwrap_or};
+ghost use Rattle.std.specs.Prelude.{◌≡◌, ◌++◌, IfOk, option_map, unwrap_or};
 ghost use Rattle.dq_config.specs.Limits.{limits_of};
-ghost use Rattle.dq_tables.specs.Rows.{of, record_of};
-ghost use Rattle.dq_tables.specs.Keeping.{Reads};
+ghost use Rattle.dq_tables.specs.Rows.{record_of};
 ghost use Rattle.dq_tables.specs.Serving.{first_refusal};
+ghost use Rattle.dq_archive.specs.Archives.{Looks};
 ghost use Rattle.dq_dataset.specs.Editing.{cut_out, is_listed};
 ghost use Rattle.dq_dataset.specs.Same.{has_element};
 ghost use Rattle.dq_tables.specs.Records.{data_set_of};
 ghost use Rattle.dq_store.specs.Attributes.{study_attributes, series_attributes, image_attributes};
-ghost use Rattle.dq_store.specs.Storing.{is_under_another, kept_among, kept_refusals, finds_no_room, count_of, limit_refusals, is_kept_whole};
-ghost use Rattle.dq_store.specs.Views.{instance_of, kept_of, kept_status};
+ghost use Rattle.dq_store.specs.Storing.{is_under_another, kept_refusals, finds_no_room, count_of, limit_refusals, instance_refusals, is_kept_whole};
+ghost use Rattle.dq_store.specs.Views.{instance_of, rows_among, unless_refused, kept_of, kept_status};
 
 use crate::attributes;
 use crate::instance::Instance;
 use crate::keeping::{KeptRows, Level};
-use dq_config::Institution;
+use dq_archive::Archive;
 use dq_dataset::{DataSet, Element};
 use dq_dimse::status;
 use dq_tables::{Kind, Row, TableFault, Tables};
@@ -22,19 +22,16 @@ use dq_vr::Tag;
 use std::alloc::{AllocError, Global};
 
 /// The rows that are kept already of what is sent.
-pub(crate) fn kept_rows<T: Tables>(
-    alloc: Global,
-    tables: &mut T,
-    name: &[u8],
+fn kept_rows<T: Tables>(
+    archive: &mut Archive<'_, T>,
     sent: &Instance<'_>,
 ) -> Result<KeptRows, TableFault>
-    ensures found { (T.state tables.new).honest → IfOk result (λ kept.
-        kept_of kept ≡ kept_among (of name.now (T.state tables.old).rows) (instance_of sent.now)) }
-    ensures reads { Reads (T.state tables.old) (T.state tables.new) result }
+    ensures { Looks T.state archive.old archive.new (λ records.
+        rows_among archive.old.institution.now.name records (instance_of sent.now)) result }
 {
-    let study = tables.study(alloc, name, sent.study)?;
-    let series = tables.series(alloc, name, sent.series)?;
-    let image = tables.image(alloc, name, sent.image)?;
+    let study = archive.row(Kind::Study, sent.study)?;
+    let series = archive.row(Kind::Series, sent.series)?;
+    let image = archive.row(Kind::Image, sent.image)?;
     Ok(KeptRows {
         study,
         series,
@@ -55,7 +52,7 @@ fn is_under_another(row: &Option<Row>, above: &[u8]) -> bool
 /// The status that refuses an instance which is kept elsewhere, or whose series is (PS3.4 section
 /// B.2.3).
 #[tactic(auto, unfolding(crate::specs::Storing::is_kept_elsewhere, crate::specs::Storing::has_series_elsewhere), using(crate::proofs::Records::is_some_record, crate::proofs::Records::is_none_record))]
-pub(crate) fn kept_refusal(kept: &KeptRows, sent: &Instance<'_>) -> Option<u16>
+fn kept_refusal(kept: &KeptRows, sent: &Instance<'_>) -> Option<u16>
     ensures { result ≡ first_refusal (kept_refusals (kept_of kept.now) (instance_of sent.now)) }
 {
     let is_kept = kept.image.is_some();
@@ -71,42 +68,35 @@ pub(crate) fn kept_refusal(kept: &KeptRows, sent: &Instance<'_>) -> Option<u16>
 
 /// Whether there is no room for a row that is not kept yet.
 fn finds_no_room<T: Tables>(
-    alloc: Global,
-    tables: &mut T,
-    name: &[u8],
+    archive: &mut Archive<'_, T>,
     level: &Level<'_>,
 ) -> Result<bool, TableFault>
-    ensures found { (T.state tables.new).honest → IfOk result (λ full. full
-        ≡ finds_no_room (option_map record_of level.now.kept.now) level.now.limit
-        (count_of level.now.kind (of name.now (T.state tables.old).rows))) }
-    ensures reads { Reads (T.state tables.old) (T.state tables.new) result }
+    ensures { Looks T.state archive.old archive.new (λ records. finds_no_room
+        (option_map record_of level.now.kept.now) level.now.limit (count_of level.now.kind records))
+        result }
 {
     if level.kept.is_some() {
         return Ok(false);
     }
-    let count = tables.count(alloc, level.kind, name)?;
+    let count = archive.count(level.kind)?;
     Ok(u64::from(level.limit) <= count)
 }
 
 /// The status that refuses a new study, or a new image, for which there is no room.
-pub(crate) fn limit_refusal<T: Tables>(
-    alloc: Global,
-    tables: &mut T,
-    institution: &Institution,
+fn limit_refusal<T: Tables>(
+    archive: &mut Archive<'_, T>,
     kept: &KeptRows,
 ) -> Result<Option<u16>, TableFault>
-    ensures found { (T.state tables.new).honest → IfOk result (λ status. status
-        ≡ first_refusal (limit_refusals (limits_of institution.now)
-        (of institution.now.name (T.state tables.old).rows) (kept_of kept.now))) }
-    ensures reads { Reads (T.state tables.old) (T.state tables.new) result }
+    ensures { Looks T.state archive.old archive.new (λ records. first_refusal (limit_refusals
+        (limits_of archive.old.institution.now) records (kept_of kept.now))) result }
 {
-    let name = institution.name.as_slice();
+    let institution = archive.institution;
     let studies = Level {
         kind: Kind::Study,
         kept: &kept.study,
         limit: institution.studies,
     };
-    if finds_no_room(alloc, tables, name, &studies)? {
+    if finds_no_room(archive, &studies)? {
         return Ok(Some(status::OUT_OF_RESOURCES));
     }
     let images = Level {
@@ -114,10 +104,44 @@ pub(crate) fn limit_refusal<T: Tables>(
         kept: &kept.image,
         limit: institution.images,
     };
-    if finds_no_room(alloc, tables, name, &images)? {
+    if finds_no_room(archive, &images)? {
         return Ok(Some(status::OUT_OF_RESOURCES));
     }
     Ok(None)
+}
+
+/// The status of the first refusal of an instance, by what is kept already.
+fn first_refusal<T: Tables>(
+    archive: &mut Archive<'_, T>,
+    kept: &KeptRows,
+    sent: &Instance<'_>,
+) -> Result<Option<u16>, TableFault>
+    ensures { Looks T.state archive.old archive.new (λ records. first_refusal
+        (kept_refusals (kept_of kept.now) (instance_of sent.now)
+        ++ limit_refusals (limits_of archive.old.institution.now) records (kept_of kept.now))) result }
+{
+    if let Some(status) = kept_refusal(kept, sent) {
+        return Ok(Some(status));
+    }
+    limit_refusal(archive, kept)
+}
+
+/// The rows that are kept already of an instance, or the status of its first refusal.
+pub(crate) fn kept_unless_refused<T: Tables>(
+    archive: &mut Archive<'_, T>,
+    sent: &Instance<'_>,
+) -> Result<Result<KeptRows, u16>, TableFault>
+    ensures { Looks T.state archive.old archive.new (λ records. unless_refused
+        (first_refusal (instance_refusals (limits_of archive.old.institution.now) records
+        (instance_of sent.now)))
+        (rows_among archive.old.institution.now.name records (instance_of sent.now))) result }
+{
+    let kept = kept_rows(archive, sent)?;
+    let refusal = first_refusal(archive, &kept, sent)?;
+    match refusal {
+        Some(status) => Ok(Err(status)),
+        None => Ok(Ok(kept)),
+    }
 }
 
 /// The data set of a row that is kept, if there is one.

@@ -1,25 +1,29 @@
 //! C-STORE (PS3.4 section B.2.3).
-ghost use Rattle.std.specs.Prelude.{◌≡◌, true, IfOk, OnOk, None};
+ghost use Rattle.std.specs.Prelude.{◌≡◌, true, List, IfOk, OnOk};
 ghost use Rattle.dq_dataset.specs.declared.header.Syntax.TheVariants.{Explicit};
 ghost use Rattle.dq_dataset.specs.Canonical.{HasLengths};
 ghost use Rattle.dq_dimse.specs.Holding.{StandsFor, is_stored};
 ghost use Rattle.dq_dimse.specs.Received.{Message as Received};
 ghost use Rattle.dq_config.specs.Limits.{limits_of};
-ghost use Rattle.dq_tables.specs.Rows.{of, by, after};
-ghost use Rattle.dq_tables.specs.Keeping.{Goes, IsSettled, Writes};
+ghost use Rattle.dq_tables.specs.declared.row.Row.{Row as TheRow};
+ghost use Rattle.dq_tables.specs.Rows.{IsRising, of};
+ghost use Rattle.dq_tables.specs.Keeping.{Goes, IsSettled};
 ghost use Rattle.dq_tables.specs.Serving.{Serves};
+ghost use Rattle.dq_archive.specs.Archives.{Decides};
+ghost use Rattle.dq_archive.specs.Deciding.{edits_in, outcome_of, FitsIf, IsOwn};
 ghost use Rattle.dq_store.specs.Storing.{stored, stored_edits, kept_among};
 ghost use Rattle.dq_store.specs.Storing.{study_record, series_record};
 ghost use Rattle.dq_store.specs.Views.{instance_of, instance_stored, kept_of, kept_status, HasUids, new_if, new_rows};
 
 use crate::instance::Instance;
 use crate::keeping::KeptRows;
-use crate::kept::{kept_refusal, kept_rows, limit_refusal, stored_status};
+use crate::kept::{kept_unless_refused, stored_status};
+use dq_archive::{Archive, Decision};
 use dq_config::Institution;
 use dq_dataset::laws::{editing_law, fault_law, spelling_law, written_law};
 use dq_dataset::{Sifted, Syntax, can_be_written};
 use dq_dimse::{Body, Message, status};
-use dq_tables::{Change, Row, TableFault, Tables, make_change};
+use dq_tables::{Change, Row, TableFault, Tables};
 use std::alloc::{AllocError, Global};
 
 /// Stores an instance among the institution's rows, and answers the status (PS3.4 section B.2.3). A
@@ -74,86 +78,77 @@ fn store_instance<T: Tables>(
         (λ records. instance_stored (limits_of institution.now) records sent.now.other
         (instance_of sent.now)) result }
 {
-    let kept = kept_rows(alloc, tables, institution.name.as_slice(), sent)?;
-    store_beside(alloc, tables, institution, &kept, sent)
+    let mut archive = Archive::new(alloc, tables, institution);
+    let decision = decide_instance(&mut archive, sent)?;
+    archive.carry_out(decision)
 }
 
-/// Stores an instance that was read, beside what is kept of its study, series and image.
-fn store_beside<T: Tables>(
-    alloc: Global,
-    tables: &mut T,
-    institution: &Institution,
-    kept: &KeptRows,
+/// What an instance that was read makes of the records.
+fn decide_instance<T: Tables>(
+    archive: &mut Archive<'_, T>,
     sent: &Instance<'_>,
-) -> Result<u16, TableFault>
+) -> Result<Decision<u16>, TableFault>
     requires lengths { HasLengths Explicit sent.now.data_set.now }
     requires own { HasUids sent.now }
-    requires found { (T.state tables.old).honest
-        → kept_of kept.now
-        ≡ kept_among (of institution.now.name (T.state tables.old).rows) (instance_of sent.now) }
-    ensures { Serves (T.state tables.old) (T.state tables.new) institution.now.name
-        (λ _. instance_stored (limits_of institution.now)
-        (of institution.now.name (T.state tables.old).rows) sent.now.other
-        (instance_of sent.now)) result }
+    ensures { Decides T.state archive.old archive.new (λ records. instance_stored
+        (limits_of archive.old.institution.now) records sent.now.other (instance_of sent.now)) result }
 {
-    if let Some(status) = kept_refusal(kept, sent) {
-        return Ok(status);
-    }
-    if let Some(status) = limit_refusal(alloc, tables, institution, kept)? {
-        return Ok(status);
-    }
-    keep(alloc, tables, institution.name.as_slice(), kept, sent)
+    let kept = match kept_unless_refused(archive, sent)? {
+        Ok(kept) => kept,
+        Err(status) => return Ok(Decision::unchanged(status)),
+    };
+    let name = archive.institution.name.as_slice();
+    let decision = kept_decision(archive.alloc, name, &kept, sent)?;
+    Ok(decision)
 }
 
-/// Keeps an instance that is not refused, unless it is kept already, and answers the status.
-fn keep<T: Tables>(
+/// The status of an instance that is not refused, and the change that keeps it.
+fn kept_decision(
     alloc: Global,
-    tables: &mut T,
     name: &[u8],
     kept: &KeptRows,
     sent: &Instance<'_>,
-) -> Result<u16, TableFault>
+) -> Result<Decision<u16>, AllocError>
     requires lengths { HasLengths Explicit sent.now.data_set.now }
     requires own { HasUids sent.now }
-    requires found { (T.state tables.old).honest
-        → kept_of kept.now
-        ≡ kept_among (of name.now (T.state tables.old).rows) (instance_of sent.now) }
-    ensures { Serves (T.state tables.old) (T.state tables.new) name.now
-        (λ _. (
-          kept_status sent.now.other (kept_of kept.now) (instance_of sent.now),
-          stored_edits (kept_of kept.now) (instance_of sent.now),
-        )) result }
+    ensures made { IfOk result (λ decision. outcome_of decision ≡ (
+      kept_status sent.now.other (kept_of kept.now) (instance_of sent.now),
+      stored_edits (kept_of kept.now) (instance_of sent.now),
+    )) }
+    ensures own { IfOk result (λ decision. IsOwn name.now decision.change) }
+    ensures fits { IfOk result (λ decision. (rows : List TheRow) → IsRising rows
+        → kept_of kept.now ≡ kept_among (of name.now rows) (instance_of sent.now)
+        → FitsIf rows decision.change) }
 {
-    let status = stored_status(alloc, kept, sent)?;
-    if kept.image.is_none() {
-        keep_new(alloc, tables, name, kept, sent)?;
-    }
-    Ok(status)
+    let answer = stored_status(alloc, kept, sent)?;
+    let change = new_change(alloc, name, kept, sent)?;
+    Ok(Decision { answer, change })
 }
 
-/// Keeps an instance that is new, by one change.
-fn keep_new<T: Tables>(
+/// The change that keeps an instance, unless it is kept already.
+fn new_change(
     alloc: Global,
-    tables: &mut T,
     name: &[u8],
     kept: &KeptRows,
     sent: &Instance<'_>,
-) -> Result<(), TableFault>
+) -> Result<Option<Change>, AllocError>
     requires lengths { HasLengths Explicit sent.now.data_set.now }
     requires own { HasUids sent.now }
-    requires found { (T.state tables.old).honest
-        → kept_of kept.now
-        ≡ kept_among (of name.now (T.state tables.old).rows) (instance_of sent.now) }
-    requires new { kept.now.image ≡ None }
-    ensures { Writes (T.state tables.old) (T.state tables.new)
-        (after (by name.now (stored_edits (kept_of kept.now) (instance_of sent.now)))
-        (T.state tables.old).rows) result }
+    ensures edits { IfOk result (λ change.
+        edits_in change ≡ stored_edits (kept_of kept.now) (instance_of sent.now)) }
+    ensures own { IfOk result (λ change. IsOwn name.now change) }
+    ensures fits { IfOk result (λ change. (rows : List TheRow) → IsRising rows
+        → kept_of kept.now ≡ kept_among (of name.now rows) (instance_of sent.now)
+        → FitsIf rows change) }
 {
     written_law();
     editing_law();
     let _elements = sent.data_set.elements();
+    if kept.image.is_some() {
+        return Ok(None);
+    }
     let change = new_rows(alloc, name, kept, sent)?;
-    make_change(alloc, tables, change)
+    Ok(Some(change))
 }
 
 /// The row of the study of an instance, where it is new.

@@ -32,30 +32,30 @@ use Rattle.dq_wires.proofs.Logging.{logs-then, logs-none}
 use Rattle.dq_wires.proofs.Looking.{comes-none, comes-looking, comes-more}
 
 -- acts, and then others
-acts-more : (h : Hold) (acts more : List Act) → AreActs h acts → AreActs (after_acts h acts) more → AreActs h (acts ++ more)
+pub acts-more : (h : Hold) (acts more : List Act) → AreActs h acts → AreActs (after_acts h acts) more → AreActs h (acts ++ more)
 acts-more h [] more a b = b
 acts-more h (Turned t ∷ acts) more a b = (a.0, acts-more (after_turn h t) acts more a.1 b)
 acts-more h (Ordered event reply ∷ acts) more a b = (a.0, acts-more h acts more a.1 b)
 
-after-more : (h : Hold) (acts more : List Act) → after_acts h (acts ++ more) ≡ after_acts (after_acts h acts) more
+pub after-more : (h : Hold) (acts more : List Act) → after_acts h (acts ++ more) ≡ after_acts (after_acts h acts) more
 after-more h [] more = refl
 after-more h (Turned t ∷ acts) more = after-more (after_turn h t) acts more
 after-more h (Ordered event reply ∷ acts) more = after-more h acts more
 
 -- turns as acts
-turned-are : (h : Hold) (turns : List Turn) → AreTurns h turns → AreActs h (all_turned turns)
+pub turned-are : (h : Hold) (turns : List Turn) → AreTurns h turns → AreActs h (all_turned turns)
 turned-are h [] a = tt
 turned-are h (t ∷ turns) a = (a.0, turned-are (after_turn h t) turns a.1)
 
-turned-after : (h : Hold) (turns : List Turn) → after_acts h (all_turned turns) ≡ after_turns h turns
+pub turned-after : (h : Hold) (turns : List Turn) → after_acts h (all_turned turns) ≡ after_turns h turns
 turned-after h [] = refl
 turned-after h (t ∷ turns) = turned-after (after_turn h t) turns
 
-turned-calls : (turns : List Turn) → flat_map act_calls (all_turned turns) ≡ all_calls turns
+pub turned-calls : (turns : List Turn) → flat_map act_calls (all_turned turns) ≡ all_calls turns
 turned-calls [] = refl
 turned-calls (t ∷ turns) = ap (λ calls. turn_calls t ++ calls) (turned-calls turns)
 
-turned-steps : (turns : List Turn) → flat_map act_steps (all_turned turns) ≡ all_steps turns
+pub turned-steps : (turns : List Turn) → flat_map act_steps (all_turned turns) ≡ all_steps turns
 turned-steps [] = refl
 turned-steps (t ∷ turns) = ap (λ steps. turn_steps t ++ steps) (turned-steps turns)
 
@@ -67,7 +67,7 @@ module _ {Tables : Type 0} (state : Tables → State) (rows : List Row) where
 
   module _ (before now after : Option (List Call)) (first mid next : Standing Tables) (hold to : Hold) (acts : List Act) where
     -- by acts that are asked of it from there on
-    serving-more : (more : List Act) → Serving state rows before now first mid hold acts → AreActs hold more → to ≡ after_acts hold more
+    pub serving-more : (more : List Act) → Serving state rows before now first mid hold acts → AreActs hold more → to ≡ after_acts hold more
         → LogsAll now after (flat_map act_calls more) → Runs (Moves state) mid next (flat_map act_steps more)
         → Serving state rows before after first next to (acts ++ more)
     serving-more more serving are leaves calls steps = record {

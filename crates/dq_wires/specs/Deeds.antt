@@ -9,7 +9,7 @@ use Rattle.dq_wires.specs.declared.calls.Came.TheVariants as came
 use Rattle.dq_wires.specs.declared.calls.Call.{Call}
 use Rattle.dq_wires.specs.declared.calls.Call.TheVariants.{Read, Write, Shut}
 use Rattle.dq_wires.specs.Limits.{most_read}
-use Rattle.dq_wires.specs.Held.{Held, answered}
+use Rattle.dq_wires.specs.Held.{Held, with_heard, answered}
 use Rattle.dq_wires.specs.Steps.{Step}
 use Rattle.dq_wires.specs.Steps.Step.{Answered, Asked}
 
@@ -100,7 +100,7 @@ deed_after wire (Sent count) = record wire { unsent = drop count wire.unsent } �
 deed_after wire (Broke reply shut) = []
 deed_after wire (Lost shut) = []
 deed_after wire (Closed shut) = []
-deed_after wire (Heard octets reply) = answered wire reply ∷ []
+deed_after wire (Heard octets reply) = answered (with_heard wire octets) reply ∷ []
 deed_after wire Silent = wire ∷ []
 deed_after wire (Pulled reply) = answered wire reply ∷ []
 deed_after wire (Left came reply shut) = []

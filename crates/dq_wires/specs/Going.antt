@@ -8,7 +8,7 @@ use Rattle.dq_wires.specs.declared.calls.Call.{Call}
 use Rattle.dq_wires.specs.declared.calls.Call.TheVariants.{Shut}
 use Rattle.dq_wires.specs.declared.fault.TurnFault.{TurnFault}
 use Rattle.dq_wires.specs.Logs.{Logs, LogsAll}
-use Rattle.dq_wires.specs.Held.{Held, answered}
+use Rattle.dq_wires.specs.Held.{Held, with_heard, answered}
 use Rattle.dq_wires.specs.Steps.{Step, Runs, Stops}
 use Rattle.dq_wires.specs.Steps.Step.{Answered, Asked}
 use Rattle.dq_wires.specs.Deeds.{Shutting, Deed, IsDue, deed_calls, deed_steps, deed_after, Break, IsBreak, break_calls, break_event}
@@ -26,7 +26,7 @@ pub record Hears {State : Type 0} (Goes : State → State → Step → Type 0)
     (old new : State) (wire next : Held) (octets : List ℕ) : Type 0 where
   pub reply : Reply
   pub goes : Goes old new (Answered (Piece wire.number octets) reply)
-  pub kept : next ≡ answered wire reply
+  pub kept : next ≡ answered (with_heard wire octets) reply
 
 -- A C-FIND is open, and was pulled; the connection keeps the answer.
 pub record Pulls {State : Type 0} (Goes : State → State → Step → Type 0)

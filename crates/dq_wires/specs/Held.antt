@@ -1,20 +1,29 @@
 -- The connections that are held over wires.
-use Rattle.std.specs.Prelude.{ℕ, Bool, false, List, []}
+use Rattle.std.specs.Prelude.{◌==◌, ◌+◌, ℕ, Bool, false, List, [], length, Option, find}
 use Rattle.dq_core.specs.declared.event.Reply.{Reply}
 use Rattle.dq_core.specs.declared.event.Reply.TheVariants as reply
 
--- A connection that is held: its place among the wires, its number, the octets that were answered
--- and are not yet written, and whether a reply closed it.
+-- A connection that is held: its place among the wires, its number, how many octets were heard on
+-- it, the octets that were answered and are not yet written, and whether a reply closed it.
 pub record Held : Type 0 where
   pub place : ℕ
   pub number : ℕ
+  pub heard : ℕ
   pub unsent : List ℕ
   pub closed : Bool
 
 -- as it comes
 abbrev pub new_held : ℕ → ℕ → Held
 new_held place number =
-    record { place = place; number = number; unsent = []; closed = false }
+    record { place = place; number = number; heard = 0; unsent = []; closed = false }
+
+-- the connection of a number, if it is held
+unfoldable pub wire_with : ℕ → List Held → Option Held
+wire_with number held = find (λ (wire : Held). wire.number == number) held
+
+-- the connection, once more octets were heard on it
+abbrev pub with_heard : Held → List ℕ → Held
+with_heard wire octets = record wire { heard = wire.heard + length octets }
 
 -- the octets of a reply
 abbrev pub octets_in : Reply → List ℕ

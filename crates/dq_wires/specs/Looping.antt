@@ -1,15 +1,22 @@
 -- A capture that clients play.
-use Rattle.std.specs.Prelude.{◌≡◌, ℕ, List, [], ◌∷◌, ◌++◌, Option, None}
-use Rattle.dq_tables.specs.declared.row.Row.{Row}
+use Rattle.std.specs.Prelude.{◌≡◌, ◌≢◌, ◌⊎◌, ◌+◌, ◌==◌, ℕ, Bool, true, List, [], ◌∷◌, ◌++◌, length, Option, Some, None, IfSome, option_map}
+use Rattle.std.specs.List.{flat_map, position}
 use Rattle.dq_tables.specs.Keeping.{State}
 use Rattle.dq_core.specs.declared.event.Event.{Event}
 use Rattle.dq_core.specs.declared.event.Event.TheVariants.{Open, Piece, End, Pull, Schedule, Withdraw}
-use Rattle.dq_core.specs.Standing.{Standing}
+use Rattle.dq_core.specs.Histories.{opened_numbers}
 use Rattle.dq_wires.specs.declared.calls.Call.{Call}
 use Rattle.dq_wires.specs.declared.looping.Line.{Line}
 use Rattle.dq_wires.specs.declared.looping.Sent.{Sent}
+use Rattle.dq_wires.specs.declared.looping.Wanted.{Wanted}
+use Rattle.dq_wires.specs.declared.looping.Wanted.TheVariants as wanted
+use Rattle.dq_wires.specs.Logs.{LogsAll}
+use Rattle.dq_wires.specs.Held.{Held, wire_with}
+use Rattle.dq_wires.specs.Steps.{Runs}
+use Rattle.dq_wires.specs.Stepping.{Moves}
+use Rattle.dq_wires.specs.Turns.{Hold}
 use Rattle.dq_wires.specs.Turners.{Turning}
-use Rattle.dq_wires.specs.Servings.{Act, Serving}
+use Rattle.dq_wires.specs.Servings.{Act, act_calls, act_steps, AreActs, after_acts}
 use Rattle.dq_wires.specs.Servings.Act.{Turned, Ordered}
 
 -- the orders of the console among events, in order
@@ -32,14 +39,71 @@ ordered_in (Ordered event reply ∷ acts) = event ∷ ordered_in acts
 abbrev pub line_number : {Client : Type 0} → Line Client → ℕ
 line_number line = line.number
 
+abbrev pub has_number : {Client : Type 0} → ℕ → Line Client → Bool
+has_number number line = line.number == number
+
 abbrev pub sent_number : Sent → ℕ
 sent_number sent = sent.number
 
--- Whatever serving came to a turner, it goes on by further acts, with these orders among them.
-pub record ServesOn {Tables : Type 0} (state : Tables → State) (before after : Option (List Call))
-    (old new : Turning Tables) (orders : List Event) : Type 0 where
-  pub goes : (rows : List Row) (log : Option (List Call)) (first : Standing Tables)
-      (acts : List Act) → Serving state rows log before first old.server old.hold acts
-      → (more : List Act) × (ordered_in more ≡ orders)
-      × Serving state rows log after first new.server new.hold (acts ++ more)
+-- The server's number of a connection. It counts them from 1, as they are opened; these are their
+-- numbers in the capture.
+abbrev pub given_to : ℕ → List ℕ → Option ℕ
+given_to number opened = option_map (λ at. at + 1) (position (λ other. other == number) opened)
+
+-- A piece reached the server: so many more octets were heard on its connection, or a reply has
+-- closed it. One that the server had let go of before hears nothing.
+abbrev pub IsHeard : List ℕ → Option Held → Option Held → Type 0
+IsHeard octets None after = Unit {0}
+IsHeard octets (Some before) None = ⊥
+IsHeard octets (Some before) (Some after) =
+    (after.heard ≡ before.heard + length octets) ⊎ (after.closed ≡ true)
+
+-- An event of a capture came about, after the opening of these connections. An opened one is held
+-- by the server, under the next number; of one that ended it has let go.
+abbrev pub IsPlayed : List ℕ → Event → Hold → Hold → Type 0
+IsPlayed opened (Open number) before after = (before.newest ≡ length opened)
+    × (after.newest ≡ length opened + 1) × (wire_with after.newest after.held ≢ None)
+IsPlayed opened (Piece number octets) before after = IfSome (given_to number opened) (λ given.
+    IsHeard octets (wire_with given before.held) (wire_with given after.held))
+IsPlayed opened (End number) before after = IfSome (given_to number opened) (λ given.
+    wire_with given after.held ≡ None)
+IsPlayed opened (Pull number) before after = Unit {0}
+IsPlayed opened (Schedule inst octets) before after = Unit {0}
+IsPlayed opened (Withdraw inst id) before after = Unit {0}
+
+-- By these acts the events of a capture came about, after earlier ones, each before the next: each
+-- has acts of its own, and an order of the console is the only one that is stepped in them.
+abbrev pub ArePlayed : List Event → Hold → List Event → List Act → Type 0
+ArePlayed earlier before [] acts = acts ≡ []
+ArePlayed earlier before (event ∷ events) acts = (own : List Act) × (later : List Act)
+    × (acts ≡ own ++ later)
+    × (ordered_in own ≡ orders_of (event ∷ []))
+    × IsPlayed (opened_numbers earlier) event before (after_acts before own)
+    × ArePlayed (earlier ++ event ∷ []) (after_acts before own) events later
+
+-- What is waited for on a connection has come to be.
+abbrev pub IsCome : Wanted → Option Held → Type 0
+IsCome goal None = Unit {0}
+IsCome (wanted.Heard count) (Some wire) = (wire.heard ≡ count) ⊎ (wire.closed ≡ true)
+IsCome wanted.Gone (Some wire) = ⊥
+
+-- By these acts a turner has come from one state to another, without a fault.
+pub record Acted {Tables : Type 0} (state : Tables → State) (before after : Option (List Call))
+    (old new : Turning Tables) (acts : List Act) : Type 0 where
+  pub are : AreActs old.hold acts
+  pub leaves : new.hold ≡ after_acts old.hold acts
+  pub calls : LogsAll before after (flat_map act_calls acts)
+  pub steps : Runs (Moves state) old.server new.server (flat_map act_steps acts)
   pub working : new.fault ≡ None
+
+-- by acts with these orders among them
+abbrev pub ActsOn : {Tables : Type 0} → (Tables → State) → Option (List Call) → Option (List Call)
+    → Turning Tables → Turning Tables → List Event → Type 0
+ActsOn state before after old new orders =
+    (acts : List Act) × (ordered_in acts ≡ orders) × Acted state before after old new acts
+
+-- by acts that play events of a capture
+abbrev pub PlaysOn : {Tables : Type 0} → (Tables → State) → Option (List Call)
+    → Option (List Call) → Turning Tables → Turning Tables → List Event → Type 0
+PlaysOn state before after old new events =
+    (acts : List Act) × ArePlayed [] old.hold events acts × Acted state before after old new acts

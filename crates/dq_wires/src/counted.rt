@@ -1,16 +1,14 @@
-//! Wires around wires, which count the octets that pass.
+//! Wires around wires, which count the octets that are written.
 ghost use Rattle.std.specs.Prelude.{◌≡◌};
 
 use crate::calls::{ReadTurn, WireFault};
 use crate::wires::Wires;
 
-/// Wires that count the octets that are read and written over those inside.
+/// Wires that count the octets that are written over those inside.
 #[derive(Drop)]
 pub(crate) struct CountedWires<W> {
     /// Those inside.
     pub(crate) wires: W,
-    /// How many octets were read, as far as a `u64` counts.
-    pub(crate) read: u64,
     /// How many octets were written, as far as a `u64` counts.
     pub(crate) written: u64,
 }
@@ -18,13 +16,9 @@ pub(crate) struct CountedWires<W> {
 impl<W> CountedWires<W> {
     /// Around wires over which nothing is counted yet.
     pub(crate) fn new(wires: W) -> Self
-        ensures { result ≡ record { wires = wires; read = 0; written = 0 } }
+        ensures { result ≡ record { wires = wires; written = 0 } }
     {
-        CountedWires {
-            wires,
-            read: 0,
-            written: 0,
-        }
+        CountedWires { wires, written: 0 }
     }
 }
 
@@ -36,11 +30,7 @@ impl<W: Wires> Wires for CountedWires<W> {
     }
 
     fn read(&mut self, place: usize, buffer: &mut [u8]) -> Result<ReadTurn, WireFault> {
-        let turn = self.wires.read(place, buffer);
-        if let Ok(ReadTurn::Got(count)) = turn {
-            self.read = self.read.saturating_add(count as u64);
-        }
-        turn
+        self.wires.read(place, buffer)
     }
 
     fn write(&mut self, place: usize, octets: &[u8]) -> Result<usize, WireFault> {

@@ -1,12 +1,14 @@
 //! A capture, played in one process: its events are brought by clients that connect to the server.
-ghost use Rattle.std.specs.Prelude.{◌≡◌, ◌<◌, ◌∷◌, ◌++◌, [], List, None, length, map, IsTrue, IfOk, IfSome, OnOk};
+ghost use Rattle.std.specs.Prelude.{◌≡◌, ◌≢◌, ◌<◌, ◌+◌, ◌∷◌, ◌++◌, [], List, None, length, map, IsTrue, IfOk, IfSome, OnOk};
+ghost use Rattle.std.specs.List.{position};
 ghost use Rattle.dq_tables.specs.declared.row.Row.{Row};
 ghost use Rattle.dq_core.specs.Histories.{is_above, opened_numbers};
 ghost use Rattle.dq_core.specs.Standing.{Standing, StandsFor};
+ghost use Rattle.dq_wires.specs.Held.{wire_with};
 ghost use Rattle.dq_wires.specs.Turns.{Hold};
 ghost use Rattle.dq_wires.specs.Turners.{IsOrder};
-ghost use Rattle.dq_wires.specs.Servings.{Act, Serving};
-ghost use Rattle.dq_wires.specs.Looping.{orders_of, ordered_in, line_number, sent_number, ServesOn};
+ghost use Rattle.dq_wires.specs.Servings.{Act, nothing_held, Serving};
+ghost use Rattle.dq_wires.specs.Looping.{orders_of, line_number, has_number, sent_number, IsHeard, IsPlayed, ArePlayed, IsCome, ActsOn, PlaysOn};
 
 use crate::calls::{ReadTurn, WireFault};
 use crate::clients::{Client, Clients};
@@ -75,11 +77,10 @@ impl<C: Client> Side<C> {
     }
 }
 
-/// A connection of the capture: its number there, and the server's.
+/// A connection of the capture: its number there.
 #[derive(Drop)]
 struct Line<C> {
     number: u64,
-    opened: u64,
     side: Side<C>,
 }
 
@@ -88,11 +89,7 @@ impl<C: Drop> Line<C> {
     fn into_sent(self) -> Sent
         ensures { result.number ≡ self.number }
     {
-        let Line {
-            number,
-            opened: _,
-            side,
-        } = self;
+        let Line { number, side } = self;
         let Side { client: _, heard } = side;
         Sent {
             number,
@@ -101,13 +98,13 @@ impl<C: Drop> Line<C> {
     }
 }
 
-/// What is waited for on a connection, unless the server no longer holds it.
+/// What is waited for on a connection, unless the server lets go of it.
 #[derive(Clone, Copy)]
 enum Wanted {
-    /// So many octets are read, of all connections.
-    Read(u64),
-    /// The end is stepped.
-    End,
+    /// So many octets were heard on it, or a reply has closed it.
+    Heard(u64),
+    /// It is held no more.
+    Gone,
 }
 
 /// A server, and the clients that connect to it. It has so many turns left; the clients have taken
@@ -138,7 +135,7 @@ impl<'a, T: Tables, W: Wires, C: Clients<W>> Loopback<'a, T, W, C> {
     /// One turn, of those that are left.
     fn turn(&mut self) -> Result<(), TurnFault>
         requires { self.old.turner.fault ≡ None }
-        ensures serves { OnOk result (ServesOn T.state (W.log self.old.wires.wires)
+        ensures acts { OnOk result (ActsOn T.state (W.log self.old.wires.wires)
             (W.log self.new.wires.wires) self.old.turner self.new.turner []) }
         ensures fewer { OnOk result (self.new.turns < self.old.turns) }
     {
@@ -151,14 +148,25 @@ impl<'a, T: Tables, W: Wires, C: Clients<W>> Loopback<'a, T, W, C> {
         Ok(())
     }
 
-    /// Whether what is wanted came to be, no C-FIND is open, nothing is unsent, and the clients have
-    /// taken all that was written.
-    fn is_over(&self, opened: u64, wanted: Wanted) -> bool {
-        let is_stepped = match wanted {
-            Wanted::Read(count) => self.wires.read >= count,
-            Wanted::End => false,
-        };
-        (is_stepped || !self.turner.server().holds(opened))
+    /// Whether what is wanted came to be.
+    fn is_come(&self, given: u64, wanted: Wanted) -> bool
+        ensures { IsTrue result → IsCome wanted (wire_with given self.now.turner.hold.held) }
+    {
+        match self.turner.wire(given) {
+            None => true,
+            Some(wire) => match wanted {
+                Wanted::Heard(count) => wire.heard() == count || wire.is_closed(),
+                Wanted::Gone => false,
+            },
+        }
+    }
+
+    /// Whether that is so, no C-FIND is open, nothing is unsent, and the clients have taken all that
+    /// was written.
+    fn is_over(&self, given: u64, wanted: Wanted) -> bool
+        ensures { IsTrue result → IsCome wanted (wire_with given self.now.turner.hold.held) }
+    {
+        self.is_come(given, wanted)
             && !self.turner.is_pending()
             && !self.turner.is_sending()
             && self.taken >= self.wires.written
@@ -168,16 +176,19 @@ impl<'a, T: Tables, W: Wires, C: Clients<W>> Loopback<'a, T, W, C> {
     fn exchange(
         &mut self,
         line: &mut Line<C::Client>,
+        given: u64,
         octets: &[u8],
         wanted: Wanted,
     ) -> Result<(), TurnFault>
         requires { self.old.turner.fault ≡ None }
-        ensures serves { OnOk result (ServesOn T.state (W.log self.old.wires.wires)
+        ensures acts { OnOk result (ActsOn T.state (W.log self.old.wires.wires)
             (W.log self.new.wires.wires) self.old.turner self.new.turner []) }
+        ensures come { OnOk result
+            (IsCome wanted (wire_with given self.new.turner.hold.held)) }
         ensures number { line.new.number ≡ line.old.number }
     {
         let mut rest = octets;
-        'turns: while !self.is_over(line.opened, wanted) {
+        'turns: while !self.is_over(given, wanted) {
             rest = line.side.send(rest);
             self.turn()?;
             let written = self.wires.written;
@@ -188,7 +199,7 @@ impl<'a, T: Tables, W: Wires, C: Clients<W>> Loopback<'a, T, W, C> {
                 self.buffer.as_mut_slice(),
             )?;
         }
-        if !self.turner.server().holds(line.opened) {
+        if !self.turner.server().holds(given) {
             line.side.client = None;
         }
         Ok(())
@@ -202,19 +213,30 @@ impl<'a, T: Tables, W: Wires, C: Clients<W>> Loopback<'a, T, W, C> {
         number: u64,
     ) -> Result<(), TurnFault>
         requires { self.old.turner.fault ≡ None }
-        ensures serves { OnOk result (ServesOn T.state (W.log self.old.wires.wires)
+        ensures acts { OnOk result (ActsOn T.state (W.log self.old.wires.wires)
             (W.log self.new.wires.wires) self.old.turner self.new.turner []) }
+        ensures opened { OnOk result ((self.old.turner.hold.newest ≡ length lines.old.items)
+            × (self.new.turner.hold.newest ≡ length lines.old.items + 1)
+            × (wire_with self.new.turner.hold.newest self.new.turner.hold.held ≢ None)) }
         ensures number { OnOk result (map line_number lines.new.items
             ≡ map line_number lines.old.items ++ number ∷ []) }
     {
+        let given = given_at(lines.len())?;
+        if self.turner.newest() != lines.len() as u64 {
+            return Err(TurnFault::Network);
+        }
         let client = self.clients.connect(&self.wires.wires)?;
-        let opened = (lines.len() as u64).saturating_add(1);
-        'turns: while !self.turner.server().holds(opened) {
+        'turns: while self.turner.newest() < given {
             self.turn()?;
         }
+        if self.turner.newest() != given {
+            return Err(TurnFault::Network);
+        }
+        let Some(_wire) = self.turner.wire(given) else {
+            return Err(TurnFault::Network);
+        };
         lines.push(Line {
             number,
-            opened,
             side: Side {
                 client: Some(client),
                 heard: Vec::new(alloc),
@@ -224,40 +246,58 @@ impl<'a, T: Tables, W: Wires, C: Clients<W>> Loopback<'a, T, W, C> {
     }
 
     /// The client sends octets, until the server has stepped them all.
-    fn send(&mut self, line: &mut Line<C::Client>, octets: &[u8]) -> Result<(), TurnFault>
+    fn send(
+        &mut self,
+        line: &mut Line<C::Client>,
+        given: u64,
+        octets: &[u8],
+    ) -> Result<(), TurnFault>
         requires { self.old.turner.fault ≡ None }
-        ensures serves { OnOk result (ServesOn T.state (W.log self.old.wires.wires)
+        ensures acts { OnOk result (ActsOn T.state (W.log self.old.wires.wires)
             (W.log self.new.wires.wires) self.old.turner self.new.turner []) }
+        ensures heard { OnOk result (IsHeard octets.now
+            (wire_with given self.old.turner.hold.held)
+            (wire_with given self.new.turner.hold.held)) }
         ensures number { line.new.number ≡ line.old.number }
     {
-        let all = self.wires.read.saturating_add(octets.len() as u64);
-        self.exchange(line, octets, Wanted::Read(all))
+        let Some(wire) = self.turner.wire(given) else {
+            return Ok(());
+        };
+        let Some(count) = wire.heard().checked_add(octets.len() as u64) else {
+            return Err(TurnFault::NoMemory);
+        };
+        self.exchange(line, given, octets, Wanted::Heard(count))?;
+        let Some(_wire) = self.turner.wire(given) else {
+            return Err(TurnFault::Network);
+        };
+        Ok(())
     }
 
-    /// The client sends no more, until the server has stepped the end.
-    fn end(&mut self, line: &mut Line<C::Client>) -> Result<(), TurnFault>
+    /// The client sends no more, until the server has let go of the connection.
+    fn end(&mut self, line: &mut Line<C::Client>, given: u64) -> Result<(), TurnFault>
         requires { self.old.turner.fault ≡ None }
-        ensures serves { OnOk result (ServesOn T.state (W.log self.old.wires.wires)
+        ensures acts { OnOk result (ActsOn T.state (W.log self.old.wires.wires)
             (W.log self.new.wires.wires) self.old.turner self.new.turner []) }
+        ensures gone { OnOk result (wire_with given self.new.turner.hold.held ≡ None) }
         ensures number { line.new.number ≡ line.old.number }
     {
         line.side.end()?;
-        self.exchange(line, &[], Wanted::End)
+        self.exchange(line, given, &[], Wanted::Gone)
     }
 
     /// Steps an order of the console.
     fn order(&mut self, event: Event) -> Result<(), TurnFault>
         requires working { self.old.turner.fault ≡ None }
         requires order { IsOrder event }
-        ensures { OnOk result (ServesOn T.state (W.log self.old.wires.wires)
+        ensures { OnOk result (ActsOn T.state (W.log self.old.wires.wires)
             (W.log self.new.wires.wires) self.old.turner self.new.turner (event ∷ [])) }
     {
         let _reply = self.turner.console(event)?;
         Ok(())
     }
 
-    /// Has an event come about. One of a connection that is not open is passed over, and so is a pull:
-    /// turns pull by themselves.
+    /// Has an event come about. One of a connection that was not opened is passed over, and so is a
+    /// pull: turns pull by themselves.
     fn play(
         &mut self,
         lines: &mut Vec<Line<C::Client>>,
@@ -265,20 +305,28 @@ impl<'a, T: Tables, W: Wires, C: Clients<W>> Loopback<'a, T, W, C> {
         event: Event,
     ) -> Result<(), TurnFault>
         requires { self.old.turner.fault ≡ None }
-        ensures serves { OnOk result (ServesOn T.state (W.log self.old.wires.wires)
+        ensures acts { OnOk result (ActsOn T.state (W.log self.old.wires.wires)
             (W.log self.new.wires.wires) self.old.turner self.new.turner
             (orders_of (event ∷ []))) }
+        ensures played { OnOk result (IsPlayed (map line_number lines.old.items) event
+            self.old.turner.hold self.new.turner.hold) }
         ensures numbers { OnOk result (map line_number lines.new.items
             ≡ map line_number lines.old.items ++ opened_numbers (event ∷ [])) }
     {
         match event {
             Event::Open(number) => self.open(lines, alloc, number),
-            Event::Piece(number, octets) => match open_line(lines.as_slice(), number) {
-                Some(at) => self.send(&mut lines[at], octets.as_slice()),
+            Event::Piece(number, octets) => match line_with(lines.as_slice(), number) {
+                Some(at) => {
+                    let given = given_at(at)?;
+                    self.send(&mut lines[at], given, octets.as_slice())
+                }
                 None => Ok(()),
             },
-            Event::End(number) => match open_line(lines.as_slice(), number) {
-                Some(at) => self.end(&mut lines[at]),
+            Event::End(number) => match line_with(lines.as_slice(), number) {
+                Some(at) => {
+                    let given = given_at(at)?;
+                    self.end(&mut lines[at], given)
+                }
                 None => Ok(()),
             },
             Event::Pull(_) => Ok(()),
@@ -296,9 +344,8 @@ impl<'a, T: Tables, W: Wires, C: Clients<W>> Loopback<'a, T, W, C> {
     ) -> Result<(), TurnFault>
         requires working { self.old.turner.fault ≡ None }
         requires empty { lines.old.items ≡ [] }
-        ensures serves { OnOk result (ServesOn T.state (W.log self.old.wires.wires)
-            (W.log self.new.wires.wires) self.old.turner self.new.turner
-            (orders_of events.items)) }
+        ensures plays { OnOk result (PlaysOn T.state (W.log self.old.wires.wires)
+            (W.log self.new.wires.wires) self.old.turner self.new.turner events.items) }
         ensures numbers { OnOk result
             (map line_number lines.new.items ≡ opened_numbers events.items) }
     {
@@ -326,13 +373,19 @@ fn hear<C: Client>(
     Ok(())
 }
 
-/// Where the connection with a number stands that is open, if one is.
-fn open_line<C>(lines: &[Line<C>], number: u64) -> Option<usize>
-    ensures { IfSome result (λ at. at < length lines.now) }
+/// Where the connection of a number stands, if one was opened.
+fn line_with<C>(lines: &[Line<C>], number: u64) -> Option<usize>
+    ensures at { result ≡ position (has_number number) lines.now }
+    ensures within { IfSome result (λ at. at < length lines.now) }
 {
-    lines
-        .iter()
-        .position(|line| line.number == number && line.side.client.is_some())
+    lines.iter().position(|line| line.number == number)
+}
+
+/// The server's number of the connection at a place: it counts them from 1.
+fn given_at(at: usize) -> Result<u64, TurnFault>
+    ensures { IfOk result (λ given. given ≡ at + 1) }
+{
+    (at as u64).checked_add(1).ok_or(TurnFault::Network)
 }
 
 /// What each connection was sent.
@@ -348,9 +401,10 @@ fn sent_on<C: Drop>(alloc: Global, lines: Vec<Line<C>>) -> Result<Vec<Sent>, All
 
 /// Plays the events of a capture over wires, each before the next: clients connect, send octets and
 /// end, until the server has taken it up and they have taken all that was answered; orders go to
-/// the console; an event of a connection that is not open, and a pull, are passed over. The answer
-/// is what each connection was sent, in the order in which they were opened. `Network` also tells
-/// that a client failed, or that there were more than `MOST_TURNS` turns.
+/// the console; an event of a connection that was not opened, and a pull, are passed over. The
+/// answer is what each connection was sent, in the order in which they were opened. `Network` also
+/// tells that a client failed, that the server lost a connection, or that there were more than
+/// `MOST_TURNS` turns.
 pub fn loop_back<T: Tables + Drop, W: Wires + Drop, C: Clients<W>>(
     alloc: Global,
     server: Server<T>,
@@ -361,10 +415,10 @@ pub fn loop_back<T: Tables + Drop, W: Wires + Drop, C: Clients<W>>(
     requires { IsTrue (is_above server.newest 0) }
     ensures sent { IfOk result
         (λ sent. map sent_number sent.items ≡ opened_numbers events.items) }
-    // What was done is a serving: turns, and the orders among the events, in order.
+    // What was done is a serving, by acts in which the events came about, in order.
     ensures served { (rows : List Row) → StandsFor T.state rows server [] → OnOk result
         ((acts : List Act) × (left : W) × (last : Standing T) × (hold : Hold)
-        × (ordered_in acts ≡ orders_of events.items)
+        × ArePlayed [] nothing_held events.items acts
         × Serving T.state rows (W.log wires) (W.log left) server last hold acts) }
 {
     let mut buffer = Vec::new(alloc);

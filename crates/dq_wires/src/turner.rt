@@ -1,9 +1,11 @@
 //! The server over wires.
 ghost use Rattle.std.specs.Prelude.{◌≡◌, [], length, IsTrue, None, Some, Err, IfOk, IfErr, IfSome, OnOk, OnErr};
+ghost use Rattle.std.specs.Option.{option_copied};
 ghost use Rattle.dq_core.specs.Histories.{is_above};
 ghost use Rattle.dq_core.specs.Looking.{Looked, FailsToLook};
 ghost use Rattle.dq_tables.specs.Finding.{rows_of};
 ghost use Rattle.dq_wires.specs.Stepping.{Stepped, Moves, Fails};
+ghost use Rattle.dq_wires.specs.Held.{wire_with};
 ghost use Rattle.dq_wires.specs.Turns.{TurnsWent, TurnsCut};
 ghost use Rattle.dq_wires.specs.Turners.{IsOrder, first_fault, EndsUnaccepted};
 
@@ -95,6 +97,21 @@ impl<T: Tables> Turner<T> {
             fault: _,
         } = self;
         server
+    }
+
+    /// The connection of a number, if it is held.
+    #[tactic(auto, unfolding(crate::specs::Held::wire_with))]
+    pub(crate) fn wire(&self, number: u64) -> Option<&Wire>
+        ensures { option_copied result ≡ wire_with number self.now.hold.held }
+    {
+        self.held.iter().find(|wire| wire.number() == number)
+    }
+
+    /// The number that was given last; 0 before the first.
+    pub(crate) fn newest(&self) -> u64
+        ensures { result ≡ self.now.hold.newest }
+    {
+        self.newest
     }
 
     /// Whether octets were answered that are not yet written.

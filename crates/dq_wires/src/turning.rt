@@ -51,6 +51,7 @@ fn hear<T: Tables>(
     ensures newest { OnOk result (server.new.newest ≡ server.old.newest) }
 {
     let piece = Listed::copy_of(alloc, octets)?;
+    wire.hear(octets.len())?;
     let reply = step_event(server, Event::Piece(wire.number(), piece))?;
     wire.answer(reply);
     Ok(())

@@ -1,19 +1,21 @@
 //! A connection that is held over wires.
-ghost use Rattle.std.specs.Prelude.{◌≡◌, ◌≤◌, [], length, drop, false, MatchBool};
+ghost use Rattle.std.specs.Prelude.{◌≡◌, ◌≤◌, ◌+◌, [], length, drop, false, MatchBool, IfErr, OnOk};
 ghost use Rattle.dq_wires.specs.Held.{new_held, answered};
 ghost use Rattle.dq_wires.specs.Deeds.{IsSending};
 
+use crate::fault::TurnFault;
 use dq_core::Reply;
 use dq_list::Listed;
 use std::alloc::Global;
 use std::marker::Model;
 
-/// A connection: its place among the wires, its number, and what was answered on it. Of the octets
-/// answered the first are written.
+/// A connection: its place among the wires, its number, how many octets were heard on it, and what
+/// was answered. Of the octets answered the first are written.
 #[derive(Drop)]
 pub(crate) struct Wire {
     place: usize,
     number: u64,
+    heard: u64,
     octets: Listed<u8>,
     written: usize,
     closed: bool,
@@ -30,6 +32,7 @@ impl Model for Wire {
     ghost view = { λ w. record {
       place = w.place;
       number = w.number;
+      heard = w.heard;
       unsent = drop w.written w.octets;
       closed = w.closed;
     } };
@@ -45,6 +48,7 @@ impl Wire {
         Wire {
             place,
             number,
+            heard: 0,
             octets: Listed::empty(alloc),
             written: 0,
             closed: false,
@@ -62,6 +66,26 @@ impl Wire {
         ensures { result ≡ self.now.number }
     {
         self.number
+    }
+
+    /// How many octets were heard on it.
+    pub(crate) fn heard(&self) -> u64
+        ensures { result ≡ self.now.heard }
+    {
+        self.heard
+    }
+
+    /// Counts octets that were heard. A count beyond 64 bits has no room.
+    pub(crate) fn hear(&mut self, count: usize) -> Result<(), TurnFault>
+        ensures heard { OnOk result
+            (self.new ≡ record self.old { heard = self.old.heard + count }) }
+        ensures fault { IfErr result (λ fault. fault ≡ TurnFault.NoMemory) }
+    {
+        let Some(heard) = self.heard.checked_add(count as u64) else {
+            return Err(TurnFault::NoMemory);
+        };
+        self.heard = heard;
+        Ok(())
     }
 
     /// Whether a reply closed it.

@@ -27,13 +27,12 @@ use Rattle.dq_tables.specs.declared.row.Kind.{Kind}
 use Rattle.dq_tables.specs.declared.row.Kind.TheVariants.{Entry}
 use Rattle.dq_tables.specs.declared.row.Row.{Row}
 use Rattle.dq_tables.specs.Rows.{Record, octet_order, record_of, row_of, of}
-use Rattle.dq_tables.specs.Finding.{same_kind, record_at, row_at, records_of, waiting, waiting_among}
+use Rattle.dq_tables.specs.Finding.{same_kind, record_at, records_of, waiting_among}
 use Rattle.dq_tables.specs.Records.{AreInOrder, data_set_of}
 use Rattle.dq_tables.specs.Keys.{passing, is_id, sole_item_at, id_of, id_in, entry_id}
 use Rattle.dq_tables.specs.Sound.{IsSound, is_own, is_record_of, may_be_started, is_value, has_key, has_above, is_within}
 use Rattle.dq_tables.proofs.Listing.{of_kind_from, listed_in_order}
 use Rattle.dq_tables.proofs.Rising.{each_among}
-use Rattle.dq_tables.proofs.Seen.{found_own, waiting_own}
 use Rattle.dq_worklist.specs.Candidates.{id_asked_in, id_asked, entries_with, candidates, answer_of}
 use Rattle.dq_worklist.specs.Queries.{answers}
 use Rattle.dq_worklist.proofs.Queries.{row_answers}
@@ -161,21 +160,20 @@ module _ (Given : Type 0) (f : Record → Option Given) (id : List ℕ) where
 
 -- ---- the rows of those that are looked at
 
-pub all_candidates : (institution : List ℕ) (rows : List Row) (keys : ElementList) → None ≡ id_asked keys
-    → waiting institution rows ≡ map (row_of institution) (candidates (of institution rows) keys)
-all_candidates institution rows keys none =
-    waiting_own institution rows ∙ ap (λ (o : Option (List ℕ)). map (row_of institution) (entries_with (of institution rows) o)) none
+pub all_candidates : (institution : List ℕ) (records : List Record) (keys : ElementList) → None ≡ id_asked keys
+    → map (row_of institution) (waiting_among records) ≡ map (row_of institution) (candidates records keys)
+all_candidates institution records keys none = ap (λ (o : Option (List ℕ)). map (row_of institution) (entries_with records o)) none
 
 mapped : (institution : List ℕ) (o : Option Record) → option_to_list (option_map (row_of institution) o) ≡ map (row_of institution) (option_to_list o)
 mapped institution None = refl
 mapped institution (Some r) = refl
 
-pub one_candidate : (institution : List ℕ) (rows : List Row) (keys : ElementList) (id : List ℕ) (row : Option Row) (listed : List Row)
-    → Some id ≡ id_asked keys → row ≡ row_at Entry institution id rows → listed ≡ option_to_list row
-    → listed ≡ map (row_of institution) (candidates (of institution rows) keys)
-one_candidate institution rows keys id row listed asked found is =
-    is ∙ ap option_to_list (found ∙ found_own Entry institution id rows) ∙ mapped institution (record_at Entry id (of institution rows))
-    ∙ ap (λ (o : Option (List ℕ)). map (row_of institution) (entries_with (of institution rows) o)) asked
+pub one_candidate : (institution : List ℕ) (records : List Record) (keys : ElementList) (id : List ℕ) (row : Option Row) (listed : List Row)
+    → Some id ≡ id_asked keys → row ≡ option_map (row_of institution) (record_at Entry id records) → listed ≡ option_to_list row
+    → listed ≡ map (row_of institution) (candidates records keys)
+one_candidate institution records keys id row listed asked found is =
+    is ∙ ap option_to_list found ∙ mapped institution (record_at Entry id records)
+    ∙ ap (λ (o : Option (List ℕ)). map (row_of institution) (entries_with records o)) asked
 
 -- what those give that wait
 waiting_step : (keys : ElementList) (r : Record) (left entries : List Record) (b : Bool) → r.started ≡ b
@@ -230,11 +228,11 @@ module _ (each_alone : EachAlone) (items_met : ItemsMet) (institution : List ℕ
       (λ r h other. none_of keys r r.started (other_gives_none id is r h other))
 
   -- the answers of the entries that are looked at
-  pub answered_of_candidates : (name : List ℕ) (listed_rows : List Row) (found : List ElementList) → name ≡ institution
-      → listed_rows ≡ map (row_of name) (candidates (of name rows) keys) → found ≡ row_answers keys listed_rows
+  pub answered_of_candidates : (listed_rows : List Row) (found : List ElementList)
+      → listed_rows ≡ map (row_of institution) (candidates (of institution rows) keys) → found ≡ row_answers keys listed_rows
       → found ≡ answers (of institution rows) keys
   unfolding answers
-  answered_of_candidates name listed_rows found named is_listed is_found =
-      is_found ∙ ap (row_answers keys) (is_listed ∙ ap (λ (n : List ℕ). map (row_of n) (candidates (of n rows) keys)) named)
+  answered_of_candidates listed_rows found is_listed is_found =
+      is_found ∙ ap (row_answers keys) is_listed
       ∙ given_of_each (λ (row : Row). answer_of keys (record_of row)) (row_of institution) (candidates (of institution rows) keys)
       ∙ by_asked (id_asked keys) refl ∙ sym (waiting_give keys (records_of Entry (of institution rows)))

@@ -19,11 +19,12 @@ use Rattle.dq_tables.specs.Keys.{entry_id}
 use Rattle.dq_tables.specs.Sound.{IsSound}
 use Rattle.dq_tables.proofs.Order.{each_appended, each_filtered, is_before, is_past}
 use Rattle.dq_tables.proofs.Soundness.{change_sound}
+use Rattle.dq_archive.proofs.Looking.{there_own, free_own}
 use Rattle.dq_worklist.specs.declared.refusal.Refusal.TheVariants.{Taken, Full}
 use Rattle.dq_worklist.specs.Orders.{Order, order_in, order_limit, is_complete, has_entry, is_full, entry_of, order_outcome, scheduled, withdrawn}
 use Rattle.dq_worklist.specs.Views.{order_of, CanBeKept, data_set_within}
 use Rattle.dq_worklist.proofs.Orders.{taken, full, accepted, order_refused, order_kept, malformed, incomplete, complete, there, not_there}
-use Rattle.dq_worklist.proofs.Records.{row_there, row_free, new_fits}
+use Rattle.dq_worklist.proofs.Records.{new_fits}
 
 -- ---- what is read of an order
 
@@ -103,10 +104,10 @@ module _ (h : List ℕ) (rows : List Row) (sound : IsSound rows) (id : List ℕ)
   pub put_sound : (d : ElementList) → CanBeKept d → reading Explicit (canonical Explicit d) ≡ Ok d → entry_id d ≡ Some id
       → has_entry (of h rows) id ≡ false → IsSound (after (by h (Put (entry_of (order_of d id)) ∷ [])) rows)
   put_sound d kept back own free =
-      change_sound rows (EntryAdded (row_of h (entry_of (order_of d id)))) sound (new_fits h d id back kept.short own rows (row_free h id rows free))
+      change_sound rows (EntryAdded (row_of h (entry_of (order_of d id)))) sound (new_fits h d id back kept.short own rows (free_own Entry h id rows free))
 
   pub removed_sound : has_entry (of h rows) id ≡ true → IsSound (after (by h (Remove Entry id ∷ [])) rows)
-  removed_sound has = change_sound rows (EntryRemoved h id) sound (row_there h id rows ∙ has)
+  removed_sound has = change_sound rows (EntryRemoved h id) sound (there_own Entry h id rows ∙ has)
 
 -- ---- that each is of a kind
 

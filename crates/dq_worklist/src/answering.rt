@@ -7,13 +7,14 @@ ghost use Rattle.dq_match.specs.Identifiers.{HasKnownTags};
 ghost use Rattle.dq_match.specs.Matching.{fits};
 ghost use Rattle.dq_tables.specs.Records.{data_set_of};
 ghost use Rattle.dq_tables.specs.declared.row.Row.{Row as TheRow};
-ghost use Rattle.dq_tables.specs.Rows.{Record, of, record_of, row_of};
-ghost use Rattle.dq_tables.specs.Keeping.{Reads};
+ghost use Rattle.dq_tables.specs.Rows.{Record, record_of, row_of};
+ghost use Rattle.dq_archive.specs.Archives.{Looks, Decides};
 ghost use Rattle.dq_worklist.specs.Candidates.{id_asked, candidates, answer_of};
 ghost use Rattle.dq_tables.specs.Serving.{Serves};
 ghost use Rattle.dq_worklist.specs.Queries.{listed};
 
 use crate::asking::{Query, query_of};
+use dq_archive::{Archive, Decision};
 use dq_config::Institution;
 use dq_dataset::{DataSet, Syntax};
 use dq_dimse::Message;
@@ -22,7 +23,7 @@ use dq_list::Listed;
 use dq_match::laws::keys_are_met_alone_and_as_a_period;
 use dq_match::{Found, answer, is_plain, lent_meets};
 use dq_tables::laws::honest_rows_are_sound;
-use dq_tables::{Row, TableFault, Tables, sole_item_at};
+use dq_tables::{Kind, Row, TableFault, Tables, sole_item_at};
 use dq_vr::{Tag, tags};
 use std::alloc::{AllocError, Global};
 
@@ -61,21 +62,17 @@ fn listed(alloc: Global, row: Option<Row>) -> Result<Listed<Row>, AllocError>
 /// The entries that are looked at: where the keys ask for one step's id, no other entry can match,
 /// and where they do not, none that is started.
 fn candidates<T: Tables>(
-    alloc: Global,
-    tables: &mut T,
-    institution: &[u8],
+    archive: &mut Archive<'_, T>,
     keys: &DataSet,
 ) -> Result<Listed<Row>, TableFault>
-    ensures found { (T.state tables.new).honest → IfOk result (λ rows. rows
-        ≡ map (row_of institution.now)
-        (candidates (of institution.now (T.state tables.old).rows) keys.now)) }
-    ensures reads { Reads (T.state tables.old) (T.state tables.new) result }
+    ensures { Looks T.state archive.old archive.new (λ records.
+        map (row_of archive.old.institution.now.name) (candidates records keys.now)) result }
 {
     let Some(id) = id_asked(keys) else {
-        return tables.waiting(alloc, institution);
+        return archive.waiting();
     };
-    let row = tables.entry(alloc, institution, id)?;
-    Ok(listed(alloc, row)?)
+    let row = archive.row(Kind::Entry, id)?;
+    Ok(listed(archive.alloc, row)?)
 }
 
 /// Whether an entry can fit the keys, as far as its octets tell before they are read.
@@ -120,18 +117,32 @@ pub fn query<T: Tables>(
     ensures { Serves (T.state tables.old) (T.state tables.new) institution.now.name
         (λ (records : List Record). (listed records (plain_message message.now) syntax, [])) result }
 {
-    let query = match query_of(alloc, message, syntax)? {
+    let mut archive = Archive::new(alloc, tables, institution);
+    let decision = decide_answers(&mut archive, message, syntax)?;
+    archive.carry_out(decision)
+}
+
+/// The answers to a worklist C-FIND, which change nothing.
+fn decide_answers<T: Tables>(
+    archive: &mut Archive<'_, T>,
+    message: &Message,
+    syntax: Syntax,
+) -> Result<Decision<Found>, TableFault>
+    ensures { Decides T.state archive.old archive.new (λ (records : List Record).
+        (listed records (plain_message message.now) syntax, [])) result }
+{
+    let query = match query_of(archive.alloc, message, syntax)? {
         Ok(query) => query,
-        Err(status) => return Ok(Found::refused(alloc, status)),
+        Err(status) => return Ok(Decision::unchanged(Found::refused(archive.alloc, status))),
     };
     query.keys.has_facts();
     honest_rows_are_sound::<T>();
     keys_are_met_alone_and_as_a_period();
-    let rows = candidates(alloc, tables, institution.name.as_slice(), &query.keys)?;
-    let answers = answers_of(alloc, &query.keys, rows.as_slice())?;
-    Ok(Found {
+    let rows = candidates(archive, &query.keys)?;
+    let answers = answers_of(archive.alloc, &query.keys, rows.as_slice())?;
+    Ok(Decision::unchanged(Found {
         status: SUCCESS,
         optional: query.optional,
         answers,
-    })
+    }))
 }

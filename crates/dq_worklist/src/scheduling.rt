@@ -1,22 +1,20 @@
 //! Entries of the worklist, scheduled and withdrawn (PS3.4 section K.6.1).
-ghost use Rattle.std.specs.Prelude.{◌≡◌, ◌∷◌, List, [], Some, None, true, IfOk, IfSome, is_some};
+ghost use Rattle.std.specs.Prelude.{◌≡◌, List, None, Some, IfOk, IfSome};
 ghost use Rattle.dq_config.specs.Limits.{limits_of};
-ghost use Rattle.dq_tables.specs.declared.row.Kind.TheVariants.{Entry};
-ghost use Rattle.dq_tables.specs.Rows.{Record, Put, Remove, of, by, after, row_of};
-ghost use Rattle.dq_tables.specs.Finding.{row_at};
-ghost use Rattle.dq_tables.specs.Keys.{entry_id};
-ghost use Rattle.dq_tables.specs.Keeping.{Reads, Writes};
+ghost use Rattle.dq_tables.specs.Rows.{Record, row_of};
 ghost use Rattle.dq_tables.specs.Serving.{Serves};
-ghost use Rattle.dq_worklist.specs.Orders.{entry_of, order_outcome, scheduled, withdrawn};
+ghost use Rattle.dq_archive.specs.Archives.{Looks, Decides};
+ghost use Rattle.dq_worklist.specs.Orders.{entry_of, number_of, scheduled, withdrawn};
 ghost use Rattle.dq_worklist.specs.Views.{held, CanBeKept, data_set_within, record_refusal};
 
 use crate::completeness::Order;
 use crate::refusal::Refusal;
+use dq_archive::{Archive, Decision};
 use dq_config::Institution;
 use dq_dataset::laws::written_law;
 use dq_dataset::{DataSet, ReadFault, Syntax, read, write};
 use dq_list::Listed;
-use dq_tables::{Change, Kind, RecordKeys, Row, TableFault, Tables, make_change};
+use dq_tables::{Change, Kind, RecordKeys, Row, TableFault, Tables};
 use std::alloc::{AllocError, Global};
 
 /// An order is at most so many octets.
@@ -36,13 +34,54 @@ pub fn schedule<T: Tables>(
         (λ (records : List Record). scheduled (limits_of institution.now) records octets.now)
         result }
 {
-    let Some(data_set) = data_set_within(alloc, octets)? else {
-        return Ok(Some(Refusal::Malformed.number()));
+    let mut archive = Archive::new(alloc, tables, institution);
+    let decision = decide_order(&mut archive, octets)?;
+    archive.carry_out(decision)
+}
+
+/// Removes the entry with the id, as it is given, and answers nothing, or 5 where there is none.
+pub fn withdraw<T: Tables>(
+    alloc: Global,
+    tables: &mut T,
+    institution: &Institution,
+    id: &[u8],
+) -> Result<Option<u16>, TableFault>
+    ensures { Serves (T.state tables.old) (T.state tables.new) institution.now.name
+        (λ (records : List Record). withdrawn records id.now) result }
+{
+    let mut archive = Archive::new(alloc, tables, institution);
+    let decision = decide_withdrawal(&mut archive, id)?;
+    archive.carry_out(decision)
+}
+
+/// A refusal, which changes nothing.
+fn refused(refusal: Refusal) -> Decision<Option<u16>>
+    ensures { result ≡ record { answer = Some (number_of refusal); change = None } }
+{
+    Decision::unchanged(Some(refusal.number()))
+}
+
+/// What an order makes of the worklist.
+fn decide_order<T: Tables>(
+    archive: &mut Archive<'_, T>,
+    octets: &[u8],
+) -> Result<Decision<Option<u16>>, TableFault>
+    ensures { Decides T.state archive.old archive.new (λ records.
+        scheduled (limits_of archive.old.institution.now) records octets.now) result }
+{
+    written_law();
+    let Some(data_set) = data_set_within(archive.alloc, octets)? else {
+        return Ok(refused(Refusal::Malformed));
     };
     let Some(order) = Order::of(&data_set) else {
-        return Ok(Some(Refusal::Incomplete.number()));
+        return Ok(refused(Refusal::Incomplete));
     };
-    schedule_order(alloc, tables, institution, &order)
+    if let Some(refusal) = record_refusal(archive, order.id)? {
+        return Ok(refused(refusal));
+    }
+    let _elements = data_set.elements();
+    let row = entry_row(archive.alloc, archive.institution.name.as_slice(), &order)?;
+    Ok(Decision::with_change(None, Change::EntryAdded(row)))
 }
 
 /// The data set of an order, if the octets spell one and are not too many.
@@ -60,67 +99,22 @@ fn data_set_within(alloc: Global, octets: &[u8]) -> Result<Option<DataSet>, Allo
     }
 }
 
-/// Schedules a complete order.
-fn schedule_order<T: Tables>(
-    alloc: Global,
-    tables: &mut T,
-    institution: &Institution,
-    order: &Order<'_>,
-) -> Result<Option<u16>, TableFault>
-    requires kept { CanBeKept order.now.elements.now }
-    requires own { entry_id order.now.elements.now ≡ Some order.now.id.now }
-    ensures { Serves (T.state tables.old) (T.state tables.new) institution.now.name
-        (λ (records : List Record).
-        order_outcome (limits_of institution.now) records (held order.now)) result }
-{
-    if let Some(refusal) = record_refusal(alloc, tables, institution, order.id)? {
-        return Ok(Some(refusal.number()));
-    }
-    add_entry(alloc, tables, institution.name.as_slice(), order)?;
-    Ok(None)
-}
-
 /// The refusal of an order because of what is kept already.
 fn record_refusal<T: Tables>(
-    alloc: Global,
-    tables: &mut T,
-    institution: &Institution,
+    archive: &mut Archive<'_, T>,
     id: &[u8],
 ) -> Result<Option<Refusal>, TableFault>
-    ensures found { (T.state tables.new).honest → IfOk result (λ refusal. refusal ≡ record_refusal
-        (limits_of institution.now) (of institution.now.name (T.state tables.old).rows) id.now) }
-    ensures reads { Reads (T.state tables.old) (T.state tables.new) result }
+    ensures { Looks T.state archive.old archive.new (λ records.
+        record_refusal (limits_of archive.old.institution.now) records id.now) result }
 {
-    let name = institution.name.as_slice();
-    if tables.entry(alloc, name, id)?.is_some() {
+    if archive.has(Kind::Entry, id)? {
         return Ok(Some(Refusal::Taken));
     }
-    let count = tables.count(alloc, Kind::Entry, name)?;
-    if u64::from(institution.entries) <= count {
+    let count = archive.count(Kind::Entry)?;
+    if u64::from(archive.institution.entries) <= count {
         return Ok(Some(Refusal::Full));
     }
     Ok(None)
-}
-
-/// Adds the entry of an order whose id is free.
-fn add_entry<T: Tables>(
-    alloc: Global,
-    tables: &mut T,
-    name: &[u8],
-    order: &Order<'_>,
-) -> Result<(), TableFault>
-    requires kept { CanBeKept order.now.elements.now }
-    requires own { entry_id order.now.elements.now ≡ Some order.now.id.now }
-    requires free { (T.state tables.old).honest
-        → row_at Entry name.now order.now.id.now (T.state tables.old).rows ≡ None }
-    ensures { Writes (T.state tables.old) (T.state tables.new)
-        (after (by name.now (Put (entry_of (held order.now)) ∷ [])) (T.state tables.old).rows)
-        result }
-{
-    written_law();
-    let _elements = order.elements.elements();
-    let row = entry_row(alloc, name, order)?;
-    make_change(alloc, tables, Change::EntryAdded(row))
 }
 
 /// The row of an entry.
@@ -137,39 +131,20 @@ fn entry_row(alloc: Global, name: &[u8], order: &Order<'_>) -> Result<Row, Alloc
     Row::new(alloc, name, &keys, octets)
 }
 
-/// Removes the entry with the id, as it is given, and answers nothing, or 5 where there is none.
-pub fn withdraw<T: Tables>(
-    alloc: Global,
-    tables: &mut T,
-    institution: &Institution,
+/// What a withdrawal of the entry with the id makes of the worklist.
+#[tactic(auto, using(crate::proofs::Orders::there, crate::proofs::Orders::not_there, dq_archive::proofs::Looking::there_own))]
+fn decide_withdrawal<T: Tables>(
+    archive: &mut Archive<'_, T>,
     id: &[u8],
-) -> Result<Option<u16>, TableFault>
-    ensures { Serves (T.state tables.old) (T.state tables.new) institution.now.name
-        (λ (records : List Record). withdrawn records id.now) result }
+) -> Result<Decision<Option<u16>>, TableFault>
+    ensures { Decides T.state archive.old archive.new (λ records. withdrawn records id.now) result }
 {
-    let name = institution.name.as_slice();
-    if tables.entry(alloc, name, id)?.is_none() {
-        return Ok(Some(Refusal::NoSuchEntry.number()));
+    if !archive.has(Kind::Entry, id)? {
+        return Ok(refused(Refusal::NoSuchEntry));
     }
-    remove_entry(alloc, tables, name, id)?;
-    Ok(None)
-}
-
-/// Removes an entry that is there.
-fn remove_entry<T: Tables>(
-    alloc: Global,
-    tables: &mut T,
-    name: &[u8],
-    id: &[u8],
-) -> Result<(), TableFault>
-    requires there { (T.state tables.old).honest
-        → is_some (row_at Entry name.now id.now (T.state tables.old).rows) ≡ true }
-    ensures { Writes (T.state tables.old) (T.state tables.new)
-        (after (by name.now (Remove Entry id.now ∷ [])) (T.state tables.old).rows) result }
-{
     let change = Change::EntryRemoved {
-        inst: Listed::copy_of(alloc, name)?,
-        key: Listed::copy_of(alloc, id)?,
+        inst: Listed::copy_of(archive.alloc, archive.institution.name.as_slice())?,
+        key: Listed::copy_of(archive.alloc, id)?,
     };
-    make_change(alloc, tables, change)
+    Ok(Decision::with_change(None, change))
 }

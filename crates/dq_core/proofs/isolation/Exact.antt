@@ -1,17 +1,17 @@
 -- The rows that each message of a connection is served from are sound, so that its queries are answered exactly.
-use Rattle.std.proofs.Common.{◌≡◌, ℕ, ◌==◌, Bool, true, false, not, if◌then◌else◌, List, [], ◌∷◌, map, Option, Some, None, Result, Ok, Err, refl, sym, ap, ◌∙◌, subst, arith}
+use Rattle.std.proofs.Common.{◌≡◌, ℕ, ◌==◌, Bool, true, false, if◌then◌else◌, List, [], ◌∷◌, map, Option, Some, None, Result, Ok, Err, refl, sym, ap, ◌∙◌, subst, arith}
 use Rattle.std.specs.Prelude.{◌≢◌}
 use Rattle.std.specs.List.{AllByRecursion}
 use Rattle.std.specs.Str.{bytes_eq}
 use Rattle.dq_dataset.specs.Tree.{ElementList}
 use Rattle.dq_dataset.specs.declared.header.Syntax.{Syntax}
-use Rattle.dq_dimse.specs.CommandFields.{c_cancel}
+use Rattle.dq_dimse.specs.CommandFields.{c_cancel, c_echo, c_find, c_store, n_create, n_set}
 use Rattle.dq_dimse.specs.Received.{Message}
-use Rattle.dq_dimse.specs.Statuses.{success, sop_class_not_supported, unrecognized_operation}
+use Rattle.dq_dimse.specs.Statuses.{success}
 use Rattle.dq_assoc.specs.declared.agreement.AgreedContext.{AgreedContext}
 use Rattle.dq_assoc.specs.declared.agreement.Agreement.{Agreement}
 use Rattle.dq_assoc.specs.declared.classes.Service.{Service}
-use Rattle.dq_assoc.specs.declared.classes.Service.TheVariants.{StudyRootFind, WorklistFind}
+use Rattle.dq_assoc.specs.declared.classes.Service.TheVariants.{Verification, Storage, StudyRootFind, WorklistFind, PerformedProcedureStep}
 use Rattle.dq_assoc.specs.Classes.{service_of, uid_of}
 use Rattle.dq_assoc.specs.Negotiation.{context_of}
 use Rattle.dq_assoc.specs.Table.{Sent}
@@ -27,7 +27,9 @@ use Rattle.dq_tables.specs.declared.row.Row.{Row}
 use Rattle.dq_tables.specs.Rows.{Record, of}
 use Rattle.dq_tables.specs.Sound.{IsSound}
 use Rattle.dq_core.specs.declared.event.Event.{Event}
-use Rattle.dq_core.specs.Services.{Response, Responses, responses, pending_response, pending_responses, has_operation, refusal_for, operation, outcome_on, outcome_unless, served}
+use Rattle.dq_core.specs.Services.{Response, Responses, responses, pending_response, pending_responses, operation_named, operation_outcome, outcome_of, message_outcome, served}
+use Rattle.dq_core.specs.declared.dimse_operation.DimseOperation.{DimseOperation}
+use Rattle.dq_core.specs.declared.dimse_operation.DimseOperation.TheVariants.{Echo, Store, FindStudies, FindEntries, CreateStep, SetStep}
 use Rattle.dq_core.specs.Searches.{AreAnswersOf, AreExact}
 use Rattle.dq_core.specs.Soundness.{HoldSound, BringOctets}
 use Rattle.dq_core.specs.Conversations.{Arrival, InputAt, arrivals, IsExactAt}
@@ -81,91 +83,109 @@ entries-none : (records : List Record) (message : Message) (syntax : Syntax) →
 unfolding worklist.listed
 entries-none records message syntax h = entries-none_by records (worklist.query_of message syntax) h
 
--- a refusal is no success
-refused-by : (has is : Bool) (status : ℕ)
-    → (if not has then Some unrecognized_operation else (if not is then Some sop_class_not_supported else None)) ≡ Some status → status ≡ success → ⊥
-refused-by true true status e s = cc
-refused-by true false status e s = let one : sop_class_not_supported ≡ status = cc in absurd (omega (arith, one, s))
-refused-by false is status e s = let one : unrecognized_operation ≡ status = cc in absurd (omega (arith, one, s))
+-- the one operation that a test allows
+pub only : (b : Bool) (allowed named : DimseOperation) → (if b then Some allowed else None) ≡ Some named → allowed ≡ named
+only true allowed named e = cc
+only false allowed named e = cc
 
 module _ (limits : Limits) (records : List Record) (a : Agreement) (message : Message) (context : AgreedContext) where
   abbrev found_on : Found
-  found_on = (outcome_on a context limits message records).0
+  found_on = (message_outcome a context limits message records).0
 
   -- responses are of what was found
   pub responses-are : (r : Responses) (b : Bool) → (message.command.code == c_cancel) ≡ b → context_of a message.context ≡ Some context
       → (served limits records a message).responses ≡ Some r → r ≡ responses context message.command found_on
   unfolding served
   responses-are r true h on e =
-      let computed : (served limits records a message).responses ≡ None = rw (on, h) refl in
+      let computed : (served limits records a message).responses ≡ None = rw h refl in
       let both : None ≡ Some r = sym computed ∙ e in cc
   responses-are r false h on e =
       let computed : (served limits records a message).responses ≡ Some (responses context message.command found_on) = rw (on, h) refl in
       let both : Some r ≡ Some (responses context message.command found_on) = sym e ∙ computed in cc
 
-  -- it is what the service of the context finds, where it is a success
-  found-by : (s : Service) (p : Option ℕ) → refusal_for context.class message.command ≡ p → service_of context.class ≡ s → found_on.status ≡ success
-      → found_on ≡ (operation s a.called context.syntax limits message records).0
-  found-by s (Some status) e service ok =
-      absurd (refused-by (has_operation (service_of context.class) message.command.code) (bytes_eq message.command.sop_class (uid_of context.class)) status e
-      (sym (ap (λ (p : Option ℕ). (outcome_unless p a context limits message records).0.status) e) ∙ ok))
-  found-by s None e service ok =
-      ap (λ (p : Option ℕ). (outcome_unless p a context limits message records).0) e
-      ∙ ap (λ (s : Service). (operation s a.called context.syntax limits message records).0) service
+  -- what an operation finds
+  abbrev found_by : DimseOperation → Found
+  found_by operation = (operation_outcome operation a.called context.syntax limits message records).0
 
-  -- and nothing, where it is none
-  nothing-by : (s : Service) → (operation s a.called context.syntax limits message records).0.status ≢ success
-      → (operation s a.called context.syntax limits message records).0.answers ≡ []
-  nothing-by StudyRootFind h = study-none records a.called message context.syntax h
-  nothing-by WorklistFind h = entries-none records message context.syntax h
+  -- a success is that of an operation
+  pub succeeded : (named : Option DimseOperation) (is : Bool) → (outcome_of named is a.called context.syntax limits message records).0.status ≡ success
+      → (operation : DimseOperation) × (named ≡ Some operation) × ((outcome_of named is a.called context.syntax limits message records).0 ≡ found_by operation)
+  succeeded None is ok = absurd (omega (arith, ok))
+  succeeded (Some operation) false ok = absurd (omega (arith, ok))
+  succeeded (Some operation) true ok = (operation, refl, refl)
+
+  -- and nothing is found, where it is none
+  nothing-by : (operation : DimseOperation) → (found_by operation).status ≢ success → (found_by operation).answers ≡ []
+  nothing-by FindStudies h = study-none records a.called message context.syntax h
+  nothing-by FindEntries h = entries-none records message context.syntax h
   nothing-by other h = refl
 
-  nothing-unless : (p : Option ℕ) → (outcome_unless p a context limits message records).0.status ≢ success
-      → (outcome_unless p a context limits message records).0.answers ≡ []
-  nothing-unless (Some status) h = refl
-  nothing-unless None h = nothing-by (service_of context.class) h
+  nothing-unless : (named : Option DimseOperation) (is : Bool) → (outcome_of named is a.called context.syntax limits message records).0.status ≢ success
+      → (outcome_of named is a.called context.syntax limits message records).0.answers ≡ []
+  nothing-unless None is h = refl
+  nothing-unless (Some operation) false h = refl
+  nothing-unless (Some operation) true h = nothing-by operation h
 
   refused-none : (r : Responses) → r ≡ responses context message.command found_on → r.final.0.status ≢ success → r.pending ≡ []
   refused-none r is h =
       ap (λ (x : Responses). x.pending) is
       ∙ ap (map (pending_response context message.command found_on.optional))
-      (nothing-unless (refusal_for context.class message.command) (λ s. h (ap (λ (x : Responses). x.final.0.status) is ∙ s)))
+      (nothing-unless (operation_named (service_of context.class) message.command.code) (bytes_eq message.command.sop_class (uid_of context.class))
+      (λ s. h (ap (λ (x : Responses). x.final.0.status) is ∙ s)))
 
 module _ (studies : StudiesFound) (entries : EntriesFound) (institution : List ℕ) (rows : List Row) (sound : IsSound rows) (limits : Limits)
     (a : Agreement) (message : Message) (context : AgreedContext) where
   abbrev own : List Record
   own = of institution rows
 
-  exact-by : (s : Service) → service_of context.class ≡ s → let found = (outcome_on a context limits message own).0 in found.status ≡ success
+  abbrev Exactly : Service → DimseOperation → Type 0
+  Exactly s operation = let found = (operation_outcome operation a.called context.syntax limits message own).0 in found.status ≡ success
       → AreAnswersOf s context a.called own message (pending_responses context message.command found)
-  exact-by StudyRootFind service ok =
+
+  studies-exact : Exactly StudyRootFind FindStudies
+  studies-exact ok =
       let answered = study.found own a.called message context.syntax in
-      let is = found-by limits own a message context StudyRootFind (refusal_for context.class message.command) refl service ok in
-      let told = studies institution rows a.called message context.syntax sound (sym (ap (λ (f : Found). f.status) is) ∙ ok) in (
+      let told = studies institution rows a.called message context.syntax sound ok in (
         told.0,
         told.1,
         answered.answers,
         told.2,
-        ap (pending_responses context message.command) is
-            ∙ ap (λ (optional : Bool). map (pending_response context message.command optional) answered.answers)
+        ap (λ (optional : Bool). map (pending_response context message.command optional) answered.answers)
             (study-optional own a.called message context told.0 told.1),
       )
-  exact-by WorklistFind service ok =
+
+  entries-exact : Exactly WorklistFind FindEntries
+  entries-exact ok =
       let answered = worklist.listed own message context.syntax in
-      let is = found-by limits own a message context WorklistFind (refusal_for context.class message.command) refl service ok in
-      let told = entries institution rows message context.syntax sound (sym (ap (λ (f : Found). f.status) is) ∙ ok) in (
+      let told = entries institution rows message context.syntax sound ok in (
         told.0,
         told.1,
         told.2,
         answered.answers,
         told.3,
-        ap (pending_responses context message.command) is
-            ∙ ap (λ (optional : Bool). map (pending_response context message.command optional) answered.answers)
+        ap (λ (optional : Bool). map (pending_response context message.command optional) answered.answers)
             (entries-optional own message context told.0 told.1 told.2),
       )
-  exact-by other service ok =
-      ap (pending_responses context message.command)
-      (found-by limits own a message context other (refusal_for context.class message.command) refl service ok)
+
+  steps-exact : (creates sets : Bool) (operation : DimseOperation)
+      → (if creates then Some CreateStep else (if sets then Some SetStep else None)) ≡ Some operation → Exactly PerformedProcedureStep operation
+  steps-exact true sets operation e ok = subst (Exactly PerformedProcedureStep) (only true CreateStep operation e) (λ _. refl) ok
+  steps-exact false sets operation e ok = subst (Exactly PerformedProcedureStep) (only sets SetStep operation e) (λ _. refl) ok
+
+  exact-of : (s : Service) (operation : DimseOperation) → operation_named s message.command.code ≡ Some operation → Exactly s operation
+  exact-of Verification operation e = subst (Exactly Verification) (only (message.command.code == c_echo) Echo operation e) (λ _. refl)
+  exact-of Storage operation e = subst (Exactly Storage) (only (message.command.code == c_store) Store operation e) (λ _. refl)
+  exact-of StudyRootFind operation e = subst (Exactly StudyRootFind) (only (message.command.code == c_find) FindStudies operation e) studies-exact
+  exact-of WorklistFind operation e = subst (Exactly WorklistFind) (only (message.command.code == c_find) FindEntries operation e) entries-exact
+  exact-of PerformedProcedureStep operation e = steps-exact (message.command.code == n_create) (message.command.code == n_set) operation e
+
+  exact-by : let found = (message_outcome a context limits message own).0 in found.status ≡ success
+      → AreAnswersOf (service_of context.class) context a.called own message (pending_responses context message.command found)
+  exact-by ok =
+      let is = succeeded limits own a message context (operation_named (service_of context.class) message.command.code)
+      (bytes_eq message.command.sop_class (uid_of context.class)) ok in
+      subst (λ (found : Found). AreAnswersOf (service_of context.class) context a.called own message (pending_responses context message.command found))
+      (sym is.2) (exact-of (service_of context.class) is.0 is.1 (sym (ap (λ (found : Found). found.status) is.2) ∙ ok))
 
   exact-responses : (r : Responses) → context_of a message.context ≡ Some context → (served limits own a message).responses ≡ Some r
       → AreExact own a context message r
@@ -173,7 +193,7 @@ module _ (studies : StudiesFound) (entries : EntriesFound) (institution : List �
       let is = responses-are limits own a message context r (message.command.code == c_cancel) refl on e in record {
         answers = λ ok. subst (λ (xs : List Response). AreAnswersOf (service_of context.class) context a.called own message xs)
             (sym (ap (λ (x : Responses). x.pending) is))
-            (exact-by (service_of context.class) refl (sym (ap (λ (x : Responses). x.final.0.status) is) ∙ ok));
+            (exact-by (sym (ap (λ (x : Responses). x.final.0.status) is) ∙ ok));
         refused = λ h. refused-none limits own a message context r is h;
       }
 

@@ -1,17 +1,17 @@
 -- What each service keeps true of the rows stays true of them, whatever octets the server is sent.
 use Rattle.std.proofs.Common.{◌≡◌, ℕ, zero, suc, ◌==◌, Bool, true, false, List, [], ◌∷◌, ◌++◌, map, take, drop, Option, Some, None, refl, sym, ap, ◌∙◌, subst}
 use Rattle.std.specs.List.{AllByRecursion}
+use Rattle.std.specs.Option.{option_map_or}
+use Rattle.std.specs.Str.{bytes_eq}
 use Rattle.std.proofs.lemmas.List.{map-append}
 use Rattle.dq_dataset.specs.declared.header.Syntax.{Syntax}
 use Rattle.dq_dataset.specs.Grammar.{AreOctets}
-use Rattle.dq_dimse.specs.CommandFields.{c_cancel, n_create}
+use Rattle.dq_dimse.specs.CommandFields.{c_cancel}
 use Rattle.dq_dimse.specs.Received.{Message}
 use Rattle.dq_assoc.specs.declared.agreement.AgreedContext.{AgreedContext}
 use Rattle.dq_assoc.specs.declared.agreement.Agreement.{Agreement}
 use Rattle.dq_assoc.specs.declared.association.Verdict.{Verdict}
-use Rattle.dq_assoc.specs.declared.classes.Service.{Service}
-use Rattle.dq_assoc.specs.declared.classes.Service.TheVariants as service
-use Rattle.dq_assoc.specs.Classes.{service_of}
+use Rattle.dq_assoc.specs.Classes.{service_of, uid_of}
 use Rattle.dq_assoc.specs.Negotiation.{context_of}
 use Rattle.dq_assoc.specs.Table.{Input, Sent}
 use Rattle.dq_config.specs.declared.config.Institution.{Institution}
@@ -25,7 +25,9 @@ use Rattle.dq_mpps.specs.Creating.{created}
 use Rattle.dq_mpps.specs.Changing.{changed}
 use Rattle.dq_core.specs.declared.event.Event.{Event}
 use Rattle.dq_core.specs.declared.event.Event.TheVariants as event
-use Rattle.dq_core.specs.Services.{Order, Scheduling, Withdrawal, ordered, served, served_on, context_answer, refusal_for, outcome_unless, operation, performed}
+use Rattle.dq_core.specs.Services.{Order, Scheduling, Withdrawal, ordered, served, served_by, no_response, operation_named, operation_outcome, outcome_of, message_outcome}
+use Rattle.dq_core.specs.declared.dimse_operation.DimseOperation.{DimseOperation}
+use Rattle.dq_core.specs.declared.dimse_operation.DimseOperation.TheVariants.{Echo, Store, FindStudies, FindEntries, CreateStep, SetStep}
 use Rattle.dq_core.specs.Pages.{OpenQuery, Reaction, next_page, reaction, reaction_while, cancel_reaction, first_reaction, message_id}
 use Rattle.dq_core.specs.Answers.{Progress, Answer, answer, answers, answer_after, then_answer, progress_of, inputs_added, verdict_at, after_piece}
 use Rattle.dq_core.specs.Connections.{Connection, new_connection, with_piece, with_query, connection_in}
@@ -161,41 +163,38 @@ module _ (Good : List Row → Type 0) where
       })
 
   module _ (keep : ServicesKeep) (name : List ℕ) (limits : Limits) (rows : List Row) (good : Good rows) where
-    performed-kept : (message : Message) (syntax : Syntax) → AreOctets message.octets → (b : Bool) → (message.command.code == n_create) ≡ b
-        → Keep name (performed limits (of name rows) message syntax).1 rows
-    performed-kept message syntax are true h = rw h (keep.creating name limits rows message syntax are good)
-    performed-kept message syntax are false h = rw h (keep.changing name rows message syntax are good)
+    operation-kept : (operation : DimseOperation) (called : List ℕ) (syntax : Syntax) (message : Message) → AreOctets message.octets
+        → Keep name (operation_outcome operation called syntax limits message (of name rows)).1 rows
+    operation-kept Store called syntax message are = keep.storing name limits rows message syntax are good
+    operation-kept CreateStep called syntax message are = keep.creating name limits rows message syntax are good
+    operation-kept SetStep called syntax message are = keep.changing name rows message syntax are good
+    operation-kept Echo called syntax message are = good
+    operation-kept FindStudies called syntax message are = good
+    operation-kept FindEntries called syntax message are = good
 
-    operation-kept : (s : Service) (called : List ℕ) (syntax : Syntax) (message : Message) → AreOctets message.octets
-        → Keep name (operation s called syntax limits message (of name rows)).1 rows
-    operation-kept service.Verification called syntax message are = good
-    operation-kept service.Storage called syntax message are = keep.storing name limits rows message syntax are good
-    operation-kept service.StudyRootFind called syntax message are = good
-    operation-kept service.WorklistFind called syntax message are = good
-    operation-kept service.PerformedProcedureStep called syntax message are =
-        performed-kept message syntax are (message.command.code == n_create) refl
-
-    outcome-kept : (refusal : Option ℕ) (agreement : Agreement) (context : AgreedContext) (message : Message) → AreOctets message.octets
-        → Keep name (outcome_unless refusal agreement context limits message (of name rows)).1 rows
-    outcome-kept (Some status) agreement context message are = good
-    outcome-kept None agreement context message are =
-        operation-kept (service_of context.class) agreement.called context.syntax message are
-
-    context-kept : (agreement : Agreement) (message : Message) (context : AgreedContext) → AreOctets message.octets
-        → (b : Bool) → (message.command.code == c_cancel) ≡ b → Keep name (context_answer limits (of name rows) agreement message context).edits rows
-    context-kept agreement message context are true h = rw h good
-    context-kept agreement message context are false h =
-        rw h (outcome-kept (refusal_for context.class message.command) agreement context message are)
+    outcome-kept : (named : Option DimseOperation) (is_its_class : Bool) (called : List ℕ) (syntax : Syntax) (message : Message) → AreOctets message.octets
+        → Keep name (outcome_of named is_its_class called syntax limits message (of name rows)).1 rows
+    outcome-kept None is_its_class called syntax message are = good
+    outcome-kept (Some operation) false called syntax message are = good
+    outcome-kept (Some operation) true called syntax message are = operation-kept operation called syntax message are
 
     on-kept : (o : Option AgreedContext) (agreement : Agreement) (message : Message) → AreOctets message.octets
-        → Keep name (served_on o limits (of name rows) agreement message).edits rows
+        → Keep name (option_map_or (λ (context : AgreedContext). served_by context message.command
+        (message_outcome agreement context limits message (of name rows))) o no_response).edits rows
     on-kept None agreement message are = good
-    on-kept (Some context) agreement message are = context-kept agreement message context are (message.command.code == c_cancel) refl
+    on-kept (Some context) agreement message are =
+        outcome-kept (operation_named (service_of context.class) message.command.code) (bytes_eq message.command.sop_class (uid_of context.class))
+        agreement.called context.syntax message are
+
+    served-by-kept : (agreement : Agreement) (message : Message) → AreOctets message.octets → (b : Bool) → (message.command.code == c_cancel) ≡ b
+        → Good (after (by name (served limits (of name rows) agreement message).edits) rows)
+    unfolding served
+    served-by-kept agreement message are true h = rw h good
+    served-by-kept agreement message are false h = rw h (on-kept (context_of agreement message.context) agreement message are)
 
     pub served-kept : (agreement : Agreement) (message : Message) → AreOctets message.octets
         → Good (after (by name (served limits (of name rows) agreement message).edits) rows)
-    unfolding served
-    served-kept agreement message are = on-kept (context_of agreement message.context) agreement message are
+    served-kept agreement message are = served-by-kept agreement message are (message.command.code == c_cancel) refl
 
     pub ordered-kept : (order : Order) → HoldsOctets order → Good (after (by name (ordered limits (of name rows) order).edits) rows)
     unfolding ordered

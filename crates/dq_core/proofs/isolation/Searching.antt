@@ -1,24 +1,28 @@
 -- What queries are answered with.
-use Rattle.std.proofs.Common.{◌≡◌, Bool, List, [], None, Ok, refl}
+use Rattle.std.proofs.Common.{◌≡◌, ◌==◌, ℕ, Bool, true, List, [], Ok, refl, ap}
+use Rattle.std.specs.Str.{bytes_eq}
+use Rattle.std.proofs.lemmas.Slice.Eq.{bytes_eq-Decides}
 use Rattle.dq_dataset.specs.Tree.{ElementList}
+use Rattle.dq_dimse.specs.CommandFields.{c_find}
 use Rattle.dq_dimse.specs.Received.{Message}
 use Rattle.dq_dimse.specs.Statuses.{success}
 use Rattle.dq_assoc.specs.declared.agreement.AgreedContext.{AgreedContext}
 use Rattle.dq_assoc.specs.declared.agreement.Agreement.{Agreement}
 use Rattle.dq_assoc.specs.declared.classes.Service.TheVariants.{StudyRootFind, WorklistFind}
-use Rattle.dq_assoc.specs.Classes.{service_of}
+use Rattle.dq_assoc.specs.Classes.{service_of, uid_of}
 use Rattle.dq_config.specs.Limits.{Limits}
 use Rattle.dq_find.specs.declared.query.Query.{Query}
 use Rattle.dq_find.specs.Queries as study
 use Rattle.dq_worklist.specs.Queries as worklist
 use Rattle.dq_tables.specs.Rows.{Record}
-use Rattle.dq_core.specs.Services.{refusal_for, outcome_on}
+use Rattle.dq_core.specs.Services.{message_outcome}
 
 pub study_search : (agreement : Agreement) (context : AgreedContext) (limits : Limits)
     (message : Message) (records : List Record) (query : Query)
-    → service_of context.class ≡ StudyRootFind → refusal_for context.class message.command ≡ None
+    → service_of context.class ≡ StudyRootFind → message.command.code ≡ c_find
+    → message.command.sop_class ≡ uid_of context.class
     → study.query_of message context.syntax ≡ Ok query
-    → outcome_on agreement context limits message records
+    → message_outcome agreement context limits message records
     ≡ (
       record {
         status = success;
@@ -28,15 +32,20 @@ pub study_search : (agreement : Agreement) (context : AgreedContext) (limits : L
       [],
     )
 unfolding study.found
-study_search agreement context limits message records query service none asked =
-    rw none (rw service (rw asked refl))
+study_search agreement context limits message records query service finds is asked =
+    let named : (message.command.code == c_find) ≡ true = ap (λ (code : ℕ). code == c_find) finds in
+    let same : bytes_eq message.command.sop_class (uid_of context.class) ≡ true =
+    (bytes_eq-Decides message.command.sop_class (uid_of context.class)).1 is in rw (service, named, same, asked) refl
 
 pub worklist_search : (agreement : Agreement) (context : AgreedContext) (limits : Limits)
     (message : Message) (records : List Record) (keys : ElementList) (optional : Bool)
-    → service_of context.class ≡ WorklistFind → refusal_for context.class message.command ≡ None
+    → service_of context.class ≡ WorklistFind → message.command.code ≡ c_find
+    → message.command.sop_class ≡ uid_of context.class
     → worklist.query_of message context.syntax ≡ Ok (record { keys = keys; optional = optional })
-    → outcome_on agreement context limits message records
+    → message_outcome agreement context limits message records
     ≡ (record { status = success; optional = optional; answers = worklist.answers records keys }, [])
 unfolding worklist.listed
-worklist_search agreement context limits message records keys optional service none asked =
-    rw none (rw service (rw asked refl))
+worklist_search agreement context limits message records keys optional service finds is asked =
+    let named : (message.command.code == c_find) ≡ true = ap (λ (code : ℕ). code == c_find) finds in
+    let same : bytes_eq message.command.sop_class (uid_of context.class) ≡ true =
+    (bytes_eq-Decides message.command.sop_class (uid_of context.class)).1 is in rw (service, named, same, asked) refl

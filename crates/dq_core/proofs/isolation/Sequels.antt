@@ -1,5 +1,6 @@
 -- What is left unsent of a C-FIND that is open, and what each message sends of it.
 use Rattle.std.proofs.Common.{◌≡◌, ℕ, suc, ◌==◌, ◌+◌, ◌*◌, ◌≤◌, Bool, true, false, nat_le, List, [], ◌∷◌, ◌++◌, length, take, drop, Option, Some, None, refl, sym, ap, ◌∙◌, arith, append_assoc}
+use Rattle.std.specs.Option.{option_map_or}
 use Rattle.std.proofs.lemmas.Bool.Decides.{nat_tests}
 use Rattle.std.proofs.lemmas.Grind.{flat_map-append}
 use Rattle.std.proofs.lemmas.List.{append-nil, take-append-drop, length-drop}
@@ -12,7 +13,7 @@ use Rattle.dq_assoc.specs.Negotiation.{context_of}
 use Rattle.dq_assoc.specs.Table.{Sent}
 use Rattle.dq_config.specs.Limits.{Limits}
 use Rattle.dq_tables.specs.Rows.{Record}
-use Rattle.dq_core.specs.Services.{Response, Responses, responses, outcome_on, served, served_on}
+use Rattle.dq_core.specs.Services.{Response, Responses, responses, message_outcome, no_response, served, served_by}
 use Rattle.dq_core.specs.Pages.{OpenQuery, page_length, message_id, response_octets, octets_of, rest, page, next_page, query_by, reaction, reaction_while, cancel_reaction, first_reaction}
 use Rattle.dq_core.specs.Shared.{World}
 use Rattle.dq_core.specs.Conversations.{Arrival, InputAt, PageRequest, Next, Cancel, AnotherMessage, NoMessage, sequel, all_responses, responses_in_pages, responses_sent, response_octets_of}
@@ -125,27 +126,26 @@ nothing-unsent (Some query) later more f = rw (f (message_id query), more) refl
 
 module _ (limits : Limits) (records : List Record) (a : Agreement) (m : Message) where
   -- a C-CANCEL has no responses
-  none-on : (o : Option AgreedContext) → (m.command.code == c_cancel) ≡ true → (served_on o limits records a m).responses ≡ None
-  none-on None h = refl
-  none-on (Some context) h = rw h refl
-
   none-served : (m.command.code == c_cancel) ≡ true → (served limits records a m).responses ≡ None
   unfolding served
-  none-served h = none-on (context_of a m.context) h
+  none-served h = rw h refl
 
   -- the final response has the message's id
-  id-on : (o : Option AgreedContext) (r : Responses) (b : Bool) → (m.command.code == c_cancel) ≡ b → (served_on o limits records a m).responses ≡ Some r
+  id-on : (o : Option AgreedContext) (r : Responses)
+      → (option_map_or (λ (context : AgreedContext). served_by context m.command (message_outcome a context limits m records)) o no_response).responses ≡ Some r
       → r.final.0.id ≡ m.command.id
-  id-on None r b h e = cc
-  id-on (Some context) r true h e = let none : None ≡ Some r = rw h at e in cc
-  id-on (Some context) r false h e =
-      let told = responses context m.command (outcome_on a context limits m records).0 in
-      let both : Some told ≡ Some r = rw h at e in
+  id-on None r e = cc
+  id-on (Some context) r e =
+      let told = responses context m.command (message_outcome a context limits m records).0 in
       let same : told ≡ r = cc in sym (ap (λ (x : Responses). x.final.0.id) same)
 
-  id-served : (r : Responses) → (served limits records a m).responses ≡ Some r → r.final.0.id ≡ m.command.id
+  id-by : (r : Responses) (b : Bool) → (m.command.code == c_cancel) ≡ b → (served limits records a m).responses ≡ Some r → r.final.0.id ≡ m.command.id
   unfolding served
-  id-served r e = id-on (context_of a m.context) r (m.command.code == c_cancel) refl e
+  id-by r true h e = let none : None ≡ Some r = rw h at e in cc
+  id-by r false h e = id-on (context_of a m.context) r (rw h at e)
+
+  id-served : (r : Responses) → (served limits records a m).responses ≡ Some r → r.final.0.id ≡ m.command.id
+  id-served r e = id-by r (m.command.code == c_cancel) refl e
 
   -- the first page of its responses, and what is sent after it
   first-said : (later : List Arrival) (o : Option Responses) → (served limits records a m).responses ≡ o → let first = next_page (query_by a m o) in

@@ -1,5 +1,5 @@
 -- What the status of a C-STORE says, over rows that the server made.
-use Rattle.std.proofs.Common.{◌≡◌, ℕ, ◌==◌, Bool, true, false, not, if◌then◌else◌, List, [], ◌∷◌, length, Option, Some, None, refl, sym, ap, ◌∙◌, subst, arith}
+use Rattle.std.proofs.Common.{◌≡◌, ℕ, ◌==◌, Bool, true, false, List, [], ◌∷◌, length, Option, Some, None, refl, sym, ap, ◌∙◌, subst, arith}
 use Rattle.std.specs.List.{AllByRecursion}
 use Rattle.std.specs.Result.{result_unwrap_or}
 use Rattle.std.specs.Str.{bytes_eq}
@@ -7,9 +7,9 @@ use Rattle.dq_dataset.specs.declared.header.Syntax.{Syntax}
 use Rattle.dq_dataset.specs.Grammar.{AreOctets}
 use Rattle.dq_dataset.specs.Reading.{reading}
 use Rattle.dq_dataset.specs.Tree.{no_elements}
-use Rattle.dq_dimse.specs.CommandFields.{c_cancel}
+use Rattle.dq_dimse.specs.CommandFields.{c_cancel, c_store}
 use Rattle.dq_dimse.specs.Received.{Message}
-use Rattle.dq_dimse.specs.Statuses.{success, elements_discarded, sop_class_not_supported, unrecognized_operation}
+use Rattle.dq_dimse.specs.Statuses.{success, elements_discarded}
 use Rattle.dq_assoc.specs.declared.agreement.AgreedContext.{AgreedContext}
 use Rattle.dq_assoc.specs.declared.agreement.Agreement.{Agreement}
 use Rattle.dq_assoc.specs.declared.classes.Service.{Service}
@@ -28,7 +28,9 @@ use Rattle.dq_store.specs.Storing.{instance_in, stored}
 use Rattle.dq_core.specs.declared.event.Event.{Event}
 use Rattle.dq_core.specs.declared.event.Reply.{Reply}
 use Rattle.dq_core.specs.Runs.{IsRun}
-use Rattle.dq_core.specs.Services.{Responses, Served, served, served_by, has_operation, refusal_for, operation, outcome_on, outcome_unless}
+use Rattle.dq_core.specs.Services.{Responses, Served, served, served_by, operation_named, operation_outcome, outcome_of, message_outcome}
+use Rattle.dq_core.specs.declared.dimse_operation.DimseOperation.{DimseOperation}
+use Rattle.dq_core.specs.declared.dimse_operation.DimseOperation.TheVariants.{Store}
 use Rattle.dq_core.specs.Soundness.{AreMade, BringOctets}
 use Rattle.dq_core.specs.Conversations.{Arrival, InputAt, arrivals}
 use Rattle.dq_core.specs.Stores.{SaysWhatStands, IsToldTruly, IsToldTrulyAt}
@@ -36,7 +38,7 @@ use Rattle.dq_core.proofs.isolation.Octets.{to-octets}
 use Rattle.dq_core.proofs.isolation.Keeping.{Edits, ServicesKeep, within-kept}
 use Rattle.dq_core.proofs.isolation.Soundness.{none-sound}
 use Rattle.dq_core.proofs.isolation.Arriving.{IsMetAt, each-met}
-use Rattle.dq_core.proofs.isolation.Exact.{responses-are}
+use Rattle.dq_core.proofs.isolation.Exact.{only, responses-are}
 
 pub none-made : AreMade []
 none-made = record { sound = none-sound; levels = tt }
@@ -56,15 +58,6 @@ Says wanted b = (name : List ℕ) (limits : Limits) (rows : List Row) (message :
     → stands_whole (of name (after (by name (stored limits (of name rows) message syntax).1) rows))
     (instance_in (result_unwrap_or (reading syntax message.octets) no_elements)) ≡ b
 
--- a refusal is neither
-refused-other : (has is : Bool) (status : ℕ) → (if not has then Some unrecognized_operation else (if not is then Some sop_class_not_supported else None)) ≡ Some status
-    → (status ≡ success → ⊥) × (status ≡ elements_discarded → ⊥)
-refused-other true true status e = cc
-refused-other true false status e =
-    let one : sop_class_not_supported ≡ status = cc in (λ s. absurd (omega (arith, one, s)), λ s. absurd (omega (arith, one, s)))
-refused-other false is status e =
-    let one : unrecognized_operation ≡ status = cc in (λ s. absurd (omega (arith, one, s)), λ s. absurd (omega (arith, one, s)))
-
 module _ (whole : Says success true) (discarded : Says elements_discarded false) (name : List ℕ) (rows : List Row) (limits : Limits) (a : Agreement)
     (message : Message) (are : AreOctets message.octets) (made : AreMade rows) (context : AgreedContext) where
   abbrev records : List Record
@@ -74,27 +67,28 @@ module _ (whole : Says success true) (discarded : Says elements_discarded false)
   Told outcome = SaysWhatStands (of name (after (by name outcome.1) rows))
       (instance_in (result_unwrap_or (reading context.syntax message.octets) no_elements)) outcome.0.status
 
-  operation-told : (s : Service) → s ≡ Storage → Told (operation s a.called context.syntax limits message records)
-  operation-told Storage e = record {
+  store-told : Told (operation_outcome Store a.called context.syntax limits message records)
+  store-told = record {
     whole = λ s. whole name limits rows message context.syntax are made.sound.sound made.levels s;
     discarded = λ s. discarded name limits rows message context.syntax are made.sound.sound made.levels s;
   }
-  operation-told other e = cc
 
-  outcome-told : (p : Option ℕ) → refusal_for context.class message.command ≡ p → service_of context.class ≡ Storage
-      → Told (outcome_unless p a context limits message records)
-  outcome-told (Some status) e service =
-      let other = refused-other (has_operation (service_of context.class) message.command.code) (bytes_eq message.command.sop_class (uid_of context.class)) status e in
-      record { whole = λ s. absurd (other.0 s); discarded = λ s. absurd (other.1 s) }
-  outcome-told None e service = operation-told (service_of context.class) service
+  outcome-told : (named : Option DimseOperation) (is : Bool) → operation_named (service_of context.class) message.command.code ≡ named
+      → service_of context.class ≡ Storage → Told (outcome_of named is a.called context.syntax limits message records)
+  outcome-told None is e service = record { whole = λ s. absurd (omega (arith, s)); discarded = λ s. absurd (omega (arith, s)) }
+  outcome-told (Some operation) false e service = record { whole = λ s. absurd (omega (arith, s)); discarded = λ s. absurd (omega (arith, s)) }
+  outcome-told (Some operation) true e service =
+      let stores = ap (λ (s : Service). operation_named s message.command.code) (sym service) ∙ e in
+      subst (λ (o : DimseOperation). Told (operation_outcome o a.called context.syntax limits message records))
+      (only (message.command.code == c_store) Store operation stores) store-told
 
   -- what is served where the message is not a C-CANCEL
   served-is : (b : Bool) → (message.command.code == c_cancel) ≡ b → context_of a message.context ≡ Some context → (r : Responses)
       → (served limits records a message).responses ≡ Some r
-      → served limits records a message ≡ served_by context message.command (outcome_on a context limits message records)
+      → served limits records a message ≡ served_by context message.command (message_outcome a context limits message records)
   unfolding served
   served-is true h on r e =
-      let computed : (served limits records a message).responses ≡ None = rw (on, h) refl in
+      let computed : (served limits records a message).responses ≡ None = rw h refl in
       let both : None ≡ Some r = sym computed ∙ e in cc
   served-is false h on r e = rw (on, h) refl
 
@@ -108,8 +102,8 @@ module _ (whole : Says success true) (discarded : Says elements_discarded false)
       subst (λ (status : ℕ). SaysWhatStands (of name (after (by name (served limits records a message).edits) rows))
       (instance_in (result_unwrap_or (reading context.syntax message.octets) no_elements)) status) (sym (ap (λ (x : Responses). x.final.0.status) answered))
       (subst (λ (edits : List Edit). SaysWhatStands (of name (after (by name edits) rows))
-      (instance_in (result_unwrap_or (reading context.syntax message.octets) no_elements)) (outcome_on a context limits message records).0.status)
-      (sym (ap (λ (x : Served). x.edits) is)) (outcome-told (refusal_for context.class message.command) refl service))
+      (instance_in (result_unwrap_or (reading context.syntax message.octets) no_elements)) (message_outcome a context limits message records).0.status)
+      (sym (ap (λ (x : Served). x.edits) is)) (outcome-told (operation_named (service_of context.class) message.command.code) (bytes_eq message.command.sop_class (uid_of context.class)) refl service))
 
 module _ (whole : Says success true) (discarded : Says elements_discarded false) where
   pub truly-told : (name : List ℕ) (rows : List Row) (limits : Limits) (a : Agreement) (message : Message) → AreOctets message.octets → AreMade rows

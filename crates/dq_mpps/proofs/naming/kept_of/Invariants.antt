@@ -5,7 +5,7 @@ use Rattle.dq_mpps.proofs.naming.kept_of.Given as goal
 
 abbrev pub invariant-loop-id : goal.invariant-loop-id
 invariant-loop-id g l =
-    KeptSoFar (g.T.Tables.state l.fn.tables) (g.T.Tables.state l.tables) l.name l.keys (octets_of l.ids.keys) (octets_of l.fn.ids.keys)
+    KeptSoFar g.T.Tables.state l.fn.archive l.archive l.keys (octets_of l.ids.keys) (octets_of l.fn.ids.keys)
 
 abbrev pub decreases-loop-id : goal.decreases-loop-id
 decreases-loop-id g l = length l.ids.keys

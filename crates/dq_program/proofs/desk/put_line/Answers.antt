@@ -1,8 +1,8 @@
-use Rattle.std.proofs.Common.{rules, ◌∙◌}
+use Rattle.std.proofs.Common.{rules, inl, refl, ◌∙◌}
+use Rattle.dq_captures.proofs.Written.{OnErr-known}
 use Rattle.dq_program.proofs.Counting.{another_count}
 use Rattle.dq_program.proofs.desk.put_line.Goals as goal
 
--- src/desk.rt:102:5
 pub loop-kind-preserved : goal.loop-kind-preserved
 loop-kind-preserved g c =
     let before = c.loop-kind.invariant in
@@ -19,3 +19,15 @@ loop-kind-preserved g c =
       hold = told.hold ∙ before.hold;
       fault = told.fault ∙ before.fault;
     }
+
+pub returns-in_err-extend_from_slice-clause-cut : goal.returns-in_err-extend_from_slice-clause-cut
+returns-in_err-extend_from_slice-clause-cut g c = OnErr-known c.from_residual.result (_, c.looks_are_one_look.ensures.no_look _, inl refl)
+
+pub returns-in_err-put_count-clause-cut : goal.returns-in_err-put_count-clause-cut
+returns-in_err-put_count-clause-cut g c =
+    let cut = c.in_err-put_count.ensures.cut in
+    OnErr-known c.from_residual-in_err-put_count.result
+    (cut.0, c.looks_are_one_look.ensures.another _ _ _ c.loop-kind.invariant.looked cut.1, cut.2)
+
+pub returns-in_err-push-clause-cut : goal.returns-in_err-push-clause-cut
+returns-in_err-push-clause-cut g c = OnErr-known c.from_residual-in_err-push.result (_, c.loop-kind.invariant.looked, inl refl)

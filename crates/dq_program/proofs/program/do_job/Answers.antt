@@ -1,11 +1,27 @@
-use Rattle.std.proofs.Common.{◌≡◌}
-use Rattle.dq_words.specs.Words.{Request, Plays, request_in}
+use Rattle.dq_program.proofs.Ends.{both-ok, all-ok}
 use Rattle.dq_program.proofs.program.do_job.Goals as goal
 
-one_request : (one other : Request) → Plays one ≡ Plays other → one ≡ other
-one_request one other is = cc
+pub returns-in-Play-clause-done : goal.returns-in-Play-clause-done
+returns-in-Play-clause-done g c = rw c.in-Play.is c.play.ensures.done
 
-pub returns-in-Play-clause-closed : goal.returns-in-Play-clause-closed
-returns-in-Play-clause-closed g c = λ request is.
-    let same : request_in c.in-Play.asked ≡ request = one_request _ _ (rw c.in-Play.is at is) in
-    rw (← same) c.play.ensures.closed
+pub returns-in-Play-clause-stops : goal.returns-in-Play-clause-stops
+returns-in-Play-clause-stops g c = rw c.in-Play.is c.play.ensures.stops
+
+pub returns-in-Serve-clause-done : goal.returns-in-Serve-clause-done
+returns-in-Serve-clause-done g c =
+    rw c.in-Serve.is (all-ok _ _ _ c.serve.result c.serve.ensures.ready c.serve.ensures.served c.serve.ensures.closed)
+
+pub returns-in-Serve-clause-stops : goal.returns-in-Serve-clause-stops
+returns-in-Serve-clause-stops g c = rw c.in-Serve.is c.serve.ensures.stops
+
+pub returns-in-Loop-clause-done : goal.returns-in-Loop-clause-done
+returns-in-Loop-clause-done g c = rw c.in-Loop.is c.loop_over.ensures.done
+
+pub returns-in-Loop-clause-stops : goal.returns-in-Loop-clause-stops
+returns-in-Loop-clause-stops g c = rw c.in-Loop.is c.loop_over.ensures.ends
+
+pub returns-in-Migrate-clause-done : goal.returns-in-Migrate-clause-done
+returns-in-Migrate-clause-done g c = rw c.in-Migrate.is (both-ok _ _ c.migrate.result c.migrate.ensures.done c.migrate.ensures.made)
+
+pub returns-in-Migrate-clause-stops : goal.returns-in-Migrate-clause-stops
+returns-in-Migrate-clause-stops g c = rw c.in-Migrate.is c.migrate.ensures.ends

@@ -1,4 +1,4 @@
-use Rattle.std.proofs.Common.{◌≡◌, inr, refl}
+use Rattle.std.proofs.Common.{◌≡◌, inl, inr, refl}
 use Rattle.dq_core.specs.Shared.{world_after}
 use Rattle.dq_words.specs.Words.{place_in}
 use Rattle.dq_program.specs.Program.{IsInStore, unclosed}
@@ -34,7 +34,7 @@ pub returns-in_ok-close-in-New-clause-closed : goal.returns-in_ok-close-in-New-c
 returns-in_ok-close-in-New-clause-closed g c = λ is_in. (
   _,
   c.in_ok-close-in-New.ensures,
-  rw c.in-New.is (of_new (λ rows. _ ≡ (world_after c.args.config rows c.args.events.items).rows)
+  rw c.in-New.is (of_new (λ rows. _ ≡ (world_after c.args.history.config rows c.args.history.events.items).rows)
       (g.Rt.File.Tables.state c.in_ok-tables-in-New.tables).rows
       c.in_ok-filled-in-New.ensures.kept _ (λ rows known. g.met.Rt.Stores.known_is_honest c.args.rt.now _ rows known)
       c.in_ok-tables-in-New.ensures.rows),
@@ -44,8 +44,18 @@ pub returns-in_ok-close-in-Found-clause-closed : goal.returns-in_ok-close-in-Fou
 returns-in_ok-close-in-Found-clause-closed g c = λ is_in. (
   _,
   c.in_ok-close-in-Found.ensures,
-  rw c.in-Found.is (of_found (λ rows. _ ≡ (world_after c.args.config rows c.args.events.items).rows)
+  rw c.in-Found.is (of_found (λ rows. _ ≡ (world_after c.args.history.config rows c.args.history.events.items).rows)
       (g.Rt.File.Tables.state c.in_ok-tables-in-Found.tables).rows
       c.in_ok-kept-in-Found.ensures.kept _ (λ rows known. g.met.Rt.Stores.known_is_honest c.args.rt.now _ rows known)
       c.in_ok-tables-in-Found.ensures.rows),
 )
+
+pub returns-in_err-kept-in-Found-clause-stops : goal.returns-in_err-kept-in-Found-clause-stops
+returns-in_err-kept-in-Found-clause-stops g c =
+    if_error _ c.from_residual-in_err-kept-in-Found.result _ c.from_residual-in_err-kept-in-Found.ensures.1
+    (inr (inl (
+      c.in_err-kept-in-Found.ensures.ends,
+      rw c.in-Found.is (of_found _ (g.Rt.File.Tables.state c.in_ok-tables-in-Found.tables).rows
+          c.in_err-kept-in-Found.ensures.cut _ (λ rows known. g.met.Rt.Stores.known_is_honest c.args.rt.now _ rows known)
+          c.in_ok-tables-in-Found.ensures.rows),
+    )))

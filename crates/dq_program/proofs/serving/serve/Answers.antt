@@ -1,5 +1,10 @@
-use Rattle.std.proofs.Common.{inr, refl}
-use Rattle.dq_program.specs.Program.{unclosed}
+use Rattle.std.proofs.Common.{IfSome, inr, refl}
+use Rattle.std.specs.Option.{option_copied}
+use Rattle.dq_words.specs.Words.{place_in}
+use Rattle.dq_program.specs.declared.stop.Stop.{Stop}
+use Rattle.dq_program.specs.Program.{unclosed, rows_at, AreHonest}
+use Rattle.dq_program.specs.Serving.{turn_count, ServedUpTo}
+use Rattle.dq_program.proofs.Ends.{ends-so}
 use Rattle.dq_program.proofs.Inputs.{if_error}
 use Rattle.dq_program.proofs.Storing.{of_new, of_found}
 use Rattle.dq_program.proofs.serving.serve.Goals as goal
@@ -7,7 +12,7 @@ use Rattle.dq_program.proofs.serving.serve.Goals as goal
 pub returns-in_err-close-in-New-clause-stops : goal.returns-in_err-close-in-New-clause-stops
 returns-in_err-close-in-New-clause-stops g c =
     if_error _ c.from_residual-in_err-close-in-New.result unclosed c.from_residual-in_err-close-in-New.ensures.1
-    (inr ((_, c.in_ok-config.ensures.read), inr (refl, c.in_ok-filled-in-New.ensures.ready)))
+    (inr (_, c.in_ok-config.ensures.read, inr (refl, c.in_ok-filled-in-New.ensures.ready)))
 
 pub returns-in_ok-close-in-New-clause-served : goal.returns-in_ok-close-in-New-clause-served
 returns-in_ok-close-in-New-clause-served g c =
@@ -23,7 +28,7 @@ returns-in_ok-close-in-New-clause-served g c =
 pub returns-in_err-close-in-Found-clause-stops : goal.returns-in_err-close-in-Found-clause-stops
 returns-in_err-close-in-Found-clause-stops g c =
     if_error _ c.from_residual-in_err-close-in-Found.result unclosed c.from_residual-in_err-close-in-Found.ensures.1
-    (inr ((_, c.in_ok-config.ensures.read), inr (refl, c.in_ok-kept-in-Found.ensures.ready)))
+    (inr (_, c.in_ok-config.ensures.read, inr (refl, c.in_ok-kept-in-Found.ensures.ready)))
 
 pub returns-in_ok-close-in-Found-clause-served : goal.returns-in_ok-close-in-Found-clause-served
 returns-in_ok-close-in-Found-clause-served g c =
@@ -35,3 +40,59 @@ returns-in_ok-close-in-Found-clause-served g c =
           (λ honest. rw (server.institutions, server.tables) at (c.in_ok-kept-in-Found.ensures.served honest)) _
           (λ known is. g.met.Rt.Stores.known_is_honest c.args.rt.now _ known is) c.in_ok-store-in-Found.ensures.rows),
     )
+
+pub returns-in_err-serve_by-in-Memory-clause-stops : goal.returns-in_err-serve_by-in-Memory-clause-stops
+returns-in_err-serve_by-in-Memory-clause-stops g c =
+    let server = c.in_ok-server-in-Memory.ensures in
+    let state = g.Rt.Memory.Tables.state in
+    let IsSo : Stop → Type 0 = λ (why : Stop). AreHonest state → ServedUpTo g.Rt.Wired.Wires.log (g.Rt.Network.may_break c.args.rt.now)
+    c.in_ok-server-in-Memory.server.institutions (state c.in_ok-server-in-Memory.server.tables).rows (turn_count c.args.service.turns)
+    (option_copied c.args.service.console) why in
+    let IsAlso : Stop → Type 0 = λ (why : Stop). IfSome (rows_at (g.Rt.Stores.stored c.args.rt.now) (place_in c.args.service.keeper)) (λ rows.
+    ServedUpTo g.Rt.Wired.Wires.log (g.Rt.Network.may_break c.args.rt.now) c.in_ok-config.config rows (turn_count c.args.service.turns)
+    (option_copied c.args.service.console) why) in
+    if_error _ c.from_residual-in_err-serve_by-in-Memory.result _ c.from_residual-in_err-serve_by-in-Memory.ensures.1
+    (inr (
+      _,
+      c.in_ok-config.ensures.read,
+      inr (ends-so _ (g.W.Sink.may_fail c.args.output.now) _ _ c.args.service.port IsSo IsAlso (λ why so.
+          rw c.in-Memory.is (rw (server.institutions, server.tables, c.in_ok-memory-in-Memory.ensures.rows) at (so g.met.Rt.Stores.memory_is_honest))) _ c.in_err-serve_by-in-Memory.ensures.ends),
+    ))
+
+pub returns-in_err-filled-in-New-clause-stops : goal.returns-in_err-filled-in-New-clause-stops
+returns-in_err-filled-in-New-clause-stops g c =
+    let server = c.in_ok-server-in-New.ensures in
+    let state = g.Rt.File.Tables.state in
+    let IsSo : Stop → Type 0 = λ (why : Stop). AreHonest state → ServedUpTo g.Rt.Wired.Wires.log (g.Rt.Network.may_break c.args.rt.now)
+    c.in_ok-server-in-New.server.institutions (state c.in_ok-server-in-New.server.tables).rows (turn_count c.args.service.turns)
+    (option_copied c.args.service.console) why in
+    let IsAlso : Stop → Type 0 = λ (why : Stop). IfSome (rows_at (g.Rt.Stores.stored c.args.rt.now) (place_in c.args.service.keeper)) (λ rows.
+    ServedUpTo g.Rt.Wired.Wires.log (g.Rt.Network.may_break c.args.rt.now) c.in_ok-config.config rows (turn_count c.args.service.turns)
+    (option_copied c.args.service.console) why) in
+    if_error _ c.from_residual-in_err-filled-in-New.result _ c.from_residual-in_err-filled-in-New.ensures.1
+    (inr (
+      _,
+      c.in_ok-config.ensures.read,
+      inr (ends-so _ (g.W.Sink.may_fail c.args.output.now) _ _ c.args.service.port IsSo IsAlso (λ why so.
+          rw c.in-New.is (of_new _ (state c.in_ok-new_store-in-New.field-0).rows (λ honest. rw (server.institutions, server.tables) at (so honest)) _
+          (λ known is. g.met.Rt.Stores.known_is_honest c.args.rt.now _ known is) c.in_ok-new_store-in-New.ensures.rows)) _ c.in_err-filled-in-New.ensures.ends),
+    ))
+
+pub returns-in_err-kept-in-Found-clause-stops : goal.returns-in_err-kept-in-Found-clause-stops
+returns-in_err-kept-in-Found-clause-stops g c =
+    let server = c.in_ok-server-in-Found.ensures in
+    let state = g.Rt.File.Tables.state in
+    let IsSo : Stop → Type 0 = λ (why : Stop). AreHonest state → ServedUpTo g.Rt.Wired.Wires.log (g.Rt.Network.may_break c.args.rt.now)
+    c.in_ok-server-in-Found.server.institutions (state c.in_ok-server-in-Found.server.tables).rows (turn_count c.args.service.turns)
+    (option_copied c.args.service.console) why in
+    let IsAlso : Stop → Type 0 = λ (why : Stop). IfSome (rows_at (g.Rt.Stores.stored c.args.rt.now) (place_in c.args.service.keeper)) (λ rows.
+    ServedUpTo g.Rt.Wired.Wires.log (g.Rt.Network.may_break c.args.rt.now) c.in_ok-config.config rows (turn_count c.args.service.turns)
+    (option_copied c.args.service.console) why) in
+    if_error _ c.from_residual-in_err-kept-in-Found.result _ c.from_residual-in_err-kept-in-Found.ensures.1
+    (inr (
+      _,
+      c.in_ok-config.ensures.read,
+      inr (ends-so _ (g.W.Sink.may_fail c.args.output.now) _ _ c.args.service.port IsSo IsAlso (λ why so.
+          rw c.in-Found.is (of_found _ (state c.in_ok-store-in-Found.field-0).rows (λ honest. rw (server.institutions, server.tables) at (so honest)) _
+          (λ known is. g.met.Rt.Stores.known_is_honest c.args.rt.now _ known is) c.in_ok-store-in-Found.ensures.rows)) _ c.in_err-kept-in-Found.ensures.ends),
+    ))

@@ -1,5 +1,6 @@
 use Rattle.std.proofs.Common.{◌≡◌, arith}
-use Rattle.dq_program.proofs.Rounded.{rounds-none, rounds-then, plain-then, rounds-cut, at-error}
+use Rattle.dq_program.proofs.Inputs.{if_error}
+use Rattle.dq_program.proofs.Rounded.{rounds-none, rounds-then, plain-then, plain-then-cut, rounds-cut}
 use Rattle.dq_program.proofs.serving.serve_alone.Goals as goal
 
 pub loop-turn-init : goal.loop-turn-init
@@ -13,10 +14,11 @@ loop-turn-preserved g c = record {
 
 pub returns-in_err-turn_noted-clause-cut : goal.returns-in_err-turn_noted-clause-cut
 returns-in_err-turn_noted-clause-cut g c =
-    at-error c.from_residual.result (rounds-cut g.T.Tables.state plain-then (omega (arith, c.loop-turn-test.true)) c.loop-turn.invariant.went
+    if_error _ c.from_residual.result _ c.from_residual.ensures.1
+    (rounds-cut g.T.Tables.state plain-then-cut (omega (arith, c.loop-turn-test.true)) c.loop-turn.invariant.went
     c.in_err-turn_noted.ensures.cut)
 
 pub returns : goal.returns
 returns g c =
     let all : c.loop-turn._turn ≡ c.args.pace.turns = omega (arith, c.loop-turn-test.false) in
-    record { went = rw (← all) c.loop-turn.invariant.went; cut = tt; stops = tt }
+    record { went = rw (← all) c.loop-turn.invariant.went; cut = tt }

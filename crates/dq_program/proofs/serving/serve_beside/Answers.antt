@@ -1,5 +1,6 @@
 use Rattle.std.proofs.Common.{◌≡◌, arith}
-use Rattle.dq_program.proofs.Rounded.{rounds-none, rounds-then, beside-then, beside-none}
+use Rattle.dq_program.proofs.Inputs.{if_error}
+use Rattle.dq_program.proofs.Rounded.{rounds-none, rounds-then, rounds-cut, beside-then, beside-then-cut, beside-none}
 use Rattle.dq_program.proofs.serving.serve_beside.Goals as goal
 
 pub loop-turn-init : goal.loop-turn-init
@@ -14,4 +15,10 @@ loop-turn-preserved g c = record {
 pub returns : goal.returns
 returns g c =
     let all : c.loop-turn._turn ≡ c.args.pace.turns = omega (arith, c.loop-turn-test.false) in
-    record { went = rw (← all) c.loop-turn.invariant.went; stops = tt }
+    record { went = rw (← all) c.loop-turn.invariant.went; cut = tt }
+
+pub returns-in_err-turn_noted_beside-clause-cut : goal.returns-in_err-turn_noted_beside-clause-cut
+returns-in_err-turn_noted_beside-clause-cut g c =
+    if_error _ c.from_residual.result _ c.from_residual.ensures.1
+    (rounds-cut g.T.Tables.state beside-then-cut (omega (arith, c.loop-turn-test.true)) c.loop-turn.invariant.went
+    c.in_err-turn_noted_beside.ensures.cut)

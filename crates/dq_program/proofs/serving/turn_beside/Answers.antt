@@ -1,4 +1,6 @@
-use Rattle.dq_program.proofs.Rounded.{beside-round}
+use Rattle.std.proofs.Common.{rules}
+use Rattle.dq_program.proofs.Inputs.{if_error}
+use Rattle.dq_program.proofs.Rounded.{beside-round, beside-cut-none, beside-cut-whole, cut-turn, cut-after, cut-console}
 use Rattle.dq_program.proofs.serving.turn_beside.Goals as goal
 
 pub returns-clause-went : goal.returns-clause-went
@@ -11,3 +13,25 @@ returns-clause-went g c =
       c.take_notes-notes.ensures.callers,
     ) (beside-round g.T.Tables.state {mid = c.turn_told.new.turner} c.calls_are_a_serving.ensures.turns c.in_ok-turn.ensures.went
     c.in_ok-turn_told.ensures.went c.in_ok-turn_told.ensures.fault)
+
+pub returns-in_err-turn_told-clause-cut : goal.returns-in_err-turn_told-clause-cut
+returns-in_err-turn_told-clause-cut g c =
+    if_error _ c.from_residual.result _ c.from_residual.ensures.1
+    (cut-turn g.T.Tables.state c.turn_told.new.turner (beside-cut-none _ _) c.calls_are_a_serving.ensures.cut c.in_err-turn_told.ensures.cut)
+
+pub returns-in_err-turn-clause-cut : goal.returns-in_err-turn-clause-cut
+returns-in_err-turn-clause-cut g c =
+    if_error _ c.from_residual-in_err-turn.result _ c.from_residual-in_err-turn.ensures.1
+    (cut-console g.T.Tables.state {mid = c.turn_told.new.turner} c.calls_are_a_serving.ensures.turns c.calls_are_a_serving.ensures.whole
+    c.in_err-turn.ensures.cut c.in_err-turn.ensures.stops c.in_ok-turn_told.ensures.went c.in_ok-turn_told.ensures.fault)
+
+pub returns-then-is_err-clause-cut : goal.returns-then-is_err-clause-cut
+returns-then-is_err-clause-cut g c =
+    rw (
+      c.rest_with.ensures.same,
+      c.note.ensures,
+      c.rest_with.ensures.beside,
+      c.take_notes-notes.ensures.wires,
+    ) (cut-after g.T.Tables.state {new = c.turn.new.turner} beside-cut-whole c.calls_are_a_serving.ensures.whole (search rules)
+    (beside-round g.T.Tables.state {mid = c.turn_told.new.turner} c.calls_are_a_serving.ensures.turns c.in_ok-turn.ensures.went
+    c.in_ok-turn_told.ensures.went c.in_ok-turn_told.ensures.fault))

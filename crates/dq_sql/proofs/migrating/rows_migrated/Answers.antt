@@ -26,3 +26,6 @@ returns-clause-migrated g c clean = record {
   found = c.in_ok-rows.ensures.found clean;
   is = c.in_ok-start_named.ensures.done;
 }
+
+pub returns-clause-sound : goal.returns-clause-sound
+returns-clause-sound g c = c.in_ok-start_named.ensures.sound

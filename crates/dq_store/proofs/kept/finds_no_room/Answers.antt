@@ -1,9 +1,11 @@
-use Rattle.std.proofs.Common.{◌∙◌, sym}
-use Rattle.dq_tables.proofs.Seen.{counted_own}
+use Rattle.std.proofs.Common.{sym, ◌∙◌}
+use Rattle.dq_archive.proofs.Looking.{looks_as}
 use Rattle.dq_store.proofs.Records.{no_room}
 use Rattle.dq_store.proofs.kept.finds_no_room.Goals as goal
 
-pub returns-clause-found : goal.returns-clause-found
-returns-clause-found g c = λ h.
-    no_room c.args.level.now.kept.now c.args.level.now.limit c.from.result c.in_ok-count.count _ (sym c.is_some.ensures ∙ c.if-is_some.false) c.from.ensures
-    (c.in_ok-count.ensures.found h ∙ counted_own c.args.level.now.kind c.args.name.now (g.T.Tables.state c.args.tables.now).rows)
+pub returns : goal.returns
+returns g c =
+    let level = c.args.level.now in
+    looks_as g.T.Tables.state c.args.archive.now c.count.new.self _ c.in_ok-count.count c.in_ok-count.ensures _ _
+    (λ h. no_room level.kept.now level.limit c.from.result c.in_ok-count.count _ (sym c.is_some.ensures ∙ c.if-is_some.false) c.from.ensures
+    (c.in_ok-count.ensures.answered h))

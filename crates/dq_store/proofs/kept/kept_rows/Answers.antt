@@ -1,18 +1,24 @@
-use Rattle.std.proofs.Common.{◌∙◌}
-use Rattle.dq_tables.specs.declared.row.Kind.TheVariants.{Study, Series, Image}
-use Rattle.dq_store.proofs.Records.{found_before}
+use Rattle.std.proofs.Common.{◌∙◌, Ok, ap, option_map}
+use Rattle.dq_tables.specs.declared.row.Kind.TheVariants.{Series, Image}
+use Rattle.dq_tables.specs.Rows.{row_of}
+use Rattle.dq_tables.specs.Finding.{record_at}
+use Rattle.dq_archive.specs.Archives.{records_in}
+use Rattle.dq_archive.proofs.Looking.{looks_then, looks_as}
 use Rattle.dq_store.proofs.kept.kept_rows.Goals as goal
 
-pub returns-clause-found : goal.returns-clause-found
-returns-clause-found g c = λ h.
-    let name = c.args.name.now in
+pub returns : goal.returns
+returns g c =
+    let state = g.T.Tables.state in
+    let old = c.args.archive.now in
+    let records = records_in state old in
     let sent = c.args.sent.now in
-    let before_image = c.in_ok-image.ensures.reads.goes.was_honest h in
-    let before_series = c.in_ok-series.ensures.reads.goes.was_honest before_image in
-    let first = c.in_ok-study.ensures.reads.same before_series in
-    let second = c.in_ok-series.ensures.reads.same before_image ∙ first in
-    let old = (g.T.Tables.state c.args.tables.now).rows in
-    let study = found_before Study name sent.study.now _ old c.in_ok-study.study (c.in_ok-study.ensures.found before_series) (λ i. old) in
-    let series = found_before Series name sent.series.now _ old c.in_ok-series.series (c.in_ok-series.ensures.found before_image) first in
-    let image = found_before Image name sent.image.now _ old c.in_ok-image.image (c.in_ok-image.ensures.found h) second in
-    λ i. record { study = study i; series = series i; image = image i }
+    let first = c.in_ok-study.ensures in
+    let second = looks_then state old c.row.new.self c.row-2.new.self _ c.in_ok-study.study first _ (Ok c.in_ok-series.series) c.in_ok-series.ensures in
+    let third = looks_then state old c.row-2.new.self c.row-3.new.self _ c.in_ok-series.series second _ (Ok c.in_ok-image.image) c.in_ok-image.ensures in
+    looks_as state old c.row-3.new.self _ c.in_ok-image.image third _ _
+    (λ h.
+    let was = c.in_ok-image.ensures.reads.goes.was_honest h in
+    let study = first.answered (c.in_ok-series.ensures.reads.goes.was_honest was) in
+    let series = second.answered was ∙ ap (λ i. option_map (row_of i.now.name) (record_at Series sent.series.now records)) first.same.institution in
+    let image = third.answered h ∙ ap (λ i. option_map (row_of i.now.name) (record_at Image sent.image.now records)) second.same.institution in
+    λ j. record { study = study j; series = series j; image = image j })

@@ -1,4 +1,5 @@
 use Rattle.std.proofs.Common.{ap, ◌∙◌}
+use Rattle.dq_captures.proofs.Written.{OnErr-known}
 use Rattle.dq_program.proofs.Visiting.{heeded-line}
 use Rattle.dq_program.proofs.desk.Clerk.heed.Goals as goal
 
@@ -8,3 +9,13 @@ returns-else-not-branch-clause-went g c =
     heeded-line g.T.Tables.state {new = c.obey.new.turner} {next = c.send.new.self} next.0 next.1 next.2 next.3
     (ap g.W.Wires.log c.obey.ensures.wires ∙ next.4)
     (rw (c.if-not-branch.false, c.as_slice.ensures.value) at c.in_ok-obey-in-Line.ensures.does) c.send.ensures
+
+pub returns-in_err-obey-in-Line-clause-cut : goal.returns-in_err-obey-in-Line-clause-cut
+returns-in_err-obey-in-Line-clause-cut g c =
+    let next = c.in-Line.ensures in
+    OnErr-known c.from_residual.result (
+      next.0,
+      next.1,
+      ap g.W.Wires.log c.obey.ensures.wires ∙ next.4,
+      rw (c.as_slice.ensures.value, next.2) at c.in_err-obey-in-Line.ensures.cut,
+    )

@@ -1,4 +1,5 @@
-use Rattle.dq_program.proofs.Serviced.{does-line}
+use Rattle.dq_captures.proofs.Written.{OnErr-known}
+use Rattle.dq_program.proofs.Serviced.{does-line, line-halted}
 use Rattle.dq_program.proofs.desk.Clerk.obey.Goals as goal
 
 pub returns-clause-does : goal.returns-clause-does
@@ -7,3 +8,8 @@ returns-clause-does g c =
     does-line g.T.Tables.state answered.hold answered.fault _ c.as_slice-names.result.now c.args.octets.now _ _ _ _ c.calls_are_a_serving.ensures.order
     c.calls_are_a_serving.ensures.look c.put.ensures _ c.in-Ok.ensures.told c.in-Ok.ensures.orders
     c.is_bad-is_last.ensures answered.answered
+
+pub returns-in_err-answer-clause-cut : goal.returns-in_err-answer-clause-cut
+returns-in_err-answer-clause-cut g c =
+    OnErr-known c.from_residual.result (line-halted g.T.Tables.state c.args.octets.now c.calls_are_a_serving.ensures.order
+    c.calls_are_a_serving.ensures.look _ c.in-Ok.ensures.told c.in-Ok.ensures.orders c.in_err-answer.ensures.cut)

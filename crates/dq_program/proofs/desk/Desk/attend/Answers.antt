@@ -1,5 +1,6 @@
 use Rattle.std.proofs.Common.{◌<◌, length, arith}
-use Rattle.dq_program.proofs.Visiting.{visits-begin, visits-end, visits-kept, visits-gone}
+use Rattle.dq_captures.proofs.Written.{OnErr-known}
+use Rattle.dq_program.proofs.Visiting.{visits-begin, visits-end, visits-kept, visits-gone, visits-halted}
 use Rattle.dq_program.proofs.desk.Desk.attend.Goals as goal
 
 pub loop-at-init : goal.loop-at-init
@@ -22,3 +23,9 @@ loop-at-preserved-then-branch g c =
 
 pub returns-clause-went : goal.returns-clause-went
 returns-clause-went g c = visits-end g.T.Tables.state c.loop-at.invariant.so (omega (arith, c.loop-at.self.callers.ok.0))
+
+pub returns-in_err-visit-clause-cut : goal.returns-in_err-visit-clause-cut
+returns-in_err-visit-clause-cut g c =
+    let within : c.loop-at.at < length c.loop-at.self.callers.items = omega (arith, c.loop-at.self.callers.ok.0) in
+    OnErr-known c.from_residual.result
+    (visits-halted g.T.Tables.state c.loop-at.invariant.so within _ c.index_mut.ensures.value c.in_err-visit.ensures.cut)

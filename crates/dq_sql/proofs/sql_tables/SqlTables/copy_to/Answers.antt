@@ -24,7 +24,7 @@ returns-in-Ok-fill_store-clause-made g c clean after =
     let old = state g.S.Store it.conn in
     let before : HasCleanDisk old = omega (arith, c.kept_rows.ensures.stays.survives.clean) in
     let same = same_rows old c.in-Ok.rows.items it.history.rows it.keeps before (c.in-Ok.ensures.found clean) in
-    subst (IsFilled (state g.T.Store c.fill_store.new.conn)) (c.as_slice.ensures.value ∙ same) (c.in-Ok-fill_store.ensures.made after)
+    subst (IsFilled (state g.S.Store c.fill_store.new.conn)) (c.as_slice.ensures.value ∙ same) (c.in-Ok-fill_store.ensures.made after)
 
 pub returns-clause-refused : goal.returns-clause-refused
 returns-clause-refused g c clean =
@@ -32,7 +32,7 @@ returns-clause-refused g c clean =
     let old = state g.S.Store it.conn in
     let before : HasCleanDisk old = omega (arith, c.kept_rows.ensures.stays.survives.clean) in
     let same = same_rows old c.in-Ok.rows.items it.history.rows it.keeps before (c.in-Ok.ensures.found clean) in
-    let new = state g.T.Store c.args.new in
-    let left = state g.T.Store c.fill_store.new.conn in
+    let new = state g.S.Store c.args.new in
+    let left = state g.S.Store c.fill_store.new.conn in
     subst (IsNotMade new left) (c.as_slice.ensures.value ∙ same)
     (not_made new left c.as_slice.result.now c.fill_store.ensures.survives c.fill_store.ensures.mode c.in-Err-fill_store.ensures.same)

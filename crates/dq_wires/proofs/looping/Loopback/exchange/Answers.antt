@@ -1,12 +1,12 @@
 use Rattle.std.proofs.Common.{refl}
-use Rattle.dq_wires.proofs.Playing.{serves-none, serves-then}
+use Rattle.dq_wires.proofs.Playing.{acts-none, acts-then}
 use Rattle.dq_wires.proofs.looping.Loopback.exchange.Goals as goal
 
 pub turns-init : goal.turns-init
-turns-init g c = record { serves = serves-none _ _ c.requires; number = refl }
+turns-init g c = record { acts = acts-none _ _ c.requires; number = refl }
 
 pub turns-preserved : goal.turns-preserved
-turns-preserved g c = record { serves = serves-then c.turns.invariant.serves c.in_ok-turn.ensures.serves; number = c.turns.invariant.number }
+turns-preserved g c = record { acts = acts-then c.turns.invariant.acts c.in_ok-turn.ensures.acts; number = c.turns.invariant.number }
 
 pub turn-requires : goal.turn-requires
-turn-requires g c = c.turns.invariant.serves.working
+turn-requires g c = c.turns.invariant.acts.2.working

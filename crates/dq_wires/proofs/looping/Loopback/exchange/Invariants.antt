@@ -1,10 +1,10 @@
 use Rattle.std.proofs.Common.{◌≡◌, []}
-use Rattle.dq_wires.specs.Looping.{ServesOn}
+use Rattle.dq_wires.specs.Looping.{ActsOn}
 use Rattle.dq_wires.proofs.looping.Loopback.exchange.Given as goal
 
 abbrev pub invariant-turns : goal.invariant-turns
 invariant-turns g l = record {
-  serves : ServesOn g.T.Tables.state (g.W.Wires.log l.fn.self.wires.wires) (g.W.Wires.log l.self.wires.wires) l.fn.self.turner l.self.turner [];
+  acts : ActsOn g.T.Tables.state (g.W.Wires.log l.fn.self.wires.wires) (g.W.Wires.log l.self.wires.wires) l.fn.self.turner l.self.turner [];
   number : l.line.number ≡ l.fn.line.number;
 }
 

@@ -1,0 +1,122 @@
+//! One institution's part of the rows that tables keep.
+ghost use Rattle.std.specs.Prelude.{◌≡◌, is_some, length, map, option_map};
+ghost use Rattle.dq_tables.specs.Rows.{row_of};
+ghost use Rattle.dq_tables.specs.Finding.{record_at, records_of, records_above, waiting_among};
+ghost use Rattle.dq_tables.specs.Choosing.{studies_among};
+ghost use Rattle.dq_tables.specs.Serving.{Serves};
+ghost use Rattle.dq_archive.specs.Archives.{IsOver, IsSame, state_in, Looks};
+ghost use Rattle.dq_archive.specs.Deciding.{outcome_of, IsOwn, FitsIf};
+
+use crate::decision::Decision;
+use dq_config::Institution;
+use dq_list::Listed;
+use dq_tables::{Choice, Kind, Row, TableFault, Tables, make_change};
+use std::alloc::Global;
+
+/// One institution's records, among the rows of several that tables keep. They are looked up here,
+/// and `carry_out` alone changes them.
+#[derive(Drop)]
+pub struct Archive<'a, T> {
+    pub alloc: Global,
+    pub institution: &'a Institution,
+    tables: &'a mut T,
+}
+
+impl<'a, T: Tables> Archive<'a, T> {
+    /// The archive of an institution.
+    pub fn new(alloc: Global, tables: &'a mut T, institution: &'a Institution) -> Archive<'a, T>
+        ensures tables { IsOver tables.entry result }
+        ensures institution { result.institution ≡ institution.entry }
+    {
+        Archive {
+            alloc,
+            institution,
+            tables,
+        }
+    }
+
+    /// Whether a record of a kind has the key.
+    pub fn has(&mut self, kind: Kind, key: &[u8]) -> Result<bool, TableFault>
+        ensures { Looks T.state self.old self.new
+            (λ records. is_some (record_at kind key.now records)) result }
+    {
+        let row = self.row(kind, key)?;
+        Ok(row.is_some())
+    }
+
+    /// The record of a kind with the key, as a row.
+    pub fn row(&mut self, kind: Kind, key: &[u8]) -> Result<Option<Row>, TableFault>
+        ensures { Looks T.state self.old self.new (λ records.
+            option_map (row_of self.old.institution.now.name) (record_at kind key.now records))
+            result }
+    {
+        let name = self.institution.name.as_slice();
+        self.tables.row(self.alloc, kind, name, key)
+    }
+
+    /// How many records of a kind there are.
+    pub fn count(&mut self, kind: Kind) -> Result<u64, TableFault>
+        ensures { Looks T.state self.old self.new
+            (λ records. length (records_of kind records)) result }
+    {
+        let name = self.institution.name.as_slice();
+        self.tables.count(self.alloc, kind, name)
+    }
+
+    /// The records of a kind under the record with the key `above`, as rows in the order of their
+    /// keys.
+    pub fn rows_above(&mut self, kind: Kind, above: &[u8]) -> Result<Listed<Row>, TableFault>
+        ensures { Looks T.state self.old self.new (λ records.
+            map (row_of self.old.institution.now.name) (records_above kind above.now records))
+            result }
+    {
+        let name = self.institution.name.as_slice();
+        self.tables.rows_above(self.alloc, kind, name, above)
+    }
+
+    /// How many records of a kind there are under the record with the key `above`.
+    pub fn count_above(&mut self, kind: Kind, above: &[u8]) -> Result<u64, TableFault>
+        ensures { Looks T.state self.old self.new
+            (λ records. length (records_above kind above.now records)) result }
+    {
+        let name = self.institution.name.as_slice();
+        self.tables.count_above(self.alloc, kind, name, above)
+    }
+
+    /// The studies that a choice takes, as rows in the order of their keys.
+    pub fn studies_in(&mut self, choice: &Choice) -> Result<Listed<Row>, TableFault>
+        ensures { Looks T.state self.old self.new (λ records.
+            map (row_of self.old.institution.now.name) (studies_among choice.now records)) result }
+    {
+        let name = self.institution.name.as_slice();
+        self.tables.studies_in(self.alloc, name, choice)
+    }
+
+    /// The worklist entries that wait, as rows: no performed procedure step has started them (PS3.4
+    /// section K.6.1.2).
+    pub fn waiting(&mut self) -> Result<Listed<Row>, TableFault>
+        ensures { Looks T.state self.old self.new (λ records.
+            map (row_of self.old.institution.now.name) (waiting_among records)) result }
+    {
+        let name = self.institution.name.as_slice();
+        self.tables.waiting(self.alloc, name)
+    }
+
+    /// Makes the change of a decision, whole or not at all, and gives the answer. The records of
+    /// every other institution stay.
+    pub fn carry_out<A: Drop>(&mut self, decision: Decision<A>) -> Result<A, TableFault>
+        requires own { IsOwn self.old.institution.now.name decision.change }
+        requires fits { (state_in T.state self.old).honest
+            → FitsIf (state_in T.state self.old).rows decision.change }
+        ensures same { IsSame self.old self.new }
+        ensures serves { Serves (state_in T.state self.old) (state_in T.state self.new)
+            self.old.institution.now.name (λ _. outcome_of decision) result }
+    {
+        let Decision { answer, change } = decision;
+        let Some(change) = change else {
+            return Ok(answer);
+        };
+        make_change(self.alloc, self.tables, change)?;
+        Ok(answer)
+    }
+}

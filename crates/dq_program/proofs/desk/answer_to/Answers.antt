@@ -1,0 +1,22 @@
+use Rattle.std.proofs.Common.{inl, inr, refl}
+use Rattle.dq_captures.proofs.Written.{OnErr-known}
+use Rattle.dq_program.proofs.desk.answer_to.Goals as goal
+
+pub returns-in_err-reply-in-Order-clause-cut : goal.returns-in_err-reply-in-Order-clause-cut
+returns-in_err-reply-in-Order-clause-cut g c =
+    OnErr-known c.from_residual.result (rw c.in-Order.is (inl (_, c.in_err-reply-in-Order.ensures.fails)))
+
+pub returns-in_err-printed_line-in-Order-clause-cut : goal.returns-in_err-printed_line-in-Order-clause-cut
+returns-in_err-printed_line-in-Order-clause-cut g c =
+    OnErr-known c.from_residual-in_err-printed_line-in-Order.result (rw c.in-Order.is (inr (_, c.in_ok-reply-in-Order.ensures.stepped)))
+
+pub returns-in_err-report-in-Report-clause-cut : goal.returns-in_err-report-in-Report-clause-cut
+returns-in_err-report-in-Report-clause-cut g c =
+    OnErr-known c.from_residual-in_err-report-in-Report.result (rw c.in-Report.is c.in_err-report-in-Report.ensures.cut)
+
+pub returns-in_err-back_up-in-Backup-clause-cut : goal.returns-in_err-back_up-in-Backup-clause-cut
+returns-in_err-back_up-in-Backup-clause-cut g c =
+    OnErr-known c.from_residual-in_err-back_up-in-Backup.result (rw c.in-Backup.is c.in_err-back_up-in-Backup.ensures.cut)
+
+pub returns-in_err-from_slice-in-Bad-clause-cut : goal.returns-in_err-from_slice-in-Bad-clause-cut
+returns-in_err-from_slice-in-Bad-clause-cut g c = OnErr-known c.from_residual-in_err-from_slice-in-Bad.result (rw c.in-Bad.is refl)

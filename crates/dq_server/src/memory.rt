@@ -1,0 +1,114 @@
+//! Rows in memory alone.
+ghost use Rattle.std.specs.Prelude.{◌≡◌, [], false, IfOk};
+ghost use Rattle.dq_server.specs.Memory.{without_failure};
+
+use dq_list::Listed;
+use dq_sql::{MemoryFile, SqlTables};
+use dq_tables::{Change, Choice, Kind, Row, TableFault, Tables};
+use sqlite::FileStore;
+use std::alloc::{AllocError, Global};
+
+/// Rows as a store has them, over two files in memory. A growth that is refused is all that can fail
+/// there, so that each fault is want of memory.
+#[derive(Drop)]
+pub struct RowsInMemory {
+    tables: SqlTables<FileStore<MemoryFile>>,
+}
+
+/// An answer of tables over memory, whose fault is want of memory.
+fn without_failure<T>(answer: Result<T, TableFault>) -> Result<T, TableFault>
+    ensures { result ≡ without_failure answer }
+{
+    match answer {
+        Ok(it) => Ok(it),
+        Err(_) => Err(TableFault::NoMemory),
+    }
+}
+
+impl RowsInMemory {
+    /// No rows.
+    pub fn new(alloc: Global) -> Result<RowsInMemory, AllocError>
+        ensures rows { IfOk result (λ t. (⟦<RowsInMemory as Tables>⟧.state t).rows ≡ []) }
+        ensures failed { IfOk result (λ t. (⟦<RowsInMemory as Tables>⟧.state t).failed ≡ false) }
+    {
+        Ok(RowsInMemory {
+            tables: SqlTables::in_memory(alloc)?,
+        })
+    }
+}
+
+impl Tables for RowsInMemory {
+    ghost use Rattle.dq_sql.specs.Kept.{kept_sound, left_sound};
+    ghost use Rattle.dq_server.specs.Memory.{unfailing};
+
+    // Want of memory is no failure of what keeps the rows.
+    ghost state = { λ t. unfailing (⟦<SqlTables<FileStore<MemoryFile>> as Tables>⟧.state t.tables) };
+
+    ghost sound = { λ t. kept_sound _ _ t.tables.keeps };
+
+    ghost left_sound = { λ t. left_sound _ _ t.tables.keeps };
+
+    fn row(
+        &mut self,
+        alloc: Global,
+        kind: Kind,
+        institution: &[u8],
+        key: &[u8],
+    ) -> Result<Option<Row>, TableFault> {
+        without_failure(self.tables.row(alloc, kind, institution, key))
+    }
+
+    fn rows_of(
+        &mut self,
+        alloc: Global,
+        kind: Kind,
+        institution: &[u8],
+    ) -> Result<Listed<Row>, TableFault> {
+        without_failure(self.tables.rows_of(alloc, kind, institution))
+    }
+
+    fn rows_above(
+        &mut self,
+        alloc: Global,
+        kind: Kind,
+        institution: &[u8],
+        above: &[u8],
+    ) -> Result<Listed<Row>, TableFault> {
+        without_failure(self.tables.rows_above(alloc, kind, institution, above))
+    }
+
+    fn studies_in(
+        &mut self,
+        alloc: Global,
+        institution: &[u8],
+        choice: &Choice,
+    ) -> Result<Listed<Row>, TableFault> {
+        without_failure(self.tables.studies_in(alloc, institution, choice))
+    }
+
+    fn waiting(&mut self, alloc: Global, institution: &[u8]) -> Result<Listed<Row>, TableFault> {
+        without_failure(self.tables.waiting(alloc, institution))
+    }
+
+    fn count(&mut self, alloc: Global, kind: Kind, institution: &[u8]) -> Result<u64, TableFault> {
+        without_failure(self.tables.count(alloc, kind, institution))
+    }
+
+    fn count_above(
+        &mut self,
+        alloc: Global,
+        kind: Kind,
+        institution: &[u8],
+        above: &[u8],
+    ) -> Result<u64, TableFault> {
+        without_failure(self.tables.count_above(alloc, kind, institution, above))
+    }
+
+    fn failed(&self) -> bool {
+        false
+    }
+
+    fn apply(&mut self, alloc: Global, change: &Change) -> Result<(), TableFault> {
+        without_failure(self.tables.apply(alloc, change))
+    }
+}
