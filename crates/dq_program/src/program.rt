@@ -132,8 +132,8 @@ fn do_job<Rt: AllocGlobal + Folder + Stores + Network, R: Source, W: Sink>(
         (Rt.migrated rt.now) (Rt.closed rt.now) (R.octets input) (W.written output.old)
         (W.written output.new) (errand_in job.entry)) }
     ensures stops { IfErr result (EndsEarly Rt.Wired.log (Rt.held rt.now) (Rt.stored rt.now)
-        (R.octets input) (W.written output.old) (W.written output.new) (Rt.may_fail rt.now) (R.may_fail input) (W.may_fail output.old)
-        (Rt.may_break rt.now) (errand_in job.entry)) }
+        (R.octets input) (W.written output.old) (W.written output.new) (Rt.may_fail rt.now)
+        (R.may_fail input) (W.may_fail output.old) (Rt.may_break rt.now) (errand_in job.entry)) }
 {
     match job {
         Job::Play(asked) => play(rt, asked, input, output),
@@ -195,8 +195,8 @@ pub fn perform<Rt: AllocGlobal + Folder + Stores + Network, S: AsStr, R: Source,
         (stop : Stop) × (result ≡ status_of stop)
         × IsTold (E.may_fail errors.old) (E.written errors.old) (E.written errors.new) stop
         × EndsEarly Rt.Wired.log (Rt.held rt.now) (Rt.stored rt.now) (R.octets input)
-        (W.written output.old) (W.written output.new) (Rt.may_fail rt.now) (R.may_fail input) (W.may_fail output.old) (Rt.may_break rt.now)
-        errand stop }
+        (W.written output.old) (W.written output.new) (Rt.may_fail rt.now) (R.may_fail input)
+        (W.may_fail output.old) (Rt.may_break rt.now) errand stop }
 {
     let line = match line_of(rt.alloc(), words) {
         Ok(line) => line,
