@@ -68,6 +68,26 @@ module _ {T A : Type 0} (state : T → State) (old mid new : Archive T) (f : Lis
     answered = λ h. IfOk-weaker r _ _ (λ answer e. e ∙ ap g (records_stay (second.reads.goes.was_honest h))) (second.answered h);
   }
 
+-- what was looked up so far, and what holds of it
+pub record LooksSoFar {T X : Type 0} (state : T → State) (old new : Archive T) (x : X) (Fact : List Record → Type 0) : Type 0 where
+  pub same : IsSame old new
+  pub reads : Reads (state_in state old) (state_in state new) (Ok x)
+  pub fact : (state_in state new).honest → Fact (records_in state old)
+
+-- one call more
+pub looks_on : {T X Y Z : Type 0} (state : T → State) (old mid new : Archive T) (x : X) (Fact : List Record → Type 0) → LooksSoFar state old mid x Fact
+    → (y : Y) (z : Z) (look : List Record → Y) (Next : List Record → Type 0) → Looks state mid new look (Ok y)
+    → ((records : List Record) → Fact records → y ≡ look records → Next records) → LooksSoFar state old new z Next
+looks_on state old mid new x Fact first y z look Next second next = record {
+  same = same_then old mid new first.same second.same;
+  reads = reads_right (state_in state old) (state_in state new) y z
+      (reads_then (state_in state old) (state_in state mid) (state_in state new) x (Ok y) first.reads second.reads);
+  fact = λ h.
+      (let was = second.reads.goes.was_honest h in
+      let stay : records_in state mid ≡ records_in state old = λ i. of (first.same.institution i).now.name (first.reads.same was i) in
+      next (records_in state old) (first.fact was) (second.answered h ∙ ap look stay));
+}
+
 -- nothing was called
 pub looks_nothing : {T A : Type 0} (state : T → State) (it : Archive T) (look : List Record → A) (x : A) → x ≡ look (records_in state it)
     → Looks state it it look (Ok x)

@@ -5,7 +5,7 @@ ghost use Rattle.dq_tables.specs.Finding.{record_at, records_of, records_above, 
 ghost use Rattle.dq_tables.specs.Choosing.{studies_among};
 ghost use Rattle.dq_tables.specs.Serving.{Serves};
 ghost use Rattle.dq_archive.specs.Archives.{IsOver, IsSame, state_in, Looks};
-ghost use Rattle.dq_archive.specs.Deciding.{outcome_of, IsOwn, FitsIf};
+ghost use Rattle.dq_archive.specs.Deciding.{answer_and_edits, IsOwn, FitsIf};
 
 use crate::decision::Decision;
 use dq_config::Institution;
@@ -110,7 +110,7 @@ impl<'a, T: Tables> Archive<'a, T> {
             → FitsIf (state_in T.state self.old).rows decision.change }
         ensures same { IsSame self.old self.new }
         ensures serves { Serves (state_in T.state self.old) (state_in T.state self.new)
-            self.old.institution.now.name (λ _. outcome_of decision) result }
+            self.old.institution.now.name (λ _. answer_and_edits decision) result }
     {
         let Decision { answer, change } = decision;
         let Some(change) = change else {

@@ -11,7 +11,7 @@ use Rattle.dq_pdu.specs.Widths.{HasWidths}
 use Rattle.dq_pdu.proofs.Answering.{answer_written}
 use Rattle.dq_pdu.proofs.WritableLaws.{writable_is}
 use Rattle.dq_assoc.specs.declared.classes.SopClass.{SopClass}
-use Rattle.dq_assoc.specs.Negotiation.{syntax_uid, context_result_of, answer_of, answered_context, acceptance_of, rejection}
+use Rattle.dq_assoc.specs.Negotiation.{syntax_uid, context_result_of, context_answer, answered_context, acceptance_of, rejection}
 use Rattle.dq_assoc.specs.declared.association.State.TheVariants.{Waiting, Open}
 use Rattle.dq_assoc.specs.declared.association.Verdict.{Verdict}
 use Rattle.dq_assoc.specs.Table.{Requested, line, requested_line, goes, stray_line}
@@ -21,7 +21,7 @@ short-syntax : (syntax : Syntax) → is_identifier (syntax_uid syntax) ≡ true
 short-syntax Implicit = refl
 short-syntax Explicit = refl
 
-short-answer : (id : ℕ) (class : Option SopClass) (syntax : Option Syntax) → has_identifier (answer_of id (context_result_of id class syntax)) ≡ true
+short-answer : (id : ℕ) (class : Option SopClass) (syntax : Option Syntax) → has_identifier (context_answer id (context_result_of id class syntax)) ≡ true
 short-answer id None syntax = refl
 short-answer id (Some class) None = refl
 short-answer id (Some class) (Some syntax) = short-syntax syntax

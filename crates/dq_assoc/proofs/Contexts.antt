@@ -11,11 +11,11 @@ use Rattle.dq_dataset.specs.declared.header.Syntax.{Syntax}
 use Rattle.dq_dataset.specs.declared.header.Syntax.TheVariants.{Implicit, Explicit}
 use Rattle.dq_pdu.specs.declared.pdu.ProposedContext.{ProposedContext}
 use Rattle.dq_pdu.specs.declared.pdu.AnsweredContext.{AnsweredContext}
-use Rattle.dq_pdu.specs.Octets.{is_among, are_distinct}
+use Rattle.dq_pdu.specs.Octets.{is_number_among, are_distinct}
 use Rattle.dq_assoc.specs.declared.classes.SopClass.{SopClass}
 use Rattle.dq_assoc.specs.declared.agreement.AgreedContext.{AgreedContext}
 use Rattle.dq_assoc.specs.Classes.{uid_of, served_classes, class_of}
-use Rattle.dq_assoc.specs.Negotiation.{syntax_uid, offers, preferred_syntax, accepted_context, context_result_of, agreed_context, is_accepted, acceptance, answer_with, answer_of, answered_context}
+use Rattle.dq_assoc.specs.Negotiation.{syntax_uid, offers, preferred_syntax, accepted_context, context_result_of, agreed_context, is_accepted, acceptance, answer_with, context_answer, answered_context}
 
 -- ---- classes
 
@@ -120,7 +120,7 @@ pub accepted-offered : (c : ProposedContext) (class : SopClass) (syntax : Syntax
 accepted-offered c class syntax e offered = grind (arith, some-result, preferred-some, offers-contained)
 
 answer-ok : (id : ℕ) (class : Option SopClass) (syntax : Option Syntax) (a : AgreedContext) → result_ok (context_result_of id class syntax) ≡ Some a
-    → answer_of id (context_result_of id class syntax) ≡ answer_with a.id acceptance a.syntax
+    → context_answer id (context_result_of id class syntax) ≡ answer_with a.id acceptance a.syntax
 answer-ok id None syntax a e = absurd cc
 answer-ok id (Some class) None a e = absurd cc
 answer-ok id (Some class) (Some syntax) a e = grind arith
@@ -129,7 +129,7 @@ pub agreed-answer : (c : ProposedContext) (a : AgreedContext) → agreed_context
 agreed-answer c a e = answer-ok c.id (class_of c.abstract_syntax) (preferred_syntax c.transfer_syntaxes) a e
 
 answer-err : (id : ℕ) (class : Option SopClass) (syntax : Option Syntax) → result_ok (context_result_of id class syntax) ≡ None
-    → (answer_of id (context_result_of id class syntax)).result ≢ acceptance
+    → (context_answer id (context_result_of id class syntax)).result ≢ acceptance
 answer-err id None syntax e = λ h. absurd cc
 answer-err id (Some class) None e = λ h. absurd cc
 answer-err id (Some class) (Some syntax) e = absurd cc
@@ -137,7 +137,7 @@ answer-err id (Some class) (Some syntax) e = absurd cc
 pub refused-answer : (c : ProposedContext) → agreed_context c ≡ None → (answered_context c).result ≢ acceptance
 refused-answer c e = answer-err c.id (class_of c.abstract_syntax) (preferred_syntax c.transfer_syntaxes) e
 
-id-stays : (id : ℕ) (class : Option SopClass) (syntax : Option Syntax) → (answer_of id (context_result_of id class syntax)).id ≡ id
+id-stays : (id : ℕ) (class : Option SopClass) (syntax : Option Syntax) → (context_answer id (context_result_of id class syntax)).id ≡ id
 id-stays id None syntax = refl
 id-stays id (Some class) None = refl
 id-stays id (Some class) (Some syntax) = refl
@@ -179,28 +179,28 @@ ids-accepted (c ∷ cs) = ids-cons (agreed_context c) c cs (λ a e. agreed-id c 
 
 -- ids that are distinct stay so
 among-fewer : (x : ℕ) (o : Option AgreedContext) (c : ProposedContext) (cs : List ProposedContext) → ((a : AgreedContext) → o ≡ Some a → a.id ≡ c.id)
-    → (is_among x (map (λ (c : ProposedContext). c.id) cs) ≡ false → is_among x (agreed-ids cs) ≡ false)
-    → ((x == c.id) || is_among x (map (λ (c : ProposedContext). c.id) cs)) ≡ false
-    → is_among x (map (λ (a : AgreedContext). a.id) (cons_option o (filter_map agreed_context cs))) ≡ false
+    → (is_number_among x (map (λ (c : ProposedContext). c.id) cs) ≡ false → is_number_among x (agreed-ids cs) ≡ false)
+    → ((x == c.id) || is_number_among x (map (λ (c : ProposedContext). c.id) cs)) ≡ false
+    → is_number_among x (map (λ (a : AgreedContext). a.id) (cons_option o (filter_map agreed_context cs))) ≡ false
 among-fewer x None c cs same later e = later (or_parts (x == c.id) _ e).1
 among-fewer x (Some a) c cs same later e =
-    ap (λ (n : ℕ). (x == n) || is_among x (agreed-ids cs)) (same a refl)
-    ∙ ap (λ (b : Bool). b || is_among x (agreed-ids cs)) (or_parts (x == c.id) _ e).0
+    ap (λ (n : ℕ). (x == n) || is_number_among x (agreed-ids cs)) (same a refl)
+    ∙ ap (λ (b : Bool). b || is_number_among x (agreed-ids cs)) (or_parts (x == c.id) _ e).0
     ∙ later (or_parts (x == c.id) _ e).1
 
-not-among : (x : ℕ) (cs : List ProposedContext) → is_among x (map (λ (c : ProposedContext). c.id) cs) ≡ false → is_among x (agreed-ids cs) ≡ false
+not-among : (x : ℕ) (cs : List ProposedContext) → is_number_among x (map (λ (c : ProposedContext). c.id) cs) ≡ false → is_number_among x (agreed-ids cs) ≡ false
 not-among x [] e = refl
 not-among x (c ∷ cs) e = among-fewer x (agreed_context c) c cs (λ a h. agreed-id c a h) (not-among x cs) e
 
 distinct-cons : (o : Option AgreedContext) (c : ProposedContext) (cs : List ProposedContext) → ((a : AgreedContext) → o ≡ Some a → a.id ≡ c.id)
     → (are_distinct (map (λ (c : ProposedContext). c.id) cs) ≡ true → are_distinct (agreed-ids cs) ≡ true)
-    → (not (is_among c.id (map (λ (c : ProposedContext). c.id) cs)) && are_distinct (map (λ (c : ProposedContext). c.id) cs)) ≡ true
+    → (not (is_number_among c.id (map (λ (c : ProposedContext). c.id) cs)) && are_distinct (map (λ (c : ProposedContext). c.id) cs)) ≡ true
     → are_distinct (map (λ (a : AgreedContext). a.id) (cons_option o (filter_map agreed_context cs))) ≡ true
-distinct-cons None c cs same later e = later (and_parts (not (is_among c.id (map (λ (c : ProposedContext). c.id) cs))) _ e).1
+distinct-cons None c cs same later e = later (and_parts (not (is_number_among c.id (map (λ (c : ProposedContext). c.id) cs))) _ e).1
 distinct-cons (Some a) c cs same later e =
-    let both = and_parts (not (is_among c.id (map (λ (c : ProposedContext). c.id) cs))) _ e in
-    ap (λ (n : ℕ). not (is_among n (agreed-ids cs)) && are_distinct (agreed-ids cs)) (same a refl)
-    ∙ ap (λ (b : Bool). not b && are_distinct (agreed-ids cs)) (not-among c.id cs (not-true (is_among c.id (map (λ (c : ProposedContext). c.id) cs)) both.0))
+    let both = and_parts (not (is_number_among c.id (map (λ (c : ProposedContext). c.id) cs))) _ e in
+    ap (λ (n : ℕ). not (is_number_among n (agreed-ids cs)) && are_distinct (agreed-ids cs)) (same a refl)
+    ∙ ap (λ (b : Bool). not b && are_distinct (agreed-ids cs)) (not-among c.id cs (not-true (is_number_among c.id (map (λ (c : ProposedContext). c.id) cs)) both.0))
     ∙ later both.1
 
 pub ids-distinct : (cs : List ProposedContext) → are_distinct (map (λ (c : ProposedContext). c.id) cs) ≡ true → are_distinct (agreed-ids cs) ≡ true

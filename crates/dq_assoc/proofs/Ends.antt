@@ -7,9 +7,9 @@ use Rattle.dq_pdu.specs.declared.fault.PduFault.{PduFault}
 use Rattle.dq_dimse.specs.Received.{Message}
 use Rattle.dq_dimse.specs.declared.fault.DimseFault.{DimseFault}
 use Rattle.dq_dimse.specs.Assembling.{Messages, messages}
-use Rattle.dq_assoc.specs.Negotiation.{agreement_of, ids_of}
+use Rattle.dq_assoc.specs.Negotiation.{agreement_of, context_ids}
 use Rattle.dq_assoc.specs.Table.{Input, Sent}
-use Rattle.dq_assoc.specs.Inputs.{values, after_values, closing_inputs, inputs_past, inputs_of_messages, inputs_of_roles, AreAfterRequest, AreInputs}
+use Rattle.dq_assoc.specs.Inputs.{leading_pdvs, after_leading_pdvs, closing_inputs, inputs_past, inputs_of_messages, inputs_of_roles, AreAfterRequest, AreInputs}
 
 closing-ends : (roles : List Role) (fault : Option PduFault) → AreAfterRequest (closing_inputs roles fault)
 closing-ends [] None = tt
@@ -35,7 +35,7 @@ pub inputs-end : (roles : List Role) (fault : Option PduFault) → AreInputs (in
 inputs-end [] None = tt
 inputs-end [] (Some fault) = refl
 inputs-end (Asks request ∷ roles) fault =
-    read-ends (messages (ids_of (agreement_of request)) (values roles)) _ (closing-ends (after_values roles) fault)
+    read-ends (messages (context_ids (agreement_of request)) (leading_pdvs roles)) _ (closing-ends (after_leading_pdvs roles) fault)
 inputs-end (Carries pdvs ∷ roles) fault = refl
 inputs-end (Ends ReleaseAsked ∷ roles) fault = refl
 inputs-end (Ends AbortSent ∷ roles) fault = refl

@@ -18,12 +18,12 @@ use Rattle.dq_assoc.specs.declared.association.Held.{Held as HeldAssociation}
 use Rattle.dq_assoc.specs.declared.association.Held.TheVariants as code
 use Rattle.dq_assoc.specs.declared.association.State.TheVariants.{Open}
 use Rattle.dq_assoc.specs.declared.association.Step.{Step as HeldStep}
-use Rattle.dq_assoc.specs.Associations.{Held}
+use Rattle.dq_assoc.specs.Associations.{HeldState}
 use Rattle.dq_assoc.specs.Associations as held
 use Rattle.dq_assoc.specs.Table.{Input, Requested, Sent, Released, PeerAborted, Stray, Bad}
-use Rattle.dq_assoc.specs.After.{state_of, is_closed, is_sound, open_if, association_by, association_from, inputs_from}
+use Rattle.dq_assoc.specs.After.{state_of, is_closed, is_sound_association, open_if, association_by, association_from, inputs_from}
 use Rattle.dq_assoc.specs.Holding.{Stands, IsStep, accepted_in, held_agreement, held_state, is_unspent}
-use Rattle.dq_assoc.specs.Steps.{Step, with_message, after_messages, open_outcome, outcome}
+use Rattle.dq_assoc.specs.Steps.{AssociationStep, with_message, after_messages, open_outcome, step_of_inputs}
 use Rattle.dq_assoc.proofs.FromHere.{inputs-cons, association-append}
 use Rattle.dq_assoc.proofs.Sound.{none_is}
 use Rattle.dq_assoc.proofs.Standing.{after_stands, stands_sound, stands_state}
@@ -39,7 +39,7 @@ unclosed (PeerAborted ∷ first) later e = absurd cc
 unclosed (Stray ∷ first) later e = absurd cc
 unclosed (Bad reason ∷ first) later e = absurd cc
 
-after-both : (list more : List Message) (step : Step) → after_messages (list ++ more) step ≡ after_messages list (after_messages more step)
+after-both : (list more : List Message) (step : AssociationStep) → after_messages (list ++ more) step ≡ after_messages list (after_messages more step)
 after-both list more step =
     ap (λ (messages : List Message). record { messages = messages; octets = step.octets; close = step.close }) (append_assoc list more step.messages)
 
@@ -57,7 +57,7 @@ unopened : (a : Agreement) (s : Assembly) → spent_by s ≡ None → open_if (s
 unopened a s e = ap (λ (f : Option DimseFault). open_if f a s) e
 
 -- no PDUs leave an association as it is
-stays : (h : Held) → IsTrue (is_sound h) → association_from h [] ≡ h
+stays : (h : HeldState) → IsTrue (is_sound_association h) → association_from h [] ≡ h
 stays held.Waiting sound = refl
 stays (held.Open a s) sound =
     ap (λ (t : Assembly). open_if (spent_by t) a t) (assembly_from-nil s) ∙ unopened a s (none_is (spent_by s) sound)
@@ -65,9 +65,9 @@ stays (held.Closed agreed) sound = refl
 
 -- PDUs that were taken, their messages, and the PDUs that are left
 pub record HasTaken (accepted : List Accepted) (helds : List HeldMessage) (now : HeldAssociation) (fault : Option PduFault) (left done all : List Pdu)
-    (first : Held) : Type 0 where
+    (first : HeldState) : Type 0 where
   pub list : List Message
-  pub association : Held
+  pub association : HeldState
   pub stand : StandForAll accepted helds list
   pub stands : Stands now association
   pub is : association ≡ association_from first done
@@ -77,7 +77,7 @@ pub record TookSome (old now : HeldAssociation) (helds : List HeldMessage) (faul
   pub is_open : held_state now ≡ Open
   pub parts : all ≡ done ++ left
   pub agrees : held_agreement now ≡ held_agreement old
-  pub takes : (a : Held) → Stands old a → HasTaken (accepted_in (held_agreement old)) helds now fault left done all a
+  pub takes : (a : HeldState) → Stands old a → HasTaken (accepted_in (held_agreement old)) helds now fault left done all a
 
 pub took_none : (old : HeldAssociation) (helds : List HeldMessage) (fault : Option PduFault) (all left : List Pdu) → held_state old ≡ Open
     → IsTrue (is_unspent old) → helds ≡ [] → left ≡ all → TookSome old old helds fault all [] left
@@ -97,10 +97,10 @@ took_none old helds fault all left opens unspent e l = record {
 
 -- a PDU that was taken
 pub record TookOne (now new : HeldAssociation) (pdu : Pdu) (step : HeldStep) : Type 0 where
-  pub leads : (a : Held) → Stands now a
-      → IsStep (accepted_in (held_agreement now)) step (outcome (state_of a) (inputs_from a (pdu ∷ []) None))
+  pub leads : (a : HeldState) → Stands now a
+      → IsStep (accepted_in (held_agreement now)) step (step_of_inputs (state_of a) (inputs_from a (pdu ∷ []) None))
   pub closes : step.close ≡ is_closed (held_state new)
-  pub next : (a : Held) → Stands now a → Stands new (association_from a (pdu ∷ []))
+  pub next : (a : HeldState) → Stands now a → Stands new (association_from a (pdu ∷ []))
   pub agrees : held_agreement new ≡ held_agreement now
 
 stays_open : (now new : HeldAssociation) → held_state now ≡ Open → is_closed (held_state new) ≡ false → held_agreement new ≡ held_agreement now
@@ -112,7 +112,7 @@ stays_open (code.Open a s) (code.Closed agreed) o u e = absurd cc
 stays_open (code.Closed agreed) new o u e = absurd cc
 
 -- what one PDU more leads to
-one_leads : (now new : HeldAssociation) (pdu : Pdu) (step : HeldStep) (old_agreement : Option Agreement) (a : Held) → held_state now ≡ Open
+one_leads : (now new : HeldAssociation) (pdu : Pdu) (step : HeldStep) (old_agreement : Option Agreement) (a : HeldState) → held_state now ≡ Open
     → held_agreement now ≡ old_agreement → TookOne now new pdu step → Stands now a
     → IsStep (accepted_in old_agreement) step (open_outcome (inputs_from a (pdu ∷ []) None))
 one_leads now new pdu step agreement a opens agrees t h = grind (arith, stands_state)
@@ -136,7 +136,7 @@ took_more old now new helds longer fault all done left later pdu step so l t c e
         stand = subst (λ (hs : List HeldMessage). StandForAll (accepted_in (held_agreement old)) hs (k.list ++ (open_outcome first).messages)) (sym e)
             (stand_append (accepted_in (held_agreement old)) helds step.messages k.list (open_outcome first).messages k.stand is.messages);
         stands = t.next here k.stands;
-        is = ap (λ (x : Held). association_from x (pdu ∷ [])) k.is ∙ sym (association-append a (map role_of done) (map role_of (pdu ∷ [])))
+        is = ap (λ (x : HeldState). association_from x (pdu ∷ [])) k.is ∙ sym (association-append a (map role_of done) (map role_of (pdu ∷ [])))
             ∙ ap (association_by a) (sym (map-append role_of done (pdu ∷ [])));
         leads = after-both k.list (open_outcome first).messages (open_outcome (inputs_from next later fault))
             ∙ ap (after_messages k.list) (sym (unclosed first (inputs_from next later fault) (sym is.close ∙ c)))
@@ -152,7 +152,7 @@ pub took_last : (old now new : HeldAssociation) (helds : List HeldMessage) (faul
     (step : HeldStep) (result : Result HeldStep AllocError) → TookSome old now helds fault all done left → left ≡ pdu ∷ later → TookOne now new pdu step
     → step.close ≡ true
     → IfOk result (λ (held : HeldStep). held ≡ record { messages = helds ++ step.messages; octets = step.octets; close = step.close })
-    → (a : Held) → Stands old a → IfOk result (λ (held : HeldStep). IsStep (accepted_in (held_agreement old)) held (open_outcome (inputs_from a all fault)))
+    → (a : HeldState) → Stands old a → IfOk result (λ (held : HeldStep). IsStep (accepted_in (held_agreement old)) held (open_outcome (inputs_from a all fault)))
 took_last old now new helds fault all done left later pdu step (Ok held) so l t c e a h =
     grind (arith, one_leads, closes, inputs-cons, after_stands)
 took_last old now new helds fault all done left later pdu step (Err error) so l t c e a h = tt

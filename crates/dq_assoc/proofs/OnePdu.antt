@@ -5,7 +5,7 @@ use Rattle.dq_pdu.specs.declared.pdu.Pdu.{Pdu}
 use Rattle.dq_pdu.specs.declared.pdu.Request.{Request}
 use Rattle.dq_pdu.specs.Roles.{role_of}
 use Rattle.dq_pdu.specs.Writing.{is_writable}
-use Rattle.dq_assoc.specs.Associations.{Held}
+use Rattle.dq_assoc.specs.Associations.{HeldState}
 use Rattle.dq_assoc.specs.Associations as held
 use Rattle.dq_assoc.specs.declared.association.State.TheVariants.{Open}
 use Rattle.dq_assoc.specs.Negotiation.{acceptance_of}
@@ -15,15 +15,15 @@ use Rattle.dq_assoc.proofs.FromHere.{association-append}
 
 -- ---- a PDU after the request, or in its place
 
-after-append : (pdus more : List Pdu) (old new : Held) → AssociationAfter pdus old → new ≡ association_by old (map role_of more)
+after-append : (pdus more : List Pdu) (old new : HeldState) → AssociationAfter pdus old → new ≡ association_by old (map role_of more)
     → AssociationAfter (pdus ++ more) new
 after-append pdus more old new after x = record {
-  stands = x ∙ ap (λ (h : Held). association_by h (map role_of more)) after.stands
+  stands = x ∙ ap (λ (h : HeldState). association_by h (map role_of more)) after.stands
       ∙ sym (association-append held.Waiting (map role_of pdus) (map role_of more))
       ∙ ap (association_by held.Waiting) (sym (map-append role_of pdus more));
 }
 
-pub after-more : (pdus more : List Pdu) (h : Held) → AssociationAfter pdus h → AssociationAfter (pdus ++ more) (association_by h (map role_of more))
+pub after-more : (pdus more : List Pdu) (h : HeldState) → AssociationAfter pdus h → AssociationAfter (pdus ++ more) (association_by h (map role_of more))
 after-more pdus more h after = after-append pdus more h (association_by h (map role_of more)) after refl
 
 -- ---- the request

@@ -12,25 +12,25 @@ use Rattle.dq_dimse.specs.declared.fault.DimseFault.{DimseFault}
 use Rattle.dq_dimse.specs.Assembling.{Assembly, messages_from, assembly_from, spent_by}
 use Rattle.dq_dimse.proofs.Assemblies.{messages_from-nil, messages_from-fault}
 use Rattle.dq_assoc.specs.declared.agreement.Agreement.{Agreement}
-use Rattle.dq_assoc.specs.Associations.{Held}
+use Rattle.dq_assoc.specs.Associations.{HeldState}
 use Rattle.dq_assoc.specs.Associations as held
 use Rattle.dq_assoc.specs.declared.association.State.TheVariants.{Open}
 use Rattle.dq_assoc.specs.declared.association.Verdict.TheVariants.{Accept}
 use Rattle.dq_assoc.specs.Negotiation.{agreement_of}
 use Rattle.dq_assoc.specs.Table.{Input, Sent, Bad, line, answer_octets}
-use Rattle.dq_assoc.specs.Inputs.{values, after_values, reason_of, closing_input, inputs_past, inputs_of_messages}
-use Rattle.dq_assoc.specs.After.{state_of, is_sound, open_if, open_with, assembly_for, association_by, inputs_by}
-use Rattle.dq_assoc.specs.Steps.{with_message, open_outcome, outcome, fault_inputs, fault_answer, values_step}
+use Rattle.dq_assoc.specs.Inputs.{leading_pdvs, after_leading_pdvs, reason_of, closing_input, inputs_past, inputs_of_messages}
+use Rattle.dq_assoc.specs.After.{state_of, is_sound_association, open_if, open_with, assembly_for, association_by, inputs_by}
+use Rattle.dq_assoc.specs.Steps.{with_message, open_outcome, step_of_inputs, fault_inputs, fault_answer, pdvs_step}
 
 pub none_is : (o : Option DimseFault) → IsTrue (is_none o) → o ≡ None
 none_is None sound = refl
 none_is (Some d) sound = absurd cc
 
-sound-if : (a : Agreement) (s : Assembly) (f : Option DimseFault) → spent_by s ≡ f → IsTrue (is_sound (open_if f a s))
+sound-if : (a : Agreement) (s : Assembly) (f : Option DimseFault) → spent_by s ≡ f → IsTrue (is_sound_association (open_if f a s))
 sound-if a s None e = subst (λ (f : Option DimseFault). IsTrue (is_none f)) (sym e) refl
 sound-if a s (Some d) e = refl
 
-sound-with : (a : Agreement) (s : Assembly) (roles : List Role) → IsTrue (is_sound (open_with a s roles))
+sound-with : (a : Agreement) (s : Assembly) (roles : List Role) → IsTrue (is_sound_association (open_with a s roles))
 sound-with a s [] = sound-if a s (spent_by s) refl
 sound-with a s (role ∷ roles) = refl
 
@@ -43,48 +43,48 @@ kept-if a s None e = refl
 kept-if a s (Some d) e = absurd cc
 
 -- PDUs leave an association that is sound
-pub sound-by : (h : Held) (roles : List Role) → IsTrue (is_sound h) → IsTrue (is_sound (association_by h roles))
+pub sound-by : (h : HeldState) (roles : List Role) → IsTrue (is_sound_association h) → IsTrue (is_sound_association (association_by h roles))
 sound-by held.Waiting [] sound = refl
-sound-by held.Waiting (Asks request ∷ roles) sound = sound-with (agreement_of request) (assembly_from (assembly_for request) (values roles))
-    (after_values roles)
+sound-by held.Waiting (Asks request ∷ roles) sound = sound-with (agreement_of request) (assembly_from (assembly_for request) (leading_pdvs roles))
+    (after_leading_pdvs roles)
 sound-by held.Waiting (Carries pdvs ∷ roles) sound = refl
 sound-by held.Waiting (Ends ending ∷ roles) sound = refl
-sound-by (held.Open a s) roles sound = sound-with a (assembly_from s (values roles)) (after_values roles)
+sound-by (held.Open a s) roles sound = sound-with a (assembly_from s (leading_pdvs roles)) (after_leading_pdvs roles)
 sound-by (held.Closed agreed) roles sound = refl
 
 -- what comes where no values came before it
 pub read-nil : (s : Assembly) → IsTrue (is_none (spent_by s)) → (later : List Input) → inputs_of_messages (messages_from s []) later ≡ later
 read-nil s sound later = grind (arith, messages_from-nil, none_is)
 
-pub nothing-added : (h : Held) → IsTrue (is_sound h) → inputs_by h [] None ≡ []
+pub nothing-added : (h : HeldState) → IsTrue (is_sound_association h) → inputs_by h [] None ≡ []
 nothing-added held.Waiting sound = refl
 nothing-added (held.Open a s) sound = read-nil s sound []
 nothing-added (held.Closed agreed) sound = refl
 
-pub fault-added : (h : Held) (fault : PduFault) → IsTrue (is_sound h) → inputs_by h [] (Some fault) ≡ fault_inputs (state_of h) fault
+pub fault-added : (h : HeldState) (fault : PduFault) → IsTrue (is_sound_association h) → inputs_by h [] (Some fault) ≡ fault_inputs (state_of h) fault
 fault-added held.Waiting fault sound = refl
 fault-added (held.Open a s) fault sound = read-nil s sound _
 fault-added (held.Closed agreed) fault sound = refl
 
 -- what a fault leads to
-pub fault-outcome : (h : Held) (fault : PduFault) → IsTrue (is_sound h)
-    → record { messages = []; octets = answer_octets (fault_answer (state_of h) fault); close = true } ≡ outcome (state_of h) (inputs_by h [] (Some fault))
+pub fault-outcome : (h : HeldState) (fault : PduFault) → IsTrue (is_sound_association h)
+    → record { messages = []; octets = answer_octets (fault_answer (state_of h) fault); close = true } ≡ step_of_inputs (state_of h) (inputs_by h [] (Some fault))
 fault-outcome held.Waiting fault sound = refl
 fault-outcome (held.Open a s) fault sound = ap open_outcome (sym (read-nil s sound (Bad (reason_of fault) ∷ [])))
 fault-outcome (held.Closed agreed) fault sound = refl
 
 -- values leave an association open unless they are no messages
-pub values-closed : (a : Agreement) (s : Assembly) (pdvs : List Pdv) → is_some (messages_from s pdvs).fault ≡ true
+pub pdvs-closed : (a : Agreement) (s : Assembly) (pdvs : List Pdv) → is_some (messages_from s pdvs).fault ≡ true
     → let next = assembly_from s pdvs in held.Closed (Some a) ≡ open_if (spent_by next) a next
-values-closed a s pdvs e = closed-if a (assembly_from s pdvs) (spent_by (assembly_from s pdvs)) (ap is_some (sym (messages_from-fault s pdvs)) ∙ e)
+pdvs-closed a s pdvs e = closed-if a (assembly_from s pdvs) (spent_by (assembly_from s pdvs)) (ap is_some (sym (messages_from-fault s pdvs)) ∙ e)
 
-pub values-open : (a : Agreement) (s : Assembly) (pdvs : List Pdv) → is_some (messages_from s pdvs).fault ≡ false
+pub pdvs-open : (a : Agreement) (s : Assembly) (pdvs : List Pdv) → is_some (messages_from s pdvs).fault ≡ false
     → let next = assembly_from s pdvs in held.Open a next ≡ open_if (spent_by next) a next
-values-open a s pdvs e = kept-if a (assembly_from s pdvs) (spent_by (assembly_from s pdvs)) (ap is_some (sym (messages_from-fault s pdvs)) ∙ e)
+pdvs-open a s pdvs e = kept-if a (assembly_from s pdvs) (spent_by (assembly_from s pdvs)) (ap is_some (sym (messages_from-fault s pdvs)) ∙ e)
 
 -- the messages of values, and the end where they are none
 pub values-outcome : (list : List Message) (f : Option DimseFault)
-    → open_outcome (map Sent list ++ inputs_past f []) ≡ values_step (record { list = list; fault = f })
+    → open_outcome (map Sent list ++ inputs_past f []) ≡ pdvs_step (record { list = list; fault = f })
 values-outcome [] None = refl
 values-outcome [] (Some d) = refl
 values-outcome (message ∷ list) f = ap (with_message message) (values-outcome list f)
@@ -92,12 +92,12 @@ values-outcome (message ∷ list) f = ap (with_message message) (values-outcome 
 -- ---- a PDU that an open association takes
 
 pub values-carried : (a : Agreement) (s : Assembly) (pdvs : List Pdv)
-    → values_step (messages_from s pdvs) ≡ outcome Open (inputs_by (held.Open a s) (Carries pdvs ∷ []) None)
+    → pdvs_step (messages_from s pdvs) ≡ step_of_inputs Open (inputs_by (held.Open a s) (Carries pdvs ∷ []) None)
 values-carried a s pdvs = grind (arith, append-nil, values-outcome)
 
-pub role-closes : (a : Agreement) (s : Assembly) (role : Role) → IsTrue (is_sound (held.Open a s)) → ((pdvs : List Pdv) → role ≡ Carries pdvs → ⊥)
+pub role-closes : (a : Agreement) (s : Assembly) (role : Role) → IsTrue (is_sound_association (held.Open a s)) → ((pdvs : List Pdv) → role ≡ Carries pdvs → ⊥)
     → record { messages = []; octets = answer_octets (line Open Accept (closing_input role)).answer; close = true }
-    ≡ outcome Open (inputs_by (held.Open a s) (role ∷ []) None)
+    ≡ step_of_inputs Open (inputs_by (held.Open a s) (role ∷ []) None)
 role-closes a s (Asks request) sound not = ap open_outcome (sym (read-nil s sound (closing_input (Asks request) ∷ [])))
 role-closes a s (Carries pdvs) sound not = absurd (not pdvs refl)
 role-closes a s (Ends ReleaseAsked) sound not = ap open_outcome (sym (read-nil s sound (closing_input (Ends ReleaseAsked) ∷ [])))

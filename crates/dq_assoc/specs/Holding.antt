@@ -12,15 +12,15 @@ use Rattle.dq_assoc.specs.declared.association.State.{State}
 use Rattle.dq_assoc.specs.declared.association.State.TheVariants as state
 use Rattle.dq_assoc.specs.declared.association.Step.{Step as HeldStep}
 use Rattle.dq_assoc.specs.After.{association_from}
-use Rattle.dq_assoc.specs.Associations.{Held, Waiting, Open, Closed}
-use Rattle.dq_assoc.specs.Steps.{Step}
+use Rattle.dq_assoc.specs.Associations.{HeldState, Waiting, Open, Closed}
+use Rattle.dq_assoc.specs.Steps.{AssociationStep}
 
 -- the contexts that an assembler is made for: those agreed on, with their transfer syntaxes
-abbrev pub accepted_context : AgreedContext → Accepted
-accepted_context c = record { id = c.id; syntax = c.syntax }
+abbrev pub assembler_context : AgreedContext → Accepted
+assembler_context c = record { id = c.id; syntax = c.syntax }
 
 abbrev pub accepted_by : Agreement → List Accepted
-accepted_by agreement = map accepted_context agreement.contexts
+accepted_by agreement = map assembler_context agreement.contexts
 
 abbrev pub accepted_in : Option Agreement → List Accepted
 accepted_in None = []
@@ -38,14 +38,14 @@ held_agreement code.Waiting = None
 held_agreement (code.Open agreement holding) = Some agreement
 held_agreement (code.Closed agreement) = agreement
 
--- it is open only while its values are messages and part of one
+-- it is open only while its PDVs are messages and part of one
 abbrev pub is_unspent : HeldAssociation → Bool
 is_unspent code.Waiting = true
 is_unspent (code.Open agreement holding) = is_none (spent_with holding)
 is_unspent (code.Closed agreement) = true
 
 -- What is held stands for an association of the definitions.
-abbrev pub Stands : HeldAssociation → Held → Type 0
+abbrev pub Stands : HeldAssociation → HeldState → Type 0
 Stands code.Waiting association = association ≡ Waiting
 Stands (code.Open agreement holding) association =
     (assembly : Assembly) × (association ≡ Open agreement assembly) × Assembles holding assembly
@@ -53,11 +53,11 @@ Stands (code.Open agreement holding) association =
 Stands (code.Closed agreement) association = association ≡ Closed agreement
 
 -- the association was given the PDUs, and accepted its request
-pub record WasGiven (pdus : List Pdu) (held : HeldAssociation) : Type 0 where
+pub record WasGivenPdus (pdus : List Pdu) (held : HeldAssociation) : Type 0 where
   pub stands : Stands held (association_from Waiting pdus)
 
 -- A step leads to what one of the definitions does, with messages on the accepted contexts.
-pub record IsStep (accepted : List Accepted) (held : HeldStep) (step : Step) : Type 0 where
+pub record IsStep (accepted : List Accepted) (held : HeldStep) (step : AssociationStep) : Type 0 where
   pub messages : StandForAll accepted held.messages step.messages
   pub octets : held.octets ≡ step.octets
   pub close : held.close ≡ step.close

@@ -12,22 +12,22 @@ use Rattle.dq_pdu.specs.Roles.{role_of}
 use Rattle.dq_pdu.specs.Stream.{pdus_in}
 use Rattle.dq_dimse.specs.declared.fault.DimseFault.{DimseFault}
 use Rattle.dq_dimse.specs.Assembling.{Messages, messages}
-use Rattle.dq_assoc.specs.Negotiation.{agreement_of, ids_of}
+use Rattle.dq_assoc.specs.Negotiation.{agreement_of, context_ids}
 use Rattle.dq_assoc.specs.Table.{Input, Requested, Sent, Released, PeerAborted, Stray, Bad, unrecognized_pdu, unexpected_pdu, invalid_parameter}
 
--- the values of the P-DATA PDUs at the front
-abbrev pub values : List Role → List Pdv
-values [] = []
-values (Carries pdvs ∷ roles) = pdvs ++ values roles
-values (Asks request ∷ roles) = []
-values (Ends ending ∷ roles) = []
+-- the PDVs of the P-DATA PDUs at the front
+abbrev pub leading_pdvs : List Role → List Pdv
+leading_pdvs [] = []
+leading_pdvs (Carries pdvs ∷ roles) = pdvs ++ leading_pdvs roles
+leading_pdvs (Asks request ∷ roles) = []
+leading_pdvs (Ends ending ∷ roles) = []
 
 -- the PDUs after them
-abbrev pub after_values : List Role → List Role
-after_values [] = []
-after_values (Carries pdvs ∷ roles) = after_values roles
-after_values (Asks request ∷ roles) = Asks request ∷ roles
-after_values (Ends ending ∷ roles) = Ends ending ∷ roles
+abbrev pub after_leading_pdvs : List Role → List Role
+after_leading_pdvs [] = []
+after_leading_pdvs (Carries pdvs ∷ roles) = after_leading_pdvs roles
+after_leading_pdvs (Asks request ∷ roles) = Asks request ∷ roles
+after_leading_pdvs (Ends ending ∷ roles) = Ends ending ∷ roles
 
 -- the reason of the abort that answers a fault of the stream
 abbrev pub reason_of : PduFault → ℕ
@@ -35,7 +35,7 @@ reason_of Unrecognized = unrecognized_pdu
 reason_of TooLong = invalid_parameter
 reason_of Malformed = invalid_parameter
 
--- what a PDU that carries no values closes with after a request
+-- what a PDU that carries no PDVs closes with after a request
 abbrev pub closing_input : Role → Input
 closing_input (Ends ReleaseAsked) = Released
 closing_input (Ends AbortSent) = PeerAborted
@@ -43,25 +43,25 @@ closing_input (Ends OutOfPlace) = Bad unexpected_pdu
 closing_input (Asks request) = Bad unexpected_pdu
 closing_input (Carries pdvs) = Bad unexpected_pdu
 
--- what the PDU or the fault that ends the values closes with
+-- what the PDU or the fault that ends the PDVs closes with
 abbrev pub closing_inputs : List Role → Option PduFault → List Input
 closing_inputs [] None = []
 closing_inputs [] (Some fault) = Bad (reason_of fault) ∷ []
 closing_inputs (role ∷ roles) fault = closing_input role ∷ []
 
--- values that are no messages close before what comes after them
+-- PDVs that are no messages close before what comes after them
 abbrev pub inputs_past : Option DimseFault → List Input → List Input
 inputs_past None later = later
 inputs_past (Some fault) later = Bad invalid_parameter ∷ []
 
--- the messages of values, and what closes after them
+-- the messages of PDVs, and what closes after them
 abbrev pub inputs_of_messages : Messages → List Input → List Input
 inputs_of_messages read later = map Sent read.list ++ inputs_past read.fault later
 
 -- the inputs after a request, whose accepted contexts have the ids
 abbrev pub inputs_after : List ℕ → List Role → Option PduFault → List Input
 inputs_after ids roles fault =
-    inputs_of_messages (messages ids (values roles)) (closing_inputs (after_values roles) fault)
+    inputs_of_messages (messages ids (leading_pdvs roles)) (closing_inputs (after_leading_pdvs roles) fault)
 
 -- what a PDU that is no request is in a request's place
 abbrev pub misplaced_input : Role → Input
@@ -75,7 +75,7 @@ abbrev pub inputs_of_roles : List Role → Option PduFault → List Input
 inputs_of_roles [] None = []
 inputs_of_roles [] (Some fault) = Stray ∷ []
 inputs_of_roles (Asks request ∷ roles) fault =
-    Requested request ∷ inputs_after (ids_of (agreement_of request)) roles fault
+    Requested request ∷ inputs_after (context_ids (agreement_of request)) roles fault
 inputs_of_roles (Carries pdvs ∷ roles) fault = misplaced_input (Carries pdvs) ∷ []
 inputs_of_roles (Ends ending ∷ roles) fault = misplaced_input (Ends ending) ∷ []
 

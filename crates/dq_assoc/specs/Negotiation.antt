@@ -22,7 +22,7 @@ use Rattle.dq_assoc.specs.Reasons.{abstract_syntax_not_supported, transfer_synta
 use Rattle.dq_assoc.specs.declared.association.Verdict.{Verdict}
 use Rattle.dq_assoc.specs.declared.association.Verdict.TheVariants.{Accept, Nowhere, Busy}
 use Rattle.dq_assoc.specs.Classes.{class_of}
-use Rattle.dq_assoc.specs.PeerLimits.{has_room}
+use Rattle.dq_assoc.specs.PeerLimits.{has_room_for_data}
 
 -- The DICOM application context (PS3.7 annex A.2.1).
 abbrev pub dicom_context : List ℕ
@@ -73,12 +73,12 @@ answer_with id reason syntax =
     record { id = id; result = reason; transfer_syntax = syntax_uid syntax }
 
 -- the answer names the syntax that is agreed on; one that refuses names Implicit
-abbrev pub answer_of : ℕ → Result AgreedContext ContextRefusal → AnsweredContext
-answer_of id (Ok agreed) = answer_with id acceptance agreed.syntax
-answer_of id (Err refusal) = answer_with id (result_of_refusal refusal) Implicit
+abbrev pub context_answer : ℕ → Result AgreedContext ContextRefusal → AnsweredContext
+context_answer id (Ok agreed) = answer_with id acceptance agreed.syntax
+context_answer id (Err refusal) = answer_with id (result_of_refusal refusal) Implicit
 
 abbrev pub answered_context : ProposedContext → AnsweredContext
-answered_context c = answer_of c.id (context_result c)
+answered_context c = context_answer c.id (context_result c)
 
 -- the longest PDU that a peer takes; 0, and none, is no limit (PS3.8 annex D.1)
 abbrev pub peer_limit : Request → ℕ
@@ -94,8 +94,8 @@ agreement_of request = record {
 }
 
 -- the ids of the contexts
-abbrev pub ids_of : Agreement → List ℕ
-ids_of agreement = map (λ (c : AgreedContext). c.id) agreement.contexts
+abbrev pub context_ids : Agreement → List ℕ
+context_ids agreement = map (λ (c : AgreedContext). c.id) agreement.contexts
 
 -- the context with the id
 abbrev pub context_of : Agreement → ℕ → Option AgreedContext
@@ -135,5 +135,5 @@ rejection request verdict =
     then Some (Reject permanent association_provider protocol_version_not_supported)
     else (if not (is_dicom request.application_context)
     then Some (Reject permanent service_user application_context_not_supported)
-    else (if not (has_room request.maximum_length) then Some unknown_rejection
+    else (if not (has_room_for_data request.maximum_length) then Some unknown_rejection
     else verdict_rejection verdict))

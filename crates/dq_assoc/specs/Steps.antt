@@ -7,7 +7,7 @@ use Rattle.dq_pdu.specs.declared.fault.PduFault.{PduFault}
 use Rattle.dq_dimse.specs.Received.{Message}
 use Rattle.dq_dimse.specs.declared.fault.DimseFault.{DimseFault}
 use Rattle.dq_dimse.specs.Assembling.{Messages}
-use Rattle.dq_assoc.specs.Associations.{Held}
+use Rattle.dq_assoc.specs.Associations.{HeldState}
 use Rattle.dq_assoc.specs.declared.association.State.{State}
 use Rattle.dq_assoc.specs.declared.association.State.TheVariants.{Waiting, Open, Closed}
 use Rattle.dq_assoc.specs.declared.association.Verdict.TheVariants.{Accept}
@@ -16,47 +16,47 @@ use Rattle.dq_assoc.specs.Inputs.{reason_of}
 use Rattle.dq_assoc.specs.After.{state_of, is_closed, association_from, inputs_from}
 
 -- messages to be answered first, then octets, and whether the connection is closed
-pub record Step : Type 0 where
+pub record AssociationStep : Type 0 where
   pub messages : List Message
   pub octets : List ℕ
   pub close : Bool
 
 -- what a line of the table leads to
-abbrev pub step_of : Line → Step
+abbrev pub step_of : Line → AssociationStep
 step_of l = record { messages = []; octets = answer_octets l.answer; close = is_closed l.next }
 
 -- nothing is answered
-abbrev pub no_step : State → Step
+abbrev pub no_step : State → AssociationStep
 no_step state = record { messages = []; octets = []; close = is_closed state }
 
-abbrev pub with_message : Message → Step → Step
+abbrev pub with_message : Message → AssociationStep → AssociationStep
 with_message message later =
     record { messages = message ∷ later.messages; octets = later.octets; close = later.close }
 
 -- a step after messages
-abbrev pub after_messages : List Message → Step → Step
+abbrev pub after_messages : List Message → AssociationStep → AssociationStep
 after_messages list step =
     record { messages = list ++ step.messages; octets = step.octets; close = step.close }
 
 -- the messages among inputs after a request, and the answer to the input that closes
-abbrev pub open_outcome : List Input → Step
+abbrev pub open_outcome : List Input → AssociationStep
 open_outcome [] = no_step Open
 open_outcome (Sent message ∷ inputs) = with_message message (open_outcome inputs)
 open_outcome (input ∷ inputs) = step_of (line Open Accept input)
 
 -- what inputs lead to that are no request
-abbrev pub outcome : State → List Input → Step
-outcome Open inputs = open_outcome inputs
-outcome Waiting [] = no_step Waiting
-outcome Waiting (input ∷ inputs) = step_of (line Waiting Accept input)
-outcome Closed inputs = no_step Closed
+abbrev pub step_of_inputs : State → List Input → AssociationStep
+step_of_inputs Open inputs = open_outcome inputs
+step_of_inputs Waiting [] = no_step Waiting
+step_of_inputs Waiting (input ∷ inputs) = step_of (line Waiting Accept input)
+step_of_inputs Closed inputs = no_step Closed
 
 abbrev pub invalid_abort : DimseFault → Pdu
 invalid_abort fault = Abort by_provider invalid_parameter
 
--- what values lead to: their messages, and an abort where they are no messages
-abbrev pub values_step : Messages → Step
-values_step read = record {
+-- what PDVs lead to: their messages, and an abort where they are no messages
+abbrev pub pdvs_step : Messages → AssociationStep
+pdvs_step read = record {
   messages = read.list;
   octets = answer_octets (option_map invalid_abort read.fault);
   close = is_some read.fault;
@@ -75,7 +75,7 @@ fault_answer Open fault = Some (Abort by_provider (reason_of fault))
 fault_answer Closed fault = None
 
 -- two steps as one: nothing comes after one that closes
-abbrev pub then_step : Step → Step → Step
+abbrev pub then_step : AssociationStep → AssociationStep → AssociationStep
 then_step first later = if first.close then first else record {
   messages = first.messages ++ later.messages;
   octets = first.octets ++ later.octets;
@@ -83,8 +83,8 @@ then_step first later = if first.close then first else record {
 }
 
 -- what PDUs lead to that are taken one by one
-abbrev pub joined_step : Held → List Pdu → Step
+abbrev pub joined_step : HeldState → List Pdu → AssociationStep
 joined_step association [] = no_step (state_of association)
 joined_step association (pdu ∷ pdus) =
-    then_step (outcome (state_of association) (inputs_from association (pdu ∷ []) None))
+    then_step (step_of_inputs (state_of association) (inputs_from association (pdu ∷ []) None))
     (joined_step (association_from association (pdu ∷ [])) pdus)

@@ -1,8 +1,8 @@
 //! What an association agrees on when its request is accepted (PS3.8 section 7.1.1).
 ghost use Rattle.std.specs.Prelude.{◌≡◌, map, IfOk};
-ghost use Rattle.dq_dimse.specs.Sending.{IsLimit};
-ghost use Rattle.dq_assoc.specs.PeerLimits.{limit_of};
-ghost use Rattle.dq_assoc.specs.Holding.{accepted_by, accepted_context};
+ghost use Rattle.dq_dimse.specs.Sending.{IsPduLimit};
+ghost use Rattle.dq_assoc.specs.PeerLimits.{limit_of_length};
+ghost use Rattle.dq_assoc.specs.Holding.{accepted_by, assembler_context};
 ghost use Rattle.dq_assoc.specs.Negotiation.{context_of};
 
 use crate::classes::SopClass;
@@ -21,13 +21,13 @@ pub struct PeerLimit {
 
 impl Model for PeerLimit {
     ghost use Rattle.std.specs.Prelude.{ℕ, ◌≡◌, true, Some};
-    ghost use Rattle.dq_assoc.specs.PeerLimits.{has_room};
+    ghost use Rattle.dq_assoc.specs.PeerLimits.{has_room_for_data};
 
     ghost Value = { ℕ };
 
     ghost view = { λ a. a.octets };
 
-    ghost invariant = { λ a. has_room (Some a.octets) ≡ true };
+    ghost invariant = { λ a. has_room_for_data (Some a.octets) ≡ true };
 
     ghost inverse = { λ octets. record { octets = octets } };
 }
@@ -38,7 +38,7 @@ const LEAST_LIMIT: u32 = 8;
 impl PeerLimit {
     /// The limit of a maximum length (51H), if it leaves room. None is no limit.
     pub fn of(maximum: Option<u32>) -> Option<Self>
-        ensures { result ≡ limit_of maximum }
+        ensures { result ≡ limit_of_length maximum }
     {
         match maximum {
             None => Some(PeerLimit { octets: 0 }),
@@ -50,7 +50,7 @@ impl PeerLimit {
     /// In octets, where 0 is no limit.
     pub fn octets(&self) -> u32
         ensures same { result ≡ self.now }
-        ensures room { IsLimit result }
+        ensures room { IsPduLimit result }
     {
         self.octets
     }
@@ -69,7 +69,7 @@ pub struct AgreedContext {
 impl AgreedContext {
     /// What an assembler knows of it.
     fn accepted(&self) -> Accepted
-        ensures { result ≡ accepted_context self.now }
+        ensures { result ≡ assembler_context self.now }
     {
         Accepted {
             id: self.id,
@@ -109,7 +109,7 @@ fn accepted_contexts(
     alloc: Global,
     contexts: &[AgreedContext],
 ) -> Result<Listed<Accepted>, AllocError>
-    ensures { IfOk result (λ accepted. accepted ≡ map accepted_context contexts.now) }
+    ensures { IfOk result (λ accepted. accepted ≡ map assembler_context contexts.now) }
 {
     let mut accepted = Listed::empty(alloc);
     for context in contexts {

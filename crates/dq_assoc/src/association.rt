@@ -10,10 +10,10 @@ ghost use Rattle.dq_dimse.specs.declared.assembler.Accepted.{Accepted};
 ghost use Rattle.dq_assoc.specs.Negotiation.{agreement_of, acceptance_of, peer_limit};
 ghost use Rattle.dq_assoc.specs.Table.{Requested, accepted_line, line, answer_octets};
 ghost use Rattle.dq_assoc.specs.Inputs.{misplaced_input, closing_input, reason_of};
-ghost use Rattle.dq_assoc.specs.Associations.{Held as Pure};
-ghost use Rattle.dq_assoc.specs.After.{state_of, is_closed, association_at, association_by, association_from, open_if, inputs_by, inputs_from, TakesRole, Takes};
-ghost use Rattle.dq_assoc.specs.Steps.{after_messages, step_of, values_step, fault_answer, outcome};
-ghost use Rattle.dq_assoc.specs.Holding.{IsStep, Stands, WasGiven, accepted_by, accepted_in, held_agreement, held_state, is_unspent};
+ghost use Rattle.dq_assoc.specs.Associations.{HeldState as Pure};
+ghost use Rattle.dq_assoc.specs.After.{state_of, is_closed, association_at, association_by, association_from, open_if, inputs_by, inputs_from, TakesRole, TakesPdu};
+ghost use Rattle.dq_assoc.specs.Steps.{after_messages, step_of, pdvs_step, fault_answer, step_of_inputs};
+ghost use Rattle.dq_assoc.specs.Holding.{IsStep, Stands, WasGivenPdus, accepted_by, accepted_in, held_agreement, held_state, is_unspent};
 
 use crate::agreement::{Agreement, PeerLimit};
 use crate::negotiation;
@@ -209,36 +209,36 @@ fn fault_answer(state: State, fault: PduFault) -> Option<Pdu>
     }
 }
 
-/// What values lead to: the messages that they complete, and whether they are no messages.
+/// What PDVs lead to: the messages that they complete, and whether they are no messages.
 #[derive(Drop)]
 struct Read {
     messages: Listed<Message>,
     is_faulty: bool,
 }
 
-/// Gives a value to an assembler, and the message that it completes to `messages`. Answers whether
+/// Gives a PDV to an assembler, and the message that it completes to `messages`. Answers whether
 /// it is faulty.
-fn take_value(
+fn take_pdv(
     assembler: &mut Assembler,
-    value: &Pdv,
+    pdv: &Pdv,
     messages: &mut Listed<Message>,
 ) -> Result<bool, AllocError>
     ensures messages { (assembly : Assembly) (before : List Received) →
         Assembles assembler.old assembly →
         StandForAll assembler.old.accepted messages.old before →
         OnOk result (StandForAll assembler.old.accepted messages.new
-        (before ++ (messages_from assembly (value.now ∷ [])).list)) }
+        (before ++ (messages_from assembly (pdv.now ∷ [])).list)) }
     ensures fault { (assembly : Assembly) → Assembles assembler.old assembly →
         IfOk result (λ is_faulty.
-        is_faulty ≡ is_some (messages_from assembly (value.now ∷ [])).fault) }
+        is_faulty ≡ is_some (messages_from assembly (pdv.now ∷ [])).fault) }
     ensures next { (assembly : Assembly) → Assembles assembler.old assembly →
         IfOk result (λ is_faulty. is_faulty ≡ false →
-        Assembles assembler.new (assembly_from assembly (value.now ∷ []))) }
+        Assembles assembler.new (assembly_from assembly (pdv.now ∷ []))) }
     ensures unspent { IfOk result (λ is_faulty. is_faulty ≡ false →
         spent_with assembler.new ≡ None) }
     ensures keeps { assembler.new.accepted ≡ assembler.old.accepted }
 {
-    match assembler.take(value) {
+    match assembler.take(pdv) {
         Ok(None) => Ok(false),
         Ok(Some(message)) => {
             messages.push(message)?;
@@ -249,24 +249,24 @@ fn take_value(
     }
 }
 
-/// Gives values to an assembler, up to one that is faulty.
-fn read_values(alloc: Global, assembler: &mut Assembler, values: &[Pdv]) -> Result<Read, AllocError>
+/// Gives PDVs to an assembler, up to one that is faulty.
+fn read_pdvs(alloc: Global, assembler: &mut Assembler, pdvs: &[Pdv]) -> Result<Read, AllocError>
     requires { spent_with assembler.old ≡ None }
     ensures messages { (assembly : Assembly) → Assembles assembler.old assembly →
         IfOk result (λ read. StandForAll assembler.old.accepted read.messages
-        (messages_from assembly values.now).list) }
+        (messages_from assembly pdvs.now).list) }
     ensures fault { (assembly : Assembly) → Assembles assembler.old assembly →
-        IfOk result (λ read. read.is_faulty ≡ is_some (messages_from assembly values.now).fault) }
+        IfOk result (λ read. read.is_faulty ≡ is_some (messages_from assembly pdvs.now).fault) }
     ensures next { (assembly : Assembly) → Assembles assembler.old assembly →
         IfOk result (λ read. read.is_faulty ≡ false →
-        Assembles assembler.new (assembly_from assembly values.now)) }
+        Assembles assembler.new (assembly_from assembly pdvs.now)) }
     ensures unspent { IfOk result (λ read. read.is_faulty ≡ false →
         spent_with assembler.new ≡ None) }
     ensures keeps { assembler.new.accepted ≡ assembler.old.accepted }
 {
     let mut messages = Listed::empty(alloc);
-    for value in values {
-        let is_faulty = take_value(assembler, value, &mut messages)?;
+    for pdv in pdvs {
+        let is_faulty = take_pdv(assembler, pdv, &mut messages)?;
         if is_faulty {
             return Ok(Read {
                 messages,
@@ -293,7 +293,7 @@ fn opened(alloc: Global, request: &Request, limit: PeerLimit) -> Result<Held, Al
 impl Association {
     /// An association that awaits its request. It takes no memory.
     pub fn new(alloc: Global) -> Self
-        ensures after { WasGiven [] result }
+        ensures after { WasGivenPdus [] result }
         ensures state { held_state result ≡ State.Waiting }
     {
         Association {
@@ -304,7 +304,7 @@ impl Association {
 
     /// Makes it an association that awaits its request, for another connection. It takes no memory.
     pub fn reset(&mut self)
-        ensures after { WasGiven [] self.new }
+        ensures after { WasGivenPdus [] self.new }
         ensures state { held_state self.new ≡ State.Waiting }
     {
         self.hold(Held::Waiting);
@@ -348,23 +348,11 @@ impl Association {
             IsStep accepted step (step_of (line State.Waiting verdict (Requested request)))) }
         ensures close { IfOk result (λ step. step.close ≡ is_closed (held_state self.new)) }
         ensures after { IfOk result (λ step.
-            step.close ≡ false → WasGiven (Pdu.Request request ∷ []) self.new) }
+            step.close ≡ false → WasGivenPdus (Pdu.Request request ∷ []) self.new) }
         ensures agreement { IfOk result (λ step.
             step.close ≡ false → held_agreement self.new ≡ Some (agreement_of request)) }
         ensures refused { IfOk result (λ step.
             step.close ≡ true → held_agreement self.new ≡ None) }
-    {
-        self.open(request, verdict)
-    }
-
-    /// Answers the request, by the line of the table.
-    fn open(&mut self, request: Request, verdict: Verdict) -> Result<Step, AllocError>
-        ensures step { IfOk result (λ step. (accepted : List Accepted) →
-            IsStep accepted step (step_of (line State.Waiting verdict (Requested request)))) }
-        ensures close { IfOk result (λ step. step.close ≡ is_closed (held_state self.new)) }
-        ensures exact { OnOk result (
-            let next = (line State.Waiting verdict (Requested request)).next in
-            Stands self.new (association_at next request)) }
     {
         self.hold(Held::Closed(None));
         match negotiation::peer_limit(&request, verdict) {
@@ -406,27 +394,27 @@ impl Association {
         })
     }
 
-    /// Takes values, which are the messages of an open association or close it.
+    /// Takes PDVs, which are the messages of an open association or close it.
     #[tactic(auto, using(crate::proofs::ShortPdus::abort_is_writable))]
-    fn take_values(
+    fn take_pdvs(
         &mut self,
         agreement: Agreement,
         mut assembler: Assembler,
-        values: &[Pdv],
+        pdvs: &[Pdv],
     ) -> Result<Step, AllocError>
         requires closed { self.old ≡ Held.Closed None }
         requires unspent { spent_with assembler ≡ None }
         ensures step { (assembly : Assembly) → Assembles assembler assembly →
             IfOk result (λ step. IsStep assembler.accepted step
-            (values_step (messages_from assembly values.now))) }
+            (pdvs_step (messages_from assembly pdvs.now))) }
         ensures close { IfOk result (λ step. step.close ≡ is_closed (held_state self.new)) }
         ensures exact { (assembly : Assembly) → Assembles assembler assembly →
             assembler.accepted ≡ accepted_by agreement →
-            OnOk result (let next = assembly_from assembly values.now in
+            OnOk result (let next = assembly_from assembly pdvs.now in
             Stands self.new (open_if (spent_by next) agreement next)) }
         ensures agreement { OnOk result (held_agreement self.new ≡ Some agreement) }
     {
-        let read = read_values(self.alloc, &mut assembler, values)?;
+        let read = read_pdvs(self.alloc, &mut assembler, pdvs)?;
         if read.is_faulty {
             self.hold(Held::Closed(Some(agreement)));
             // AA-8
@@ -447,7 +435,7 @@ impl Association {
         requires { TakesRole (held_state self.old) role.now }
         ensures step { (association : Pure) → Stands self.old association →
             IfOk result (λ step. IsStep (accepted_in (held_agreement self.old)) step
-            (outcome (state_of association) (inputs_by association (role.now ∷ []) None))) }
+            (step_of_inputs (state_of association) (inputs_by association (role.now ∷ []) None))) }
         ensures close { IfOk result (λ step. step.close ≡ is_closed (held_state self.new)) }
         ensures exact { (association : Pure) → Stands self.old association →
             OnOk result (Stands self.new (association_by association (role.now ∷ []))) }
@@ -458,7 +446,7 @@ impl Association {
             Held::Closed(_) => unreachable!(),
             Held::Waiting => closing_step(self.alloc, messages, misplaced_answer(role)),
             Held::Open(agreement, assembler) => match role {
-                Role::Carries(values) => self.take_values(agreement, assembler, values.as_slice()),
+                Role::Carries(pdvs) => self.take_pdvs(agreement, assembler, pdvs.as_slice()),
                 _ => {
                     self.hold(Held::Closed(Some(agreement)));
                     closing_step(self.alloc, messages, closing_answer(role))
@@ -470,11 +458,11 @@ impl Association {
     /// Takes a PDU after the request, or one that stands in its place. After an error the
     /// association is dropped.
     pub fn take(&mut self, pdu: Pdu) -> Result<Step, AllocError>
-        requires { Takes (held_state self.old) pdu }
+        requires { TakesPdu (held_state self.old) pdu }
         // Whatever association this one stands for: what the PDU leads to, and where it leaves it.
         ensures step { (association : Pure) → Stands self.old association →
             IfOk result (λ step. IsStep (accepted_in (held_agreement self.old)) step
-            (outcome (state_of association) (inputs_from association (pdu ∷ []) None))) }
+            (step_of_inputs (state_of association) (inputs_from association (pdu ∷ []) None))) }
         ensures close { IfOk result (λ step. step.close ≡ is_closed (held_state self.new)) }
         ensures next { (association : Pure) → Stands self.old association →
             OnOk result (Stands self.new (association_from association (pdu ∷ []))) }
@@ -489,7 +477,7 @@ impl Association {
         requires { held_state self.old ≡ State.Open }
         ensures step { (association : Pure) → Stands self.old association →
             IfOk result (λ step. IsStep (accepted_in (held_agreement self.old)) step
-            (outcome State.Open (inputs_from association pdus.items fault))) }
+            (step_of_inputs State.Open (inputs_from association pdus.items fault))) }
         ensures close { IfOk result (λ step. step.close ≡ is_closed (held_state self.new)) }
         ensures next { (association : Pure) → Stands self.old association →
             IfOk result (λ step. step.close ≡ false →
@@ -513,7 +501,7 @@ impl Association {
         ensures step { (association : Pure) (before : List Received) → Stands self.old association →
             let accepted = accepted_in (held_agreement self.old) in
             StandForAll accepted messages.items before → IfOk result (λ step. IsStep accepted step
-            (after_messages before (outcome State.Open (inputs_from association [] fault)))) }
+            (after_messages before (step_of_inputs State.Open (inputs_from association [] fault)))) }
         ensures close { IfOk result (λ step. step.close ≡ is_closed (held_state self.new)) }
         ensures kept { IfOk result (λ step. step.close ≡ false →
             (fault ≡ None) × (self.new ≡ self.old)) }
@@ -534,7 +522,7 @@ impl Association {
     pub fn stop(&mut self, fault: PduFault) -> Result<Step, AllocError>
         ensures step { (association : Pure) → Stands self.old association →
             IfOk result (λ step. (accepted : List Accepted) → IsStep accepted step
-            (outcome (state_of association) (inputs_from association [] (Some fault)))) }
+            (step_of_inputs (state_of association) (inputs_from association [] (Some fault)))) }
         ensures close { IfOk result (λ step. step.close ≡ true) }
         ensures state { held_state self.new ≡ State.Closed }
         ensures agreement { held_agreement self.new ≡ held_agreement self.old }

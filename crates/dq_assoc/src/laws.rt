@@ -1,6 +1,7 @@
 //! Laws of the definitions, each as what a function ensures that does nothing.
 ghost use Rattle.std.specs.Prelude.{◌≡◌, ◌≢◌, ◌≤◌, ℕ, true, IsTrue, List, [], ◌∷◌, ◌++◌};
 ghost use Rattle.std.specs.Prelude.{length, map, filter, Contains, Option, Some, None, if◌then◌else◌};
+ghost use Rattle.dq_list.specs.Octets.{AreOctets};
 ghost use Rattle.dq_dataset.specs.declared.header.Syntax.{Syntax};
 ghost use Rattle.dq_dataset.specs.declared.header.Syntax.TheVariants.{Explicit};
 ghost use Rattle.dq_pdu.specs.declared.pdu.Pdu.{Pdu};
@@ -11,26 +12,25 @@ ghost use Rattle.dq_pdu.specs.declared.pdu.AnsweredContext.{AnsweredContext};
 ghost use Rattle.dq_pdu.specs.declared.fault.PduFault.{PduFault};
 ghost use Rattle.dq_pdu.specs.declared.pdu.Pdv.{Pdv};
 ghost use Rattle.dq_pdu.specs.Octets.{are_distinct};
-ghost use Rattle.dq_pdu.specs.Spelling.{Spells};
+ghost use Rattle.dq_pdu.specs.Spelling.{SpellsPdu};
 ghost use Rattle.dq_pdu.specs.Writing.{IsWritable};
-ghost use Rattle.dq_pdu.specs.Acceptances.{AreOctets};
 ghost use Rattle.dq_pdu.specs.Stream.{pdus_in};
-ghost use Rattle.dq_dimse.specs.Holding.{Holding, WasGiven as WasGivenPdvs, octets_gathered, gathered_limit};
+ghost use Rattle.dq_dimse.specs.Holding.{Holding, WasGivenPdvs, octets_gathered, gathered_limit};
 ghost use Rattle.dq_assoc.specs.declared.agreement.Agreement.{Agreement};
 ghost use Rattle.dq_assoc.specs.declared.association.Held.TheVariants as code;
-ghost use Rattle.dq_assoc.specs.Holding.{WasGiven, accepted_by};
+ghost use Rattle.dq_assoc.specs.Holding.{WasGivenPdus, accepted_by};
 ghost use Rattle.dq_assoc.specs.declared.classes.SopClass.{SopClass};
 ghost use Rattle.dq_assoc.specs.declared.agreement.AgreedContext.{AgreedContext};
-ghost use Rattle.dq_assoc.specs.Associations.{Held};
+ghost use Rattle.dq_assoc.specs.Associations.{HeldState};
 ghost use Rattle.dq_assoc.specs.declared.association.State.{State};
 ghost use Rattle.dq_assoc.specs.declared.association.State.TheVariants.{Waiting, Open, Closed};
 ghost use Rattle.dq_assoc.specs.declared.association.Verdict.{Verdict};
 ghost use Rattle.dq_assoc.specs.Classes.{uid_of, class_of};
-ghost use Rattle.dq_assoc.specs.Negotiation.{syntax_uid, acceptance, agreed_context, is_accepted, answer_with, answered_context, acceptance_of, agreement_of, ids_of, rejection};
+ghost use Rattle.dq_assoc.specs.Negotiation.{syntax_uid, acceptance, agreed_context, is_accepted, answer_with, answered_context, acceptance_of, agreement_of, context_ids, rejection};
 ghost use Rattle.dq_assoc.specs.Table.{Input, Requested, goes, line, is_message};
 ghost use Rattle.dq_assoc.specs.Inputs.{inputs_of, inputs, AreInputs};
 ghost use Rattle.dq_assoc.specs.After.{AssociationAfter, state_of, agreement_in, association_from, inputs_from};
-ghost use Rattle.dq_assoc.specs.Steps.{outcome, joined_step, fault_inputs};
+ghost use Rattle.dq_assoc.specs.Steps.{step_of_inputs, joined_step, fault_inputs};
 
 use dq_pdu::laws::a_longer_stream_adds;
 
@@ -74,11 +74,11 @@ pub fn agreements_are_of_accepted_contexts()
         map (λ (a : AgreedContext). Some a) (agreement_of request).contexts
         ≡ map agreed_context (filter is_accepted request.contexts) }
     ensures ids { (request : Request) →
-        ids_of (agreement_of request)
+        context_ids (agreement_of request)
         ≡ map (λ (c : ProposedContext). c.id) (filter is_accepted request.contexts) }
     ensures distinct { (request : Request) →
         IsTrue (are_distinct (map (λ (c : ProposedContext). c.id) request.contexts)) →
-        IsTrue (are_distinct (ids_of (agreement_of request))) }
+        IsTrue (are_distinct (context_ids (agreement_of request))) }
 {}
 
 /// The table of states (PS3.8 section 9.2). Nothing leads back to Waiting, and nothing leads out of
@@ -101,9 +101,9 @@ pub fn table_of_states()
 /// for requests that no octets spell.
 pub fn acceptances_are_writable()
     ensures written { (octets : List ℕ) (request : Request) → AreOctets octets →
-        Spells (request_pdu request) octets → IsWritable (acceptance_of request) }
+        SpellsPdu (request_pdu request) octets → IsWritable (acceptance_of request) }
     ensures line { (octets : List ℕ) (request : Request) (verdict : Verdict) → AreOctets octets →
-        Spells (request_pdu request) octets → rejection request verdict ≡ None →
+        SpellsPdu (request_pdu request) octets → rejection request verdict ≡ None →
         line Waiting verdict (Requested request) ≡ goes (Some (acceptance_of request)) Open }
 {}
 
@@ -116,59 +116,59 @@ pub fn the_last_input_closes()
 
 /// An association after PDUs: what more PDUs and a fault add to the inputs follows from it alone.
 pub fn an_association_after_pdus()
-    ensures inputs { (pdus more : List Pdu) (fault : Option PduFault) (association : Held) →
+    ensures inputs { (pdus more : List Pdu) (fault : Option PduFault) (association : HeldState) →
         AssociationAfter pdus association →
         inputs_of (pdus ++ more) fault ≡ inputs_of pdus None ++ inputs_from association more fault }
-    ensures none { (pdus : List Pdu) (association : Held) → AssociationAfter pdus association →
+    ensures none { (pdus : List Pdu) (association : HeldState) → AssociationAfter pdus association →
         inputs_from association [] None ≡ [] }
-    ensures fault { (pdus : List Pdu) (fault : PduFault) (association : Held) →
+    ensures fault { (pdus : List Pdu) (fault : PduFault) (association : HeldState) →
         AssociationAfter pdus association →
         inputs_from association [] (Some fault) ≡ fault_inputs (state_of association) fault }
-    ensures waits { (pdus : List Pdu) (association : Held) → AssociationAfter pdus association →
+    ensures waits { (pdus : List Pdu) (association : HeldState) → AssociationAfter pdus association →
         state_of association ≡ Waiting → pdus ≡ [] }
     // One that is open was opened by the first PDU, and agrees on what that requests.
-    ensures opens { (pdus : List Pdu) (association : Held) → AssociationAfter pdus association →
+    ensures opens { (pdus : List Pdu) (association : HeldState) → AssociationAfter pdus association →
         state_of association ≡ Open →
         (request : Request) × (later : List Pdu) × (pdus ≡ request_pdu request ∷ later)
         × (agreement_in association ≡ Some (agreement_of request)) }
     // Nothing is added once it is closed.
-    ensures ends { (pdus : List Pdu) (fault : Option PduFault) (association : Held) →
+    ensures ends { (pdus : List Pdu) (fault : Option PduFault) (association : HeldState) →
         state_of association ≡ Closed → inputs_from association pdus fault ≡ [] }
 {}
 
 /// PDUs may be taken in parts: what the later ones add follows from where the earlier ones leave
 /// the association.
 pub fn pdus_in_parts()
-    ensures after { (pdus more : List Pdu) (association : Held) →
+    ensures after { (pdus more : List Pdu) (association : HeldState) →
         AssociationAfter pdus association →
         AssociationAfter (pdus ++ more) (association_from association more) }
-    ensures inputs { (pdus more : List Pdu) (fault : Option PduFault) (association : Held) →
+    ensures inputs { (pdus more : List Pdu) (fault : Option PduFault) (association : HeldState) →
         inputs_from association (pdus ++ more) fault ≡ inputs_from association pdus None
         ++ inputs_from (association_from association pdus) more fault }
-    ensures association { (pdus more : List Pdu) (association : Held) →
+    ensures association { (pdus more : List Pdu) (association : HeldState) →
         association_from association (pdus ++ more)
         ≡ association_from (association_from association pdus) more }
 {}
 
-/// The assembler of an open association was given the values of its PDUs, on the contexts that are
+/// The assembler of an open association was given the PDVs of its PDUs, on the contexts that are
 /// agreed on. So of an unfinished message it holds at most 16,384 octets of a command set, or
 /// 1,048,576 of a data set, besides the sieve of a C-STORE (`dq_dimse::laws`).
 pub fn unfinished_messages_are_short()
-    ensures values { (pdus : List Pdu) (agreement : Agreement) (holding : Holding) →
-        WasGiven pdus (code.Open agreement holding) →
+    ensures pdvs { (pdus : List Pdu) (agreement : Agreement) (holding : Holding) →
+        WasGivenPdus pdus (code.Open agreement holding) →
         (pdvs : List Pdv) × WasGivenPdvs (accepted_by agreement) pdvs holding }
     ensures held { (pdus : List Pdu) (agreement : Agreement) (holding : Holding) →
-        WasGiven pdus (code.Open agreement holding) →
+        WasGivenPdus pdus (code.Open agreement holding) →
         length (octets_gathered holding.gathered) ≤ gathered_limit holding.gathered }
 {}
 
 /// What PDUs after the first lead to that are taken one by one is read off the inputs that they add
 /// together.
 pub fn pdus_taken_one_by_one()
-    ensures { (first : Pdu) (pdus more : List Pdu) (association : Held) →
+    ensures { (first : Pdu) (pdus more : List Pdu) (association : HeldState) →
         AssociationAfter (first ∷ pdus) association →
         joined_step association more
-        ≡ outcome (state_of association) (inputs_from association more None) }
+        ≡ step_of_inputs (state_of association) (inputs_from association more None) }
 {}
 
 /// A prefix of a stream has a prefix of its inputs. An association after its PDUs adds the others,
@@ -176,7 +176,7 @@ pub fn pdus_taken_one_by_one()
 pub fn a_longer_stream_adds_inputs()
     ensures adds { (stream more : List ℕ) →
         (added : List Input) × (inputs (stream ++ more) ≡ inputs stream ++ added) }
-    ensures further { (stream more : List ℕ) (pdus : List Pdu) (association : Held) →
+    ensures further { (stream more : List ℕ) (pdus : List Pdu) (association : HeldState) →
         (pdus_in stream).fault ≡ None → AssociationAfter (pdus_in stream).list association →
         (pdus_in (stream ++ more)).list ≡ (pdus_in stream).list ++ pdus →
         inputs (stream ++ more)

@@ -4,8 +4,8 @@ use Rattle.dq_tables.specs.declared.row.Kind.TheVariants.{Entry}
 use Rattle.dq_tables.specs.declared.row.Row.{Row}
 use Rattle.dq_tables.specs.declared.change.Change.TheVariants.{EntryAdded}
 use Rattle.dq_tables.specs.Finding.{row_at}
-use Rattle.dq_tables.specs.Sound.{is_own, is_held, Fits}
+use Rattle.dq_tables.specs.Sound.{is_own_row, is_held, ChangeFits}
 
-pub fits_entry : (row : Row) → row.kind ≡ Entry → is_own row ≡ true → Fits [] (EntryAdded row)
+pub fits_entry : (row : Row) → row.kind ≡ Entry → is_own_row row ≡ true → ChangeFits [] (EntryAdded row)
 unfolding row_at is_held
 fits_entry row kind own = record { kind_is = kind; free = refl; own = own; held = refl }

@@ -7,13 +7,13 @@ use Rattle.std.proofs.lemmas.List.Folds.{list_all_at}
 use Rattle.std.proofs.lemmas.Str.Pattern.{IsSplitOnceResult, split_after}
 use Rattle.dq_core.specs.declared.event.Event.{Event}
 use Rattle.dq_core.specs.declared.event.Event.TheVariants.{Open, Piece, End, Pull, Schedule, Withdraw}
-use Rattle.dq_config.specs.Conditions.{is_between, is_name, is_name_octet}
-use Rattle.dq_captures.specs.Captures.{IsNumber, AreOctets, SpellsPiece, SpellsOrder, Spells}
+use Rattle.dq_config.specs.Conditions.{is_between, is_institution_name, is_name_octet}
+use Rattle.dq_captures.specs.Captures.{IsNumber, SpellOctets, SpellsPiece, SpellsOrder, SpellsEvent}
 use Rattle.dq_captures.proofs.Numbers.{IsNumber-spaceless}
 
 -- the split at the first space parts the number from the octets
 pub SpellsPiece-split : (text : List ℕ) (r : Option (Bor (List ℕ) × Bor (List ℕ))) → IsSplitOnceResult 32 text r → (event : Event) → SpellsPiece text event
-    → MatchOption r ⊥ (λ x. (number : ℕ) × (octets : List ℕ) × IsNumber x.0.now number × AreOctets x.1.now octets)
+    → MatchOption r ⊥ (λ x. (number : ℕ) × (octets : List ℕ) × IsNumber x.0.now number × SpellOctets x.1.now octets)
 SpellsPiece-split text r split (Open number) spells = absurd spells
 SpellsPiece-split text r split (End number) spells = absurd spells
 SpellsPiece-split text r split (Pull number) spells = absurd spells
@@ -38,7 +38,7 @@ pub other_letter : (a b m n : ℕ) (xs ys : List ℕ) → m ≢ n → a ∷ m �
 other_letter a b m n xs ys apart same = apart (ap (λ l. get_or l 1 0) same)
 
 -- a line that begins with the word of a piece spells what stands after the word
-piece_line : (line rest : List ℕ) → line ≡ codes "piece " ++ rest → (event : Event) → Spells line event → SpellsPiece rest event
+piece_line : (line rest : List ℕ) → line ≡ codes "piece " ++ rest → (event : Event) → SpellsEvent line event → SpellsPiece rest event
 piece_line line rest begins (Open number) spells = absurd (other_word 112 111 _ _ (omega arith) (sym begins ∙ spells.1))
 piece_line line rest begins (Piece number octets) spells = rw (ap (drop 6) (sym begins ∙ spells.1)) spells.2
 piece_line line rest begins (End number) spells = absurd (other_word 112 101 _ _ (omega arith) (sym begins ∙ spells.1))
@@ -46,7 +46,7 @@ piece_line line rest begins (Pull number) spells = absurd (other_letter 112 112 
 piece_line line rest begins (Schedule inst octets) spells = absurd (other_word 112 115 _ _ (omega arith) (sym begins ∙ spells.1))
 piece_line line rest begins (Withdraw inst id) spells = absurd (other_word 112 119 _ _ (omega arith) (sym begins ∙ spells.1))
 
-spelled_piece : (line rest : List ℕ) → line ≡ codes "piece " ++ rest → (event : Event) → SpellsPiece rest event → Spells line event
+spelled_piece : (line rest : List ℕ) → line ≡ codes "piece " ++ rest → (event : Event) → SpellsPiece rest event → SpellsEvent line event
 spelled_piece line rest begins (Open number) spells = absurd spells
 spelled_piece line rest begins (Piece number octets) spells = (rest, begins, spells)
 spelled_piece line rest begins (End number) spells = absurd spells
@@ -56,7 +56,7 @@ spelled_piece line rest begins (Withdraw inst id) spells = absurd spells
 
 pub Spells-piece : {E : Type 0} (line rest : List ℕ) (r : Result (Option Event) E) → line ≡ codes "piece " ++ rest
     → IfOk r (λ found. MatchOption found ((event : Event) → SpellsPiece rest event → ⊥) (SpellsPiece rest))
-    → IfOk r (λ found. MatchOption found ((event : Event) → Spells line event → ⊥) (Spells line))
+    → IfOk r (λ found. MatchOption found ((event : Event) → SpellsEvent line event → ⊥) (SpellsEvent line))
 Spells-piece line rest (Err e) begins read = tt
 Spells-piece line rest (Ok None) begins read = λ event spells. read event (piece_line line rest begins event spells)
 Spells-piece line rest (Ok (Some event)) begins read = spelled_piece line rest begins event read
@@ -68,8 +68,8 @@ second_true true b both = both
 second_true false b both = absurd (false≢true both)
 
 -- no space is in a name
-pub is_name-spaceless : (name : List ℕ) → IsTrue (is_name name) → (i : ℕ) → i < length name → get_or name i 0 ≢ 32
-unfolding is_name is_name_octet
+pub is_name-spaceless : (name : List ℕ) → IsTrue (is_institution_name name) → (i : ℕ) → i < length name → get_or name i 0 ≢ 32
+unfolding is_institution_name is_name_octet
 is_name-spaceless name is i below = λ space.
     let out : is_name_octet (get_or name i 0) ≡ false = ap is_name_octet space in
     let none = list_all_at is_name_octet name i 0 below out in
@@ -78,7 +78,7 @@ is_name-spaceless name is i below = λ space.
 -- the split at the first space parts the name from the octets
 pub SpellsOrder-split : (text : List ℕ) (r : Option (Bor (List ℕ) × Bor (List ℕ))) → IsSplitOnceResult 32 text r
     → (name octets : List ℕ) → SpellsOrder text name octets
-    → MatchOption r ⊥ (λ x. (x.0.now ≡ name) × IsTrue (is_name name) × AreOctets x.1.now octets)
+    → MatchOption r ⊥ (λ x. (x.0.now ≡ name) × IsTrue (is_institution_name name) × SpellOctets x.1.now octets)
 SpellsOrder-split text None split name octets spells =
     split_after 32 text name spells.0 None split (lit< tt) (spells.1 ∙ append_assoc name (codes " ") spells.0) (is_name-spaceless name spells.2)
 SpellsOrder-split text (Some x) split name octets spells =
@@ -92,7 +92,7 @@ SpellsOrder-unsplit text r split none name octets spells = rw none at (SpellsOrd
 
 -- a line that begins with the word of an order spells what stands after the word
 pub no_schedule : (line rest : List ℕ) → ((name octets : List ℕ) → SpellsOrder rest name octets → ⊥) → line ≡ codes "schedule " ++ rest
-    → (event : Event) → Spells line event → ⊥
+    → (event : Event) → SpellsEvent line event → ⊥
 no_schedule line rest none begins (Open number) spells = other_word 115 111 _ _ (omega arith) (sym begins ∙ spells.1)
 no_schedule line rest none begins (Piece number octets) spells = other_word 115 112 _ _ (omega arith) (sym begins ∙ spells.1)
 no_schedule line rest none begins (End number) spells = other_word 115 101 _ _ (omega arith) (sym begins ∙ spells.1)
@@ -101,7 +101,7 @@ no_schedule line rest none begins (Schedule inst octets) spells = none inst octe
 no_schedule line rest none begins (Withdraw inst id) spells = other_word 115 119 _ _ (omega arith) (sym begins ∙ spells.1)
 
 pub no_withdrawal : (line rest : List ℕ) → ((name octets : List ℕ) → SpellsOrder rest name octets → ⊥) → line ≡ codes "withdraw " ++ rest
-    → (event : Event) → Spells line event → ⊥
+    → (event : Event) → SpellsEvent line event → ⊥
 no_withdrawal line rest none begins (Open number) spells = other_word 119 111 _ _ (omega arith) (sym begins ∙ spells.1)
 no_withdrawal line rest none begins (Piece number octets) spells = other_word 119 112 _ _ (omega arith) (sym begins ∙ spells.1)
 no_withdrawal line rest none begins (End number) spells = other_word 119 101 _ _ (omega arith) (sym begins ∙ spells.1)

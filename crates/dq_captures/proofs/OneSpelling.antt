@@ -5,7 +5,7 @@ use Rattle.hex.proofs.HexLemmas.{decode_of-odd, decode_of-same}
 use Rattle.hex.specs.Hex.{decode_of}
 use Rattle.dq_core.specs.declared.event.Event.{Event}
 use Rattle.dq_core.specs.declared.event.Event.TheVariants.{Open, Piece, End, Pull, Schedule, Withdraw}
-use Rattle.dq_captures.specs.Captures.{IsNumber, AreOctets, SpellsPiece, SpellsOrder, Spells, SpellEach}
+use Rattle.dq_captures.specs.Captures.{IsNumber, SpellOctets, SpellsPiece, SpellsOrder, SpellsEvent, SpellEach}
 use Rattle.dq_captures.proofs.Numbers.{IsNumber-spaceless}
 use Rattle.dq_captures.proofs.Lines.{other_word, other_letter, is_name-spaceless}
 
@@ -17,7 +17,7 @@ no_octets text octets hyphen read =
     let odd = decode_of-odd (codes "-") refl in
     let other = rw hyphen at read in cc
 
-same_octets : (text xs ys : List ℕ) → AreOctets text xs → AreOctets text ys → xs ≡ ys
+same_octets : (text xs ys : List ℕ) → SpellOctets text xs → SpellOctets text ys → xs ≡ ys
 same_octets text xs ys (inl first) (inl second) = first.1 ∙ sym second.1
 same_octets text xs ys (inl first) (inr second) = absurd (no_octets text ys first.0 second.1)
 same_octets text xs ys (inr first) (inl second) = absurd (no_octets text xs second.0 first.1)
@@ -50,7 +50,7 @@ same_order text g h xs ys first second =
     (is_name-spaceless g first.2) (is_name-spaceless h second.2) in
     (cut.0, same_octets first.0 xs ys first.3 (rw cut.1 second.3))
 
-pub same_event : (line : List ℕ) (e f : Event) → Spells line e → Spells line f → e ≡ f
+pub same_event : (line : List ℕ) (e f : Event) → SpellsEvent line e → SpellsEvent line f → e ≡ f
 same_event line (Open m) (Open n) first second =
     ap Open (same_number first.0 m n first.2 (rw (ap (drop 5) (sym first.1 ∙ second.1)) second.2))
 same_event line (Open m) (Piece n ys) first second = absurd (other_word 111 112 _ _ (omega arith) (sym first.1 ∙ second.1))

@@ -8,7 +8,7 @@ use Rattle.dq_core.specs.declared.event.Event.TheVariants.{Open, Piece, End, Pul
 use Rattle.dq_core.specs.Histories.{is_above, newest_after, rises_from}
 use Rattle.dq_captures.specs.declared.capture.CaptureFault.{CaptureFault}
 use Rattle.dq_captures.specs.declared.capture.CaptureFault.TheVariants.{Line, NoMemory}
-use Rattle.dq_captures.specs.Captures.{is_skipped, told, Spells, SpellEach, AreCapture, IsFirstBadLine}
+use Rattle.dq_captures.specs.Captures.{is_skipped, telling_lines, SpellsEvent, SpellEach, AreCapture, IsFirstBadLine}
 use Rattle.dq_captures.proofs.OneSpelling.{same_event, same_events}
 
 and_assoc : (a b c : Bool) → (a && (b && c)) ≡ ((a && b) && c)
@@ -46,7 +46,7 @@ rises_from-push newest (Withdraw inst id ∷ es) e = rises_from-push newest es e
 
 -- ---- lines that are spelled, one line further
 
-SpellEach-push : (ls : List (List ℕ)) (es : List Event) (line : List ℕ) (e : Event) → SpellEach ls es → Spells line e
+SpellEach-push : (ls : List (List ℕ)) (es : List Event) (line : List ℕ) (e : Event) → SpellEach ls es → SpellsEvent line e
     → SpellEach (ls ++ line ∷ []) (es ++ e ∷ [])
 SpellEach-push [] [] line e each spells = (spells, tt)
 SpellEach-push [] (f ∷ es) line e each spells = absurd each
@@ -55,7 +55,7 @@ SpellEach-push (l ∷ ls) (f ∷ es) line e each spells = (each.0, SpellEach-pus
 
 -- the last line spells the last event
 SpellEach-last : (ls : List (List ℕ)) (line : List ℕ) (fs : List Event) → SpellEach (ls ++ line ∷ []) fs → (es : List Event) × (e : Event) × (fs ≡ es ++ e ∷ [])
-    × SpellEach ls es × Spells line e
+    × SpellEach ls es × SpellsEvent line e
 SpellEach-last [] line [] each = absurd each
 SpellEach-last [] line (f ∷ []) each = ([], f, refl, tt, each.0)
 SpellEach-last [] line (f ∷ g ∷ fs) each = absurd each.1
@@ -66,28 +66,28 @@ SpellEach-last (l ∷ ls) line (f ∷ fs) each =
 
 -- ---- captures, one line further
 
-told_one-skipped : (line : List ℕ) → is_skipped line ≡ true → told (line ∷ []) ≡ []
+told_one-skipped : (line : List ℕ) → is_skipped line ≡ true → telling_lines (line ∷ []) ≡ []
 told_one-skipped line skipped = rw skipped refl
 
-told_one : (line : List ℕ) → is_skipped line ≡ false → told (line ∷ []) ≡ line ∷ []
+told_one : (line : List ℕ) → is_skipped line ≡ false → telling_lines (line ∷ []) ≡ line ∷ []
 told_one line unskipped = rw unskipped refl
 
 module _ (ls : List (List ℕ)) (n : ℕ) (line : List ℕ) (here : (n < length ls) × (line ≡ get_or ls n line)) where
   take_line : take (n + 1) ls ≡ take n ls ++ line ∷ []
   take_line = take_more ls n line here.0 ∙ ap (λ l. take n ls ++ l ∷ []) (sym here.1)
 
-  told-skipped : is_skipped line ≡ true → told (take (n + 1) ls) ≡ told (take n ls)
+  told-skipped : is_skipped line ≡ true → telling_lines (take (n + 1) ls) ≡ telling_lines (take n ls)
   told-skipped skipped =
-      ap told take_line ∙ filter-append _ (take n ls) (line ∷ []) ∙ ap (λ l. told (take n ls) ++ l) (told_one-skipped line skipped) ∙ append-nil _
+      ap telling_lines take_line ∙ filter-append _ (take n ls) (line ∷ []) ∙ ap (λ l. telling_lines (take n ls) ++ l) (told_one-skipped line skipped) ∙ append-nil _
 
-  told-line : is_skipped line ≡ false → told (take (n + 1) ls) ≡ told (take n ls) ++ line ∷ []
+  told-line : is_skipped line ≡ false → telling_lines (take (n + 1) ls) ≡ telling_lines (take n ls) ++ line ∷ []
   told-line unskipped =
-      ap told take_line ∙ filter-append _ (take n ls) (line ∷ []) ∙ ap (λ l. told (take n ls) ++ l) (told_one line unskipped)
+      ap telling_lines take_line ∙ filter-append _ (take n ls) (line ∷ []) ∙ ap (λ l. telling_lines (take n ls) ++ l) (told_one line unskipped)
 
   pub AreCapture-skipped : (es : List Event) → is_skipped line ≡ true → AreCapture (take n ls) es → AreCapture (take (n + 1) ls) es
   AreCapture-skipped es skipped so_far = record { spelled = rw (told-skipped skipped) so_far.spelled; rising = so_far.rising }
 
-  pub AreCapture-event : (es : List Event) (e : Event) → is_skipped line ≡ false → Spells line e → rises_from (newest_after None es) (e ∷ []) ≡ true
+  pub AreCapture-event : (es : List Event) (e : Event) → is_skipped line ≡ false → SpellsEvent line e → rises_from (newest_after None es) (e ∷ []) ≡ true
       → AreCapture (take n ls) es → AreCapture (take (n + 1) ls) (es ++ e ∷ [])
   AreCapture-event es e unskipped spells rises so_far = record {
     spelled = rw (told-line unskipped) (SpellEach-push _ es line e so_far.spelled spells);
@@ -101,15 +101,15 @@ module _ (ls : List (List ℕ)) (n : ℕ) (line : List ℕ) (here : (n < length 
     bad = none;
   }
 
-  pub IsFirstBadLine-unspelled : (es : List Event) → is_skipped line ≡ false → ((e : Event) → Spells line e → ⊥) → AreCapture (take n ls) es
+  pub IsFirstBadLine-unspelled : (es : List Event) → is_skipped line ≡ false → ((e : Event) → SpellsEvent line e → ⊥) → AreCapture (take n ls) es
       → IsFirstBadLine ls (n + 1)
   IsFirstBadLine-unspelled es unskipped none so_far = first_bad es so_far (λ fs all.
-      let last = SpellEach-last (told (take n ls)) line fs (rw (told-line unskipped) at all.spelled) in none last.1 last.4)
+      let last = SpellEach-last (telling_lines (take n ls)) line fs (rw (told-line unskipped) at all.spelled) in none last.1 last.4)
 
-  pub IsFirstBadLine-sinking : (es : List Event) (e : Event) → is_skipped line ≡ false → Spells line e → rises_from (newest_after None es) (e ∷ []) ≡ false
+  pub IsFirstBadLine-sinking : (es : List Event) (e : Event) → is_skipped line ≡ false → SpellsEvent line e → rises_from (newest_after None es) (e ∷ []) ≡ false
       → AreCapture (take n ls) es → IsFirstBadLine ls (n + 1)
   IsFirstBadLine-sinking es e unskipped spells sinks so_far = first_bad es so_far (λ fs all.
-      let last = SpellEach-last (told (take n ls)) line fs (rw (told-line unskipped) at all.spelled) in
+      let last = SpellEach-last (telling_lines (take n ls)) line fs (rw (told-line unskipped) at all.spelled) in
       let same_before = same_events _ last.0 es last.3 so_far.spelled in
       let same_last = same_event line last.1 e last.4 spells in
       let rises = second_true (rises_from None last.0) (rises_from (newest_after None last.0) (last.1 ∷ [])) (sym (rises_from-push None last.0 last.1)
@@ -142,15 +142,15 @@ rises_from-front newest (Withdraw inst id ∷ fs) gs rising = rises_from-front n
 
 AreCapture-front : (ls : List (List ℕ)) (n : ℕ) (es : List Event) → AreCapture ls es → (fs : List Event) × AreCapture (take n ls) fs
 AreCapture-front ls n es all =
-    let parts = ap told (sym (take-append-drop n ls)) ∙ filter-append _ (take n ls) (drop n ls) in
-    let front = SpellEach-front (told (take n ls)) (told (drop n ls)) es (rw parts at all.spelled) in
+    let parts = ap telling_lines (sym (take-append-drop n ls)) ∙ filter-append _ (take n ls) (drop n ls) in
+    let front = SpellEach-front (telling_lines (take n ls)) (telling_lines (drop n ls)) es (rw parts at all.spelled) in
     (front.0, record { spelled = front.3; rising = rises_from-front None front.0 front.1 (rw front.2 at all.rising) })
 
 -- where there is a capture there is no bad line
 pub AreCapture-only : {V : Type 0} (ls : List (List ℕ)) (items : V → List Event) (r : Result V CaptureFault) → IfOk r (λ v. AreCapture ls (items v))
     → ((number : ℕ) → IsErrOf r (Line number) → IsFirstBadLine ls number) → (events : List Event) → AreCapture ls events
     → MatchResult r (λ v. items v ≡ events) (λ fault. fault ≡ NoMemory)
-AreCapture-only ls items (Ok v) read bad events all = same_events (told ls) (items v) events read.spelled all.spelled
+AreCapture-only ls items (Ok v) read bad events all = same_events (telling_lines ls) (items v) events read.spelled all.spelled
 AreCapture-only ls items (Err NoMemory) read bad events all = refl
 AreCapture-only ls items (Err (Line number)) read bad events all =
     let front = AreCapture-front ls number events all in

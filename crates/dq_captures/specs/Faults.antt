@@ -3,6 +3,6 @@ use Rattle.std.specs.Prelude.{ℕ}
 use Rattle.dq_captures.specs.declared.printing.PrintFault.{PrintFault}
 use Rattle.dq_captures.specs.declared.printing.PrintFault.TheVariants.{NoMemory, Output}
 
-abbrev pub number_of : PrintFault → ℕ
-number_of NoMemory = 1
-number_of Output = 2
+abbrev pub print_fault_number : PrintFault → ℕ
+print_fault_number NoMemory = 1
+print_fault_number Output = 2

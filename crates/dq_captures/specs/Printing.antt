@@ -13,13 +13,13 @@ octets_text [] = codes "-"
 octets_text (octet ∷ octets) = encode_lower (octet ∷ octets)
 
 -- the end of a line, in which it is told whether the connection is closed
-abbrev pub line_end : Bool → List ℕ
-line_end close = if close then codes " close" ++ line_feed ∷ [] else line_feed ∷ []
+abbrev pub reply_line_end : Bool → List ℕ
+reply_line_end close = if close then codes " close" ++ line_feed ∷ [] else line_feed ∷ []
 
 -- `N HEX`, and ` close` where the connection is closed
 abbrev pub octets_line : ℕ → List ℕ → Bool → List ℕ
 octets_line number octets close =
-    (decimal number ++ codes " ") ++ (octets_text octets ++ line_end close)
+    (decimal number ++ codes " ") ++ (octets_text octets ++ reply_line_end close)
 
 -- a text, and a number after it
 abbrev pub numbered_line : List ℕ → ℕ → List ℕ
@@ -33,5 +33,5 @@ printed_line (Refused number) = numbered_line (codes "refused ") number
 printed_line Ignored = codes "ignored" ++ line_feed ∷ []
 
 -- a line for each reply
-abbrev pub printed : List Reply → List ℕ
-printed replies = flat_map printed_line replies
+abbrev pub reply_lines : List Reply → List ℕ
+reply_lines replies = flat_map printed_line replies

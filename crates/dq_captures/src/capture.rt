@@ -4,7 +4,7 @@ ghost use Rattle.std.specs.Prelude.{◌≡◌, ℕ, ◌++◌, ◌∷◌, [], Lis
 ghost use Rattle.dq_core.specs.declared.event.Event.{Event};
 ghost use Rattle.dq_core.specs.Histories.{rises_from, newest_after};
 ghost use Rattle.dq_core.specs.Soundness.{BringOctets};
-ghost use Rattle.dq_captures.specs.Captures.{lines_of, is_skipped, IsNumber, AreOctets, SpellsPiece, SpellsOrder, Spells, AreCapture, IsFirstBadLine, Finds};
+ghost use Rattle.dq_captures.specs.Captures.{lines_of, is_skipped, IsNumber, SpellOctets, SpellsPiece, SpellsOrder, SpellsEvent, AreCapture, IsFirstBadLine, Finds};
 
 use dq_config::is_name;
 use dq_core::Event;
@@ -46,8 +46,8 @@ fn number_of(digits: &str) -> Option<u64>
 
 fn octets_of(alloc: Global, text: &str) -> Result<Option<Vec<u8>>, AllocError>
     ensures { IfOk result (λ found. MatchOption found
-        ((octets : List ℕ) → AreOctets text.now octets → ⊥)
-        (λ octets. AreOctets text.now octets.items)) }
+        ((octets : List ℕ) → SpellOctets text.now octets → ⊥)
+        (λ octets. SpellOctets text.now octets.items)) }
 {
     if text == "-" {
         return Ok(Some(Vec::new(alloc)));
@@ -98,7 +98,7 @@ fn order_of(alloc: Global, rest: &str) -> Result<Option<(Listed<u8>, Listed<u8>)
 
 fn schedule_of(alloc: Global, rest: &str) -> Result<Option<Event>, AllocError>
     ensures { IfOk result (λ found. (line : List ℕ) → line ≡ codes "schedule " ++ rest.now →
-        Finds (Spells line) found) }
+        Finds (SpellsEvent line) found) }
 {
     match order_of(alloc, rest)? {
         Some((inst, octets)) => Ok(Some(Event::Schedule { inst, octets })),
@@ -108,7 +108,7 @@ fn schedule_of(alloc: Global, rest: &str) -> Result<Option<Event>, AllocError>
 
 fn withdrawal_of(alloc: Global, rest: &str) -> Result<Option<Event>, AllocError>
     ensures { IfOk result (λ found. (line : List ℕ) → line ≡ codes "withdraw " ++ rest.now →
-        Finds (Spells line) found) }
+        Finds (SpellsEvent line) found) }
 {
     match order_of(alloc, rest)? {
         Some((inst, id)) => Ok(Some(Event::Withdraw { inst, id })),
@@ -118,7 +118,7 @@ fn withdrawal_of(alloc: Global, rest: &str) -> Result<Option<Event>, AllocError>
 
 /// The event that a line tells.
 pub fn event_of(alloc: Global, line: &str) -> Result<Option<Event>, AllocError>
-    ensures { IfOk result (Finds (Spells line.now)) }
+    ensures { IfOk result (Finds (SpellsEvent line.now)) }
 {
     if let Some(digits) = behind(line, "open ") {
         return Ok(number_of(digits).map(Event::Open));

@@ -3,7 +3,7 @@ ghost use Rattle.std.specs.Prelude.{◌≡◌, ◌++◌, IfOk, IfErr, OnOk, OnEr
 ghost use Rattle.std.specs.Fmt.{decimal};
 ghost use Rattle.std.specs.Io.KnownBytes.{Appends};
 ghost use Rattle.hex.specs.Hex.{encode_lower};
-ghost use Rattle.dq_captures.specs.Printing.{octets_text, line_end, numbered_line, octets_line, printed_line, printed};
+ghost use Rattle.dq_captures.specs.Printing.{octets_text, reply_line_end, numbered_line, octets_line, printed_line, reply_lines};
 ghost use Rattle.dq_captures.specs.Surroundings.{BreaksOff};
 
 use crate::surroundings::Sink;
@@ -24,11 +24,11 @@ pub enum PrintFault {
 }
 
 impl PrintFault {
-    ghost use Rattle.dq_captures.specs.Faults.{number_of};
+    ghost use Rattle.dq_captures.specs.Faults.{print_fault_number};
 
     /// 1 and 2, in the order in which the faults are declared.
     pub fn number(self) -> u8
-        ensures { result ≡ number_of self }
+        ensures { result ≡ print_fault_number self }
     {
         self as u8
     }
@@ -111,7 +111,7 @@ pub fn put_numbered<W: Sink>(text: &str, number: u64, output: &mut W) -> io::Res
 }
 
 fn line_end(close: bool) -> &'static str
-    ensures { result.now ≡ line_end close }
+    ensures { result.now ≡ reply_line_end close }
 {
     if close { " close\n" } else { "\n" }
 }
@@ -164,11 +164,11 @@ pub fn printed_line(alloc: Global, reply: &Reply) -> Result<Vec<u8>, AllocError>
 /// Writes a line for each reply.
 pub fn print_replies<W: Sink>(replies: &[Reply], output: &mut W) -> Result<(), PrintFault>
     ensures written { OnOk result
-        (Appends (W.written output.old) (W.written output.new) (printed replies.now)) }
+        (Appends (W.written output.old) (W.written output.new) (reply_lines replies.now)) }
     // Only where the output fails. The first octets of the lines were then written.
     ensures fault { IfErr result (λ fault. fault ≡ PrintFault.Output) }
     ensures part { OnErr result (BreaksOff (W.may_fail output.old) (W.written output.old)
-        (W.written output.new) (printed replies.now)) }
+        (W.written output.new) (reply_lines replies.now)) }
     ensures fails { W.may_fail output.new → W.may_fail output.old }
 {
     for reply in replies {

@@ -7,48 +7,48 @@ use Rattle.std.proofs.lemmas.Bool.{false≢true, and_parts, or_parts, not-true}
 use Rattle.std.proofs.lemmas.List.Folds.{list_any-append}
 use Rattle.std.proofs.lemmas.List.Kept.{AllPairs-cons}
 use Rattle.std.proofs.lemmas.Slice.Eq.{bytes_eq-Decides}
-use Rattle.dq_value.specs.Title.{stripped}
+use Rattle.dq_value.specs.Title.{without_spaces}
 use Rattle.dq_config.specs.declared.config.Institution.{Institution}
 use Rattle.dq_config.specs.declared.config.Route.{Route}
 use Rattle.dq_config.specs.declared.fault.ConfigFault.{ConfigFault}
 use Rattle.dq_config.specs.declared.fault.ConfigFault.TheVariants.{BadName, BadTitle, NameTaken, RouteTaken, BadLimit}
-use Rattle.dq_config.specs.Routing.{same_octets, joins, has_route, IsRouted, routed, named}
-use Rattle.dq_config.specs.Conditions.{Condition, first_fault, conditions, institution_conditions, routes_conditions, route_conditions, limit_conditions, is_name, is_name_taken, is_title, is_route_taken, is_sound, is_limit, is_association_limit, AreLimits}
+use Rattle.dq_config.specs.Routing.{same_octets, joins, has_route, IsRouted, institution_routed, institution_named}
+use Rattle.dq_config.specs.Conditions.{Condition, first_unmet_fault, conditions, institution_conditions, routes_conditions, route_conditions, limit_conditions, is_institution_name, is_name_taken, is_title, is_route_taken, is_sound_configuration, is_limit, is_association_limit, AreLimits}
 use Rattle.dq_list.proofs.Searches.{found, none_found}
 use Rattle.dq_config.proofs.Faults.{first_fault-append}
 
 -- conditions that are all met are met in their parts
 record AreBoth (xs ys : List Condition) : Type 0 where
-  first : first_fault xs ≡ None
-  second : first_fault ys ≡ None
+  first : first_unmet_fault xs ≡ None
+  second : first_unmet_fault ys ≡ None
 
 neither : (first second : Option ConfigFault) → option_or first second ≡ None → (first ≡ None) × (second ≡ None)
 neither None second h = (refl, h)
 neither (Some fault) second h = cc
 
-both : (xs ys : List Condition) → first_fault (xs ++ ys) ≡ None → AreBoth xs ys
+both : (xs ys : List Condition) → first_unmet_fault (xs ++ ys) ≡ None → AreBoth xs ys
 both xs ys h =
-    let parts = neither (first_fault xs) (first_fault ys) (sym (first_fault-append xs ys) ∙ h) in
+    let parts = neither (first_unmet_fault xs) (first_unmet_fault ys) (sym (first_fault-append xs ys) ∙ h) in
     record { first = parts.0; second = parts.1 }
 
-met-case : (b : Bool) (fault : ConfigFault) (xs : List Condition) → cond b (first_fault xs) (Some fault) ≡ None → (b ≡ true) × (first_fault xs ≡ None)
+met-case : (b : Bool) (fault : ConfigFault) (xs : List Condition) → cond b (first_unmet_fault xs) (Some fault) ≡ None → (b ≡ true) × (first_unmet_fault xs ≡ None)
 met-case true fault xs h = (refl, h)
 met-case false fault xs h = cc
 
-met : (condition : Condition) (xs : List Condition) → first_fault (condition ∷ xs) ≡ None → (condition.0 ≡ true) × (first_fault xs ≡ None)
+met : (condition : Condition) (xs : List Condition) → first_unmet_fault (condition ∷ xs) ≡ None → (condition.0 ≡ true) × (first_unmet_fault xs ≡ None)
 met condition xs h = met-case condition.0 condition.1 xs h
 
 -- what the conditions on one institution say
 record Meets (before : List Institution) (x : Institution) : Type 0 where
   free : is_name_taken before x.name ≡ false
-  routes : first_fault (routes_conditions before [] x.routes) ≡ None
-  limits : first_fault (limit_conditions x) ≡ None
+  routes : first_unmet_fault (routes_conditions before [] x.routes) ≡ None
+  limits : first_unmet_fault (limit_conditions x) ≡ None
 
-meets : (before : List Institution) (x : Institution) → first_fault (institution_conditions before x) ≡ None → Meets before x
+meets : (before : List Institution) (x : Institution) → first_unmet_fault (institution_conditions before x) ≡ None → Meets before x
 meets before x h =
     let others : List Condition = routes_conditions before [] x.routes ++ limit_conditions x in
     let name : Condition = (not (is_name_taken before x.name), NameTaken) in
-    let free = met name others (met (is_name x.name, BadName) (name ∷ others) h).1 in
+    let free = met name others (met (is_institution_name x.name, BadName) (name ∷ others) h).1 in
     let rest = both (routes_conditions before [] x.routes) (limit_conditions x) free.1 in
     record { free = not-true _ free.0; routes = rest.first; limits = rest.second }
 
@@ -77,7 +77,7 @@ joined called calling route h =
     let parts = and_parts (same_octets route.called called) (same_octets route.calling calling) h in
     ((bytes_eq-Decides route.called called).0 parts.0, (bytes_eq-Decides route.calling calling).0 parts.1)
 
-untaken : (before : List Institution) (done : List Route) (route : Route) → first_fault (route_conditions before done route) ≡ None
+untaken : (before : List Institution) (done : List Route) (route : Route) → first_unmet_fault (route_conditions before done route) ≡ None
     → list_any (has_route route.called route.calling) before ≡ false
 unfolding is_route_taken
 untaken before done route h =
@@ -88,14 +88,14 @@ untaken before done route h =
 
 routes_free-case : (b : Bool) (called calling : List ℕ) (before : List Institution) (done : List Route) (route : Route) (routes : List Route)
     → joins called calling route ≡ b
-    → first_fault (route_conditions before done route) ≡ None → (b || list_any (joins called calling) routes) ≡ true
+    → first_unmet_fault (route_conditions before done route) ≡ None → (b || list_any (joins called calling) routes) ≡ true
     → (list_any (joins called calling) routes ≡ true → list_any (has_route called calling) before ≡ false) → list_any (has_route called calling) before ≡ false
 routes_free-case true called calling before done route routes is h any rest =
     let same = joined called calling route is in
     rw (← same.0, ← same.1) (untaken before done route h)
 routes_free-case false called calling before done route routes is h any rest = rest any
 
-routes_free : (called calling : List ℕ) (before : List Institution) (done routes : List Route) → first_fault (routes_conditions before done routes) ≡ None
+routes_free : (called calling : List ℕ) (before : List Institution) (done routes : List Route) → first_unmet_fault (routes_conditions before done routes) ≡ None
     → list_any (joins called calling) routes ≡ true → list_any (has_route called calling) before ≡ false
 routes_free called calling before done [] h any = absurd (false≢true any)
 routes_free called calling before done (route ∷ routes) h any =
@@ -108,7 +108,7 @@ fresh_route called calling before x given here = routes_free called calling befo
 
 -- an institution in its place among those that meet the conditions
 fresh_at : (p : Institution → Bool) → Fresh p → (before xs : List Institution) (y d : Institution) (k : ℕ) → k < length xs → get_or xs k d ≡ y
-    → first_fault (conditions before xs) ≡ None → p y ≡ true → list_any p before ≡ false
+    → first_unmet_fault (conditions before xs) ≡ None → p y ≡ true → list_any p before ≡ false
 fresh_at p fresh before [] y d k within is h here = absurd (omega arith)
 fresh_at p fresh before (x ∷ xs) y d zero within is h here =
     let parts = both (institution_conditions before x) (conditions (before ++ x ∷ []) xs) h in
@@ -119,7 +119,7 @@ fresh_at p fresh before (x ∷ xs) y d (suc k) within is h here =
     (none_of p before (x ∷ []) (fresh_at p fresh (before ++ x ∷ []) xs y d k later is parts.second here)).0
 
 found_at : (p : Institution → Bool) → Fresh p → (before xs : List Institution) (y d : Institution) (k : ℕ) → k < length xs → get_or xs k d ≡ y
-    → first_fault (conditions before xs) ≡ None → p y ≡ true → find p xs ≡ Some y
+    → first_unmet_fault (conditions before xs) ≡ None → p y ≡ true → find p xs ≡ Some y
 found_at p fresh before [] y d k within is h here = absurd (omega arith)
 found_at p fresh before (x ∷ xs) y d zero within is h here = rw (ap p is ∙ here) (ap Some is)
 found_at p fresh before (x ∷ xs) y d (suc k) within is h here =
@@ -133,15 +133,15 @@ nothing : (o : Option ConfigFault) → is_none o ≡ true → o ≡ None
 nothing None h = refl
 nothing (Some fault) h = absurd (false≢true h)
 
-sound : (xs : List Institution) → IsTrue (is_sound xs) → first_fault (conditions [] xs) ≡ None
-unfolding is_sound
-sound xs h = nothing (first_fault (conditions [] xs)) h
+sound : (xs : List Institution) → IsTrue (is_sound_configuration xs) → first_unmet_fault (conditions [] xs) ≡ None
+unfolding is_sound_configuration
+sound xs h = nothing (first_unmet_fault (conditions [] xs)) h
 
-found_fresh : (p : Institution → Bool) → Fresh p → (xs : List Institution) (y : Institution) → IsTrue (is_sound xs) → Contains xs y → p y ≡ true
+found_fresh : (p : Institution → Bool) → Fresh p → (xs : List Institution) (y : Institution) → IsTrue (is_sound_configuration xs) → Contains xs y → p y ≡ true
     → find p xs ≡ Some y
 found_fresh p fresh xs y h (k, within, is) here = found_at p fresh [] xs y y k within is (sound xs h) here
 
-distinct : (before xs : List Institution) → first_fault (conditions before xs) ≡ None
+distinct : (before xs : List Institution) → first_unmet_fault (conditions before xs) ≡ None
     → AllPairs (λ (one other : Institution). one.name ≢ other.name) xs
 distinct before [] h = λ i j d below within. absurd (omega arith)
 distinct before (x ∷ xs) h =
@@ -150,82 +150,82 @@ distinct before (x ∷ xs) h =
     (λ k d within. λ same. differs k d within same parts.second)
     (distinct (before ++ x ∷ []) xs parts.second)
   where
-    differs : (k : ℕ) (d : Institution) → k < length xs → x.name ≡ (get_or xs k d).name → first_fault (conditions (before ++ x ∷ []) xs) ≡ None → ⊥
+    differs : (k : ℕ) (d : Institution) → k < length xs → x.name ≡ (get_or xs k d).name → first_unmet_fault (conditions (before ++ x ∷ []) xs) ≡ None → ⊥
     differs k d within same rest =
         let name = (get_or xs k d).name in
         let none = fresh_at (is_of_name name) (fresh_name name) (before ++ x ∷ []) xs (get_or xs k d) d k within refl rest
         ((bytes_eq-Decides name name).1 refl) in
         false≢true (sym (none_last (is_of_name name) before x none) ∙ (bytes_eq-Decides x.name name).1 same)
 
-pub distinct_names : (institutions : List Institution) → IsTrue (is_sound institutions)
+pub distinct_names : (institutions : List Institution) → IsTrue (is_sound_configuration institutions)
     → AllPairs (λ (one other : Institution). one.name ≢ other.name) institutions
 distinct_names institutions h = distinct [] institutions (sound institutions h)
 
-pub named_found : (institutions : List Institution) (institution : Institution) → IsTrue (is_sound institutions) → Contains institutions institution
-    → named institutions institution.name ≡ Some institution
-unfolding named
+pub named_found : (institutions : List Institution) (institution : Institution) → IsTrue (is_sound_configuration institutions) → Contains institutions institution
+    → institution_named institutions institution.name ≡ Some institution
+unfolding institution_named
 named_found institutions institution h listed =
     found_fresh (is_of_name institution.name) (fresh_name institution.name) institutions institution h listed
     ((bytes_eq-Decides institution.name institution.name).1 refl)
 
-pub named_listed : (institutions : List Institution) (name : List ℕ) (institution : Institution) → named institutions name ≡ Some institution
+pub named_listed : (institutions : List Institution) (name : List ℕ) (institution : Institution) → institution_named institutions name ≡ Some institution
     → Contains institutions institution
-unfolding named
+unfolding institution_named
 named_listed institutions name institution h = (found (is_of_name name) institutions institution h).0
 
-pub named_so : (institutions : List Institution) (name : List ℕ) (institution : Institution) → named institutions name ≡ Some institution
+pub named_so : (institutions : List Institution) (name : List ℕ) (institution : Institution) → institution_named institutions name ≡ Some institution
     → institution.name ≡ name
-unfolding named
+unfolding institution_named
 named_so institutions name institution h = (bytes_eq-Decides institution.name name).0 (found (is_of_name name) institutions institution h).1
 
-pub named_none : (institutions : List Institution) (name : List ℕ) (institution : Institution) → named institutions name ≡ None
+pub named_none : (institutions : List Institution) (name : List ℕ) (institution : Institution) → institution_named institutions name ≡ None
     → Contains institutions institution → institution.name ≢ name
-unfolding named
+unfolding institution_named
 named_none institutions name institution h listed same =
     false≢true (sym (none_found (is_of_name name) institutions institution h listed) ∙ (bytes_eq-Decides institution.name name).1 same)
 
-pub routed_is : (institutions : List Institution) (called calling : List ℕ) (institution : Institution) → IsTrue (is_sound institutions)
-    → routed institutions called calling ≡ Some institution
+pub routed_is : (institutions : List Institution) (called calling : List ℕ) (institution : Institution) → IsTrue (is_sound_configuration institutions)
+    → institution_routed institutions called calling ≡ Some institution
     → IsRouted institutions called calling institution
-unfolding routed
+unfolding institution_routed
 routed_is institutions called calling institution h r =
-    let p = has_route (stripped called) (stripped calling) in
+    let p = has_route (without_spaces called) (without_spaces calling) in
     let one = found p institutions institution r in
     record {
       listed = one.0;
       has = one.1;
-      alone = λ other listed has. only other (found_fresh p (fresh_route (stripped called) (stripped calling)) institutions other h listed has);
+      alone = λ other listed has. only other (found_fresh p (fresh_route (without_spaces called) (without_spaces calling)) institutions other h listed has);
     }
   where
-    only : (other : Institution) → find (has_route (stripped called) (stripped calling)) institutions ≡ Some other → other ≡ institution
+    only : (other : Institution) → find (has_route (without_spaces called) (without_spaces calling)) institutions ≡ Some other → other ≡ institution
     only other f = cc (f, r)
 
-pub routed_found : (institutions : List Institution) (called calling : List ℕ) (institution : Institution) → IsTrue (is_sound institutions)
+pub routed_found : (institutions : List Institution) (called calling : List ℕ) (institution : Institution) → IsTrue (is_sound_configuration institutions)
     → IsRouted institutions called calling institution
-    → routed institutions called calling ≡ Some institution
-unfolding routed
+    → institution_routed institutions called calling ≡ Some institution
+unfolding institution_routed
 routed_found institutions called calling institution h is =
-    found_fresh (has_route (stripped called) (stripped calling)) (fresh_route (stripped called) (stripped calling)) institutions institution h is.listed is.has
+    found_fresh (has_route (without_spaces called) (without_spaces calling)) (fresh_route (without_spaces called) (without_spaces calling)) institutions institution h is.listed is.has
 
-pub routed_none : (institutions : List Institution) (called calling : List ℕ) (institution : Institution) → routed institutions called calling ≡ None
+pub routed_none : (institutions : List Institution) (called calling : List ℕ) (institution : Institution) → institution_routed institutions called calling ≡ None
     → Contains institutions institution
-    → has_route (stripped called) (stripped calling) institution ≡ false
-unfolding routed
+    → has_route (without_spaces called) (without_spaces calling) institution ≡ false
+unfolding institution_routed
 routed_none institutions called calling institution h listed =
-    none_found (has_route (stripped called) (stripped calling)) institutions institution h listed
+    none_found (has_route (without_spaces called) (without_spaces calling)) institutions institution h listed
 
-limits_at : (before xs : List Institution) (y d : Institution) (k : ℕ) → k < length xs → get_or xs k d ≡ y → first_fault (conditions before xs) ≡ None
-    → first_fault (limit_conditions y) ≡ None
+limits_at : (before xs : List Institution) (y d : Institution) (k : ℕ) → k < length xs → get_or xs k d ≡ y → first_unmet_fault (conditions before xs) ≡ None
+    → first_unmet_fault (limit_conditions y) ≡ None
 limits_at before [] y d k within is h = absurd (omega arith)
 limits_at before (x ∷ xs) y d zero within is h =
     let parts = both (institution_conditions before x) (conditions (before ++ x ∷ []) xs) h in
-    sym (ap (λ z. first_fault (limit_conditions z)) is) ∙ (meets before x parts.first).limits
+    sym (ap (λ z. first_unmet_fault (limit_conditions z)) is) ∙ (meets before x parts.first).limits
 limits_at before (x ∷ xs) y d (suc k) within is h =
     let parts = both (institution_conditions before x) (conditions (before ++ x ∷ []) xs) h in
     let later : k < length xs = omega arith in
     limits_at (before ++ x ∷ []) xs y d k later is parts.second
 
-are_limits : (y : Institution) → first_fault (limit_conditions y) ≡ None → AreLimits y
+are_limits : (y : Institution) → first_unmet_fault (limit_conditions y) ≡ None → AreLimits y
 are_limits y h =
     let fifth : List Condition = (is_association_limit y.associations, BadLimit) ∷ [] in
     let fourth : List Condition = (is_limit y.steps, BadLimit) ∷ fifth in
@@ -238,7 +238,7 @@ are_limits y h =
     let associations = met (is_association_limit y.associations, BadLimit) [] steps.1 in
     record { studies = studies.0; images = images.0; entries = entries.0; steps = steps.0; associations = associations.0 }
 
-pub limits_in_range : (institutions : List Institution) (institution : Institution) → IsTrue (is_sound institutions) → Contains institutions institution
+pub limits_in_range : (institutions : List Institution) (institution : Institution) → IsTrue (is_sound_configuration institutions) → Contains institutions institution
     → AreLimits institution
 limits_in_range institutions institution h (k, within, is) =
     are_limits institution (limits_at [] institutions institution institution k within is (sound institutions h))

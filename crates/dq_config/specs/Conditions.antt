@@ -20,8 +20,8 @@ is_text_of kind text = is_between 1 16 (length text) && list_all kind text
 unfoldable pub is_name_octet : ℕ → Bool
 is_name_octet octet = (is_between 0x41 0x5A octet || is_between 0x30 0x39 octet) || octet == 0x5F
 
-unfoldable pub is_name : List ℕ → Bool
-is_name name = is_text_of is_name_octet name
+unfoldable pub is_institution_name : List ℕ → Bool
+is_institution_name name = is_text_of is_name_octet name
 
 -- a title: 20H to 7EH but the backslash (PS3.5 section 6.2, AE)
 unfoldable pub is_title_octet : ℕ → Bool
@@ -75,7 +75,7 @@ limit_conditions institution =
 
 abbrev pub institution_conditions : List Institution → Institution → List Condition
 institution_conditions before institution =
-    (is_name institution.name, BadName)
+    (is_institution_name institution.name, BadName)
     ∷ (not (is_name_taken before institution.name), NameTaken)
     ∷ (routes_conditions before [] institution.routes ++ limit_conditions institution)
 
@@ -87,26 +87,26 @@ conditions before (institution ∷ institutions) =
     ++ conditions (before ++ institution ∷ []) institutions
 
 -- the fault of the first condition that is not met
-abbrev pub first_fault : List Condition → Option ConfigFault
-first_fault [] = None
-first_fault (condition ∷ others) = if condition.0 then first_fault others else Some condition.1
+abbrev pub first_unmet_fault : List Condition → Option ConfigFault
+first_unmet_fault [] = None
+first_unmet_fault (condition ∷ others) = if condition.0 then first_unmet_fault others else Some condition.1
 
 -- institutions that meet all conditions
 abbrev pub faultless : Option ConfigFault → List Institution → Result (List Institution) ConfigFault
 faultless None institutions = Ok institutions
 faultless (Some fault) institutions = Err fault
 
-abbrev pub judged : Option (List Institution) → Result (List Institution) ConfigFault
-judged None = Err Syntax
-judged (Some institutions) = faultless (first_fault (conditions [] institutions)) institutions
+abbrev pub configuration_or_fault : Option (List Institution) → Result (List Institution) ConfigFault
+configuration_or_fault None = Err Syntax
+configuration_or_fault (Some institutions) = faultless (first_unmet_fault (conditions [] institutions)) institutions
 
 -- Syntax is decided over the whole text first.
 unfoldable pub configuration : List ℕ → Result (List Institution) ConfigFault
-configuration text = judged (option_and_then institutions_in (parse_document text))
+configuration text = configuration_or_fault (option_and_then institutions_in (parse_document text))
 
 -- what holds of each configuration
-unfoldable pub is_sound : List Institution → Bool
-is_sound institutions = is_none (first_fault (conditions [] institutions))
+unfoldable pub is_sound_configuration : List Institution → Bool
+is_sound_configuration institutions = is_none (first_unmet_fault (conditions [] institutions))
 
 -- the limits of an institution are in range
 pub record AreLimits (institution : Institution) : Type 0 where

@@ -4,11 +4,11 @@ use Rattle.dq_config.specs.declared.fault.ConfigFault.{ConfigFault}
 use Rattle.dq_config.specs.declared.fault.ConfigFault.TheVariants.{Syntax, BadName, BadTitle}
 use Rattle.dq_config.specs.declared.fault.ConfigFault.TheVariants.{NameTaken, RouteTaken, BadLimit, NoMemory}
 
-abbrev pub number_of : ConfigFault → ℕ
-number_of Syntax = 1
-number_of BadName = 2
-number_of BadTitle = 3
-number_of NameTaken = 4
-number_of RouteTaken = 5
-number_of BadLimit = 6
-number_of NoMemory = 7
+abbrev pub config_fault_number : ConfigFault → ℕ
+config_fault_number Syntax = 1
+config_fault_number BadName = 2
+config_fault_number BadTitle = 3
+config_fault_number NameTaken = 4
+config_fault_number RouteTaken = 5
+config_fault_number BadLimit = 6
+config_fault_number NoMemory = 7

@@ -2,7 +2,7 @@
 use Rattle.std.specs.Prelude.{◌≡◌, ℕ, Bool, ◌&&◌, List, Option, find, Contains, IsTrue}
 use Rattle.std.specs.List.{list_any}
 use Rattle.std.specs.Str.{bytes_eq}
-use Rattle.dq_value.specs.Title.{stripped}
+use Rattle.dq_value.specs.Title.{without_spaces}
 use Rattle.dq_config.specs.declared.config.Institution.{Institution}
 use Rattle.dq_config.specs.declared.config.Route.{Route}
 
@@ -21,16 +21,16 @@ has_route called calling institution = list_any (joins called calling) instituti
 pub record IsRouted (institutions : List Institution) (called calling : List ℕ)
     (institution : Institution) : Type 0 where
   pub listed : Contains institutions institution
-  pub has : IsTrue (has_route (stripped called) (stripped calling) institution)
+  pub has : IsTrue (has_route (without_spaces called) (without_spaces calling) institution)
   pub alone : (other : Institution) → Contains institutions other
-      → IsTrue (has_route (stripped called) (stripped calling) other) → other ≡ institution
+      → IsTrue (has_route (without_spaces called) (without_spaces calling) other) → other ≡ institution
 
 -- the institution, found from the first on
-unfoldable pub routed : List Institution → List ℕ → List ℕ → Option Institution
-routed institutions called calling =
-    find (has_route (stripped called) (stripped calling)) institutions
+unfoldable pub institution_routed : List Institution → List ℕ → List ℕ → Option Institution
+institution_routed institutions called calling =
+    find (has_route (without_spaces called) (without_spaces calling)) institutions
 
 -- the institution of a name
-unfoldable pub named : List Institution → List ℕ → Option Institution
-named institutions name =
+unfoldable pub institution_named : List Institution → List ℕ → Option Institution
+institution_named institutions name =
     find (λ (institution : Institution). same_octets institution.name name) institutions

@@ -2,10 +2,10 @@
 ghost use Rattle.std.specs.Prelude.{◌≡◌, ◌≢◌, ◌↔◌, IsTrue, IfOk, IfErr};
 ghost use Rattle.toml.specs.Errors.{IsMemory};
 ghost use Rattle.dq_config.specs.declared.fault.ConfigFault.TheVariants.{Syntax, NoMemory};
-ghost use Rattle.dq_config.specs.Conditions.{configuration, is_sound};
+ghost use Rattle.dq_config.specs.Conditions.{configuration, is_sound_configuration};
 ghost use Rattle.dq_config.specs.Document.{built_in};
 ghost use Rattle.std.specs.Option.{option_copied};
-ghost use Rattle.dq_config.specs.Routing.{joins, has_route, routed, named, same_octets};
+ghost use Rattle.dq_config.specs.Routing.{joins, has_route, institution_routed, institution_named, same_octets};
 
 use crate::fault::ConfigFault;
 use crate::judging::judge;
@@ -57,13 +57,13 @@ pub struct Config {
 impl Model for Config {
     ghost use Rattle.std.specs.Prelude.{List, IsTrue};
     ghost use Rattle.dq_config.specs.declared.config.Institution.{Institution};
-    ghost use Rattle.dq_config.specs.Conditions.{is_sound};
+    ghost use Rattle.dq_config.specs.Conditions.{is_sound_configuration};
 
     ghost Value = { List Institution };
 
     ghost view = { λ a. a.institutions };
 
-    ghost invariant = { λ a. IsTrue (is_sound a.institutions) };
+    ghost invariant = { λ a. IsTrue (is_sound_configuration a.institutions) };
 }
 
 impl Institution {
@@ -104,7 +104,7 @@ impl Config {
     ///
     /// # Errors
     /// The fault of the first condition that the text does not meet, or want of memory.
-    #[tactic(auto, unfolding(crate::specs::Conditions::configuration, crate::specs::Conditions::is_sound))]
+    #[tactic(auto, unfolding(crate::specs::Conditions::configuration, crate::specs::Conditions::is_sound_configuration))]
     pub fn read(alloc: Global, text: &str) -> Result<Config, ConfigFault>
         ensures spelled { IfOk result (λ config. configuration text.now ≡ Ok config) }
         ensures refused { IfErr result (λ fault. fault ≢ NoMemory
@@ -138,16 +138,16 @@ impl Config {
 
     /// Each configuration meets the conditions on its institutions, from which the laws follow.
     pub fn is_sound(&self)
-        ensures { IsTrue (is_sound self.now) }
+        ensures { IsTrue (is_sound_configuration self.now) }
     {
         let _institutions = &self.institutions;
     }
 
     /// The institution that has the pair of titles, which are compared without the spaces at their
     /// ends.
-    #[tactic(auto, unfolding(crate::specs::Routing::routed))]
+    #[tactic(auto, unfolding(crate::specs::Routing::institution_routed))]
     pub fn route(&self, called: &[u8], calling: &[u8]) -> Option<&Institution>
-        ensures { option_copied result ≡ routed self.now called.now calling.now }
+        ensures { option_copied result ≡ institution_routed self.now called.now calling.now }
     {
         let called = stripped(called);
         let calling = stripped(calling);
@@ -158,9 +158,9 @@ impl Config {
     }
 
     /// The institution of a name.
-    #[tactic(auto, unfolding(crate::specs::Routing::named))]
+    #[tactic(auto, unfolding(crate::specs::Routing::institution_named))]
     pub fn institution(&self, name: &[u8]) -> Option<&Institution>
-        ensures { option_copied result ≡ named self.now name.now }
+        ensures { option_copied result ≡ institution_named self.now name.now }
     {
         self.institutions
             .inner()

@@ -32,11 +32,11 @@ pub enum ConfigFault {
 }
 
 impl ConfigFault {
-    ghost use Rattle.dq_config.specs.Faults.{number_of};
+    ghost use Rattle.dq_config.specs.Faults.{config_fault_number};
 
     /// 1 to 7, in the order in which the faults are declared.
     pub fn number(self) -> u8
-        ensures { result ≡ number_of self }
+        ensures { result ≡ config_fault_number self }
     {
         self as u8
     }

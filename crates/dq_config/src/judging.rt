@@ -3,7 +3,7 @@ ghost use Rattle.std.specs.Prelude.{◌≡◌, [], length};
 ghost use Rattle.std.specs.Result.{result_err};
 ghost use Rattle.std.specs.List.{list_all, list_any};
 ghost use Rattle.dq_config.specs.Routing.{joins, has_route};
-ghost use Rattle.dq_config.specs.Conditions.{is_between, is_name_octet, is_name, is_title_octet, is_title, is_limit, is_association_limit, is_name_taken, is_route_taken, route_conditions, routes_conditions, limit_conditions, institution_conditions, conditions, first_fault};
+ghost use Rattle.dq_config.specs.Conditions.{is_between, is_name_octet, is_institution_name, is_title_octet, is_title, is_limit, is_association_limit, is_name_taken, is_route_taken, route_conditions, routes_conditions, limit_conditions, institution_conditions, conditions, first_unmet_fault};
 
 use crate::config::{Institution, Route};
 use crate::fault::ConfigFault;
@@ -16,7 +16,7 @@ const MOST_ASSOCIATIONS: u32 = 64;
 
 /// The fault of the first condition that institutions do not meet.
 pub(crate) fn judge(institutions: &[Institution]) -> Result<(), ConfigFault>
-    ensures { result_err result ≡ first_fault (conditions [] institutions.now) }
+    ensures { result_err result ≡ first_unmet_fault (conditions [] institutions.now) }
 {
     for i in 0..institutions.len() {
         judge_institution(&institutions[..i], &institutions[i])?;
@@ -25,7 +25,7 @@ pub(crate) fn judge(institutions: &[Institution]) -> Result<(), ConfigFault>
 }
 
 fn judge_institution(before: &[Institution], institution: &Institution) -> Result<(), ConfigFault>
-    ensures { result_err result ≡ first_fault (institution_conditions before.now institution.now) }
+    ensures { result_err result ≡ first_unmet_fault (institution_conditions before.now institution.now) }
 {
     if !is_name(institution.name.as_slice()) {
         return Err(ConfigFault::BadName);
@@ -38,7 +38,7 @@ fn judge_institution(before: &[Institution], institution: &Institution) -> Resul
 }
 
 fn judge_routes(before: &[Institution], routes: &[Route]) -> Result<(), ConfigFault>
-    ensures { result_err result ≡ first_fault (routes_conditions before.now [] routes.now) }
+    ensures { result_err result ≡ first_unmet_fault (routes_conditions before.now [] routes.now) }
 {
     for i in 0..routes.len() {
         judge_route(before, &routes[..i], &routes[i])?;
@@ -47,7 +47,7 @@ fn judge_routes(before: &[Institution], routes: &[Route]) -> Result<(), ConfigFa
 }
 
 fn judge_route(before: &[Institution], done: &[Route], route: &Route) -> Result<(), ConfigFault>
-    ensures { result_err result ≡ first_fault (route_conditions before.now done.now route.now) }
+    ensures { result_err result ≡ first_unmet_fault (route_conditions before.now done.now route.now) }
 {
     if !is_title(route.called.as_slice()) || !is_title(route.calling.as_slice()) {
         return Err(ConfigFault::BadTitle);
@@ -59,7 +59,7 @@ fn judge_route(before: &[Institution], done: &[Route], route: &Route) -> Result<
 }
 
 fn judge_limits(institution: &Institution) -> Result<(), ConfigFault>
-    ensures { result_err result ≡ first_fault (limit_conditions institution.now) }
+    ensures { result_err result ≡ first_unmet_fault (limit_conditions institution.now) }
 {
     if is_limit(institution.studies)
         && is_limit(institution.images)
@@ -118,9 +118,9 @@ fn contain_route(routes: &[Route], route: &Route) -> bool
 }
 
 /// Whether octets are the name of an institution: 1 to 16 of A to Z, 0 to 9 and the underscore.
-#[tactic(auto, unfolding(crate::specs::Conditions::is_name))]
+#[tactic(auto, unfolding(crate::specs::Conditions::is_institution_name))]
 pub fn is_name(name: &[u8]) -> bool
-    ensures { result ≡ is_name name.now }
+    ensures { result ≡ is_institution_name name.now }
 {
     has_text_length(name) && are_name_octets(name)
 }

@@ -2,7 +2,7 @@
 ghost use Rattle.std.specs.Prelude.{◌≡◌, ◌≢◌, Some, None, IfOk, IfErr, option_map};
 ghost use Rattle.std.specs.Option.{option_copied};
 ghost use Rattle.toml.specs.View.{view, table_view, array_view};
-ghost use Rattle.dq_config.specs.Document.{size, table_of, string_at, integer_at, array_at, limit_of, limit_at, each, route_in, institution_in, institutions_in};
+ghost use Rattle.dq_config.specs.Document.{size, table_of, string_at, integer_at, array_at, limit_as_kept, limit_at, each_item, route_in, institution_in, institutions_in};
 ghost use Rattle.dq_config.specs.declared.fault.ConfigFault.TheVariants.{Syntax, NoMemory};
 
 use crate::config::{Institution, Route};
@@ -37,9 +37,9 @@ pub(crate) fn institutions_in(
 }
 
 fn institutions(alloc: Global, values: &Array) -> Result<Listed<Institution>, ConfigFault>
-    ensures ok { IfOk result (λ found. each institution_in (array_view values.now) ≡ Some found) }
+    ensures ok { IfOk result (λ found. each_item institution_in (array_view values.now) ≡ Some found) }
     ensures refused { IfErr result (λ fault. fault ≢ NoMemory
-        → (fault ≡ Syntax) × (each institution_in (array_view values.now) ≡ None)) }
+        → (fault ≡ Syntax) × (each_item institution_in (array_view values.now) ≡ None)) }
 {
     let mut institutions = Listed::empty(alloc);
     for value in values {
@@ -74,9 +74,9 @@ fn institution_in(alloc: Global, value: &Value) -> Result<Institution, ConfigFau
 }
 
 fn routes(alloc: Global, values: &Array) -> Result<Listed<Route>, ConfigFault>
-    ensures ok { IfOk result (λ found. each route_in (array_view values.now) ≡ Some found) }
+    ensures ok { IfOk result (λ found. each_item route_in (array_view values.now) ≡ Some found) }
     ensures refused { IfErr result (λ fault. fault ≢ NoMemory
-        → (fault ≡ Syntax) × (each route_in (array_view values.now) ≡ None)) }
+        → (fault ≡ Syntax) × (each_item route_in (array_view values.now) ≡ None)) }
 {
     let mut routes = Listed::empty(alloc);
     for value in values {
@@ -156,7 +156,7 @@ fn integer_at(table: &Table, key: &str) -> Option<i64>
 
 /// A limit as it is kept: what is no number of 32 bits is kept as 0, which is no limit either.
 fn limit_of(number: i64) -> u32
-    ensures { result ≡ limit_of number }
+    ensures { result ≡ limit_as_kept number }
 {
     u32::try_from(number).unwrap_or(0)
 }

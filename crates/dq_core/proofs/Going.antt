@@ -6,7 +6,7 @@ use Rattle.dq_tables.specs.Keeping.{State, IsSettled}
 use Rattle.dq_tables.specs.Rows.{Operation}
 use Rattle.dq_core.specs.declared.fault.Fault.{Fault}
 use Rattle.dq_core.specs.declared.fault.Fault.TheVariants.{Store}
-use Rattle.dq_core.specs.Stepping.{Goes, MayLeave, IsPartOf}
+use Rattle.dq_core.specs.Stepping.{Goes, MayLeaveAfter, IsPartOf}
 
 -- an answer, of a type that is known
 abbrev pub ok_of : {A : Type 0} → A → Result A Fault
@@ -45,5 +45,5 @@ pub part-left : {operations : List Operation} {before after : List Row} {IsLeft 
 part-left IsLess f part = record { done = part.done; later = part.later; whole = part.whole; made = part.made; crash = λ r less. part.crash r (f r less) }
 
 -- what a call leaves after one that was answered
-pub left-then : {A : Type 0} {t0 t1 : State} {a : A} (t2 : State) → Goes t0 t1 (ok_of a) → t1.honest → (r : List Row) → MayLeave t0 t2 r → MayLeave t1 t2 r
+pub left-then : {A : Type 0} {t0 t1 : State} {a : A} (t2 : State) → Goes t0 t1 (ok_of a) → t1.honest → (r : List Row) → MayLeaveAfter t0 t2 r → MayLeaveAfter t1 t2 r
 left-then t2 goes h r left = (goes.settles h left.0, left.1)

@@ -1,7 +1,7 @@
 -- A piece on a connection that is held: what its slot takes, and how the plain server answers it.
 use Rattle.std.proofs.Common.{◌≡◌, ℕ, false, List, [], ◌∷◌, ◌++◌, option_map, Option, Some, None, ◌⊎◌, inl, inr, refl, sym, ap, subst, ◌∙◌}
 use Rattle.std.specs.Prelude.{IsSome, Contains}
-use Rattle.dq_config.specs.Routing.{named}
+use Rattle.dq_config.specs.Routing.{institution_named}
 use Rattle.dq_pdu.specs.declared.pdu.Pdu.TheVariants.{Request as request_pdu}
 use Rattle.std.proofs.lemmas.Bool.{false≢true}
 use Rattle.dq_pdu.specs.declared.pdu.Pdu.{Pdu}
@@ -10,7 +10,7 @@ use Rattle.dq_pdu.specs.declared.inbox.InboxState.{InboxState as Inbox}
 use Rattle.dq_pdu.specs.Inboxes.{InboxAfter}
 use Rattle.dq_pdu.specs.Stream.{pdus_in}
 use Rattle.dq_assoc.specs.declared.agreement.Agreement.{Agreement}
-use Rattle.dq_assoc.specs.Associations.{Held}
+use Rattle.dq_assoc.specs.Associations.{HeldState}
 use Rattle.dq_assoc.specs.Associations as held
 use Rattle.dq_assoc.specs.declared.association.State.{State}
 use Rattle.dq_assoc.specs.declared.association.State.TheVariants.{Waiting, Open}
@@ -31,9 +31,9 @@ use Rattle.dq_core.specs.Answers.{request_in, progress_of, inputs_added, verdict
 use Rattle.dq_core.specs.Connections.{Connection, with_piece}
 use Rattle.dq_core.specs.Owners.{owner, live_of}
 use Rattle.dq_core.specs.Shared.{World, answer_by}
-use Rattle.dq_core.specs.Doing.{agreement_after, taken}
-use Rattle.dq_core.specs.Queries.{query_in}
-use Rattle.dq_core.specs.Slots.{home_of, StandsAt, IsHeld, IsTaken, Took, verdict_for, owner_with, routed_first, answer_of, AreAlike}
+use Rattle.dq_core.specs.Doing.{agreement_after, taken_inputs}
+use Rattle.dq_core.specs.Queries.{open_query_in}
+use Rattle.dq_core.specs.Slots.{home_of, StandsAt, IsHeld, IsTaken, Took, verdict_for, owner_with, routed_first, connection_answer, AreAlike}
 use Rattle.dq_core.proofs.Composing.{none_stands}
 use Rattle.dq_core.proofs.isolation.Streams.{AddsInputs, owner-stays}
 use Rattle.dq_core.proofs.Alike.{alike-open, alike-waiting, alike-stranger, alike-unsound, unsound-closes}
@@ -46,7 +46,7 @@ pub record Laws (institutions : List Institution) : Type 0 where
   pub adds : AddsInputs
   pub further : Further
   pub names : AreNamed institutions
-  pub listed : (name : List ℕ) (i : Institution) → named institutions name ≡ Some i → Contains institutions i
+  pub listed : (name : List ℕ) (i : Institution) → institution_named institutions name ≡ Some i → Contains institutions i
 
 -- the counts are those of the connections
 abbrev Counts : List Institution → World → (List ℕ → ℕ) → Type 0
@@ -60,7 +60,7 @@ some-is : (o : Option Institution) (i : Institution) → o ≡ Some i → IsSome
 some-is o i e = rw e refl
 
 -- a slot before the piece, part by part
-record Before (institutions : List Institution) (stream : List ℕ) (h : Held) (home : Option (List ℕ)) : Type 0 where
+record Before (institutions : List Institution) (stream : List ℕ) (h : HeldState) (home : Option (List ℕ)) : Type 0 where
   faultless : (pdus_in stream).fault ≡ None
   association : AssociationAfter (pdus_in stream).list h
   not_closed : is_closed (state_of h) ≡ false
@@ -74,8 +74,8 @@ module _ (institutions : List Institution) (world : World) (c : Connection) (pie
   -- for an owner of the stream, and for the institution that has the connection
   abbrev Told : State → Option Agreement → List Input → Option Agreement → Option Institution → Option Institution → Type 0
   Told state agreement xs agreed_on o q =
-      ((taken (verdict_for count q) state xs).step.messages ≡ []) ⊎ (agreed_on ≡ agreement_after agreement xs)
-      → AreAlike o (answer_by o institutions world c piece) q (answer_of q world.rows agreed_on c.query (taken (verdict_for count q) state xs))
+      ((taken_inputs (verdict_for count q) state xs).step.messages ≡ []) ⊎ (agreed_on ≡ agreement_after agreement xs)
+      → AreAlike o (answer_by o institutions world c piece) q (connection_answer q world.rows agreed_on c.query (taken_inputs (verdict_for count q) state xs))
 
   told-same : (q : Option Institution) (xs : List Input) (agreed_on : Option Agreement) → option_map agreement_of (request_in (inputs c.stream)) ≡ None
       → inputs_added c.stream piece ≡ xs → Told Waiting None xs agreed_on q q
@@ -116,7 +116,7 @@ module _ (institutions : List Institution) (laws : Laws institutions) (c : Conne
             ∙ owner-named institutions laws.names (request_in (inputs c.stream)) i.0 i.1,
       )
 
-  told-at : (world : World) (count : List ℕ → ℕ) (counts : Counts institutions world count) (h : Held) (home : Option (List ℕ)) (next : Option Agreement)
+  told-at : (world : World) (count : List ℕ → ℕ) (counts : Counts institutions world count) (h : HeldState) (home : Option (List ℕ)) (next : Option Agreement)
       → Before institutions c.stream h home → inputs (c.stream ++ piece) ≡ inputs c.stream ++ inputs_from h pdus fault
       → Told institutions world c piece count counts (state_of h) (agreement_in h) (inputs_from h pdus fault) next
       owner_after (owner_with institutions home pdus)
@@ -132,7 +132,7 @@ module _ (institutions : List Institution) (laws : Laws institutions) (c : Conne
   told-at world count counts (held.Closed agreed) home next b e = absurd (false≢true (sym b.not_closed))
 
   -- the slot stands for the institution that has the connection
-  stands-at : (h : Held) (home : Option (List ℕ)) → Before institutions c.stream h home → let q = owner_with institutions home pdus in
+  stands-at : (h : HeldState) (home : Option (List ℕ)) → Before institutions c.stream h home → let q = owner_with institutions home pdus in
       (home ≡ home_of q (agreement_in h)) × ((a : Agreement) → agreement_in h ≡ Some a → IsSome q)
   stands-at held.Waiting home b =
       (b.home_is ∙ no-home (owner institutions c.stream) ∙ sym (no-home (owner_with institutions home pdus)), λ a e. cc)
@@ -145,14 +145,14 @@ module _ (institutions : List Institution) (laws : Laws institutions) (c : Conne
 
   -- one that is not closed has the owner of the stream
   same-first : (o q : Option Institution) (xs : List Input) (verdict : Verdict) → (o ≡ q) ⊎ IsUnsound o xs
-      → (taken verdict Waiting xs).step.close ≡ false → q ≡ o
+      → (taken_inputs verdict Waiting xs).step.close ≡ false → q ≡ o
   same-first o q xs verdict (inl same) close = sym same
   same-first o q xs verdict (inr (none, request, later, is, unsound)) close =
       absurd (false≢true (sym (rw is at close) ∙ unsound-closes request verdict later unsound))
 
-  same-owner : (verdict : Verdict) (h : Held) (home : Option (List ℕ)) → Before institutions c.stream h home
+  same-owner : (verdict : Verdict) (h : HeldState) (home : Option (List ℕ)) → Before institutions c.stream h home
       → inputs (c.stream ++ piece) ≡ inputs c.stream ++ inputs_from h pdus fault
-      → (taken verdict (state_of h) (inputs_from h pdus fault)).step.close ≡ false → owner_with institutions home pdus ≡ owner_after
+      → (taken_inputs verdict (state_of h) (inputs_from h pdus fault)).step.close ≡ false → owner_with institutions home pdus ≡ owner_after
   same-owner verdict held.Waiting home b e close =
       same-first owner_after (owner_with institutions home pdus) (inputs_of pdus fault) verdict (whose-first home b e) close
   same-owner verdict (held.Open a assembly) home b e close = let has = has-open home a b.home_is (b.owned a refl) in has.3 ∙ sym has.2
@@ -162,9 +162,9 @@ module _ (institutions : List Institution) (laws : Laws institutions) (c : Conne
 
 -- the slot took the PDUs and the fault
 pub record TookBy (q : Option Institution) (verdict : Verdict) (pdus : List Pdu) (fault : Option PduFault) (old new : Slot) (t : HeldTaken) : Type 0 where
-  pub taken_is : (h : Held) → Stands old.association h
-      → IsTaken (held_agreement new.association) t (taken verdict (state_of h) (inputs_from h pdus fault))
-  pub agrees : (h : Held) → Stands old.association h → (earlier : List Pdu) → StandsAt q old earlier → (t.step.messages ≡ [])
+  pub taken_is : (h : HeldState) → Stands old.association h
+      → IsTaken (held_agreement new.association) t (taken_inputs verdict (state_of h) (inputs_from h pdus fault))
+  pub agrees : (h : HeldState) → Stands old.association h → (earlier : List Pdu) → StandsAt q old earlier → (t.step.messages ≡ [])
       ⊎ (held_agreement new.association ≡ agreement_after (agreement_in h) (inputs_from h pdus fault))
   pub stands : (earlier : List Pdu) → StandsAt q old earlier → (q ≡ None → verdict ≡ Nowhere) → t.step.close ≡ false
       → (fault ≡ None) × StandsAt q new (earlier ++ pdus)
@@ -201,7 +201,7 @@ module _ (institutions : List Institution) (laws : Laws institutions) (world : W
 
   module _ (is_held : IsHeld institutions old c) (fed : FedBy c.stream piece pdus fault inbox) where
     -- the association of the definitions that the slot's stands for
-    abbrev first : Held
+    abbrev first : HeldState
     first = association_from held.Waiting (pdus_in c.stream).list
 
     stands : Stands old.association first
@@ -229,7 +229,7 @@ module _ (institutions : List Institution) (laws : Laws institutions) (world : W
         }
 
     abbrev given : Taken
-    given = taken (verdict_for count owner_now) (state_of first) (inputs_from first pdus fault)
+    given = taken_inputs (verdict_for count owner_now) (state_of first) (inputs_from first pdus fault)
 
     module _ (new : Slot) (t : HeldTaken) (took : TookBy owner_now (verdict_for count owner_now) pdus fault (fed_slot old inbox) new t) where
       is_given : IsTaken (held_agreement new.association) t given
@@ -243,7 +243,7 @@ module _ (institutions : List Institution) (laws : Laws institutions) (world : W
 
       alike-answer : Counts institutions world count → let o = owner institutions (c.stream ++ piece) in
           AreAlike o (answer_by o institutions world c piece) owner_now
-          (answer_of owner_now world.rows (held_agreement new.association) c.query given)
+          (connection_answer owner_now world.rows (held_agreement new.association) c.query given)
       alike-answer counts =
           told-at institutions laws c piece pdus fault world count counts first old.home (held_agreement new.association) at-first whole
           (no_messages (took.agrees first stands (pdus_in c.stream).list mid-stands))
@@ -258,7 +258,7 @@ module _ (institutions : List Institution) (laws : Laws institutions) (world : W
               inbox = rw took.inbox fed.stands;
               faultless = fed.fault_is ∙ s.0;
               stands = rw (← same, fed.list) s.1;
-              query = ap query_in took.query ∙ is_held.query;
+              query = ap open_query_in took.query ∙ is_held.query;
             },
             s.1.home,
           )
@@ -274,7 +274,7 @@ module _ (institutions : List Institution) (laws : Laws institutions) (world : W
         stands = is_given is_held fed new t now;
         answer = alike-answer is_held fed new t now counts;
         home = (mid-stands is_held fed).home;
-        query = ap query_in by.query;
+        query = ap open_query_in by.query;
         held = λ close. still-held is_held fed new t now ((is_given is_held fed new t now).step.close ∙ close);
         listed = owner-listed old.home;
       })

@@ -12,11 +12,11 @@ use Rattle.dq_core.specs.declared.event.Event.{Event}
 use Rattle.dq_core.specs.declared.event.Event.TheVariants as event
 use Rattle.dq_core.specs.declared.event.Reply.{Reply}
 use Rattle.dq_core.specs.declared.fault.Fault.{Fault}
-use Rattle.dq_core.specs.Shared.{World, turn, world_after_turn, replies_from, opening, replies, world_after, operations_next, rows_within}
-use Rattle.dq_core.specs.Histories.{is_above, newest_after, rises_from, is_well_formed}
+use Rattle.dq_core.specs.Shared.{World, turn, world_after_turn, replies_from, first_world, replies, world_after, operations_next, rows_within}
+use Rattle.dq_core.specs.Histories.{is_above, newest_after, rises_from, is_well_formed_history}
 use Rattle.dq_core.specs.Owners.{HaveOwnNames}
 use Rattle.dq_core.specs.Isolation.{Begins}
-use Rattle.dq_core.specs.Stepping.{Opens, TakesNoMemory, Goes, MayLeave, IsPartOf}
+use Rattle.dq_core.specs.Stepping.{Opens, TakesNoMemory, Goes, MayLeaveAfter, IsPartOf}
 use Rattle.dq_core.specs.Runs.{IsRun, IsLeftOf, FaultsAfter}
 use Rattle.dq_core.specs.Standing.{Standing, StandsFor}
 use Rattle.dq_core.proofs.Composing.{after-append}
@@ -50,10 +50,10 @@ next-made operations done later before after w m = rw (← w, take-next done lat
 module _ (institutions : List Institution) (rows : List Row) where
   pub replies_follow : (events : List Event) (event : Event) → replies institutions rows (events ++ event ∷ [])
       ≡ replies institutions rows events ++ (turn institutions (world_after institutions rows events) event).reply ∷ []
-  replies_follow events event = replies-append institutions (opening rows) events (event ∷ [])
+  replies_follow events event = replies-append institutions (first_world rows) events (event ∷ [])
 
   pub replies_count : (events : List Event) → length (replies institutions rows events) ≡ length events
-  replies_count events = count-from institutions (opening rows) events
+  replies_count events = count-from institutions (first_world rows) events
 
   -- as many replies as events
   pub all-replies : (events : List Event) (given : List Reply) (kept : List Row) → IsRun institutions rows events given kept
@@ -65,7 +65,7 @@ module _ (institutions : List Institution) (rows : List Row) where
   module _ (done left : List Event) (given : List Reply) (e : given ≡ replies institutions rows done) where
     -- the replies to the first events are the first replies
     front : given ≡ take (length given) (replies institutions rows (done ++ left))
-    front = rw (replies-append institutions (opening rows) done left, ← e) (sym (take-append_seam given _))
+    front = rw (replies-append institutions (first_world rows) done left, ← e) (sym (take-append_seam given _))
 
     -- the rows after the first events, and a part of the next
     within : (j : ℕ) → rows_within institutions rows (done ++ left) (length given) j
@@ -134,21 +134,21 @@ module _ {Tables : Type 0} {state : Tables → State} {first now : Standing Tabl
   pub ran-part : (next : Tables) → ((state next).honest → (state now.tables).honest)
       → ((rows : List Row) (events : List Event) → StandsFor state rows now events → (state next).honest
       → (let world = world_after now.institutions rows events in
-      IsPartOf (turn now.institutions world event).operations world.rows (state next).rows (MayLeave (state now.tables) (state next))))
+      IsPartOf (turn now.institutions world event).operations world.rows (state next).rows (MayLeaveAfter (state now.tables) (state next))))
       → (rows : List Row) → StandsFor state rows first [] → (state next).honest → IsRun first.institutions rows all given (state next).rows
   ran-part next was part rows f h = rw (← ran.parts, e) (run-part first.institutions rows done event later given (state next).rows
-      (MayLeave (state now.tables) (state next))
+      (MayLeaveAfter (state now.tables) (state next))
       (ran.replied rows f (was h)) (rw (← ran.institutions) (part rows done (ran.stands rows f (was h)) h)))
 
   -- and what a crash leaves
   pub ran-left : (next : Tables) → ((state next).honest → (state now.tables).honest)
       → ((rows : List Row) (events : List Event) → StandsFor state rows now events → (state next).honest
       → (let world = world_after now.institutions rows events in
-      IsPartOf (turn now.institutions world event).operations world.rows (state next).rows (MayLeave (state now.tables) (state next))))
+      IsPartOf (turn now.institutions world event).operations world.rows (state next).rows (MayLeaveAfter (state now.tables) (state next))))
       → (rows : List Row) → StandsFor state rows first [] → (state next).honest → IsSettled (state first.tables)
       → (r : List Row) → (state next).may_leave r → IsLeftOf first.institutions rows all given (state next).rows r
   ran-left next was part rows f h settled r left = rw (← ran.parts, e) (run-left first.institutions rows done event later given (state next).rows
-      (MayLeave (state now.tables) (state next))
+      (MayLeaveAfter (state now.tables) (state next))
       (ran.replied rows f (was h)) (rw (← ran.institutions) (part rows done (ran.stands rows f (was h)) h)) r
       (ran.goes.settles (was h) settled, left))
 
@@ -194,7 +194,7 @@ with-fault (Err f) fault e n p = p
 
 -- a history of a configuration begins
 pub begun : {institutions : List Institution} {rows : List Row} {events : List Event} (i : Institution) → HaveOwnNames institutions
-    → Contains institutions i → IsRising rows → IsTrue (is_well_formed events) → Begins institutions rows events i
+    → Contains institutions i → IsRising rows → IsTrue (is_well_formed_history events) → Begins institutions rows events i
 begun i names listed rising formed = record { own_names = names; listed = listed; rising = rising; well_formed = formed }
 
 -- what a crash leaves of what a run came to, where before it could leave the rows alone

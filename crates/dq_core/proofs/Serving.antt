@@ -10,7 +10,7 @@ use Rattle.dq_dimse.specs.Received.{Message}
 use Rattle.dq_dimse.specs.CommandFields.{c_cancel}
 use Rattle.dq_assoc.specs.declared.agreement.AgreedContext.{AgreedContext}
 use Rattle.dq_assoc.specs.declared.agreement.Agreement.{Agreement}
-use Rattle.dq_assoc.specs.Holding.{accepted_by, accepted_context}
+use Rattle.dq_assoc.specs.Holding.{accepted_by, assembler_context}
 use Rattle.dq_assoc.specs.Negotiation.{context_of}
 use Rattle.dq_config.specs.declared.config.Institution.{Institution}
 use Rattle.dq_config.specs.Limits.{limits_of}
@@ -18,7 +18,7 @@ use Rattle.dq_match.specs.declared.responses.Found.{Found}
 use Rattle.dq_tables.specs.declared.row.Row.{Row}
 use Rattle.dq_tables.specs.Rows.{of, by, after, Operation, after_all}
 use Rattle.dq_core.specs.Services.{responses, message_outcome, served}
-use Rattle.dq_core.specs.Pages.{OpenQuery, message_id, rest, page, cancel_reaction, reaction}
+use Rattle.dq_core.specs.Pages.{OpenQuery, answered_message_id, rest, page, cancel_reaction, reaction}
 use Rattle.dq_core.specs.Stepping.{IsPartOf}
 use Rattle.dq_core.specs.Doing.{Did, DidPart, served_answer}
 
@@ -102,7 +102,7 @@ module _ (i : Institution) (a : Agreement) (m : Message) where
 
   module _ (q : OpenQuery) where
     -- a C-CANCEL changes no row
-    no-edits : (id : ℕ) (b : Bool) → (id == message_id q) ≡ b → (cancel_reaction id q).edits ≡ []
+    no-edits : (id : ℕ) (b : Bool) → (id == answered_message_id q) ≡ b → (cancel_reaction id q).edits ≡ []
     no-edits id true h = rw h refl
     no-edits id false h = rw h refl
 
@@ -130,16 +130,16 @@ module _ (i : Institution) (a : Agreement) (m : Message) where
 -- ---- messages that are held
 
 accepted_step : (id : ℕ) (c : AgreedContext) (found : Option Accepted) (other : Option AgreedContext) (same : Bool)
-    → found ≡ option_map accepted_context other
-    → (if same then Some (accepted_context c) else found) ≡ option_map accepted_context (if same then Some c else other)
+    → found ≡ option_map assembler_context other
+    → (if same then Some (assembler_context c) else found) ≡ option_map assembler_context (if same then Some c else other)
 accepted_step id c found other true e = refl
 accepted_step id c found other false e = e
 
 accepted_is : (id : ℕ) (contexts : List AgreedContext)
-    → accepted_with id (map accepted_context contexts) ≡ option_map accepted_context (find (λ (c : AgreedContext). c.id == id) contexts)
+    → accepted_with id (map assembler_context contexts) ≡ option_map assembler_context (find (λ (c : AgreedContext). c.id == id) contexts)
 accepted_is id [] = refl
 accepted_is id (c ∷ cs) =
-    accepted_step id c (accepted_with id (map accepted_context cs)) (find (λ (c : AgreedContext). c.id == id) cs) (c.id == id) (accepted_is id cs)
+    accepted_step id c (accepted_with id (map assembler_context cs)) (find (λ (c : AgreedContext). c.id == id) cs) (c.id == id) (accepted_is id cs)
 
 module _ (a : Agreement) (held : HeldMessage) (m : Message) (on : StandsOn (accepted_by a) held m) where
   pub context_stands : (found : Option AgreedContext) → context_of a held.context ≡ found → context_of a m.context ≡ found
@@ -148,9 +148,9 @@ module _ (a : Agreement) (held : HeldMessage) (m : Message) (on : StandsOn (acce
   -- the context that the message is on
   pub stands_there : (c : AgreedContext) → context_of a held.context ≡ Some c → StandsFor c.syntax held m
   stands_there c e =
-      let there : Some on.context ≡ Some (accepted_context c) =
-      sym on.found ∙ accepted_is m.context a.contexts ∙ ap (option_map accepted_context) (context_stands (Some c) e) in
-      let same : on.context ≡ accepted_context c = cc in
+      let there : Some on.context ≡ Some (assembler_context c) =
+      sym on.found ∙ accepted_is m.context a.contexts ∙ ap (option_map assembler_context) (context_stands (Some c) e) in
+      let same : on.context ≡ assembler_context c = cc in
       subst (λ (x : Accepted). StandsFor x.syntax held m) same on.stands
 
   pub code_stands : (b : Bool) → (held.command.code == c_cancel) ≡ b → (m.command.code == c_cancel) ≡ b

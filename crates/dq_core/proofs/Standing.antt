@@ -7,7 +7,7 @@ use Rattle.dq_tables.specs.Keeping.{State}
 use Rattle.dq_core.specs.declared.event.Event.{Event}
 use Rattle.dq_core.specs.declared.event.Event.TheVariants as event
 use Rattle.dq_core.specs.declared.event.Reply.{Reply}
-use Rattle.dq_core.specs.Shared.{World, turn, world_after_turn, replies_from, world_from, opening, world_after}
+use Rattle.dq_core.specs.Shared.{World, turn, world_after_turn, replies_from, world_from, first_world, world_after}
 use Rattle.dq_core.specs.Histories.{newest_after}
 use Rattle.dq_core.specs.Slots.{Turned}
 use Rattle.dq_core.specs.Stepping.{Goes}
@@ -43,7 +43,7 @@ pub stands-next : {Tables : Type 0} {state : Tables → State} {server new : Sta
     Turned server.institutions (turn server.institutions world event) reply world.rows (state new.tables).rows new.slots)
     → Goes (state server.tables) (state new.tables) (ok_of reply) → StandsFor state rows new (events ++ event ∷ [])
 stands-next {state = state} {server = server} {new = new} {rows = rows} {events = events} event reply s i p n t g =
-    let after = world-append server.institutions (opening rows) events (event ∷ []) in record {
+    let after = world-append server.institutions (first_world rows) events (event ∷ []) in record {
       unspent = p ∙ s.unspent;
       newest = rw (n, s.newest, newest-append) refl;
       holds = rw (i, after) t.holds;

@@ -11,10 +11,10 @@ use Rattle.dq_dimse.specs.declared.assembler.Accepted.{Accepted}
 use Rattle.dq_dimse.specs.declared.command.Message.{Message as HeldMessage}
 use Rattle.dq_dimse.specs.Holding.{StandForAll}
 use Rattle.dq_dimse.proofs.Assemblies.{assembly_from-nil}
-use Rattle.dq_assoc.specs.Associations.{Held}
+use Rattle.dq_assoc.specs.Associations.{HeldState}
 use Rattle.dq_assoc.specs.Associations as held
 use Rattle.dq_assoc.specs.declared.association.State.TheVariants.{Waiting, Open}
-use Rattle.dq_assoc.specs.Steps.{Step}
+use Rattle.dq_assoc.specs.Steps.{AssociationStep}
 use Rattle.dq_assoc.specs.declared.association.Verdict.{Verdict}
 use Rattle.dq_assoc.specs.declared.association.Verdict.TheVariants.{Nowhere}
 use Rattle.dq_assoc.specs.Table.{Input, Requested, Line, line, answer_octets}
@@ -23,12 +23,12 @@ use Rattle.dq_assoc.specs.declared.association.Held.{Held as HeldAssociation}
 use Rattle.dq_assoc.specs.declared.association.Held.TheVariants as code
 use Rattle.dq_assoc.specs.declared.association.Step.{Step as HeldStep}
 use Rattle.dq_assoc.specs.After.{state_of, is_closed, assembly_for, association_from, inputs_from}
-use Rattle.dq_assoc.specs.Holding.{IsStep, Stands, WasGiven, accepted_in, held_state}
+use Rattle.dq_assoc.specs.Holding.{IsStep, Stands, WasGivenPdus, accepted_in, held_state}
 use Rattle.dq_assoc.specs.Inputs.{inputs_after}
-use Rattle.dq_assoc.specs.Negotiation.{agreement_of, ids_of}
-use Rattle.dq_assoc.specs.Steps.{step_of, open_outcome, outcome}
+use Rattle.dq_assoc.specs.Negotiation.{agreement_of, context_ids}
+use Rattle.dq_assoc.specs.Steps.{step_of, open_outcome, step_of_inputs}
 use Rattle.dq_config.specs.declared.config.Institution.{Institution}
-use Rattle.dq_core.specs.Doing.{Taken, opened, taken}
+use Rattle.dq_core.specs.Doing.{Taken, taken_at_request, taken_inputs}
 use Rattle.dq_core.specs.Slots.{IsTaken}
 use Rattle.dq_core.proofs.isolation.Requests.{nowhere-closes}
 
@@ -40,19 +40,19 @@ accepted-owned None verdict r f e =
     absurd (false≢true (sym e ∙ ap (λ (v : Verdict). is_closed (line Waiting v (Requested r)).next) (f refl) ∙ nowhere-closes r))
 
 -- what stands in a request's place closes, and nothing comes after it
-pub record Misplaced (verdict : Verdict) (association : Held) (pdus : List Pdu) (fault : Option PduFault) (step : Step) : Type 0 where
-  pub taken_is : taken verdict Waiting (inputs_from association pdus fault) ≡ record { opening = []; step = step }
+pub record Misplaced (verdict : Verdict) (association : HeldState) (pdus : List Pdu) (fault : Option PduFault) (step : AssociationStep) : Type 0 where
+  pub taken_is : taken_inputs verdict Waiting (inputs_from association pdus fault) ≡ record { opening = []; step = step }
   pub messages_are : step.messages ≡ []
   pub closes : step.close ≡ true
 
 at-first : (verdict : Verdict) (p : Pdu) (ps : List Pdu) (fault : Option PduFault) → ((r : Request) → p ≡ request_pdu r → ⊥)
-    → Misplaced verdict held.Waiting (p ∷ ps) fault (outcome Waiting (inputs_from held.Waiting (p ∷ []) None))
+    → Misplaced verdict held.Waiting (p ∷ ps) fault (step_of_inputs Waiting (inputs_from held.Waiting (p ∷ []) None))
 at-first verdict (request_pdu r) ps fault n = absurd (n r refl)
 at-first verdict p ps fault n = record { taken_is = refl; messages_are = refl; closes = refl }
 
-pub misplaced : (verdict : Verdict) (a : Held) (pdus : List Pdu) (p : Pdu) (fault : Option PduFault) (step : Step) → state_of a ≡ Waiting
+pub misplaced : (verdict : Verdict) (a : HeldState) (pdus : List Pdu) (p : Pdu) (fault : Option PduFault) (step : AssociationStep) → state_of a ≡ Waiting
     → 0 < length pdus → p ≡ get_or pdus 0 p → ((r : Request) → p ≡ request_pdu r → ⊥)
-    → step ≡ outcome (state_of a) (inputs_from a (p ∷ []) None) → Misplaced verdict a pdus fault step
+    → step ≡ step_of_inputs (state_of a) (inputs_from a (p ∷ []) None) → Misplaced verdict a pdus fault step
 misplaced verdict held.Waiting (q ∷ qs) p fault step w l e n s = rw (s, e) (at-first verdict q qs fault (rw e at n))
 misplaced verdict held.Waiting [] p fault step w l e n s = absurd (omega arith)
 misplaced verdict a pdus p fault step w l e n s = absurd (cc)
@@ -60,11 +60,11 @@ misplaced verdict a pdus p fault step w l e n s = absurd (cc)
 -- ---- what is held of an association
 
 abbrev pub InParts : Type 0
-InParts = (pdus more : List Pdu) (association : Held)
+InParts = (pdus more : List Pdu) (association : HeldState)
     → association_from association (pdus ++ more) ≡ association_from (association_from association pdus) more
 
 pub given_more : InParts → (before more pdus : List Pdu) (h : HeldAssociation) → more ≡ pdus
-    → Stands h (association_from (association_from held.Waiting before) more) → WasGiven (before ++ pdus) h
+    → Stands h (association_from (association_from held.Waiting before) more) → WasGivenPdus (before ++ pdus) h
 given_more law before more pdus h e s = record {
   stands = subst (Stands h) (ap (association_from (association_from held.Waiting before)) e ∙ sym (law before pdus held.Waiting)) s;
 }
@@ -75,10 +75,10 @@ waiting_stands (code.Open agreement holding) e = absurd cc
 waiting_stands (code.Closed agreement) e = absurd cc
 
 -- nothing came, or what came stands in a request's place
-pub taken_alone : (accepted : Option Agreement) (verdict : Verdict) (association : Held) (pdus : List Pdu) (fault : Option PduFault) (opening : List ℕ)
-    (held_step : HeldStep) (step : Step) → opening ≡ []
-    → taken verdict Waiting (inputs_from association pdus fault) ≡ record { opening = []; step = step } → IsStep (accepted_in accepted) held_step step
-    → IsTaken accepted (record { opening = opening; step = held_step }) (taken verdict Waiting (inputs_from association pdus fault))
+pub taken_alone : (accepted : Option Agreement) (verdict : Verdict) (association : HeldState) (pdus : List Pdu) (fault : Option PduFault) (opening : List ℕ)
+    (held_step : HeldStep) (step : AssociationStep) → opening ≡ []
+    → taken_inputs verdict Waiting (inputs_from association pdus fault) ≡ record { opening = []; step = step } → IsStep (accepted_in accepted) held_step step
+    → IsTaken accepted (record { opening = opening; step = held_step }) (taken_inputs verdict Waiting (inputs_from association pdus fault))
 taken_alone accepted verdict association pdus fault opening held_step step e is stands =
     subst (IsTaken accepted (record { opening = opening; step = held_step })) (sym is) (record { opening = e; step = stands })
 
@@ -89,11 +89,11 @@ pub none_held : (accepted : List Accepted) (helds : List HeldMessage) → StandF
 none_held accepted [] stand = refl
 none_held accepted (held ∷ helds) stand = absurd stand
 
-refused-line : (l : Line) (later : List Input) → is_closed l.next ≡ true → opened l later ≡ record { opening = []; step = step_of l }
+refused-line : (l : Line) (later : List Input) → is_closed l.next ≡ true → taken_at_request l later ≡ record { opening = []; step = step_of l }
 refused-line l later e = rw e refl
 
 opened-line : (l : Line) (later : List Input) → is_closed l.next ≡ false
-    → opened l later ≡ record { opening = answer_octets l.answer; step = open_outcome later }
+    → taken_at_request l later ≡ record { opening = answer_octets l.answer; step = open_outcome later }
 opened-line l later e = rw e refl
 
 -- the association whose request was accepted
@@ -106,10 +106,10 @@ module _ (verdict : Verdict) (request : Request) (pdus : List Pdu) (fault : Opti
   first_line = line Waiting verdict (Requested request)
 
   abbrev later_inputs : List Input
-  later_inputs = inputs_after (ids_of (agreement_of request)) (map role_of pdus) fault
+  later_inputs = inputs_after (context_ids (agreement_of request)) (map role_of pdus) fault
 
   abbrev all_taken : Taken
-  all_taken = taken verdict Waiting (inputs_from held.Waiting (request_pdu request ∷ pdus) fault)
+  all_taken = taken_inputs verdict Waiting (inputs_from held.Waiting (request_pdu request ∷ pdus) fault)
 
   -- one that is refused closes, and nothing comes after it
   pub taken_refused : (agreement : Option Agreement) (opening : List ℕ) (first : HeldStep) → opening ≡ []
@@ -122,12 +122,12 @@ module _ (verdict : Verdict) (request : Request) (pdus : List Pdu) (fault : Opti
   -- one that is accepted, and what comes after it
   pub taken_accepted : (old new : Option Agreement) (first later : HeldStep) (items : List Pdu) → new ≡ old → items ≡ pdus
       → IsStep [] first (step_of first_line) → first.close ≡ false
-      → IsStep (accepted_in old) later (outcome Open (inputs_from (association_from held.Waiting (request_pdu request ∷ [])) items fault))
+      → IsStep (accepted_in old) later (step_of_inputs Open (inputs_from (association_from held.Waiting (request_pdu request ∷ [])) items fault))
       → IsTaken new (record { opening = first.octets; step = later }) all_taken
   taken_accepted old new first later items same e is opens goes_on =
-      let opened_on = subst (λ (h : Held). IsStep (accepted_in old) later (outcome Open (inputs_from h items fault))) (opened-first request) goes_on in
+      let opened_on = subst (λ (h : HeldState). IsStep (accepted_in old) later (step_of_inputs Open (inputs_from h items fault))) (opened-first request) goes_on in
       let all_of = subst (λ (ps : List Pdu). IsStep (accepted_in old) later
-      (outcome Open (inputs_from (held.Open (agreement_of request) (assembly_for request)) ps fault))) e opened_on in
+      (step_of_inputs Open (inputs_from (held.Open (agreement_of request) (assembly_for request)) ps fault))) e opened_on in
       subst (IsTaken new (record { opening = first.octets; step = later })) (sym (opened-line first_line later_inputs (sym is.close ∙ opens)))
       (record {
         opening = is.octets;
@@ -141,7 +141,7 @@ pub nothing_stands : (accepted : List Accepted) (close : Bool) (first : HeldStep
 nothing_stands accepted close first e = rw e (record { messages = tt; octets = refl; close = refl })
 
 pub taken_none : (agreement : Option Agreement) (verdict : Verdict) (pdus : List Pdu) (fault : Option PduFault) (opening : List ℕ) (first : HeldStep)
-    → pdus ≡ [] → opening ≡ [] → IsStep (accepted_in agreement) first (outcome Waiting (inputs_from held.Waiting [] fault))
-    → IsTaken agreement (record { opening = opening; step = first }) (taken verdict Waiting (inputs_from held.Waiting pdus fault))
+    → pdus ≡ [] → opening ≡ [] → IsStep (accepted_in agreement) first (step_of_inputs Waiting (inputs_from held.Waiting [] fault))
+    → IsTaken agreement (record { opening = opening; step = first }) (taken_inputs verdict Waiting (inputs_from held.Waiting pdus fault))
 taken_none agreement verdict pdus None opening first none e is = rw none (record { opening = e; step = is })
 taken_none agreement verdict pdus (Some fault) opening first none e is = rw none (record { opening = e; step = is })

@@ -10,9 +10,9 @@ use Rattle.std.proofs.lemmas.Slice.Eq.{bytes_eq-Decides}
 use Rattle.dq_assoc.specs.declared.agreement.Agreement.{Agreement}
 use Rattle.dq_config.specs.declared.config.Institution.{Institution}
 use Rattle.dq_core.specs.Connections.{Connection, new_connection, connection_in, without, with_connection}
-use Rattle.dq_core.specs.Owners.{owner, is_of, live_of}
+use Rattle.dq_core.specs.Owners.{owner, is_institution, live_of}
 use Rattle.dq_core.specs.Slots.{home_of, is_home}
-use Rattle.dq_core.specs.Tallies.{place_in, count_in, tallied, one_more, one_less, retallied_by}
+use Rattle.dq_core.specs.Tallies.{institution_index, count_in, tally_of_name, one_more, one_less, retallied_by}
 
 abbrev most : ℕ
 most = 18446744073709551615
@@ -25,7 +25,7 @@ bit b = if b then 1 else 0
 
 module _ (institutions : List Institution) (name : List ℕ) where
   abbrev counts-one : Connection → ℕ
-  counts-one c = bit (is_of name (owner institutions c.stream))
+  counts-one c = bit (is_institution name (owner institutions c.stream))
 
   pub live-left : (number : ℕ) (cs : List Connection) (c : Connection) → connection_in number cs ≡ Some c
       → live_of institutions name (without number cs) + counts-one c ≡ live_of institutions name cs
@@ -37,7 +37,7 @@ module _ (institutions : List Institution) (name : List ℕ) where
   live-changed new [] c e = cc
   live-changed new (d ∷ cs) c e = grind (arith, nat_tests, live-changed new cs c)
 
-  pub live-opened : (number : ℕ) (cs : List Connection) → is_of name (owner institutions []) ≡ false
+  pub live-opened : (number : ℕ) (cs : List Connection) → is_institution name (owner institutions []) ≡ false
       → live_of institutions name (cs ++ new_connection number ∷ []) ≡ live_of institutions name cs
   live-opened number [] e = grind (arith, e)
   live-opened number (d ∷ cs) e = grind (arith, live-opened number cs e)
@@ -58,7 +58,7 @@ has-first p (x ∷ xs) (suc k) d h t = grind (arith, has-first p xs k d)
 
 -- an institution that is listed stands at a place
 listed-place : (institutions : List Institution) (i : Institution) → Contains institutions i
-    → (place : ℕ) × (place_in institutions i.name ≡ Some place) × (place < length institutions)
+    → (place : ℕ) × (institution_index institutions i.name ≡ Some place) × (place < length institutions)
 listed-place institutions i k =
     let p : Institution → Bool = λ j. bytes_eq j.name i.name in
     let has : p (get_or institutions k.0 i) ≡ true = rw k.2 ((bytes_eq-Decides i.name i.name).1 refl) in
@@ -72,91 +72,91 @@ module _ (institutions : List Institution) (counts : List ℕ) where
   has-place (Some place) h = (place, refl, grind (arith, get_or_past counts place 0))
 
   -- a change of the count at the place of a name
-  module _ (name : List ℕ) (place value : ℕ) (is : place_in institutions name ≡ Some place) (within : place < length counts) where
+  module _ (name : List ℕ) (place value : ℕ) (is : institution_index institutions name ≡ Some place) (within : place < length counts) where
     abbrev new : List ℕ
     new = set counts place value
 
-    same-name : (other : List ℕ) (o : Option ℕ) → place_in institutions other ≡ o → name ≡ other → count_in new o ≡ value
+    same-name : (other : List ℕ) (o : Option ℕ) → institution_index institutions other ≡ o → name ≡ other → count_in new o ≡ value
     same-name other o e f =
-        let there : o ≡ Some place = sym e ∙ ap (place_in institutions) (sym f) ∙ is in
+        let there : o ≡ Some place = sym e ∙ ap (institution_index institutions) (sym f) ∙ is in
         rw there (get_or-set_same counts place value 0 within)
 
     -- two names are not at one place
-    apart : (other : List ℕ) (at : ℕ) (d : Institution) → place_in institutions other ≡ Some at → name ≢ other → at ≢ place
+    apart : (other : List ℕ) (at : ℕ) (d : Institution) → institution_index institutions other ≡ Some at → name ≢ other → at ≢ place
     apart other at d e n f =
         let one = (position-Some (λ (i : Institution). bytes_eq i.name name) institutions place d is).1 in
         let two = (position-Some (λ (i : Institution). bytes_eq i.name other) institutions at d e).1 in
         let moved : bytes_eq (get_or institutions place d).name other ≡ true = rw f at two in
         n (sym ((bytes_eq-Decides (get_or institutions place d).name name).0 one) ∙ (bytes_eq-Decides (get_or institutions place d).name other).0 moved)
 
-    other-name : (other : List ℕ) (d : Institution) (o : Option ℕ) → place_in institutions other ≡ o → name ≢ other → count_in new o ≡ count_in counts o
+    other-name : (other : List ℕ) (d : Institution) (o : Option ℕ) → institution_index institutions other ≡ o → name ≢ other → count_in new o ≡ count_in counts o
     other-name other d None e n = refl
     other-name other d (Some at) e n = get_or-set_other counts place at value 0 (apart other at d e n)
 
     pub after : (other : List ℕ) (d : Institution) (b : Bool) → bytes_eq name other ≡ b
-        → tallied institutions new other ≡ (if b then value else tallied institutions counts other)
-    after other d true e = same-name other (place_in institutions other) refl ((bytes_eq-Decides name other).0 e)
-    after other d false e = other-name other d (place_in institutions other) refl (λ f. false≢true (sym e ∙ (bytes_eq-Decides name other).1 f))
+        → tally_of_name institutions new other ≡ (if b then value else tally_of_name institutions counts other)
+    after other d true e = same-name other (institution_index institutions other) refl ((bytes_eq-Decides name other).0 e)
+    after other d false e = other-name other d (institution_index institutions other) refl (λ f. false≢true (sym e ∙ (bytes_eq-Decides name other).1 f))
 
-  opened-at : (home : List ℕ) (place : ℕ) → place_in institutions home ≡ Some place → place < length counts → (d : Institution)
+  opened-at : (home : List ℕ) (place : ℕ) → institution_index institutions home ≡ Some place → place < length counts → (d : Institution)
       → get_or counts place 0 < most → (name : List ℕ) (b : Bool) → bytes_eq home name ≡ b
-      → tallied institutions (set counts place (min (get_or counts place 0 + 1) most)) name ≡ tallied institutions counts name + bit b
+      → tally_of_name institutions (set counts place (min (get_or counts place 0 + 1) most)) name ≡ tally_of_name institutions counts name + bit b
   opened-at home place is within d small name true e =
-      let there : tallied institutions counts name ≡ get_or counts place 0 =
-      ap (λ (n : List ℕ). tallied institutions counts n) (sym ((bytes_eq-Decides home name).0 e)) ∙ ap (count_in counts) is in
+      let there : tally_of_name institutions counts name ≡ get_or counts place 0 =
+      ap (λ (n : List ℕ). tally_of_name institutions counts n) (sym ((bytes_eq-Decides home name).0 e)) ∙ ap (count_in counts) is in
       let now = after home place (min (get_or counts place 0 + 1) most) is within name d true e in
       grind (arith, there, now, small)
   opened-at home place is within d small name false e =
       let now = after home place (min (get_or counts place 0 + 1) most) is within name d false e in omega (arith, now)
 
-  ended-at : (home : List ℕ) (place : ℕ) → place_in institutions home ≡ Some place → place < length counts → (d : Institution)
+  ended-at : (home : List ℕ) (place : ℕ) → institution_index institutions home ≡ Some place → place < length counts → (d : Institution)
       → 0 < get_or counts place 0 → (name : List ℕ) (b : Bool) → bytes_eq home name ≡ b
-      → tallied institutions (set counts place (get_or counts place 0 - 1)) name + bit b ≡ tallied institutions counts name
+      → tally_of_name institutions (set counts place (get_or counts place 0 - 1)) name + bit b ≡ tally_of_name institutions counts name
   ended-at home place is within d some name true e =
-      let there : tallied institutions counts name ≡ get_or counts place 0 =
-      ap (λ (n : List ℕ). tallied institutions counts n) (sym ((bytes_eq-Decides home name).0 e)) ∙ ap (count_in counts) is in
+      let there : tally_of_name institutions counts name ≡ get_or counts place 0 =
+      ap (λ (n : List ℕ). tally_of_name institutions counts n) (sym ((bytes_eq-Decides home name).0 e)) ∙ ap (count_in counts) is in
       let now = after home place (get_or counts place 0 - 1) is within name d true e in
       omega (arith, there, now, some)
   ended-at home place is within d some name false e =
       let now = after home place (get_or counts place 0 - 1) is within name d false e in omega (arith, now)
 
   -- one association more at an institution
-  opened-tally : (i : Institution) → length counts ≡ length institutions → Contains institutions i → tallied institutions counts i.name < most
-      → (name : List ℕ) → tallied institutions (one_more counts (place_in institutions i.name)) name
-      ≡ tallied institutions counts name + bit (bytes_eq i.name name)
+  opened-tally : (i : Institution) → length counts ≡ length institutions → Contains institutions i → tally_of_name institutions counts i.name < most
+      → (name : List ℕ) → tally_of_name institutions (one_more counts (institution_index institutions i.name)) name
+      ≡ tally_of_name institutions counts name + bit (bytes_eq i.name name)
   opened-tally i counted listed small name =
       let placed = listed-place institutions i listed in
       let place = placed.0 in
-      let count_is : tallied institutions counts i.name ≡ get_or counts place 0 = ap (count_in counts) placed.1 in
+      let count_is : tally_of_name institutions counts i.name ≡ get_or counts place 0 = ap (count_in counts) placed.1 in
       rw placed.1 (opened-at i.name place placed.1 (omega (arith, counted, placed.2)) i (omega (arith, count_is, small)) name (bytes_eq i.name name) refl)
 
   -- one less, where there is one
-  ended-tally : (home : List ℕ) (d : Institution) → 0 < tallied institutions counts home → (name : List ℕ)
-      → tallied institutions (one_less counts (place_in institutions home)) name + bit (bytes_eq home name) ≡ tallied institutions counts name
+  ended-tally : (home : List ℕ) (d : Institution) → 0 < tally_of_name institutions counts home → (name : List ℕ)
+      → tally_of_name institutions (one_less counts (institution_index institutions home)) name + bit (bytes_eq home name) ≡ tally_of_name institutions counts name
   ended-tally home d some name =
-      let placed = has-place (place_in institutions home) some in
-      let count_is : tallied institutions counts home ≡ get_or counts placed.0 0 = ap (count_in counts) placed.1 in
+      let placed = has-place (institution_index institutions home) some in
+      let count_is : tally_of_name institutions counts home ≡ get_or counts placed.0 0 = ap (count_in counts) placed.1 in
       rw placed.1 (ended-at home placed.0 placed.1 placed.2 d (omega (arith, count_is, some)) name (bytes_eq home name) refl)
 
   -- an association opened, or ended, or neither
   pub retally : (q : Option Institution) (home next : Option (List ℕ)) (a b : Option Agreement) → home ≡ home_of q a → next ≡ home_of q b
       → length counts ≡ length institutions → ((i : Institution) → q ≡ Some i → Contains institutions i)
-      → ((name : List ℕ) → tallied institutions counts name < most)
-      → ((name : List ℕ) → bit (is_home name home) ≤ tallied institutions counts name) → (name : List ℕ)
-      → tallied institutions (retallied_by institutions counts q (is_some home) (is_some next)) name + bit (is_home name home)
-      ≡ tallied institutions counts name + bit (is_home name next)
+      → ((name : List ℕ) → tally_of_name institutions counts name < most)
+      → ((name : List ℕ) → bit (is_home name home) ≤ tally_of_name institutions counts name) → (name : List ℕ)
+      → tally_of_name institutions (retallied_by institutions counts q (is_some home) (is_some next)) name + bit (is_home name home)
+      ≡ tally_of_name institutions counts name + bit (is_home name next)
   retally None home next a b e f counted listed small more name = rw (e, f) refl
   retally (Some i) home next None None e f counted listed small more name = rw (e, f) refl
   retally (Some i) home next (Some agreed) (Some later) e f counted listed small more name = rw (e, f) refl
   retally (Some i) home next None (Some later) e f counted listed small more name =
       rw (e, f) (omega (arith, opened-tally i counted (listed i refl) (small i.name) name))
   retally (Some i) home next (Some agreed) None e f counted listed small more name =
-      let one : bit (bytes_eq i.name i.name) ≤ tallied institutions counts i.name = rw e at (more i.name) in
+      let one : bit (bytes_eq i.name i.name) ≤ tally_of_name institutions counts i.name = rw e at (more i.name) in
       let same : bytes_eq i.name i.name ≡ true = (bytes_eq-Decides i.name i.name).1 refl in
-      let some : 0 < tallied institutions counts i.name = let h = rw same at one in omega (arith, h) in
+      let some : 0 < tally_of_name institutions counts i.name = let h = rw same at one in omega (arith, h) in
       rw (e, f) (omega (arith, ended-tally i.name i some name))
 
-pub ended-anywhere : (institutions : List Institution) (counts home : List ℕ) → 0 < tallied institutions counts home → (name : List ℕ)
-    → tallied institutions (one_less counts (place_in institutions home)) name + bit (bytes_eq home name) ≡ tallied institutions counts name
+pub ended-anywhere : (institutions : List Institution) (counts home : List ℕ) → 0 < tally_of_name institutions counts home → (name : List ℕ)
+    → tally_of_name institutions (one_less counts (institution_index institutions home)) name + bit (bytes_eq home name) ≡ tally_of_name institutions counts name
 ended-anywhere [] counts home some name = absurd (omega (arith, some))
 ended-anywhere (i ∷ institutions) counts home some name = ended-tally (i ∷ institutions) counts home i some name

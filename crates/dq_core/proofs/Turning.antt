@@ -28,16 +28,16 @@ use Rattle.dq_core.specs.declared.slot.Taken.{Taken as HeldTaken}
 use Rattle.dq_core.specs.Doing.{Taken}
 use Rattle.dq_core.specs.declared.pages.OpenQuery.{OpenQuery as HeldQuery}
 use Rattle.dq_core.specs.Pages.{OpenQuery, Page, next_page}
-use Rattle.dq_core.specs.Queries.{query_in}
+use Rattle.dq_core.specs.Queries.{open_query_in}
 use Rattle.dq_core.specs.Answers.{Answer, inputs_added, after_piece}
 use Rattle.dq_core.specs.Connections.{Connection, new_connection, with_piece, with_query, is_pending, connection_in, without, with_connection}
 use Rattle.dq_core.specs.Stepping.{IsPartOf}
 use Rattle.dq_core.specs.Doing.{Did, DidPart}
 use Rattle.dq_core.specs.Owners.{owner, live_of}
 use Rattle.dq_core.specs.Histories.{is_above}
-use Rattle.dq_core.specs.Tallies.{place_in, tallied, IsTallied, one_less, one_more, retallied_by}
+use Rattle.dq_core.specs.Tallies.{institution_index, tally_of_name, IsTallied, one_less, one_more, retallied_by}
 use Rattle.dq_core.specs.Shared.{World, turn, owner_turn, answer_by}
-use Rattle.dq_core.specs.Slots.{StandsAt, has_slot, has_query, has_query_at, has_search, IsHeld, AreHeld, Turned, IsTaken, Took, answer_of, home_of, is_home}
+use Rattle.dq_core.specs.Slots.{StandsAt, has_slot, has_query, has_query_at, has_search, IsHeld, AreHeld, Turned, IsTaken, Took, connection_answer, home_of, is_home}
 use Rattle.dq_core.proofs.Owning.{Waits, no-home, counted-held}
 use Rattle.dq_core.proofs.Slotted.{has_number, Found, found, found-none, left, changed, opened, inserts-last, all-below, none-above, all-left, same-length}
 use Rattle.dq_core.proofs.Tallying.{bit, live-left, live-changed, live-opened, live-within, ended-anywhere, retally}
@@ -47,7 +47,7 @@ new-held : (institutions : List Institution) (slot : Slot) (number : ℕ) → sl
     → ((owner : Option Institution) → StandsAt owner slot []) → slot.query ≡ None → IsHeld institutions slot (new_connection number)
 unfolding pdus_within
 new-held institutions slot number n i s q =
-    record { number = n; inbox = i; faultless = refl; stands = s (owner institutions []); query = ap query_in q }
+    record { number = n; inbox = i; faultless = refl; stands = s (owner institutions []); query = ap open_query_in q }
 
 -- no octets add no input
 nothing-added : (stream : List ℕ) → inputs_added stream [] ≡ []
@@ -59,7 +59,7 @@ with-same c [] e = cc
 with-same c (d ∷ cs) e = grind (arith, nat_tests, with-same c cs)
 
 close-of : (q : Option Institution) (rows : List Row) (agreed : Option Agreement) (query : Option OpenQuery) (t : Taken)
-    → (answer_of q rows agreed query t).close ≡ t.step.close
+    → (connection_answer q rows agreed query t).close ≡ t.step.close
 close-of None rows agreed query t = refl
 close-of (Some i) rows agreed query t = refl
 
@@ -77,27 +77,27 @@ opened-tallied institutions counts cs number t name = t name ∙ sym (live-opene
 
 -- each count is of some of the connections
 module _ (institutions : List Institution) (held : Connections) (cs : List Connection) (h : AreHeld institutions held cs) where
-  pub few : length held.places.entries < 2 ^ 63 → (name : List ℕ) → tallied institutions held.tally.counts.items name < 18446744073709551615
+  pub few : length held.places.entries < 2 ^ 63 → (name : List ℕ) → tally_of_name institutions held.tally.counts.items name < 18446744073709551615
   few small name =
       omega (arith, small, same-length institutions held.slots held.places.entries cs h.at, live-within institutions name cs, h.tallied name)
 
   -- what is left of the counts without a connection
   pub left-count : Waits → (number : ℕ) (slot : Slot) (c : Connection) → connection_in number cs ≡ Some c → IsHeld institutions slot c → (name : List ℕ)
-      → live_of institutions name (without number cs) + bit (is_home name slot.home) ≡ tallied institutions held.tally.counts.items name
+      → live_of institutions name (without number cs) + bit (is_home name slot.home) ≡ tally_of_name institutions held.tally.counts.items name
   left-count waits number slot c e is name =
       rw (counted-held waits institutions name slot c is, h.tallied name) (live-left institutions name number cs c e)
 
 -- what ended is no longer counted
 ended-tallied : (institutions : List Institution) (held : Connections) (cs : List Connection) (number : ℕ) (home : Option (List ℕ))
-    → ((name : List ℕ) → live_of institutions name (without number cs) + bit (is_home name home) ≡ tallied institutions held.tally.counts.items name)
+    → ((name : List ℕ) → live_of institutions name (without number cs) + bit (is_home name home) ≡ tally_of_name institutions held.tally.counts.items name)
     → (counts : List ℕ) → (home ≡ None → counts ≡ held.tally.counts.items)
-    → ((name : List ℕ) → home ≡ Some name → counts ≡ one_less held.tally.counts.items (place_in institutions name))
+    → ((name : List ℕ) → home ≡ Some name → counts ≡ one_less held.tally.counts.items (institution_index institutions name))
     → IsTallied institutions counts (without number cs)
 ended-tallied institutions held cs number None lefts counts none some name = rw (none refl) (omega (arith, lefts name))
 ended-tallied institutions held cs number (Some home) lefts counts none some name =
     let own = lefts home in
     let same : bytes_eq home home ≡ true = (bytes_eq-Decides home home).1 refl in
-    let first : live_of institutions home (without number cs) + 1 ≡ tallied institutions held.tally.counts.items home = rw same at own in
+    let first : live_of institutions home (without number cs) + 1 ≡ tally_of_name institutions held.tally.counts.items home = rw same at own in
     let now = ended-anywhere institutions held.tally.counts.items home (omega (arith, first)) name in
     rw (some home refl) (omega (arith, now, lefts name))
 
@@ -114,8 +114,8 @@ retally-length : (institutions : List Institution) (counts : List ℕ) (q : Opti
 retally-length institutions counts None was is = refl
 retally-length institutions counts (Some i) true true = refl
 retally-length institutions counts (Some i) false false = refl
-retally-length institutions counts (Some i) true false = less-length counts (place_in institutions i.name)
-retally-length institutions counts (Some i) false true = more-length counts (place_in institutions i.name)
+retally-length institutions counts (Some i) true false = less-length counts (institution_index institutions i.name)
+retally-length institutions counts (Some i) false true = more-length counts (institution_index institutions i.name)
 
 and-false : (b : Bool) → (b && false) ≡ false
 and-false true = refl
@@ -187,7 +187,7 @@ module _ (institutions : List Institution) (world : World) (number : ℕ) where
       → IsOrdered nat_cmp after.places → after.newest ≡ before.newest
       → ((slot : Slot) → get before.slots place ≡ Some slot → slot.home ≡ None → after.tally.counts.items ≡ before.tally.counts.items)
       → ((slot : Slot) (name : List ℕ) → get before.slots place ≡ Some slot → slot.home ≡ Some name
-      → after.tally.counts.items ≡ one_less before.tally.counts.items (place_in institutions name))
+      → after.tally.counts.items ≡ one_less before.tally.counts.items (institution_index institutions name))
       → Turned institutions (turn institutions world (event.End number)) reply.Done world.rows world.rows after
   ends-found waits before after place h e u p o w none some =
       let at = found-at before place h e in
@@ -204,10 +204,10 @@ module _ (institutions : List Institution) (world : World) (number : ℕ) where
       })
     where
       ended-length : (before : Connections) (counts : List ℕ) (home : Option (List ℕ)) → (home ≡ None → counts ≡ before.tally.counts.items)
-          → ((name : List ℕ) → home ≡ Some name → counts ≡ one_less before.tally.counts.items (place_in institutions name))
+          → ((name : List ℕ) → home ≡ Some name → counts ≡ one_less before.tally.counts.items (institution_index institutions name))
           → length counts ≡ length before.tally.counts.items
       ended-length before counts None none some = rw (none refl) refl
-      ended-length before counts (Some name) none some = rw (some name refl) (less-length before.tally.counts.items (place_in institutions name))
+      ended-length before counts (Some name) none some = rw (some name refl) (less-length before.tally.counts.items (institution_index institutions name))
 
   -- ---- pieces
 
@@ -256,8 +256,8 @@ module _ (institutions : List Institution) (world : World) (number : ℕ) where
 
       -- the counts after a piece, where the slot has a home or none
       counts-now : length before.places.entries < 2 ^ 63 → Waits → (next : Option (List ℕ)) (b : Option Agreement) → next ≡ home_of q b → (name : List ℕ)
-          → tallied institutions (retallied_by institutions before.tally.counts.items q (is_some old.home) (is_some next)) name + bit (is_home name old.home)
-          ≡ tallied institutions before.tally.counts.items name + bit (is_home name next)
+          → tally_of_name institutions (retallied_by institutions before.tally.counts.items q (is_some old.home) (is_some next)) name + bit (is_home name old.home)
+          ≡ tally_of_name institutions before.tally.counts.items name + bit (is_home name next)
       counts-now small waits next b f =
           let lefts = left-count institutions before world.connections h waits number old at.connection at.is_in is-held-now in
           retally institutions before.tally.counts.items q old.home next (held_agreement old.association) b told.home f h.counted told.listed
@@ -279,7 +279,7 @@ module _ (institutions : List Institution) (world : World) (number : ℕ) where
       abbrev kept : Option HeldQuery → Slot
       kept left = record new { query = left }
 
-      kept-held : (left : Option HeldQuery) (c : Connection) → IsHeld institutions new c → IsHeld institutions (kept left) (with_query (query_in left) c)
+      kept-held : (left : Option HeldQuery) (c : Connection) → IsHeld institutions new c → IsHeld institutions (kept left) (with_query (open_query_in left) c)
       kept-held left c h = record {
         number = h.number;
         inbox = h.inbox;
@@ -293,10 +293,10 @@ module _ (institutions : List Institution) (world : World) (number : ℕ) where
           → ((other : ℕ) → other ≢ place → get after.slots other ≡ get before.slots other) → get after.slots place ≡ Some (kept left)
           → after.places ≡ before.places → after.newest ≡ before.newest
           → after.tally.counts.items ≡ retallied_by institutions before.tally.counts.items q (is_some old.home) (is_some new.home)
-          → AreHeld institutions after (with_connection (with_piece at.connection piece (query_in left)) world.connections)
+          → AreHeld institutions after (with_connection (with_piece at.connection piece (open_query_in left)) world.connections)
       open-held small waits after left close u written p w r =
           let now = told.held (sym told.stands.step.close ∙ close) in
-          let c = with_piece at.connection piece (query_in left) in
+          let c = with_piece at.connection piece (open_query_in left) in
           let is_kept = kept-held left (with_piece at.connection piece at.connection.query) now.0 in record {
             at = rw p (changed institutions number place before.slots after.slots old u there (is-held-now.number ∙ at.same) (kept left) c written at.same
                 is_kept
@@ -334,7 +334,7 @@ module _ (institutions : List Institution) (world : World) (number : ℕ) where
           (ap (λ (y : Tally). y.counts.items) y ∙ m.4 ∙ ap (retallied_by institutions before.tally.counts.items q (is_some old.home)) ended)
 
       pub stays-open : length before.places.entries < 2 ^ 63 → Waits → (mid : Connections) (left : Option HeldQuery) (is : Bool) → IsMiddle mid left is
-          → t.step.close ≡ false → AreHeld institutions mid (with_connection (with_piece at.connection piece (query_in left)) world.connections)
+          → t.step.close ≡ false → AreHeld institutions mid (with_connection (with_piece at.connection piece (open_query_in left)) world.connections)
       stays-open small waits mid left is m close =
           let on : is ≡ is_some new.home = m.0 ∙ ap (λ (b : Bool). is_some new.home && not b) close ∙ and-true (is_some new.home) in
           open-held small waits mid left close
@@ -344,10 +344,10 @@ module _ (institutions : List Institution) (world : World) (number : ℕ) where
 
       -- a piece was taken, and answered
       pub piece-taken : (agreed : Option Agreement) (was rows : List Row) → agreed ≡ held_agreement new.association → was ≡ world.rows
-          → (query : Option OpenQuery) → query_in new.query ≡ query → (after : Connections) (octets : List ℕ) (left : Option HeldQuery) (r : Reply)
-          → ((x : Taken) → IsTaken agreed t x → Did q (answer_of q was agreed query x) was rows [] octets (query_in left))
+          → (query : Option OpenQuery) → open_query_in new.query ≡ query → (after : Connections) (octets : List ℕ) (left : Option HeldQuery) (r : Reply)
+          → ((x : Taken) → IsTaken agreed t x → Did q (connection_answer q was agreed query x) was rows [] octets (open_query_in left))
           → (t.step.close ≡ true → AreHeld institutions after (without number world.connections))
-          → (t.step.close ≡ false → AreHeld institutions after (with_connection (with_piece at.connection piece (query_in left)) world.connections))
+          → (t.step.close ≡ false → AreHeld institutions after (with_connection (with_piece at.connection piece (open_query_in left)) world.connections))
           → r ≡ reply.Octets number octets t.step.close
           → Turned institutions (turn institutions world (event.Piece number piece)) r world.rows rows after
       piece-taken agreed was rows agreed_is was_is query query_is after octets left r did closed open_on g =
@@ -359,7 +359,7 @@ module _ (institutions : List Institution) (world : World) (number : ℕ) where
           let is_given : IsTaken agreed t given = rw agreed_is told.stands in
           let now = rw (was_is, same_query) at (did given is_given) in
           let close : x.close ≡ t.step.close = alike.close ∙ close-of q world.rows agreed c.query given ∙ sym is_given.step.close in
-          let left_is : query_in left ≡ x.next.query = now.query ∙ sym alike.query in
+          let left_is : open_query_in left ≡ x.next.query = now.query ∙ sym alike.query in
           rw at.is_in (record {
             replied = cc (at.same, now.octets, alike.octets);
             rows = rw alike.operations now.rows;
@@ -368,8 +368,8 @@ module _ (institutions : List Institution) (world : World) (number : ℕ) where
 
       -- a piece was taken, and answered in part
       pub piece-part : (agreed : Option Agreement) (was rows : List Row) → agreed ≡ held_agreement new.association → was ≡ world.rows
-          → (query : Option OpenQuery) → query_in new.query ≡ query → (IsLeft : List Row → Type 0)
-          → ((x : Taken) → IsTaken agreed t x → DidPart q (answer_of q was agreed query x) was rows IsLeft)
+          → (query : Option OpenQuery) → open_query_in new.query ≡ query → (IsLeft : List Row → Type 0)
+          → ((x : Taken) → IsTaken agreed t x → DidPart q (connection_answer q was agreed query x) was rows IsLeft)
           → IsPartOf (turn institutions world (event.Piece number piece)).operations world.rows rows IsLeft
       piece-part agreed was rows agreed_is was_is query query_is IsLeft did =
           let same_query : query ≡ at.connection.query = sym query_is ∙ told.query ∙ is-held-now.query in
@@ -415,7 +415,7 @@ module _ (institutions : List Institution) (world : World) (number : ℕ) where
     pulled-old = let both : Some pulled.slot ≡ Some old = sym pulled.there ∙ there in let is : pulled.slot ≡ old = cc in rw is at pulled.held
 
     -- the slot is of the connection with what is left of its query
-    pulled-new : IsHeld institutions new (with_query (query_in new.query) pulled.connection)
+    pulled-new : IsHeld institutions new (with_query (open_query_in new.query) pulled.connection)
     pulled-new = rw same_slot (record {
       number = pulled-old.number;
       inbox = pulled-old.inbox;
@@ -430,9 +430,9 @@ module _ (institutions : List Institution) (world : World) (number : ℕ) where
     })
 
     pulled-held : AreHeld institutions (record before { slots = with_value before.slots place new })
-        (with_connection (with_query (query_in new.query) pulled.connection) world.connections)
+        (with_connection (with_query (open_query_in new.query) pulled.connection) world.connections)
     pulled-held =
-        let c = with_query (query_in new.query) pulled.connection in
+        let c = with_query (open_query_in new.query) pulled.connection in
         let present : ContainsKey before.slots place = rw there refl in
         let updates = Updates-with_value before.slots place new present in record {
           at = changed institutions number place before.slots (with_value before.slots place new) old updates.others there (pulled-old.number ∙ pulled.same) new c
@@ -445,7 +445,7 @@ module _ (institutions : List Institution) (world : World) (number : ℕ) where
           counted = h.counted;
         }
 
-    pub pull-answered : (p : Page) → p ≡ next_page (query_in old.query) → query_in new.query ≡ p.query → (r : Reply) → r ≡ reply.Octets number p.octets false
+    pub pull-answered : (p : Page) → p ≡ next_page (open_query_in old.query) → open_query_in new.query ≡ p.query → (r : Reply) → r ≡ reply.Octets number p.octets false
         → Turned institutions (turn institutions world (event.Pull number)) r world.rows world.rows
         (record before { slots = with_value before.slots place new })
     pull-answered p page left r is =
@@ -469,7 +469,7 @@ pub pending-none : (institutions : List Institution) (number : ℕ) (held : Conn
     → lookup (has_number number) held.places.entries ≡ None → false ≡ is_pending number cs
 pending-none institutions number held cs h e = rw (found-none institutions number held.slots held.places.entries cs h.at e) refl
 
-some-query : (o : Option HeldQuery) → is_some o ≡ is_some (query_in o)
+some-query : (o : Option HeldQuery) → is_some o ≡ is_some (open_query_in o)
 some-query None = refl
 some-query (Some query) = refl
 
@@ -479,7 +479,7 @@ pending-some institutions number place held slot cs h e there =
     let at = found institutions number place held.slots held.places.entries cs h.at e in
     let both : Some at.slot ≡ Some slot = sym at.there ∙ there in
     let is : at.slot ≡ slot = cc in
-    let same : query_in slot.query ≡ at.connection.query = rw is at at.held.query in
+    let same : open_query_in slot.query ≡ at.connection.query = rw is at at.held.query in
     rw at.is_in (some-query slot.query ∙ ap is_some same)
 
 no-query : (o : Option HeldQuery) → is_some o ≡ false → o ≡ None

@@ -8,10 +8,11 @@ pub mod Isolating
 pub mod Others
 pub mod Isolated
 pub mod Named
+pub mod Rising
 pub mod Promise
+pub mod Single
 pub mod Strangers
 pub mod Faulted
-pub mod Rising
 pub mod Renumbering
 pub mod Numberless
 pub mod Accepting

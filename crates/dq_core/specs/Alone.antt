@@ -1,7 +1,8 @@
--- The plain server of one institution that has it to itself: there are no names and no routes, no
--- other limits, and all records are its own. A request that passes the checks of its version,
--- application context and maximum length is accepted, unless the associations are at their limit.
-use Rattle.std.specs.Prelude.{ℕ, Bool, false, if◌then◌else◌, List, [], ◌∷◌, ◌++◌, length, take, drop, filter, is_some, Option, Some, None}
+-- A device of proofs, which no promise cites: the plain server of one institution that has it to
+-- itself, with no names and no routes, no other limits, and all records its own. A request that
+-- passes the checks of its version, application context and maximum length is accepted, unless the
+-- associations are at their limit.
+use Rattle.std.specs.Prelude.{ℕ, false, List, [], ◌∷◌, ◌++◌, length, filter, is_some, Option, Some, None}
 use Rattle.dq_assoc.specs.Inputs.{inputs}
 use Rattle.dq_core.specs.declared.event.Event.{Event}
 use Rattle.dq_core.specs.declared.event.Event.TheVariants as event
@@ -9,7 +10,7 @@ use Rattle.dq_core.specs.declared.event.Reply.{Reply}
 use Rattle.dq_core.specs.declared.event.Reply.TheVariants as reply
 use Rattle.dq_config.specs.Limits.{Limits}
 use Rattle.dq_tables.specs.Rows.{Record, Edit, edited_all}
-use Rattle.dq_core.specs.Services.{Scheduling, Withdrawal, Ordered, ordered, order_reply}
+use Rattle.dq_core.specs.Services.{Scheduling, Withdrawal, Ordered, console_outcome, order_reply}
 use Rattle.dq_core.specs.Pages.{Page, next_page}
 use Rattle.dq_core.specs.Answers.{Answer, piece_answer, request_in, verdict_at, after_piece}
 use Rattle.dq_core.specs.Connections.{Connection, new_connection, connection_in, without, with_connection, with_query}
@@ -82,9 +83,9 @@ alone_turn limits world (event.End number) =
 alone_turn limits world (event.Pull number) =
     alone_pull world (connection_in number world.connections)
 alone_turn limits world (event.Schedule inst octets) =
-    alone_order world (ordered limits world.records (Scheduling octets))
+    alone_order world (console_outcome limits world.records (Scheduling octets))
 alone_turn limits world (event.Withdraw inst id) =
-    alone_order world (ordered limits world.records (Withdrawal id))
+    alone_order world (console_outcome limits world.records (Withdrawal id))
 
 abbrev pub alone_after_turn : AloneWorld → AloneTurn → AloneWorld
 alone_after_turn world t =
@@ -112,18 +113,3 @@ alone_replies limits records events = alone_replies_from limits (alone_opening r
 -- what is held and kept after it
 abbrev pub alone_after : Limits → List Record → List Event → AloneWorld
 alone_after limits records events = alone_world_from limits (alone_opening records) events
-
--- the changes that the next event makes, where it passes a test
-abbrev pub changes_next : Limits → AloneWorld → (Event → Bool) → List Event → List (List Edit)
-changes_next limits world mine [] = []
-changes_next limits world mine (e ∷ events) =
-    if mine e then (alone_turn limits world e).changes else []
-
--- The records after those among the first events of a history that pass a test, and, where the next
--- event passes it, the first changes of that.
-abbrev pub records_within : Limits → List Record → (Event → Bool) → List Event → ℕ → ℕ
-    → List Record
-records_within limits records mine events answered changes =
-    let world = alone_after limits records (filter mine (take answered events)) in
-    let next = changes_next limits world mine (drop answered events) in
-    edited_all (take changes next) world.records

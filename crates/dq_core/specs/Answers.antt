@@ -11,7 +11,7 @@ use Rattle.dq_assoc.specs.After.{is_closed}
 use Rattle.dq_assoc.specs.declared.agreement.Agreement.{Agreement}
 use Rattle.dq_config.specs.Limits.{Limits}
 use Rattle.dq_assoc.specs.Negotiation.{agreement_of}
-use Rattle.dq_tables.specs.Rows.{Record, Edit, edited}
+use Rattle.dq_tables.specs.Rows.{Record, Edit, records_after_edits}
 use Rattle.dq_core.specs.Pages.{OpenQuery, Reaction, reaction}
 use Rattle.dq_core.specs.Connections.{Connection, with_piece, with_connection, without}
 
@@ -49,7 +49,7 @@ message_answer reaction progress = record {
   close = false;
   changes = reaction.edits ∷ [];
   next = record progress {
-    records = edited reaction.edits progress.records;
+    records = records_after_edits reaction.edits progress.records;
     query = reaction.query;
   };
 }
@@ -84,15 +84,15 @@ answer_after (Some agreement) limits verdict progress input =
     open_answer limits agreement progress input
 
 -- one input
-abbrev pub answer : Limits → Verdict → Progress → Input → Answer
-answer limits verdict progress input = answer_after progress.agreement limits verdict progress input
+abbrev pub input_answer : Limits → Verdict → Progress → Input → Answer
+input_answer limits verdict progress input = answer_after progress.agreement limits verdict progress input
 
 -- inputs in order, up to the first that closes
-abbrev pub answers : Limits → Verdict → Progress → List Input → Answer
-answers limits verdict progress [] = no_answer progress
-answers limits verdict progress (input ∷ inputs) =
-    let first = answer limits verdict progress input in
-    then_answer first (answers limits verdict first.next inputs)
+abbrev pub input_answers : Limits → Verdict → Progress → List Input → Answer
+input_answers limits verdict progress [] = no_answer progress
+input_answers limits verdict progress (input ∷ inputs) =
+    let first = input_answer limits verdict progress input in
+    then_answer first (input_answers limits verdict first.next inputs)
 
 -- the request among the inputs of a stream: the first of them, if it is one
 abbrev pub request_in : List Input → Option Request
@@ -115,7 +115,7 @@ inputs_added stream piece = drop (length (inputs stream)) (inputs (stream ++ pie
 -- what an institution answers to a piece on a connection
 abbrev pub piece_answer : Limits → Verdict → List Record → Connection → List ℕ → Answer
 piece_answer limits verdict records c piece =
-    answers limits verdict (progress_of c records) (inputs_added c.stream piece)
+    input_answers limits verdict (progress_of c records) (inputs_added c.stream piece)
 
 -- A request is accepted unless the open associations are at their limit.
 abbrev pub verdict_at : ℕ → ℕ → Verdict

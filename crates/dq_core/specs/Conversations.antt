@@ -5,7 +5,7 @@ use Rattle.std.specs.Prelude.{◌≡◌, ◌⊎◌, ℕ, suc, ◌==◌, ◌*◌,
 use Rattle.std.specs.List.{AllByRecursion, flat_map}
 use Rattle.dq_dimse.specs.CommandFields.{c_cancel}
 use Rattle.dq_dimse.specs.Received.{Message}
-use Rattle.dq_dimse.specs.Sending.{sent}
+use Rattle.dq_dimse.specs.Sending.{message_pdus}
 use Rattle.dq_assoc.specs.declared.agreement.Agreement.{Agreement}
 use Rattle.dq_assoc.specs.declared.association.State.TheVariants.{Waiting, Open}
 use Rattle.dq_assoc.specs.declared.association.Verdict.TheVariants.{Accept}
@@ -114,7 +114,7 @@ responses_sent pages NoMessage r = responses_in_pages pages r []
 abbrev pub response_octets_of : Agreement → Message → ℕ × Next → Option Responses → List ℕ
 response_octets_of agreement message s None = []
 response_octets_of agreement message s (Some r) = flat_map
-    (λ (x : Response). sent message.context x.0 x.1 agreement.limit)
+    (λ (x : Response). message_pdus message.context x.0 x.1 agreement.limit)
     (responses_sent (suc s.0) s.1 r)
 
 -- ---- the conversation

@@ -8,7 +8,7 @@ use Rattle.dq_assoc.specs.declared.association.State.{State}
 use Rattle.dq_assoc.specs.declared.association.State.TheVariants.{Waiting}
 use Rattle.dq_assoc.specs.Table.{Input, Requested, Line, line, answer_octets}
 use Rattle.dq_assoc.specs.After.{is_closed}
-use Rattle.dq_assoc.specs.Steps.{Step, step_of, open_outcome, outcome}
+use Rattle.dq_assoc.specs.Steps.{AssociationStep, step_of, open_outcome, step_of_inputs}
 use Rattle.dq_config.specs.declared.config.Institution.{Institution}
 use Rattle.dq_config.specs.Limits.{Limits}
 use Rattle.dq_match.specs.declared.responses.Found.{Found}
@@ -20,11 +20,11 @@ use Rattle.dq_tables.specs.Keeping.{State as Kept}
 use Rattle.dq_core.specs.declared.event.Reply.{Reply}
 use Rattle.dq_core.specs.declared.fault.Fault.{Fault}
 use Rattle.dq_core.specs.declared.fault.Fault.TheVariants.{NoMemory, Store}
-use Rattle.dq_core.specs.Services.{Order}
+use Rattle.dq_core.specs.Services.{ConsoleOrder}
 use Rattle.dq_core.specs.Pages.{OpenQuery, reaction}
 use Rattle.dq_core.specs.Answers.{Progress, Answer, agreement_by, no_answer, message_answer, then_answer}
-use Rattle.dq_core.specs.Shared.{operations_by, opening, order_turn}
-use Rattle.dq_core.specs.Stepping.{Goes, MayLeave, IsPartOf}
+use Rattle.dq_core.specs.Shared.{operations_by, first_world, order_turn}
+use Rattle.dq_core.specs.Stepping.{Goes, MayLeaveAfter, IsPartOf}
 
 -- An owner's answer was given: its octets were added, its operations were made, and the C-FIND that
 -- it leaves open is open.
@@ -48,26 +48,26 @@ pub record Operates (old new : Kept) (institution : List ℕ)
   pub done : new.honest → OnOk result (
       new.rows ≡ after (by institution (does (of institution old.rows)).1) old.rows)
   pub same : new.honest → OnErr result (new.rows ≡ old.rows)
-  pub crash : new.honest → OnErr result ((r : List Row) → MayLeave old new r → (r ≡ old.rows)
+  pub crash : new.honest → OnErr result ((r : List Row) → MayLeaveAfter old new r → (r ≡ old.rows)
       ⊎ (r ≡ after (by institution (does (of institution old.rows)).1) old.rows))
 
 -- An order of an institution, or of none, is answered as by the plain server and its operations are
 -- made, or there is a fault, and no operation is made.
-pub record Orders (old new : Kept) (owner : Option Institution) (order : Order)
+pub record Orders (old new : Kept) (owner : Option Institution) (order : ConsoleOrder)
     (result : Result Reply Fault) : Type 0 where
   pub goes : Goes old new result
   pub replied : new.honest
-      → IfOk result (λ reply. reply ≡ (order_turn (opening old.rows) order owner).reply)
+      → IfOk result (λ reply. reply ≡ (order_turn (first_world old.rows) order owner).reply)
   pub done : new.honest → OnOk result (
-      new.rows ≡ after_all (order_turn (opening old.rows) order owner).operations old.rows)
+      new.rows ≡ after_all (order_turn (first_world old.rows) order owner).operations old.rows)
   pub same : new.honest → OnErr result (new.rows ≡ old.rows)
-  pub crash : new.honest → OnErr result ((r : List Row) → MayLeave old new r → (r ≡ old.rows)
-      ⊎ (r ≡ after_all (order_turn (opening old.rows) order owner).operations old.rows))
+  pub crash : new.honest → OnErr result ((r : List Row) → MayLeaveAfter old new r → (r ≡ old.rows)
+      ⊎ (r ≡ after_all (order_turn (first_world old.rows) order owner).operations old.rows))
 
 -- the fault of the server at a fault of the tables
-abbrev pub fault_of : TableFault → Fault
-fault_of table.NoMemory = NoMemory
-fault_of table.Store = Store
+abbrev pub server_fault : TableFault → Fault
+server_fault table.NoMemory = NoMemory
+server_fault table.Store = Store
 
 -- what is agreed after inputs
 abbrev pub agreement_after : Option Agreement → List Input → Option Agreement
@@ -100,17 +100,17 @@ messages_answer limits agreement records query (message ∷ messages) =
 -- after it.
 pub record Taken : Type 0 where
   pub opening : List ℕ
-  pub step : Step
+  pub step : AssociationStep
 
-abbrev pub opened : Line → List Input → Taken
-opened l inputs =
+abbrev pub taken_at_request : Line → List Input → Taken
+taken_at_request l inputs =
     if is_closed l.next then record { opening = []; step = step_of l }
     else record { opening = answer_octets l.answer; step = open_outcome inputs }
 
-abbrev pub taken : Verdict → State → List Input → Taken
-taken verdict Waiting (Requested request ∷ inputs) =
-    opened (line Waiting verdict (Requested request)) inputs
-taken verdict state inputs = record { opening = []; step = outcome state inputs }
+abbrev pub taken_inputs : Verdict → State → List Input → Taken
+taken_inputs verdict Waiting (Requested request ∷ inputs) =
+    taken_at_request (line Waiting verdict (Requested request)) inputs
+taken_inputs verdict state inputs = record { opening = []; step = step_of_inputs state inputs }
 
 -- The answer to what was taken: where something is agreed on, messages are served.
 abbrev pub agreed_answer : Limits → List Record → Option Agreement → Option OpenQuery

@@ -20,8 +20,8 @@ rises_from newest [] = true
 rises_from newest (Open number ∷ events) = is_above newest number && rises_from (Some number) events
 rises_from newest (event ∷ events) = rises_from newest events
 
-abbrev pub is_well_formed : List Event → Bool
-is_well_formed events = rises_from None events
+abbrev pub is_well_formed_history : List Event → Bool
+is_well_formed_history events = rises_from None events
 
 -- the numbers that are opened, in order
 abbrev pub opened_numbers : List Event → List ℕ

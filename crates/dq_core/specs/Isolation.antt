@@ -1,5 +1,6 @@
 -- What it is that one institution's replies and records do not depend on the others.
-use Rattle.std.specs.Prelude.{◌≡◌, ℕ, IsTrue, List, [], ◌++◌, filter, take, Contains}
+use Rattle.std.specs.Prelude.{◌≡◌, ℕ, zero, Bool, IsTrue, if◌then◌else◌, List, [], ◌∷◌, ◌++◌, length, filter, take, drop, Contains}
+use Rattle.std.specs.Str.{bytes_eq}
 use Rattle.dq_config.specs.declared.config.Institution.{Institution}
 use Rattle.dq_core.specs.declared.event.Event.{Event}
 use Rattle.dq_core.specs.declared.event.Reply.{Reply}
@@ -7,20 +8,45 @@ use Rattle.dq_tables.specs.declared.row.Row.{Row}
 use Rattle.dq_config.specs.Limits.{limits_of}
 use Rattle.dq_tables.specs.Rows.{of, IsRising}
 use Rattle.dq_core.specs.Owners.{HaveOwnNames}
-use Rattle.dq_core.specs.Histories.{is_well_formed}
-use Rattle.dq_core.specs.Shared.{replies}
-use Rattle.dq_core.specs.Alone.{alone_replies}
-use Rattle.dq_core.specs.Own.{is_own, own}
+use Rattle.dq_core.specs.Histories.{is_well_formed_history}
+use Rattle.dq_core.specs.Shared.{World, replies, world_after, rows_within}
+use Rattle.dq_core.specs.Own.{is_own_event, own}
 
 -- the own events of an institution among the first that were answered
 abbrev pub own_among : List Institution → List ℕ → List Event → ℕ → List Event
 own_among institutions name events answered =
-    filter (is_own institutions name events) (take answered events)
+    filter (is_own_event institutions name events) (take answered events)
 
--- the replies of the institution's server alone to these
+-- An institution's server alone is the same server, configured with it alone, over its rows. These
+-- are its rows among those of all.
+abbrev pub rows_alone : List ℕ → List Row → List Row
+rows_alone name rows = filter (λ (row : Row). bytes_eq row.inst name) rows
+
+-- what it replies to events
+abbrev pub replies_alone : Institution → List Row → List Event → List Reply
+replies_alone i rows events = replies (i ∷ []) (rows_alone i.name rows) events
+
+-- what it holds and keeps after them
+abbrev pub world_alone : Institution → List Row → List Event → World
+world_alone i rows events = world_after (i ∷ []) (rows_alone i.name rows) events
+
+-- its replies to the own events among the first that were answered
 abbrev pub own_replies : List Institution → List Row → List Event → Institution → ℕ → List Reply
 own_replies institutions rows events i answered =
-    alone_replies (limits_of i) (of i.name rows) (own_among institutions i.name events answered)
+    replies_alone i rows (own_among institutions i.name events answered)
+
+-- how many operations of the next event are the institution's: none where the event is not its own
+abbrev pub own_operations : (Event → Bool) → List Event → ℕ → ℕ
+own_operations mine [] operations = zero
+own_operations mine (event ∷ events) operations = if mine event then operations else zero
+
+-- its rows after these events, and after the first operations of the next event
+abbrev pub own_rows_within : List Institution → List Row → List Event → Institution → ℕ → ℕ
+    → List Row
+own_rows_within institutions rows events i answered operations =
+    rows_within (i ∷ []) (rows_alone i.name rows) (own institutions i.name events)
+    (length (own_among institutions i.name events answered))
+    (own_operations (is_own_event institutions i.name events) (drop answered events) operations)
 
 -- The replies of one that nobody owns: those of a server without institutions.
 abbrev pub stranger_replies : List Event → List Reply
@@ -33,7 +59,7 @@ pub record Begins (institutions : List Institution) (rows : List Row) (events : 
   pub own_names : HaveOwnNames institutions
   pub listed : Contains institutions i
   pub rising : IsRising rows
-  pub well_formed : IsTrue (is_well_formed events)
+  pub well_formed : IsTrue (is_well_formed_history events)
 
 -- Two histories agree for an institution that both configurations have: the limits are the same,
 -- the records as the histories begin, and the own events. Nothing is asked of the routes, which

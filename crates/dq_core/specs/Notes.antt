@@ -4,7 +4,7 @@ use Rattle.dq_vr.specs.declared.Tag.{Tag}
 use Rattle.dq_vr.specs.Tags.{modality, modalities_in_study, study_date}
 use Rattle.dq_vr.specs.Tags.{scheduled_procedure_step_sequence, scheduled_station_ae_title, scheduled_procedure_step_start_date}
 use Rattle.dq_dataset.specs.Tree.{ElementList}
-use Rattle.dq_dataset.specs.Values.{element_at, octets_in}
+use Rattle.dq_dataset.specs.Values.{element_at, element_octets}
 use Rattle.dq_tables.specs.Keys.{sole_item_at}
 use Rattle.dq_assoc.specs.declared.classes.Service.{Service}
 use Rattle.dq_assoc.specs.declared.classes.Service.TheVariants.{WorklistFind}
@@ -17,7 +17,7 @@ noted_most = 64
 -- of an element that is absent, in a data set or in none, and of a sequence there are none
 abbrev pub noted_octets : Tag → Option ElementList → List ℕ
 noted_octets tag None = []
-noted_octets tag (Some d) = take noted_most (octets_in (element_at tag d))
+noted_octets tag (Some d) = take noted_most (element_octets (element_at tag d))
 
 abbrev pub or_else : List ℕ → List ℕ → List ℕ
 or_else [] others = others
@@ -29,8 +29,8 @@ pub record Asked : Type 0 where
   pub station : List ℕ
   pub day : List ℕ
 
-abbrev pub asked : Sought → Asked
-asked sought =
+abbrev pub values_asked : Sought → Asked
+values_asked sought =
     record { modality = sought.modality; station = sought.station; day = sought.day }
 
 -- of a query of the worklist those of its only scheduled procedure step (PS3.4 annex K)

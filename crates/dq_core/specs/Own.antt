@@ -8,26 +8,26 @@ use Rattle.dq_core.specs.declared.event.Event.{Event}
 use Rattle.dq_core.specs.declared.event.Event.TheVariants.{Open, Piece, End, Pull, Schedule, Withdraw}
 use Rattle.dq_core.specs.declared.event.Reply.{Reply}
 use Rattle.dq_core.specs.declared.event.Reply.TheVariants as reply
-use Rattle.dq_core.specs.Owners.{owner, is_of}
+use Rattle.dq_core.specs.Owners.{owner, is_institution}
 
 -- the octets of the pieces on a connection before its end
-abbrev pub pieces_of : ℕ → List Event → List ℕ
-pieces_of number [] = []
-pieces_of number (Piece n piece ∷ events) =
-    if number == n then piece ++ pieces_of number events else pieces_of number events
-pieces_of number (End n ∷ events) = if number == n then [] else pieces_of number events
-pieces_of number (event ∷ events) = pieces_of number events
+abbrev pub octets_of_pieces : ℕ → List Event → List ℕ
+octets_of_pieces number [] = []
+octets_of_pieces number (Piece n piece ∷ events) =
+    if number == n then piece ++ octets_of_pieces number events else octets_of_pieces number events
+octets_of_pieces number (End n ∷ events) = if number == n then [] else octets_of_pieces number events
+octets_of_pieces number (event ∷ events) = octets_of_pieces number events
 
 -- the stream of a connection: the octets of its pieces after its opening and before its end
 abbrev pub stream_of : ℕ → List Event → List ℕ
 stream_of number [] = []
 stream_of number (Open n ∷ events) =
-    if number == n then pieces_of number events else stream_of number events
+    if number == n then octets_of_pieces number events else stream_of number events
 stream_of number (event ∷ events) = stream_of number events
 
 -- whether the institution with a name owns a connection in a history
 abbrev pub owns : List Institution → List ℕ → List Event → ℕ → Bool
-owns institutions name events number = is_of name (owner institutions (stream_of number events))
+owns institutions name events number = is_institution name (owner institutions (stream_of number events))
 
 -- whether an event is on a connection whose number passes a test, or of the console for an
 -- institution whose name passes one
@@ -41,12 +41,12 @@ is_on numbers names (Withdraw inst id) = names inst
 
 -- An institution's own events in a history: those on the connections that it owns in this history,
 -- and the console's that name it.
-abbrev pub is_own : List Institution → List ℕ → List Event → Event → Bool
-is_own institutions name events =
+abbrev pub is_own_event : List Institution → List ℕ → List Event → Event → Bool
+is_own_event institutions name events =
     is_on (owns institutions name events) (λ (inst : List ℕ). bytes_eq inst name)
 
 abbrev pub own : List Institution → List ℕ → List Event → List Event
-own institutions name events = filter (is_own institutions name events) events
+own institutions name events = filter (is_own_event institutions name events) events
 
 -- the events on one connection
 abbrev pub is_on_connection : ℕ → Event → Bool

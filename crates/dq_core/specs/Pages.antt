@@ -4,7 +4,7 @@ use Rattle.std.specs.Prelude.{ℕ, ◌==◌, nat_le, if◌then◌else◌, List, 
 use Rattle.std.specs.List.{flat_map}
 use Rattle.dq_dimse.specs.CommandFields.{c_cancel}
 use Rattle.dq_dimse.specs.Received.{Message}
-use Rattle.dq_dimse.specs.Sending.{sent}
+use Rattle.dq_dimse.specs.Sending.{message_pdus}
 use Rattle.dq_assoc.specs.declared.agreement.Agreement.{Agreement}
 use Rattle.dq_config.specs.Limits.{Limits}
 use Rattle.dq_tables.specs.Rows.{Record, Edit}
@@ -12,7 +12,7 @@ use Rattle.dq_core.specs.Services.{Response, Responses, Served, served}
 
 -- a response as it is sent to a peer that takes PDUs up to a limit
 abbrev pub response_octets : ℕ → ℕ → Response → List ℕ
-response_octets context limit response = sent context response.0 response.1 limit
+response_octets context limit response = message_pdus context response.0 response.1 limit
 
 -- Responses that were not sent: the id of their presentation context, the longest PDU that the peer
 -- takes, and those that are left.
@@ -22,8 +22,8 @@ pub record OpenQuery : Type 0 where
   pub left : Responses
 
 -- the Message ID of the request that they answer
-abbrev pub message_id : OpenQuery → ℕ
-message_id query = query.left.final.0.id
+abbrev pub answered_message_id : OpenQuery → ℕ
+answered_message_id query = query.left.final.0.id
 
 -- how many pending responses are sent at once
 abbrev pub page_length : ℕ
@@ -34,12 +34,12 @@ pub record Page : Type 0 where
   pub octets : List ℕ
   pub query : Option OpenQuery
 
-abbrev pub octets_of : OpenQuery → List Response → List ℕ
-octets_of query responses = flat_map (response_octets query.context query.limit) responses
+abbrev pub responses_octets : OpenQuery → List Response → List ℕ
+responses_octets query responses = flat_map (response_octets query.context query.limit) responses
 
 -- all that is left
 abbrev pub rest : OpenQuery → List ℕ
-rest query = octets_of query (query.left.pending ++ query.left.final ∷ [])
+rest query = responses_octets query (query.left.pending ++ query.left.final ∷ [])
 
 abbrev pub without_first : ℕ → OpenQuery → OpenQuery
 without_first count query = record query {
@@ -52,7 +52,7 @@ page query =
     if nat_le (length query.left.pending) page_length
     then record { octets = rest query; query = None }
     else record {
-      octets = octets_of query (take page_length query.left.pending);
+      octets = responses_octets query (take page_length query.left.pending);
       query = Some (without_first page_length query);
     }
 
@@ -86,8 +86,8 @@ first_reaction agreement message service =
 -- One of another message has no effect.
 abbrev pub cancel_reaction : ℕ → OpenQuery → Reaction
 cancel_reaction id query =
-    if id == message_id query
-    then record { octets = octets_of query (query.left.cancelled ∷ []); edits = []; query = None }
+    if id == answered_message_id query
+    then record { octets = responses_octets query (query.left.cancelled ∷ []); edits = []; query = None }
     else record { octets = []; edits = []; query = Some query }
 
 -- what comes after all that is left of a C-FIND

@@ -15,13 +15,13 @@ abbrev pub KeepsOrder : (ℕ → ℕ) → Type 0
 KeepsOrder another = (a b : ℕ) → a < b → another a < another b
 
 -- an event with its connection under the other number; the console's orders are on no connection
-abbrev pub renumbered : (ℕ → ℕ) → Event → Event
-renumbered another (Open number) = Open (another number)
-renumbered another (Piece number piece) = Piece (another number) piece
-renumbered another (End number) = End (another number)
-renumbered another (Pull number) = Pull (another number)
-renumbered another (Schedule inst octets) = Schedule inst octets
-renumbered another (Withdraw inst id) = Withdraw inst id
+abbrev pub with_other_number : (ℕ → ℕ) → Event → Event
+with_other_number another (Open number) = Open (another number)
+with_other_number another (Piece number piece) = Piece (another number) piece
+with_other_number another (End number) = End (another number)
+with_other_number another (Pull number) = Pull (another number)
+with_other_number another (Schedule inst octets) = Schedule inst octets
+with_other_number another (Withdraw inst id) = Withdraw inst id
 
 -- a reply for that connection under the other number
 abbrev pub renumbered_reply : (ℕ → ℕ) → Reply → Reply
@@ -40,5 +40,5 @@ pub record AgreeButForNumbers (institutions others : List Institution)
   pub records : of i.name rows ≡ of j.name other_rows
   pub order : KeepsOrder anew
   pub other_order : KeepsOrder other_anew
-  pub own_events : map (renumbered anew) (own institutions i.name events)
-      ≡ map (renumbered other_anew) (own others j.name other_events)
+  pub own_events : map (with_other_number anew) (own institutions i.name events)
+      ≡ map (with_other_number other_anew) (own others j.name other_events)

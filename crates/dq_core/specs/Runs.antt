@@ -1,7 +1,6 @@
 -- What a run of a history comes to, also where a fault ends it.
 use Rattle.std.specs.Prelude.{◌≡◌, ℕ, suc, ◌⊎◌, List, [], ◌∷◌, length, take, drop, Option, Some}
 use Rattle.dq_config.specs.declared.config.Institution.{Institution}
-use Rattle.dq_config.specs.Limits.{limits_of}
 use Rattle.dq_tables.specs.declared.row.Row.{Row}
 use Rattle.dq_tables.specs.Rows.{of}
 use Rattle.dq_core.specs.declared.event.Event.{Event}
@@ -10,9 +9,8 @@ use Rattle.dq_core.specs.declared.fault.Fault.{Fault}
 use Rattle.dq_core.specs.declared.fault.Fault.TheVariants.{NoMemory}
 use Rattle.dq_core.specs.Connections.{Connection}
 use Rattle.dq_core.specs.Shared.{replies, world_after, rows_within}
-use Rattle.dq_core.specs.Alone.{records_within}
-use Rattle.dq_core.specs.Own.{is_own, replies_at}
-use Rattle.dq_core.specs.Isolation.{own_replies}
+use Rattle.dq_core.specs.Own.{is_own_event, replies_at}
+use Rattle.dq_core.specs.Isolation.{own_replies, own_rows_within}
 use Rattle.dq_core.specs.Stepping.{TakesNoMemory}
 
 -- The replies are those to the first events, and the rows those after these events and the first
@@ -52,12 +50,12 @@ pub record HasNoRoom {Tables : Type 0} (tables : Tables) (given : List Reply) (f
   pub same_tables : left ≡ tables
 
 -- The replies at an institution's own events are those of its server alone to those among them
--- that were answered. Its records are those that this server then has, after the first changes
+-- that were answered. Its records are those that this server then has, after the first operations
 -- of the next event where that is its own.
 pub record IsOwnRun (institutions : List Institution) (rows : List Row) (events : List Event)
     (i : Institution) (given : List Reply) (kept : List Row) : Type 0 where
-  pub same_replies : replies_at (is_own institutions i.name events) events given
+  pub same_replies : replies_at (is_own_event institutions i.name events) events given
       ≡ own_replies institutions rows events i (length given)
-  pub changes : ℕ
-  pub same_records : of i.name kept ≡ records_within (limits_of i) (of i.name rows)
-      (is_own institutions i.name events) events (length given) changes
+  pub operations : ℕ
+  pub same_records : of i.name kept
+      ≡ of i.name (own_rows_within institutions rows events i (length given) operations)

@@ -29,13 +29,13 @@ ArePending context command optional answers responses =
 abbrev pub AreAnswersOf : Service → AgreedContext → List ℕ → List Record → Message → List Response
     → Type 0
 AreAnswersOf StudyRootFind context called records message responses =
-    (query : Query) × (study.query_of message context.syntax ≡ Ok query)
-    × (answers : List ElementList) × study_answers.AreAnswers records called query answers
+    (query : Query) × (study.message_query message context.syntax ≡ Ok query)
+    × (answers : List ElementList) × study_answers.AreQueryAnswers records called query answers
     × ArePending context message.command query.optional answers responses
 AreAnswersOf WorklistFind context called records message responses =
-    (keys : ElementList) × (optional : Bool) × (worklist.query_of message context.syntax
+    (keys : ElementList) × (optional : Bool) × (worklist.worklist_query message context.syntax
     ≡ Ok (record { keys = keys; optional = optional }))
-    × (answers : List ElementList) × worklist_answers.AreAnswers records keys answers
+    × (answers : List ElementList) × worklist_answers.AreEntryAnswers records keys answers
     × ArePending context message.command optional answers responses
 AreAnswersOf other context called records message responses = (responses ≡ [])
 

@@ -22,12 +22,12 @@ use Rattle.dq_config.specs.Limits.{Limits}
 use Rattle.dq_assoc.specs.Classes.{uid_of, service_of}
 use Rattle.dq_assoc.specs.Negotiation.{context_of}
 use Rattle.dq_match.specs.declared.responses.Found.{Found}
-use Rattle.dq_store.specs.Storing.{stored}
-use Rattle.dq_find.specs.Queries.{found}
-use Rattle.dq_worklist.specs.Queries.{listed}
-use Rattle.dq_worklist.specs.Orders.{scheduled, withdrawn}
-use Rattle.dq_mpps.specs.Creating.{created}
-use Rattle.dq_mpps.specs.Changing.{changed}
+use Rattle.dq_store.specs.Storing.{store_outcome}
+use Rattle.dq_find.specs.Queries.{query_outcome}
+use Rattle.dq_worklist.specs.Queries.{worklist_outcome}
+use Rattle.dq_worklist.specs.Orders.{schedule_outcome, withdrawn}
+use Rattle.dq_mpps.specs.Creating.{create_outcome}
+use Rattle.dq_mpps.specs.Changing.{set_outcome}
 use Rattle.dq_tables.specs.Rows.{Record, Edit}
 use Rattle.dq_core.specs.declared.dimse_operation.DimseOperation.{DimseOperation}
 use Rattle.dq_core.specs.declared.dimse_operation.DimseOperation.TheVariants.{Echo, Store, FindStudies, FindEntries, CreateStep, SetStep}
@@ -50,9 +50,9 @@ pub record Served : Type 0 where
 
 -- What the console orders: an entry's data set to be scheduled, or the entry with an id to be
 -- withdrawn.
-pub data Order : Type 0 where
-  Scheduling : List ℕ → Order
-  Withdrawal : List ℕ → Order
+pub data ConsoleOrder : Type 0 where
+  Scheduling : List ℕ → ConsoleOrder
+  Withdrawal : List ℕ → ConsoleOrder
 
 -- the number of the refusal, where an order is refused, and the edits of the records
 pub record Ordered : Type 0 where
@@ -147,15 +147,15 @@ abbrev pub operation_outcome : DimseOperation → List ℕ → Syntax → Limits
     → Found × List Edit
 operation_outcome Echo called syntax limits message records = alone (success, [])
 operation_outcome Store called syntax limits message records =
-    alone (stored limits records message syntax)
+    alone (store_outcome limits records message syntax)
 operation_outcome FindStudies called syntax limits message records =
-    (found records called message syntax, [])
+    (query_outcome records called message syntax, [])
 operation_outcome FindEntries called syntax limits message records =
-    (listed records message syntax, [])
+    (worklist_outcome records message syntax, [])
 operation_outcome CreateStep called syntax limits message records =
-    alone (created limits records message syntax)
+    alone (create_outcome limits records message syntax)
 operation_outcome SetStep called syntax limits message records =
-    alone (changed records message syntax)
+    alone (set_outcome records message syntax)
 
 -- The operation is tested first, and then whether the class is that of the context (PS3.7 annex C).
 abbrev pub outcome_of : Option DimseOperation → Bool → List ℕ → Syntax → Limits → Message
@@ -193,9 +193,9 @@ abbrev pub ordered_by : Option ℕ × List Edit → Ordered
 ordered_by outcome = record { refusal = outcome.0; edits = outcome.1 }
 
 -- what an order of the console changes
-unfoldable pub ordered : Limits → List Record → Order → Ordered
-ordered limits records (Scheduling octets) = ordered_by (scheduled limits records octets)
-ordered limits records (Withdrawal id) = ordered_by (withdrawn records id)
+unfoldable pub console_outcome : Limits → List Record → ConsoleOrder → Ordered
+console_outcome limits records (Scheduling octets) = ordered_by (schedule_outcome limits records octets)
+console_outcome limits records (Withdrawal id) = ordered_by (withdrawn records id)
 
 -- what the console is answered with
 abbrev pub order_reply : Option ℕ → Reply

@@ -13,24 +13,24 @@ use Rattle.dq_assoc.specs.declared.agreement.Agreement.{Agreement}
 use Rattle.dq_assoc.specs.declared.association.Verdict.{Verdict}
 use Rattle.dq_assoc.specs.declared.association.Verdict.TheVariants.{Nowhere}
 use Rattle.dq_assoc.specs.After.{is_closed}
-use Rattle.dq_assoc.specs.Holding.{IsStep, WasGiven, accepted_in, held_agreement, held_state}
+use Rattle.dq_assoc.specs.Holding.{IsStep, WasGivenPdus, accepted_in, held_agreement, held_state}
 use Rattle.dq_config.specs.declared.config.Institution.{Institution}
 use Rattle.dq_config.specs.Limits.{limits_of}
-use Rattle.dq_config.specs.Routing.{routed, named}
+use Rattle.dq_config.specs.Routing.{institution_routed, institution_named}
 use Rattle.dq_tables.specs.declared.row.Row.{Row}
 use Rattle.dq_tables.specs.Rows.{of, after_all}
 use Rattle.dq_core.specs.declared.connections.Connections.{Connections}
 use Rattle.dq_core.specs.declared.slot.Slot.{Slot}
 use Rattle.dq_core.specs.declared.slot.Taken.{Taken as HeldTaken}
 use Rattle.dq_core.specs.Pages.{OpenQuery}
-use Rattle.dq_core.specs.Queries.{query_in}
+use Rattle.dq_core.specs.Queries.{open_query_in}
 use Rattle.dq_core.specs.Answers.{Answer, verdict_at}
 use Rattle.dq_core.specs.Connections.{Connection, with_piece}
 use Rattle.dq_core.specs.Histories.{is_above}
-use Rattle.dq_core.specs.Tallies.{IsTallied, place_in, one_less}
+use Rattle.dq_core.specs.Tallies.{IsTallied, institution_index, one_less}
 use Rattle.dq_core.specs.Doing.{Taken, taken_answer}
 use Rattle.dq_core.specs.Owners.{owner}
-use Rattle.dq_core.specs.Shared.{World, Turn, answer_by, operations_by}
+use Rattle.dq_core.specs.Shared.{World, EventEffect, answer_by, operations_by}
 use Rattle.dq_core.specs.declared.event.Reply.{Reply}
 
 -- the name of the institution that has a connection on which something is agreed
@@ -41,7 +41,7 @@ home_of None agreement = None
 
 -- a slot that was given PDUs of which none closed, on a connection of an owner
 pub record StandsAt (owner : Option Institution) (slot : Slot) (pdus : List Pdu) : Type 0 where
-  pub association : WasGiven pdus slot.association
+  pub association : WasGivenPdus pdus slot.association
   pub not_closed : is_closed (held_state slot.association) ≡ false
   pub home : slot.home ≡ home_of owner (held_agreement slot.association)
   pub owned : (agreement : Agreement) → held_agreement slot.association ≡ Some agreement
@@ -53,7 +53,7 @@ pub record IsHeld (institutions : List Institution) (slot : Slot) (c : Connectio
   pub inbox : InboxAfter c.stream slot.inbox
   pub faultless : (pdus_in c.stream).fault ≡ None
   pub stands : StandsAt (owner institutions c.stream) slot (pdus_in c.stream).list
-  pub query : query_in slot.query ≡ c.query
+  pub query : open_query_in slot.query ≡ c.query
 
 -- the place of a connection, and the slot there
 pub record IsAt (institutions : List Institution) (slots : Slab Slot) (number place : ℕ)
@@ -99,7 +99,7 @@ pub record AreHeld (institutions : List Institution) (held : Connections) (cs : 
 
 -- An event was answered by the plain server's turn: the reply is its reply, its operations were
 -- made, and what is held are the connections that are then held.
-pub record Turned (institutions : List Institution) (t : Turn) (reply : Reply)
+pub record Turned (institutions : List Institution) (t : EventEffect) (reply : Reply)
     (before after : List Row) (held : Connections) : Type 0 where
   pub replied : reply ≡ t.reply
   pub rows : after ≡ after_all t.operations before
@@ -113,7 +113,7 @@ is_home name (Some home) = bytes_eq home name
 -- the counts after the connection of a slot ended, where it has one
 abbrev pub less_home : List Institution → List ℕ → Option (List ℕ) → List ℕ
 less_home institutions counts None = counts
-less_home institutions counts (Some home) = one_less counts (place_in institutions home)
+less_home institutions counts (Some home) = one_less counts (institution_index institutions home)
 
 abbrev pub without_home : List Institution → List ℕ → Option Slot → List ℕ
 without_home institutions counts None = counts
@@ -127,26 +127,26 @@ verdict_for count (Some i) = verdict_at i.associations (count i.name)
 -- the institution to which the titles of a request are routed, where a request stands first
 abbrev pub routed_first : List Institution → List Pdu → Option Institution
 routed_first institutions (request_pdu request ∷ pdus) =
-    routed institutions request.called request.calling
+    institution_routed institutions request.called request.calling
 routed_first institutions pdus = None
 
 abbrev pub owner_with : List Institution → Option (List ℕ) → List Pdu → Option Institution
 owner_with institutions None pdus = routed_first institutions pdus
-owner_with institutions (Some home) pdus = named institutions home
+owner_with institutions (Some home) pdus = institution_named institutions home
 
 abbrev pub owner_at : List Institution → Slot → List Pdu → Option Institution
 owner_at institutions slot pdus = owner_with institutions slot.home pdus
 
 -- what was taken on a connection is answered by the institution that has it, if one has
-abbrev pub answer_of : Option Institution → List Row → Option Agreement → Option OpenQuery → Taken
+abbrev pub connection_answer : Option Institution → List Row → Option Agreement → Option OpenQuery → Taken
     → Answer
-answer_of None rows agreement query t = record {
+connection_answer None rows agreement query t = record {
   octets = t.opening ++ t.step.octets;
   close = t.step.close;
   changes = [];
   next = record { agreement = None; records = []; query = query };
 }
-answer_of (Some i) rows agreement query t =
+connection_answer (Some i) rows agreement query t =
     taken_answer (limits_of i) (of i.name rows) agreement query t
 
 -- Two answers, each of an institution or of none, that are the same to the peer and to the tables.
@@ -173,9 +173,9 @@ pub record Took (institutions : List Institution) (world : World) (c : Connectio
   pub stands : IsTaken (held_agreement new.association) held_taken taken
   pub answer : let o = owner institutions (c.stream ++ piece) in
       AreAlike o (answer_by o institutions world c piece)
-      institution (answer_of institution world.rows (held_agreement new.association) c.query taken)
+      institution (connection_answer institution world.rows (held_agreement new.association) c.query taken)
   pub home : old.home ≡ home_of institution (held_agreement old.association)
-  pub query : query_in new.query ≡ query_in old.query
+  pub query : open_query_in new.query ≡ open_query_in old.query
   pub held : taken.step.close ≡ false → IsHeld institutions new (with_piece c piece c.query)
       × (new.home ≡ home_of institution (held_agreement new.association))
   pub listed : (i : Institution) → institution ≡ Some i → Contains institutions i

@@ -1,15 +1,15 @@
 -- What keeps sound rows sound: the server is sent octets, and each row holds a data set.
 use Rattle.std.specs.Prelude.{◌≡◌, true, List}
 use Rattle.std.specs.List.{AllByRecursion}
+use Rattle.dq_list.specs.Octets.{AreOctets}
 use Rattle.dq_dataset.specs.Facts.{IsDataSet}
-use Rattle.dq_dataset.specs.Grammar.{AreOctets}
 use Rattle.dq_tables.specs.declared.row.Row.{Row}
 use Rattle.dq_tables.specs.Records.{data_set_of}
 use Rattle.dq_tables.specs.Sound.{IsSound}
 use Rattle.dq_store.specs.Levels.{is_of_its_level}
 use Rattle.dq_core.specs.declared.event.Event.{Event}
 use Rattle.dq_core.specs.declared.event.Event.TheVariants as event
-use Rattle.dq_core.specs.Services.{Order, Scheduling, Withdrawal}
+use Rattle.dq_core.specs.Services.{ConsoleOrder, Scheduling, Withdrawal}
 use Rattle.dq_core.specs.Connections.{Connection}
 
 abbrev pub HoldDataSets : List Row → Type 0
@@ -30,7 +30,7 @@ pub record AreMade (rows : List Row) : Type 0 where
   pub levels : KeepToLevels rows
 
 -- what an order holds
-abbrev pub HoldsOctets : Order → Type 0
+abbrev pub HoldsOctets : ConsoleOrder → Type 0
 HoldsOctets (Scheduling octets) = AreOctets octets
 HoldsOctets (Withdrawal id) = Unit {0}
 

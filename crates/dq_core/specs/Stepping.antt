@@ -41,8 +41,8 @@ pub record Goes {A : Type 0} (old new : Kept) (result : Result A Fault) : Type 0
   pub settles : new.honest → OnOk result (IsSettled old → IsSettled new)
 
 -- what a crash may leave, where before it could leave the rows alone
-abbrev pub MayLeave : Kept → Kept → List Row → Type 0
-MayLeave old new r = IsSettled old × new.may_leave r
+abbrev pub MayLeaveAfter : Kept → Kept → List Row → Type 0
+MayLeaveAfter old new r = IsSettled old × new.may_leave r
 
 -- The rows after the first of the operations. What is left of them in a crash are these rows, with
 -- or without the next operation.

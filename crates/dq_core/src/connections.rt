@@ -14,8 +14,8 @@ ghost use Rattle.dq_core.specs.declared.event.Reply.{Reply};
 ghost use Rattle.dq_core.specs.Connections.{Connection, connection_in, is_pending};
 ghost use Rattle.dq_core.specs.Histories.{is_above};
 ghost use Rattle.dq_core.specs.Shared.{World, turn};
-ghost use Rattle.dq_core.specs.Stepping.{Goes, MayLeave, IsPartOf};
-ghost use Rattle.dq_core.specs.Tallies.{IsTallied, tallied, retallied_by};
+ghost use Rattle.dq_core.specs.Stepping.{Goes, MayLeaveAfter, IsPartOf};
+ghost use Rattle.dq_core.specs.Tallies.{IsTallied, tally_of_name};
 ghost use Rattle.dq_core.specs.Slots.{has_slot, has_search, AreHeld, IsHeld, StandsAt, Turned, Took, owner_at, verdict_for, without_home};
 
 use crate::event::Reply;
@@ -175,7 +175,7 @@ impl Connections {
             OnErr result (
             IsPartOf (turn self.old.config world (Event.Piece number piece.now)).operations
             world.rows (T.state tables.new).rows
-            (MayLeave (T.state tables.old) (T.state tables.new))) }
+            (MayLeaveAfter (T.state tables.old) (T.state tables.new))) }
         ensures fault { IfErr result (λ fault. fault ≢ Fault.Stopped) }
         ensures quiet { (connections : List Connection) →
             AreHeld self.old.config self.old connections →
@@ -196,13 +196,7 @@ impl Connections {
             return Ok(Reply::Ignored);
         };
         let was_open = slot.home.is_some();
-        let (institution, taken, heard) = take_piece(
-            alloc,
-            &self.config,
-            &self.tally,
-            slot,
-            piece,
-        )?;
+        let (owner, taken, heard) = take_piece(alloc, &self.config, &self.tally, slot, piece)?;
         let close = taken.step.close;
         let is_open = stays_open(slot, close);
         notes.turn_to(number);
@@ -214,19 +208,13 @@ impl Connections {
         let query = slot.query.take();
         let host = Host {
             alloc,
-            institution,
+            institution: owner,
             agreement,
         };
         let answered = host.answer(query, taken, tables, notes)?;
         slot.query = answered.query;
         notes.close(ending);
-        retally(
-            &self.config,
-            &mut self.tally,
-            institution,
-            was_open,
-            is_open,
-        );
+        self.tally.retally(&self.config, owner, was_open, is_open);
         if close {
             self.remove(number, place);
         }
@@ -319,7 +307,7 @@ fn owner_of<'a>(config: &'a Config, slot: &Slot, pdus: &[Pdu]) -> Option<&'a Ins
 /// What is known of the titles of a connection: an institution that has it, and whether it takes
 /// one more association, or none.
 fn verdict_for(config: &Config, tally: &Tally, institution: Option<&Institution>) -> Verdict
-    ensures { result ≡ verdict_for (tallied config.now tally.now.counts.items)
+    ensures { result ≡ verdict_for (tally_of_name config.now tally.now.counts.items)
         (option_copied institution.entry) }
 {
     let Some(institution) = institution else {
@@ -329,28 +317,6 @@ fn verdict_for(config: &Config, tally: &Tally, institution: Option<&Institution>
         Verdict::Accept
     } else {
         Verdict::Busy
-    }
-}
-
-/// Counts an association that was opened at an institution, or that ended.
-fn retally(
-    config: &Config,
-    tally: &mut Tally,
-    institution: Option<&Institution>,
-    was_open: bool,
-    is_open: bool,
-)
-    ensures { tally.new.counts.items ≡ retallied_by config.now tally.old.counts.items
-        (option_copied institution.entry) was_open is_open }
-{
-    let Some(institution) = institution else {
-        return;
-    };
-    let name = institution.name.as_slice();
-    match (was_open, is_open) {
-        (false, true) => tally.opened(config, name),
-        (true, false) => tally.ended(config, name),
-        _ => {}
     }
 }
 

@@ -1,7 +1,7 @@
 //! Why the server stopped.
 ghost use Rattle.std.specs.Prelude.{◌≡◌};
 ghost use Rattle.dq_core.specs.declared.fault.Fault.TheVariants.{NoMemory};
-ghost use Rattle.dq_core.specs.Doing.{fault_of};
+ghost use Rattle.dq_core.specs.Doing.{server_fault};
 
 use dq_tables::TableFault;
 use std::alloc::{AllocError, AllocFailed};
@@ -20,11 +20,11 @@ pub enum Fault {
 }
 
 impl Fault {
-    ghost use Rattle.dq_core.specs.Faults.{number_of};
+    ghost use Rattle.dq_core.specs.Faults.{server_fault_number};
 
     /// 1 to 3, in the order in which the faults are declared.
     pub fn number(self) -> u8
-        ensures { result ≡ number_of self }
+        ensures { result ≡ server_fault_number self }
     {
         self as u8
     }
@@ -47,7 +47,7 @@ impl<T: Drop> From<AllocFailed<T>> for Fault {
 }
 
 impl From<TableFault> for Fault {
-    ghost from_gives = { λ e f. f ≡ fault_of e };
+    ghost from_gives = { λ e f. f ≡ server_fault e };
 
     fn from(e: TableFault) -> Fault {
         match e {

@@ -7,26 +7,26 @@ ghost use Rattle.dq_assoc.specs.Inputs.{inputs};
 ghost use Rattle.dq_tables.specs.declared.row.Row.{Row};
 ghost use Rattle.dq_tables.specs.Rows.{Record, of, by, after, after_all};
 ghost use Rattle.dq_config.specs.declared.config.Institution.{Institution};
-ghost use Rattle.dq_config.specs.Conditions.{is_sound};
+ghost use Rattle.dq_config.specs.Conditions.{is_sound_configuration};
 ghost use Rattle.dq_config.specs.Limits.{Limits, limits_of};
 ghost use Rattle.dq_core.specs.Answers.{piece_answer, then_answer, request_in};
 ghost use Rattle.dq_core.specs.Owners.{owner, live_of, HaveOwnNames};
 ghost use Rattle.dq_core.specs.Shared.{turn, replies, world_after, rows_within};
-ghost use Rattle.dq_core.specs.Alone.{alone_replies, alone_after, records_within};
-ghost use Rattle.dq_core.specs.Own.{is_own, own, is_on_connection, stream_of, replies_at, outputs_on};
-ghost use Rattle.dq_core.specs.Histories.{is_well_formed, opened_numbers};
+ghost use Rattle.dq_core.specs.Alone.{alone_replies};
+ghost use Rattle.dq_core.specs.Own.{is_own_event, own, is_on_connection, stream_of, replies_at, outputs_on};
+ghost use Rattle.dq_core.specs.Histories.{is_well_formed_history, opened_numbers};
 ghost use Rattle.dq_core.specs.Runs.{IsRun, IsLeftOf, IsOwnRun};
 ghost use Rattle.dq_core.specs.declared.event.Reply.{Reply};
 ghost use Rattle.dq_core.specs.Accepted.{AreOpen};
 ghost use Rattle.dq_core.specs.Connections.{Connection, connection_in, with_piece};
 ghost use Rattle.std.specs.List.{AllByRecursion};
 ghost use Rattle.std.specs.List.Sorted.{IsStrictlyIncreasing};
+ghost use Rattle.dq_list.specs.Octets.{AreOctets};
 ghost use Rattle.dq_assoc.specs.declared.association.State.TheVariants.{Waiting, Open};
 ghost use Rattle.dq_assoc.specs.Table.{Requested, line};
-ghost use Rattle.dq_core.specs.Isolation.{own_replies, stranger_replies, Begins, Agree, IsPrefix};
-ghost use Rattle.dq_core.specs.Renumbering.{KeepsOrder, renumbered, renumbered_reply, AgreeButForNumbers};
+ghost use Rattle.dq_core.specs.Isolation.{own_among, replies_alone, world_alone, own_replies, own_rows_within, stranger_replies, Begins, Agree, IsPrefix};
+ghost use Rattle.dq_core.specs.Renumbering.{KeepsOrder, with_other_number, renumbered_reply, AgreeButForNumbers};
 ghost use Rattle.dq_dataset.specs.declared.header.Syntax.{Syntax};
-ghost use Rattle.dq_dataset.specs.Grammar.{AreOctets};
 ghost use Rattle.dq_dataset.specs.Tree.{ElementList};
 ghost use Rattle.dq_dimse.specs.CommandFields.{c_find};
 ghost use Rattle.dq_dimse.specs.Received.{Message};
@@ -38,17 +38,17 @@ ghost use Rattle.dq_assoc.specs.Classes.{service_of, uid_of};
 ghost use Rattle.dq_find.specs.declared.query.Query.{Query};
 ghost use Rattle.dq_find.specs.Queries as study;
 ghost use Rattle.dq_worklist.specs.Queries as worklist;
-ghost use Rattle.dq_core.specs.Services.{Order, message_outcome, served, ordered};
+ghost use Rattle.dq_core.specs.Services.{ConsoleOrder, message_outcome, served, console_outcome};
 ghost use Rattle.dq_core.specs.Soundness.{HoldSound, AreMade, HoldsOctets, BringsOctets, BringOctets, CameAsOctets};
 ghost use Rattle.dq_core.specs.Stores.{IsToldTruly, IsToldTrulyAt};
 ghost use Rattle.dq_core.specs.Conversations.{Arrival, arrivals, IsAnswered, IsAnsweredRun, IsAnsweredAt, conversation_on, exchange, AreFinished, without_page_requests};
 ghost use Rattle.dq_core.specs.declared.event.Reply.TheVariants.{Octets, Done, Ignored};
 ghost use Rattle.dq_core.specs.Examples as example;
 ghost use Rattle.dq_config.specs.Document.{built_in};
-ghost use Rattle.dq_worklist.specs.Orders.{scheduled, withdrawn};
-ghost use Rattle.dq_mpps.specs.Creating.{created};
-ghost use Rattle.dq_mpps.specs.Changing.{changed};
-ghost use Rattle.dq_store.specs.Storing.{stored};
+ghost use Rattle.dq_worklist.specs.Orders.{schedule_outcome, withdrawn};
+ghost use Rattle.dq_mpps.specs.Creating.{create_outcome};
+ghost use Rattle.dq_mpps.specs.Changing.{set_outcome};
+ghost use Rattle.dq_store.specs.Storing.{store_outcome};
 ghost use Rattle.dq_tables.specs.Sound.{IsSound};
 ghost use Rattle.dq_tables.specs.Keeping.{IsSettled};
 ghost use Rattle.dq_core.specs.Shared.{World};
@@ -127,7 +127,7 @@ pub fn owners_stay()
 
 /// No two institutions of a configuration have one name.
 pub fn institutions_have_own_names()
-    ensures { (institutions : List Institution) → IsTrue (is_sound institutions) →
+    ensures { (institutions : List Institution) → IsTrue (is_sound_configuration institutions) →
         HaveOwnNames institutions }
 {
     a_name_is_of_one();
@@ -136,7 +136,7 @@ pub fn institutions_have_own_names()
 /// Opened numbers rise strictly in a well-formed history.
 pub fn opened_numbers_rise()
     ensures { (events : List Event) →
-        IsTrue (is_well_formed events) ↔ IsStrictlyIncreasing (opened_numbers events) }
+        IsTrue (is_well_formed_history events) ↔ IsStrictlyIncreasing (opened_numbers events) }
 {}
 
 /// A connection that is held has sent no request yet, or one that was accepted, which an
@@ -169,33 +169,60 @@ pub fn limits_of_associations_are_kept()
 
 /// Isolation. Whatever others store, ask, order or are refused, and however events interleave, the
 /// replies at an institution's own events are those of a server that it has alone, and so are its
-/// records: after the history, and within it, also after the first operations of an event.
+/// records: after the history, and within it, also after the first operations of an event. That
+/// server is the same one, configured with the institution alone.
 pub fn institutions_are_isolated()
     ensures replies { (institutions : List Institution) (rows : List Row) (events : List Event)
         (i : Institution) → Begins institutions rows events i →
-        replies_at (is_own institutions i.name events) events (replies institutions rows events)
-        ≡ alone_replies (limits_of i) (of i.name rows) (own institutions i.name events) }
+        replies_at (is_own_event institutions i.name events) events (replies institutions rows events)
+        ≡ replies_alone i rows (own institutions i.name events) }
     ensures records { (institutions : List Institution) (rows : List Row) (events : List Event)
         (i : Institution) → Begins institutions rows events i →
-        of i.name (world_after institutions rows events).rows ≡
-        (alone_after (limits_of i) (of i.name rows) (own institutions i.name events)).records }
+        of i.name (world_after institutions rows events).rows
+        ≡ of i.name (world_alone i rows (own institutions i.name events)).rows }
     // The same of the first events of the history.
     ensures first_replies { (institutions : List Institution) (rows : List Row)
         (events : List Event) (i : Institution) (answered : ℕ) →
         Begins institutions rows events i →
-        replies_at (is_own institutions i.name events) events
+        replies_at (is_own_event institutions i.name events) events
         (take answered (replies institutions rows events))
         ≡ own_replies institutions rows events i answered }
     ensures prefix { (institutions : List Institution) (rows : List Row) (events : List Event)
         (i : Institution) (answered : ℕ) →
         IsPrefix (own_replies institutions rows events i answered)
-        (alone_replies (limits_of i) (of i.name rows) (own institutions i.name events)) }
+        (replies_alone i rows (own institutions i.name events)) }
     ensures records_within { (institutions : List Institution) (rows : List Row)
         (events : List Event) (i : Institution) (answered operations : ℕ) →
         Begins institutions rows events i →
         of i.name (rows_within institutions rows events answered operations)
-        ≡ records_within (limits_of i) (of i.name rows) (is_own institutions i.name events) events
-        answered operations }
+        ≡ of i.name (own_rows_within institutions rows events i answered operations) }
+{
+    a_longer_stream_adds_inputs();
+    own_records_are_edited();
+    other_records_stay();
+    rows_stay_in_order();
+}
+
+/// A device of proofs: the server of one institution as a definition of its own, which has no names
+/// and no routes, and to which each request is the institution's. It answers own events in the same
+/// way, whatever the numbers of connections are.
+pub fn institutions_are_answered_by_records()
+    ensures first_replies { (institutions : List Institution) (rows : List Row)
+        (events : List Event) (i : Institution) (answered : ℕ) →
+        Begins institutions rows events i →
+        replies_at (is_own_event institutions i.name events) events
+        (take answered (replies institutions rows events))
+        ≡ alone_replies (limits_of i) (of i.name rows)
+        (own_among institutions i.name events answered) }
+    ensures prefix { (institutions : List Institution) (rows : List Row) (events : List Event)
+        (i : Institution) (answered : ℕ) →
+        IsPrefix (alone_replies (limits_of i) (of i.name rows)
+        (own_among institutions i.name events answered))
+        (alone_replies (limits_of i) (of i.name rows) (own institutions i.name events)) }
+    ensures numbers { (limits : Limits) (records : List Record) (events : List Event)
+        (another : ℕ → ℕ) → KeepsOrder another →
+        alone_replies limits records (map (with_other_number another) events)
+        ≡ map (renumbered_reply another) (alone_replies limits records events) }
 {
     a_longer_stream_adds_inputs();
     own_records_are_edited();
@@ -207,12 +234,12 @@ pub fn institutions_are_isolated()
 pub fn strangers_are_answered_alike()
     ensures replies { (institutions : List Institution) (rows : List Row) (events : List Event)
         (number : ℕ) → owner institutions (stream_of number events) ≡ None →
-        IsTrue (is_well_formed events) →
+        IsTrue (is_well_formed_history events) →
         replies_at (is_on_connection number) events (replies institutions rows events)
         ≡ stranger_replies (filter (is_on_connection number) events) }
     ensures first_replies { (institutions : List Institution) (rows : List Row)
         (events : List Event) (number answered : ℕ) →
-        owner institutions (stream_of number events) ≡ None → IsTrue (is_well_formed events) →
+        owner institutions (stream_of number events) ≡ None → IsTrue (is_well_formed_history events) →
         replies_at (is_on_connection number) events
         (take answered (replies institutions rows events))
         ≡ stranger_replies (filter (is_on_connection number) (take answered events)) }
@@ -228,8 +255,8 @@ pub fn agreeing_histories_are_answered_alike()
         (events other_events : List Event) (i j : Institution) →
         Begins institutions rows events i → Begins others other_rows other_events j →
         Agree institutions others rows other_rows events other_events i j →
-        replies_at (is_own institutions i.name events) events (replies institutions rows events)
-        ≡ replies_at (is_own others j.name other_events) other_events
+        replies_at (is_own_event institutions i.name events) events (replies institutions rows events)
+        ≡ replies_at (is_own_event others j.name other_events) other_events
         (replies others other_rows other_events) }
     ensures records { (institutions others : List Institution) (rows other_rows : List Row)
         (events other_events : List Event) (i j : Institution) →
@@ -241,9 +268,9 @@ pub fn agreeing_histories_are_answered_alike()
         (events other_events : List Event) (i j : Institution) (answered other_answered : ℕ) →
         Begins institutions rows events i → Begins others other_rows other_events j →
         Agree institutions others rows other_rows events other_events i j →
-        let some = replies_at (is_own institutions i.name events) events
+        let some = replies_at (is_own_event institutions i.name events) events
         (take answered (replies institutions rows events)) in
-        let more = replies_at (is_own others j.name other_events) other_events
+        let more = replies_at (is_own_event others j.name other_events) other_events
         (take other_answered (replies others other_rows other_events)) in
         IsPrefix some more ⊎ IsPrefix more some }
 {
@@ -262,13 +289,13 @@ pub fn searches_answer_what_matches()
         (message : Message) (records : List Record) (query : Query) →
         service_of context.class ≡ StudyRootFind →
         message.command.code ≡ c_find → message.command.sop_class ≡ uid_of context.class →
-        study.query_of message context.syntax ≡ Ok query →
+        study.message_query message context.syntax ≡ Ok query →
         message_outcome agreement context limits message records
         ≡ (
           record {
             status = success;
             optional = query.optional;
-            answers = study.answers records agreement.called query;
+            answers = study.answers_of_records records agreement.called query;
           },
           [],
         ) }
@@ -281,14 +308,14 @@ pub fn worklists_answer_what_matches()
         (message : Message) (records : List Record) (keys : ElementList) (optional : Bool) →
         service_of context.class ≡ WorklistFind →
         message.command.code ≡ c_find → message.command.sop_class ≡ uid_of context.class →
-        worklist.query_of message context.syntax
+        worklist.worklist_query message context.syntax
         ≡ Ok (record { keys = keys; optional = optional }) →
         message_outcome agreement context limits message records
         ≡ (
           record {
             status = success;
             optional = optional;
-            answers = worklist.answers records keys;
+            answers = worklist.answers_of_entries records keys;
           },
           [],
         ) }
@@ -307,7 +334,7 @@ pub fn runs_are_isolated()
     ensures strangers { (institutions : List Institution) (rows : List Row) (events : List Event)
         (given : List Reply) (kept : List Row) → IsRun institutions rows events given kept →
         (number : ℕ) → owner institutions (stream_of number events) ≡ None →
-        IsTrue (is_well_formed events) →
+        IsTrue (is_well_formed_history events) →
         replies_at (is_on_connection number) events given
         ≡ stranger_replies (filter (is_on_connection number) (take (length given) events)) }
     ensures agree { (institutions others : List Institution) (rows other_rows : List Row)
@@ -316,8 +343,8 @@ pub fn runs_are_isolated()
         IsRun others other_rows other_events other_given other_kept →
         Begins institutions rows events i → Begins others other_rows other_events j →
         Agree institutions others rows other_rows events other_events i j →
-        let some = replies_at (is_own institutions i.name events) events given in
-        let more = replies_at (is_own others j.name other_events) other_events other_given in
+        let some = replies_at (is_own_event institutions i.name events) events given in
+        let more = replies_at (is_own_event others j.name other_events) other_events other_given in
         IsPrefix some more ⊎ IsPrefix more some }
 {
     a_longer_stream_adds_inputs();
@@ -328,36 +355,28 @@ pub fn runs_are_isolated()
 
 /// Nothing depends on how connections are numbered. Where each has another number, in the same
 /// order, the replies are for the connections under these and are otherwise the same, the rows are
-/// the same, and so is whose each event is; likewise for the server of one institution alone.
+/// the same, and so is whose each event is.
 pub fn replies_do_not_depend_on_numbers()
     ensures replies { (institutions : List Institution) (rows : List Row) (events : List Event)
         (another : ℕ → ℕ) → KeepsOrder another →
-        replies institutions rows (map (renumbered another) events)
+        replies institutions rows (map (with_other_number another) events)
         ≡ map (renumbered_reply another) (replies institutions rows events) }
     ensures rows { (institutions : List Institution) (rows : List Row) (events : List Event)
         (another : ℕ → ℕ) → KeepsOrder another →
-        (world_after institutions rows (map (renumbered another) events)).rows
+        (world_after institutions rows (map (with_other_number another) events)).rows
         ≡ (world_after institutions rows events).rows }
     ensures well_formed { (events : List Event) (another : ℕ → ℕ) → KeepsOrder another →
-        is_well_formed (map (renumbered another) events) ≡ is_well_formed events }
+        is_well_formed_history (map (with_other_number another) events) ≡ is_well_formed_history events }
     ensures own { (institutions : List Institution) (name : List ℕ) (events : List Event)
         (another : ℕ → ℕ) → KeepsOrder another →
-        own institutions name (map (renumbered another) events)
-        ≡ map (renumbered another) (own institutions name events) }
+        own institutions name (map (with_other_number another) events)
+        ≡ map (with_other_number another) (own institutions name events) }
     ensures own_replies { (institutions : List Institution) (name : List ℕ) (events : List Event)
         (given : List Reply) (another : ℕ → ℕ) → KeepsOrder another →
-        let anew = map (renumbered another) events in
-        replies_at (is_own institutions name anew) anew (map (renumbered_reply another) given)
+        let anew = map (with_other_number another) events in
+        replies_at (is_own_event institutions name anew) anew (map (renumbered_reply another) given)
         ≡ map (renumbered_reply another)
-        (replies_at (is_own institutions name events) events given) }
-    ensures alone { (limits : Limits) (records : List Record) (events : List Event)
-        (another : ℕ → ℕ) → KeepsOrder another →
-        alone_replies limits records (map (renumbered another) events)
-        ≡ map (renumbered_reply another) (alone_replies limits records events) }
-    ensures alone_records { (limits : Limits) (records : List Record) (events : List Event)
-        (another : ℕ → ℕ) → KeepsOrder another →
-        (alone_after limits records (map (renumbered another) events)).records
-        ≡ (alone_after limits records events).records }
+        (replies_at (is_own_event institutions name events) events given) }
 {}
 
 /// Isolation speaks of a server that numbers connections as they come, whoever opens them. Two
@@ -371,9 +390,9 @@ pub fn isolation_by_any_number()
         Begins institutions rows events i → Begins others other_rows other_events j →
         AgreeButForNumbers institutions others rows other_rows events other_events i j
         anew other_anew →
-        map (renumbered_reply anew) (replies_at (is_own institutions i.name events) events
+        map (renumbered_reply anew) (replies_at (is_own_event institutions i.name events) events
         (replies institutions rows events))
-        ≡ map (renumbered_reply other_anew) (replies_at (is_own others j.name other_events)
+        ≡ map (renumbered_reply other_anew) (replies_at (is_own_event others j.name other_events)
         other_events (replies others other_rows other_events)) }
     ensures records { (institutions others : List Institution) (rows other_rows : List Row)
         (events other_events : List Event) (i j : Institution) (anew other_anew : ℕ → ℕ) →
@@ -391,9 +410,9 @@ pub fn isolation_by_any_number()
         AgreeButForNumbers institutions others rows other_rows events other_events i j
         anew other_anew →
         let some = map (renumbered_reply anew)
-        (replies_at (is_own institutions i.name events) events given) in
+        (replies_at (is_own_event institutions i.name events) events given) in
         let more = map (renumbered_reply other_anew)
-        (replies_at (is_own others j.name other_events) other_events other_given) in
+        (replies_at (is_own_event others j.name other_events) other_events other_given) in
         IsPrefix some more ⊎ IsPrefix more some }
 {
     a_longer_stream_adds_inputs();
@@ -420,7 +439,7 @@ pub fn what_a_crash_leaves()
         (given : List Reply) (kept left : List Row) →
         IsLeftOf institutions rows events given kept left →
         (i : Institution) → Begins institutions rows events i →
-        (more : List Event) → IsTrue (is_well_formed more) → Begins institutions left more i }
+        (more : List Event) → IsTrue (is_well_formed_history more) → Begins institutions left more i }
 {
     a_longer_stream_adds_inputs();
     own_records_are_edited();
@@ -437,7 +456,7 @@ pub fn a_restart_finds_what_was_answered<T: Tables + Drop>(
     tables: T,
     events: Vec<Event>,
 ) -> Result<Outcome<T>, Fault>
-    requires formed { IsTrue (is_well_formed events.items) }
+    requires formed { IsTrue (is_well_formed_history events.items) }
     requires working { (T.state tables).failed ≡ false }
     ensures outcome { IsOk result }
     ensures restart { IfOk result (λ outcome. (T.state outcome.tables).honest →
@@ -459,16 +478,16 @@ pub fn a_restart_finds_what_was_answered<T: Tables + Drop>(
 pub fn services_keep_rows_sound()
     ensures storing { (name : List ℕ) (limits : Limits) (rows : List Row) (message : Message)
         (syntax : Syntax) → AreOctets message.octets → HoldSound rows →
-        HoldSound (after (by name (stored limits (of name rows) message syntax).1) rows) }
+        HoldSound (after (by name (store_outcome limits (of name rows) message syntax).1) rows) }
     ensures creating { (name : List ℕ) (limits : Limits) (rows : List Row) (message : Message)
         (syntax : Syntax) → AreOctets message.octets → HoldSound rows →
-        HoldSound (after (by name (created limits (of name rows) message syntax).1) rows) }
+        HoldSound (after (by name (create_outcome limits (of name rows) message syntax).1) rows) }
     ensures changing { (name : List ℕ) (rows : List Row) (message : Message)
         (syntax : Syntax) → AreOctets message.octets → HoldSound rows →
-        HoldSound (after (by name (changed (of name rows) message syntax).1) rows) }
+        HoldSound (after (by name (set_outcome (of name rows) message syntax).1) rows) }
     ensures scheduling { (name : List ℕ) (limits : Limits) (rows : List Row) (octets : List ℕ) →
         AreOctets octets → HoldSound rows →
-        HoldSound (after (by name (scheduled limits (of name rows) octets).1) rows) }
+        HoldSound (after (by name (schedule_outcome limits (of name rows) octets).1) rows) }
     ensures withdrawing { (name : List ℕ) (rows : List Row) (id : List ℕ) → HoldSound rows →
         HoldSound (after (by name (withdrawn (of name rows) id).1) rows) }
 {
@@ -491,9 +510,9 @@ pub fn rows_stay_sound()
     ensures message { (name : List ℕ) (rows : List Row) (limits : Limits)
         (agreement : Agreement) (message : Message) → AreOctets message.octets → HoldSound rows →
         HoldSound (after (by name (served limits (of name rows) agreement message).edits) rows) }
-    ensures order { (name : List ℕ) (rows : List Row) (limits : Limits) (order : Order) →
+    ensures order { (name : List ℕ) (rows : List Row) (limits : Limits) (order : ConsoleOrder) →
         HoldsOctets order → HoldSound rows →
-        HoldSound (after (by name (ordered limits (of name rows) order).edits) rows) }
+        HoldSound (after (by name (console_outcome limits (of name rows) order).edits) rows) }
     ensures event { (institutions : List Institution) (world : World) (event : Event)
         (operations : ℕ) → CameAsOctets world.connections → BringsOctets event →
         HoldSound world.rows →
@@ -523,16 +542,16 @@ pub fn rows_stay_sound()
 pub fn services_keep_rows_as_made()
     ensures storing { (name : List ℕ) (limits : Limits) (rows : List Row) (message : Message)
         (syntax : Syntax) → AreOctets message.octets → AreMade rows →
-        AreMade (after (by name (stored limits (of name rows) message syntax).1) rows) }
+        AreMade (after (by name (store_outcome limits (of name rows) message syntax).1) rows) }
     ensures creating { (name : List ℕ) (limits : Limits) (rows : List Row) (message : Message)
         (syntax : Syntax) → AreOctets message.octets → AreMade rows →
-        AreMade (after (by name (created limits (of name rows) message syntax).1) rows) }
+        AreMade (after (by name (create_outcome limits (of name rows) message syntax).1) rows) }
     ensures changing { (name : List ℕ) (rows : List Row) (message : Message)
         (syntax : Syntax) → AreOctets message.octets → AreMade rows →
-        AreMade (after (by name (changed (of name rows) message syntax).1) rows) }
+        AreMade (after (by name (set_outcome (of name rows) message syntax).1) rows) }
     ensures scheduling { (name : List ℕ) (limits : Limits) (rows : List Row) (octets : List ℕ) →
         AreOctets octets → AreMade rows →
-        AreMade (after (by name (scheduled limits (of name rows) octets).1) rows) }
+        AreMade (after (by name (schedule_outcome limits (of name rows) octets).1) rows) }
     ensures withdrawing { (name : List ℕ) (rows : List Row) (id : List ℕ) → AreMade rows →
         AreMade (after (by name (withdrawn (of name rows) id).1) rows) }
 {
@@ -587,27 +606,27 @@ pub fn each_status_says_what_stands()
 /// responses are the records that match, in the order of their keys; else there are none.
 pub fn associations_are_answered_in_full()
     ensures history { (institutions : List Institution) (rows : List Row) (events : List Event)
-        (number : ℕ) (i : Institution) → IsTrue (is_well_formed events) →
+        (number : ℕ) (i : Institution) → IsTrue (is_well_formed_history events) →
         owner institutions (stream_of number events) ≡ Some i →
         IsAnswered institutions rows events number i }
     // The reply at an event sends, and closes, what the event adds to the conversation.
     ensures at_each_event { (institutions : List Institution) (rows : List Row)
         (events : List Event) (number : ℕ) (i : Institution) (event : Event) →
-        IsTrue (is_well_formed (events ++ event ∷ [])) →
+        IsTrue (is_well_formed_history (events ++ event ∷ [])) →
         owner institutions (stream_of number events) ≡ Some i →
         is_on_connection number event ≡ true →
         IsAnsweredAt institutions rows events number i event }
     // A run that a fault ends sends the conversation of the events that were answered.
     ensures run { (institutions : List Institution) (rows : List Row) (events : List Event)
         (given : List Reply) (kept : List Row) (number : ℕ) (i : Institution) →
-        IsRun institutions rows events given kept → IsTrue (is_well_formed events) →
+        IsRun institutions rows events given kept → IsTrue (is_well_formed_history events) →
         owner institutions (stream_of number (take (length given) events)) ≡ Some i →
         outputs_on number events given
         ≡ conversation_on institutions rows number i (take (length given) events) }
     // It is exact where the rows were sound and octets were sent.
     ensures exact { (institutions : List Institution) (rows : List Row) (events : List Event)
         (given : List Reply) (kept : List Row) (number : ℕ) (i : Institution) →
-        IsRun institutions rows events given kept → IsTrue (is_well_formed events) →
+        IsRun institutions rows events given kept → IsTrue (is_well_formed_history events) →
         HoldSound rows → BringOctets events →
         owner institutions (stream_of number (take (length given) events)) ≡ Some i →
         IsAnsweredRun institutions rows events given number i }
@@ -638,34 +657,33 @@ pub fn looks_are_one_look<T: Tables>()
 
 /// On worked examples, octet for octet: over no rows a query for all studies is answered with 0000
 /// alone, and one at a level that there is not with A900; a C-STORE without a data set with A900, and
-/// on Verification with 0211; a study is found at the institution that keeps it, and not at another;
-/// and the server of one institution alone answers such events, and an order, in the same way.
+/// on Verification with 0211; and a study is found at the institution that keeps it, and not at
+/// another.
 pub fn examples_are_answered_octet_for_octet()
     ensures nothing_found { replies built_in [] (example.history
         (example.four_contexts ∷ example.find_studies ∷ []))
-        ≡ Done ∷ example.answered example.four_results
-        ∷ example.answered (example.find_status 0x0000) ∷ [] }
+        ≡ Done ∷ example.reply_with example.four_results
+        ∷ example.reply_with (example.find_status 0x0000) ∷ [] }
     ensures no_level { replies built_in [] (example.history
         (example.four_contexts ∷ example.find_level (codes "VISIT ") ∷ []))
-        ≡ Done ∷ example.answered example.four_results
-        ∷ example.answered (example.find_status 0xa900) ∷ [] }
+        ≡ Done ∷ example.reply_with example.four_results
+        ∷ example.reply_with (example.find_status 0xa900) ∷ [] }
     ensures no_data_set { replies built_in [] (example.history
         (example.four_contexts ∷ example.store_on 3 ∷ []))
-        ≡ Done ∷ example.answered example.four_results
-        ∷ example.answered (example.store_status 3 0xa900) ∷ [] }
+        ≡ Done ∷ example.reply_with example.four_results
+        ∷ example.reply_with (example.store_status 3 0xa900) ∷ [] }
     ensures no_operation { replies built_in [] (example.history
-        (example.request example.modality ∷ example.store_on 1 ∷ []))
-        ≡ Done ∷ example.answered (example.accepted example.modality)
-        ∷ example.answered (example.response 0x8001 0x0211) ∷ [] }
+        (example.associate_request example.modality_title ∷ example.store_on 1 ∷ []))
+        ≡ Done ∷ example.reply_with (example.acceptance_pdu example.modality_title)
+        ∷ example.reply_with (example.example_response 0x8001 0x0211) ∷ [] }
     ensures found { replies (example.two 4) (example.kept_study ∷ []) (example.history
         (example.find_request example.ct1 ∷ example.find_uids ∷ []))
-        ≡ Done ∷ example.answered (example.find_accepted example.ct1)
-        ∷ example.answered (example.found_study ++ example.find_status 0x0000) ∷ [] }
+        ≡ Done ∷ example.reply_with (example.find_accepted example.ct1)
+        ∷ example.reply_with (example.found_study ++ example.find_status 0x0000) ∷ [] }
     ensures another { replies (example.two 4) (example.kept_study ∷ []) (example.history
         (example.find_request example.ct2 ∷ example.find_uids ∷ []))
-        ≡ Done ∷ example.answered (example.find_accepted example.ct2)
-        ∷ example.answered (example.find_status 0x0000) ∷ [] }
-    ensures alone { alone_replies example.limits [] example.own_history ≡ example.own_answers }
+        ≡ Done ∷ example.reply_with (example.find_accepted example.ct2)
+        ∷ example.reply_with (example.find_status 0x0000) ∷ [] }
 {}
 
 /// Searches on worked examples, octet for octet. Of 130 studies 64 are sent at once, 64 at a pull, 2
@@ -675,28 +693,28 @@ pub fn examples_are_answered_octet_for_octet()
 pub fn searches_are_answered_in_pages()
     ensures paged { replies (example.two 4) (example.studies_from 100 130) (example.search_then
         (Event.Pull 1 ∷ Event.Pull 1 ∷ Event.Pull 1 ∷ []))
-        ≡ Done ∷ example.answered (example.find_accepted example.ct1)
-        ∷ example.answered (example.found_from 100 64)
-        ∷ example.answered (example.found_from 164 64)
-        ∷ example.answered (example.found_from 228 2 ++ example.find_status 0)
-        ∷ example.answered [] ∷ [] }
+        ≡ Done ∷ example.reply_with (example.find_accepted example.ct1)
+        ∷ example.reply_with (example.found_from 100 64)
+        ∷ example.reply_with (example.found_from 164 64)
+        ∷ example.reply_with (example.found_from 228 2 ++ example.find_status 0)
+        ∷ example.reply_with [] ∷ [] }
     ensures cancelled { replies (example.two 4) (example.studies_from 100 65) (example.search_then
-        (Event.Piece 1 (example.cancel 2) ∷ Event.Piece 1 (example.cancel 1) ∷ Event.Pull 1 ∷ []))
-        ≡ Done ∷ example.answered (example.find_accepted example.ct1)
-        ∷ example.answered (example.found_from 100 64) ∷ example.answered []
-        ∷ example.answered (example.find_status 0xfe00) ∷ example.answered [] ∷ [] }
+        (Event.Piece 1 (example.cancel_request 2) ∷ Event.Piece 1 (example.cancel_request 1) ∷ Event.Pull 1 ∷ []))
+        ≡ Done ∷ example.reply_with (example.find_accepted example.ct1)
+        ∷ example.reply_with (example.found_from 100 64) ∷ example.reply_with []
+        ∷ example.reply_with (example.find_status 0xfe00) ∷ example.reply_with [] ∷ [] }
     ensures another { replies (example.two 4) (example.studies_from 100 65) (example.search_then
         (Event.Piece 1 (example.find_level (codes "VISIT ")) ∷ Event.Pull 1 ∷ []))
-        ≡ Done ∷ example.answered (example.find_accepted example.ct1)
-        ∷ example.answered (example.found_from 100 64)
-        ∷ example.answered (example.found_from 164 1 ++ example.find_status 0
-        ++ example.find_status 0xa900) ∷ example.answered [] ∷ [] }
+        ≡ Done ∷ example.reply_with (example.find_accepted example.ct1)
+        ∷ example.reply_with (example.found_from 100 64)
+        ∷ example.reply_with (example.found_from 164 1 ++ example.find_status 0
+        ++ example.find_status 0xa900) ∷ example.reply_with [] ∷ [] }
     ensures echo { replies (example.two 4) (example.studies_from 100 130) (example.find_and_echo_then
         (Event.Piece 1 (example.echo_on 3 2) ∷ Event.Pull 1 ∷ Event.Piece 1 example.release
         ∷ Event.Pull 1 ∷ []))
-        ≡ Done ∷ example.answered (example.find_and_echo_accepted example.ct1)
-        ∷ example.answered (example.found_from 100 64)
-        ∷ example.answered (example.found_from 164 66 ++ example.find_status 0
-        ++ example.echoed_on 3 2) ∷ example.answered []
-        ∷ Octets 1 example.released true ∷ Ignored ∷ [] }
+        ≡ Done ∷ example.reply_with (example.find_and_echo_accepted example.ct1)
+        ∷ example.reply_with (example.found_from 100 64)
+        ∷ example.reply_with (example.found_from 164 66 ++ example.find_status 0
+        ++ example.echoed_on 3 2) ∷ example.reply_with []
+        ∷ Octets 1 example.release_response true ∷ Ignored ∷ [] }
 {}

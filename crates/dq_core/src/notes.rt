@@ -2,8 +2,8 @@
 //! and what it asks of the modality, the station and the day.
 ghost use Rattle.std.specs.Prelude.{◌≡◌, take, IfOk};
 ghost use Rattle.std.specs.Option.{option_copied};
-ghost use Rattle.dq_dataset.specs.Values.{octets_in};
-ghost use Rattle.dq_core.specs.Notes.{noted_most, noted_octets, asked, asked_of_entries, asked_of_studies, asked_by};
+ghost use Rattle.dq_dataset.specs.Values.{element_octets};
+ghost use Rattle.dq_core.specs.Notes.{noted_most, noted_octets, values_asked, asked_of_entries, asked_of_studies, asked_by};
 
 use dq_assoc::{Agreement, PeerLimit, Service, Step};
 use dq_dataset::{DataSet, Element, Value};
@@ -265,7 +265,7 @@ impl Heard {
 
 /// The octets of an element, none where it is absent or a sequence.
 fn octets_in(element: Option<&Element>) -> &[u8]
-    ensures { result.now ≡ octets_in (option_copied element.entry) }
+    ensures { result.now ≡ element_octets (option_copied element.entry) }
 {
     match element {
         None => &[],
@@ -313,7 +313,7 @@ fn add_tags(tags: &mut Listed<Tag>, elements: &[Element]) -> Result<(), AllocErr
 
 /// What the identifier of a query of studies asks for.
 fn studies_sought(alloc: Global, identifier: &DataSet) -> Result<Sought, AllocError>
-    ensures { IfOk result (λ sought. asked sought ≡ asked_of_studies identifier.now) }
+    ensures { IfOk result (λ sought. values_asked sought ≡ asked_of_studies identifier.now) }
 {
     let mut keys = Listed::empty(alloc);
     add_tags(&mut keys, identifier.elements())?;
@@ -331,7 +331,7 @@ fn studies_sought(alloc: Global, identifier: &DataSet) -> Result<Sought, AllocEr
 
 /// What the identifier of a worklist query asks for.
 fn entries_sought(alloc: Global, identifier: &DataSet) -> Result<Sought, AllocError>
-    ensures { IfOk result (λ sought. asked sought ≡ asked_of_entries identifier.now) }
+    ensures { IfOk result (λ sought. values_asked sought ≡ asked_of_entries identifier.now) }
 {
     let step = sole_item_at(identifier, tags::SCHEDULED_PROCEDURE_STEP_SEQUENCE);
     let mut keys = Listed::empty(alloc);
@@ -349,7 +349,7 @@ fn entries_sought(alloc: Global, identifier: &DataSet) -> Result<Sought, AllocEr
 
 /// What the identifier of a C-FIND of a service asks for.
 fn sought_in(alloc: Global, service: Service, identifier: &DataSet) -> Result<Sought, AllocError>
-    ensures { IfOk result (λ sought. asked sought ≡ asked_by service identifier.now) }
+    ensures { IfOk result (λ sought. values_asked sought ≡ asked_by service identifier.now) }
 {
     match service {
         Service::WorklistFind => entries_sought(alloc, identifier),

@@ -1,6 +1,6 @@
 //! Orders of the console, for the worklist of the institution that they name.
 ghost use Rattle.std.specs.Prelude.{◌≡◌, ◌≢◌, IfErr};
-ghost use Rattle.dq_config.specs.Routing.{named};
+ghost use Rattle.dq_config.specs.Routing.{institution_named};
 ghost use Rattle.dq_core.specs.Services.{Scheduling, Withdrawal, order_reply};
 ghost use Rattle.dq_core.specs.Doing.{Orders};
 
@@ -24,7 +24,7 @@ fn order_reply(refusal: Option<u16>) -> Reply
 }
 
 /// Schedules an entry of the named institution's worklist.
-#[tactic(auto, unfolding(crate::specs::Services::ordered))]
+#[tactic(auto, unfolding(crate::specs::Services::console_outcome))]
 pub(crate) fn schedule_entry<T: Tables>(
     alloc: Global,
     config: &Config,
@@ -33,7 +33,7 @@ pub(crate) fn schedule_entry<T: Tables>(
     tables: &mut T,
 ) -> Result<Reply, Fault>
     ensures orders { Orders (T.state tables.old) (T.state tables.new)
-        (named config.now name.now) (Scheduling octets.now) result }
+        (institution_named config.now name.now) (Scheduling octets.now) result }
     ensures fault { IfErr result (λ fault. fault ≢ Fault.Stopped) }
 {
     match config.institution(name) {
@@ -46,7 +46,7 @@ pub(crate) fn schedule_entry<T: Tables>(
 }
 
 /// Withdraws an entry of the named institution's worklist.
-#[tactic(auto, unfolding(crate::specs::Services::ordered))]
+#[tactic(auto, unfolding(crate::specs::Services::console_outcome))]
 pub(crate) fn withdraw_entry<T: Tables>(
     alloc: Global,
     config: &Config,
@@ -55,7 +55,7 @@ pub(crate) fn withdraw_entry<T: Tables>(
     tables: &mut T,
 ) -> Result<Reply, Fault>
     ensures orders { Orders (T.state tables.old) (T.state tables.new)
-        (named config.now name.now) (Withdrawal id.now) result }
+        (institution_named config.now name.now) (Withdrawal id.now) result }
     ensures fault { IfErr result (λ fault. fault ≢ Fault.Stopped) }
 {
     match config.institution(name) {

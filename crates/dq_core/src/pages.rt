@@ -1,11 +1,11 @@
 //! The responses to a message, a page at a time (PS3.4 sections C.4.1 and K.4.1).
 ghost use Rattle.std.specs.Prelude.{◌≡◌, ◌++◌, ◌∷◌, [], take, true, false, None, IfOk, OnOk};
 ghost use Rattle.dq_dataset.specs.Canonical.{canonical};
-ghost use Rattle.dq_dimse.specs.LentCommands.{said_by};
-ghost use Rattle.dq_dimse.specs.Sending.{cut};
+ghost use Rattle.dq_dimse.specs.LentCommands.{command_of_lent};
+ghost use Rattle.dq_dimse.specs.Sending.{cut_into_pdus};
 ghost use Rattle.dq_core.specs.Services.{is_of_instance, named_instance, response_command, response, pending_status, responses};
-ghost use Rattle.dq_core.specs.Pages.{octets_of, rest, without_first, page, cancel_reaction};
-ghost use Rattle.dq_core.specs.Queries.{query_of, query_in, command_octets};
+ghost use Rattle.dq_core.specs.Pages.{responses_octets, rest, without_first, page, cancel_reaction};
+ghost use Rattle.dq_core.specs.Queries.{open_query_of, open_query_in, command_octets};
 
 use dq_assoc::{AgreedContext, Agreement, PeerLimit, SopClass};
 use dq_dataset::{DataSet, Syntax, can_be_written, write};
@@ -54,7 +54,7 @@ fn response_command(
     status: u16,
     with_data: bool,
 ) -> LentCommand<'_>
-    ensures { said_by result ≡ response_command class command.now status with_data }
+    ensures { command_of_lent result ≡ response_command class command.now status with_data }
 {
     LentCommand {
         code: command.code | command_field::RESPONSE_BIT,
@@ -116,7 +116,7 @@ impl Recipient<'_> {
 
     /// Adds the data set of a response with an answer.
     fn put_answer(self, answer: &DataSet, out: &mut Vec<u8>) -> Result<(), AllocError>
-        ensures { OnOk result (out.new.items ≡ out.old.items ++ cut self.entry.context.id false
+        ensures { OnOk result (out.new.items ≡ out.old.items ++ cut_into_pdus self.entry.context.id false
             self.entry.limit (canonical self.entry.context.syntax answer.now)) }
     {
         let Recipient {
@@ -139,7 +139,7 @@ impl OpenQuery {
         command: Command,
         found: Found,
     ) -> Self
-        ensures { query_of result ≡ record {
+        ensures { open_query_of result ≡ record {
           context = context.id;
           limit = agreement.now.limit;
           left = responses context command found;
@@ -173,9 +173,9 @@ impl OpenQuery {
         out: &mut Vec<u8>,
     ) -> Result<(), AllocError>
         ensures sent { OnOk result (out.new.items ≡ out.old.items
-            ++ octets_of (query_of self.old) (take count (query_of self.old).left.pending)) }
+            ++ responses_octets (open_query_of self.old) (take count (open_query_of self.old).left.pending)) }
         ensures left { OnOk result
-            (query_of self.new ≡ without_first count (query_of self.old)) }
+            (open_query_of self.new ≡ without_first count (open_query_of self.old)) }
     {
         if count == 0 {
             return Ok(());
@@ -198,7 +198,7 @@ impl OpenQuery {
     /// Sends the final response, with a status.
     fn send_final(&self, alloc: Global, status: u16, out: &mut Vec<u8>) -> Result<(), AllocError>
         ensures { OnOk result (out.new.items ≡ out.old.items
-            ++ octets_of (query_of self.now)
+            ++ responses_octets (open_query_of self.now)
             (response self.now.context.class self.now.command status None ∷ [])) }
     {
         self.recipient(alloc).put_command(status, false, out)?;
@@ -207,7 +207,7 @@ impl OpenQuery {
 
     /// Sends all that is left.
     pub(crate) fn send_rest(mut self, alloc: Global, out: &mut Vec<u8>) -> Result<(), AllocError>
-        ensures { OnOk result (out.new.items ≡ out.old.items ++ rest (query_of self)) }
+        ensures { OnOk result (out.new.items ≡ out.old.items ++ rest (open_query_of self)) }
     {
         let count = self.pages.left();
         self.send_pending(alloc, count, out)?;
@@ -223,8 +223,8 @@ impl OpenQuery {
         out: &mut Vec<u8>,
     ) -> Result<Option<Self>, AllocError>
         ensures { IfOk result (λ query.
-            (out.new.items ≡ out.old.items ++ (page (query_of self)).octets)
-            × (query_in query ≡ (page (query_of self)).query)) }
+            (out.new.items ≡ out.old.items ++ (page (open_query_of self)).octets)
+            × (open_query_in query ≡ (page (open_query_of self)).query)) }
     {
         if self.pages.left() <= PAGE_LENGTH {
             self.send_rest(alloc, out)?;
@@ -243,9 +243,9 @@ impl OpenQuery {
         out: &mut Vec<u8>,
     ) -> Result<Option<Self>, AllocError>
         ensures { IfOk result (λ query.
-            let reaction = cancel_reaction id (query_of self) in
+            let reaction = cancel_reaction id (open_query_of self) in
             (out.new.items ≡ out.old.items ++ reaction.octets)
-            × (query_in query ≡ reaction.query)) }
+            × (open_query_in query ≡ reaction.query)) }
     {
         if id != self.command.id {
             return Ok(Some(self));

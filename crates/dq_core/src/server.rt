@@ -1,18 +1,16 @@
 ghost use Rattle.std.specs.Prelude.{◌≡◌, ◌≢◌, ◌<◌, ◌≤◌, ◌↔◌, ◌⊎◌, ℕ, vec_capacity, List, ◌∷◌, [], ◌++◌, length, take, filter, Contains, Some, None, true, false, IsTrue, is_some, IsOk, IfOk, OnOk, IfErr, OnErr, IsErrOf, MatchResult};
 ghost use Rattle.dq_config.specs.declared.config.Institution.{Institution};
 ghost use Rattle.dq_tables.specs.declared.row.Row.{Row};
-ghost use Rattle.dq_config.specs.Limits.{limits_of};
 ghost use Rattle.dq_tables.specs.Keeping.{IsSettled};
 ghost use Rattle.dq_tables.specs.Rows.{of};
 ghost use Rattle.dq_core.specs.Connections.{connection_in, is_pending};
 ghost use Rattle.dq_core.specs.Shared.{World, turn, world_after, replies};
-ghost use Rattle.dq_core.specs.Alone.{alone_replies, alone_after};
 ghost use Rattle.dq_core.specs.Owners.{owner};
-ghost use Rattle.dq_core.specs.Own.{is_own, own, is_on_connection, stream_of, replies_at};
-ghost use Rattle.dq_core.specs.Isolation.{stranger_replies};
+ghost use Rattle.dq_core.specs.Own.{is_own_event, own, is_on_connection, stream_of, replies_at};
+ghost use Rattle.dq_core.specs.Isolation.{replies_alone, world_alone, stranger_replies};
 ghost use Rattle.dq_core.specs.Runs.{IsRun, IsLeftOf, FaultsAfter, HasNoRoom, IsOwnRun};
-ghost use Rattle.dq_core.specs.Histories.{is_above, newest_after, rises_from, is_well_formed};
-ghost use Rattle.dq_core.specs.Stepping.{Opens, TakesNoMemory, Goes, MayLeave, IsPartOf};
+ghost use Rattle.dq_core.specs.Histories.{is_above, newest_after, rises_from, is_well_formed_history};
+ghost use Rattle.dq_core.specs.Stepping.{Opens, TakesNoMemory, Goes, MayLeaveAfter, IsPartOf};
 ghost use Rattle.dq_core.specs.Slots.{has_slot, has_search, AreHeld, Turned};
 ghost use Rattle.dq_core.specs.Standing.{IsQuiet, IsWorking, StandsFor};
 ghost use Rattle.dq_tables.specs.Finding.{rows_of};
@@ -183,7 +181,7 @@ impl<T: Tables> Server<T> {
             OnErr result (let world = world_after self.old.institutions rows events in
             IsPartOf (turn self.old.institutions world event).operations world.rows
             (T.state self.new.tables).rows
-            (MayLeave (T.state self.old.tables) (T.state self.new.tables))) }
+            (MayLeaveAfter (T.state self.old.tables) (T.state self.new.tables))) }
         // An end, a piece or a pull for a number that is not held, an empty piece, and a pull where
         // no C-FIND is open take no memory, and leave the tables alone.
         ensures quiet { (rows : List Row) (events : List Event) →
@@ -291,7 +289,7 @@ impl<T: Tables> Server<T> {
             (T.state self.old.tables).rows ≡ world.rows → (T.state self.new.tables).honest →
             OnErr result (IsPartOf (turn self.old.institutions world event).operations world.rows
             (T.state self.new.tables).rows
-            (MayLeave (T.state self.old.tables) (T.state self.new.tables))) }
+            (MayLeaveAfter (T.state self.old.tables) (T.state self.new.tables))) }
         ensures newest { OnOk result (self.new.newest ≡ newest_after self.old.newest (event ∷ [])) }
         ensures quiet { (world : World) →
             AreHeld self.old.institutions self.old.slots world.connections →
@@ -338,7 +336,7 @@ impl<T: Tables> Server<T> {
 
 /// Whether opened numbers rise strictly.
 pub fn well_formed(events: &[Event]) -> bool
-    ensures { result ≡ is_well_formed events.now }
+    ensures { result ≡ is_well_formed_history events.now }
 {
     let mut newest = None;
     for event in events {
@@ -440,7 +438,7 @@ fn answer_history<T: Tables>(
     tables: T,
     events: Vec<Event>,
 ) -> Outcome<T>
-    requires formed { IsTrue (is_well_formed events.items) }
+    requires formed { IsTrue (is_well_formed_history events.items) }
     requires sound { (T.state tables).failed ≡ false }
     ensures rows { (T.state result.tables).honest → result.fault ≡ None →
         (T.state result.tables).rows
@@ -488,7 +486,7 @@ pub fn run<T: Tables + Drop>(
     tables: T,
     events: Vec<Event>,
 ) -> Result<Outcome<T>, Fault>
-    requires formed { IsTrue (is_well_formed events.items) }
+    requires formed { IsTrue (is_well_formed_history events.items) }
     requires sound { (T.state tables).failed ≡ false }
     ensures replies { IfOk result (λ outcome. (T.state outcome.tables).honest →
         outcome.fault ≡ None →
@@ -527,15 +525,13 @@ pub fn run<T: Tables + Drop>(
     ensures own_replies { IfOk result (λ outcome. (T.state outcome.tables).honest →
         outcome.fault ≡ None →
         (i : Institution) → Contains config i →
-        replies_at (is_own config i.name events.items) events.items outcome.replies
-        ≡ alone_replies (limits_of i) (of i.name (T.state tables).rows)
-        (own config i.name events.items)) }
+        replies_at (is_own_event config i.name events.items) events.items outcome.replies
+        ≡ replies_alone i (T.state tables).rows (own config i.name events.items)) }
     ensures own_records { IfOk result (λ outcome. (T.state outcome.tables).honest →
         outcome.fault ≡ None →
         (i : Institution) → Contains config i →
         of i.name (T.state outcome.tables).rows
-        ≡ (alone_after (limits_of i) (of i.name (T.state tables).rows)
-        (own config i.name events.items)).records) }
+        ≡ of i.name (world_alone i (T.state tables).rows (own config i.name events.items)).rows) }
     // On a connection that nobody owns the replies are a stranger's.
     ensures strangers { IfOk result (λ outcome. (T.state outcome.tables).honest →
         (number : ℕ) → owner config (stream_of number events.items) ≡ None →

@@ -8,10 +8,10 @@ ghost use Rattle.dq_assoc.specs.Holding.{accepted_by};
 ghost use Rattle.dq_config.specs.Limits.{limits_of};
 ghost use Rattle.dq_tables.specs.Rows.{of};
 ghost use Rattle.dq_core.specs.Services.{command_field_of, status_alone, operation_outcome, message_outcome};
-ghost use Rattle.dq_core.specs.Stepping.{Goes, MayLeave};
+ghost use Rattle.dq_core.specs.Stepping.{Goes, MayLeaveAfter};
 ghost use Rattle.dq_core.specs.Doing.{Operates, Did, DidPart, Taken as Pure, served_answer, messages_answer, taken_answer};
-ghost use Rattle.dq_core.specs.Queries.{query_in};
-ghost use Rattle.dq_core.specs.Slots.{IsTaken, answer_of};
+ghost use Rattle.dq_core.specs.Queries.{open_query_in};
+ghost use Rattle.dq_core.specs.Slots.{IsTaken, connection_answer};
 
 use crate::dimse_operation::DimseOperation;
 use crate::fault::Fault;
@@ -178,14 +178,14 @@ impl Provider<'_> {
             (served_answer (limits_of self.entry.institution.now) self.entry.agreement.now
             (of self.entry.institution.now.name (T.state tables.old).rows) None sent)
             (T.state tables.old).rows (T.state tables.new).rows out.old.items out.new.items
-            (query_in query)) }
+            (open_query_in query)) }
         ensures stops { (T.state tables.new).honest → (sent : Received) →
             StandsOn (accepted_by self.entry.agreement.now) message sent → OnErr result (
             DidPart (Some self.entry.institution.now)
             (served_answer (limits_of self.entry.institution.now) self.entry.agreement.now
             (of self.entry.institution.now.name (T.state tables.old).rows) None sent)
             (T.state tables.old).rows (T.state tables.new).rows
-            (MayLeave (T.state tables.old) (T.state tables.new))) }
+            (MayLeaveAfter (T.state tables.old) (T.state tables.new))) }
         ensures fault { IfErr result (λ fault. fault ≢ Fault.Stopped) }
     {
         let Some(context) = self.agreement.context(message.context) else {
@@ -215,16 +215,16 @@ impl Provider<'_> {
             StandsOn (accepted_by self.entry.agreement.now) message sent → IfOk result (λ next.
             Did (Some self.entry.institution.now)
             (served_answer (limits_of self.entry.institution.now) self.entry.agreement.now
-            (of self.entry.institution.now.name (T.state tables.old).rows) (query_in query) sent)
+            (of self.entry.institution.now.name (T.state tables.old).rows) (open_query_in query) sent)
             (T.state tables.old).rows (T.state tables.new).rows out.old.items out.new.items
-            (query_in next)) }
+            (open_query_in next)) }
         ensures stops { (T.state tables.new).honest → (sent : Received) →
             StandsOn (accepted_by self.entry.agreement.now) message sent → OnErr result (
             DidPart (Some self.entry.institution.now)
             (served_answer (limits_of self.entry.institution.now) self.entry.agreement.now
-            (of self.entry.institution.now.name (T.state tables.old).rows) (query_in query) sent)
+            (of self.entry.institution.now.name (T.state tables.old).rows) (open_query_in query) sent)
             (T.state tables.old).rows (T.state tables.new).rows
-            (MayLeave (T.state tables.old) (T.state tables.new))) }
+            (MayLeaveAfter (T.state tables.old) (T.state tables.new))) }
         ensures fault { IfErr result (λ fault. fault ≢ Fault.Stopped) }
     {
         let Some(open) = query else {
@@ -251,16 +251,16 @@ impl Provider<'_> {
             StandForAll (accepted_by self.entry.agreement.now) messages.items sent →
             IfOk result (λ next. Did (Some self.entry.institution.now)
             (messages_answer (limits_of self.entry.institution.now) self.entry.agreement.now
-            (of self.entry.institution.now.name (T.state tables.old).rows) (query_in query) sent)
+            (of self.entry.institution.now.name (T.state tables.old).rows) (open_query_in query) sent)
             (T.state tables.old).rows (T.state tables.new).rows out.old.items out.new.items
-            (query_in next)) }
+            (open_query_in next)) }
         ensures stops { (T.state tables.new).honest → (sent : List Received) →
             StandForAll (accepted_by self.entry.agreement.now) messages.items sent → OnErr result (
             DidPart (Some self.entry.institution.now)
             (messages_answer (limits_of self.entry.institution.now) self.entry.agreement.now
-            (of self.entry.institution.now.name (T.state tables.old).rows) (query_in query) sent)
+            (of self.entry.institution.now.name (T.state tables.old).rows) (open_query_in query) sent)
             (T.state tables.old).rows (T.state tables.new).rows
-            (MayLeave (T.state tables.old) (T.state tables.new))) }
+            (MayLeaveAfter (T.state tables.old) (T.state tables.new))) }
         ensures fault { IfErr result (λ fault. fault ≢ Fault.Stopped) }
     {
         own_records_are_edited();
@@ -286,17 +286,17 @@ impl Provider<'_> {
             Did (Some self.entry.institution.now)
             (taken_answer (limits_of self.entry.institution.now)
             (of self.entry.institution.now.name (T.state tables.old).rows)
-            (Some self.entry.agreement.now) (query_in query) t)
+            (Some self.entry.agreement.now) (open_query_in query) t)
             (T.state tables.old).rows (T.state tables.new).rows [] given.octets.items
-            (query_in given.query)) }
+            (open_query_in given.query)) }
         ensures stops { (T.state tables.new).honest → (t : Pure) →
             IsTaken (Some self.entry.agreement.now) taken t → OnErr result (
             DidPart (Some self.entry.institution.now)
             (taken_answer (limits_of self.entry.institution.now)
             (of self.entry.institution.now.name (T.state tables.old).rows)
-            (Some self.entry.agreement.now) (query_in query) t)
+            (Some self.entry.agreement.now) (open_query_in query) t)
             (T.state tables.old).rows (T.state tables.new).rows
-            (MayLeave (T.state tables.old) (T.state tables.new))) }
+            (MayLeaveAfter (T.state tables.old) (T.state tables.new))) }
         ensures fault { IfErr result (λ fault. fault ≢ Fault.Stopped) }
     {
         let Taken { opening, step } = taken;
@@ -322,17 +322,17 @@ impl Host<'_> {
         ensures does { (T.state tables.new).honest → (t : Pure) →
             IsTaken (option_copied self.entry.agreement) taken t → IfOk result (λ given.
             Did (option_copied self.entry.institution)
-            (answer_of (option_copied self.entry.institution) (T.state tables.old).rows
-            (option_copied self.entry.agreement) (query_in query) t)
+            (connection_answer (option_copied self.entry.institution) (T.state tables.old).rows
+            (option_copied self.entry.agreement) (open_query_in query) t)
             (T.state tables.old).rows (T.state tables.new).rows [] given.octets.items
-            (query_in given.query)) }
+            (open_query_in given.query)) }
         ensures stops { (T.state tables.new).honest → (t : Pure) →
             IsTaken (option_copied self.entry.agreement) taken t → OnErr result (
             DidPart (option_copied self.entry.institution)
-            (answer_of (option_copied self.entry.institution) (T.state tables.old).rows
-            (option_copied self.entry.agreement) (query_in query) t)
+            (connection_answer (option_copied self.entry.institution) (T.state tables.old).rows
+            (option_copied self.entry.agreement) (open_query_in query) t)
             (T.state tables.old).rows (T.state tables.new).rows
-            (MayLeave (T.state tables.old) (T.state tables.new))) }
+            (MayLeaveAfter (T.state tables.old) (T.state tables.new))) }
         ensures fault { IfErr result (λ fault. fault ≢ Fault.Stopped) }
     {
         let (Some(institution), Some(agreement)) = (self.institution, self.agreement) else {

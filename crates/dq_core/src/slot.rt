@@ -7,12 +7,12 @@ ghost use Rattle.dq_assoc.specs.declared.association.State.TheVariants.{Waiting}
 ghost use Rattle.dq_assoc.specs.declared.association.Verdict.TheVariants.{Nowhere};
 ghost use Rattle.dq_assoc.specs.After.{state_of, agreement_in, inputs_from};
 ghost use Rattle.dq_assoc.specs.Associations as pure;
-ghost use Rattle.dq_assoc.specs.Associations.{Held};
+ghost use Rattle.dq_assoc.specs.Associations.{HeldState};
 ghost use Rattle.dq_assoc.specs.Holding.{Stands, held_agreement, held_state};
 ghost use Rattle.dq_config.specs.declared.config.Institution.{Institution};
-ghost use Rattle.dq_core.specs.Doing.{agreement_after, taken};
+ghost use Rattle.dq_core.specs.Doing.{agreement_after, taken_inputs};
 ghost use Rattle.dq_core.specs.Pages.{next_page};
-ghost use Rattle.dq_core.specs.Queries.{query_in};
+ghost use Rattle.dq_core.specs.Queries.{open_query_in};
 ghost use Rattle.dq_core.specs.Slots.{IsTaken, StandsAt, home_of};
 
 use crate::pages::OpenQuery;
@@ -85,9 +85,9 @@ impl Slot {
     /// Sends the next page of the responses that are left. Where none are, it takes no memory.
     pub(crate) fn send_page(&mut self, alloc: Global) -> Result<Vec<u8>, AllocError>
         ensures page { IfOk result (λ octets.
-            octets.items ≡ (next_page (query_in self.old.query)).octets) }
+            octets.items ≡ (next_page (open_query_in self.old.query)).octets) }
         ensures left { OnOk result
-            (query_in self.new.query ≡ (next_page (query_in self.old.query)).query) }
+            (open_query_in self.new.query ≡ (next_page (open_query_in self.old.query)).query) }
         ensures keeps { self.new ≡ record self.old { query = self.new.query } }
         ensures quiet { self.old.query ≡ None → IsOk result }
     {
@@ -106,11 +106,11 @@ impl Slot {
         called: Called,
         fed: Fed,
     ) -> Result<Taken, AllocError>
-        ensures taken { (association : Held) → Stands self.old.association association →
+        ensures taken { (association : HeldState) → Stands self.old.association association →
             IfOk result (λ t. IsTaken (held_agreement self.new.association) t
-            (taken called.entry.verdict (state_of association)
+            (taken_inputs called.entry.verdict (state_of association)
             (inputs_from association fed.pdus fed.fault))) }
-        ensures agreement { (association : Held) → Stands self.old.association association →
+        ensures agreement { (association : HeldState) → Stands self.old.association association →
             (before : List Pdu) →
             StandsAt (option_copied called.entry.institution) self.old before →
             IfOk result (λ t. (t.step.messages ≡ []) ⊎ (held_agreement self.new.association
@@ -144,7 +144,7 @@ impl Slot {
     fn begin(&mut self, alloc: Global, called: Called, fed: Fed) -> Result<Taken, AllocError>
         requires { held_state self.old.association ≡ Waiting }
         ensures taken { IfOk result (λ t. IsTaken (held_agreement self.new.association) t
-            (taken called.entry.verdict Waiting
+            (taken_inputs called.entry.verdict Waiting
             (inputs_from pure.Waiting fed.pdus fed.fault))) }
         ensures agreement { IfOk result (λ t. (t.step.messages ≡ [])
             ⊎ (held_agreement self.new.association
@@ -193,7 +193,7 @@ impl Slot {
     ) -> Result<Taken, AllocError>
         requires { held_state self.old.association ≡ Waiting }
         ensures taken { IfOk result (λ t. IsTaken (held_agreement self.new.association) t
-            (taken called.entry.verdict Waiting
+            (taken_inputs called.entry.verdict Waiting
             (inputs_from pure.Waiting (pdu.Request request ∷ rest.pdus) rest.fault))) }
         ensures agreement { IfOk result (λ t. (t.step.messages ≡ [])
             ⊎ (held_agreement self.new.association ≡ agreement_after None

@@ -1,9 +1,10 @@
 //! How many associations each institution has open.
 
 ghost use Rattle.std.specs.Prelude.{◌≡◌, IfOk, length, replicate};
-ghost use Rattle.dq_core.specs.Tallies.{place_in, tallied, one_more, one_less};
+ghost use Rattle.std.specs.Option.{option_copied};
+ghost use Rattle.dq_core.specs.Tallies.{institution_index, tally_of_name, one_more, one_less, retallied_by};
 
-use dq_config::Config;
+use dq_config::{Config, Institution};
 use std::alloc::{AllocError, Global};
 
 /// How many associations each institution has open, in the order of the configuration, so that no
@@ -24,7 +25,7 @@ impl Tally {
 
     /// How many the institution of a name has open.
     pub(crate) fn count(&self, config: &Config, name: &[u8]) -> usize
-        ensures { result ≡ tallied config.now self.now.counts.items name.now }
+        ensures { result ≡ tally_of_name config.now self.now.counts.items name.now }
     {
         match place_of(config, name) {
             None => 0,
@@ -35,7 +36,7 @@ impl Tally {
     /// Counts an association that was opened at the institution of a name.
     pub(crate) fn opened(&mut self, config: &Config, name: &[u8])
         ensures { self.new.counts.items
-            ≡ one_more self.old.counts.items (place_in config.now name.now) }
+            ≡ one_more self.old.counts.items (institution_index config.now name.now) }
     {
         if let Some(place) = place_of(config, name) {
             if let Some(count) = self.counts.get_mut(place) {
@@ -47,7 +48,7 @@ impl Tally {
     /// Counts one that ended there.
     pub(crate) fn ended(&mut self, config: &Config, name: &[u8])
         ensures { self.new.counts.items
-            ≡ one_less self.old.counts.items (place_in config.now name.now) }
+            ≡ one_less self.old.counts.items (institution_index config.now name.now) }
     {
         if let Some(place) = place_of(config, name) {
             if let Some(count) = self.counts.get_mut(place) {
@@ -55,11 +56,33 @@ impl Tally {
             }
         }
     }
+
+    /// Counts an association that was opened at an institution, or that ended there.
+    pub(crate) fn retally(
+        &mut self,
+        config: &Config,
+        institution: Option<&Institution>,
+        was_open: bool,
+        is_open: bool,
+    )
+        ensures { self.new.counts.items ≡ retallied_by config.now self.old.counts.items
+            (option_copied institution.entry) was_open is_open }
+    {
+        let Some(institution) = institution else {
+            return;
+        };
+        let name = institution.name.as_slice();
+        match (was_open, is_open) {
+            (false, true) => self.opened(config, name),
+            (true, false) => self.ended(config, name),
+            _ => {}
+        }
+    }
 }
 
 /// Where the institution of a name stands.
 fn place_of(config: &Config, name: &[u8]) -> Option<usize>
-    ensures { result ≡ place_in config.now name.now }
+    ensures { result ≡ institution_index config.now name.now }
 {
     config
         .institutions()

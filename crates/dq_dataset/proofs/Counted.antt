@@ -16,9 +16,9 @@ use Rattle.dq_dataset.specs.declared.data_set.Value.{Value}
 use Rattle.dq_dataset.specs.declared.data_set.Value.TheVariants.{Octets, Items}
 use Rattle.dq_dataset.specs.Tree.{ElementList, no_elements, element, sequence, ItemList, no_items, item}
 use Rattle.dq_dataset.specs.View.{as_elements, items_of, with_value}
-use Rattle.dq_dataset.specs.Canonical.{tag_octets, long_length, vr_and_length, header_of, item_header_of, canonical, canonical_items, HasLengths, ItemsHaveLengths}
+use Rattle.dq_dataset.specs.Canonical.{tag_octets, long_length, vr_and_length, header_octets, item_header_of, canonical, canonical_items, HasLengths, ItemsHaveLengths}
 use Rattle.dq_dataset.proofs.WrittenIsSpelled.{two_letters}
-use Rattle.dq_dataset.specs.Lengths.{value_octets}
+use Rattle.dq_dataset.specs.Lengths.{value_octet_count}
 use Rattle.dq_dataset.proofs.Places.{from_place}
 
 -- ---- headers
@@ -39,21 +39,21 @@ unfolding vr_and_length
 after_tag_is Two vr n = by_length (ltb 65534 n) vr n
 after_tag_is Four vr n = omega (arith, length-append (letters_of vr) (long_length n), letters vr)
 
-pub implicit_header : (tag : Tag) (vr : Vr) (n : ℕ) → length (header_of Implicit tag vr n) ≡ 8
-unfolding header_of
+pub implicit_header : (tag : Tag) (vr : Vr) (n : ℕ) → length (header_octets Implicit tag vr n) ≡ 8
+unfolding header_octets
 implicit_header tag vr n = refl
 
-pub explicit_header : (tag : Tag) (vr : Vr) (n : ℕ) → length (header_of Explicit tag vr n) ≡ 4 + after_tag (length_form_of vr) n
-unfolding header_of
+pub explicit_header : (tag : Tag) (vr : Vr) (n : ℕ) → length (header_octets Explicit tag vr n) ≡ 4 + after_tag (length_form_of vr) n
+unfolding header_octets
 explicit_header tag vr n = omega (arith, length-append (tag_octets tag) (vr_and_length (length_form_of vr) vr n), after_tag_is (length_form_of vr) vr n)
 
-pub short_header : (tag : Tag) (vr : Vr) (n : ℕ) → length_form_of vr ≡ Two → n ≤ 65534 → length (header_of Explicit tag vr n) ≡ 8
+pub short_header : (tag : Tag) (vr : Vr) (n : ℕ) → length_form_of vr ≡ Two → n ≤ 65534 → length (header_octets Explicit tag vr n) ≡ 8
 short_header tag vr n form le = grind (arith, nat_tests, explicit_header)
 
-pub un_header : (tag : Tag) (vr : Vr) (n : ℕ) → length_form_of vr ≡ Two → 65534 < n → length (header_of Explicit tag vr n) ≡ 12
+pub un_header : (tag : Tag) (vr : Vr) (n : ℕ) → length_form_of vr ≡ Two → 65534 < n → length (header_octets Explicit tag vr n) ≡ 12
 un_header tag vr n form lt = grind (arith, nat_tests, explicit_header)
 
-pub long_header : (tag : Tag) (vr : Vr) (n : ℕ) → length_form_of vr ≡ Four → length (header_of Explicit tag vr n) ≡ 12
+pub long_header : (tag : Tag) (vr : Vr) (n : ℕ) → length_form_of vr ≡ Four → length (header_octets Explicit tag vr n) ≡ 12
 long_header tag vr n form = explicit_header tag vr n ∙ ap (λ (f : LengthForm). 4 + after_tag f n) form
 
 pub item_header : (n : ℕ) → length (item_header_of n) ≡ 8
@@ -65,7 +65,7 @@ after_tag_cut : (form : LengthForm) (n : ℕ) → after_tag form (min n 0xFFFFFF
 after_tag_cut Two n = grind (arith, nat_tests)
 after_tag_cut Four n = refl
 
-header_cut : (syntax : Syntax) (tag : Tag) (vr : Vr) (n : ℕ) → length (header_of syntax tag vr (min n 0xFFFFFFFF)) ≡ length (header_of syntax tag vr n)
+header_cut : (syntax : Syntax) (tag : Tag) (vr : Vr) (n : ℕ) → length (header_octets syntax tag vr (min n 0xFFFFFFFF)) ≡ length (header_octets syntax tag vr n)
 header_cut Implicit tag vr n = implicit_header tag vr (min n 0xFFFFFFFF) ∙ sym (implicit_header tag vr n)
 header_cut Explicit tag vr n =
     explicit_header tag vr (min n 0xFFFFFFFF) ∙ ap (λ (k : ℕ). 4 + k) (after_tag_cut (length_form_of vr) n) ∙ sym (explicit_header tag vr n)
@@ -76,11 +76,11 @@ abbrev one : Tag → Vr → Value → Element
 one tag vr value = record { tag = tag; vr = vr; value = value }
 
 pub value_length : (s : Syntax) (t : Tag) (v : Vr) (x : Value) (rest : ElementList)
-    → length (canonical s (with_value (one t v x) x rest)) ≡ length (header_of s t v (value_octets s x)) + value_octets s x + length (canonical s rest)
+    → length (canonical s (with_value (one t v x) x rest)) ≡ length (header_octets s t v (value_octet_count s x)) + value_octet_count s x + length (canonical s rest)
 value_length s t v x rest = grind (arith, nat_tests, length-append)
 
 pub element_counted : (s : Syntax) (all : List Element) (i total : ℕ) (e : Element) (header octets : ℕ) → i < length all → e ≡ get_or all i e
-    → octets ≡ min (value_octets s e.value) 0xFFFFFFFF → header ≡ length (header_of s e.tag e.vr octets)
+    → octets ≡ min (value_octet_count s e.value) 0xFFFFFFFF → header ≡ length (header_octets s e.tag e.vr octets)
     → min (total + length (canonical s (as_elements (drop i all)))) 0xFFFFFFFF ≡ min (length (canonical s (as_elements all))) 0xFFFFFFFF
     → min (min (min (total + header) 0xFFFFFFFF + octets) 0xFFFFFFFF + length (canonical s (as_elements (drop (i + 1) all)))) 0xFFFFFFFF
     ≡ min (length (canonical s (as_elements all))) 0xFFFFFFFF
@@ -100,13 +100,13 @@ mutual
   pub short_elements : (s : Syntax) (d : ElementList) → length (canonical s d) < 0xFFFFFFFF → HasLengths s d
   short_elements s no_elements lt = tt
   short_elements s (element t v o rest) lt =
-      let whole = length-append (header_of s t v (length o) ++ o) (canonical s rest) in
-      let front = length-append (header_of s t v (length o)) o in
+      let whole = length-append (header_octets s t v (length o) ++ o) (canonical s rest) in
+      let front = length-append (header_octets s t v (length o)) o in
       (omega (arith, whole, front), short_elements s rest (omega (arith, whole)))
   short_elements s (sequence t v items rest) lt =
       let body = canonical_items s items in
-      let whole = length-append (header_of s t v (length body) ++ body) (canonical s rest) in
-      let front = length-append (header_of s t v (length body)) body in
+      let whole = length-append (header_octets s t v (length body) ++ body) (canonical s rest) in
+      let front = length-append (header_octets s t v (length body)) body in
       let short : length body < 0xFFFFFFFF = omega (arith, whole, front) in
       (short, short_items s items short, short_elements s rest (omega (arith, whole)))
 
@@ -120,16 +120,16 @@ mutual
       (short, short_elements s d short, short_items s rest (omega (arith, whole)))
 
 first_has_length : (s : Syntax) (t : Tag) (v : Vr) (x : Value) (rest : ElementList)
-    → HasLengths s (with_value (one t v x) x rest) → (value_octets s x < 0xFFFFFFFF) × HasLengths s rest
+    → HasLengths s (with_value (one t v x) x rest) → (value_octet_count s x < 0xFFFFFFFF) × HasLengths s rest
 first_has_length s t v (Octets o) rest h = h
 first_has_length s t v (Items ds) rest h = (h.0, h.2)
 
 all_have_lengths : (s : Syntax) (t : Tag) (v : Vr) (x : Value) (rest : ElementList)
-    → value_octets s x < 0xFFFFFFFF → HasLengths s rest → HasLengths s (with_value (one t v x) x rest)
+    → value_octet_count s x < 0xFFFFFFFF → HasLengths s rest → HasLengths s (with_value (one t v x) x rest)
 all_have_lengths s t v (Octets o) rest lt h = (lt, h)
 all_have_lengths s t v (Items ds) rest lt h = (lt, short_items s (items_of ds) lt, h)
 
 module _ (s : Syntax) (all : List Element) (i : ℕ) (e : Element) (lt : i < length all) (is : e ≡ get_or all i e)
     (so_far : HasLengths s (as_elements (drop i all)) ↔ HasLengths s (as_elements all)) where
-  pub lengths_from : value_octets s e.value < 0xFFFFFFFF → HasLengths s (as_elements (drop (i + 1) all)) ↔ HasLengths s (as_elements all)
+  pub lengths_from : value_octet_count s e.value < 0xFFFFFFFF → HasLengths s (as_elements (drop (i + 1) all)) ↔ HasLengths s (as_elements all)
   lengths_from short = grind (arith, nat_tests, from_place, all_have_lengths, first_has_length)

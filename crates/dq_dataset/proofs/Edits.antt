@@ -9,7 +9,7 @@ use Rattle.dq_dataset.specs.View.{as_elements, elements_of, with_value}
 use Rattle.dq_dataset.specs.Facts.{IsElementTag, AreElements, IsDataSet}
 use Rattle.dq_dataset.specs.Canonical.{HasLengths}
 use Rattle.dq_dataset.specs.Parts.{ElementHasLengths}
-use Rattle.dq_dataset.specs.Editing.{is_listed, cut_out, elements_below, elements_above, merged_elements, merged}
+use Rattle.dq_dataset.specs.Editing.{is_listed, cut_out, elements_below, elements_above, merged_elements, merged_data_set}
 use Rattle.dq_dataset.proofs.SpelledIsSound.{behind_another, after_earlier, IsValue, with_value_is}
 use Rattle.dq_dataset.proofs.Spelled.{lengths-cons}
 use Rattle.dq_dataset.proofs.Views.{as_elements-elements_of}
@@ -198,7 +198,7 @@ facts-merged levels last kept (e ∷ sent) k s =
     before_one levels last kept e (merged_elements (elements_above e.tag kept) sent) k parts.0 parts.1
     (facts-merged levels (Some e.tag) (elements_above e.tag kept) sent (facts-above levels last e.tag kept k) parts.2)
 
-pub merged_is : (kept sent : ElementList) → IsDataSet kept → IsDataSet sent → IsDataSet (merged kept sent)
+pub merged_is : (kept sent : ElementList) → IsDataSet kept → IsDataSet sent → IsDataSet (merged_data_set kept sent)
 merged_is kept sent k s = facts-merged 16 None (elements_of kept) (elements_of sent) (rw as_elements-elements_of k) (rw as_elements-elements_of s)
 
 lengths-append : (s : Syntax) (xs ys : List Element) → HaveLengths s xs → HaveLengths s ys → HaveLengths s (xs ++ ys)
@@ -215,5 +215,5 @@ lengths-merged s kept (e ∷ sent) k h =
     (lengths-join s e (merged_elements (elements_above e.tag kept) sent) parts.0
     (lengths-merged s (elements_above e.tag kept) sent (lengths-filter (λ x. is_below e.tag x.tag) s kept k) parts.1))
 
-pub merged_has_lengths : (s : Syntax) (kept sent : ElementList) → HasLengths s kept → HasLengths s sent → HasLengths s (merged kept sent)
+pub merged_has_lengths : (s : Syntax) (kept sent : ElementList) → HasLengths s kept → HasLengths s sent → HasLengths s (merged_data_set kept sent)
 merged_has_lengths s kept sent k h = lengths-merged s (elements_of kept) (elements_of sent) (rw as_elements-elements_of k) (rw as_elements-elements_of h)

@@ -2,7 +2,7 @@
 use Rattle.std.proofs.Common.{◌≡◌, ℕ, ◌≤◌, ◌<◌, List, ◌∷◌, length, Option, Some, None, Result, Ok, Err, refl, ◌∙◌, arith}
 use Rattle.dq_dataset.proofs.Types.{Tag, ReadFault, Syntax, Bound, Header, Element, Value, ElementList}
 use Rattle.dq_dataset.specs.Reading.{◌>>=◌, Readers, readers, element_by, elements_by, elements_after, item_by, items_by, items_after}
-use Rattle.dq_dataset.specs.Lending.{rest_of, header_of, item_of}
+use Rattle.dq_dataset.specs.Lending.{rest_of, front_header, item_of}
 use Rattle.dq_dataset.proofs.Loops.{a_step_left}
 use Rattle.dq_dataset.proofs.Fields.{ok_is}
 
@@ -25,13 +25,13 @@ rest_of-kept f (Err e) = refl
 -- what the header that was found tells of the reading after it
 after_header : (r : Readers) (bound : Bound) (syntax : Syntax) (levels : ℕ) (read : Result (Option (Header × Value) × List ℕ) ReadFault) (h : Header)
     (after : List ℕ)
-    → header_of read ≡ Ok (Some h, after) → rest_of (read >>= λ first. elements_after r bound syntax levels first.0 first.1)
+    → front_header read ≡ Ok (Some h, after) → rest_of (read >>= λ first. elements_after r bound syntax levels first.0 first.1)
     ≡ rest_of (r.elements bound syntax levels (Some h.tag) after)
 unfolding elements_after
 after_header r bound syntax levels read h after e = grind (arith, ok_is, rest_of-kept)
 
 after_none : (r : Readers) (bound : Bound) (syntax : Syntax) (levels : ℕ) (read : Result (Option (Header × Value) × List ℕ) ReadFault) (after : List ℕ)
-    → header_of read ≡ Ok (None, after) → rest_of (read >>= λ first. elements_after r bound syntax levels first.0 first.1) ≡ Ok after
+    → front_header read ≡ Ok (None, after) → rest_of (read >>= λ first. elements_after r bound syntax levels first.0 first.1) ≡ Ok after
 unfolding elements_after
 after_none r bound syntax levels read after e = grind (arith, ok_is)
 
@@ -49,7 +49,7 @@ module _ (bound : Bound) (syntax : Syntax) (levels : ℕ) (all : List ℕ) where
     elements_at left n lt = a_step_left rest _ (λ m. rest_of ((readers m).elements bound syntax levels last rest)) _ (λ k. refl) (left.told n lt)
 
     pub elements_fail : ElementsBehind bound syntax levels all last rest → (e : ReadFault)
-        → ((n : ℕ) → length rest ≤ n → header_of (element_by (readers n) bound syntax levels last rest) ≡ Err e)
+        → ((n : ℕ) → length rest ≤ n → front_header (element_by (readers n) bound syntax levels last rest) ≡ Err e)
         → (n : ℕ) → length all < n → rest_of ((readers n).elements bound syntax levels None all) ≡ Err e
     unfolding elements_by
     elements_fail left e failed n h =
@@ -57,7 +57,7 @@ module _ (bound : Bound) (syntax : Syntax) (levels : ℕ) (all : List ℕ) where
         k.2 ∙ first_fault (element_by (readers k.0) bound syntax levels last rest) _ _ e (failed k.0 k.1)
 
     pub elements_end : ElementsBehind bound syntax levels all last rest → (after : List ℕ)
-        → ((n : ℕ) → length rest ≤ n → header_of (element_by (readers n) bound syntax levels last rest) ≡ Ok (None, after))
+        → ((n : ℕ) → length rest ≤ n → front_header (element_by (readers n) bound syntax levels last rest) ≡ Ok (None, after))
         → (n : ℕ) → length all < n → rest_of ((readers n).elements bound syntax levels None all) ≡ Ok after
     unfolding elements_by
     elements_end left after ended n h =
@@ -65,7 +65,7 @@ module _ (bound : Bound) (syntax : Syntax) (levels : ℕ) (all : List ℕ) where
         k.2 ∙ after_none (readers k.0) bound syntax levels (element_by (readers k.0) bound syntax levels last rest) after (ended k.0 k.1)
 
     pub elements_more : ElementsBehind bound syntax levels all last rest → (h : Header) (after : List ℕ)
-        → ((n : ℕ) → length rest ≤ n → header_of (element_by (readers n) bound syntax levels last rest) ≡ Ok (Some h, after))
+        → ((n : ℕ) → length rest ≤ n → front_header (element_by (readers n) bound syntax levels last rest) ≡ Ok (Some h, after))
         → length after < length rest → ElementsBehind bound syntax levels all (Some h.tag) after
     unfolding elements_by
     elements_more left h after found shorter = record {

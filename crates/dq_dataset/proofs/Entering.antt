@@ -8,11 +8,11 @@ use Rattle.dq_dataset.specs.declared.sieve.walk.Reach.TheVariants.{Measured, Wit
 use Rattle.dq_dataset.specs.declared.sieve.walk.Place.{Place}
 use Rattle.dq_dataset.specs.declared.sieve.walk.Place.TheVariants.{InItems, InElements}
 use Rattle.dq_vr.specs.Dictionary.{known_vr}
-use Rattle.dq_dataset.specs.Rules.{vr_of, fits}
+use Rattle.dq_dataset.specs.Rules.{vr_of, fits_enclosing}
 use Rattle.dq_dataset.specs.Reading.{may_nest, length_of}
-use Rattle.dq_dataset.specs.Grammar.{IsPlaced, IsHeader, IsItemHeader, Spells, more, SpellsValue, plain, nested, one_item, bound_of, HasExtent, kept_value}
+use Rattle.dq_dataset.specs.Grammar.{IsPlaced, IsHeader, IsItemHeader, Spells, more, SpellsValue, plain, nested, one_item, bound_of, HasExtent, without_group_length}
 use Rattle.dq_dataset.specs.Faults.{HasFault, HasReach, in_value, after_element, in_item, after_item}
-use Rattle.dq_dataset.specs.Sifting.{reach_of, bound_by, until_of, Finishes, Stops, Extends, IsLimit, Leads, LeadsTo, opened_reach, opened_left, HasRoom, place_in}
+use Rattle.dq_dataset.specs.Sifting.{reach_of, bound_by, until_of, Finishes, HasFirstFault, Extends, IsSplitByReach, Leads, LeadsTo, opened_reach, opened_left, StaysWithin, place_of_value}
 use Rattle.dq_dataset.proofs.Fronts.{unfit, item_unfit}
 
 -- ---- entering a value
@@ -23,7 +23,7 @@ Behind Endless left header after = (left ≡ 0) × (after ≡ 0)
 Behind (Measured until) left header after = header + after ≡ left
 Behind (Within until) left header after = header + after ≡ left
 
-pub value_extent : (reach : Reach) (extent : Option ℕ) (after : ℕ) (v : List ℕ) → HasRoom reach extent after
+pub value_extent : (reach : Reach) (extent : Option ℕ) (after : ℕ) (v : List ℕ) → StaysWithin reach extent after
     → Extends (opened_reach reach extent after) (opened_left reach extent after) v → HasExtent extent v
 value_extent reach extent after v room extends = grind arith
 
@@ -31,17 +31,17 @@ module _ (header v w : List ℕ) where
   parts_length : length (header ++ (v ++ w)) ≡ length header + length v + length w
   parts_length = omega (arith, length-append header (v ++ w), length-append v w)
 
-  extends_around : (reach : Reach) (extent : Option ℕ) (left after : ℕ) → Behind reach left (length header) after → HasRoom reach extent after
+  extends_around : (reach : Reach) (extent : Option ℕ) (left after : ℕ) → Behind reach left (length header) after → StaysWithin reach extent after
       → Extends (opened_reach reach extent after) (opened_left reach extent after) v → Extends reach (opened_left reach extent after - length v) w
       → Extends reach left (header ++ (v ++ w))
   extends_around reach extent left after behind room value others = grind (arith, parts_length)
 
-  limit_around : (reach : Reach) (extent : Option ℕ) (left after : ℕ) (beyond : List ℕ) → Behind reach left (length header) after → HasRoom reach extent after
-      → Extends (opened_reach reach extent after) (opened_left reach extent after) v → IsLimit reach (opened_left reach extent after - length v) w beyond
-      → IsLimit reach left (header ++ (v ++ w)) beyond
+  limit_around : (reach : Reach) (extent : Option ℕ) (left after : ℕ) (beyond : List ℕ) → Behind reach left (length header) after → StaysWithin reach extent after
+      → Extends (opened_reach reach extent after) (opened_left reach extent after) v → IsSplitByReach reach (opened_left reach extent after - length v) w beyond
+      → IsSplitByReach reach left (header ++ (v ++ w)) beyond
   limit_around reach extent left after beyond behind room value others = grind (arith, parts_length)
 
-  left_behind : (reach : Reach) (extent : Option ℕ) (left after : ℕ) → Behind reach left (length header) after → HasRoom reach extent after
+  left_behind : (reach : Reach) (extent : Option ℕ) (left after : ℕ) → Behind reach left (length header) after → StaysWithin reach extent after
       → Extends (opened_reach reach extent after) (opened_left reach extent after) v
       → opened_left reach extent after - length v - length w ≡ left - length (header ++ (v ++ w))
   left_behind reach extent left after behind room value = grind (arith, parts_length)
@@ -52,7 +52,7 @@ pub record Reached (reach : Reach) (extent : Option ℕ) (left : ℕ) (header v 
   pub others : List ℕ
   pub parts : beyond ≡ w ++ others
   pub has : HasReach extent v w
-  pub limit : IsLimit reach left (header ++ (v ++ w)) others
+  pub limit : IsSplitByReach reach left (header ++ (v ++ w)) others
 
 reached_by : (until n left after : ℕ) (header v beyond : List ℕ) → length header + after ≡ left → n + until ≤ after → length v + (after - n) ≡ after
     → after ≤ length (v ++ beyond) → length (header ++ (v ++ take (after - n - until) beyond)) + until ≡ left
@@ -60,8 +60,8 @@ reached_by until n left after header v beyond behind room limit enough =
     omega (arith, parts_length header v (take (after - n - until) beyond), length-append v beyond, length-take (after - n - until) beyond)
 
 pub reached : (reach : Reach) (extent : Option ℕ) (left after : ℕ) (header v beyond : List ℕ) → Behind reach left (length header) after
-    → HasRoom reach extent after
-    → IsLimit (opened_reach reach extent after) (opened_left reach extent after) v beyond → opened_left reach extent after ≤ length (v ++ beyond)
+    → StaysWithin reach extent after
+    → IsSplitByReach (opened_reach reach extent after) (opened_left reach extent after) v beyond → opened_left reach extent after ≤ length (v ++ beyond)
     → Reached reach extent left header v beyond
 reached (Measured until) None left after header v beyond behind room limit enough =
     record { w = []; others = beyond; parts = refl; has = refl; limit = omega (arith, parts_length header v []) }
@@ -100,17 +100,17 @@ enough_around reach extent left after header octets behind enough = grind (arith
 -- a value of which octets are missing, and then they are missing around it, or the length does not fit
 short_value : (reach : Reach) (extent : Option ℕ) (left after : ℕ) (header octets : List ℕ) → Behind reach left (length header) after
     → length octets < opened_left reach extent after
-    → (length (header ++ octets) < left) ⊎ ((left ≡ 0) × (reach ≡ Endless) × (fits extent octets ≡ false))
+    → (length (header ++ octets) < left) ⊎ ((left ≡ 0) × (reach ≡ Endless) × (fits_enclosing extent octets ≡ false))
 short_value reach extent left after header octets behind short = grind (arith, length-append, lt-leb)
 
 -- a value behind a header, with what follows it
 module _ (reach : Reach) (extent : Option ℕ) (header : List ℕ) (left after : ℕ) (around behind inner : Place)
     (around_is : reach_of around ≡ reach) (behind_is : reach_of behind ≡ reach) (inner_is : reach_of inner ≡ opened_reach reach extent after)
-    (header_behind : Behind reach left (length header) after) (room : HasRoom reach extent after)
+    (header_behind : Behind reach left (length header) after) (room : StaysWithin reach extent after)
     (ends : (v w : List ℕ) → HasExtent extent v → Finishes inner v → Finishes behind w → Finishes around (header ++ (v ++ w)))
-    (inside : (v w : List ℕ) (f : ReadFault) → HasReach extent v w → Stops inner v f → Stops around (header ++ (v ++ w)) f)
-    (later : (v w : List ℕ) (f : ReadFault) → HasExtent extent v → Finishes inner v → Stops behind w f → Stops around (header ++ (v ++ w)) f)
-    (too_long : (t : List ℕ) → fits extent t ≡ false → Stops around (header ++ t) Truncated) where
+    (inside : (v w : List ℕ) (f : ReadFault) → HasReach extent v w → HasFirstFault inner v f → HasFirstFault around (header ++ (v ++ w)) f)
+    (later : (v w : List ℕ) (f : ReadFault) → HasExtent extent v → Finishes inner v → HasFirstFault behind w f → HasFirstFault around (header ++ (v ++ w)) f)
+    (too_long : (t : List ℕ) → fits_enclosing extent t ≡ false → HasFirstFault around (header ++ t) Truncated) where
   abbrev now : ℕ
   now = opened_left reach extent after
 
@@ -179,7 +179,7 @@ opened_until : (reach : Reach) (n after : ℕ) → Measured (until_of (opened_re
 opened_until reach n after = grind arith
 
 abbrev pub value_place : Content → ℕ → Reach → ℕ → Place
-value_place content levels reach after = place_in content levels (opened_reach reach (length_of content) after)
+value_place content levels reach after = place_of_value content levels (opened_reach reach (length_of content) after)
 
 pub value_reach : (content : Content) (levels : ℕ) (reach : Reach) (after : ℕ)
     → reach_of (value_place content levels reach after) ≡ opened_reach reach (length_of content) after
@@ -198,7 +198,7 @@ value_spelled (suc fewer) vr (Sequence syntax extent) reach after v nests has (i
 -- a fault in the place of a value is one of the element
 pub value_stops : (bound : Bound) (syntax : Syntax) (levels : ℕ) (last : Option Tag) (tag : Tag) (content : Content) (reach : Reach) (after : ℕ)
     (header v w : List ℕ) (f : ReadFault) → IsPlaced last tag → IsHeader syntax tag content header → may_nest levels content ≡ true
-    → HasReach (length_of content) v w → Stops (value_place content levels reach after) v f → HasFault bound syntax levels last (header ++ (v ++ w)) f
+    → HasReach (length_of content) v w → HasFirstFault (value_place content levels reach after) v f → HasFault bound syntax levels last (header ++ (v ++ w)) f
 value_stops bound syntax levels last tag (Plain n) reach after header v w f placed is_header nests has stops = absurd stops
 value_stops bound syntax levels last tag (Sequence inner extent) reach after header v w f placed is_header nests has stops =
     in_value bound syntax levels last (header ++ (v ++ w)) f tag inner extent header v w placed is_header (ltb-true 0 levels nests) has
@@ -206,7 +206,7 @@ value_stops bound syntax levels last tag (Sequence inner extent) reach after hea
 
 module _ (syntax : Syntax) (levels : ℕ) (last : Option Tag) (tag : Tag) (content : Content) (reach : Reach) (header : List ℕ) (left after : ℕ)
     (placed : IsPlaced last tag) (is_header : IsHeader syntax tag content header) (nests : may_nest levels content ≡ true)
-    (header_behind : Behind reach left (length header) after) (room : HasRoom reach (length_of content) after) where
+    (header_behind : Behind reach left (length header) after) (room : StaysWithin reach (length_of content) after) where
   abbrev vr : Vr
   vr = vr_of (known_vr tag) content
 
@@ -214,13 +214,13 @@ module _ (syntax : Syntax) (levels : ℕ) (last : Option Tag) (tag : Tag) (conte
       → Finishes (InElements syntax levels (Some tag) reach) w → Finishes (InElements syntax levels last reach) (header ++ (v ++ w))
   element_ends v w has is (others, spells) =
       let value = value_spelled levels vr content reach after v nests has is in (
-        kept_value tag vr value.0 others,
-        more (bound_by reach) syntax levels last (header ++ (v ++ w)) (kept_value tag vr value.0 others) tag content header v w value.0 others
+        without_group_length tag vr value.0 others,
+        more (bound_by reach) syntax levels last (header ++ (v ++ w)) (without_group_length tag vr value.0 others) tag content header v w value.0 others
             placed is_header value.1 spells refl refl,
       )
 
   element_later : (v w : List ℕ) (f : ReadFault) → HasExtent (length_of content) v → Finishes (value_place content levels reach after) v
-      → Stops (InElements syntax levels (Some tag) reach) w f → Stops (InElements syntax levels last reach) (header ++ (v ++ w)) f
+      → HasFirstFault (InElements syntax levels (Some tag) reach) w f → HasFirstFault (InElements syntax levels last reach) (header ++ (v ++ w)) f
   element_later v w f has is stops =
       let value = value_spelled levels vr content reach after v nests has is in
       after_element (bound_by reach) syntax levels last (header ++ (v ++ w)) f tag content header v w value.0 placed is_header value.1 stops refl
@@ -239,7 +239,7 @@ module _ (syntax : Syntax) (levels : ℕ) (last : Option Tag) (tag : Tag) (conte
 
 module _ (syntax : Syntax) (levels : ℕ) (extent : Option ℕ) (reach : Reach) (header : List ℕ) (left after : ℕ)
     (is_header : IsItemHeader extent header)
-    (header_behind : Behind reach left (length header) after) (room : HasRoom reach extent after) where
+    (header_behind : Behind reach left (length header) after) (room : StaysWithin reach extent after) where
   abbrev item_place : Place
   item_place = InElements syntax levels None (opened_reach reach extent after)
 
@@ -255,12 +255,12 @@ module _ (syntax : Syntax) (levels : ℕ) (extent : Option ℕ) (reach : Reach) 
         (item_spelled v first first_spells) spells refl,
   )
 
-  item_inside : (v w : List ℕ) (f : ReadFault) → HasReach extent v w → Stops item_place v f → Stops (InItems syntax levels reach) (header ++ (v ++ w)) f
+  item_inside : (v w : List ℕ) (f : ReadFault) → HasReach extent v w → HasFirstFault item_place v f → HasFirstFault (InItems syntax levels reach) (header ++ (v ++ w)) f
   item_inside v w f has stops =
       in_item (bound_by reach) syntax levels (header ++ (v ++ w)) f extent header v w is_header has (rw (opened_bound reach extent after) at stops) refl
 
-  item_later : (v w : List ℕ) (f : ReadFault) → HasExtent extent v → Finishes item_place v → Stops (InItems syntax levels reach) w f
-      → Stops (InItems syntax levels reach) (header ++ (v ++ w)) f
+  item_later : (v w : List ℕ) (f : ReadFault) → HasExtent extent v → Finishes item_place v → HasFirstFault (InItems syntax levels reach) w f
+      → HasFirstFault (InItems syntax levels reach) (header ++ (v ++ w)) f
   item_later v w f has (first, first_spells) stops =
       after_item (bound_by reach) syntax levels (header ++ (v ++ w)) f extent header v w first is_header has (item_spelled v first first_spells) stops refl
 

@@ -6,8 +6,8 @@ use Rattle.std.proofs.lemmas.List.{length-append, take-append-le, drop-append-le
 use Rattle.dq_dataset.proofs.Types.{Tag, Vr, LengthForm, Two, Four, ReadFault, Truncated, BadVr, TagOrder, BadItem, BadUndefined, TooDeep, Syntax, Implicit, Explicit, Bound, Filled, Delimited}
 use Rattle.dq_vr.specs.Dictionary.{known_vr}
 use Rattle.dq_vr.specs.Vr.{length_form_of, vr_with_letters}
-use Rattle.dq_dataset.specs.Rules.{fits}
-use Rattle.dq_dataset.specs.Faults.{tag_in, defined, size_by, header_size, extent_by, extent_in, first_of, faults_of_content, faults_of_header, header_faults, item_faults, ends_here, HasFault, at_header, in_value, after_element, ItemsHaveFault, at_item, in_item, after_item, IsFaulty}
+use Rattle.dq_dataset.specs.Rules.{fits_enclosing}
+use Rattle.dq_dataset.specs.Faults.{tag_in, defined_length, size_by, header_size, extent_by, extent_in, first_of, faults_of_content, faults_of_header, header_faults, item_faults, ends_here, HasFault, at_header, in_value, after_element, ItemsHaveFault, at_item, in_item, after_item, IsFaulty}
 use Rattle.dq_dataset.proofs.HeaderFaults.{eight, by_eight}
 
 -- ---- tests of a header
@@ -29,7 +29,7 @@ longer : (n : ℕ) (octets t : List ℕ) → ltb (length octets) n ≡ false →
 longer n octets t e = le-ltb (length (octets ++ t)) n (omega (arith, ltb-false (length octets) n e, length-append octets t))
 
 fits_stays : (extent : Option ℕ) (octets t : List ℕ)
-    → Stays (first_of ((not (fits extent octets), Truncated) ∷ [])) (first_of ((not (fits extent (octets ++ t)), Truncated) ∷ []))
+    → Stays (first_of ((not (fits_enclosing extent octets), Truncated) ∷ [])) (first_of ((not (fits_enclosing extent (octets ++ t)), Truncated) ∷ []))
 fits_stays None octets t = λ f e. absurd cc
 fits_stays (Some n) octets t = grind (arith, short_test, not_from_true, le-leb, leb-true, not-false, length-append)
 
@@ -43,7 +43,7 @@ module _ (a b c d e f g h : ℕ) (rest t : List ℕ) where
 
   same_by : (form : LengthForm) → size_by form ≤ length all → extent_by form (all ++ t) ≡ extent_by form all
   same_by Two le = refl
-  same_by Four le = ap (λ (x : List ℕ). defined (from_le_bytes w32 x)) (take-append-le 4 rest t (omega arith))
+  same_by Four le = ap (λ (x : List ℕ). defined_length (from_le_bytes w32 x)) (take-append-le 4 rest t (omega arith))
 
   same_extent : (spelled : Option Vr) → header_size spelled ≤ length all → extent_in spelled (all ++ t) ≡ extent_in spelled all
   same_extent None le = refl

@@ -5,7 +5,7 @@ use Rattle.std.proofs.lemmas.List.{take_at, length-append, append-nil}
 use Rattle.dq_dataset.proofs.Types.{Tag, Vr, ReadFault, Syntax, Bound, Filled, Content, Sequence, Value, ElementList}
 use Rattle.dq_vr.specs.Dictionary.{known_vr}
 use Rattle.dq_dataset.specs.Rules.{vr_of}
-use Rattle.dq_dataset.specs.Reading.{may_nest, length_of, fits, header_at, item_header_at, end_at, value_by, element_by, elements_after, elements_by, content_by, item_by, items_after, items_by, readers, reading}
+use Rattle.dq_dataset.specs.Reading.{may_nest, length_of, fits_enclosing, header_at, item_header_at, end_at, value_by, element_by, elements_after, elements_by, content_by, item_by, items_after, items_by, readers, reading}
 use Rattle.dq_dataset.specs.Grammar.{IsHeader, IsPlaced, IsItemHeader, bound_of}
 use Rattle.dq_dataset.specs.Faults.{first_of, header_faults, item_faults, HasReach, HasFault, at_header, in_value, after_element, ItemsHaveFault, at_item, in_item, after_item, IsFaulty}
 use Rattle.dq_dataset.proofs.Headers.{header_again, header_long, item_again, item_long, no_end_before, no_end_before_item}
@@ -46,7 +46,7 @@ item_fails bound syntax levels octets f (inr (inr bad)) first m le = grind (arit
 -- the header, and no end before it
 module _ (bound : Bound) (syntax : Syntax) (levels : ℕ) (last : Option Tag) (tag : Tag) (content : Content) (header behind : List ℕ)
     (placed : IsPlaced last tag) (is_header : IsHeader syntax tag content header) (nests : may_nest levels content ≡ true)
-    (whole : fits (length_of content) behind ≡ true) where
+    (whole : fits_enclosing (length_of content) behind ≡ true) where
   no_end : end_at bound 0xE00D (header ++ behind) ≡ Ok None
   no_end = no_end_before bound last syntax tag content header behind placed is_header
 
@@ -66,7 +66,7 @@ module _ (bound : Bound) (syntax : Syntax) (levels : ℕ) (last : Option Tag) (t
   others_fail f held rest le' read fails zero le = absurd (omega (arith, header_long syntax tag content header is_header, length-append header behind))
   others_fail f held rest le' read fails (suc m) le = grind (arith, header_long, length-append, no_end, the_header)
 
-reach_fits : (extent : Option ℕ) (value rest : List ℕ) → HasReach extent value rest → fits extent (value ++ rest) ≡ true
+reach_fits : (extent : Option ℕ) (value rest : List ℕ) → HasReach extent value rest → fits_enclosing extent (value ++ rest) ≡ true
 reach_fits None value rest has = refl
 reach_fits (Some n) value rest has = extent_fits (Some n) value rest has
 
@@ -79,7 +79,7 @@ items_in_value levels vr inner (Some n) value rest f has fails m le =
     rw (take_at value rest n has, fails m (omega (arith, length-append value rest))) refl
 
 module _ (bound : Bound) (syntax : Syntax) (levels : ℕ) (extent : Option ℕ) (header behind : List ℕ) (is_header : IsItemHeader extent header)
-    (whole : fits extent behind ≡ true) where
+    (whole : fits_enclosing extent behind ≡ true) where
   no_item_end : end_at bound 0xE0DD (header ++ behind) ≡ Ok None
   no_item_end = no_end_before_item bound extent header behind is_header
 

@@ -3,7 +3,7 @@ use Rattle.std.proofs.Common.{◌≡◌, ◌≢◌, ℕ, ◌<◌, ◌^◌, Bool,
 use Rattle.std.proofs.lemmas.Bool.{eqb-true, ne_eqb}
 use Rattle.std.proofs.lemmas.List.{length-append}
 use Rattle.dq_dataset.proofs.Types.{Tag, ReadFault, Truncated, BadItem, Syntax, Bound, Filled, Delimited, Content, Header}
-use Rattle.dq_dataset.specs.Reading.{◌>>=◌, check, header_at, item_header_at, may_nest, length_of, fits, front_at, item_front_at, end_at}
+use Rattle.dq_dataset.specs.Reading.{◌>>=◌, check, header_at, item_header_at, may_nest, length_of, fits_enclosing, front_at, item_front_at, end_at}
 use Rattle.dq_dataset.specs.Grammar.{IsHeader, IsPlaced, IsItemHeader}
 use Rattle.dq_dataset.specs.Faults.{tag_in, first_of, header_faults, item_faults, ends_here, HasFault, at_header, ItemsHaveFault, at_item}
 use Rattle.dq_dataset.proofs.Fields.{IsBytes, no_fault}
@@ -133,7 +133,7 @@ over_is x false e = refl
 
 -- a value that does not fit is Truncated
 pub unfit : (bound : Bound) (syntax : Syntax) (levels : ℕ) (last : Option Tag) (tag : Tag) (content : Content) (header t : List ℕ)
-    → IsPlaced last tag → IsHeader syntax tag content header → may_nest levels content ≡ true → fits (length_of content) t ≡ false
+    → IsPlaced last tag → IsHeader syntax tag content header → may_nest levels content ≡ true → fits_enclosing (length_of content) t ≡ false
     → HasFault bound syntax levels last (header ++ t) Truncated
 unfolding header_at
 unfit bound syntax levels last tag content header t placed is_header nests over =
@@ -142,16 +142,16 @@ unfit bound syntax levels last tag content header t placed is_header nests over 
     (λ rest. no_rest (header ++ t) rest bound 0xE00D (no_end_before bound last syntax tag content header t placed is_header)))
     (sym (header_faults_are syntax levels last (header ++ t)) ∙ ap (λ r. fault_of (r >>= fits_step))
     (front_again syntax levels last tag content header t placed is_header nests)
-    ∙ over_is (header_of tag content, t) (fits (length_of content) t) over)
+    ∙ over_is (header_of tag content, t) (fits_enclosing (length_of content) t) over)
 
 pub item_unfit : (bound : Bound) (syntax : Syntax) (levels : ℕ) (extent : Option ℕ) (header t : List ℕ) → IsItemHeader extent header
-    → fits extent t ≡ false → ItemsHaveFault bound syntax levels (header ++ t) Truncated
+    → fits_enclosing extent t ≡ false → ItemsHaveFault bound syntax levels (header ++ t) Truncated
 unfolding item_header_at
 item_unfit bound syntax levels extent header t is_header over =
     at_item bound syntax levels (header ++ t) Truncated
     (open_here bound 0xE0DD (header ++ t) (λ rest. no_rest (header ++ t) rest bound 0xE0DD (no_end_before_item bound extent header t is_header)))
     (sym (item_faults_are (header ++ t)) ∙ ap (λ r. fault_of (r >>= item_length_step)) (item_front_again extent header t is_header)
-    ∙ over_is (extent, t) (fits extent t) over)
+    ∙ over_is (extent, t) (fits_enclosing extent t) over)
 
 -- ---- an end takes all that came
 

@@ -6,8 +6,8 @@ use Rattle.dq_dataset.proofs.Types.{Tag, Vr, LengthForm, Two, Four, ReadFault, T
 use Rattle.dq_vr.specs.Dictionary.{known_vr}
 use Rattle.dq_vr.specs.Vr.{length_form_of, vr_with_letters}
 use Rattle.dq_dataset.specs.Rules.{agrees, content_of}
-use Rattle.dq_dataset.specs.Reading.{◌>>=◌, check, number_at, tag_at, long_length_at, length_at, vr_or_fault, vr_at, spelling_at, fits, front_at, header_at, item_front_at, item_header_at, end_at}
-use Rattle.dq_dataset.specs.Faults.{number_in, tag_in, vr_in, defined, size_by, header_size, extent_by, extent_in, first_of, is_allowed, faults_of_content, header_faults, item_faults, ends_here}
+use Rattle.dq_dataset.specs.Reading.{◌>>=◌, check, number_at, tag_at, long_length_at, length_at, vr_or_fault, vr_at, spelling_at, fits_enclosing, front_at, header_at, item_front_at, item_header_at, end_at}
+use Rattle.dq_dataset.specs.Faults.{number_in, tag_in, spelled_vr, defined_length, size_by, header_size, extent_by, extent_in, first_of, is_allowed, faults_of_content, header_faults, item_faults, ends_here}
 use Rattle.dq_dataset.proofs.Fields.{done}
 use Rattle.dq_dataset.proofs.Headers.{fits_step, content_step, spelling_step, rises_step, placed_step, item_length_step}
 
@@ -38,7 +38,7 @@ no_tag : (octets : List ℕ) → ltb (length octets) 8 ≡ true → tag_at octet
 unfolding tag_at
 no_tag octets short = rw short refl
 
-long_length : (octets : List ℕ) → 4 ≤ length octets → long_length_at octets ≡ Ok (defined (number_in w32 0 octets), drop 4 octets)
+long_length : (octets : List ℕ) → 4 ≤ length octets → long_length_at octets ≡ Ok (defined_length (number_in w32 0 octets), drop 4 octets)
 unfolding long_length_at
 long_length octets le = rw (number_of w32 octets le) refl
 
@@ -49,13 +49,13 @@ fits_fault x true = refl
 fits_fault x false = refl
 
 nest_faults : (levels : ℕ) (tag : Tag) (syntax : Syntax) (extent : Option ℕ) (rest : List ℕ)
-    → fault_of (content_step levels tag rest (Sequence syntax extent) >>= fits_step) ≡ first_of ((eqb levels 0, TooDeep) ∷ (not (fits extent rest), Truncated) ∷ [])
+    → fault_of (content_step levels tag rest (Sequence syntax extent) >>= fits_step) ≡ first_of ((eqb levels 0, TooDeep) ∷ (not (fits_enclosing extent rest), Truncated) ∷ [])
 nest_faults zero tag syntax extent rest = refl
 nest_faults (suc n) tag syntax extent rest = grind (arith, lt-ltb, ne_eqb, fits_fault)
 
 some_faults : (levels : ℕ) (tag : Tag) (n : ℕ) (rest : List ℕ) (a b : Bool)
     → fault_of (cond a (done (Sequence Explicit (Some n))) (cond b (Ok (Sequence Implicit (Some n))) (Ok (Plain n))) >>= content_step levels tag rest >>= fits_step)
-    ≡ first_of (((a || (b || false)) && eqb levels 0, TooDeep) ∷ (not (fits (Some n) rest), Truncated) ∷ [])
+    ≡ first_of (((a || (b || false)) && eqb levels 0, TooDeep) ∷ (not (fits_enclosing (Some n) rest), Truncated) ∷ [])
 some_faults levels tag n rest a b = grind (arith, nest_faults, fits_fault)
 
 none_faults : (levels : ℕ) (tag : Tag) (rest : List ℕ) (a b c : Bool)
@@ -85,9 +85,9 @@ gate_not false f k last others h = h
 
 abbrev from_vr : Syntax → ℕ → Tag → List ℕ → List (Bool × ReadFault)
 from_vr syntax levels tag octets =
-    (not (is_allowed syntax (known_vr tag) (vr_in syntax octets)), BadVr) ∷
-    (ltb (length octets) (header_size (vr_in syntax octets)), Truncated) ∷
-    faults_of_content levels (known_vr tag) (vr_in syntax octets) (extent_in (vr_in syntax octets) octets) (drop (header_size (vr_in syntax octets)) octets)
+    (not (is_allowed syntax (known_vr tag) (spelled_vr syntax octets)), BadVr) ∷
+    (ltb (length octets) (header_size (spelled_vr syntax octets)), Truncated) ∷
+    faults_of_content levels (known_vr tag) (spelled_vr syntax octets) (extent_in (spelled_vr syntax octets) octets) (drop (header_size (spelled_vr syntax octets)) octets)
 
 module _ (levels : ℕ) (tag : Tag) (a b c d e f g h : ℕ) (rest : List ℕ) where
   abbrev all : List ℕ
@@ -97,21 +97,21 @@ module _ (levels : ℕ) (tag : Tag) (a b c d e f g h : ℕ) (rest : List ℕ) wh
   eight_at_least = le-ltb (length all) 8 (omega arith)
 
   implicit_faults : fault_of (spelling_at Implicit (known_vr tag) (e ∷ f ∷ g ∷ h ∷ rest) >>= spelling_step levels tag >>= fits_step)
-      ≡ first_of ((not true, BadVr) ∷ (ltb (length all) 8, Truncated) ∷ faults_of_content levels (known_vr tag) None (defined (number_in w32 4 all)) rest)
+      ≡ first_of ((not true, BadVr) ∷ (ltb (length all) 8, Truncated) ∷ faults_of_content levels (known_vr tag) None (defined_length (number_in w32 4 all)) rest)
   unfolding spelling_at
-  implicit_faults = rw (long_length (e ∷ f ∷ g ∷ h ∷ rest) (omega arith), eight_at_least) (content_faults levels tag None (defined (number_in w32 4 all)) rest)
+  implicit_faults = rw (long_length (e ∷ f ∷ g ∷ h ∷ rest) (omega arith), eight_at_least) (content_faults levels tag None (defined_length (number_in w32 4 all)) rest)
 
   abbrev explicit_step : Vr → Option ℕ × List ℕ → Result ((Option Vr × Option ℕ) × List ℕ) ReadFault
   explicit_step vr n = Ok ((Some vr, n.0), n.1)
 
   short_rest : (vr : Vr) (short : Bool) → ltb (length rest) 4 ≡ short
       → fault_of ((long_length_at rest >>= explicit_step vr) >>= spelling_step levels tag >>= fits_step)
-      ≡ first_of ((ltb (length all) 12, Truncated) ∷ faults_of_content levels (known_vr tag) (Some vr) (defined (number_in w32 8 all)) (drop 4 rest))
+      ≡ first_of ((ltb (length all) 12, Truncated) ∷ faults_of_content levels (known_vr tag) (Some vr) (defined_length (number_in w32 8 all)) (drop 4 rest))
   unfolding long_length_at
   short_rest vr true is = grind (arith, lt-ltb, ltb-true)
   short_rest vr false is =
       let long : ltb (length all) 12 ≡ false = le-ltb (length all) 12 (omega (arith, ltb-false (length rest) 4 is)) in
-      rw (is, long) (content_faults levels tag (Some vr) (defined (number_in w32 8 all)) (drop 4 rest))
+      rw (is, long) (content_faults levels tag (Some vr) (defined_length (number_in w32 8 all)) (drop 4 rest))
 
   by_form : (vr : Vr) (agreed : Bool) (form : LengthForm)
       → fault_of ((check agreed BadVr >>= λ ok. length_at form (g ∷ h ∷ rest) >>= explicit_step vr) >>= spelling_step levels tag >>= fits_step)

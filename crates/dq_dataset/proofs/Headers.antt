@@ -7,7 +7,7 @@ use Rattle.dq_dataset.proofs.Types.{Tag, Vr, LengthForm, Two, Four, ReadFault, T
 use Rattle.dq_vr.specs.Dictionary.{known_vr}
 use Rattle.dq_vr.specs.Vr.{length_form_of, vr_with_letters}
 use Rattle.dq_dataset.specs.Rules.{agrees, content_of, vr_of}
-use Rattle.dq_dataset.specs.Reading.{◌>>=◌, check, number_at, tag_at, long_length_at, length_at, vr_or_fault, vr_at, spelling_at, follows, may_nest, length_of, fits, front_at, header_at, item_front_at, item_header_at, end_at}
+use Rattle.dq_dataset.specs.Reading.{◌>>=◌, check, number_at, tag_at, long_length_at, length_at, vr_or_fault, vr_at, spelling_at, follows, may_nest, length_of, fits_enclosing, front_at, header_at, item_front_at, item_header_at, end_at}
 use Rattle.dq_dataset.specs.Canonical.{tag_octets}
 use Rattle.dq_dataset.specs.Grammar.{IsLengthBehind, IsSpelling, IsHeader, IsPlaced, IsItemHeader, IsEnd, delimiter}
 use Rattle.dq_dataset.proofs.Fields.{IsBytes, bind_ok, check_ok, ok_is, Takes, Takes-then, wide16, wide32, number_takes, number_again, length_takes, length_again, length_four, tag_takes, tag_again}
@@ -129,7 +129,7 @@ abbrev pub tag_step : Syntax → ℕ → Option Tag → Tag × List ℕ → Resu
 tag_step syntax levels last tag = check (not (eqb tag.0.group 0xFFFE)) BadItem >>= placed_step syntax levels last tag.0 tag.1
 
 abbrev pub fits_step : Header × List ℕ → Result (Header × List ℕ) ReadFault
-fits_step h = check (fits (length_of h.0.content) h.1) Truncated >>= λ whole. Ok h
+fits_step h = check (fits_enclosing (length_of h.0.content) h.1) Truncated >>= λ whole. Ok h
 
 -- a header that was read
 pub record ReadsHeader (syntax : Syntax) (levels : ℕ) (last : Option Tag) (bytes : List ℕ) (read : Header) (rest : List ℕ) : Type 0 where
@@ -172,12 +172,12 @@ front_again syntax levels last tag content octets rest placed header nests =
 
 pub header_takes : (syntax : Syntax) (levels : ℕ) (last : Option Tag) (bytes : List ℕ) (header : Header) (rest : List ℕ) → IsBytes bytes
     → header_at syntax levels last bytes ≡ Ok (header, rest)
-    → ReadsHeader syntax levels last bytes header rest × (fits (length_of header.content) rest ≡ true)
+    → ReadsHeader syntax levels last bytes header rest × (fits_enclosing (length_of header.content) rest ≡ true)
 unfolding header_at
 header_takes syntax levels last bytes header rest ok e = grind (arith, bind_ok, check_ok, ok_is, front_takes)
 
 pub header_again : (syntax : Syntax) (levels : ℕ) (last : Option Tag) (tag : Tag) (content : Content) (octets rest : List ℕ)
-    → IsPlaced last tag → IsHeader syntax tag content octets → may_nest levels content ≡ true → fits (length_of content) rest ≡ true
+    → IsPlaced last tag → IsHeader syntax tag content octets → may_nest levels content ≡ true → fits_enclosing (length_of content) rest ≡ true
     → header_at syntax levels last (octets ++ rest) ≡ Ok (header_of tag content, rest)
 unfolding header_at
 header_again syntax levels last tag content octets rest placed header nests whole =
@@ -190,7 +190,7 @@ header_long syntax tag content octets header = grind (arith, spelling_long, leng
 -- ---- the header of an item
 
 abbrev pub item_length_step : Option ℕ × List ℕ → Result (Option ℕ × List ℕ) ReadFault
-item_length_step n = check (fits n.0 n.1) Truncated >>= λ whole. Ok n
+item_length_step n = check (fits_enclosing n.0 n.1) Truncated >>= λ whole. Ok n
 
 abbrev item_step : Tag × List ℕ → Result (Option ℕ × List ℕ) ReadFault
 item_step tag = check (eqb tag.0.group 0xFFFE && eqb tag.0.element 0xE000) BadItem >>= λ is_item. long_length_at tag.1
@@ -229,11 +229,11 @@ item_front_again extent octets rest header =
     rw (e, tag_again item (header.four ++ rest) (lit< tt) (lit< tt) long, length_again extent header.four rest header.is_length) refl
 
 pub item_takes : (bytes : List ℕ) (extent : Option ℕ) (rest : List ℕ) → IsBytes bytes → item_header_at bytes ≡ Ok (extent, rest)
-    → ReadsItem bytes extent rest × (fits extent rest ≡ true)
+    → ReadsItem bytes extent rest × (fits_enclosing extent rest ≡ true)
 unfolding item_header_at
 item_takes bytes extent rest ok e = grind (arith, bind_ok, check_ok, ok_is, item_front_takes)
 
-pub item_again : (extent : Option ℕ) (octets rest : List ℕ) → IsItemHeader extent octets → fits extent rest ≡ true
+pub item_again : (extent : Option ℕ) (octets rest : List ℕ) → IsItemHeader extent octets → fits_enclosing extent rest ≡ true
     → item_header_at (octets ++ rest) ≡ Ok (extent, rest)
 unfolding item_header_at
 item_again extent octets rest header whole = rw (item_front_again extent octets rest header, whole) refl

@@ -2,11 +2,11 @@
 use Rattle.std.proofs.Common.{◌≡◌, ℕ, zero, suc, ◌-◌, Bool, true, false, not, eqb, List, ◌∷◌, take, drop, Option, Some, None, Result, Ok, refl, subst, ◌∙◌, cond, unwrap_or, arith}
 use Rattle.std.specs.List.{AllByRecursion}
 use Rattle.dq_vr.specs.Dictionary.{known_vr}
-use Rattle.dq_dataset.specs.Rules.{vr_of, content_of, padded}
+use Rattle.dq_dataset.specs.Rules.{vr_of, content_of, padded_value}
 use Rattle.dq_dataset.proofs.Types.{Tag, Vr, UN, ReadFault, Truncated, TagOrder, BadItem, TooDeep, Syntax, Bound, Filled, Delimited, Content, Plain, Sequence, Header, Element, Value, Octets, Items, ElementList, no_elements, element, sequence, ItemList, no_items, item}
 use Rattle.dq_dataset.specs.Facts.{AreElements, AreItems}
 use Rattle.dq_dataset.specs.View.{as_elements, elements_of, list_of}
-use Rattle.dq_dataset.specs.Reading.{◌>>=◌, Readers, check, may_nest, length_of, unless_ended, tag_at, spelling_at, follows, fits, front_at, header_at, item_header_at, end_at, value_by, element_by, elements_after, elements_by, content_by, item_by, items_after, items_by, readers, reading}
+use Rattle.dq_dataset.specs.Reading.{◌>>=◌, Readers, check, may_nest, length_of, unless_ended, tag_at, spelling_at, follows, fits_enclosing, front_at, header_at, item_header_at, end_at, value_by, element_by, elements_after, elements_by, content_by, item_by, items_after, items_by, readers, reading}
 use Rattle.dq_dataset.proofs.Fields.{bind_ok, ok_is}
 use Rattle.dq_dataset.proofs.Headers.{fits_step, content_step, spelling_step, rises_step, placed_step, tag_step}
 use Rattle.dq_dataset.proofs.Views.{elements_of-as_elements}
@@ -20,7 +20,7 @@ header_vr : (syntax : Syntax) (levels : ℕ) (last : Option Tag) (octets rest : 
 unfolding header_at front_at
 header_vr syntax levels last octets rest h e =
     let whole = bind_ok (front_at syntax levels last octets) fits_step (h, rest) e in
-    let fit = bind_ok (check (fits (length_of whole.0.0.content) whole.0.1) Truncated) (λ ok. Ok whole.0) (h, rest) whole.2 in
+    let fit = bind_ok (check (fits_enclosing (length_of whole.0.0.content) whole.0.1) Truncated) (λ ok. Ok whole.0) (h, rest) whole.2 in
     let a = bind_ok (tag_at octets) (tag_step syntax levels last) (h, rest) (whole.1 ∙ fit.2) in
     let tag = a.0.0 in
     let b = bind_ok (check (not (eqb tag.group 0xFFFE)) BadItem) (placed_step syntax levels last tag a.0.1) (h, rest) a.2 in
@@ -176,7 +176,7 @@ inside_given n levels syntax last octets left rest h v header value = by_content
   where
     by_content : (content : Content) → value_by (readers n) levels h.vr content left ≡ Ok (v, rest) → HasKnownInside v
     by_content (Plain count) e =
-        subst (λ (p : Value × List ℕ). HasKnownInside p.0) (ok_is (Octets (padded h.vr (take count left)), drop count left) (v, rest) e) tt
+        subst (λ (p : Value × List ℕ). HasKnownInside p.0) (ok_is (Octets (padded_value h.vr (take count left)), drop count left) (v, rest) e) tt
     by_content (Sequence to (Some count)) e =
         let items = bind_ok ((readers n).items Filled to (levels - 1) (take count left)) (λ (x : ItemsRead). Ok (Items x.0, drop count left)) (v, rest) e in
         subst (λ (p : Value × List ℕ). HasKnownInside p.0) (ok_is (Items items.0.0, drop count left) (v, rest) items.2)

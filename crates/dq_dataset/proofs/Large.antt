@@ -11,7 +11,7 @@ use Rattle.dq_dataset.specs.View.{as_elements}
 use Rattle.dq_dataset.specs.Canonical.{canonical, HasLengths}
 use Rattle.dq_dataset.specs.Grammar.{SpellsValue}
 use Rattle.dq_dataset.specs.Sieve.{kept_limit, is_over_limit, sifted_of}
-use Rattle.dq_dataset.specs.Sieving.{judged, kept_unless_over, is_length_over_limit, KeepsWithinLimit, IsWithinLimit}
+use Rattle.dq_dataset.specs.Sieving.{sifted_or_too_long, kept_unless_over, is_length_over_limit, KeepsWithinLimit, IsWithinLimit}
 use Rattle.dq_dataset.proofs.Counted.{value_length, short_elements}
 
 -- ---- lengths
@@ -55,11 +55,11 @@ one_large xs ys e octets is over = grind (arith, nat_tests, limit_passed, joined
 -- ---- what is answered
 
 kept_on : (large next b : Bool) (ks held more : List Element) (other : Bool) → is_over_limit (as_elements ks) ≡ b → next ≡ (large || b)
-    → held ≡ kept_unless_over next ks → judged next (held ++ more) other ≡ judged large (ks ++ more) other
+    → held ≡ kept_unless_over next ks → sifted_or_too_long next (held ++ more) other ≡ sifted_or_too_long large (ks ++ more) other
 kept_on large next b ks held more other is next_is state_is = grind (arith, nat_tests, more_large)
 
 pub judged_on : (large next : Bool) (ks held more : List Element) (other : Bool) → next ≡ (large || is_over_limit (as_elements ks))
-    → held ≡ kept_unless_over next ks → judged next (held ++ more) other ≡ judged large (ks ++ more) other
+    → held ≡ kept_unless_over next ks → sifted_or_too_long next (held ++ more) other ≡ sifted_or_too_long large (ks ++ more) other
 judged_on large next ks held more other = kept_on large next (is_over_limit (as_elements ks)) ks held more other refl
 
 neither : (a b : Bool) → false ≡ (a || b) → b ≡ false
@@ -77,7 +77,7 @@ pub within_by : (outer : Outer) → outer.large ≡ true → outer.kept.items �
 within_by outer large none = rw large none
 
 pub judged_kept : (large : Bool) (kept : List Element) (other : Bool) → large ≡ false → is_over_limit (as_elements kept) ≡ false
-    → Kept (as_elements kept) other ≡ judged large (kept ++ []) (other || false)
+    → Kept (as_elements kept) other ≡ sifted_or_too_long large (kept ++ []) (other || false)
 judged_kept large kept other small within = rw (small, append-nil kept, or-false other, within) refl
 
 sifted_kept_by : (b : Bool) (k d : ElementList) (other others : Bool) → is_over_limit d ≡ b → Kept k other ≡ sifted_of d others → (k ≡ d) × (other ≡ others)
@@ -132,10 +132,10 @@ module _ (levels : ℕ) (tag : Tag) (vr : Vr) (content : Content) (octets : List
   held_as = record { tag = tag; vr = vr; value = held }
 
   judged_over : (dropped : Bool) (kept es : List Element) (other : Bool) → (not dropped && is_length_over_limit content) ≡ true
-      → judged false (kept ++ cond dropped es (held_as ∷ es)) other ≡ Large
+      → sifted_or_too_long false (kept ++ cond dropped es (held_as ∷ es)) other ≡ Large
   judged_over dropped kept es other long = grind (arith, nat_tests, both, long_value, one_large)
 
   pub judged_long : (large dropped : Bool) (kept es : List Element) (other : Bool) → (large || (not dropped && is_length_over_limit content)) ≡ true
-      → judged large (kept ++ cond dropped es (held_as ∷ es)) other ≡ Large
+      → sifted_or_too_long large (kept ++ cond dropped es (held_as ∷ es)) other ≡ Large
   judged_long true dropped kept es other long = refl
   judged_long false dropped kept es other long = judged_over dropped kept es other long

@@ -5,7 +5,7 @@ use Rattle.std.proofs.lemmas.List.{take_at, drop_at, length-append, append-nil}
 use Rattle.dq_dataset.proofs.Types.{Tag, Vr, SQ, Syntax, Implicit, Explicit, Element, Value, Octets, Items, ElementList, no_elements}
 use Rattle.dq_vr.specs.Vr.{length_form_of, letters_of}
 use Rattle.dq_dataset.specs.View.{as_elements, items_of}
-use Rattle.dq_dataset.specs.Canonical.{tag_octets, vr_and_length, header_of, item_header_of, canonical_items}
+use Rattle.dq_dataset.specs.Canonical.{tag_octets, vr_and_length, header_octets, item_header_of, canonical_items}
 use Rattle.dq_dataset.specs.Grammar.{delimiter}
 use Rattle.dq_dataset.specs.Facts.{AreElements}
 use Rattle.dq_dataset.specs.Parts.{canonical_element, has_sequence_vr, HasSequenceVr}
@@ -17,8 +17,8 @@ abbrev front_of : Syntax → Tag → List ℕ
 front_of Implicit tag = tag_octets tag
 front_of Explicit tag = tag_octets tag ++ (letters_of SQ ++ (0 ∷ 0 ∷ []))
 
-header_parts : (syntax : Syntax) (tag : Tag) (n : ℕ) → header_of syntax tag SQ n ≡ front_of syntax tag ++ to_le_bytes w32 n
-unfolding header_of vr_and_length length_form_of
+header_parts : (syntax : Syntax) (tag : Tag) (n : ℕ) → header_octets syntax tag SQ n ≡ front_of syntax tag ++ to_le_bytes w32 n
+unfolding header_octets vr_and_length length_form_of
 header_parts Implicit tag n = refl
 header_parts Explicit tag n = simp append_assoc
 
@@ -49,18 +49,18 @@ module _ (header : ℕ → List ℕ) (front : List ℕ) (parts : (n : ℕ) → h
   started_by : 4 ≤ length first
   started_by = omega (arith, ap length first_is, length-append (old ++ front) (to_le_bytes w32 0))
 
-pub sequence_closed : (syntax : Syntax) (tag : Tag) (old first : List ℕ) → first ≡ old ++ header_of syntax tag SQ 0 → (body out : List ℕ) (start n : ℕ)
+pub sequence_closed : (syntax : Syntax) (tag : Tag) (old first : List ℕ) → first ≡ old ++ header_octets syntax tag SQ 0 → (body out : List ℕ) (start n : ℕ)
     → out ≡ first ++ body → start ≡ length first → n ≡ length body
-    → take (start - 4) out ++ (to_le_bytes w32 n ++ drop start out) ≡ old ++ (header_of syntax tag SQ (length body) ++ body)
-sequence_closed syntax tag = closed_by (header_of syntax tag SQ) (front_of syntax tag) (header_parts syntax tag)
+    → take (start - 4) out ++ (to_le_bytes w32 n ++ drop start out) ≡ old ++ (header_octets syntax tag SQ (length body) ++ body)
+sequence_closed syntax tag = closed_by (header_octets syntax tag SQ) (front_of syntax tag) (header_parts syntax tag)
 
 pub item_closed : (old first : List ℕ) → first ≡ old ++ item_header_of 0 → (body out : List ℕ) (start n : ℕ)
     → out ≡ first ++ body → start ≡ length first → n ≡ length body
     → take (start - 4) out ++ (to_le_bytes w32 n ++ drop start out) ≡ old ++ (item_header_of (length body) ++ body)
 item_closed = closed_by item_header_of (delimiter 0xE000) item_parts
 
-pub sequence_start : (syntax : Syntax) (tag : Tag) (old first : List ℕ) → first ≡ old ++ header_of syntax tag SQ 0 → 4 ≤ length first
-sequence_start syntax tag = started_by (header_of syntax tag SQ) (front_of syntax tag) (header_parts syntax tag)
+pub sequence_start : (syntax : Syntax) (tag : Tag) (old first : List ℕ) → first ≡ old ++ header_octets syntax tag SQ 0 → 4 ≤ length first
+sequence_start syntax tag = started_by (header_octets syntax tag SQ) (front_of syntax tag) (header_parts syntax tag)
 
 pub item_start : (old first : List ℕ) → first ≡ old ++ item_header_of 0 → 4 ≤ length first
 item_start = started_by item_header_of (delimiter 0xE000) item_parts
@@ -81,5 +81,5 @@ pub vr_is : (vr : Vr) (x : Value) (items : List ElementList) → has_sequence_vr
 vr_is vr x items h is = subst (λ (y : Value). has_sequence_vr vr y) is h
 
 pub canonical-sequence : (s : Syntax) (e : Element) (items : List ElementList) → e.value ≡ Items items → e.vr ≡ SQ
-    → canonical_element s e ≡ header_of s e.tag SQ (length (canonical_items s (items_of items))) ++ canonical_items s (items_of items)
+    → canonical_element s e ≡ header_octets s e.tag SQ (length (canonical_items s (items_of items))) ++ canonical_items s (items_of items)
 canonical-sequence s e items is vr = grind (arith, no_elements, append_assoc, append-nil)

@@ -3,14 +3,15 @@ use Rattle.std.proofs.Common.{◌≡◌, ℕ, zero, suc, ◌-◌, ◌≤◌, Boo
 use Rattle.std.specs.Int.{w32, to_le_bytes}
 use Rattle.std.proofs.lemmas.Bool.{eqb-true}
 use Rattle.std.proofs.lemmas.List.{take_at, length-append}
+use Rattle.dq_list.specs.Octets.{AreOctets}
 use Rattle.dq_dataset.proofs.Types.{Tag, Vr, ReadFault, Syntax, Bound, Filled, Delimited, Content, Header, Element, Value, ElementList, no_elements}
 use Rattle.dq_vr.specs.Dictionary.{known_vr}
 use Rattle.dq_dataset.specs.View.{elements_of, with_value}
-use Rattle.dq_dataset.specs.Rules.{padded, vr_of}
+use Rattle.dq_dataset.specs.Rules.{padded_value, vr_of}
 use Rattle.dq_dataset.specs.Reading.{length_of}
-use Rattle.dq_dataset.specs.Grammar.{AreOctets, Spells, no_more, more, SpellsValue, plain, nested, SpellsItems, no_item, one_item, delimiter, kept_value}
+use Rattle.dq_dataset.specs.Grammar.{Spells, no_more, more, SpellsValue, plain, nested, SpellsItems, no_item, one_item, delimiter, without_group_length}
 use Rattle.dq_dataset.specs.Faults.{HasFault, after_element}
-use Rattle.dq_dataset.specs.Lending.{Spelled, spelled_as, value_octets, next_at, lent_after, lent_in, lent}
+use Rattle.dq_dataset.specs.Lending.{Spelled, spelled_as, octets_before_rest, next_at, lent_after, lent_in, lent_elements}
 use Rattle.dq_dataset.specs.Agreement.{IsLentValue, IsLent, Lends, FaultAfter, at_once, after_one, AgreesWith}
 use Rattle.dq_dataset.proofs.Views.{elements_of-with_value}
 use Rattle.dq_dataset.proofs.LentLemmas.{Found, Lent, NextReads, next_reads, next_shorter}
@@ -47,8 +48,8 @@ undelimited Delimited syntax levels octets items (one_item _ _ _ _ extent header
 lent_value : (levels : ℕ) (vr : Vr) (content : Content) (octets : List ℕ) (held : Value) (rest : List ℕ) → SpellsValue levels vr content octets held
     → levels ≡ 16
     → (outer : Syntax) (tag : Tag)
-    → IsLentValue (spelled_as outer (record { tag = tag; vr = vr; content = content }) (value_octets (length_of content) (octets ++ rest) rest)) held
-lent_value levels vr content octets held rest (plain _ _ n _ len) e outer tag = ap (padded vr) (sym (take_at octets rest n len))
+    → IsLentValue (spelled_as outer (record { tag = tag; vr = vr; content = content }) (octets_before_rest (length_of content) (octets ++ rest) rest)) held
+lent_value levels vr content octets held rest (plain _ _ n _ len) e outer tag = ap (padded_value vr) (sym (take_at octets rest n len))
 lent_value levels vr content octets held rest (nested fewer _ syntax (Some n) _ items has spells) e outer tag =
     let depth : fewer ≡ 15 = omega (arith, e) in
     subst (λ (x : List ℕ). SpellsItems Filled syntax 15 x items) (sym (take_at octets rest n has))
@@ -64,9 +65,9 @@ lent_value levels vr content octets held rest (nested fewer _ syntax None _ item
     subst (λ (x : List ℕ). SpellsItems Filled syntax 15 x items) (sym same) (subst (λ (k : ℕ). SpellsItems Filled syntax k u.front items) depth u.spells)
 
 read_value : (outer : Syntax) (h : Header) (behind : List ℕ) (held : Value) (rest : List ℕ) → ReadsValue 16 h.vr h.content behind held rest
-    → IsLentValue (spelled_as outer h (value_octets (length_of h.content) behind rest)) held
+    → IsLentValue (spelled_as outer h (octets_before_rest (length_of h.content) behind rest)) held
 read_value outer h behind held rest r =
-    subst (λ (x : List ℕ). IsLentValue (spelled_as outer h (value_octets (length_of h.content) x rest)) held) (sym r.takes.parts)
+    subst (λ (x : List ℕ). IsLentValue (spelled_as outer h (octets_before_rest (length_of h.content) x rest)) held) (sym r.takes.parts)
     (lent_value 16 h.vr h.content r.octets held rest r.spells refl outer h.tag)
 
 -- ---- one step
@@ -96,7 +97,7 @@ module _ (n : ℕ) (syntax : Syntax) (last : Option Tag) (octets : List ℕ) (ok
       let spelled : SpellsValue 16 vr h.content value.octets held = subst (λ (x : Vr). SpellsValue 16 x h.content value.octets held) header.vr value.spells in
       let read = subst (λ (o : List ℕ). IsLentValue (spelled_as syntax h o) held) (sym is) (read_value syntax h behind held found.1 value) in
       let same : IsLent (spelled_as syntax h found.0.1) (record { tag = h.tag; vr = vr; value = held }) = record { tag = refl; vr = header.vr; value = read } in
-      let all = λ (d : ElementList). kept_value h.tag vr held d in
+      let all = λ (d : ElementList). without_group_length h.tag vr held d in
       let lends = λ (d : ElementList) (end : Lent). kept_lends (eqb h.tag.element 0) (spelled_as syntax h found.0.1) h.tag vr held d
       (lent_in n syntax (Some h.tag) found.1) end same in
       elim others [
@@ -145,7 +146,7 @@ agrees_in zero syntax last octets ok le = empty_agrees syntax last octets (omega
 agrees_in (suc n) syntax last octets ok le = by_length n syntax (agrees_in n syntax) last octets ok le (eqb (length octets) 0) refl
 
 -- one is lent for each element, and then the first fault
-pub lent_agrees : (syntax : Syntax) (octets : List ℕ) → AreOctets octets → AgreesWith syntax octets (lent syntax octets)
+pub lent_agrees : (syntax : Syntax) (octets : List ℕ) → AreOctets octets → AgreesWith syntax octets (lent_elements syntax octets)
 lent_agrees syntax octets ok = agrees_in (length octets) syntax None octets ok (omega arith)
 
 -- ---- what stands before the fault

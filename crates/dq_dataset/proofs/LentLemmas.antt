@@ -2,10 +2,10 @@
 use Rattle.std.proofs.Common.{◌≡◌, ◌≢◌, ℕ, zero, suc, ◌+◌, ◌≤◌, ◌<◌, Bool, false, cond, eqb, eq-eqb, List, [], ◌∷◌, length, Option, Some, Result, Ok, Err, refl, sym, ap, subst, ◌∙◌, arith}
 use Rattle.std.proofs.lemmas.Bool.{ne_eqb}
 use Rattle.std.proofs.lemmas.List.{length-append}
+use Rattle.dq_list.specs.Octets.{AreOctets}
 use Rattle.dq_dataset.proofs.Types.{Tag, ReadFault, Syntax, Header, Value}
 use Rattle.dq_dataset.specs.Reading.{◌>>=◌, length_of, header_at, value_by, readers}
-use Rattle.dq_dataset.specs.Grammar.{AreOctets}
-use Rattle.dq_dataset.specs.Lending.{Spelled, inner_syntax, spelled_as, value_octets, next_at, lent_after, lent_in, lent_from}
+use Rattle.dq_dataset.specs.Lending.{Spelled, inner_syntax, spelled_as, octets_before_rest, next_at, lent_after, lent_in, lent_from}
 use Rattle.dq_dataset.proofs.Fields.{bind_ok, ok_is}
 use Rattle.dq_dataset.proofs.Headers.{ReadsHeader, header_takes, header_long}
 use Rattle.dq_dataset.proofs.SpelledOrFaulty.{ReadsValue, value_takes}
@@ -16,10 +16,10 @@ Found = (Header × List ℕ) × List ℕ
 abbrev pub NextReads : Syntax → Option Tag → List ℕ → Found → Type 0
 NextReads syntax last octets found =
     (behind : List ℕ) × ReadsHeader syntax 16 last octets found.0.0 behind × (held : Value) × ReadsValue 16 found.0.0.vr found.0.0.content behind held found.1
-    × (found.0.1 ≡ value_octets (length_of found.0.0.content) behind found.1)
+    × (found.0.1 ≡ octets_before_rest (length_of found.0.0.content) behind found.1)
 
 abbrev pub found_step : Header × List ℕ → Value × List ℕ → Result Found ReadFault
-found_step header value = Ok ((header.0, value_octets (length_of header.0.content) header.1 value.1), value.1)
+found_step header value = Ok ((header.0, octets_before_rest (length_of header.0.content) header.1 value.1), value.1)
 
 abbrev pub header_step : Header × List ℕ → Result Found ReadFault
 header_step header = value_by (readers (length header.1 + 1)) 16 header.0.vr header.0.content header.1 >>= found_step header
@@ -33,8 +33,8 @@ next_reads syntax last octets found ok e =
     let v = bind_ok (value_by (readers (length behind + 1)) 16 h.0.0.vr h.0.0.content behind) (found_step h.0) found h.2 in
     let (header, whole) = header_takes syntax 16 last octets h.0.0 behind ok h.1 in
     let value = value_takes 16 h.0.0.vr h.0.0.content behind header.nests whole header.takes.rest_fits v.0.0 v.0.1 v.1 in
-    let one : NextReads syntax last octets ((h.0.0, value_octets (length_of h.0.0.content) h.0.1 v.0.1), v.0.1) = (h.0.1, header, v.0.0, value, refl) in
-    let same = ok_is ((h.0.0, value_octets (length_of h.0.0.content) h.0.1 v.0.1), v.0.1) found v.2 in
+    let one : NextReads syntax last octets ((h.0.0, octets_before_rest (length_of h.0.0.content) h.0.1 v.0.1), v.0.1) = (h.0.1, header, v.0.0, value, refl) in
+    let same = ok_is ((h.0.0, octets_before_rest (length_of h.0.0.content) h.0.1 v.0.1), v.0.1) found v.2 in
     subst (λ (x : Found). NextReads syntax last octets x) same one
 
 -- what is left is shorter

@@ -3,7 +3,7 @@ use Rattle.std.proofs.Common.{◌≡◌, ◌≢◌, eq-eqb, ℕ, zero, suc, ◌�
 use Rattle.std.proofs.lemmas.List.{append-nil}
 use Rattle.std.proofs.lemmas.Bool.{ltb-true, ne_eqb}
 use Rattle.dq_dataset.proofs.Types.{Tag, ReadFault, NoMemory, Syntax, Bound, Content, Sequence, Header, Element, Value, ElementList}
-use Rattle.dq_dataset.specs.Reading.{◌>>=◌, readers, kept, may_nest, element_by, elements_by, elements_after, item_by, items_by, items_after}
+use Rattle.dq_dataset.specs.Reading.{◌>>=◌, readers, unless_group_length, may_nest, element_by, elements_by, elements_after, item_by, items_by, items_after}
 
 -- what was read before, and what is still read
 abbrev pub with_front : {X : Type 0} → List X → Result (List X × List ℕ) ReadFault → Result (List X × List ℕ) ReadFault
@@ -31,11 +31,11 @@ with_front-nil (Err e) = refl
 
 -- ---- elements
 
-kept-append : (h : Header) (v : Value) (others : List Element) → kept h v others ≡ kept h v [] ++ others
+kept-append : (h : Header) (v : Value) (others : List Element) → unless_group_length h v others ≡ unless_group_length h v [] ++ others
 kept-append h v others = grind arith
 
 after_kept : (done : List Element) (h : Header) (v : Value) (read : Result (List Element × List ℕ) ReadFault)
-    → with_front done (read >>= λ x. Ok (kept h v x.0, x.1)) ≡ with_front (done ++ kept h v []) read
+    → with_front done (read >>= λ x. Ok (unless_group_length h v x.0, x.1)) ≡ with_front (done ++ unless_group_length h v []) read
 after_kept done h v read = grind (arith, kept-append, append_assoc)
 
 module _ (bound : Bound) (syntax : Syntax) (levels : ℕ) (all : List ℕ) where
@@ -66,7 +66,7 @@ module _ (bound : Bound) (syntax : Syntax) (levels : ℕ) (all : List ℕ) where
 
     pub elements_more : ElementsLeft bound syntax levels all done last rest → (h : Header) (v : Value) (after : List ℕ)
         → ((n : ℕ) → length rest ≤ n → element_by (readers n) bound syntax levels last rest ≡ Ok (Some (h, v), after))
-        → length after < length rest → ElementsLeft bound syntax levels all (done ++ kept h v []) (Some h.tag) after
+        → length after < length rest → ElementsLeft bound syntax levels all (done ++ unless_group_length h v []) (Some h.tag) after
     unfolding elements_by elements_after
     elements_more left h v after found shorter = record {
       shorter = omega (arith, left.shorter);
@@ -124,8 +124,8 @@ pub level_left : (levels : ℕ) (content : Content) (syntax : Syntax) (n : Optio
 level_left levels content syntax n h e = ltb-true 0 levels (sym (ap (may_nest levels) e) ∙ h)
 
 -- a header that is not of a group length keeps its element, and one of a group length drops it
-pub kept_one : (h : Header) (v : Value) → h.tag.element ≢ 0 → kept h v [] ≡ record { tag = h.tag; vr = h.vr; value = v } ∷ []
+pub kept_one : (h : Header) (v : Value) → h.tag.element ≢ 0 → unless_group_length h v [] ≡ record { tag = h.tag; vr = h.vr; value = v } ∷ []
 kept_one h v ne = rw (ne_eqb h.tag.element 0 ne) refl
 
-pub kept_none : (h : Header) (v : Value) → h.tag.element ≡ 0 → kept h v [] ≡ []
+pub kept_none : (h : Header) (v : Value) → h.tag.element ≡ 0 → unless_group_length h v [] ≡ []
 kept_none h v e = rw (eq-eqb h.tag.element 0 e) refl

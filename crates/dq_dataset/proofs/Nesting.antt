@@ -5,7 +5,7 @@ use Rattle.dq_dataset.specs.declared.sieve.walk.Reach.{Reach}
 use Rattle.dq_dataset.specs.declared.sieve.walk.Reach.TheVariants.{Measured, Within, Endless}
 use Rattle.dq_dataset.specs.declared.sieve.walk.Place.{Place}
 use Rattle.dq_dataset.specs.Reading.{tag_at, front_at, item_front_at}
-use Rattle.dq_dataset.specs.Sifting.{reach_of, opened_reach, opened_left, HasRoom, EndsAt, IsUntil, LiesIn, left_around, AreNested, IsPart, HasMore}
+use Rattle.dq_dataset.specs.Sifting.{reach_of, opened_reach, opened_left, StaysWithin, EndsAt, IsUntil, LiesIn, left_around, AreNested, IsPart, HasMore}
 use Rattle.dq_dataset.proofs.Walks.{Around}
 use Rattle.dq_dataset.proofs.Entering.{Behind}
 
@@ -23,7 +23,7 @@ shrunk until left less (place ∷ around) nests ends le =
 -- a value is entered
 module _ (left after taken : ℕ) (inner behind : Place) (outside : List Place) where
   pub nested_inside : (reach : Reach) (extent : Option ℕ) → reach_of inner ≡ opened_reach reach extent after → reach_of behind ≡ reach
-      → Behind reach left taken after → HasRoom reach extent after → Around reach left taken
+      → Behind reach left taken after → StaysWithin reach extent after → Around reach left taken
       → LiesIn reach left outside → AreNested (left_around reach left) outside
       → AreNested (opened_left reach extent after) (inner ∷ behind ∷ outside)
   nested_inside (Measured until) None inner_is behind_is header_behind room within lies others =

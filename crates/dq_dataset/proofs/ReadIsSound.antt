@@ -2,7 +2,7 @@
 use Rattle.std.proofs.Common.{◌≡◌, ℕ, suc, refl, sym, ap, subst, ◌∙◌, inl, inr, ◌+◌, ◌-◌, ◌<◌, ◌≤◌, true, List, length, Option, Some, None, Ok, arith}
 use Rattle.dq_dataset.proofs.Types.{Tag, Syntax, Filled, Element, ElementList, no_elements, element, sequence, ItemList, no_items, item}
 use Rattle.dq_dataset.specs.View.{as_elements, elements_of}
-use Rattle.dq_dataset.specs.Reading.{fits, content_by, readers, reading}
+use Rattle.dq_dataset.specs.Reading.{fits_enclosing, content_by, readers, reading}
 use Rattle.dq_dataset.specs.Grammar.{bound_of}
 use Rattle.dq_dataset.specs.Facts.{AreElements, AreItems, IsDataSet}
 use Rattle.dq_dataset.proofs.Views.{as_elements-elements_of}
@@ -24,7 +24,7 @@ mutual
   AreItems-deeper a b (item d rest) le h = (AreElements-deeper a b None d le h.0, AreItems-deeper a b rest le h.1)
 
 pub content_is_data_set : (syntax : Syntax) (levels : ℕ) (extent : Option ℕ) (bytes : List ℕ) (es : List Element) (rest : List ℕ) → levels ≤ 16
-    → fits extent bytes ≡ true → IsBytes bytes
+    → fits_enclosing extent bytes ≡ true → IsBytes bytes
     → ((n : ℕ) → length bytes < n → content_by (readers n) syntax levels extent bytes ≡ Ok (es, rest)) → IsDataSet (as_elements es)
 content_is_data_set syntax levels extent bytes es rest le enough ok e =
     let n = length bytes in

@@ -14,21 +14,21 @@ use Rattle.dq_dataset.specs.Grammar.{no_more}
 use Rattle.dq_dataset.specs.Facts.{IsDataSet}
 use Rattle.dq_dataset.specs.Sifting.{WalkLeads, IsWalk}
 use Rattle.dq_dataset.specs.Sieve.{IsSifted}
-use Rattle.dq_dataset.specs.Sieving.{judged, OuterSifts, StageSifts, IsStage, GoesOn, HasFed}
+use Rattle.dq_dataset.specs.Sieving.{sifted_or_too_long, OuterSifts, StageSifts, IsStage, SieveGoesOn, HasFed}
 use Rattle.dq_dataset.proofs.SpelledIsSound.{spelled_is_sound}
 use Rattle.dq_dataset.proofs.Edits.{cut_is}
 use Rattle.dq_dataset.proofs.Fronts.{truncated}
 use Rattle.dq_dataset.proofs.Walks.{unfinished}
 use Rattle.dq_dataset.proofs.Large.{judged_kept, sifted_kept}
 
-pub goes_then : (tags : List Tag) (a b c : Outer) (x y z : Stage) (first second : List ℕ) → GoesOn tags a x first b y → GoesOn tags b y second c z
-    → GoesOn tags a x (first ++ second) c z
+pub goes_then : (tags : List Tag) (a b c : Outer) (x y z : Stage) (first second : List ℕ) → SieveGoesOn tags a x first b y → SieveGoesOn tags b y second c z
+    → SieveGoesOn tags a x (first ++ second) c z
 goes_then tags a b c x y z first second p q = grind (arith, append_assoc)
 
-pub goes_nowhere : (tags : List Tag) (a : Outer) (x : Stage) → IsStage a x → GoesOn tags a x [] a x
+pub goes_nowhere : (tags : List Tag) (a : Outer) (x : Stage) → IsStage a x → SieveGoesOn tags a x [] a x
 goes_nowhere tags a x sound = record { sound = sound; within = λ w. w; syntax = refl; sifts = λ octets answer m. m }
 
-pub fed_on : (syntax : Syntax) (tags : List Tag) (fed piece : List ℕ) (a b : Outer) (x y : Stage) → HasFed syntax tags fed a x → GoesOn tags a x piece b y
+pub fed_on : (syntax : Syntax) (tags : List Tag) (fed piece : List ℕ) (a b : Outer) (x y : Stage) → HasFed syntax tags fed a x → SieveGoesOn tags a x piece b y
     → HasFed syntax tags (fed ++ piece) b y
 fed_on syntax tags fed piece a b x y f g = grind (arith, append_assoc)
 
@@ -54,7 +54,7 @@ module _ (syntax : Syntax) (tags : List Tag) (fed : List ℕ) (outer : Outer) wh
       → ((octets : List ℕ) (answer : Sifted) → OuterSifts tags outer octets answer → StageSifts tags outer stage octets answer)
       → HasFed syntax tags fed outer stage → outer.large ≡ true → IsSifted syntax tags fed Large
   ends_large stage between f large =
-      let same : Large ≡ judged outer.large (outer.kept.items ++ []) (outer.other || false) = rw large refl in
+      let same : Large ≡ sifted_or_too_long outer.large (outer.kept.items ++ []) (outer.other || false) = rw large refl in
       ends syntax tags fed outer stage Large f
       (between [] Large (inl (no_elements, no_more Filled outer.syntax 16 outer.last [] refl, same)))
 

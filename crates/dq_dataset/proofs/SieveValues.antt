@@ -12,8 +12,8 @@ use Rattle.dq_dataset.specs.declared.sieve.Stage.TheVariants.{Between, Past, Int
 use Rattle.dq_dataset.specs.declared.sieve.SieveState.{SieveState}
 use Rattle.dq_dataset.specs.declared.sieve.SieveState.TheVariants.{Sifting}
 use Rattle.dq_dataset.specs.declared.sieve.walk.Walk.{Walk}
-use Rattle.dq_dataset.specs.declared.sieve.walk.Walked.{Walked}
-use Rattle.dq_dataset.specs.declared.sieve.walk.Walked.TheVariants.{Over}
+use Rattle.dq_dataset.specs.declared.sieve.walk.WalkStep.{WalkStep}
+use Rattle.dq_dataset.specs.declared.sieve.walk.WalkStep.TheVariants.{Over}
 use Rattle.dq_dataset.specs.declared.sieve.walk.Reach.TheVariants.{Endless}
 use Rattle.dq_dataset.specs.declared.sieve.walk.Place.TheVariants.{InElements}
 use Rattle.dq_dataset.specs.Sieve.{is_over_limit}
@@ -21,7 +21,7 @@ use Rattle.dq_dataset.specs.View.{as_elements, elements_of}
 use Rattle.dq_dataset.specs.Reading.{front_at, end_at, may_nest}
 use Rattle.dq_dataset.specs.Grammar.{IsPlaced, IsHeader, IsSpelled}
 use Rattle.dq_dataset.specs.Sifting.{WalkedLeads, LeadsOn}
-use Rattle.dq_dataset.specs.Sieving.{tag_is_listed, is_header_over_limit, kept_unless_over, Keeps, SiftsFrom, FollowsPast, FollowsInto, IsStage, GoesOn, HasFed, SieveAfter, IsSieve, PastBy, IntoBy}
+use Rattle.dq_dataset.specs.Sieving.{tag_is_listed, is_header_over_limit, kept_unless_over, KeepsElements, SiftsFrom, FollowsPast, FollowsInto, IsStage, SieveGoesOn, HasFed, SieveAfter, IsSieve, PastBy, IntoBy}
 use Rattle.dq_dataset.proofs.Nesting.{none_is_part}
 use Rattle.dq_dataset.proofs.Fronts.{open_here, front_fault_stays}
 use Rattle.dq_dataset.proofs.Large.{judged_on, within_on, within_by, starts_within}
@@ -36,19 +36,19 @@ nothing_came outer front none = rw none (none_is_part (InElements outer.syntax 1
 
 -- an octet of a header: what all of the header makes of the sieve, with the octet added to it
 pub adds_octet : (tags : List Tag) (outer next : Outer) (then : Stage) (before after : Vec ℕ) (octet : ℕ) → after.items ≡ before.items ++ octet ∷ []
-    → GoesOn tags outer (Between after) [] next then → GoesOn tags outer (Between before) (octet ∷ []) next then
+    → SieveGoesOn tags outer (Between after) [] next then → SieveGoesOn tags outer (Between before) (octet ∷ []) next then
 adds_octet tags outer next then before after octet is g = grind (arith, append_assoc)
 
 pub adds_octet_ok : {E : Type 0} → (tags : List Tag) (outer : Outer) (before after : Vec ℕ) (octet : ℕ) → after.items ≡ before.items ++ octet ∷ []
-    → (r : Result (Outer × Stage) E) → IfOk r (λ x. GoesOn tags outer (Between after) [] x.0 x.1)
-    → IfOk r (λ x. GoesOn tags outer (Between before) (octet ∷ []) x.0 x.1)
+    → (r : Result (Outer × Stage) E) → IfOk r (λ x. SieveGoesOn tags outer (Between after) [] x.0 x.1)
+    → IfOk r (λ x. SieveGoesOn tags outer (Between before) (octet ∷ []) x.0 x.1)
 adds_octet_ok tags outer before after octet is (Ok x) g = adds_octet tags outer x.0 x.1 before after octet is g
 adds_octet_ok tags outer before after octet is (Err e) g = tt
 
 -- a fault of a header is that of the data set
 pub stops_at_header : (tags : List Tag) (outer : Outer) (front : Vec ℕ) (fault : ReadFault)
     → ((rest : List ℕ) → end_at Filled 0xE00D front.items ≡ Ok (Some rest) → ⊥) → front_at outer.syntax 16 outer.last front.items ≡ Err fault
-    → fault ≢ Truncated → GoesOn tags outer (Between front) [] outer (Stopped fault 0)
+    → fault ≢ Truncated → SieveGoesOn tags outer (Between front) [] outer (Stopped fault 0)
 stops_at_header tags outer front fault none is other = record {
   sound = tt;
   within = λ w. w;
@@ -63,14 +63,14 @@ stops_at_header tags outer front fault none is other = record {
 
 -- the value of an element, from its header
 module _ (tags : List Tag) (outer : Outer) (front : Vec ℕ) (tag : Tag) (content : Content) (placed : IsPlaced outer.last tag)
-    (is_header : IsHeader outer.syntax tag content front.items) (nests : may_nest 16 content ≡ true) (walked : Walked)
+    (is_header : IsHeader outer.syntax tag content front.items) (nests : may_nest 16 content ≡ true) (walked : WalkStep)
     (leads : (octets : List ℕ) (end : Option ReadFault) → WalkedLeads walked octets end
     → Inside outer.syntax outer.last tag content front.items placed is_header nests octets end) where
   abbrev passed_by : Outer
   passed_by = record { syntax = outer.syntax; last = Some tag; large = outer.large; kept = outer.kept; other = outer.other || not (eqb tag.element 0) }
 
   pub goes_past : tag_is_listed tags tag ≡ false → (stage : Stage) → IsStage passed_by stage → PastBy walked stage
-      → GoesOn tags outer (Between front) [] passed_by stage
+      → SieveGoesOn tags outer (Between front) [] passed_by stage
   goes_past listed stage sound past = record {
     sound = sound;
     within = λ w. w;
@@ -84,7 +84,7 @@ module _ (tags : List Tag) (outer : Outer) (front : Vec ℕ) (tag : Tag) (conten
   -- of what is too large nothing is held
   pub goes_over : tag_is_listed tags tag ≡ true → (outer.large || is_header_over_limit tag content) ≡ true → (next : Outer) → next.syntax ≡ outer.syntax
       → next.last ≡ Some tag → next.large ≡ true → next.kept.items ≡ [] → (stage : Stage) → IsStage next stage
-      → PastBy walked stage → GoesOn tags outer (Between front) [] next stage
+      → PastBy walked stage → SieveGoesOn tags outer (Between front) [] next stage
   goes_over listed long next syntax_is last_is large_is none stage sound past = record {
     sound = sound;
     within = λ w. within_by next large_is none;
@@ -101,7 +101,7 @@ module _ (tags : List Tag) (outer : Outer) (front : Vec ℕ) (tag : Tag) (conten
   begun = record { syntax = outer.syntax; last = Some tag; large = outer.large; kept = outer.kept; other = outer.other }
 
   into_by : tag_is_listed tags tag ≡ true → (next : Outer) (then : Stage) → IntoBy begun walked front.items next then
-      → GoesOn tags outer (Between front) [] next then
+      → SieveGoesOn tags outer (Between front) [] next then
   into_by listed next then into = record {
     sound = into.sound;
     within = into.within;
@@ -113,13 +113,13 @@ module _ (tags : List Tag) (outer : Outer) (front : Vec ℕ) (tag : Tag) (conten
   }
 
   pub goes_into : {E : Type 0} → tag_is_listed tags tag ≡ true → (r : Result (Outer × Stage) E)
-      → IfOk r (λ x. IntoBy begun walked front.items x.0 x.1) → IfOk r (λ x. GoesOn tags outer (Between front) [] x.0 x.1)
+      → IfOk r (λ x. IntoBy begun walked front.items x.0 x.1) → IfOk r (λ x. SieveGoesOn tags outer (Between front) [] x.0 x.1)
   goes_into listed (Ok x) into = into_by listed x.0 x.1 into
   goes_into listed (Err e) into = tt
 
 -- octets of a value that is not kept
-pub steps_past : (tags : List Tag) (outer : Outer) (walk : Walk) (taken : List ℕ) (walked : Walked) → LeadsOn walk taken walked → (stage : Stage)
-    → IsStage outer stage → PastBy walked stage → GoesOn tags outer (Past walk) taken outer stage
+pub steps_past : (tags : List Tag) (outer : Outer) (walk : Walk) (taken : List ℕ) (walked : WalkStep) → LeadsOn walk taken walked → (stage : Stage)
+    → IsStage outer stage → PastBy walked stage → SieveGoesOn tags outer (Past walk) taken outer stage
 steps_past tags outer walk taken walked on stage sound past = record {
   sound = sound;
   within = λ w. w;
@@ -129,9 +129,9 @@ steps_past tags outer walk taken walked on stage sound past = record {
 }
 
 -- octets of a value that is kept
-pub steps_into : (tags : List Tag) (outer : Outer) (walk : Walk) (taken : List ℕ) (walked : Walked) → LeadsOn walk taken walked → (came : Vec ℕ)
+pub steps_into : (tags : List Tag) (outer : Outer) (walk : Walk) (taken : List ℕ) (walked : WalkStep) → LeadsOn walk taken walked → (came : Vec ℕ)
     (now : List ℕ) → now ≡ came.items ++ taken → (next : Outer) (then : Stage) → IntoBy outer walked now next then
-    → GoesOn tags outer (Into walk came) taken next then
+    → SieveGoesOn tags outer (Into walk came) taken next then
 steps_into tags outer walk taken walked on came now is next then into = grind (arith, sifted_step, append_assoc)
 
 -- what is held no more adds as it did
@@ -142,7 +142,7 @@ sifts_on syntax tags last large next ks held other octets answer next_is state_i
 
 -- all of a value that is kept: the element is kept
 pub keeps_one : (outer next : Outer) (came : List ℕ) (front : Vec ℕ) (one : ElementList)
-    → ((d : ElementList) → IsSpelled outer.syntax came d → one ≡ d) → Keeps outer (elements_of one) next → front.items ≡ []
+    → ((d : ElementList) → IsSpelled outer.syntax came d → one ≡ d) → KeepsElements outer (elements_of one) next → front.items ≡ []
     → IntoBy outer Over came next (Between front)
 keeps_one outer next came front one only k none = record {
   sound = nothing_came next front.items none;
@@ -168,7 +168,7 @@ pub starts : (tags : List Tag) (outer : Outer) (front : Vec ℕ) → outer.last 
     → HasFed outer.syntax tags [] outer (Between front)
 starts tags outer front last small kept other none = grind (arith, nothing_came, starts_within)
 
-pub is_fed_on : (tags : List Tag) (piece : List ℕ) (a b : Outer) (x y : Stage) → IsSieve tags (Sifting a x) → GoesOn tags a x piece b y
+pub is_fed_on : (tags : List Tag) (piece : List ℕ) (a b : Outer) (x y : Stage) → IsSieve tags (Sifting a x) → SieveGoesOn tags a x piece b y
     → IsSieve tags (Sifting b y)
 is_fed_on tags piece a b x y (fed, f) g =
     (fed ++ piece, subst (λ (z : Syntax). HasFed z tags (fed ++ piece) b y) (sym g.syntax) (fed_on a.syntax tags fed piece a b x y f g))
@@ -178,12 +178,12 @@ pub state_is : (syntax : Syntax) (tags listed : List Tag) (fed : List ℕ) (held
 state_is syntax tags listed fed held sieve a x view is after = grind arith
 
 pub fed_after : (syntax : Syntax) (tags listed : List Tag) (fed piece : List ℕ) (held : SieveState) (sieve : List Tag × SieveState) (a b : Outer) (x y : Stage)
-    → (listed, held) ≡ sieve → held ≡ Sifting a x → GoesOn listed a x piece b y → SieveAfter syntax tags fed sieve
+    → (listed, held) ≡ sieve → held ≡ Sifting a x → SieveGoesOn listed a x piece b y → SieveAfter syntax tags fed sieve
     → SieveAfter syntax tags (fed ++ piece) (listed, Sifting b y)
 fed_after syntax tags listed fed piece held sieve a b x y view is g after =
     let same : listed ≡ tags = ap (λ (s : List Tag × SieveState). s.0) view ∙ after.tags_are in
     record {
       tags_are = same;
       after = fed_on syntax tags fed piece a b x y (state_is syntax tags listed fed held sieve a x view is after)
-          (subst (λ (ts : List Tag). GoesOn ts a x piece b y) same g);
+          (subst (λ (ts : List Tag). SieveGoesOn ts a x piece b y) same g);
     }

@@ -4,21 +4,21 @@ use Rattle.std.specs.Prelude.{filter}
 use Rattle.std.specs.List.{list_any}
 use Rattle.std.proofs.Math.Bool.{or-false}
 use Rattle.dq_dataset.specs.declared.sieve.walk.Walk.{Walk}
-use Rattle.dq_dataset.specs.declared.sieve.walk.Walked.{Walked}
+use Rattle.dq_dataset.specs.declared.sieve.walk.WalkStep.{WalkStep}
 use Rattle.std.proofs.lemmas.Bool.{lt-leb}
 use Rattle.std.proofs.lemmas.List.{append-nil}
 use Rattle.dq_dataset.proofs.Types.{Tag, Vr, ReadFault, Truncated, Syntax, Filled, Content, Element, Value, ElementList, no_elements}
 use Rattle.dq_vr.specs.Dictionary.{known_vr}
 use Rattle.dq_dataset.specs.declared.sieve.walk.Reach.TheVariants.{Endless}
 use Rattle.dq_dataset.specs.declared.sieve.Sifted.{Sifted}
-use Rattle.dq_dataset.specs.Rules.{vr_of, fits}
+use Rattle.dq_dataset.specs.Rules.{vr_of, fits_enclosing}
 use Rattle.dq_dataset.specs.Reading.{may_nest, length_of}
 use Rattle.dq_dataset.specs.View.{elements_of}
 use Rattle.dq_dataset.specs.Editing.{is_listed}
-use Rattle.dq_dataset.specs.Grammar.{IsPlaced, IsHeader, no_more, more, SpellsValue, kept_value, IsSpelled}
+use Rattle.dq_dataset.specs.Grammar.{IsPlaced, IsHeader, no_more, more, SpellsValue, without_group_length, IsSpelled}
 use Rattle.dq_dataset.specs.Faults.{HasFault, after_element}
-use Rattle.dq_dataset.specs.Sifting.{Stops, WalkLeads, WalkedLeads, LeadsOn, LeadsTo, opened_left}
-use Rattle.dq_dataset.specs.Sieving.{tag_is_listed, is_header_over_limit, judged, SiftsFrom, SiftsOn}
+use Rattle.dq_dataset.specs.Sifting.{HasFirstFault, WalkLeads, WalkedLeads, LeadsOn, LeadsTo, opened_left}
+use Rattle.dq_dataset.specs.Sieving.{tag_is_listed, is_header_over_limit, sifted_or_too_long, SiftsFrom, SiftsOn}
 use Rattle.dq_dataset.proofs.SpelledIsRead.{kept_elements}
 use Rattle.dq_dataset.proofs.Fronts.{unfit}
 use Rattle.dq_dataset.proofs.Large.{judged_long}
@@ -28,7 +28,7 @@ use Rattle.dq_dataset.proofs.Entering.{value_place, value_reach, value_spelled, 
 
 -- what is kept, and whether there is another
 abbrev kept_of : List Tag → Bool → List Element → Bool → List Element → Sifted
-kept_of tags large kept other es = judged large (kept ++ filter (is_listed tags) es) (other || list_any (λ (e : Element). not (is_listed tags e)) es)
+kept_of tags large kept other es = sifted_or_too_long large (kept ++ filter (is_listed tags) es) (other || list_any (λ (e : Element). not (is_listed tags e)) es)
 
 or_true : (other a : Bool) → (other || true) || a ≡ other || (true || a)
 or_true true a = refl
@@ -37,7 +37,7 @@ or_true false a = refl
 module _ (tags : List Tag) (large : Bool) (kept : List Element) (other : Bool) (e : Element) (es : List Element) where
   past_by : (dropped : Bool) → is_listed tags e ≡ false → kept_of tags large kept (other || not dropped) es ≡ kept_of tags large kept other (cond dropped es (e ∷ es))
   past_by true listed = ap (λ (b : Bool). kept_of tags large kept b es) (or-false other)
-  past_by false listed = rw listed (ap (judged large (kept ++ filter (is_listed tags) es)) (or_true other _))
+  past_by false listed = rw listed (ap (sifted_or_too_long large (kept ++ filter (is_listed tags) es)) (or_true other _))
 
   into_by : (dropped : Bool) → is_listed tags e ≡ true
       → kept_of tags large (kept ++ cond dropped [] (e ∷ [])) other es ≡ kept_of tags large kept other (cond dropped es (e ∷ es))
@@ -65,7 +65,7 @@ module _ (syntax : Syntax) (last : Option Tag) (tag : Tag) (content : Content) (
   abbrev pub Inside : List ℕ → Option ReadFault → Type 0
   Inside octets end = LeadsTo left (value_place content 16 Endless 0 ∷ []) octets end
 
-  too_long_by : (e : Option ℕ) (octets : List ℕ) → length octets < opened_left Endless e 0 → fits e octets ≡ false
+  too_long_by : (e : Option ℕ) (octets : List ℕ) → length octets < opened_left Endless e 0 → fits_enclosing e octets ≡ false
   too_long_by None octets short = absurd (omega arith)
   too_long_by (Some n) octets short = lt-leb n (length octets) short
 
@@ -84,7 +84,7 @@ module _ (syntax : Syntax) (last : Option Tag) (tag : Tag) (content : Content) (
       ∙ ap (λ (x : List ℕ). (header ++ (s.near ++ r.w)) ++ x) none ∙ append-nil (header ++ (s.near ++ r.w)) in
       subst (λ (o : List ℕ). HasFault Filled syntax 16 last o f) (sym all)
       (value_stops Filled syntax 16 last tag content Endless 0 header s.near r.w f placed is_header nests r.has
-      (subst (λ (x : ReadFault). Stops (value_place content 16 Endless 0) s.near x) same s.stops))
+      (subst (λ (x : ReadFault). HasFirstFault (value_place content 16 Endless 0) s.near x) same s.stops))
   inside_fault octets f (inr (enough, inr (v, rest, parts, extends, is, (none, ended)))) = absurd cc
 
   -- the value is spelled where it ends
@@ -110,7 +110,7 @@ module _ (syntax : Syntax) (last : Option Tag) (tag : Tag) (content : Content) (
   past_header tags large kept other octets answer listed (inl (f, leads, is)) = inr (f, inside_fault octets f leads, is)
   past_header tags large kept other octets answer listed (inr (v, rest, parts, leads, inl (d, spells, is))) =
       let value = inside_value v leads in
-      let all = kept_value tag vr value.0 d in
+      let all = without_group_length tag vr value.0 d in
       let es = kept_elements tag vr value.0 d dropped in
       inl (
         all,
@@ -135,7 +135,7 @@ module _ (syntax : Syntax) (last : Option Tag) (tag : Tag) (content : Content) (
   drop_header tags large kept other octets answer listed long (inl (f, leads, is)) = inr (f, inside_fault octets f leads, is)
   drop_header tags large kept other octets answer listed long (inr (v, rest, parts, leads, inl (d, spells, is))) =
       let value = inside_value v leads in
-      let all = kept_value tag vr value.0 d in
+      let all = without_group_length tag vr value.0 d in
       let es = kept_elements tag vr value.0 d dropped in
       let others = filter (is_listed tags) (elements_of d) in
       let o = other || list_any (λ (e : Element). not (is_listed tags e)) (cond dropped (elements_of d) (held_as value.0 ∷ elements_of d)) in
@@ -144,7 +144,7 @@ module _ (syntax : Syntax) (last : Option Tag) (tag : Tag) (content : Content) (
         more Filled syntax 16 last (header ++ octets) all tag content header v rest value.0 d placed is_header value.1 spells
             (ap (λ (x : List ℕ). header ++ x) parts) refl,
         is ∙ sym (judged_long 16 tag vr content v value.0 value.1 large dropped kept others o long)
-            ∙ ap (λ (xs : List Element). judged large (kept ++ xs) o) (filter_kept tags (held_as value.0) (elements_of d) dropped listed)
+            ∙ ap (λ (xs : List Element). sifted_or_too_long large (kept ++ xs) o) (filter_kept tags (held_as value.0) (elements_of d) dropped listed)
             ∙ ap (kept_of tags large kept other) es,
       )
   drop_header tags large kept other octets answer listed long (inr (v, rest, parts, leads, inr (f, faulty, is))) =
@@ -167,13 +167,13 @@ module _ (syntax : Syntax) (last : Option Tag) (tag : Tag) (content : Content) (
   into_header tags large kept other octets answer listed (inl (f, leads, is)) = inr (f, inside_fault octets f leads, is)
   into_header tags large kept other octets answer listed (inr (v, rest, parts, leads, follows)) =
       let value = inside_value v leads in
-      let one = kept_value tag vr value.0 no_elements in
+      let one = without_group_length tag vr value.0 no_elements in
       let alone : IsSpelled syntax (header ++ v) one =
       more Filled syntax 16 None (header ++ v) one tag content header v [] value.0 no_elements first_placed is_header value.1
       (no_more Filled syntax 16 (Some tag) [] refl) (ap (λ (x : List ℕ). header ++ x) (sym (append-nil v))) refl in
       elim (follows one alone) [
         | inl s ↦
-            let all = kept_value tag vr value.0 s.0 in
+            let all = without_group_length tag vr value.0 s.0 in
             let es = kept_elements tag vr value.0 s.0 dropped in
             let first = kept_elements tag vr value.0 no_elements dropped in
             inl (
@@ -194,12 +194,12 @@ module _ (syntax : Syntax) (last : Option Tag) (tag : Tag) (content : Content) (
 
 -- ---- steps in a value
 
-pub sifted_step : (walk : Walk) (taken : List ℕ) (walked : Walked) → LeadsOn walk taken walked → (follows later : List ℕ → List ℕ → Type 0)
+pub sifted_step : (walk : Walk) (taken : List ℕ) (walked : WalkStep) → LeadsOn walk taken walked → (follows later : List ℕ → List ℕ → Type 0)
     → ((v rest : List ℕ) → later v rest → follows (taken ++ v) rest) → (octets : List ℕ) (answer : Sifted)
     → SiftsOn (WalkedLeads walked) later octets answer → SiftsOn (WalkLeads walk) follows (taken ++ octets) answer
 sifted_step walk taken walked on follows later then octets answer h9 = grind (arith, append_assoc)
 
-pub sifts_more : (walked : Walked) (leads : List ℕ → Option ReadFault → Type 0)
+pub sifts_more : (walked : WalkStep) (leads : List ℕ → Option ReadFault → Type 0)
     → ((octets : List ℕ) (end : Option ReadFault) → WalkedLeads walked octets end → leads octets end)
     → (follows : List ℕ → List ℕ → Type 0) (octets : List ℕ) (answer : Sifted) → SiftsOn (WalkedLeads walked) follows octets answer
     → SiftsOn leads follows octets answer

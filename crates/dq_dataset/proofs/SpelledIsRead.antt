@@ -5,13 +5,13 @@ use Rattle.std.proofs.lemmas.List.{take_at, drop_at, length-append, append-nil}
 use Rattle.dq_dataset.proofs.Types.{Tag, Vr, Syntax, Bound, Filled, Content, Plain, Sequence, Element, Value, Octets, Items, ElementList, no_elements}
 use Rattle.dq_vr.specs.Dictionary.{known_vr}
 use Rattle.dq_dataset.specs.View.{elements_of, with_value}
-use Rattle.dq_dataset.specs.Rules.{vr_of, padded}
-use Rattle.dq_dataset.specs.Reading.{may_nest, length_of, fits, value_by, element_by, elements_after, elements_by, content_by, item_by, items_after, items_by, readers, reading}
-use Rattle.dq_dataset.specs.Grammar.{IsHeader, IsPlaced, IsEnd, IsItemHeader, Spells, no_more, more, SpellsValue, plain, nested, SpellsItems, no_item, one_item, bound_of, HasExtent, kept_value, IsSpelled}
+use Rattle.dq_dataset.specs.Rules.{vr_of, padded_value}
+use Rattle.dq_dataset.specs.Reading.{may_nest, length_of, fits_enclosing, value_by, element_by, elements_after, elements_by, content_by, item_by, items_after, items_by, readers, reading}
+use Rattle.dq_dataset.specs.Grammar.{IsHeader, IsPlaced, IsEnd, IsItemHeader, Spells, no_more, more, SpellsValue, plain, nested, SpellsItems, no_item, one_item, bound_of, HasExtent, without_group_length, IsSpelled}
 use Rattle.dq_dataset.proofs.Views.{as_elements-elements_of, elements_of-with_value}
 use Rattle.dq_dataset.proofs.Headers.{header_again, header_long, item_again, item_long, Trails, end_again, no_end_before, no_end_before_item}
 
-pub extent_fits : (extent : Option ℕ) (octets rest : List ℕ) → HasExtent extent octets → fits extent (octets ++ rest) ≡ true
+pub extent_fits : (extent : Option ℕ) (octets rest : List ℕ) → HasExtent extent octets → fits_enclosing extent (octets ++ rest) ≡ true
 extent_fits None octets rest has = refl
 extent_fits (Some n) octets rest has = le-leb n (length (octets ++ rest)) (omega (arith, length-append octets rest))
 
@@ -22,7 +22,7 @@ value_nests levels vr content octets held (plain _ _ n _ len) = refl
 value_nests levels vr content octets held (nested fewer _ syntax extent _ items has spells) = lt-ltb 0 (suc fewer) (omega arith)
 
 pub value_fits : (levels : ℕ) (vr : Vr) (content : Content) (octets : List ℕ) (held : Value) (rest : List ℕ) → SpellsValue levels vr content octets held
-    → fits (length_of content) (octets ++ rest) ≡ true
+    → fits_enclosing (length_of content) (octets ++ rest) ≡ true
 value_fits levels vr content octets held rest (plain _ _ n _ len) = extent_fits (Some n) octets rest len
 value_fits levels vr content octets held rest (nested fewer _ syntax extent _ items has spells) = extent_fits extent octets rest has
 
@@ -63,7 +63,7 @@ more_again : (bound : Bound) (syntax : Syntax) (levels : ℕ) (last : Option Tag
     (others : ElementList)
     → IsPlaced last tag → IsHeader syntax tag content header → SpellsValue levels (vr_of (known_vr tag) content) content value held
     → ValueAgain levels (vr_of (known_vr tag) content) content value held → ElementsAgain bound syntax levels (Some tag) rest others
-    → ElementsAgain bound syntax levels last (header ++ (value ++ rest)) (kept_value tag (vr_of (known_vr tag) content) held others)
+    → ElementsAgain bound syntax levels last (header ++ (value ++ rest)) (without_group_length tag (vr_of (known_vr tag) content) held others)
 unfolding readers elements_by element_by elements_after
 more_again bound syntax levels last tag content header value rest held others placed is_header spells value_again others_again t trails zero le =
     absurd (omega (arith, header_long syntax tag content header is_header, length-append header (value ++ rest), length-append (header ++ (value ++ rest)) t))
@@ -118,7 +118,7 @@ no_item_again : (bound : Bound) (syntax : Syntax) (levels : ℕ) (octets : List 
 unfolding readers items_by item_by items_after
 no_item_again bound syntax levels octets end t trails m le = rw (end_again bound 0xE0DD octets t (lit< tt) end trails) refl
 
-plain_again : (levels : ℕ) (vr : Vr) (n : ℕ) (octets : List ℕ) → length octets ≡ n → ValueAgain levels vr (Plain n) octets (Octets (padded vr octets))
+plain_again : (levels : ℕ) (vr : Vr) (n : ℕ) (octets : List ℕ) → length octets ≡ n → ValueAgain levels vr (Plain n) octets (Octets (padded_value vr octets))
 unfolding value_by
 plain_again levels vr n octets len t m le = rw (take_at octets t n len, drop_at octets t n len) refl
 

@@ -6,8 +6,8 @@ use Rattle.dq_dataset.proofs.Types.{Tag, Vr, LengthForm, Two, Four, Syntax, Impl
 use Rattle.dq_vr.specs.Dictionary.{known_vr}
 use Rattle.dq_vr.specs.Vr.{length_form_of}
 use Rattle.dq_dataset.specs.View.{items_of, with_value}
-use Rattle.dq_dataset.specs.Rules.{vr_of, padded, pad_of}
-use Rattle.dq_dataset.specs.Canonical.{header_of, item_header_of, canonical, canonical_items, HasLengths, ItemsHaveLengths}
+use Rattle.dq_dataset.specs.Rules.{vr_of, padded_value, pad_of}
+use Rattle.dq_dataset.specs.Canonical.{header_octets, item_header_of, canonical, canonical_items, HasLengths, ItemsHaveLengths}
 use Rattle.dq_dataset.specs.Grammar.{Spells, no_more, more, SpellsValue, plain, nested, SpellsItems, no_item, one_item, bound_of, IsSpelled}
 use Rattle.dq_dataset.proofs.Headers.{header_long, item_long}
 use Rattle.dq_dataset.proofs.Counted.{after_tag, implicit_header, explicit_header, item_header}
@@ -20,7 +20,7 @@ after_tag_short : (form : LengthForm) (n : ℕ) → after_tag form n ≤ 8
 after_tag_short Two n = short_choice (ltb 65534 n)
 after_tag_short Four n = omega arith
 
-length-header_of : (syntax : Syntax) (tag : Tag) (vr : Vr) (n : ℕ) → length (header_of syntax tag vr n) ≤ 12
+length-header_of : (syntax : Syntax) (tag : Tag) (vr : Vr) (n : ℕ) → length (header_octets syntax tag vr n) ≤ 12
 length-header_of Implicit tag vr n = omega (arith, implicit_header tag vr n)
 length-header_of Explicit tag vr n = omega (arith, explicit_header tag vr n, after_tag_short (length_form_of vr) n)
 
@@ -28,7 +28,7 @@ length-padded_by : (b : Bool) (octets : List ℕ) (pad : ℕ) → length (cond b
 length-padded_by true octets pad = omega arith
 length-padded_by false octets pad = rw length-append (omega arith)
 
-length-padded : (vr : Vr) (octets : List ℕ) → length (padded vr octets) ≤ length octets + 1
+length-padded : (vr : Vr) (octets : List ℕ) → length (padded_value vr octets) ≤ length octets + 1
 length-padded vr octets = length-padded_by (nat_eq (length octets % 2) 0) octets (pad_of vr)
 
 -- the canonical spelling, beside octets that spell the same
@@ -56,7 +56,7 @@ with_value_short : (to : Syntax) (tag : Tag) (vr : Vr) (held : Value) (others : 
 with_value_short to tag vr (Octets held) others header value rest long short tail =
     let all = three header value rest in
     let h = length-header_of to tag vr (length held) in
-    let written = three_left (header_of to tag vr (length held)) held (canonical to others) in
+    let written = three_left (header_octets to tag vr (length held)) held (canonical to others) in
     record {
       twice = omega (arith, all, h, written, tail.twice);
       lengths = λ small. (omega (arith, all), tail.lengths (omega (arith, all)));
@@ -65,7 +65,7 @@ with_value_short to tag vr (Items items) others header value rest long short tai
     let octets = canonical_items to (items_of items) in
     let all = three header value rest in
     let h = length-header_of to tag vr (length octets) in
-    let written = three_left (header_of to tag vr (length octets)) octets (canonical to others) in
+    let written = three_left (header_octets to tag vr (length octets)) octets (canonical to others) in
     record {
       twice = omega (arith, all, h, written, tail.twice, short.twice);
       lengths = λ small. (omega (arith, all, short.twice), short.lengths (omega (arith, all)), tail.lengths (omega (arith, all)));

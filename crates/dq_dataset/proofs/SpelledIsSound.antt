@@ -8,7 +8,7 @@ use Rattle.dq_dataset.proofs.Types.{Tag, Vr, BadUndefined, Syntax, Implicit, Exp
 use Rattle.dq_vr.specs.Dictionary.{known_vr}
 use Rattle.dq_vr.specs.Tag.{is_below}
 use Rattle.dq_dataset.specs.View.{items_of, with_value}
-use Rattle.dq_dataset.specs.Rules.{is_sequence, agrees, content_of, vr_of, padded, pad_of}
+use Rattle.dq_dataset.specs.Rules.{is_sequence, agrees, content_of, vr_of, padded_value, pad_of}
 use Rattle.dq_dataset.specs.Reading.{follows}
 use Rattle.dq_dataset.specs.Grammar.{IsHeader, IsPlaced, IsSpelling, Spells, no_more, more, SpellsValue, plain, nested, SpellsItems, no_item, one_item, bound_of, IsSpelled}
 use Rattle.dq_dataset.proofs.Fields.{done}
@@ -87,7 +87,7 @@ even_by : (b : Bool) (octets : List ℕ) (pad : ℕ) → nat_eq (length octets %
 even_by true octets pad e = eqb-true (length octets % 2) 0 e
 even_by false octets pad e = let odd = eqb-false (length octets % 2) 0 e in rw length-append (omega arith)
 
-even-padded : (vr : Vr) (octets : List ℕ) → length (padded vr octets) % 2 ≡ 0
+even-padded : (vr : Vr) (octets : List ℕ) → length (padded_value vr octets) % 2 ≡ 0
 even-padded vr octets = even_by (nat_eq (length octets % 2) 0) octets (pad_of vr) refl
 
 -- what a value has

@@ -4,9 +4,9 @@ use Rattle.std.proofs.lemmas.Bool.{ltb-true, leb-true}
 use Rattle.std.proofs.lemmas.List.{take-append-drop, length-take, length-append, append-nil}
 use Rattle.dq_dataset.proofs.Types.{Tag, Vr, ReadFault, Syntax, Bound, Filled, Delimited, Content, Plain, Sequence, Header, Value, Octets, Items, ElementList, no_elements}
 use Rattle.dq_vr.specs.Dictionary.{known_vr}
-use Rattle.dq_dataset.specs.Rules.{vr_of, padded, fits}
+use Rattle.dq_dataset.specs.Rules.{vr_of, padded_value, fits_enclosing}
 use Rattle.dq_dataset.specs.Reading.{may_nest, length_of, header_at, item_header_at, value_by, readers, reading}
-use Rattle.dq_dataset.specs.Grammar.{IsHeader, Spells, no_more, more, SpellsValue, plain, nested, SpellsItems, no_item, one_item, bound_of, HasExtent, kept_value, IsSpelled}
+use Rattle.dq_dataset.specs.Grammar.{IsHeader, Spells, no_more, more, SpellsValue, plain, nested, SpellsItems, no_item, one_item, bound_of, HasExtent, without_group_length, IsSpelled}
 use Rattle.dq_dataset.specs.Faults.{ends_here, HasReach, HasFault, at_header, in_value, after_element, ItemsHaveFault, at_item, in_item, after_item, IsFaulty}
 use Rattle.dq_dataset.proofs.Fields.{IsBytes, IsBytes-drop, IsBytes-take, ok_is, err_is, no_fault, Takes, Takes-then}
 use Rattle.dq_dataset.proofs.Headers.{ReadsHeader, header_takes, header_long, ReadsItem, item_takes, item_long, Trails, end_takes}
@@ -47,7 +47,7 @@ pub record AreTold (n : ℕ) : Type 0 where
 -- ---- what a length measures, or what ends with an end of its own
 
 -- the first octets, of which there are enough
-taken : (n : ℕ) (bytes : List ℕ) → IsBytes bytes → fits (Some n) bytes ≡ true → Takes bytes (take n bytes) (drop n bytes) × (length (take n bytes) ≡ n)
+taken : (n : ℕ) (bytes : List ℕ) → IsBytes bytes → fits_enclosing (Some n) bytes ≡ true → Takes bytes (take n bytes) (drop n bytes) × (length (take n bytes) ≡ n)
 taken n bytes ok enough =
     let le : n ≤ length bytes = leb-true n (length bytes) enough in
     (record { parts = sym (take-append-drop n bytes); rest_fits = IsBytes-drop n bytes ok }, omega (arith, length-take n bytes))
@@ -66,7 +66,7 @@ pub record FaultyBody (Faulty : List ℕ → ReadFault → Type 0) (extent : Opt
 
 module _ (X : Type 0) (Spelt : Bound → List ℕ → X → Type 0) (Faulty : Bound → List ℕ → ReadFault → Type 0) (n : ℕ)
     (told : (bound : Bound) (bytes : List ℕ) → IsBytes bytes → length bytes < n → Told X Spelt Faulty bound bytes) where
-  pub body_told : (extent : Option ℕ) (bytes : List ℕ) → fits extent bytes ≡ true → IsBytes bytes → length bytes < n
+  pub body_told : (extent : Option ℕ) (bytes : List ℕ) → fits_enclosing extent bytes ≡ true → IsBytes bytes → length bytes < n
       → ((x : X) × (rest : List ℕ) × Reads X (λ o y. HasExtent extent o × Spelt (bound_of extent) o y) bytes x rest)
       ⊎ FaultyBody (Faulty (bound_of extent)) extent bytes
   body_told (Some k) bytes enough ok lt =
@@ -107,11 +107,11 @@ abbrev ValueTold : ℕ → Vr → Content → List ℕ → Type 0
 ValueTold levels vr content bytes = ((held : Value) × (rest : List ℕ) × ReadsValue levels vr content bytes held rest) ⊎ FaultyValue levels content bytes
 
 module _ (n : ℕ) (told : AreTold n) where
-  value_told : (levels : ℕ) (vr : Vr) (content : Content) (bytes : List ℕ) → may_nest levels content ≡ true → fits (length_of content) bytes ≡ true
+  value_told : (levels : ℕ) (vr : Vr) (content : Content) (bytes : List ℕ) → may_nest levels content ≡ true → fits_enclosing (length_of content) bytes ≡ true
       → IsBytes bytes → length bytes < n → ValueTold levels vr content bytes
   value_told levels vr (Plain k) bytes nests enough ok lt =
       let t = taken k bytes ok enough in
-      inl (Octets (padded vr (take k bytes)), drop k bytes, reads (take k bytes) t.0 (plain levels vr k (take k bytes) t.1))
+      inl (Octets (padded_value vr (take k bytes)), drop k bytes, reads (take k bytes) t.0 (plain levels vr k (take k bytes) t.1))
   value_told zero vr (Sequence inner extent) bytes nests enough ok lt = absurd (omega (arith, ltb-true 0 0 nests))
   value_told (suc levels) vr (Sequence inner extent) bytes nests enough ok lt =
       let one_less : suc levels - 1 ≡ levels = omega arith in
@@ -136,7 +136,7 @@ module _ (n : ℕ) (told : AreTold n) where
         elim (told.elements syntax levels (Some h.tag) bound rest value.takes.rest_fits shorter) [
           | inl s ↦
               let all = header.octets ++ (value.octets ++ s.3.octets) in
-              let d = kept_value h.tag (vr_of (known_vr h.tag) h.content) held s.0 in
+              let d = without_group_length h.tag (vr_of (known_vr h.tag) h.content) held s.0 in
               let spells = more bound syntax levels last all d h.tag h.content header.octets value.octets s.3.octets held s.0
               header.placed header.header spelled s.3.spells refl refl in
               inl (d, s.1, s.2, reads all (takes_all bytes header.octets behind value.octets rest s.3.octets s.1 header.takes value.takes s.3.takes) spells)
@@ -146,7 +146,7 @@ module _ (n : ℕ) (told : AreTold n) where
               inr (f.0, faulty)
         ]
 
-    after_header : (h : Header) (behind : List ℕ) → ReadsHeader syntax levels last bytes h behind × (fits (length_of h.content) behind ≡ true)
+    after_header : (h : Header) (behind : List ℕ) → ReadsHeader syntax levels last bytes h behind × (fits_enclosing (length_of h.content) behind ≡ true)
         → ElementsTold syntax levels last bound bytes
     after_header h behind (header, whole) =
         let shorter : length behind < n =
@@ -246,7 +246,7 @@ read_is_faulty syntax octets f ok e =
 
 -- the same of a value behind a header
 module _ (levels : ℕ) (vr : Vr) (content : Content) (bytes : List ℕ)
-    (nests : may_nest levels content ≡ true) (enough : fits (length_of content) bytes ≡ true) (ok : IsBytes bytes) where
+    (nests : may_nest levels content ≡ true) (enough : fits_enclosing (length_of content) bytes ≡ true) (ok : IsBytes bytes) where
   abbrev answer : Result (Value × List ℕ) ReadFault
   answer = value_by (readers (length bytes + 1)) levels vr content bytes
 
@@ -286,7 +286,7 @@ module _ (levels : ℕ) (vr : Vr) (content : Content) (bytes : List ℕ)
       ]
 
 pub in_a_value : (bound : Bound) (syntax : Syntax) (levels : ℕ) (last : Option Tag) (bytes : List ℕ) (h : Header) (behind : List ℕ) (f : ReadFault)
-    → ReadsHeader syntax levels last bytes h behind × (fits (length_of h.content) behind ≡ true)
+    → ReadsHeader syntax levels last bytes h behind × (fits_enclosing (length_of h.content) behind ≡ true)
     → value_by (readers (length behind + 1)) levels h.vr h.content behind ≡ Err f
     → HasFault bound syntax levels last bytes f
 in_a_value bound syntax levels last bytes h behind f (header, whole) e =

@@ -8,12 +8,12 @@ use Rattle.dq_dataset.specs.declared.sieve.walk.Reach.TheVariants.{Measured, Wit
 use Rattle.dq_dataset.specs.declared.sieve.walk.Place.{Place}
 use Rattle.dq_dataset.specs.declared.sieve.walk.Place.TheVariants.{InItems, InElements}
 use Rattle.dq_dataset.specs.declared.sieve.walk.Walk.{Walk}
-use Rattle.dq_dataset.specs.declared.sieve.walk.Walked.TheVariants.{Failed}
-use Rattle.dq_dataset.specs.Rules.{fits}
+use Rattle.dq_dataset.specs.declared.sieve.walk.WalkStep.TheVariants.{Failed}
+use Rattle.dq_dataset.specs.Rules.{fits_enclosing}
 use Rattle.dq_dataset.specs.Reading.{front_at, item_front_at, end_at, may_nest, length_of}
 use Rattle.dq_dataset.specs.Grammar.{IsPlaced, IsHeader, IsItemHeader, no_more, no_item, IsEnd}
 use Rattle.dq_dataset.specs.Faults.{ends_here}
-use Rattle.dq_dataset.specs.Sifting.{bound_by, until_of, Finishes, IsLimit, LeadsTo, WalkLeads, AreNested, HasCome, HasEnd, LeadsOn, opened_reach, opened_left, HasRoom, HasNoRoom, place_in}
+use Rattle.dq_dataset.specs.Sifting.{bound_by, until_of, Finishes, IsSplitByReach, LeadsTo, WalkLeads, AreNested, HasCome, HasEnd, LeadsOn, opened_reach, opened_left, StaysWithin, HasNoRoom, place_of_value}
 use Rattle.dq_dataset.proofs.Fields.{IsBytes}
 use Rattle.dq_dataset.proofs.Headers.{front_takes, item_front_takes, end_takes}
 use Rattle.dq_dataset.proofs.Fronts.{front_is_all, item_front_is_all, open_here, front_fault_stays, item_fault_stays, part_is_open, item_part_is_open, unfit, item_unfit, not_some, end_is_all}
@@ -25,7 +25,7 @@ use Rattle.dq_dataset.proofs.WalkSteps.{come_within, come_some}
 -- ---- what is too long
 
 no_room_by : (reach : Reach) (extent : Option ℕ) (left : ℕ) (front t beyond : List ℕ) → HasNoRoom reach extent (left - length front)
-    → IsLimit reach left (front ++ t) beyond → fits extent t ≡ false
+    → IsSplitByReach reach left (front ++ t) beyond → fits_enclosing extent t ≡ false
 no_room_by reach extent left front t beyond over limit = grind (arith, lt-leb, length-append)
 
 -- ---- ends
@@ -99,7 +99,7 @@ module _ (walk : Walk) (syntax : Syntax) (levels : ℕ) (reach : Reach) (come : 
   }
 
   module _ (extent : Option ℕ) (rest : List ℕ) (after : ℕ) (e : item_front_at front ≡ Ok (extent, rest)) (after_is : after ≡ walk.left - length front)
-      (room : HasRoom reach extent after) (inner : Reach) (now : ℕ) (inner_is : inner ≡ opened_reach reach extent after)
+      (room : StaysWithin reach extent after) (inner : Reach) (now : ℕ) (inner_is : inner ≡ opened_reach reach extent after)
       (now_is : now ≡ opened_left reach extent after) where
     abbrev item_inner : Place
     item_inner = InElements syntax levels None inner
@@ -200,13 +200,13 @@ module _ (walk : Walk) (syntax : Syntax) (levels : ℕ) (last : Option Tag) (rea
         (no_room_by reach (length_of header.content) walk.left octets_of_header t beyond (rw after_is at over) limit)) leads);
   }
 
-  module _ (after : ℕ) (after_is : after ≡ walk.left - length octets_of_header) (room : HasRoom reach (length_of header.content) after)
+  module _ (after : ℕ) (after_is : after ≡ walk.left - length octets_of_header) (room : StaysWithin reach (length_of header.content) after)
       (inner : Reach) (now : ℕ) (inner_is : inner ≡ opened_reach reach (length_of header.content) after)
       (now_is : now ≡ opened_left reach (length_of header.content) after) where
     abbrev behind : Place
     behind = InElements syntax levels (Some header.tag) reach
 
-    pub element_nested : AreNested now (place_in header.content levels inner ∷ behind ∷ reverse walk.around.items)
+    pub element_nested : AreNested now (place_of_value header.content levels inner ∷ behind ∷ reverse walk.around.items)
     element_nested =
         let lies = rw place_is at come.nested.0 in
         let others = rw place_is at come.nested.1 in
@@ -215,7 +215,7 @@ module _ (walk : Walk) (syntax : Syntax) (levels : ℕ) (last : Option Tag) (rea
         (rw after_is (left_after reach walk.left (length octets_of_header) header_within)) room header_within lies others)
 
     pub element_leads : (octets : List ℕ) (end : Option ReadFault)
-        → LeadsTo now (place_in header.content levels inner ∷ behind ∷ reverse walk.around.items) octets end → WalkLeads walk octets end
+        → LeadsTo now (place_of_value header.content levels inner ∷ behind ∷ reverse walk.around.items) octets end → WalkLeads walk octets end
     element_leads octets end leads =
         rw place_is
         (element_entered syntax levels last header.tag header.content reach octets_of_header walk.left after whole.placed whole.is_header whole.nests

@@ -8,9 +8,9 @@ use Rattle.dq_dataset.specs.declared.sieve.walk.Reach.TheVariants.{Measured, Wit
 use Rattle.dq_dataset.specs.declared.sieve.walk.Place.{Place}
 use Rattle.dq_dataset.specs.declared.sieve.walk.Place.TheVariants.{InOctets}
 use Rattle.dq_dataset.specs.declared.sieve.walk.Walk.{Walk}
-use Rattle.dq_dataset.specs.declared.sieve.walk.Walked.{Walked}
-use Rattle.dq_dataset.specs.declared.sieve.walk.Walked.TheVariants.{On, Over, Failed}
-use Rattle.dq_dataset.specs.Sifting.{reach_of, bound_by, until_of, Extends, LeadsTo, FaultLeads, places_of, WalkLeads, WalkedLeads, LiesIn, AreNested, IsPart, HasMore, IsWalk, HasCome, HasEnd, LeadsOn, IsSettling, is_full, opened_reach, opened_left, place_in}
+use Rattle.dq_dataset.specs.declared.sieve.walk.WalkStep.{WalkStep}
+use Rattle.dq_dataset.specs.declared.sieve.walk.WalkStep.TheVariants.{On, Over, Failed}
+use Rattle.dq_dataset.specs.Sifting.{reach_of, bound_by, until_of, Extends, LeadsTo, FaultLeads, places_of, WalkLeads, WalkedLeads, LiesIn, AreNested, IsPart, HasMore, IsWalk, HasCome, HasEnd, LeadsOn, IsSettling, is_reached, opened_reach, opened_left, place_of_value}
 use Rattle.dq_dataset.specs.Reading.{length_of}
 use Rattle.dq_dataset.proofs.Walks.{Around, finished, part_is_cut_off, closed, popped}
 use Rattle.dq_dataset.proofs.Walks.{passed as passed_over}
@@ -23,25 +23,25 @@ come_within walk come = grind (arith, comes_within, endless_is_none)
 pub come_some : (walk : Walk) → HasCome walk → 0 < length walk.front.items
 come_some walk come = omega (arith, ap length come.is, length-append come.before (come.octet ∷ []))
 
-full_by : (reach : Reach) (left : ℕ) → is_full reach left ≡ true → (reach ≡ Within left) ⊎ (reach ≡ Measured left)
+full_by : (reach : Reach) (left : ℕ) → is_reached reach left ≡ true → (reach ≡ Within left) ⊎ (reach ≡ Measured left)
 full_by reach left full = grind (arith, eqb-true)
 
-pub full_filled : (reach : Reach) (left : ℕ) → is_full reach left ≡ true → bound_by reach ≡ Filled → reach ≡ Measured left
+pub full_filled : (reach : Reach) (left : ℕ) → is_reached reach left ≡ true → bound_by reach ≡ Filled → reach ≡ Measured left
 full_filled reach left full bound = grind (arith, eqb-true)
 
-pub full_delimited : (reach : Reach) (left : ℕ) → is_full reach left ≡ true → bound_by reach ≡ Delimited → reach ≡ Within left
+pub full_delimited : (reach : Reach) (left : ℕ) → is_reached reach left ≡ true → bound_by reach ≡ Delimited → reach ≡ Within left
 full_delimited reach left full bound = grind (arith, eqb-true)
 
 ne_lt : (a b : ℕ) → a ≤ b → (a ≡ b → ⊥) → a < b
 ne_lt a b le other = elim (cases_lt a b) [ inl lt ↦ lt | inr ge ↦ absurd (other (omega arith)) ]
 
-has_more_by : (reach : Reach) (left : ℕ) (front : List ℕ) → Around reach left (length front) → is_full reach (left - length front) ≡ false
+has_more_by : (reach : Reach) (left : ℕ) (front : List ℕ) → Around reach left (length front) → is_reached reach (left - length front) ≡ false
     → HasMore reach left front
 has_more_by reach left front within other = grind (arith, ne_lt, eqb-false)
 
 -- nothing is left for the rest of a header
 pub waits : (walk : Walk) → HasCome walk → IsPart walk.place walk.front.items
-    → is_full (reach_of walk.place) (walk.left - length walk.front.items) ≡ true → LeadsOn walk [] (Failed Truncated 0)
+    → is_reached (reach_of walk.place) (walk.left - length walk.front.items) ≡ true → LeadsOn walk [] (Failed Truncated 0)
 waits walk come part full =
     let within = come_within walk come in
     let some = come_some walk come in
@@ -56,7 +56,7 @@ waits walk come part full =
     }
 
 pub waits_on : (walk : Walk) → HasCome walk → IsPart walk.place walk.front.items
-    → is_full (reach_of walk.place) (walk.left - length walk.front.items) ≡ false → LeadsOn walk [] (On walk)
+    → is_reached (reach_of walk.place) (walk.left - length walk.front.items) ≡ false → LeadsOn walk [] (On walk)
 waits_on walk come part other = grind (arith, has_more_by, come_within)
 
 -- ---- settling
@@ -64,7 +64,7 @@ waits_on walk come part other = grind (arith, has_more_by, come_within)
 lies_within : (reach : Reach) (left : ℕ) (around : List Place) → LiesIn reach left around → Around reach left 0
 lies_within reach left around lies = grind arith
 
-pub settled_on : (walk : Walk) → IsSettling walk → is_full (reach_of walk.place) walk.left ≡ false → IsWalk walk
+pub settled_on : (walk : Walk) → IsSettling walk → is_reached (reach_of walk.place) walk.left ≡ false → IsWalk walk
 settled_on walk s other = grind (arith, none_is_part, has_more_by, lies_within)
 
 pub settled_cut : (walk : Walk) → IsSettling walk → reach_of walk.place ≡ Within walk.left → (octets : List ℕ) (end : Option ReadFault)
@@ -96,7 +96,7 @@ settled_once walk s is around place e =
 -- with a front, or none, and other octets
 pub record Next (walk : Walk) (taken : List ℕ) (next : Walk) : Type 0 where
   pub settling : IsSettling next
-  pub on : (walked : Walked) → LeadsOn next [] walked → LeadsOn walk taken walked
+  pub on : (walked : WalkStep) → LeadsOn next [] walked → LeadsOn walk taken walked
 
 next_by : (walk : Walk) (taken : List ℕ) (next : Walk) → IsSettling next
     → ((octets : List ℕ) (end : Option ReadFault) → LeadsTo next.left (places_of next) octets end → WalkLeads walk (taken ++ octets) end)
@@ -111,10 +111,10 @@ next_by walk taken next settling leads = record {
 }
 
 -- where the value of an outer element leads, once it is settled
-pub value_leads : (content : Content) (reach : Reach) (walk : Walk) (walked : Walked) → reach ≡ opened_reach Endless (length_of content) 0
-    → walk.left ≡ opened_left Endless (length_of content) 0 → walk.place ≡ place_in content 16 reach → walk.around.items ≡ []
+pub value_leads : (content : Content) (reach : Reach) (walk : Walk) (walked : WalkStep) → reach ≡ opened_reach Endless (length_of content) 0
+    → walk.left ≡ opened_left Endless (length_of content) 0 → walk.place ≡ place_of_value content 16 reach → walk.around.items ≡ []
     → walk.front.items ≡ [] → LeadsOn walk [] walked → (octets : List ℕ) (end : Option ReadFault) → WalkedLeads walked octets end
-    → LeadsTo (opened_left Endless (length_of content) 0) (place_in content 16 (opened_reach Endless (length_of content) 0) ∷ []) octets end
+    → LeadsTo (opened_left Endless (length_of content) 0) (place_of_value content 16 (opened_reach Endless (length_of content) 0) ∷ []) octets end
 value_leads content reach walk walked reach_is left_is place_is around_is front_is on octets end m = grind arith
 
 -- octets of a value are passed over
@@ -180,6 +180,6 @@ enters walk next behind lies leads around_is front_is =
 -- an octet of a header comes
 pub comes : (walk next : Walk) (octets : List ℕ) (octet : ℕ) → IsWalk walk → 0 < length octets → octet ≡ get_or octets 0 0
     → next.left ≡ walk.left → next.place ≡ walk.place → next.around.items ≡ walk.around.items → next.front.items ≡ walk.front.items ++ octet ∷ []
-    → HasCome next × ((walked : Walked) → LeadsOn next [] walked → LeadsOn walk (take 1 octets) walked)
+    → HasCome next × ((walked : WalkStep) → LeadsOn next [] walked → LeadsOn walk (take 1 octets) walked)
 comes walk next [] octet is some at left_is place_is around_is front_is = absurd (omega arith)
 comes walk next (o ∷ octets) octet is some at left_is place_is around_is front_is = grind (arith, append_assoc)

@@ -8,7 +8,7 @@ use Rattle.dq_dataset.specs.declared.sieve.walk.Reach.TheVariants.{Measured, Wit
 use Rattle.dq_dataset.specs.declared.sieve.walk.Place.{Place}
 use Rattle.dq_dataset.specs.declared.sieve.walk.Place.TheVariants.{InOctets, InItems, InElements}
 use Rattle.dq_dataset.specs.Grammar.{no_more, no_item}
-use Rattle.dq_dataset.specs.Sifting.{reach_of, bound_by, Finishes, Stops, Extends, IsLimit, Leads, LeadsTo, FaultLeads, AreNested, IsPart, HasMore}
+use Rattle.dq_dataset.specs.Sifting.{reach_of, bound_by, Finishes, HasFirstFault, Extends, IsSplitByReach, Leads, LeadsTo, FaultLeads, AreNested, IsPart, HasMore}
 use Rattle.dq_dataset.proofs.Fronts.{truncated, item_truncated}
 
 -- ---- one place
@@ -54,7 +54,7 @@ pub record Near (reach : Reach) (left : ℕ) (front octets : List ℕ) : Type 0 
   pub t : List ℕ
   pub beyond : List ℕ
   pub parts : octets ≡ t ++ beyond
-  pub limit : IsLimit reach left (front ++ t) beyond
+  pub limit : IsSplitByReach reach left (front ++ t) beyond
 
 near_by : (until left : ℕ) (front octets : List ℕ) → length front + until ≤ left → left ≤ length (front ++ octets)
     → length (front ++ take (left - until - length front) octets) + until ≡ left
@@ -77,7 +77,7 @@ short_of reach left front octets within short = grind (arith, length-append)
 -- a fault of the front and of all that is within reach behind it
 pub failed : (place : Place) (around : List Place) (left : ℕ) (front octets : List ℕ) (fault : ReadFault) (end : Option ReadFault)
     → Around (reach_of place) left (length front)
-    → ((t beyond : List ℕ) → IsLimit (reach_of place) left (front ++ t) beyond → Stops place (front ++ t) fault)
+    → ((t beyond : List ℕ) → IsSplitByReach (reach_of place) left (front ++ t) beyond → HasFirstFault place (front ++ t) fault)
     → FaultLeads fault (left - length front) octets end → LeadsTo left (place ∷ around) (front ++ octets) end
 failed place around left front octets fault end within stops (inl (short, cut)) = inl (short_of (reach_of place) left front octets within short, cut)
 failed place around left front octets fault end within stops (inr (enough, is)) =
@@ -99,7 +99,7 @@ failed place around left front octets fault end within stops (inr (enough, is)) 
 -- the same, where it is Truncated in any case
 pub cut_off : (place : Place) (around : List Place) (left missing : ℕ) (front octets : List ℕ) (end : Option ReadFault)
     → Around (reach_of place) left (length front)
-    → ((t beyond : List ℕ) → IsLimit (reach_of place) left (front ++ t) beyond → Stops place (front ++ t) Truncated)
+    → ((t beyond : List ℕ) → IsSplitByReach (reach_of place) left (front ++ t) beyond → HasFirstFault place (front ++ t) Truncated)
     → FaultLeads Truncated missing octets end → LeadsTo left (place ∷ around) (front ++ octets) end
 cut_off place around left missing front octets end within stops leads =
     let is : end ≡ Some Truncated = elim leads [ inl x ↦ x.1 | inr x ↦ x.1 ] in
@@ -110,7 +110,7 @@ cut_off place around left missing front octets end within stops leads =
 
 -- what is not whole is Truncated where nothing follows
 pub stops_in_part : (place : Place) (front : List ℕ) → IsPart place front → (bound_by (reach_of place) ≡ Delimited) ⊎ (0 < length front)
-    → Stops place front Truncated
+    → HasFirstFault place front Truncated
 stops_in_part place front is h = grind (arith, item_truncated, truncated)
 
 nothing_near : (front t beyond : List ℕ) (until left : ℕ) → length (front ++ t) + until ≡ left → length front + until ≡ left → front ++ t ≡ front
@@ -125,7 +125,7 @@ part_is_cut_off place around left missing until front octets end is h9 full lead
     grind (arith, cut_off, nothing_near, stops_in_part)
 
 -- with no defined length around, all that came is within reach
-unfinished_endless : (place : Place) (around : List Place) (left : ℕ) (front : List ℕ) → reach_of place ≡ Endless → left ≡ 0 → Stops place front Truncated
+unfinished_endless : (place : Place) (around : List Place) (left : ℕ) (front : List ℕ) → reach_of place ≡ Endless → left ≡ 0 → HasFirstFault place front Truncated
     → LeadsTo left (place ∷ around) front (Some Truncated)
 unfinished_endless place around left front endless none stops =
     inr (

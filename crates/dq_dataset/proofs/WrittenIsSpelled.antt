@@ -7,9 +7,9 @@ use Rattle.dq_dataset.proofs.Types.{Content, Tag, Vr, AE, SQ, UN, LengthForm, Tw
 use Rattle.dq_vr.specs.Dictionary.{known_vr}
 use Rattle.dq_vr.specs.Vr.{length_form_of, letters_of, vr_with_letters}
 use Rattle.dq_dataset.specs.View.{list_of, with_value}
-use Rattle.dq_dataset.specs.Rules.{is_sequence, agrees, content_of, padded}
-use Rattle.dq_dataset.specs.Canonical.{tag_octets, long_length, vr_and_length, header_of, item_header_of, canonical, canonical_items, HasLengths, ItemsHaveLengths}
-use Rattle.dq_dataset.specs.Grammar.{IsLengthBehind, IsSpelling, IsHeader, IsPlaced, IsItemHeader, Spells, no_more, more, SpellsValue, plain, nested, SpellsItems, no_item, one_item, kept_value, IsSpelled}
+use Rattle.dq_dataset.specs.Rules.{is_sequence, agrees, content_of, padded_value}
+use Rattle.dq_dataset.specs.Canonical.{tag_octets, long_length, vr_and_length, header_octets, item_header_of, canonical, canonical_items, HasLengths, ItemsHaveLengths}
+use Rattle.dq_dataset.specs.Grammar.{IsLengthBehind, IsSpelling, IsHeader, IsPlaced, IsItemHeader, Spells, no_more, more, SpellsValue, plain, nested, SpellsItems, no_item, one_item, without_group_length, IsSpelled}
 use Rattle.dq_dataset.specs.Facts.{IsElementTag, IsPlain, IsSequence, AreElements, AreItems, IsDataSet}
 use Rattle.dq_dataset.specs.Written.{IsReadBack, HaveKnownSequences}
 use Rattle.dq_dataset.proofs.Views.{items_of-list_of}
@@ -106,16 +106,16 @@ module _ (named : LettersName) where
   plain_explicit tag vr n Four form own lt = own_header tag vr n (long_length n) own (rw form (long_after n lt))
 
   plain_header : (syntax : Syntax) (tag : Tag) (vr : Vr) (n : ℕ) → IsOwn tag vr → n < 0xFFFFFFFF
-      → IsHeader syntax tag (Plain n) (header_of syntax tag vr n)
-  unfolding header_of
+      → IsHeader syntax tag (Plain n) (header_octets syntax tag vr n)
+  unfolding header_octets
   plain_header Implicit tag vr n (own, other) lt =
       header_with Implicit tag (Plain n) None n (to_le_bytes w32 n) (content_plain (known_vr tag) None n refl other) (lt, refl)
   plain_header Explicit tag vr n own lt = plain_explicit tag vr n (length_form_of vr) refl own lt
 
   sequence_header : (syntax : Syntax) (tag : Tag) (n : ℕ) (rest : ElementList) (items : ItemList)
       → (is_none (known_vr tag) || is_sequence (known_vr tag)) ≡ true → IsReadBack syntax (sequence tag SQ items rest) → n < 0xFFFFFFFF
-      → IsHeader syntax tag (Sequence syntax (Some n)) (header_of syntax tag SQ n)
-  unfolding header_of vr_and_length length_form_of content_of
+      → IsHeader syntax tag (Sequence syntax (Some n)) (header_octets syntax tag SQ n)
+  unfolding header_octets vr_and_length length_form_of content_of
   sequence_header Implicit tag n rest items allowed back lt =
       header_with Implicit tag (Sequence Implicit (Some n)) None n (to_le_bytes w32 n) (rw back.0 refl) (lt, refl)
   sequence_header Explicit tag n rest items allowed back lt =
@@ -133,11 +133,11 @@ module _ (named : LettersName) where
 
   even_value : (levels : ℕ) (vr : Vr) (octets : List ℕ) → length octets % 2 ≡ 0 → SpellsValue levels vr (Plain (length octets)) octets (Octets octets)
   even_value levels vr octets e =
-      let same : padded vr octets ≡ octets = rw (eq-eqb (length octets % 2) 0 e) refl in
+      let same : padded_value vr octets ≡ octets = rw (eq-eqb (length octets % 2) 0 e) refl in
       subst (λ (x : List ℕ). SpellsValue levels vr (Plain (length octets)) octets (Octets x)) same (plain levels vr (length octets) octets refl)
 
   not_dropped : (tag : Tag) (vr : Vr) (held : Value) (rest : ElementList) → tag.element ≢ 0
-      → with_value (record { tag = tag; vr = vr; value = held }) held rest ≡ kept_value tag vr held rest
+      → with_value (record { tag = tag; vr = vr; value = held }) held rest ≡ without_group_length tag vr held rest
   not_dropped tag vr held rest ne = rw (ne_eqb tag.element 0 ne) refl
 
   back_rest : (syntax : Syntax) (tag : Tag) (vr : Vr) (items : ItemList) (rest : ElementList) → IsReadBack syntax (sequence tag vr items rest)
@@ -160,11 +160,11 @@ module _ (named : LettersName) where
       → Spells Filled syntax levels last (canonical syntax (element tag vr octets rest)) (element tag vr octets rest)
   plain_spelled syntax levels last tag vr octets rest t p lt spells =
       more Filled syntax levels last (canonical syntax (element tag vr octets rest)) (element tag vr octets rest) tag (Plain (length octets))
-      (header_of syntax tag vr (length octets)) octets (canonical syntax rest) (Octets octets) rest
+      (header_octets syntax tag vr (length octets)) octets (canonical syntax rest) (Octets octets) rest
       (placed last tag t) (plain_header syntax tag vr (length octets) (p.by_dictionary, p.no_sequence) lt)
       (even_value levels (unwrap_or (known_vr tag) UN) octets p.even) spells
-      (append_assoc (header_of syntax tag vr (length octets)) octets (canonical syntax rest))
-      (not_dropped tag vr (Octets octets) rest t.no_length ∙ ap (λ (x : Vr). kept_value tag x (Octets octets) rest) p.by_dictionary)
+      (append_assoc (header_octets syntax tag vr (length octets)) octets (canonical syntax rest))
+      (not_dropped tag vr (Octets octets) rest t.no_length ∙ ap (λ (x : Vr). without_group_length tag x (Octets octets) rest) p.by_dictionary)
 
   nested_spelled : (syntax : Syntax) (levels : ℕ) (last : Option Tag) (tag : Tag) (vr : Vr) (items : ItemList) (rest : ElementList) → IsElementTag last tag
       → IsSequence tag vr → 0 < levels
@@ -177,17 +177,17 @@ module _ (named : LettersName) where
       let one_less : suc fewer - 1 ≡ fewer = omega arith in
       let octets = canonical_items syntax items in
       let back_sq = subst (λ (x : Vr). IsReadBack syntax (sequence tag x items rest)) p.is_sq back in
-      let head = subst (λ (x : Vr). IsHeader syntax tag (Sequence syntax (Some (length octets))) (header_of syntax tag x (length octets))) (sym p.is_sq)
+      let head = subst (λ (x : Vr). IsHeader syntax tag (Sequence syntax (Some (length octets))) (header_octets syntax tag x (length octets))) (sym p.is_sq)
       (sequence_header syntax tag (length octets) rest items p.allowed back_sq lt) in
       let value = nested fewer SQ syntax (Some (length octets)) octets (list_of items) refl
       (subst (λ (k : ℕ). SpellsItems Filled syntax k octets (list_of items)) one_less inner) in
       more Filled syntax (suc fewer) last (canonical syntax (sequence tag vr items rest)) (sequence tag vr items rest) tag
       (Sequence syntax (Some (length octets)))
-      (header_of syntax tag vr (length octets)) octets (canonical syntax rest) (Items (list_of items)) rest
+      (header_octets syntax tag vr (length octets)) octets (canonical syntax rest) (Items (list_of items)) rest
       (placed last tag t) head value spells
-      (append_assoc (header_of syntax tag vr (length octets)) octets (canonical syntax rest))
+      (append_assoc (header_octets syntax tag vr (length octets)) octets (canonical syntax rest))
       (ap (λ (x : ItemList). sequence tag vr x rest) (sym (items_of-list_of items)) ∙ not_dropped tag vr (Items (list_of items)) rest t.no_length
-      ∙ ap (λ (x : Vr). kept_value tag x (Items (list_of items)) rest) p.is_sq)
+      ∙ ap (λ (x : Vr). without_group_length tag x (Items (list_of items)) rest) p.is_sq)
 
   mutual
     written : (syntax : Syntax) (levels : ℕ) (last : Option Tag) (d : ElementList) → AreElements levels last d → HasLengths syntax d → IsReadBack syntax d

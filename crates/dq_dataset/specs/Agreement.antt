@@ -12,15 +12,15 @@ use Rattle.dq_dataset.specs.declared.data_set.Value.{Value}
 use Rattle.dq_dataset.specs.declared.data_set.Value.TheVariants.{Octets, Items}
 use Rattle.dq_dataset.specs.Tree.{ElementList, no_elements}
 use Rattle.dq_dataset.specs.View.{elements_of}
-use Rattle.dq_dataset.specs.Rules.{padded, vr_of}
-use Rattle.dq_dataset.specs.Grammar.{IsPlaced, IsHeader, SpellsValue, SpellsItems, kept_value, IsSpelled}
+use Rattle.dq_dataset.specs.Rules.{padded_value, vr_of}
+use Rattle.dq_dataset.specs.Grammar.{IsPlaced, IsHeader, SpellsValue, SpellsItems, without_group_length, IsSpelled}
 use Rattle.dq_dataset.specs.Faults.{HasFault}
 use Rattle.dq_dataset.specs.Lending.{Spelled}
 
 -- The octets are those of the value before its pad, or spell its items, up to the last one, in the
 -- syntax that is lent.
 abbrev pub IsLentValue : Spelled → Value → Type 0
-IsLentValue spelled (Octets held) = held ≡ padded spelled.vr spelled.octets
+IsLentValue spelled (Octets held) = held ≡ padded_value spelled.vr spelled.octets
 IsLentValue spelled (Items items) = SpellsItems Filled spelled.syntax 15 spelled.octets items
 
 pub record IsLent (spelled : Spelled) (element : Element) : Type 0 where
@@ -56,7 +56,7 @@ pub data FaultAfter : Syntax → Option Tag → List ℕ → ElementList → Rea
       → SpellsValue 16 (vr_of (known_vr tag) content) content value held
       → FaultAfter syntax (Some tag) rest others fault
       → octets ≡ header ++ (value ++ rest)
-      → all ≡ kept_value tag (vr_of (known_vr tag) content) held others
+      → all ≡ without_group_length tag (vr_of (known_vr tag) content) held others
       → FaultAfter syntax last octets all fault
 
 -- One is lent for each element of the data set, or for each before the first fault, and then that.

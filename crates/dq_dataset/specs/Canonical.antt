@@ -26,9 +26,9 @@ vr_and_length Two vr n =
     if nat_lt 65534 n then letters_of UN ++ long_length n else letters_of vr ++ to_le_bytes w16 n
 vr_and_length Four vr n = letters_of vr ++ long_length n
 
-unfoldable pub header_of : Syntax → Tag → Vr → ℕ → List ℕ
-header_of Implicit tag vr n = tag_octets tag ++ to_le_bytes w32 n
-header_of Explicit tag vr n = tag_octets tag ++ vr_and_length (length_form_of vr) vr n
+unfoldable pub header_octets : Syntax → Tag → Vr → ℕ → List ℕ
+header_octets Implicit tag vr n = tag_octets tag ++ to_le_bytes w32 n
+header_octets Explicit tag vr n = tag_octets tag ++ vr_and_length (length_form_of vr) vr n
 
 unfoldable pub item_header_of : ℕ → List ℕ
 item_header_of n = tag_octets (record { group = 0xFFFE; element = 0xE000 }) ++ to_le_bytes w32 n
@@ -37,9 +37,9 @@ abbrev mutual
   pub canonical : Syntax → ElementList → List ℕ
   canonical syntax no_elements = []
   canonical syntax (element tag vr octets rest) =
-      header_of syntax tag vr (length octets) ++ octets ++ canonical syntax rest
+      header_octets syntax tag vr (length octets) ++ octets ++ canonical syntax rest
   canonical syntax (sequence tag vr items rest) =
-      header_of syntax tag vr (length (canonical_items syntax items))
+      header_octets syntax tag vr (length (canonical_items syntax items))
       ++ canonical_items syntax items ++ canonical syntax rest
 
   pub canonical_items : Syntax → ItemList → List ℕ

@@ -28,5 +28,5 @@ merged_elements kept [] = kept
 merged_elements kept (e ∷ sent) =
     elements_below e.tag kept ++ e ∷ merged_elements (elements_above e.tag kept) sent
 
-abbrev pub merged : ElementList → ElementList → ElementList
-merged kept sent = as_elements (merged_elements (elements_of kept) (elements_of sent))
+abbrev pub merged_data_set : ElementList → ElementList → ElementList
+merged_data_set kept sent = as_elements (merged_elements (elements_of kept) (elements_of sent))

@@ -4,11 +4,11 @@ use Rattle.dq_dataset.specs.declared.fault.ReadFault.{ReadFault}
 use Rattle.dq_dataset.specs.declared.fault.ReadFault.TheVariants.{Truncated, BadVr, TagOrder}
 use Rattle.dq_dataset.specs.declared.fault.ReadFault.TheVariants.{BadItem, BadUndefined, TooDeep, NoMemory}
 
-abbrev pub number_of : ReadFault → ℕ
-number_of Truncated = 1
-number_of BadVr = 2
-number_of TagOrder = 3
-number_of BadItem = 4
-number_of BadUndefined = 5
-number_of TooDeep = 6
-number_of NoMemory = 7
+abbrev pub read_fault_number : ReadFault → ℕ
+read_fault_number Truncated = 1
+read_fault_number BadVr = 2
+read_fault_number TagOrder = 3
+read_fault_number BadItem = 4
+read_fault_number BadUndefined = 5
+read_fault_number TooDeep = 6
+read_fault_number NoMemory = 7

@@ -18,7 +18,7 @@ use Rattle.dq_dataset.specs.declared.header.Content.{Content}
 use Rattle.dq_dataset.specs.declared.header.Content.TheVariants.{Sequence}
 use Rattle.dq_dataset.specs.declared.data_set.Value.{Value}
 use Rattle.dq_dataset.specs.Tree.{ElementList}
-use Rattle.dq_dataset.specs.Rules.{is_sequence, is_unknown, agrees, vr_of, follows, fits}
+use Rattle.dq_dataset.specs.Rules.{is_sequence, is_unknown, agrees, vr_of, follows, fits_enclosing}
 use Rattle.dq_dataset.specs.Grammar.{IsHeader, IsPlaced, IsItemHeader, HasExtent, Spells, SpellsValue, bound_of}
 
 -- ---- the fields of a header, at their places
@@ -31,12 +31,12 @@ abbrev pub tag_in : List ℕ → Tag
 tag_in octets = record { group = number_in w16 0 octets; element = number_in w16 2 octets }
 
 -- The VR that is spelled, which only Explicit has.
-abbrev pub vr_in : Syntax → List ℕ → Option Vr
-vr_in Implicit octets = None
-vr_in Explicit octets = vr_with_letters (take 2 (drop 4 octets))
+abbrev pub spelled_vr : Syntax → List ℕ → Option Vr
+spelled_vr Implicit octets = None
+spelled_vr Explicit octets = vr_with_letters (take 2 (drop 4 octets))
 
-abbrev pub defined : ℕ → Option ℕ
-defined n = if n == 0xFFFFFFFF then None else Some n
+abbrev pub defined_length : ℕ → Option ℕ
+defined_length n = if n == 0xFFFFFFFF then None else Some n
 
 abbrev pub size_by : LengthForm → ℕ
 size_by Two = 8
@@ -49,11 +49,11 @@ header_size (Some vr) = size_by (length_form_of vr)
 
 abbrev pub extent_by : LengthForm → List ℕ → Option ℕ
 extent_by Two octets = Some (number_in w16 6 octets)
-extent_by Four octets = defined (number_in w32 8 octets)
+extent_by Four octets = defined_length (number_in w32 8 octets)
 
 -- The length of the value, None where it is undefined.
 abbrev pub extent_in : Option Vr → List ℕ → Option ℕ
-extent_in None octets = defined (number_in w32 4 octets)
+extent_in None octets = defined_length (number_in w32 4 octets)
 extent_in (Some vr) octets = extent_by (length_form_of vr) octets
 
 -- ---- the faults at a header, in their order
@@ -80,7 +80,7 @@ abbrev pub faults_of_content : ℕ → Option Vr → Option Vr → Option ℕ �
 faults_of_content levels known spelled extent rest =
     (is_none extent && not (holds_items known spelled extent), BadUndefined) ∷
     (holds_items known spelled extent && (levels == 0), TooDeep) ∷
-    (not (fits extent rest), Truncated) ∷ []
+    (not (fits_enclosing extent rest), Truncated) ∷ []
 
 abbrev pub faults_of_header : Syntax → ℕ → Option Tag → Tag → Option Vr → List ℕ
     → List (Bool × ReadFault)
@@ -96,14 +96,14 @@ faults_of_header syntax levels last tag spelled octets =
 -- At the header of an element after the tag last, with so many more levels of sequences allowed.
 abbrev pub header_faults : Syntax → ℕ → Option Tag → List ℕ → List (Bool × ReadFault)
 header_faults syntax levels last octets =
-    faults_of_header syntax levels last (tag_in octets) (vr_in syntax octets) octets
+    faults_of_header syntax levels last (tag_in octets) (spelled_vr syntax octets) octets
 
 -- At the header of an item.
 abbrev pub item_faults : List ℕ → List (Bool × ReadFault)
 item_faults octets =
     (nat_lt (length octets) 8, Truncated) ∷
     (not (((tag_in octets).group == 0xFFFE) && ((tag_in octets).element == 0xE000)), BadItem) ∷
-    (not (fits (defined (number_in w32 4 octets)) (drop 8 octets)), Truncated) ∷ []
+    (not (fits_enclosing (defined_length (number_in w32 4 octets)) (drop 8 octets)), Truncated) ∷ []
 
 -- ---- the first fault
 

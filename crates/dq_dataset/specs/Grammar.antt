@@ -1,6 +1,6 @@
 -- The grammar of data sets (PS3.5 sections 7.1, 7.2 and 7.5), on whole octets: which octets spell
 -- which elements.
-use Rattle.std.specs.Prelude.{◌≡◌, ◌≢◌, ℕ, suc, ◌<◌, ◌^◌, List, [], ◌∷◌, ◌++◌, length, slice_index, Option, Some, None, Ok, true, ◌==◌, if◌then◌else◌}
+use Rattle.std.specs.Prelude.{◌≡◌, ◌≢◌, ℕ, suc, ◌<◌, ◌^◌, List, [], ◌∷◌, ◌++◌, length, Option, Some, None, Ok, true, ◌==◌, if◌then◌else◌}
 use Rattle.std.specs.Int.{w16, w32, to_le_bytes}
 use Rattle.dq_vr.specs.declared.Tag.{Tag}
 use Rattle.dq_vr.specs.declared.Vr.{Vr}
@@ -18,11 +18,8 @@ use Rattle.dq_dataset.specs.declared.data_set.Value.{Value}
 use Rattle.dq_dataset.specs.declared.data_set.Value.TheVariants.{Octets, Items}
 use Rattle.dq_dataset.specs.Tree.{ElementList, no_elements}
 use Rattle.dq_dataset.specs.View.{with_value}
-use Rattle.dq_dataset.specs.Rules.{agrees, content_of, vr_of, padded, follows}
+use Rattle.dq_dataset.specs.Rules.{agrees, content_of, vr_of, padded_value, follows}
 use Rattle.dq_dataset.specs.Canonical.{tag_octets}
-
-abbrev pub AreOctets : List ℕ → Type 0
-AreOctets octets = (i : ℕ) → slice_index octets i < 256
 
 -- ---- headers
 
@@ -90,8 +87,8 @@ IsEnd Filled element octets = octets ≡ []
 IsEnd Delimited element octets = octets ≡ delimiter element ++ to_le_bytes w32 0
 
 -- Group lengths, element number 0000, are no part of the data set.
-abbrev pub kept_value : Tag → Vr → Value → ElementList → ElementList
-kept_value tag vr value others =
+abbrev pub without_group_length : Tag → Vr → Value → ElementList → ElementList
+without_group_length tag vr value others =
     if tag.element == 0 then others
     else with_value (record { tag = tag; vr = vr; value = value }) value others
 
@@ -108,13 +105,13 @@ mutual
         → SpellsValue levels (vr_of (known_vr tag) content) content value held
         → Spells bound syntax levels (Some tag) rest others
         → octets ≡ header ++ (value ++ rest)
-        → all ≡ kept_value tag (vr_of (known_vr tag) content) held others
+        → all ≡ without_group_length tag (vr_of (known_vr tag) content) held others
         → Spells bound syntax levels last octets all
 
   -- The octets spell a value: so many octets, which get a pad where they are odd, or items.
   pub data SpellsValue : ℕ → Vr → Content → List ℕ → Value → Type 0 where
     plain : (levels : ℕ) (vr : Vr) (n : ℕ) (octets : List ℕ) → length octets ≡ n
-        → SpellsValue levels vr (Plain n) octets (Octets (padded vr octets))
+        → SpellsValue levels vr (Plain n) octets (Octets (padded_value vr octets))
     nested : (levels : ℕ) (vr : Vr) (syntax : Syntax) (extent : Option ℕ) (octets : List ℕ)
         (items : List ElementList)
         → HasExtent extent octets → SpellsItems (bound_of extent) syntax levels octets items

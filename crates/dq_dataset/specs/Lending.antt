@@ -28,9 +28,9 @@ abbrev pub header_in : Option (Header × Value) → Option Header
 header_in None = None
 header_in (Some found) = Some found.0
 
-abbrev pub header_of : Result (Option (Header × Value) × List ℕ) ReadFault
+abbrev pub front_header : Result (Option (Header × Value) × List ℕ) ReadFault
     → Result (Option Header × List ℕ) ReadFault
-header_of read = read >>= λ x. Ok (header_in x.0, x.1)
+front_header read = read >>= λ x. Ok (header_in x.0, x.1)
 
 -- Whether an item was read, and what is left after it.
 abbrev pub is_there : {X : Type 0} → Option X → Option (Unit {0})
@@ -42,9 +42,9 @@ abbrev pub item_of : {X : Type 0} → Result (Option X × List ℕ) ReadFault
 item_of read = read >>= λ x. Ok (is_there x.0, x.1)
 
 -- The octets of a value before the rest. An end of its own has 8 octets.
-abbrev pub value_octets : Option ℕ → List ℕ → List ℕ → List ℕ
-value_octets (Some n) octets rest = take n octets
-value_octets None octets rest = take (length octets - length rest - 8) octets
+abbrev pub octets_before_rest : Option ℕ → List ℕ → List ℕ → List ℕ
+octets_before_rest (Some n) octets rest = take n octets
+octets_before_rest None octets rest = take (length octets - length rest - 8) octets
 
 -- The syntax of a value's items. Other values have that of their data set.
 abbrev pub inner_syntax : Syntax → Content → Syntax
@@ -57,7 +57,7 @@ unfoldable pub next_at : Syntax → Option Tag → List ℕ
 next_at syntax last octets = do
   header ← header_at syntax 16 last octets
   value ← value_by (readers (length header.1 + 1)) 16 header.0.vr header.0.content header.1
-  Ok ((header.0, value_octets (length_of header.0.content) header.1 value.1), value.1)
+  Ok ((header.0, octets_before_rest (length_of header.0.content) header.1 value.1), value.1)
 
 abbrev pub spelled_as : Syntax → Header → List ℕ → Spelled
 spelled_as outer header octets = record {
@@ -85,5 +85,5 @@ lent_in (suc n) syntax last octets =
 abbrev pub lent_from : Syntax → Option Tag → List ℕ → List (Result Spelled ReadFault)
 lent_from syntax last octets = lent_in (length octets) syntax last octets
 
-abbrev pub lent : Syntax → List ℕ → List (Result Spelled ReadFault)
-lent syntax octets = lent_from syntax None octets
+abbrev pub lent_elements : Syntax → List ℕ → List (Result Spelled ReadFault)
+lent_elements syntax octets = lent_from syntax None octets

@@ -6,6 +6,6 @@ use Rattle.dq_dataset.specs.declared.data_set.Value.TheVariants.{Octets, Items}
 use Rattle.dq_dataset.specs.View.{items_of}
 use Rattle.dq_dataset.specs.Canonical.{canonical_items}
 
-abbrev pub value_octets : Syntax → Value → ℕ
-value_octets syntax (Octets octets) = length octets
-value_octets syntax (Items items) = length (canonical_items syntax (items_of items))
+abbrev pub value_octet_count : Syntax → Value → ℕ
+value_octet_count syntax (Octets octets) = length octets
+value_octet_count syntax (Items items) = length (canonical_items syntax (items_of items))

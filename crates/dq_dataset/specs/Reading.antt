@@ -21,8 +21,8 @@ use Rattle.dq_dataset.specs.declared.header.Header.{Header}
 use Rattle.dq_dataset.specs.declared.data_set.Element.{Element}
 use Rattle.dq_dataset.specs.declared.data_set.Value.{Value}
 use Rattle.dq_dataset.specs.declared.data_set.Value.TheVariants.{Octets, Items}
-use Rattle.dq_dataset.specs.Rules.{agrees, content_of, vr_of, padded}
-pub use Rattle.dq_dataset.specs.Rules.{follows, fits}
+use Rattle.dq_dataset.specs.Rules.{agrees, content_of, vr_of, padded_value}
+pub use Rattle.dq_dataset.specs.Rules.{follows, fits_enclosing}
 use Rattle.dq_dataset.specs.Tree.{ElementList}
 use Rattle.dq_dataset.specs.View.{as_elements}
 
@@ -38,9 +38,9 @@ Answers view (Ok x) read = read ≡ Ok (view x)
 Answers view (Err e) read = read ≡ Err e
 
 -- The same of a function that takes memory, which may run out.
-abbrev pub Gives : {X Y : Type 0} → (X → Y) → Result X ReadFault → Result Y ReadFault → Type 0
-Gives view (Ok x) read = read ≡ Ok (view x)
-Gives view (Err e) read = (e ≡ NoMemory) ⊎ (read ≡ Err e)
+abbrev pub GivesOrReadFault : {X Y : Type 0} → (X → Y) → Result X ReadFault → Result Y ReadFault → Type 0
+GivesOrReadFault view (Ok x) read = read ≡ Ok (view x)
+GivesOrReadFault view (Err e) read = (e ≡ NoMemory) ⊎ (read ≡ Err e)
 
 abbrev pub check : Bool → ReadFault → Result (Unit {0}) ReadFault
 check holds fault = if holds then Ok tt else Err fault
@@ -119,7 +119,7 @@ front_at syntax levels last octets = do
 unfoldable pub header_at : Syntax → ℕ → Option Tag → List ℕ → Result (Header × List ℕ) ReadFault
 header_at syntax levels last octets = do
   header ← front_at syntax levels last octets
-  whole ← check (fits (length_of header.0.content) header.1) Truncated
+  whole ← check (fits_enclosing (length_of header.0.content) header.1) Truncated
   Ok header
 
 -- The header of an item, and its length, before it is known whether the item fits.
@@ -133,7 +133,7 @@ item_front_at octets = do
 unfoldable pub item_header_at : List ℕ → Result (Option ℕ × List ℕ) ReadFault
 item_header_at octets = do
   n ← item_front_at octets
-  whole ← check (fits n.0 n.1) Truncated
+  whole ← check (fits_enclosing n.0 n.1) Truncated
   Ok n
 
 -- What is left after the end that stands here: the octets' own end, or, where the length is
@@ -159,7 +159,7 @@ pub record Readers : Type 0 where
 
 -- A value: octets, which get a pad where they are odd, or items.
 unfoldable pub value_by : Readers → ℕ → Vr → Content → List ℕ → Result (Value × List ℕ) ReadFault
-value_by next levels vr (Plain n) octets = Ok (Octets (padded vr (take n octets)), drop n octets)
+value_by next levels vr (Plain n) octets = Ok (Octets (padded_value vr (take n octets)), drop n octets)
 value_by next levels vr (Sequence syntax (Some n)) octets = do
   items ← next.items Filled syntax (levels - 1) (take n octets)
   Ok (Items items.0, drop n octets)
@@ -177,8 +177,8 @@ element_by next bound syntax levels last octets = do
       Ok (Some (header.0, value.0), value.1))
 
 -- A group length, element number 0000, is dropped (PS3.5 section 7.2).
-abbrev pub kept : Header → Value → List Element → List Element
-kept header value others =
+abbrev pub unless_group_length : Header → Value → List Element → List Element
+unless_group_length header value others =
     if header.tag.element == 0 then others
     else record { tag = header.tag; vr = header.vr; value = value } ∷ others
 
@@ -187,7 +187,7 @@ unfoldable pub elements_after : Readers → Bound → Syntax → ℕ → Option 
 elements_after next bound syntax levels None rest = Ok ([], rest)
 elements_after next bound syntax levels (Some first) rest = do
   others ← next.elements bound syntax levels (Some first.0.tag) rest
-  Ok (kept first.0 first.1 others.0, others.1)
+  Ok (unless_group_length first.0 first.1 others.0, others.1)
 
 unfoldable pub elements_by : Readers → Bound → Syntax → ℕ → Option Tag → List ℕ
     → Result (List Element × List ℕ) ReadFault

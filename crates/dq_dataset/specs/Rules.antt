@@ -49,8 +49,8 @@ vr_of known (Sequence syntax length) = SQ
 abbrev pub pad_of : Vr → ℕ
 pad_of vr = if is_text vr then 0x20 else 0
 
-abbrev pub padded : Vr → List ℕ → List ℕ
-padded vr value = if length value % 2 == 0 then value else value ++ pad_of vr ∷ []
+abbrev pub padded_value : Vr → List ℕ → List ℕ
+padded_value vr value = if length value % 2 == 0 then value else value ++ pad_of vr ∷ []
 
 -- Tags rise.
 abbrev pub follows : Option Tag → Tag → Bool
@@ -58,6 +58,6 @@ follows None tag = true
 follows (Some last) tag = is_below last tag
 
 -- A defined length stays within what is left of the octets that enclose it.
-abbrev pub fits : Option ℕ → List ℕ → Bool
-fits None octets = true
-fits (Some n) octets = nat_le n (length octets)
+abbrev pub fits_enclosing : Option ℕ → List ℕ → Bool
+fits_enclosing None octets = true
+fits_enclosing (Some n) octets = nat_le n (length octets)

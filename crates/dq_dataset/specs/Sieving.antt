@@ -15,7 +15,7 @@ use Rattle.dq_dataset.specs.declared.sieve.Sifted.TheVariants.{Large, Fault}
 use Rattle.dq_dataset.specs.declared.sieve.Outer.{Outer}
 use Rattle.dq_dataset.specs.declared.sieve.Stage.{Stage}
 use Rattle.dq_dataset.specs.declared.sieve.Stage.TheVariants.{Between, Past, Into, Stopped}
-use Rattle.dq_dataset.specs.declared.sieve.walk.Walked.{Walked}
+use Rattle.dq_dataset.specs.declared.sieve.walk.WalkStep.{WalkStep}
 use Rattle.dq_dataset.specs.declared.sieve.SieveState.{SieveState}
 use Rattle.dq_dataset.specs.declared.sieve.SieveState.TheVariants.{Sifting, Spent}
 use Rattle.dq_dataset.specs.Tree.{ElementList}
@@ -32,16 +32,16 @@ tag_is_listed tags tag =
     list_any (λ (t : Tag). (tag.group == t.group) && (tag.element == t.element)) tags
 
 -- What is answered where the elements that were kept passed the limit, and where they did not.
-abbrev pub judged : Bool → List Element → Bool → Sifted
-judged true kept other = Large
-judged false kept other = sifted_of (as_elements kept) other
+abbrev pub sifted_or_too_long : Bool → List Element → Bool → Sifted
+sifted_or_too_long true kept other = Large
+sifted_or_too_long false kept other = sifted_of (as_elements kept) other
 
 -- What the octets after the tag last add to the elements that are kept.
 abbrev pub SiftsFrom : Syntax → List Tag → Option Tag → Bool → List Element → Bool → List ℕ → Sifted
     → Type 0
 SiftsFrom syntax tags last large kept other octets answer =
     ((d : ElementList) × Spells Filled syntax 16 last octets d
-    × (answer ≡ judged large (kept ++ filter (is_listed tags) (elements_of d))
+    × (answer ≡ sifted_or_too_long large (kept ++ filter (is_listed tags) (elements_of d))
     (other || has_other tags d)))
     ⊎ ((fault : ReadFault) × HasFault Filled syntax 16 last octets fault × (answer ≡ Fault fault))
 
@@ -100,7 +100,7 @@ IsStage outer (Into walk came) = IsWalk walk
 IsStage outer (Stopped fault missing) = Unit {0}
 
 -- What was made of a sieve by the octets taken.
-pub record GoesOn (tags : List Tag) (outer : Outer) (stage : Stage) (taken : List ℕ)
+pub record SieveGoesOn (tags : List Tag) (outer : Outer) (stage : Stage) (taken : List ℕ)
     (next : Outer) (then : Stage) : Type 0 where
   pub sound : IsStage next then
   pub within : IsWithinLimit outer → IsWithinLimit next
@@ -135,13 +135,13 @@ IsSieve tags (Sifting outer stage) = (octets : List ℕ) × HasFed outer.syntax 
 IsSieve tags Spent = Unit {0}
 
 -- What a walk past a value, and one into a value, is followed by.
-abbrev pub PastBy : Walked → Stage → Type 0
+abbrev pub PastBy : WalkStep → Stage → Type 0
 PastBy walked stage =
     (outer : Outer) (tags : List Tag) (octets : List ℕ) (answer : Sifted)
     → StageSifts tags outer stage octets answer
     → SiftsOn (WalkedLeads walked) (FollowsPast tags outer answer) octets answer
 
-pub record IntoBy (outer : Outer) (walked : Walked) (came : List ℕ) (next : Outer) (then : Stage)
+pub record IntoBy (outer : Outer) (walked : WalkStep) (came : List ℕ) (next : Outer) (then : Stage)
     : Type 0 where
   pub sound : IsStage next then
   pub within : IsWithinLimit outer → IsWithinLimit next
@@ -156,7 +156,7 @@ kept_unless_over true es = []
 kept_unless_over false es = es
 
 -- The elements join those that are kept. Once they pass the limit nothing is held.
-pub record Keeps (outer : Outer) (es : List Element) (next : Outer) : Type 0 where
+pub record KeepsElements (outer : Outer) (es : List Element) (next : Outer) : Type 0 where
   pub syntax : next.syntax ≡ outer.syntax
   pub last : next.last ≡ outer.last
   pub other : next.other ≡ outer.other

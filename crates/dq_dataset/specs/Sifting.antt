@@ -14,10 +14,10 @@ use Rattle.dq_dataset.specs.declared.sieve.walk.Reach.TheVariants.{Measured, Wit
 use Rattle.dq_dataset.specs.declared.sieve.walk.Place.{Place}
 use Rattle.dq_dataset.specs.declared.sieve.walk.Place.TheVariants.{InOctets, InItems, InElements}
 use Rattle.dq_dataset.specs.declared.sieve.walk.Walk.{Walk}
-use Rattle.dq_dataset.specs.declared.sieve.walk.Walked.{Walked}
-use Rattle.dq_dataset.specs.declared.sieve.walk.Walked.TheVariants.{On, Over, Failed}
-use Rattle.dq_dataset.specs.declared.sieve.walk.Met.{Met}
-use Rattle.dq_dataset.specs.declared.sieve.walk.Met.TheVariants.{Part, End, Whole, Bad}
+use Rattle.dq_dataset.specs.declared.sieve.walk.WalkStep.{WalkStep}
+use Rattle.dq_dataset.specs.declared.sieve.walk.WalkStep.TheVariants.{On, Over, Failed}
+use Rattle.dq_dataset.specs.declared.sieve.walk.HeaderFound.{HeaderFound}
+use Rattle.dq_dataset.specs.declared.sieve.walk.HeaderFound.TheVariants.{Part, End, Whole, Bad}
 use Rattle.dq_dataset.specs.declared.header.Header.{Header}
 use Rattle.dq_dataset.specs.Reading.{front_at, item_front_at, end_at}
 use Rattle.dq_dataset.specs.Tree.{ElementList}
@@ -50,11 +50,11 @@ Finishes (InElements syntax levels last reach) octets =
     (d : ElementList) × Spells (bound_by reach) syntax levels last octets d
 
 -- The octets, which are all within reach, have this first fault.
-abbrev pub Stops : Place → List ℕ → ReadFault → Type 0
-Stops (InOctets until) octets fault = ⊥
-Stops (InItems syntax levels reach) octets fault =
+abbrev pub HasFirstFault : Place → List ℕ → ReadFault → Type 0
+HasFirstFault (InOctets until) octets fault = ⊥
+HasFirstFault (InItems syntax levels reach) octets fault =
     ItemsHaveFault (bound_by reach) syntax levels octets fault
-Stops (InElements syntax levels last reach) octets fault =
+HasFirstFault (InElements syntax levels last reach) octets fault =
     HasFault (bound_by reach) syntax levels last octets fault
 
 -- How long a value may be, where so many octets of the outermost length are left before it.
@@ -64,10 +64,10 @@ Extends (Within until) left value = length value + until ≤ left
 Extends Endless left value = Unit {0}
 
 -- The octets within reach, and those beyond it.
-abbrev pub IsLimit : Reach → ℕ → List ℕ → List ℕ → Type 0
-IsLimit (Measured until) left near beyond = length near + until ≡ left
-IsLimit (Within until) left near beyond = length near + until ≡ left
-IsLimit Endless left near beyond = beyond ≡ []
+abbrev pub IsSplitByReach : Reach → ℕ → List ℕ → List ℕ → Type 0
+IsSplitByReach (Measured until) left near beyond = length near + until ≡ left
+IsSplitByReach (Within until) left near beyond = length near + until ≡ left
+IsSplitByReach Endless left near beyond = beyond ≡ []
 
 -- ---- where octets lead
 
@@ -76,9 +76,9 @@ pub record Stopped (place : Place) (left : ℕ) (octets : List ℕ) (end : Optio
   pub near : List ℕ
   pub beyond : List ℕ
   pub parts : octets ≡ near ++ beyond
-  pub limit : IsLimit (reach_of place) left near beyond
+  pub limit : IsSplitByReach (reach_of place) left near beyond
   pub fault : ReadFault
-  pub stops : Stops place near fault
+  pub stops : HasFirstFault place near fault
   pub is : end ≡ Some fault
 
 -- With the innermost place first: the octets lead to the end of all places, or to a fault.
@@ -109,7 +109,7 @@ abbrev pub WalkLeads : Walk → List ℕ → Option ReadFault → Type 0
 WalkLeads walk octets end =
     LeadsTo walk.left (places_of walk) (walk.front.items ++ octets) end
 
-abbrev pub WalkedLeads : Walked → List ℕ → Option ReadFault → Type 0
+abbrev pub WalkedLeads : WalkStep → List ℕ → Option ReadFault → Type 0
 WalkedLeads (On walk) octets end = WalkLeads walk octets end
 WalkedLeads Over octets end = (octets ≡ []) × (end ≡ None)
 WalkedLeads (Failed fault missing) octets end = FaultLeads fault missing octets end
@@ -132,10 +132,10 @@ opened_left Endless None left = left
 opened_left Endless (Some n) left = n
 
 -- A defined length stays within reach, as far as that is known.
-abbrev pub HasRoom : Reach → Option ℕ → ℕ → Type 0
-HasRoom (Measured until) (Some n) left = n + until ≤ left
-HasRoom (Within until) (Some n) left = n + until ≤ left
-HasRoom reach extent left = Unit {0}
+abbrev pub StaysWithin : Reach → Option ℕ → ℕ → Type 0
+StaysWithin (Measured until) (Some n) left = n + until ≤ left
+StaysWithin (Within until) (Some n) left = n + until ≤ left
+StaysWithin reach extent left = Unit {0}
 
 abbrev pub HasNoRoom : Reach → Option ℕ → ℕ → Type 0
 HasNoRoom (Measured until) (Some n) left = left < n + until
@@ -143,9 +143,9 @@ HasNoRoom (Within until) (Some n) left = left < n + until
 HasNoRoom reach extent left = ⊥
 
 -- The place of a value, behind the header of an element.
-abbrev pub place_in : Content → ℕ → Reach → Place
-place_in (Plain n) levels reach = InOctets (until_of reach)
-place_in (Sequence syntax extent) levels reach = InItems syntax (levels - 1) reach
+abbrev pub place_of_value : Content → ℕ → Reach → Place
+place_of_value (Plain n) levels reach = InOctets (until_of reach)
+place_of_value (Sequence syntax extent) levels reach = InItems syntax (levels - 1) reach
 
 -- ---- what holds of a walk
 
@@ -192,7 +192,7 @@ pub record IsWalk (walk : Walk) : Type 0 where
   pub part : IsPart walk.place walk.front.items
   pub more : HasMore (reach_of walk.place) walk.left walk.front.items
 
-abbrev pub IsWalked : Walked → Type 0
+abbrev pub IsWalked : WalkStep → Type 0
 IsWalked (On walk) = IsWalk walk
 IsWalked Over = Unit {0}
 IsWalked (Failed fault missing) = Unit {0}
@@ -207,10 +207,10 @@ pub record HasCome (walk : Walk) : Type 0 where
   pub nested : AreNested walk.left (places_of walk)
 
 -- Nothing more is within reach.
-abbrev pub is_full : Reach → ℕ → Bool
-is_full (Measured until) left = until == left
-is_full (Within until) left = until == left
-is_full Endless left = false
+abbrev pub is_reached : Reach → ℕ → Bool
+is_reached (Measured until) left = until == left
+is_reached (Within until) left = until == left
+is_reached Endless left = false
 
 -- The octets that came are the end of what is open.
 pub record HasEnd (place : Place) (front : List ℕ) : Type 0 where
@@ -218,7 +218,7 @@ pub record HasEnd (place : Place) (front : List ℕ) : Type 0 where
   pub reach : (reach_of place ≡ Within (until_of (reach_of place))) ⊎ (reach_of place ≡ Endless)
 
 -- What the octets that came are: not yet a header, an end, a header, or a fault.
-abbrev pub ItemMet : Bound → List ℕ → Met (Option ℕ) → Type 0
+abbrev pub ItemMet : Bound → List ℕ → HeaderFound (Option ℕ) → Type 0
 ItemMet bound front Part = item_front_at front ≡ Err Truncated
 ItemMet bound front End = (rest : List ℕ) × (end_at bound 0xE0DD front ≡ Ok (Some rest))
 ItemMet bound front (Whole extent) = (rest : List ℕ) × (item_front_at front ≡ Ok (extent, rest))
@@ -226,7 +226,7 @@ ItemMet bound front (Bad fault) =
     ((rest : List ℕ) → end_at bound 0xE0DD front ≡ Ok (Some rest) → ⊥)
     × (item_front_at front ≡ Err fault) × (fault ≢ Truncated)
 
-abbrev pub ElementMet : Syntax → ℕ → Option Tag → Bound → List ℕ → Met Header → Type 0
+abbrev pub ElementMet : Syntax → ℕ → Option Tag → Bound → List ℕ → HeaderFound Header → Type 0
 ElementMet syntax levels last bound front Part = front_at syntax levels last front ≡ Err Truncated
 ElementMet syntax levels last bound front End =
     (rest : List ℕ) × (end_at bound 0xE00D front ≡ Ok (Some rest))
@@ -237,7 +237,7 @@ ElementMet syntax levels last bound front (Bad fault) =
     × (front_at syntax levels last front ≡ Err fault) × (fault ≢ Truncated)
 
 -- What was made of a walk by the octets taken.
-pub record LeadsOn (walk : Walk) (taken : List ℕ) (walked : Walked) : Type 0 where
+pub record LeadsOn (walk : Walk) (taken : List ℕ) (walked : WalkStep) : Type 0 where
   pub sound : IsWalked walked
   pub leads : (octets : List ℕ) (end : Option ReadFault) → WalkedLeads walked octets end
       → WalkLeads walk (taken ++ octets) end

@@ -2,7 +2,7 @@
 use Rattle.std.specs.Prelude.{ℕ, List, [], find, Option, Some, None}
 use Rattle.dq_vr.specs.declared.Tag.{Tag}
 use Rattle.dq_vr.specs.declared.Vr.{Vr}
-use Rattle.dq_value.specs.Parts.{parts, sole}
+use Rattle.dq_value.specs.Parts.{element_values, sole}
 use Rattle.dq_dataset.specs.declared.data_set.Element.{Element}
 use Rattle.dq_dataset.specs.declared.data_set.Value.{Value}
 use Rattle.dq_dataset.specs.declared.data_set.Value.TheVariants.{Octets, Items}
@@ -17,13 +17,13 @@ abbrev pub value_octets : Value → List ℕ
 value_octets (Octets octets) = octets
 value_octets (Items items) = []
 
-abbrev pub octets_in : Option Element → List ℕ
-octets_in None = []
-octets_in (Some e) = value_octets e.value
+abbrev pub element_octets : Option Element → List ℕ
+element_octets None = []
+element_octets (Some e) = value_octets e.value
 
 -- an element that is absent, and a sequence, have no values; each value is trimmed
 abbrev pub values_of : Vr → Value → List (List ℕ)
-values_of vr (Octets octets) = parts vr octets
+values_of vr (Octets octets) = element_values vr octets
 values_of vr (Items items) = []
 
 abbrev pub values_in : Option Element → List (List ℕ)

@@ -1,8 +1,8 @@
 //! Checking the octets of nested data sets, as reading does, with no memory.
 ghost use Rattle.std.specs.Prelude.{◌≡◌, ℕ, ◌<◌, ◌≤◌, true, None, length, IfOk, OnSome};
 ghost use Rattle.dq_vr.specs.declared.Vr.{Vr};
-ghost use Rattle.dq_dataset.specs.Reading.{Answers, readers, may_nest, length_of, fits, value_by, element_by, content_by, item_by};
-ghost use Rattle.dq_dataset.specs.Lending.{rest_of, header_of, item_of};
+ghost use Rattle.dq_dataset.specs.Reading.{Answers, readers, may_nest, length_of, fits_enclosing, value_by, element_by, content_by, item_by};
+ghost use Rattle.dq_dataset.specs.Lending.{rest_of, front_header, item_of};
 
 use crate::fault::ReadFault;
 use crate::header::{
@@ -15,7 +15,7 @@ use dq_vr::Tag;
 #[tactic(auto, unfolding(crate::specs::Reading::value_by))]
 pub fn value_end<'a>(levels: u8, content: Content, octets: &'a [u8]) -> Result<&'a [u8], ReadFault>
     requires nests { may_nest levels content ≡ true }
-    requires whole { fits (length_of content) octets.now ≡ true }
+    requires whole { fits_enclosing (length_of content) octets.now ≡ true }
     ensures value { (vr : Vr) (n : ℕ) → length octets.now < n
         → Answers (λ x. x.now) result
         (rest_of (value_by (readers n) levels vr content octets.now)) }
@@ -54,7 +54,7 @@ fn element_end<'a>(
 ) -> Result<(Option<Header>, &'a [u8]), ReadFault>
     ensures value { (n : ℕ) → length octets.now ≤ n
         → Answers (λ x. (x.0, x.1.now)) result
-        (header_of (element_by (readers n) level.bound level.syntax level.levels last octets.now)) }
+        (front_header (element_by (readers n) level.bound level.syntax level.levels last octets.now)) }
     ensures shorter { IfOk result (λ x. length x.1.now ≤ length octets.now) }
     ensures goes_on { IfOk result (λ x. OnSome x.0 (length x.1.now < length octets.now)) }
 {
@@ -93,7 +93,7 @@ fn content_end<'a>(
     extent: Option<u32>,
     octets: &'a [u8],
 ) -> Result<&'a [u8], ReadFault>
-    requires whole { fits extent octets.now ≡ true }
+    requires whole { fits_enclosing extent octets.now ≡ true }
     ensures value { (n : ℕ) → length octets.now < n
         → Answers (λ x. x.now) result
         (rest_of (content_by (readers n) level.syntax level.levels extent octets.now)) }

@@ -2,7 +2,7 @@
 ghost use Rattle.std.specs.Prelude.{◌≡◌, ◌+◌, ◌<◌, [], ◌∷◌, length, IfOk, IfNone, IfSome};
 ghost use Rattle.dq_dataset.specs.View.{as_elements};
 ghost use Rattle.dq_dataset.specs.Facts.{IsDataSet};
-ghost use Rattle.dq_dataset.specs.Editing.{is_listed, cut_out, merged_elements, merged};
+ghost use Rattle.dq_dataset.specs.Editing.{is_listed, cut_out, merged_elements, merged_data_set};
 
 use crate::data_set::{DataSet, Element};
 use dq_vr::Tag;
@@ -26,7 +26,7 @@ impl DataSet {
     /// A copy of the data set with the elements of another: each takes the place of the one with
     /// its tag, or joins the others in the order of tags.
     pub fn merged(&self, alloc: Global, sent: &DataSet) -> Result<DataSet, AllocError>
-        ensures { IfOk result (λ all. all ≡ merged self.now sent.now) }
+        ensures { IfOk result (λ all. all ≡ merged_data_set self.now sent.now) }
     {
         let mut elements = Vec::new(alloc);
         let mut kept = self.elements();

@@ -32,11 +32,11 @@ pub enum ReadFault {
 }
 
 impl ReadFault {
-    ghost use Rattle.dq_dataset.specs.FaultNumbers.{number_of};
+    ghost use Rattle.dq_dataset.specs.FaultNumbers.{read_fault_number};
 
     /// 1 to 7, in the order in which the faults are declared.
     pub fn number(self) -> u8
-        ensures { result ≡ number_of self }
+        ensures { result ≡ read_fault_number self }
     {
         self as u8
     }

@@ -3,7 +3,7 @@ ghost use Rattle.std.specs.Prelude.{◌≡◌, true, ◌+◌, ◌≤◌, length,
 ghost use Rattle.std.specs.Int.{w16, w32};
 ghost use Rattle.std.specs.Option.{option_copied};
 ghost use Rattle.dq_dataset.specs.Rules.{is_sequence, is_unknown, agrees, content_of, vr_of};
-ghost use Rattle.dq_dataset.specs.Reading.{Answers, tag_at, number_at, long_length_at, length_at, vr_at, spelling_at, front_at, header_at, item_front_at, item_header_at, end_at, follows, may_nest, length_of, fits};
+ghost use Rattle.dq_dataset.specs.Reading.{Answers, tag_at, number_at, long_length_at, length_at, vr_at, spelling_at, front_at, header_at, item_front_at, item_header_at, end_at, follows, may_nest, length_of, fits_enclosing};
 
 use crate::fault::ReadFault;
 use dq_vr::{LengthForm, Tag, Vr, length_form, lookup};
@@ -252,7 +252,7 @@ pub fn length_of(content: Content) -> Option<u32>
 }
 
 fn fits(length: Option<u32>, octets: &[u8]) -> bool
-    ensures { result ≡ fits length octets.now }
+    ensures { result ≡ fits_enclosing length octets.now }
 {
     match length {
         None => true,
@@ -301,7 +301,7 @@ pub fn header_at(
     ensures value { Answers (λ x. (x.0, x.1.now)) result (header_at syntax levels last octets.now) }
     ensures shorter { IfOk result (λ x. length x.1.now + 8 ≤ length octets.now) }
     ensures nests { IfOk result (λ x. may_nest levels x.0.content ≡ true) }
-    ensures whole { IfOk result (λ x. fits (length_of x.0.content) x.1.now ≡ true) }
+    ensures whole { IfOk result (λ x. fits_enclosing (length_of x.0.content) x.1.now ≡ true) }
 {
     let (header, rest) = front_at(syntax, levels, last, octets)?;
     if !fits(length_of(header.content), rest) {
@@ -328,7 +328,7 @@ pub fn item_front_at(octets: &[u8]) -> Result<(Option<u32>, &[u8]), ReadFault>
 pub fn item_header_at(octets: &[u8]) -> Result<(Option<u32>, &[u8]), ReadFault>
     ensures value { Answers (λ x. (x.0, x.1.now)) result (item_header_at octets.now) }
     ensures shorter { IfOk result (λ x. length x.1.now + 8 ≤ length octets.now) }
-    ensures whole { IfOk result (λ x. fits x.0 x.1.now ≡ true) }
+    ensures whole { IfOk result (λ x. fits_enclosing x.0 x.1.now ≡ true) }
 {
     let (length, rest) = item_front_at(octets)?;
     if !fits(length, rest) {

@@ -1,19 +1,20 @@
 //! Laws of the definitions, which the contracts of functions with no body name.
 ghost use Rattle.std.specs.Prelude.{◌≡◌, ◌≢◌, ◌⊎◌, ◌↔◌, ◌<◌, ◌^◌, ◌++◌, List, ℕ, length, None, true};
+ghost use Rattle.dq_list.specs.Octets.{AreOctets};
 ghost use Rattle.dq_dataset.specs.declared.fault.ReadFault.{ReadFault};
 ghost use Rattle.dq_dataset.specs.declared.fault.ReadFault.TheVariants.{Truncated};
 ghost use Rattle.dq_dataset.specs.declared.header.Syntax.{Syntax};
 ghost use Rattle.dq_dataset.specs.Tree.{ElementList};
 ghost use Rattle.dq_dataset.specs.Reading.{reading};
-ghost use Rattle.dq_dataset.specs.Grammar.{AreOctets, IsSpelled};
+ghost use Rattle.dq_dataset.specs.Grammar.{IsSpelled};
 ghost use Rattle.dq_dataset.specs.Facts.{IsDataSet};
 ghost use Rattle.dq_dataset.specs.Faults.{IsFaulty};
 ghost use Rattle.dq_dataset.specs.Canonical.{canonical, HasLengths};
 ghost use Rattle.dq_dataset.specs.Written.{IsReadBack};
-ghost use Rattle.dq_dataset.specs.Editing.{cut_out, merged};
+ghost use Rattle.dq_dataset.specs.Editing.{cut_out, merged_data_set};
 ghost use Rattle.dq_dataset.specs.Same.{same_element};
 ghost use Rattle.dq_dataset.specs.declared.data_set.Element.{Element};
-ghost use Rattle.dq_dataset.specs.Lending.{lent};
+ghost use Rattle.dq_dataset.specs.Lending.{lent_elements};
 ghost use Rattle.dq_dataset.specs.Agreement.{FaultAfter, AgreesWith};
 ghost use Rattle.dq_vr.specs.declared.Tag.{Tag};
 
@@ -79,7 +80,7 @@ pub fn fault_law()
 /// there is one.
 pub fn lending_law()
     ensures lent { (syntax : Syntax) (octets : List ℕ) → AreOctets octets
-        → AgreesWith syntax octets (lent syntax octets) }
+        → AgreesWith syntax octets (lent_elements syntax octets) }
     // The elements before the first fault are those that the front of the octets spells.
     ensures front { (syntax : Syntax) (octets : List ℕ) (d : ElementList) (fault : ReadFault)
         → FaultAfter syntax None octets d fault
@@ -95,9 +96,9 @@ pub fn editing_law()
     ensures cut_lengths { (syntax : Syntax) (tags : List Tag) (d : ElementList)
         → HasLengths syntax d → HasLengths syntax (cut_out tags d) }
     ensures merged { (kept sent : ElementList) → IsDataSet kept → IsDataSet sent
-        → IsDataSet (merged kept sent) }
+        → IsDataSet (merged_data_set kept sent) }
     ensures merged_lengths { (syntax : Syntax) (kept sent : ElementList) → HasLengths syntax kept
-        → HasLengths syntax sent → HasLengths syntax (merged kept sent) }
+        → HasLengths syntax sent → HasLengths syntax (merged_data_set kept sent) }
 {}
 
 /// The same elements are those with the same tag, VR and value.

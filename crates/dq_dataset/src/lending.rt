@@ -2,7 +2,7 @@
 ghost use Rattle.std.specs.Prelude.{◌≡◌, ◌<◌, length, IfOk};
 ghost use Rattle.dq_dataset.specs.Reading.{Answers};
 ghost use Rattle.dq_dataset.specs.Agreement.{AgreesWith};
-ghost use Rattle.dq_dataset.specs.Lending.{next_at, inner_syntax, lent};
+ghost use Rattle.dq_dataset.specs.Lending.{next_at, inner_syntax, lent_elements};
 
 use crate::checking::value_end;
 use crate::fault::ReadFault;
@@ -34,7 +34,7 @@ impl<'a> Model for Elements<'a> {
     ghost use Rattle.std.specs.Prelude.{List, Result};
     ghost use Rattle.dq_dataset.specs.declared.fault.ReadFault.{ReadFault};
     ghost use Rattle.dq_dataset.specs.Lending.{Spelled, lent_from};
-    ghost use Rattle.dq_dataset.specs.Grammar.{AreOctets};
+    ghost use Rattle.dq_list.specs.Octets.{AreOctets};
 
     ghost Value = { List (Result Spelled ReadFault) };
 
@@ -76,7 +76,7 @@ fn inner_syntax(outer: Syntax, content: Content) -> Syntax
 impl<'a> Elements<'a> {
     /// The elements that the octets spell in the syntax.
     pub fn new(octets: &'a [u8], syntax: Syntax) -> Elements<'a>
-        ensures lent { result ≡ lent syntax octets.now }
+        ensures lent { result ≡ lent_elements syntax octets.now }
         // One for each element of the data set, or for each before the first fault, then that.
         ensures agrees { AgreesWith syntax octets.now result }
     {

@@ -3,8 +3,8 @@
 ghost use Rattle.std.specs.Prelude.{◌≡◌, ◌↔◌, IsTrue, min, length};
 ghost use Rattle.dq_vr.specs.declared.Tag.{Tag};
 ghost use Rattle.dq_dataset.specs.View.{as_elements, items_of};
-ghost use Rattle.dq_dataset.specs.Canonical.{header_of, canonical, canonical_items, HasLengths};
-ghost use Rattle.dq_dataset.specs.Lengths.{value_octets};
+ghost use Rattle.dq_dataset.specs.Canonical.{header_octets, canonical, canonical_items, HasLengths};
+ghost use Rattle.dq_dataset.specs.Lengths.{value_octet_count};
 
 use crate::data_set::{DataSet, Element, Value};
 use crate::header::Syntax;
@@ -15,7 +15,7 @@ const SHORT: u32 = 65_534;
 
 /// The octets of the header of an element whose value has so many octets.
 fn header_length(syntax: Syntax, vr: Vr, octets: u32) -> u32
-    ensures { (tag : Tag) → result ≡ length (header_of syntax tag vr octets) }
+    ensures { (tag : Tag) → result ≡ length (header_octets syntax tag vr octets) }
 {
     match syntax {
         Syntax::Implicit => 8,
@@ -29,7 +29,7 @@ fn header_length(syntax: Syntax, vr: Vr, octets: u32) -> u32
 /// The octets of a value, but no more than FFFFFFFFH.
 #[cycle(measuring)]
 fn value_length(value: &Value, syntax: Syntax) -> u32
-    ensures { result ≡ min (value_octets syntax value.now) 0xFFFFFFFF }
+    ensures { result ≡ min (value_octet_count syntax value.now) 0xFFFFFFFF }
 {
     match value {
         Value::Octets(octets) => octets.len().min(u32::MAX as usize) as u32,

@@ -1,7 +1,7 @@
 //! Reading data sets (PS3.5 section 7).
 ghost use Rattle.std.specs.Prelude.{◌≡◌, ℕ, ◌+◌, ◌<◌, ◌≤◌, ◌++◌, ◌∷◌, [], true, None, length, IfOk, IfErr, OnOk, OnSome, ◌⊎◌};
-ghost use Rattle.dq_dataset.specs.Reading.{Gives, readers, reading, may_nest, length_of, fits, value_by, element_by, content_by, item_by};
-ghost use Rattle.dq_dataset.specs.Rules.{padded};
+ghost use Rattle.dq_dataset.specs.Reading.{GivesOrReadFault, readers, reading, may_nest, length_of, fits_enclosing, value_by, element_by, content_by, item_by};
+ghost use Rattle.dq_dataset.specs.Rules.{padded_value};
 ghost use Rattle.dq_dataset.specs.Tree.{ElementList};
 ghost use Rattle.dq_dataset.specs.Grammar.{IsSpelled};
 ghost use Rattle.dq_dataset.specs.Faults.{IsFaulty};
@@ -19,7 +19,7 @@ use std::alloc::{AllocError, Global};
 
 /// The octets with a pad where they are odd.
 fn padded(alloc: Global, vr: Vr, octets: &[u8]) -> Result<Vec<u8>, AllocError>
-    ensures { IfOk result (λ v. v.items ≡ padded vr octets.now) }
+    ensures { IfOk result (λ v. v.items ≡ padded_value vr octets.now) }
 {
     let mut value = Vec::with_capacity(alloc, octets.len() + octets.len() % 2)?;
     value.extend_from_slice(octets)?;
@@ -39,9 +39,9 @@ fn value_of<'a>(
 ) -> Result<(Value, &'a [u8]), ReadFault>
     requires shallow { levels ≤ 16 }
     requires nests { may_nest levels header.content ≡ true }
-    requires whole { fits (length_of header.content) octets.now ≡ true }
+    requires whole { fits_enclosing (length_of header.content) octets.now ≡ true }
     ensures value { (n : ℕ) → length octets.now < n
-        → Gives (λ x. (x.0, x.1.now)) result
+        → GivesOrReadFault (λ x. (x.0, x.1.now)) result
         (value_by (readers n) levels header.vr header.content octets.now) }
     ensures shorter { IfOk result (λ x. length x.1.now ≤ length octets.now) }
 {
@@ -94,7 +94,7 @@ fn element_of<'a>(
 ) -> Result<(Option<(Header, Value)>, &'a [u8]), ReadFault>
     requires { level.levels ≤ 16 }
     ensures value { (n : ℕ) → length octets.now ≤ n
-        → Gives (λ x. (x.0, x.1.now)) result
+        → GivesOrReadFault (λ x. (x.0, x.1.now)) result
         (element_by (readers n) level.bound level.syntax level.levels last octets.now) }
     ensures shorter { IfOk result (λ x. length x.1.now ≤ length octets.now) }
     ensures goes_on { IfOk result (λ x. OnSome x.0 (length x.1.now < length octets.now)) }
@@ -115,7 +115,7 @@ fn elements_of<'a>(
 ) -> Result<(Vec<Element>, &'a [u8]), ReadFault>
     requires { level.levels ≤ 16 }
     ensures value { (n : ℕ) → length octets.now < n
-        → Gives (λ x. (x.0.items, x.1.now)) result
+        → GivesOrReadFault (λ x. (x.0.items, x.1.now)) result
         ((readers n).elements level.bound level.syntax level.levels None octets.now) }
     ensures shorter { IfOk result (λ x. length x.1.now ≤ length octets.now) }
 {
@@ -147,9 +147,9 @@ fn content_of<'a>(
     octets: &'a [u8],
 ) -> Result<(Vec<Element>, &'a [u8]), ReadFault>
     requires shallow { level.levels ≤ 16 }
-    requires whole { fits extent octets.now ≡ true }
+    requires whole { fits_enclosing extent octets.now ≡ true }
     ensures value { (n : ℕ) → length octets.now < n
-        → Gives (λ x. (x.0.items, x.1.now)) result
+        → GivesOrReadFault (λ x. (x.0.items, x.1.now)) result
         (content_by (readers n) level.syntax level.levels extent octets.now) }
     ensures shorter { IfOk result (λ x. length x.1.now ≤ length octets.now) }
 {
@@ -176,7 +176,7 @@ fn item_of<'a>(
 ) -> Result<(Option<DataSet>, &'a [u8]), ReadFault>
     requires { level.levels ≤ 16 }
     ensures value { (n : ℕ) → length octets.now ≤ n
-        → Gives (λ x. (x.0, x.1.now)) result
+        → GivesOrReadFault (λ x. (x.0, x.1.now)) result
         (item_by (readers n) level.bound level.syntax level.levels octets.now) }
     ensures shorter { IfOk result (λ x. length x.1.now ≤ length octets.now) }
     ensures goes_on { IfOk result (λ x. OnSome x.0 (length x.1.now < length octets.now)) }
@@ -197,7 +197,7 @@ fn items_of<'a>(
 ) -> Result<(Vec<DataSet>, &'a [u8]), ReadFault>
     requires { level.levels ≤ 16 }
     ensures value { (n : ℕ) → length octets.now < n
-        → Gives (λ x. (x.0.items, x.1.now)) result
+        → GivesOrReadFault (λ x. (x.0.items, x.1.now)) result
         ((readers n).items level.bound level.syntax level.levels octets.now) }
     ensures shorter { IfOk result (λ x. length x.1.now ≤ length octets.now) }
 {
@@ -219,7 +219,7 @@ pub const DEPTH: u8 = 16;
 
 #[tactic(auto, unfolding(crate::specs::Reading::reading))]
 fn all_of(alloc: Global, octets: &[u8], syntax: Syntax) -> Result<DataSet, ReadFault>
-    ensures { Gives (λ d. d) result (reading syntax octets.now) }
+    ensures { GivesOrReadFault (λ d. d) result (reading syntax octets.now) }
 {
     let level = Level {
         bound: Bound::Filled,
@@ -237,11 +237,11 @@ pub fn read(alloc: Global, octets: &[u8], syntax: Syntax) -> Result<DataSet, Rea
     ensures found { IfOk result (λ d. IsSpelled syntax octets.now d) }
     // What is spelled so is read, unless memory runs out.
     ensures only { (d : ElementList) → IsSpelled syntax octets.now d
-        → Gives (λ d. d) result (Ok d) }
+        → GivesOrReadFault (λ d. d) result (Ok d) }
     // An error is want of memory, or exactly the first fault.
     ensures fault { IfErr result (λ f. (f ≡ NoMemory) ⊎ IsFaulty syntax octets.now f) }
     // The same, computed.
-    ensures exact { Gives (λ d. d) result (reading syntax octets.now) }
+    ensures exact { GivesOrReadFault (λ d. d) result (reading syntax octets.now) }
 {
     all_of(alloc, octets, syntax)
 }

@@ -12,7 +12,7 @@ ghost use Rattle.dq_dataset.specs.Grammar.{IsPlaced, IsHeader};
 ghost use Rattle.dq_dataset.specs.Sifting.{IsWalked};
 ghost use Rattle.dq_dataset.specs.View.{as_elements, elements_of};
 ghost use Rattle.dq_dataset.specs.Sieve.{is_over_limit, IsSifted};
-ghost use Rattle.dq_dataset.specs.Sieving.{GoesOn, SieveAfter, IsStage, PastBy, IntoBy, Keeps, tag_is_listed, is_header_over_limit, kept_unless_over, EndsBy};
+ghost use Rattle.dq_dataset.specs.Sieving.{SieveGoesOn, SieveAfter, IsStage, PastBy, IntoBy, KeepsElements, tag_is_listed, is_header_over_limit, kept_unless_over, EndsBy};
 
 mod walk;
 
@@ -25,7 +25,7 @@ use dq_vr::Tag;
 use std::alloc::{AllocError, Global};
 use std::marker::Model;
 use std::mem;
-use walk::{Met, Walk, Walked, element_met};
+use walk::{HeaderFound, Walk, WalkStep, element_met};
 
 /// What a sieve keeps has at most so many octets, as the canonical Explicit spelling has them.
 pub const KEPT_LIMIT: u32 = 67_108_864;
@@ -199,7 +199,7 @@ fn sifted_on(
     octets: &[u8],
 ) -> Result<(Outer, Stage), AllocError>
     requires { IsStage outer stage }
-    ensures { IfOk result (λ x. GoesOn tags.now outer stage octets.now x.0 x.1) }
+    ensures { IfOk result (λ x. SieveGoesOn tags.now outer stage octets.now x.0 x.1) }
 {
     let mut outer = outer;
     let mut stage = stage;
@@ -224,7 +224,7 @@ fn step(
     requires some { 0 < length octets.now }
     requires stage { IsStage outer stage }
     ensures goes { IfOk result
-        (λ x. GoesOn tags.now outer stage (take x.1 octets.now) x.0.0 x.0.1) }
+        (λ x. SieveGoesOn tags.now outer stage (take x.1 octets.now) x.0.0 x.0.1) }
     ensures taken { IfOk result (λ x. (0 < x.1) × (x.1 ≤ length octets.now)) }
 {
     match stage {
@@ -253,15 +253,15 @@ fn is_listed(tags: &[Tag], tag: Tag) -> bool
 }
 
 /// Goes on past a value that is not kept.
-fn past(alloc: Global, walked: Walked) -> Stage
+fn past(alloc: Global, walked: WalkStep) -> Stage
     requires { IsWalked walked }
     ensures sound { (outer : Outer) → IsStage outer result }
     ensures sifts { PastBy walked result }
 {
     match walked {
-        Walked::On(walk) => Stage::Past(walk),
-        Walked::Over => Stage::Between(Vec::new(alloc)),
-        Walked::Failed(fault, missing) => Stage::Stopped(fault, missing),
+        WalkStep::On(walk) => Stage::Past(walk),
+        WalkStep::Over => Stage::Between(Vec::new(alloc)),
+        WalkStep::Failed(fault, missing) => Stage::Stopped(fault, missing),
     }
 }
 
@@ -269,28 +269,28 @@ fn past(alloc: Global, walked: Walked) -> Stage
 fn into(
     alloc: Global,
     outer: Outer,
-    walked: Walked,
+    walked: WalkStep,
     came: Vec<u8>,
 ) -> Result<(Outer, Stage), AllocError>
     requires { IsWalked walked }
     ensures { IfOk result (λ x. IntoBy outer walked came.items x.0 x.1) }
 {
     match walked {
-        Walked::On(walk) => Ok((outer, Stage::Into(walk, came))),
-        Walked::Over => {
+        WalkStep::On(walk) => Ok((outer, Stage::Into(walk, came))),
+        WalkStep::Over => {
             let Ok(one) = read(alloc, &came, outer.syntax) else {
                 return Err(AllocError);
             };
             let outer = keep(alloc, outer, one)?;
             Ok((outer, Stage::Between(Vec::new(alloc))))
         }
-        Walked::Failed(fault, missing) => Ok((outer, Stage::Stopped(fault, missing))),
+        WalkStep::Failed(fault, missing) => Ok((outer, Stage::Stopped(fault, missing))),
     }
 }
 
 /// Keeps what was read of an element, up to the limit.
 fn keep(alloc: Global, outer: Outer, one: DataSet) -> Result<Outer, AllocError>
-    ensures { IfOk result (λ next. Keeps outer (elements_of one) next) }
+    ensures { IfOk result (λ next. KeepsElements outer (elements_of one) next) }
 {
     let mut kept = outer.kept;
     kept.append(&mut one.into_elements())?;
@@ -338,13 +338,13 @@ fn came(
 ) -> Result<(Outer, Stage), AllocError>
     requires { IsStage outer (Stage.Between front) }
     ensures { IfOk result
-        (λ x. GoesOn tags.now outer (Stage.Between front) (octet ∷ []) x.0 x.1) }
+        (λ x. SieveGoesOn tags.now outer (Stage.Between front) (octet ∷ []) x.0 x.1) }
 {
     front.push(octet)?;
     match element_met(outer.syntax, DEPTH, outer.last, Bound::Filled, &front) {
-        Met::Part | Met::End => Ok((outer, Stage::Between(front))),
-        Met::Bad(fault) => Ok((outer, Stage::Stopped(fault, 0))),
-        Met::Whole(header) => begun(alloc, tags, outer, header, front),
+        HeaderFound::Part | HeaderFound::End => Ok((outer, Stage::Between(front))),
+        HeaderFound::Bad(fault) => Ok((outer, Stage::Stopped(fault, 0))),
+        HeaderFound::Whole(header) => begun(alloc, tags, outer, header, front),
     }
 }
 
@@ -359,7 +359,7 @@ fn begun(
     requires placed { IsPlaced outer.last header.tag }
     requires header { IsHeader outer.syntax header.tag header.content front.items }
     requires nests { may_nest 16 header.content ≡ true }
-    ensures { IfOk result (λ x. GoesOn tags.now outer (Stage.Between front) [] x.0 x.1) }
+    ensures { IfOk result (λ x. SieveGoesOn tags.now outer (Stage.Between front) [] x.0 x.1) }
 {
     let Header { tag, content, .. } = header;
     let walked = Walk::of_value(alloc, content);

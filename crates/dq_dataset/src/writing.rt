@@ -3,7 +3,7 @@ ghost use Rattle.std.specs.Prelude.{◌≡◌, ◌-◌, ◌+◌, ◌<◌, ◌≤
 ghost use Rattle.std.specs.Int.{w32, to_le_bytes};
 ghost use Rattle.dq_vr.specs.Vr.{length_form_of};
 ghost use Rattle.dq_dataset.specs.View.{as_elements, items_of};
-ghost use Rattle.dq_dataset.specs.Canonical.{tag_octets, vr_and_length, header_of, item_header_of, canonical, canonical_items, HasLengths, ItemsHaveLengths};
+ghost use Rattle.dq_dataset.specs.Canonical.{tag_octets, vr_and_length, header_octets, item_header_of, canonical, canonical_items, HasLengths, ItemsHaveLengths};
 ghost use Rattle.dq_dataset.specs.Facts.{IsDataSet};
 ghost use Rattle.dq_dataset.specs.Parts.{canonical_element, ElementHasLengths, HasSequenceVr};
 
@@ -38,7 +38,7 @@ fn put_vr(out: &mut Vec<u8>, vr: Vr, length: u32) -> Result<(), AllocError>
     out.extend_from_slice(&length.to_le_bytes())
 }
 
-#[tactic(auto, unfolding(crate::specs::Canonical::header_of))]
+#[tactic(auto, unfolding(crate::specs::Canonical::header_octets))]
 fn put_header(
     out: &mut Vec<u8>,
     syntax: Syntax,
@@ -46,7 +46,7 @@ fn put_header(
     vr: Vr,
     length: u32,
 ) -> Result<(), AllocError>
-    ensures { OnOk result (out.new.items ≡ out.old.items ++ header_of syntax tag vr length) }
+    ensures { OnOk result (out.new.items ≡ out.old.items ++ header_octets syntax tag vr length) }
 {
     put_tag(out, tag)?;
     match syntax {

@@ -5,14 +5,14 @@ use Rattle.std.proofs.lemmas.List.{append-nil}
 use Rattle.dq_pdu.specs.declared.pdu.Pdv.{Pdv}
 use Rattle.dq_dimse.specs.Received.{Message}
 use Rattle.dq_dimse.specs.declared.fault.DimseFault.{DimseFault}
-use Rattle.dq_dimse.specs.Assembling.{Gathered}
-use Rattle.dq_dimse.specs.Assembling.{Gathering, gather_all, fault_in, Messages, Assembly, messages_from, assembly_from, new_assembly}
+use Rattle.dq_dimse.specs.Assembling.{PartialMessage}
+use Rattle.dq_dimse.specs.Assembling.{Gathering, gather_all, gathering_fault, Messages, Assembly, messages_from, assembly_from, new_assembly}
 use Rattle.dq_dimse.specs.Assembling.{messages, followed_by, spent_by, AssemblerAfter}
 use Rattle.dq_dimse.proofs.Gatherings.{gather_all-append, fault_stays, spent_is}
 
 -- how messages are read off what was gathered
 abbrev pub read_off : Gathering → Messages
-read_off all = record { list = all.list; fault = fault_in all.gathered }
+read_off all = record { list = all.list; fault = gathering_fault all.gathered }
 
 -- ---- PDVs after those that an assembler was given
 
@@ -43,7 +43,7 @@ pub messages_from-spent : (a : Assembly) (pdvs : List Pdv) (fault : DimseFault) 
     → messages_from a pdvs ≡ record { list = []; fault = Some fault }
 unfolding messages_from
 messages_from-spent a pdvs fault e =
-    ap (λ (g : Gathered). read_off (gather_all a.ids g pdvs)) (spent_is a.gathered fault e) ∙ ap read_off (fault_stays a.ids fault pdvs)
+    ap (λ (g : PartialMessage). read_off (gather_all a.ids g pdvs)) (spent_is a.gathered fault e) ∙ ap read_off (fault_stays a.ids fault pdvs)
 
 pub assembly_from-spent : (a : Assembly) (pdvs : List Pdv) (fault : DimseFault) → spent_by a ≡ Some fault → assembly_from a pdvs ≡ a
 unfolding assembly_from

@@ -9,16 +9,16 @@ use Rattle.std.proofs.lemmas.List.Concat.{flat_map-append}
 use Rattle.std.proofs.lemmas.List.Elements.{All-append, All-from_recursion}
 use Rattle.dq_pdu.specs.declared.pdu.Pdu.{Pdu}
 use Rattle.dq_pdu.specs.declared.pdu.Pdv.{Pdv}
-use Rattle.dq_pdu.specs.Octets.{is_among}
+use Rattle.dq_pdu.specs.Octets.{is_number_among}
 use Rattle.dq_pdu.specs.Numbers.{pdv_header, longest_body}
 use Rattle.dq_pdu.specs.Writing.{spelling, p_data, IsWritable, AreWritable}
 use Rattle.dq_pdu.specs.Stream.{pdus_in}
 use Rattle.dq_dimse.specs.declared.command.Command.{Command}
 use Rattle.dq_dimse.specs.Received.{Message}
 use Rattle.dq_dimse.specs.Commands.{command_of}
-use Rattle.dq_dimse.specs.Messages.{command_limit, joined, AreFragments, AreAllFragments, IsCommand, HasOctets, IsDataPart, IsMessage}
+use Rattle.dq_dimse.specs.Messages.{command_limit, fragment_octets, AreFragments, AreAllFragments, IsCommand, HasOctets, IsDataPart, IsMessage}
 use Rattle.dq_dimse.specs.Assembling.{messages}
-use Rattle.dq_dimse.specs.Sending.{IsLimit, fragment_size, fragments, AreSized, pdus_of, command_set, cut, sent}
+use Rattle.dq_dimse.specs.Sending.{IsPduLimit, fragment_size, fragments, AreSized, pdus_of, command_set, cut_into_pdus, message_pdus}
 use Rattle.dq_dimse.specs.Carrying.{CarriesData, Carries, pdu_with, IsDataOf}
 use Rattle.dq_dimse.proofs.Runs.{no_fragments}
 use Rattle.dq_dimse.proofs.Fragments.{fragments_join, fragments_sized}
@@ -74,7 +74,7 @@ pdvs_of-fragments context command size (octets ∷ next ∷ others) h =
       finished = later.finished;
     }
 
-pdvs_of-joined : (context : ℕ) (command : Bool) (run : List (List ℕ)) → joined (pdvs_of context command run) ≡ flat_map (λ (part : List ℕ). part) run
+pdvs_of-joined : (context : ℕ) (command : Bool) (run : List (List ℕ)) → fragment_octets (pdvs_of context command run) ≡ flat_map (λ (part : List ℕ). part) run
 unfolding pdvs_of
 pdvs_of-joined context command [] = refl
 pdvs_of-joined context command (octets ∷ []) = refl
@@ -104,7 +104,7 @@ both_writable (x ∷ xs) ys a b = (a.0, both_writable xs ys a.1 b)
 
 -- ---- what is sent
 
-some_room : (limit : ℕ) → IsLimit limit → 0 < fragment_size limit
+some_room : (limit : ℕ) → IsPduLimit limit → 0 < fragment_size limit
 some_room limit h = grind (arith, nat_tests)
 
 -- octets cut into PDUs, as the PDVs in them
@@ -113,10 +113,10 @@ record IsCut (context : ℕ) (command : Bool) (octets written : List ℕ) : Type
   pub written_is : written ≡ flat_map spelling (map pdu_with pdvs)
   pub writable : AreWritable (map pdu_with pdvs)
   pub fragments : AreAllFragments context command pdvs
-  pub octets_are : joined pdvs ≡ octets
+  pub octets_are : fragment_octets pdvs ≡ octets
 
-is_cut : FragmentsAreWritable → (context : ℕ) (command : Bool) (limit : ℕ) (octets : List ℕ) → IsLimit limit
-    → IsCut context command octets (cut context command limit octets)
+is_cut : FragmentsAreWritable → (context : ℕ) (command : Bool) (limit : ℕ) (octets : List ℕ) → IsPduLimit limit
+    → IsCut context command octets (cut_into_pdus context command limit octets)
 is_cut w context command limit octets h =
     let size = fragment_size limit in
     let room = has_room limit h in
@@ -138,13 +138,13 @@ record IsSent (context : ℕ) (set : List ℕ) (octets : Option (List ℕ)) (wri
   pub writable : AreWritable (map pdu_with pdvs)
   pub carries : Carries context set octets pdvs
 
-is_sent : FragmentsAreWritable → (context limit : ℕ) (command : Command) (octets : Option (List ℕ)) → IsLimit limit
-    → IsSent context (command_set command) octets (sent context command octets limit)
+is_sent : FragmentsAreWritable → (context limit : ℕ) (command : Command) (octets : Option (List ℕ)) → IsPduLimit limit
+    → IsSent context (command_set command) octets (message_pdus context command octets limit)
 is_sent w context limit command None h =
     let set = is_cut w context true limit (command_set command) h in
     record {
       pdvs = set.pdvs;
-      written_is = append-nil (cut context true limit (command_set command)) ∙ set.written_is;
+      written_is = append-nil (cut_into_pdus context true limit (command_set command)) ∙ set.written_is;
       writable = set.writable;
       carries = record {
         commands = set.pdvs;
@@ -162,7 +162,7 @@ is_sent w context limit command (Some octets) h =
     record {
       pdvs = set.pdvs ++ part.pdvs;
       written_is =
-          ap (λ (xs : List ℕ). xs ++ cut context false limit octets) set.written_is
+          ap (λ (xs : List ℕ). xs ++ cut_into_pdus context false limit octets) set.written_is
           ∙ ap (λ (xs : List ℕ). flat_map spelling (map pdu_with set.pdvs) ++ xs) part.written_is
           ∙ sym (flat_map-append spelling (map pdu_with set.pdvs) (map pdu_with part.pdvs))
           ∙ ap (flat_map spelling) (sym (map-append pdu_with set.pdvs part.pdvs));
@@ -178,8 +178,8 @@ is_sent w context limit command (Some octets) h =
       };
     }
 
-pub sent_read : FragmentsAreWritable → WrittenIsRead → (context limit : ℕ) (command : Command) (octets : Option (List ℕ)) → IsLimit limit
-    → (pdvs : List Pdv) × (pdus_in (sent context command octets limit) ≡ record { list = map pdu_with pdvs; rest = []; fault = None }) × Carries context
+pub sent_read : FragmentsAreWritable → WrittenIsRead → (context limit : ℕ) (command : Command) (octets : Option (List ℕ)) → IsPduLimit limit
+    → (pdvs : List Pdv) × (pdus_in (message_pdus context command octets limit) ≡ record { list = map pdu_with pdvs; rest = []; fault = None }) × Carries context
     (command_set command) octets pdvs
 sent_read w read context limit command octets h =
     let s = is_sent w context limit command octets h in
@@ -194,7 +194,7 @@ data_carried message (Some octets) pdvs d k =
     let part : IsDataPart true message pdvs = record { fragments = k.0; octets_are = subst (HasOctets message) (sym k.1) d.1 } in
     subst (λ (b : Bool). IsDataPart b message pdvs) (sym d.0) part
 
-pub carried_read : (ids : List ℕ) (message : Message) (set : List ℕ) (octets : Option (List ℕ)) (pdvs : List Pdv) → IsTrue (is_among message.context ids)
+pub carried_read : (ids : List ℕ) (message : Message) (set : List ℕ) (octets : Option (List ℕ)) (pdvs : List Pdv) → IsTrue (is_number_among message.context ids)
     → length set ≤ command_limit
     → command_of set ≡ Some message.command → IsDataOf message octets → Carries message.context set octets pdvs
     → messages ids pdvs ≡ record { list = message ∷ []; fault = None }

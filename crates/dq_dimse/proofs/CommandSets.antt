@@ -3,17 +3,18 @@ use Rattle.std.proofs.Common.{◌≡◌, List, ℕ, Some, Result, Ok, Err, refl,
 use Rattle.std.specs.Prelude.{nat_lt}
 use Rattle.std.proofs.lemmas.Bool.{ltb-true, lt-ltb}
 use Rattle.std.specs.List.{list_all}
+use Rattle.dq_list.specs.Octets.{AreOctets}
 use Rattle.dq_dataset.specs.declared.fault.ReadFault.{ReadFault}
 use Rattle.dq_dataset.specs.declared.header.Syntax.{Syntax}
 use Rattle.dq_dataset.specs.declared.header.Syntax.TheVariants.{Implicit}
 use Rattle.dq_dataset.specs.Tree.{ElementList}
 use Rattle.dq_dataset.specs.View.{elements_of}
 use Rattle.dq_dataset.specs.Reading.{reading}
-use Rattle.dq_dataset.specs.Grammar.{AreOctets, IsSpelled}
-use Rattle.dq_list.specs.Readers.{◌>>=◌, provided}
+use Rattle.dq_dataset.specs.Grammar.{IsSpelled}
+use Rattle.dq_list.specs.Readers.{◌>>=◌, only_if}
 use Rattle.dq_list.proofs.Readers.{bind_some, provided_some}
 use Rattle.dq_dimse.specs.declared.command.Command.{Command}
-use Rattle.dq_dimse.specs.Commands.{belongs, number_of, id_number, command_from, read_set, command_of}
+use Rattle.dq_dimse.specs.Commands.{belongs, unsigned_short_at, id_number, command_from, read_set, command_of}
 use Rattle.dq_dimse.specs.CommandElements.{command_field, command_data_set_type}
 use Rattle.dq_dimse.specs.CommandFields.{response_bit}
 use Rattle.dq_dimse.specs.CommandSets.{SaysCommand, IsCommandSet}
@@ -27,9 +28,9 @@ set_read (Err f) set e = absurd cc
 pub says_command : (set : ElementList) (command : Command) → command_from set ≡ Some command → SaysCommand set command
 unfolding command_from
 says_command set command e =
-    let code = bind_some (number_of command_field set) _ command e in
-    let type = bind_some (number_of command_data_set_type set) _ command code.2 in
-    let id = bind_some (number_of (id_number code.0) set) _ command type.2 in
+    let code = bind_some (unsigned_short_at command_field set) _ command e in
+    let type = bind_some (unsigned_short_at command_data_set_type set) _ command code.2 in
+    let id = bind_some (unsigned_short_at (id_number code.0) set) _ command type.2 in
     let test = provided_some (nat_lt code.0 response_bit) _ command id.2 in
     subst (SaysCommand set) test.1 (record {
       code = code.1;
@@ -59,9 +60,9 @@ SpelledIsRead = (syntax : Syntax) (octets : List ℕ) (d : ElementList) → IsSp
 pub is_command_set : ReadIsSpelled → (octets : List ℕ) (command : Command) → AreOctets octets → command_of octets ≡ Some command → IsCommandSet octets command
 unfolding command_of
 is_command_set spelled octets command bytes e =
-    let first = bind_some (read_set (reading Implicit octets)) (λ set. provided (list_all belongs (elements_of set)) set >>= command_from) command e in
+    let first = bind_some (read_set (reading Implicit octets)) (λ set. only_if (list_all belongs (elements_of set)) set >>= command_from) command e in
     let set = first.0 in
-    let second = bind_some (provided (list_all belongs (elements_of set)) set) command_from command first.2 in
+    let second = bind_some (only_if (list_all belongs (elements_of set)) set) command_from command first.2 in
     let test = provided_some (list_all belongs (elements_of set)) set second.0 second.1 in
     record {
       set = set;

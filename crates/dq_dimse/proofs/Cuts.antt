@@ -6,7 +6,7 @@ use Rattle.std.proofs.lemmas.Bool.{le-leb, lt-leb}
 use Rattle.std.proofs.lemmas.Bool.Decides.{nat_tests}
 use Rattle.std.proofs.lemmas.List.{append-nil}
 use Rattle.dq_pdu.specs.Writing.{body, spelling, is_writable, p_data}
-use Rattle.dq_dimse.specs.Sending.{IsLimit, pdu_limit, fragment_size, fragments_within, pdus_of}
+use Rattle.dq_dimse.specs.Sending.{IsPduLimit, pdu_limit, fragment_size, fragments_within, pdus_of}
 use Rattle.dq_dimse.proofs.Fragments.{one_fragment}
 
 abbrev pub pdus_within : ℕ → Bool → ℕ → ℕ → List ℕ → List ℕ
@@ -15,17 +15,17 @@ pdus_within context command fuel size octets = flat_map spelling (pdus_of contex
 pdu_length : (context : ℕ) (command last : Bool) (octets : List ℕ) → length (body (p_data context command last octets)) ≡ length octets + 6
 pdu_length context command last octets = grind (arith, nat_tests, append-nil)
 
-pub has_room : (limit : ℕ) → IsLimit limit → (fragment_size limit + 6 ≤ pdu_limit limit) × (pdu_limit limit ≤ 16384)
+pub has_room : (limit : ℕ) → IsPduLimit limit → (fragment_size limit + 6 ≤ pdu_limit limit) × (pdu_limit limit ≤ 16384)
 has_room limit h = grind (arith, nat_tests)
 
-pub pdu_short : (limit context : ℕ) (command last : Bool) (octets : List ℕ) → IsLimit limit → length octets ≤ fragment_size limit
+pub pdu_short : (limit context : ℕ) (command last : Bool) (octets : List ℕ) → IsPduLimit limit → length octets ≤ fragment_size limit
     → length (body (p_data context command last octets)) ≤ pdu_limit limit
 pdu_short limit context command last octets h short =
     let r = has_room limit h in
     let n = pdu_length context command last octets in
     omega arith
 
-pub pdu_writable : (limit context : ℕ) (command last : Bool) (octets : List ℕ) → IsLimit limit → length octets ≤ fragment_size limit
+pub pdu_writable : (limit context : ℕ) (command last : Bool) (octets : List ℕ) → IsPduLimit limit → length octets ≤ fragment_size limit
     → is_writable (p_data context command last octets) ≡ true
 pdu_writable limit context command last octets h short =
     let r = has_room limit h in

@@ -2,26 +2,26 @@
 use Rattle.std.proofs.Common.{◌≡◌, ◌≤◌, ℕ, ◌+◌, ◌==◌, Bool, true, false, cond, ltb, List, [], ◌∷◌, ◌++◌, length, Option, Some, None, refl, sym, subst, arith}
 use Rattle.std.proofs.lemmas.Bool.{false≢true, ltb-false}
 use Rattle.dq_pdu.specs.declared.pdu.Pdv.{Pdv}
-use Rattle.dq_pdu.specs.Octets.{is_among}
+use Rattle.dq_pdu.specs.Octets.{is_number_among}
 use Rattle.dq_dataset.specs.declared.header.Syntax.{Syntax}
 use Rattle.dq_dimse.specs.declared.assembler.Accepted.{Accepted}
 use Rattle.dq_dimse.specs.declared.assembler.Begun.{Begun}
-use Rattle.dq_dimse.specs.declared.assembler.Gathered.{Gathered as HeldGathered}
-use Rattle.dq_dimse.specs.declared.assembler.Gathered.TheVariants as held
+use Rattle.dq_dimse.specs.declared.assembler.PartialMessage.{PartialMessage as HeldGathered}
+use Rattle.dq_dimse.specs.declared.assembler.PartialMessage.TheVariants as held
 use Rattle.dq_dimse.specs.declared.assembler.Part.{Part}
 use Rattle.dq_dimse.specs.declared.assembler.Part.TheVariants as part
 use Rattle.dq_dimse.specs.declared.command.Command.{Command}
 use Rattle.dq_dimse.specs.declared.fault.DimseFault.TheVariants.{WrongContext, WrongKind, BadCommand}
-use Rattle.dq_dimse.specs.Assembling.{Gathered, Nothing, CommandPart, DataPart, Spent, stops_at, gathers, completes, command_completed, command_gathered, after_command, with_fragment, begun_with, gather, gather_all, new_assembly, assembly_from}
+use Rattle.dq_dimse.specs.Assembling.{PartialMessage, Nothing, CommandPart, DataPart, Spent, stops_at, gathers, completes, command_completed, command_gathered, after_command, with_fragment, begun_with, gather, gather_all, new_assembly, assembly_from}
 use Rattle.dq_dimse.specs.CommandFields.{c_store}
 use Rattle.dq_dimse.specs.Commands.{command_of}
-use Rattle.dq_dimse.specs.Holding.{Holding, HasGathered, PartStandsFor, WasGiven, octets_of_part, octets_gathered, gathered_limit, SiftsWithin}
+use Rattle.dq_dimse.specs.Holding.{Holding, HasGathered, PartStandsFor, WasGivenPdvs, octets_of_part, octets_gathered, gathered_limit, SiftsWithin}
 use Rattle.dq_dimse.specs.Messages.{store_limit, other_limit}
 use Rattle.dq_dimse.specs.Received.{Message}
 
 -- ---- a command set
 
-abbrev pub IsShort : Gathered → Type 0
+abbrev pub IsShort : PartialMessage → Type 0
 IsShort Nothing = Unit {0}
 IsShort (CommandPart context octets) = length octets ≤ 16384
 IsShort (DataPart message) = Unit {0}
@@ -65,13 +65,13 @@ data_short message true false true = tt
 data_short message true false false = tt
 data_short message false command last = tt
 
-gather_short : (ids : List ℕ) (before : Gathered) (pdv : Pdv) → IsShort (gather ids before pdv).gathered
-gather_short ids Nothing pdv = begins_short pdv.context [] pdv (is_among pdv.context ids)
+gather_short : (ids : List ℕ) (before : PartialMessage) (pdv : Pdv) → IsShort (gather ids before pdv).gathered
+gather_short ids Nothing pdv = begins_short pdv.context [] pdv (is_number_among pdv.context ids)
 gather_short ids (CommandPart context octets) pdv = begins_short context octets pdv (pdv.context == context)
 gather_short ids (DataPart message) pdv = data_short (with_fragment message pdv.octets) (pdv.context == message.context) pdv.command pdv.last
 gather_short ids (Spent fault) pdv = tt
 
-all_short : (ids : List ℕ) (before : Gathered) (pdvs : List Pdv) → IsShort before → IsShort (gather_all ids before pdvs).gathered
+all_short : (ids : List ℕ) (before : PartialMessage) (pdvs : List Pdv) → IsShort before → IsShort (gather_all ids before pdvs).gathered
 all_short ids before [] h = h
 all_short ids before (pdv ∷ pdvs) h = all_short ids (gather ids before pdv).gathered pdvs (gather_short ids before pdv)
 
@@ -101,21 +101,21 @@ part_sifted syntax part.Over m h = tt
 
 -- ---- what is gathered
 
-gathered_within : (accepted : List Accepted) (h : HeldGathered) (g : Gathered) → IsShort g → HasGathered accepted h g
+gathered_within : (accepted : List Accepted) (h : HeldGathered) (g : PartialMessage) → IsShort g → HasGathered accepted h g
     → length (octets_gathered h) ≤ gathered_limit h
 gathered_within accepted held.Nothing g short has = omega arith
 gathered_within accepted (held.CommandPart context octets) g short has = subst IsShort has.1 short
 gathered_within accepted (held.DataPart begun) g short has = part_within begun.context.syntax begun.data_set has.1 has.3.data_set
 gathered_within accepted (held.Spent fault) g short has = omega arith
 
-pub held_within : (accepted : List Accepted) (pdvs : List Pdv) (holding : Holding) → WasGiven accepted pdvs holding
+pub held_within : (accepted : List Accepted) (pdvs : List Pdv) (holding : Holding) → WasGivenPdvs accepted pdvs holding
     → length (octets_gathered holding.gathered) ≤ gathered_limit holding.gathered
 held_within accepted pdvs holding given = grind (arith, gathered_within, given_short)
 
-begun_sifted : (accepted : List Accepted) (begun : Begun) (g : Gathered) → HasGathered accepted (held.DataPart begun) g
+begun_sifted : (accepted : List Accepted) (begun : Begun) (g : PartialMessage) → HasGathered accepted (held.DataPart begun) g
     → SiftsWithin begun.context.syntax begun.data_set store_limit
 begun_sifted accepted begun g has = part_sifted begun.context.syntax begun.data_set has.1 has.3.data_set
 
-pub sifted_within : (accepted : List Accepted) (pdvs : List Pdv) (holding : Holding) (begun : Begun) → WasGiven accepted pdvs holding
+pub sifted_within : (accepted : List Accepted) (pdvs : List Pdv) (holding : Holding) (begun : Begun) → WasGivenPdvs accepted pdvs holding
     → holding.gathered ≡ held.DataPart begun → SiftsWithin begun.context.syntax begun.data_set store_limit
 sifted_within accepted pdvs holding begun given e = grind (arith, begun_sifted)

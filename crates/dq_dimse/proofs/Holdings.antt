@@ -5,12 +5,12 @@ use Rattle.std.specs.Prelude.{◌||◌, ◌&&◌, not, is_some}
 use Rattle.std.proofs.Math.Bool.{and-false}
 use Rattle.std.proofs.lemmas.Bool.{false≢true, le-ltb, eqb-true, eqb-false, eq-eqb, ne_eqb}
 use Rattle.std.proofs.lemmas.List.{append-nil}
-use Rattle.dq_pdu.specs.Octets.{is_among}
+use Rattle.dq_pdu.specs.Octets.{is_number_among}
 use Rattle.dq_pdu.specs.declared.pdu.Pdv.{Pdv}
 use Rattle.dq_dataset.specs.declared.header.Syntax.{Syntax}
 use Rattle.dq_dimse.specs.declared.assembler.Accepted.{Accepted}
-use Rattle.dq_dimse.specs.declared.assembler.Gathered.{Gathered as HeldGathered}
-use Rattle.dq_dimse.specs.declared.assembler.Gathered.TheVariants as held
+use Rattle.dq_dimse.specs.declared.assembler.PartialMessage.{PartialMessage as HeldGathered}
+use Rattle.dq_dimse.specs.declared.assembler.PartialMessage.TheVariants as held
 use Rattle.dq_dimse.specs.declared.assembler.Part.{Part}
 use Rattle.dq_dimse.specs.declared.assembler.Part.TheVariants as part
 use Rattle.dq_dimse.specs.declared.command.Body.{Body}
@@ -18,10 +18,10 @@ use Rattle.dq_dimse.specs.declared.command.Body.TheVariants as body
 use Rattle.dq_dimse.specs.declared.command.Message.{Message as HeldMessage}
 use Rattle.dq_dimse.specs.declared.fault.DimseFault.{DimseFault}
 use Rattle.dq_dimse.specs.declared.fault.DimseFault.TheVariants.{WrongContext}
-use Rattle.dq_dimse.specs.Assembling.{Gathered, Nothing, stops_at, after_command, IsKept, IsKeptCommand, Assembly, with_fragment}
-use Rattle.dq_dimse.specs.Assembling.{gather, fault_in, messages, messages_from, assembly_from, new_assembly, followed_by, spent_by}
+use Rattle.dq_dimse.specs.Assembling.{PartialMessage, Nothing, stops_at, after_command, IsPdvKept, IsKeptCommand, Assembly, with_fragment}
+use Rattle.dq_dimse.specs.Assembling.{gather, gathering_fault, messages, messages_from, assembly_from, new_assembly, followed_by, spent_by}
 use Rattle.dq_dimse.specs.Holding.{BodyStandsFor, StandsFor, StandForAll, is_sifted, is_stored, octets_held, plain_message, PartStandsFor}
-use Rattle.dq_dimse.specs.Holding.{HasGathered, Holding, Assembles, WasGiven, Makes, Adds, accepted_with, fault_held, ids_of, spent_with}
+use Rattle.dq_dimse.specs.Holding.{HasGathered, Holding, Assembles, WasGivenPdvs, MakesGathering, AddsMessage, accepted_with, fault_held, accepted_ids, spent_with}
 use Rattle.dq_dimse.specs.Messages.{data_limit}
 use Rattle.dq_dimse.specs.Received.{Message}
 use Rattle.dq_dimse.proofs.Gatherings.{gather_one}
@@ -70,9 +70,9 @@ among_at : (id : ℕ) (x : Accepted) (others : Bool) (found : Option Accepted) (
 among_at id x others found true e rest = ap (λ (b : Bool). b || others) (eq-eqb id x.id (sym (eqb-true x.id id e)))
 among_at id x others found false e rest = ap (λ (b : Bool). b || others) (ne_eqb id x.id (λ h. eqb-false x.id id e (sym h))) ∙ rest
 
-pub among_is : (id : ℕ) (accepted : List Accepted) → is_among id (ids_of accepted) ≡ is_some (accepted_with id accepted)
+pub among_is : (id : ℕ) (accepted : List Accepted) → is_number_among id (accepted_ids accepted) ≡ is_some (accepted_with id accepted)
 among_is id [] = refl
-among_is id (x ∷ xs) = among_at id x (is_among id (ids_of xs)) (accepted_with id xs) (is_with id x) refl (among_is id xs)
+among_is id (x ∷ xs) = among_at id x (is_number_among id (accepted_ids xs)) (accepted_with id xs) (is_with id x) refl (among_is id xs)
 
 pub none_found : (found : Option Accepted) → ((context : Accepted) → found ≡ Some context → ⊥) → found ≡ None
 none_found None none = refl
@@ -80,57 +80,57 @@ none_found (Some context) none = absurd (none context refl)
 
 -- ---- a PDV where nothing was gathered
 
-nothing_is : (accepted : List Accepted) (h : HeldGathered) (g : Gathered) → h ≡ held.Nothing → HasGathered accepted h g → g ≡ Nothing
+nothing_is : (accepted : List Accepted) (h : HeldGathered) (g : PartialMessage) → h ≡ held.Nothing → HasGathered accepted h g → g ≡ Nothing
 nothing_is accepted h g e has = subst (λ (x : HeldGathered). HasGathered accepted x g) e has
 
-gather_unknown : (ids : List ℕ) (pdv : Pdv) → is_among pdv.context ids ≡ false → gather ids Nothing pdv ≡ stops_at WrongContext
+gather_unknown : (ids : List ℕ) (pdv : Pdv) → is_number_among pdv.context ids ≡ false → gather ids Nothing pdv ≡ stops_at WrongContext
 gather_unknown ids pdv e = ap (λ (b : Bool). cond b (after_command pdv.context [] pdv) (stops_at WrongContext)) e
 
-gather_known : (ids : List ℕ) (pdv : Pdv) → is_among pdv.context ids ≡ true → gather ids Nothing pdv ≡ after_command pdv.context [] pdv
+gather_known : (ids : List ℕ) (pdv : Pdv) → is_number_among pdv.context ids ≡ true → gather ids Nothing pdv ≡ after_command pdv.context [] pdv
 gather_known ids pdv e = ap (λ (b : Bool). cond b (after_command pdv.context [] pdv) (stops_at WrongContext)) e
 
-pub nothing_unknown : (accepted : List Accepted) (h : HeldGathered) (g : Gathered) (pdv : Pdv) → h ≡ held.Nothing → HasGathered accepted h g
-    → accepted_with pdv.context accepted ≡ None → gather (ids_of accepted) g pdv ≡ stops_at WrongContext
+pub nothing_unknown : (accepted : List Accepted) (h : HeldGathered) (g : PartialMessage) (pdv : Pdv) → h ≡ held.Nothing → HasGathered accepted h g
+    → accepted_with pdv.context accepted ≡ None → gather (accepted_ids accepted) g pdv ≡ stops_at WrongContext
 nothing_unknown accepted h g pdv e has none = grind (arith, nothing_is, gather_unknown, among_is)
 
-pub nothing_known : (accepted : List Accepted) (h : HeldGathered) (g : Gathered) (pdv : Pdv) (context : Accepted)
+pub nothing_known : (accepted : List Accepted) (h : HeldGathered) (g : PartialMessage) (pdv : Pdv) (context : Accepted)
     (result : Result (Option HeldMessage × HeldGathered) DimseFault) (octets : List ℕ) → h ≡ held.Nothing → HasGathered accepted h g
-    → accepted_with pdv.context accepted ≡ Some context → octets ≡ [] → Makes accepted result (after_command context.id octets pdv)
-    → Makes accepted result (gather (ids_of accepted) g pdv)
+    → accepted_with pdv.context accepted ≡ Some context → octets ≡ [] → MakesGathering accepted result (after_command context.id octets pdv)
+    → MakesGathering accepted result (gather (accepted_ids accepted) g pdv)
 nothing_known accepted h g pdv context result octets e has found none made =
     grind (arith, nothing_is, gather_known, among_is, id_is)
 
-pub nothing_kept : (accepted : List Accepted) (h : HeldGathered) (g : Gathered) (pdv : Pdv) (context : Accepted) (octets : List ℕ) → h ≡ held.Nothing
+pub nothing_kept : (accepted : List Accepted) (h : HeldGathered) (g : PartialMessage) (pdv : Pdv) (context : Accepted) (octets : List ℕ) → h ≡ held.Nothing
     → HasGathered accepted h g → accepted_with pdv.context accepted ≡ Some context → octets ≡ [] → IsKeptCommand octets pdv
-    → IsKept (ids_of accepted) g pdv
+    → IsPdvKept (accepted_ids accepted) g pdv
 nothing_kept accepted h g pdv context octets e has found none kept = grind (arith, nothing_is, among_is)
 
 -- ---- one PDV
 
-fault_same : (accepted : List Accepted) (h : HeldGathered) (g : Gathered) → HasGathered accepted h g → fault_in g ≡ fault_held h
-fault_same accepted held.Nothing g is = ap fault_in is
-fault_same accepted (held.CommandPart context octets) g is = ap fault_in is.1
-fault_same accepted (held.DataPart begun) g is = ap fault_in is.2
-fault_same accepted (held.Spent fault) g is = ap fault_in is
+fault_same : (accepted : List Accepted) (h : HeldGathered) (g : PartialMessage) → HasGathered accepted h g → gathering_fault g ≡ fault_held h
+fault_same accepted held.Nothing g is = ap gathering_fault is
+fault_same accepted (held.CommandPart context octets) g is = ap gathering_fault is.1
+fault_same accepted (held.DataPart begun) g is = ap gathering_fault is.2
+fault_same accepted (held.Spent fault) g is = ap gathering_fault is
 
 pub assembles_fault : (holding : Holding) (a : Assembly) → Assembles holding a → spent_by a ≡ spent_with holding
 assembles_fault holding a h = fault_same holding.accepted holding.gathered a.gathered h.gathered
 
 pub one_adds : (accepted : List Accepted) (a : Assembly) (pdv : Pdv) (message : Option HeldMessage) (after : HeldGathered) → fault_held after ≡ None
-    → Makes accepted (Ok (message, after)) (gather a.ids a.gathered pdv) → Adds accepted (Ok message) [] (messages_from a (pdv ∷ []))
+    → MakesGathering accepted (Ok (message, after)) (gather a.ids a.gathered pdv) → AddsMessage accepted (Ok message) [] (messages_from a (pdv ∷ []))
 unfolding messages_from
 one_adds accepted a pdv message after unspent made = grind (arith, read_off, gather_one, fault_same)
 
 pub one_fails : (accepted : List Accepted) (a : Assembly) (pdv : Pdv) (fault : DimseFault)
-    → Makes accepted (Err fault) (gather a.ids a.gathered pdv) → Adds accepted (Err fault) [] (messages_from a (pdv ∷ []))
+    → MakesGathering accepted (Err fault) (gather a.ids a.gathered pdv) → AddsMessage accepted (Err fault) [] (messages_from a (pdv ∷ []))
 unfolding messages_from
 one_fails accepted a pdv fault (inl e) = inl e
 one_fails accepted a pdv fault (inr e) = inr (ap read_off (gather_one a.ids a.gathered pdv ∙ e))
 
 pub step_made : (old : Holding) (slice : List Accepted) (before : HeldGathered) (a : Assembly) (pdv : Pdv)
     (result : Result (Option HeldMessage × HeldGathered) DimseFault) → slice ≡ old.accepted → before ≡ old.gathered → Assembles old a
-    → ((g : Gathered) → HasGathered slice before g → Makes slice result (gather (ids_of slice) g pdv))
-    → Makes old.accepted result (gather a.ids a.gathered pdv)
+    → ((g : PartialMessage) → HasGathered slice before g → MakesGathering slice result (gather (accepted_ids slice) g pdv))
+    → MakesGathering old.accepted result (gather a.ids a.gathered pdv)
 step_made old slice before a pdv result e f h made = grind arith
 
 pub one_next : (old new : Holding) (a : Assembly) (pdv : Pdv) → Assembles old a → new.accepted ≡ old.accepted
@@ -141,25 +141,25 @@ one_next old new a pdv h e made = grind (arith, gather_one)
 -- ---- one PDV after others
 
 one_more_adds : (accepted : List Accepted) (pdvs : List Pdv) (pdv : Pdv) (result : Result (Option HeldMessage) DimseFault)
-    → Adds accepted result [] (messages_from (assembly_from (new_assembly (ids_of accepted)) pdvs) (pdv ∷ []))
-    → Adds accepted result (messages (ids_of accepted) pdvs).list (messages (ids_of accepted) (pdvs ++ pdv ∷ []))
+    → AddsMessage accepted result [] (messages_from (assembly_from (new_assembly (accepted_ids accepted)) pdvs) (pdv ∷ []))
+    → AddsMessage accepted result (messages (accepted_ids accepted) pdvs).list (messages (accepted_ids accepted) (pdvs ++ pdv ∷ []))
 one_more_adds accepted pdvs pdv (Ok message) h =
-    (h.0, h.1, messages_from-append (new_assembly (ids_of accepted)) pdvs (pdv ∷ []) ∙ ap (followed_by (messages (ids_of accepted) pdvs).list) h.2)
+    (h.0, h.1, messages_from-append (new_assembly (accepted_ids accepted)) pdvs (pdv ∷ []) ∙ ap (followed_by (messages (accepted_ids accepted) pdvs).list) h.2)
 one_more_adds accepted pdvs pdv (Err fault) (inl e) = inl e
 one_more_adds accepted pdvs pdv (Err fault) (inr e) = grind (arith, messages_from-append, append-nil)
 
 abbrev AddsOne : Holding → Pdv → Result (Option HeldMessage) DimseFault → Type 0
-AddsOne old pdv result = (a : Assembly) → Assembles old a → Adds old.accepted result [] (messages_from a (pdv ∷ []))
+AddsOne old pdv result = (a : Assembly) → Assembles old a → AddsMessage old.accepted result [] (messages_from a (pdv ∷ []))
 
 pub more_adds : (accepted : List Accepted) (pdvs : List Pdv) (pdv : Pdv) (old : Holding) (result : Result (Option HeldMessage) DimseFault)
-    → WasGiven accepted pdvs old → AddsOne old pdv result
-    → Adds accepted result (messages (ids_of accepted) pdvs).list (messages (ids_of accepted) (pdvs ++ pdv ∷ []))
+    → WasGivenPdvs accepted pdvs old → AddsOne old pdv result
+    → AddsMessage accepted result (messages (accepted_ids accepted) pdvs).list (messages (accepted_ids accepted) (pdvs ++ pdv ∷ []))
 more_adds accepted pdvs pdv old result h adds = grind (arith, one_more_adds)
 
 pub more_stands : (accepted : List Accepted) (pdvs : List Pdv) (pdv : Pdv) (old new : Holding) (result : Result (Option HeldMessage) DimseFault)
-    → WasGiven accepted pdvs old → new.accepted ≡ old.accepted
+    → WasGivenPdvs accepted pdvs old → new.accepted ≡ old.accepted
     → ((a : Assembly) → Assembles old a → OnOk result (Assembles new (assembly_from a (pdv ∷ []))))
-    → OnOk result (WasGiven accepted (pdvs ++ pdv ∷ []) new)
+    → OnOk result (WasGivenPdvs accepted (pdvs ++ pdv ∷ []) new)
 more_stands accepted pdvs pdv old new (Ok message) h e next = grind (arith, assembly_from-append)
 more_stands accepted pdvs pdv old new (Err fault) h e next = tt
 

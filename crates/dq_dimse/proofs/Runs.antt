@@ -8,13 +8,13 @@ use Rattle.std.proofs.lemmas.List.Concat.{flat_map-append}
 use Rattle.std.proofs.lemmas.List.Elements.{All-append, All-from_recursion, recursion_from_All}
 use Rattle.dq_pdu.specs.declared.pdu.Pdv.{Pdv}
 use Rattle.dq_dimse.specs.declared.command.Command.{Command}
-use Rattle.dq_dimse.specs.Messages.{fragment, joined, AreFragments, AreAllFragments, AwaitsData, IsExpected}
+use Rattle.dq_dimse.specs.Messages.{fragment, fragment_octets, AreFragments, AreAllFragments, AwaitsData, IsExpected}
 
-pub joined-append : (xs ys : List Pdv) → joined (xs ++ ys) ≡ joined xs ++ joined ys
+pub joined-append : (xs ys : List Pdv) → fragment_octets (xs ++ ys) ≡ fragment_octets xs ++ fragment_octets ys
 joined-append xs ys = flat_map-append fragment xs ys
 
-pub joined-push : (front : List Pdv) (pdv : Pdv) → joined (front ++ pdv ∷ []) ≡ joined front ++ pdv.octets
-joined-push front pdv = joined-append front (pdv ∷ []) ∙ ap (λ (xs : List ℕ). joined front ++ xs) (append-nil pdv.octets)
+pub joined-push : (front : List Pdv) (pdv : Pdv) → fragment_octets (front ++ pdv ∷ []) ≡ fragment_octets front ++ pdv.octets
+joined-push front pdv = joined-append front (pdv ∷ []) ∙ ap (λ (xs : List ℕ). fragment_octets front ++ xs) (append-nil pdv.octets)
 
 abbrev pub IsOf : ℕ → Pdv → Type 0
 IsOf context pdv = pdv.context ≡ context

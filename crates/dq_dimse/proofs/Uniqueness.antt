@@ -5,42 +5,42 @@ use Rattle.std.specs.List.{AllByRecursion}
 use Rattle.std.proofs.lemmas.Bool.{lt-ltb, le-ltb, eq-eqb, ne_eqb, false≢true}
 use Rattle.std.proofs.lemmas.List.{append-nil}
 use Rattle.dq_pdu.specs.declared.pdu.Pdv.{Pdv}
-use Rattle.dq_pdu.specs.Octets.{is_among}
+use Rattle.dq_pdu.specs.Octets.{is_number_among}
 use Rattle.dq_dimse.specs.declared.command.Command.{Command}
 use Rattle.dq_dimse.specs.Received.{Message}
 use Rattle.dq_dimse.specs.declared.fault.DimseFault.{DimseFault}
 use Rattle.dq_dimse.specs.declared.fault.DimseFault.TheVariants.{WrongContext, WrongKind, BadCommand, NoMemory}
-use Rattle.dq_dimse.specs.Assembling.{Gathered, Nothing, CommandPart, DataPart}
+use Rattle.dq_dimse.specs.Assembling.{PartialMessage, Nothing, CommandPart, DataPart}
 use Rattle.dq_dimse.specs.Commands.{command_of}
-use Rattle.dq_dimse.specs.Messages.{command_limit, joined, IsCommand, HasOctets, IsDataPart, IsMessage, AreMessages, AwaitsCommand, AwaitsData, Begins}
+use Rattle.dq_dimse.specs.Messages.{command_limit, fragment_octets, IsCommand, HasOctets, IsDataPart, IsMessage, AreMessages, AwaitsCommand, AwaitsData, BeginsMessage}
 use Rattle.dq_dimse.specs.Messages.{IsExpected, IsBad, FitsNot, AreLeft}
 use Rattle.dq_dimse.specs.Assembling.{Gathering, gathers, stops_at, completes, begun_with, command_completed, command_gathered, after_command, with_fragment}
-use Rattle.dq_dimse.specs.Assembling.{after_data, gather, after_others, gather_all, fault_in, Messages, messages, messages_from}
+use Rattle.dq_dimse.specs.Assembling.{after_data, gather, after_others, gather_all, gathering_fault, Messages, messages, messages_from}
 use Rattle.dq_dimse.proofs.Gatherings.{gather_all-append, gather_one, fault_stays}
 use Rattle.dq_dimse.proofs.Runs.{IsFragment, joined-append, joined-push, each_fragment, data_context, data_some, expected_is, is_expected, same_others}
 use Rattle.dq_dimse.proofs.DataParts.{with_fragment-octets, begun_octets, message_only}
 use Rattle.dq_dimse.proofs.Parsing.{awaits_first}
 
 -- PDVs after others that completed no message
-gathers_on : (ids : List ℕ) (before after : Gathered) (xs ys : List Pdv) → gather_all ids before xs ≡ gathers after
+gathers_on : (ids : List ℕ) (before after : PartialMessage) (xs ys : List Pdv) → gather_all ids before xs ≡ gathers after
     → gather_all ids before (xs ++ ys) ≡ gather_all ids after ys
 gathers_on ids before after xs ys e = gather_all-append ids before xs ys ∙ ap (λ (g : Gathering). after_others g.list (gather_all ids g.gathered ys)) e
 
 -- ---- command fragments
 
 -- what is gathered of command fragments
-abbrev state : ℕ → List Pdv → Gathered
+abbrev state : ℕ → List Pdv → PartialMessage
 state context [] = Nothing
-state context (x ∷ xs) = CommandPart context (joined (x ∷ xs))
+state context (x ∷ xs) = CommandPart context (fragment_octets (x ∷ xs))
 
 -- a PDV of the right context after command fragments
-at_state : (ids : List ℕ) (context : ℕ) (front : List Pdv) (pdv : Pdv) → is_among context ids ≡ true → pdv.context ≡ context
-    → gather ids (state context front) pdv ≡ after_command context (joined front) pdv
+at_state : (ids : List ℕ) (context : ℕ) (front : List Pdv) (pdv : Pdv) → is_number_among context ids ≡ true → pdv.context ≡ context
+    → gather ids (state context front) pdv ≡ after_command context (fragment_octets front) pdv
 at_state ids context [] pdv a e = grind arith
 at_state ids context (x ∷ xs) pdv a e = rw (eq-eqb pdv.context context e) refl
 
 command_after : (context : ℕ) (front : List Pdv) (pdv : Pdv) → pdv.command ≡ true
-    → after_command context (joined front) pdv ≡ command_gathered context (joined (front ++ pdv ∷ [])) pdv.last
+    → after_command context (fragment_octets front) pdv ≡ command_gathered context (fragment_octets (front ++ pdv ∷ [])) pdv.last
 command_after context front pdv e = grind (arith, joined-push)
 
 goes_with : (context : ℕ) (octets : List ℕ) (last : Bool) → length octets ≤ command_limit → last ≡ false
@@ -54,25 +54,25 @@ ends_with context octets last read short e r = rw (le-ltb command_limit (length 
 passes : (context : ℕ) (octets : List ℕ) (last : Bool) → command_limit < length octets → command_gathered context octets last ≡ stops_at BadCommand
 passes context octets last long = rw (lt-ltb command_limit (length octets) long) refl
 
-state-push : (context : ℕ) (front : List Pdv) (pdv : Pdv) → CommandPart context (joined (front ++ pdv ∷ [])) ≡ state context (front ++ pdv ∷ [])
+state-push : (context : ℕ) (front : List Pdv) (pdv : Pdv) → CommandPart context (fragment_octets (front ++ pdv ∷ [])) ≡ state context (front ++ pdv ∷ [])
 state-push context [] pdv = refl
 state-push context (x ∷ xs) pdv = refl
 
-one_command : (ids : List ℕ) (context : ℕ) (front : List Pdv) (pdv : Pdv) → is_among context ids ≡ true → IsFragment context true pdv
-    → length (joined (front ++ pdv ∷ [])) ≤ command_limit
+one_command : (ids : List ℕ) (context : ℕ) (front : List Pdv) (pdv : Pdv) → is_number_among context ids ≡ true → IsFragment context true pdv
+    → length (fragment_octets (front ++ pdv ∷ [])) ≤ command_limit
     → gather ids (state context front) pdv ≡ gathers (state context (front ++ pdv ∷ []))
 one_command ids context front pdv a p short = grind (arith, at_state, command_after, goes_with, state-push)
 
-all_commands : (ids : List ℕ) (context : ℕ) (front run : List Pdv) → is_among context ids ≡ true → AllByRecursion (IsFragment context true) run
-    → length (joined (front ++ run)) ≤ command_limit
+all_commands : (ids : List ℕ) (context : ℕ) (front run : List Pdv) → is_number_among context ids ≡ true → AllByRecursion (IsFragment context true) run
+    → length (fragment_octets (front ++ run)) ≤ command_limit
     → gather_all ids (state context front) run ≡ gathers (state context (front ++ run))
 all_commands ids context front [] a p short = ap (λ (xs : List Pdv). gathers (state context xs)) (sym (append-nil front))
 all_commands ids context front (x ∷ xs) a p short =
     let regrouped : (front ++ x ∷ []) ++ xs ≡ front ++ x ∷ xs = append_assoc front (x ∷ []) xs in
-    let long : length (joined ((front ++ x ∷ []) ++ xs)) ≤ command_limit = rw regrouped short in
+    let long : length (fragment_octets ((front ++ x ∷ []) ++ xs)) ≤ command_limit = rw regrouped short in
     let e = joined-append (front ++ x ∷ []) xs in
-    let n : length (joined ((front ++ x ∷ []) ++ xs)) ≡ length (joined (front ++ x ∷ [])) + length (joined xs) = ap length e
-    ∙ length-append (joined (front ++ x ∷ [])) (joined xs) in
+    let n : length (fragment_octets ((front ++ x ∷ []) ++ xs)) ≡ length (fragment_octets (front ++ x ∷ [])) + length (fragment_octets xs) = ap length e
+    ∙ length-append (fragment_octets (front ++ x ∷ [])) (fragment_octets xs) in
     let first = one_command ids context front x a p.0 (omega arith) in
     ap (λ (g : Gathering). after_others g.list (gather_all ids g.gathered xs)) first ∙ all_commands ids context (front ++ x ∷ []) xs a p.1 long
     ∙ ap (λ (ys : List Pdv). gathers (state context ys)) regrouped
@@ -81,8 +81,8 @@ all_commands ids context front (x ∷ xs) a p short =
 commands_gathered : (ids : List ℕ) (context : ℕ) (run : List Pdv) → AwaitsCommand ids context run → gather_all ids Nothing run ≡ gathers (state context run)
 commands_gathered ids context run a = all_commands ids context [] run a.accepted (each_fragment context true run a.fragments) a.short
 
-front_short : (front : List Pdv) (final : Pdv) (run : List Pdv) → run ≡ front ++ final ∷ [] → length (joined run) ≤ command_limit
-    → length (joined front) ≤ command_limit
+front_short : (front : List Pdv) (final : Pdv) (run : List Pdv) → run ≡ front ++ final ∷ [] → length (fragment_octets run) ≤ command_limit
+    → length (fragment_octets front) ≤ command_limit
 front_short front final run e short = grind (arith, joined-push, length-append)
 
 -- a whole command set
@@ -90,14 +90,14 @@ command_gathered_of : (ids : List ℕ) (context : ℕ) (run : List Pdv) (command
     → gather_all ids Nothing run ≡ command_completed context (Some command)
 command_gathered_of ids context run command is =
     let f = is.fragments in
-    let whole : length (joined (f.front ++ f.final ∷ [])) ≤ command_limit = subst (λ (xs : List Pdv). length (joined xs) ≤ command_limit) f.parts is.short in
-    let read : command_of (joined (f.front ++ f.final ∷ [])) ≡ Some command = ap (λ (xs : List Pdv). command_of (joined xs)) (sym f.parts) ∙ is.command_is in
+    let whole : length (fragment_octets (f.front ++ f.final ∷ [])) ≤ command_limit = subst (λ (xs : List Pdv). length (fragment_octets xs) ≤ command_limit) f.parts is.short in
+    let read : command_of (fragment_octets (f.front ++ f.final ∷ [])) ≡ Some command = ap (λ (xs : List Pdv). command_of (fragment_octets xs)) (sym f.parts) ∙ is.command_is in
     let awaits : AwaitsCommand ids context f.front =
     record { accepted = is.accepted; fragments = f.fragments; short = front_short f.front f.final run f.parts is.short } in
     ap (gather_all ids Nothing) f.parts ∙ gathers_on ids Nothing (state context f.front) f.front (f.final ∷ []) (commands_gathered ids context f.front awaits)
     ∙ gather_one ids (state context f.front) f.final ∙ at_state ids context f.front f.final is.accepted f.context_is
     ∙ command_after context f.front f.final f.kind_is
-    ∙ ends_with context (joined (f.front ++ f.final ∷ [])) f.final.last (Some command) whole f.finished read
+    ∙ ends_with context (fragment_octets (f.front ++ f.final ∷ [])) f.final.last (Some command) whole f.finished read
 
 with_data : (context : ℕ) (command : Command) → command.with_data ≡ true
     → command_completed context (Some command) ≡ gathers (DataPart (begun_with context command))
@@ -126,7 +126,7 @@ record HasGathered (ids : List ℕ) (context : ℕ) (command : Command) (octets 
 
 all_data : (ids : List ℕ) (message : Message) (before : List ℕ) (run : List Pdv) → HasOctets message before
     → AllByRecursion (IsFragment message.context false) run
-    → HasGathered ids message.context message.command (before ++ joined run) (gather_all ids (DataPart message) run)
+    → HasGathered ids message.context message.command (before ++ fragment_octets run) (gather_all ids (DataPart message) run)
 all_data ids message before [] h p =
     record { message = message; made_is = refl; same_context = refl; same_command = refl; octets_are = subst (HasOctets message) (sym (append-nil before)) h }
 all_data ids message before (x ∷ xs) h p =
@@ -138,12 +138,12 @@ all_data ids message before (x ∷ xs) h p =
       made_is = ap (λ (g : Gathering). after_others g.list (gather_all ids g.gathered xs)) first ∙ later.made_is;
       same_context = later.same_context;
       same_command = later.same_command;
-      octets_are = subst (HasOctets later.message) (append_assoc before x.octets (joined xs)) later.octets_are;
+      octets_are = subst (HasOctets later.message) (append_assoc before x.octets (fragment_octets xs)) later.octets_are;
     }
 
 -- what is gathered of a command set and data fragments that are not the last
 data_gathered : (ids : List ℕ) (context : ℕ) (command : Command) (run : List Pdv) (a : AwaitsData ids context command run)
-    → HasGathered ids context command (joined a.data_part) (gather_all ids Nothing run)
+    → HasGathered ids context command (fragment_octets a.data_part) (gather_all ids Nothing run)
 data_gathered ids context command run a =
     let begun = begun_with context command in
     let g = all_data ids begun [] a.data_part (begun_octets context command) (each_fragment context false a.data_part a.fragments) in
@@ -171,10 +171,10 @@ message_gathered ids run message m true e d =
     record { commands = m.commands; data_part = f.front; parts = refl; command_is = m.command_is; has_data = e; fragments = f.fragments } in
     let g = data_gathered ids message.context message.command (m.commands ++ f.front) awaits in
     let grown = with_fragment g.message f.final.octets in
-    let octets : joined f.front ++ f.final.octets ≡ joined m.data_part = sym (joined-push f.front f.final) ∙ ap joined (sym f.parts) in
+    let octets : fragment_octets f.front ++ f.final.octets ≡ fragment_octets m.data_part = sym (joined-push f.front f.final) ∙ ap fragment_octets (sym f.parts) in
     let same : grown ≡ message =
-    message_only grown message (joined m.data_part) g.same_context g.same_command
-    (subst (HasOctets grown) octets (with_fragment-octets g.message (joined f.front) f.final.octets g.octets_are)) d.octets_are in
+    message_only grown message (fragment_octets m.data_part) g.same_context g.same_command
+    (subst (HasOctets grown) octets (with_fragment-octets g.message (fragment_octets f.front) f.final.octets g.octets_are)) d.octets_are in
     let split : run ≡ (m.commands ++ f.front) ++ f.final ∷ [] = m.parts ∙ ap (λ (xs : List Pdv). m.commands ++ xs) f.parts
     ∙ sym (append_assoc m.commands f.front (f.final ∷ [])) in
     ap (gather_all ids Nothing) split ∙ gathers_on ids Nothing (DataPart g.message) (m.commands ++ f.front) (f.final ∷ []) g.made_is
@@ -193,9 +193,9 @@ gather_message ids run message m = message_gathered ids run message m message.co
 
 -- what a message begins with, as it is gathered
 record IsBegun (ids : List ℕ) (command_due : Bool) (front : List Pdv) : Type 0 where
-  pub gathered : Gathered
+  pub gathered : PartialMessage
   pub made_is : gather_all ids Nothing front ≡ gathers gathered
-  pub no_fault : fault_in gathered ≡ None
+  pub no_fault : gathering_fault gathered ≡ None
   pub misfits : (pdv : Pdv) (fault : DimseFault) → FitsNot ids command_due front pdv fault → gather ids gathered pdv ≡ stops_at fault
 
 no_test : (b : Bool) → (b ≡ true → ⊥) → b ≡ false
@@ -209,7 +209,7 @@ bad_command context octets last (inr (short, finished, none)) = ends_with contex
 -- a PDV of the wrong context
 wrong_context : (ids : List ℕ) (context : ℕ) (front : List Pdv) (pdv : Pdv) → AwaitsCommand ids context front → (IsExpected ids front pdv → ⊥)
     → gather ids (state context front) pdv ≡ stops_at WrongContext
-wrong_context ids context [] pdv a h = rw (no_test (is_among pdv.context ids) h) refl
+wrong_context ids context [] pdv a h = rw (no_test (is_number_among pdv.context ids) h) refl
 wrong_context ids context (x ∷ xs) pdv a h =
     let differs : pdv.context ≡ context → ⊥ = λ e. h (is_expected ids context (x ∷ xs) pdv a.fragments.context_is (omega arith) e) in
     rw (ne_eqb pdv.context context differs) refl
@@ -221,11 +221,11 @@ command_misfits : (ids : List ℕ) (context : ℕ) (front : List Pdv) (pdv : Pdv
 command_misfits ids context front pdv WrongContext a same h = wrong_context ids context front pdv a h
 command_misfits ids context front pdv WrongKind a same h = grind (arith, at_state)
 command_misfits ids context front pdv BadCommand a same h =
-    at_state ids context front pdv a.accepted (same h.0) ∙ command_after context front pdv h.1 ∙ bad_command context (joined (front ++ pdv ∷ [])) pdv.last h.3
+    at_state ids context front pdv a.accepted (same h.0) ∙ command_after context front pdv h.1 ∙ bad_command context (fragment_octets (front ++ pdv ∷ [])) pdv.last h.3
 command_misfits ids context front pdv NoMemory a same h = absurd h
 
 -- a PDV that fits not where nothing stands before it
-first_misfits : (ids : List ℕ) (pdv : Pdv) (fault : DimseFault) (accepted : Bool) → is_among pdv.context ids ≡ accepted → FitsNot ids true [] pdv fault
+first_misfits : (ids : List ℕ) (pdv : Pdv) (fault : DimseFault) (accepted : Bool) → is_number_among pdv.context ids ≡ accepted → FitsNot ids true [] pdv fault
     → gather ids Nothing pdv ≡ stops_at fault
 first_misfits ids pdv fault true e h = command_misfits ids pdv.context [] pdv fault (awaits_first ids pdv.context e) (λ _. refl) h
 first_misfits ids pdv WrongContext false e h = rw e refl
@@ -253,7 +253,7 @@ data_misfits ids front message pdv NoMemory a h = absurd h
 -- command fragments, of which there may be none
 command_begun : (ids : List ℕ) (context : ℕ) (front : List Pdv) → AwaitsCommand ids context front → IsBegun ids true front
 command_begun ids context [] a =
-    record { gathered = Nothing; made_is = refl; no_fault = refl; misfits = λ pdv fault h. first_misfits ids pdv fault (is_among pdv.context ids) refl h }
+    record { gathered = Nothing; made_is = refl; no_fault = refl; misfits = λ pdv fault h. first_misfits ids pdv fault (is_number_among pdv.context ids) refl h }
 command_begun ids context (x ∷ xs) a = record {
   gathered = state context (x ∷ xs);
   made_is = commands_gathered ids context (x ∷ xs) a;
@@ -274,10 +274,10 @@ none_begun ids front e = subst (IsBegun ids true) (sym e) (record {
   gathered = Nothing;
   made_is = refl;
   no_fault = refl;
-  misfits = λ pdv fault h. first_misfits ids pdv fault (is_among pdv.context ids) refl h;
+  misfits = λ pdv fault h. first_misfits ids pdv fault (is_number_among pdv.context ids) refl h;
 })
 
-is_begun : (ids : List ℕ) (command_due : Bool) (front : List Pdv) → Begins ids command_due front → IsBegun ids command_due front
+is_begun : (ids : List ℕ) (command_due : Bool) (front : List Pdv) → BeginsMessage ids command_due front → IsBegun ids command_due front
 is_begun ids true front (inl e) = none_begun ids front e
 is_begun ids true front (inr (context, a)) = command_begun ids context front a
 is_begun ids false front (context, command, a) = data_begun ids context command front a
@@ -285,7 +285,7 @@ is_begun ids false front (context, command, a) = data_begun ids context command 
 -- ---- all of it
 
 abbrev read_off : Gathering → Messages
-read_off all = record { list = all.list; fault = fault_in all.gathered }
+read_off all = record { list = all.list; fault = gathering_fault all.gathered }
 
 abbrev left_as : Option DimseFault → Messages
 left_as fault = record { list = []; fault = fault }

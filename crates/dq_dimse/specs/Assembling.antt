@@ -4,7 +4,7 @@
 use Rattle.std.specs.Prelude.{◌≡◌, ◌≤◌, ℕ, Bool, true, false, ◌||◌, ◌==◌, nat_lt, if◌then◌else◌, []}
 use Rattle.std.specs.Prelude.{List, ◌∷◌, ◌++◌, length, Option, Some, None, IsTrue}
 use Rattle.dq_pdu.specs.declared.pdu.Pdv.{Pdv}
-use Rattle.dq_pdu.specs.Octets.{is_among}
+use Rattle.dq_pdu.specs.Octets.{is_number_among}
 use Rattle.dq_dimse.specs.declared.command.Command.{Command}
 use Rattle.dq_dimse.specs.Received.{Message}
 use Rattle.dq_dimse.specs.declared.fault.DimseFault.{DimseFault}
@@ -18,18 +18,18 @@ use Rattle.dq_dimse.specs.Messages.{command_limit, data_limit}
 -- What is gathered between two PDVs: nothing; the fragments of a command set so far, and their
 -- context; a message whose command set is whole, with the fragments of its data set so far; or no
 -- message any more, because of a fault.
-pub data Gathered : Type 0 where
-  Nothing : Gathered
-  CommandPart : ℕ → List ℕ → Gathered
-  DataPart : Message → Gathered
-  Spent : DimseFault → Gathered
+pub data PartialMessage : Type 0 where
+  Nothing : PartialMessage
+  CommandPart : ℕ → List ℕ → PartialMessage
+  DataPart : Message → PartialMessage
+  Spent : DimseFault → PartialMessage
 
 -- what a PDV does to what was gathered: the messages that it completes, and what is gathered then
 pub record Gathering : Type 0 where
   pub list : List Message
-  pub gathered : Gathered
+  pub gathered : PartialMessage
 
-abbrev pub gathers : Gathered → Gathering
+abbrev pub gathers : PartialMessage → Gathering
 gathers gathered = record { list = []; gathered = gathered }
 
 abbrev pub stops_at : DimseFault → Gathering
@@ -77,9 +77,9 @@ after_data message pdv =
     else gathers (DataPart (with_fragment message pdv.octets)))
 
 -- The order of faults is context, kind, command set.
-abbrev pub gather : List ℕ → Gathered → Pdv → Gathering
+abbrev pub gather : List ℕ → PartialMessage → Pdv → Gathering
 gather ids Nothing pdv =
-    if is_among pdv.context ids then after_command pdv.context [] pdv else stops_at WrongContext
+    if is_number_among pdv.context ids then after_command pdv.context [] pdv else stops_at WrongContext
 gather ids (CommandPart context octets) pdv =
     if pdv.context == context then after_command context octets pdv else stops_at WrongContext
 gather ids (DataPart message) pdv =
@@ -91,17 +91,17 @@ gather ids (Spent fault) pdv = stops_at fault
 abbrev pub after_others : List Message → Gathering → Gathering
 after_others list later = record { list = list ++ later.list; gathered = later.gathered }
 
-abbrev pub gather_all : List ℕ → Gathered → List Pdv → Gathering
+abbrev pub gather_all : List ℕ → PartialMessage → List Pdv → Gathering
 gather_all ids gathered [] = gathers gathered
 gather_all ids gathered (pdv ∷ pdvs) =
     let first = gather ids gathered pdv in
     after_others first.list (gather_all ids first.gathered pdvs)
 
-abbrev pub fault_in : Gathered → Option DimseFault
-fault_in Nothing = None
-fault_in (CommandPart context octets) = None
-fault_in (DataPart message) = None
-fault_in (Spent fault) = Some fault
+abbrev pub gathering_fault : PartialMessage → Option DimseFault
+gathering_fault Nothing = None
+gathering_fault (CommandPart context octets) = None
+gathering_fault (DataPart message) = None
+gathering_fault (Spent fault) = Some fault
 
 -- ---- what upper layers see
 
@@ -113,17 +113,17 @@ pub record Messages : Type 0 where
 -- an assembler for the accepted contexts, and what it gathered
 pub record Assembly : Type 0 where
   pub ids : List ℕ
-  pub gathered : Gathered
+  pub gathered : PartialMessage
 
 -- the fault that an assembler answers from now on, where it is spent
 abbrev pub spent_by : Assembly → Option DimseFault
-spent_by assembly = fault_in assembly.gathered
+spent_by assembly = gathering_fault assembly.gathered
 
 -- what PDVs add after those that an assembler was given
 unfoldable pub messages_from : Assembly → List Pdv → Messages
 messages_from assembly pdvs =
     let all = gather_all assembly.ids assembly.gathered pdvs in
-    record { list = all.list; fault = fault_in all.gathered }
+    record { list = all.list; fault = gathering_fault all.gathered }
 
 unfoldable pub assembly_from : Assembly → List Pdv → Assembly
 assembly_from assembly pdvs = record {
@@ -159,14 +159,14 @@ IsKeptData message pdv =
     (pdv.command ≡ false) × (message.over ≡ false)
     × (length (message.octets ++ pdv.octets) ≤ data_limit message.command)
 
-abbrev pub IsKept : List ℕ → Gathered → Pdv → Type 0
-IsKept ids Nothing pdv = IsTrue (is_among pdv.context ids) × IsKeptCommand [] pdv
-IsKept ids (CommandPart context octets) pdv =
+abbrev pub IsPdvKept : List ℕ → PartialMessage → Pdv → Type 0
+IsPdvKept ids Nothing pdv = IsTrue (is_number_among pdv.context ids) × IsKeptCommand [] pdv
+IsPdvKept ids (CommandPart context octets) pdv =
     (pdv.context ≡ context) × IsKeptCommand octets pdv
-IsKept ids (DataPart message) pdv = (pdv.context ≡ message.context) × IsKeptData message pdv
-IsKept ids (Spent fault) pdv = fault ≡ NoMemory
+IsPdvKept ids (DataPart message) pdv = (pdv.context ≡ message.context) × IsKeptData message pdv
+IsPdvKept ids (Spent fault) pdv = fault ≡ NoMemory
 
 -- A PDV that memory may run out for: one whose octets are kept or read. One of another context, one
 -- of the other kind, one that passes a limit and one that comes after it take no memory.
 abbrev pub NeedsMemory : Assembly → Pdv → Type 0
-NeedsMemory assembly pdv = IsKept assembly.ids assembly.gathered pdv
+NeedsMemory assembly pdv = IsPdvKept assembly.ids assembly.gathered pdv

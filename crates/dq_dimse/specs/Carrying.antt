@@ -5,13 +5,13 @@ use Rattle.dq_pdu.specs.declared.pdu.Pdu.{Pdu}
 use Rattle.dq_pdu.specs.declared.pdu.Pdu.TheVariants.{PData}
 use Rattle.dq_pdu.specs.declared.pdu.Pdv.{Pdv}
 use Rattle.dq_dimse.specs.Received.{Message}
-use Rattle.dq_dimse.specs.Messages.{joined, AreAllFragments, HasOctets}
+use Rattle.dq_dimse.specs.Messages.{fragment_octets, AreAllFragments, HasOctets}
 
 -- the fragments of a data set, if there is one
 abbrev pub CarriesData : ℕ → Option (List ℕ) → List Pdv → Type 0
 CarriesData context None pdvs = pdvs ≡ []
 CarriesData context (Some octets) pdvs =
-    AreAllFragments context false pdvs × (joined pdvs ≡ octets)
+    AreAllFragments context false pdvs × (fragment_octets pdvs ≡ octets)
 
 pub record Carries (context : ℕ) (set : List ℕ) (octets : Option (List ℕ)) (pdvs : List Pdv)
     : Type 0 where
@@ -19,7 +19,7 @@ pub record Carries (context : ℕ) (set : List ℕ) (octets : Option (List ℕ))
   pub data_part : List Pdv
   pub parts : pdvs ≡ commands ++ data_part
   pub fragments : AreAllFragments context true commands
-  pub set_is : joined commands ≡ set
+  pub set_is : fragment_octets commands ≡ set
   pub carries_data : CarriesData context octets data_part
 
 -- a PDU of one PDV

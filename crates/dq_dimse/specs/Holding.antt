@@ -7,8 +7,8 @@ use Rattle.dq_dataset.specs.Sieve.{IsSifted}
 use Rattle.dq_dataset.specs.Sieving.{SieveAfter}
 use Rattle.dq_dimse.specs.declared.assembler.Accepted.{Accepted}
 use Rattle.dq_dimse.specs.declared.assembler.Begun.{Begun}
-use Rattle.dq_dimse.specs.declared.assembler.Gathered.{Gathered as HeldGathered}
-use Rattle.dq_dimse.specs.declared.assembler.Gathered.TheVariants as held
+use Rattle.dq_dimse.specs.declared.assembler.PartialMessage.{PartialMessage as HeldGathered}
+use Rattle.dq_dimse.specs.declared.assembler.PartialMessage.TheVariants as held
 use Rattle.dq_dimse.specs.declared.assembler.Part.{Part}
 use Rattle.dq_dimse.specs.declared.assembler.Part.TheVariants as part
 use Rattle.dq_dimse.specs.declared.command.Body.{Body}
@@ -17,7 +17,7 @@ use Rattle.dq_dimse.specs.declared.command.Command.{Command}
 use Rattle.dq_dimse.specs.declared.command.Message.{Message as HeldMessage}
 use Rattle.dq_dimse.specs.declared.fault.DimseFault.{DimseFault}
 use Rattle.dq_dimse.specs.declared.fault.DimseFault.TheVariants.{NoMemory}
-use Rattle.dq_dimse.specs.Assembling.{Gathered, Nothing, CommandPart, DataPart, Spent, Gathering, stops_at, Messages, Assembly, new_assembly, assembly_from}
+use Rattle.dq_dimse.specs.Assembling.{PartialMessage, Nothing, CommandPart, DataPart, Spent, Gathering, stops_at, Messages, Assembly, new_assembly, assembly_from}
 use Rattle.dq_dimse.specs.Attributes.{kept_attributes}
 use Rattle.dq_dimse.specs.CommandFields.{c_store}
 use Rattle.dq_dimse.specs.Messages.{command_limit, other_limit, data_limit}
@@ -25,8 +25,8 @@ use Rattle.dq_dimse.specs.Received.{Message}
 
 -- ---- accepted contexts
 
-abbrev pub ids_of : List Accepted → List ℕ
-ids_of accepted = map (λ (c : Accepted). c.id) accepted
+abbrev pub accepted_ids : List Accepted → List ℕ
+accepted_ids accepted = map (λ (c : Accepted). c.id) accepted
 
 -- the accepted context with an id
 abbrev pub accepted_with : ℕ → List Accepted → Option Accepted
@@ -106,7 +106,7 @@ pub record HasBegun (begun : Begun) (message : Message) : Type 0 where
   pub data_set : PartStandsFor begun.context.syntax begun.data_set message
 
 -- what an assembler gathered
-abbrev pub HasGathered : List Accepted → HeldGathered → Gathered → Type 0
+abbrev pub HasGathered : List Accepted → HeldGathered → PartialMessage → Type 0
 HasGathered accepted held.Nothing gathered = gathered ≡ Nothing
 HasGathered accepted (held.CommandPart context octets) gathered =
     (accepted_with context.id accepted ≡ Some context) × (gathered ≡ CommandPart context.id octets)
@@ -124,13 +124,13 @@ pub record Holding : Type 0 where
 
 -- An assembler stands for one of the definitions.
 pub record Assembles (holding : Holding) (assembly : Assembly) : Type 0 where
-  pub ids : assembly.ids ≡ ids_of holding.accepted
+  pub ids : assembly.ids ≡ accepted_ids holding.accepted
   pub gathered : HasGathered holding.accepted holding.gathered assembly.gathered
 
 -- the assembler, which has these accepted contexts, was given the PDVs
-pub record WasGiven (accepted : List Accepted) (pdvs : List Pdv) (holding : Holding) : Type 0 where
+pub record WasGivenPdvs (accepted : List Accepted) (pdvs : List Pdv) (holding : Holding) : Type 0 where
   pub accepted_are : holding.accepted ≡ accepted
-  pub stands : Assembles holding (assembly_from (new_assembly (ids_of accepted)) pdvs)
+  pub stands : Assembles holding (assembly_from (new_assembly (accepted_ids accepted)) pdvs)
 
 -- the fault that an assembler answers from now on, where it is spent
 abbrev pub fault_held : HeldGathered → Option DimseFault
@@ -180,17 +180,17 @@ StandsForOne accepted (Some held) messages =
     (message : Message) × (messages ≡ message ∷ []) × StandsOn accepted held message
 
 -- The message that a PDV adds to those before, or the fault; or memory ran out.
-abbrev pub Adds : List Accepted → Result (Option HeldMessage) DimseFault → List Message → Messages
+abbrev pub AddsMessage : List Accepted → Result (Option HeldMessage) DimseFault → List Message → Messages
     → Type 0
-Adds accepted (Ok held) before after =
+AddsMessage accepted (Ok held) before after =
     (added : List Message) × StandsForOne accepted held added
     × (after ≡ record { list = before ++ added; fault = None })
-Adds accepted (Err fault) before after =
+AddsMessage accepted (Err fault) before after =
     (fault ≡ NoMemory) ⊎ (after ≡ record { list = before; fault = Some fault })
 
 -- What a PDV makes of what was gathered. This is there for the prover.
-abbrev pub Makes : List Accepted → Result (Option HeldMessage × HeldGathered) DimseFault → Gathering
+abbrev pub MakesGathering : List Accepted → Result (Option HeldMessage × HeldGathered) DimseFault → Gathering
     → Type 0
-Makes accepted (Ok x) made =
+MakesGathering accepted (Ok x) made =
     StandsForOne accepted x.0 made.list × HasGathered accepted x.1 made.gathered
-Makes accepted (Err fault) made = (fault ≡ NoMemory) ⊎ (made ≡ stops_at fault)
+MakesGathering accepted (Err fault) made = (fault ≡ NoMemory) ⊎ (made ≡ stops_at fault)

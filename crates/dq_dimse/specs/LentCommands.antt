@@ -3,8 +3,8 @@ use Rattle.dq_dimse.specs.declared.command.Command.{Command}
 use Rattle.dq_dimse.specs.declared.command.LentCommand.{LentCommand}
 
 -- the command that it is
-abbrev pub said_by : LentCommand → Command
-said_by lent = record {
+abbrev pub command_of_lent : LentCommand → Command
+command_of_lent lent = record {
   code = lent.code;
   id = lent.id;
   sop_class = lent.sop_class.now;

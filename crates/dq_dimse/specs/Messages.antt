@@ -5,7 +5,7 @@ use Rattle.std.specs.Prelude.{◌≡◌, ◌<◌, ◌≤◌, ◌⊎◌, ℕ, Boo
 use Rattle.std.specs.Prelude.{if◌then◌else◌, List, ◌∷◌, ◌++◌, length, All, Option, Some, None}
 use Rattle.std.specs.List.{flat_map}
 use Rattle.dq_pdu.specs.declared.pdu.Pdv.{Pdv}
-use Rattle.dq_pdu.specs.Octets.{is_among}
+use Rattle.dq_pdu.specs.Octets.{is_number_among}
 pub use Rattle.dq_dimse.specs.Limits.{command_limit, store_limit, other_limit}
 use Rattle.dq_dimse.specs.declared.command.Command.{Command}
 use Rattle.dq_dimse.specs.Received.{Message}
@@ -23,8 +23,8 @@ abbrev pub fragment : Pdv → List ℕ
 fragment pdv = pdv.octets
 
 -- the fragments, one after the other
-abbrev pub joined : List Pdv → List ℕ
-joined run = flat_map fragment run
+abbrev pub fragment_octets : List Pdv → List ℕ
+fragment_octets run = flat_map fragment run
 
 -- command fragments, or data fragments, of one context, none of which is the last
 pub record AreFragments (context : ℕ) (command : Bool) (run : List Pdv) : Type 0 where
@@ -45,10 +45,10 @@ pub record AreAllFragments (context : ℕ) (command : Bool) (run : List Pdv) : T
 -- a run of PDVs of an accepted context that is a whole command set
 pub record IsCommand (ids : List ℕ) (context : ℕ) (run : List Pdv) (command : Command)
     : Type 0 where
-  pub accepted : IsTrue (is_among context ids)
+  pub accepted : IsTrue (is_number_among context ids)
   pub fragments : AreAllFragments context true run
-  pub short : length (joined run) ≤ command_limit
-  pub command_is : command_of (joined run) ≡ Some command
+  pub short : length (fragment_octets run) ≤ command_limit
+  pub command_is : command_of (fragment_octets run) ≡ Some command
 
 -- The octets of a message's data set, which are discarded where they pass the limit.
 pub record HasOctets (message : Message) (octets : List ℕ) : Type 0 where
@@ -56,13 +56,13 @@ pub record HasOctets (message : Message) (octets : List ℕ) : Type 0 where
   pub octets_are : message.octets ≡ (if message.over then [] else octets)
 
 -- a run of PDVs that is a message's whole data set
-pub record IsDataSet (message : Message) (run : List Pdv) : Type 0 where
+pub record IsDataSetRun (message : Message) (run : List Pdv) : Type 0 where
   pub fragments : AreAllFragments message.context false run
-  pub octets_are : HasOctets message (joined run)
+  pub octets_are : HasOctets message (fragment_octets run)
 
 -- the data part of a message, by whether its command has a data set
 abbrev pub IsDataPart : Bool → Message → List Pdv → Type 0
-IsDataPart true message run = IsDataSet message run
+IsDataPart true message run = IsDataSetRun message run
 IsDataPart false message run = (run ≡ []) × HasOctets message []
 
 -- a run of PDVs that is a message: its command set, and its data set where it has one
@@ -83,9 +83,9 @@ AreMessages ids (message ∷ messages) pdvs rest =
 -- What a message to come begins with: nothing yet or command fragments, so that a command fragment
 -- is due; or a command set, and of the data set nothing yet or data fragments: one of these is due.
 pub record AwaitsCommand (ids : List ℕ) (context : ℕ) (run : List Pdv) : Type 0 where
-  pub accepted : IsTrue (is_among context ids)
+  pub accepted : IsTrue (is_number_among context ids)
   pub fragments : AreFragments context true run
-  pub short : length (joined run) ≤ command_limit
+  pub short : length (fragment_octets run) ≤ command_limit
 
 pub record AwaitsData (ids : List ℕ) (context : ℕ) (command : Command) (run : List Pdv)
     : Type 0 where
@@ -97,13 +97,13 @@ pub record AwaitsData (ids : List ℕ) (context : ℕ) (command : Command) (run 
   pub fragments : AreFragments context false data_part
 
 -- a run of PDVs that a message may begin with, by whether a command fragment is due
-abbrev pub Begins : List ℕ → Bool → List Pdv → Type 0
-Begins ids true run = (run ≡ []) ⊎ ((context : ℕ) × AwaitsCommand ids context run)
-Begins ids false run = (context : ℕ) × (command : Command) × AwaitsData ids context command run
+abbrev pub BeginsMessage : List ℕ → Bool → List Pdv → Type 0
+BeginsMessage ids true run = (run ≡ []) ⊎ ((context : ℕ) × AwaitsCommand ids context run)
+BeginsMessage ids false run = (context : ℕ) × (command : Command) × AwaitsData ids context command run
 
 -- the PDV is of the context of those before it, or of an accepted one where there are none
 abbrev pub IsExpected : List ℕ → List Pdv → Pdv → Type 0
-IsExpected ids [] pdv = IsTrue (is_among pdv.context ids)
+IsExpected ids [] pdv = IsTrue (is_number_among pdv.context ids)
 IsExpected ids (first ∷ others) pdv = pdv.context ≡ first.context
 
 -- the octets are too many, or the last ones are there and they are no command set
@@ -119,7 +119,7 @@ FitsNot ids command_due front pdv WrongKind =
     IsExpected ids front pdv × (pdv.command ≡ not command_due)
 FitsNot ids command_due front pdv BadCommand =
     IsExpected ids front pdv × (pdv.command ≡ true) × (command_due ≡ true)
-    × IsBad (joined (front ++ pdv ∷ [])) pdv.last
+    × IsBad (fragment_octets (front ++ pdv ∷ [])) pdv.last
 FitsNot ids command_due front pdv NoMemory = ⊥
 
 -- a PDV that goes on with no message, what the message began with, and whatever follows
@@ -129,10 +129,10 @@ pub record HasFault (ids : List ℕ) (rest : List Pdv) (fault : DimseFault) : Ty
   pub others : List Pdv
   pub parts : rest ≡ front ++ pdv ∷ others
   pub command_due : Bool
-  pub begins : Begins ids command_due front
+  pub begins : BeginsMessage ids command_due front
   pub fits_not : FitsNot ids command_due front pdv fault
 
 -- what is left after the messages: what a message begins with, or a fault
 abbrev pub AreLeft : List ℕ → List Pdv → Option DimseFault → Type 0
-AreLeft ids rest None = (command_due : Bool) × Begins ids command_due rest
+AreLeft ids rest None = (command_due : Bool) × BeginsMessage ids command_due rest
 AreLeft ids rest (Some fault) = HasFault ids rest fault

@@ -7,14 +7,14 @@ use Rattle.dq_dimse.specs.declared.fault.DimseFault.TheVariants.{WrongContext, W
 use Rattle.dq_dimse.specs.declared.fault.DimseFault.TheVariants.{BadCommand, NoMemory}
 
 -- What a reader returned, seen by view, is what reading gives, unless memory ran out.
-abbrev pub Gives : {X Y : Type 0} → (X → Y) → Result X DimseFault → Option Y → Type 0
-Gives view (Ok x) read = read ≡ Some (view x)
-Gives view (Err NoMemory) read = Unit {0}
-Gives view (Err BadCommand) read = read ≡ None
-Gives view (Err WrongContext) read = ⊥
-Gives view (Err WrongKind) read = ⊥
+abbrev pub GivesOrDimseFault : {X Y : Type 0} → (X → Y) → Result X DimseFault → Option Y → Type 0
+GivesOrDimseFault view (Ok x) read = read ≡ Some (view x)
+GivesOrDimseFault view (Err NoMemory) read = Unit {0}
+GivesOrDimseFault view (Err BadCommand) read = read ≡ None
+GivesOrDimseFault view (Err WrongContext) read = ⊥
+GivesOrDimseFault view (Err WrongKind) read = ⊥
 
 -- the fault that octets without a data set become
-abbrev pub fault_of : ReadFault → DimseFault
-fault_of read_faults.NoMemory = NoMemory
-fault_of _ = BadCommand
+abbrev pub dimse_fault : ReadFault → DimseFault
+dimse_fault read_faults.NoMemory = NoMemory
+dimse_fault _ = BadCommand

@@ -15,42 +15,42 @@ use Rattle.dq_dimse.specs.CommandElements.{affected_sop_class_uid, affected_sop_
 use Rattle.dq_dimse.specs.CommandElements.{no_data_set, with_data_set}
 
 -- a value of an even length: an odd one gets a zero octet (PS3.5 sections 7.1.1 and 9.1)
-abbrev pub padded : List ℕ → List ℕ
-padded octets = if length octets % 2 == 1 then octets ++ 0 ∷ [] else octets
+abbrev pub zero_padded : List ℕ → List ℕ
+zero_padded octets = if length octets % 2 == 1 then octets ++ 0 ∷ [] else octets
 
 -- an element of group 0000: its number, the length of its value, its value
-abbrev pub element : ℕ → List ℕ → List ℕ
-element number value = 0 ∷ 0 ∷ (to_le_bytes w16 number ++ to_le_bytes w32 (length value) ++ value)
+abbrev pub command_element : ℕ → List ℕ → List ℕ
+command_element number value = 0 ∷ 0 ∷ (to_le_bytes w16 number ++ to_le_bytes w32 (length value) ++ value)
 
-abbrev pub short_element : ℕ → ℕ → List ℕ
-short_element number value = element number (to_le_bytes w16 value)
+abbrev pub short_command_element : ℕ → ℕ → List ℕ
+short_command_element number value = command_element number (to_le_bytes w16 value)
 
 -- the instance, where there is one
 abbrev pub instance_element : List ℕ → List ℕ
 instance_element [] = []
-instance_element (octet ∷ octets) = element affected_sop_instance_uid (padded (octet ∷ octets))
+instance_element (octet ∷ octets) = command_element affected_sop_instance_uid (zero_padded (octet ∷ octets))
 
 -- the elements of a response after its group length, in the order of their numbers
 abbrev pub command_elements : Command → List ℕ
 command_elements command =
-    element affected_sop_class_uid (padded command.sop_class)
-    ++ short_element command_field command.code
-    ++ short_element message_id_being_responded_to command.id
-    ++ short_element command_data_set_type
+    command_element affected_sop_class_uid (zero_padded command.sop_class)
+    ++ short_command_element command_field command.code
+    ++ short_command_element message_id_being_responded_to command.id
+    ++ short_command_element command_data_set_type
     (if command.with_data then with_data_set else no_data_set)
-    ++ short_element status_element command.status
+    ++ short_command_element status_element command.status
     ++ instance_element command.sop_instance
 
 -- the command set of a response: its group length, and its elements
 abbrev pub command_set : Command → List ℕ
 command_set command =
-    element command_group_length (to_le_bytes w32 (length (command_elements command)))
+    command_element command_group_length (to_le_bytes w32 (length (command_elements command)))
     ++ command_elements command
 
 -- The longest PDU that a peer takes (PS3.8 annex D.1): 0 is no limit, and any other leaves room for
 -- data.
-abbrev pub IsLimit : ℕ → Type 0
-IsLimit limit = (limit ≡ 0) ⊎ (least_limit ≤ limit)
+abbrev pub IsPduLimit : ℕ → Type 0
+IsPduLimit limit = (limit ≡ 0) ⊎ (least_limit ≤ limit)
 
 -- The longest PDU that is sent: the own limit, or what the peer takes where that is less.
 abbrev pub pdu_limit : ℕ → ℕ
@@ -103,15 +103,15 @@ cut_within context command size octets =
     flat_map spelling (pdus_of context command (fragments size octets))
 
 -- octets cut into PDUs
-abbrev pub cut : ℕ → Bool → ℕ → List ℕ → List ℕ
-cut context command limit octets =
+abbrev pub cut_into_pdus : ℕ → Bool → ℕ → List ℕ → List ℕ
+cut_into_pdus context command limit octets =
     cut_within context command (fragment_size limit) octets
 
 abbrev pub data_cut : ℕ → ℕ → Option (List ℕ) → List ℕ
 data_cut context limit None = []
-data_cut context limit (Some octets) = cut context false limit octets
+data_cut context limit (Some octets) = cut_into_pdus context false limit octets
 
 -- what is sent: the command set, and after it the data set; they share no PDU
-abbrev pub sent : ℕ → Command → Option (List ℕ) → ℕ → List ℕ
-sent context command octets limit =
-    cut context true limit (command_set command) ++ data_cut context limit octets
+abbrev pub message_pdus : ℕ → Command → Option (List ℕ) → ℕ → List ℕ
+message_pdus context command octets limit =
+    cut_into_pdus context true limit (command_set command) ++ data_cut context limit octets

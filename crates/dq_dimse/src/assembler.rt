@@ -2,15 +2,15 @@
 ghost use Rattle.std.specs.Prelude.{◌≡◌, ◌≤◌, ℕ, false, not, ◌&&◌, List, [], ◌∷◌, ◌++◌, length};
 ghost use Rattle.std.specs.Prelude.{Some, None, IfOk, OnOk, IfErr, OnErr};
 ghost use Rattle.dq_dimse.specs.Received.{Message as Received};
-ghost use Rattle.dq_dimse.specs.Assembling.{Assembly, Gathered as Pure};
+ghost use Rattle.dq_dimse.specs.Assembling.{Assembly, PartialMessage as Pure};
 ghost use Rattle.dq_dimse.specs.Assembling.{after_command, after_data, begun_with};
 ghost use Rattle.dq_dimse.specs.Assembling.{command_completed, gather, with_fragment};
 ghost use Rattle.dq_dimse.specs.Assembling.{messages, messages_from, assembly_from};
-ghost use Rattle.dq_dimse.specs.Assembling.{IsKept, IsKeptCommand, IsKeptData, NeedsMemory};
+ghost use Rattle.dq_dimse.specs.Assembling.{IsPdvKept, IsKeptCommand, IsKeptData, NeedsMemory};
 ghost use Rattle.dq_dimse.specs.Commands.{command_of};
-ghost use Rattle.dq_dimse.specs.Holding.{Adds, Assembles, HasBegun, HasGathered, Makes};
-ghost use Rattle.dq_dimse.specs.Holding.{BodyStandsFor, PartStandsFor, StandsFor, WasGiven};
-ghost use Rattle.dq_dimse.specs.Holding.{accepted_with, fault_held, ids_of, is_sifted, is_stored, spent_with};
+ghost use Rattle.dq_dimse.specs.Holding.{AddsMessage, Assembles, HasBegun, HasGathered, MakesGathering};
+ghost use Rattle.dq_dimse.specs.Holding.{BodyStandsFor, PartStandsFor, StandsFor, WasGivenPdvs};
+ghost use Rattle.dq_dimse.specs.Holding.{accepted_with, fault_held, accepted_ids, is_sifted, is_stored, spent_with};
 ghost use Rattle.dq_dimse.specs.Messages.{data_limit};
 
 use crate::attributes::KEPT_ATTRIBUTES;
@@ -60,7 +60,7 @@ pub(crate) struct Begun {
 
 /// What an assembler holds between two PDVs.
 #[derive(Drop)]
-pub(crate) enum Gathered {
+pub(crate) enum PartialMessage {
     Nothing,
     /// The fragments of a command set so far, and their context.
     CommandPart(Accepted, Listed<u8>),
@@ -73,7 +73,7 @@ pub(crate) enum Gathered {
 pub struct Assembler {
     alloc: Global,
     accepted: Listed<Accepted>,
-    gathered: Gathered,
+    gathered: PartialMessage,
 }
 
 impl Model for Assembler {
@@ -238,16 +238,16 @@ fn command_completed(
     alloc: Global,
     context: Accepted,
     octets: &[u8],
-) -> Result<(Option<Message>, Gathered), DimseFault>
+) -> Result<(Option<Message>, PartialMessage), DimseFault>
     ensures made { (accepted : List Accepted) → accepted_with context.id accepted ≡ Some context →
-        Makes accepted result (command_completed context.id (command_of octets.now)) }
+        MakesGathering accepted result (command_completed context.id (command_of octets.now)) }
     ensures unspent { IfOk result (λ x. fault_held x.1 ≡ None) }
 {
     let begun = Begun::new(alloc, context, reading::command_of(alloc, octets)?);
     if begun.command.with_data {
-        Ok((None, Gathered::DataPart(begun)))
+        Ok((None, PartialMessage::DataPart(begun)))
     } else {
-        Ok((Some(begun.into_message(alloc)), Gathered::Nothing))
+        Ok((Some(begun.into_message(alloc)), PartialMessage::Nothing))
     }
 }
 
@@ -257,9 +257,9 @@ fn after_command(
     context: Accepted,
     mut octets: Vec<u8>,
     pdv: &Pdv,
-) -> Result<(Option<Message>, Gathered), DimseFault>
+) -> Result<(Option<Message>, PartialMessage), DimseFault>
     ensures made { (accepted : List Accepted) → accepted_with context.id accepted ≡ Some context →
-        Makes accepted result (after_command context.id octets.items pdv.now) }
+        MakesGathering accepted result (after_command context.id octets.items pdv.now) }
     ensures unspent { IfOk result (λ x. fault_held x.1 ≡ None) }
     ensures memory { result ≡ Err DimseFault.NoMemory → IsKeptCommand octets.items pdv.now }
 {
@@ -275,7 +275,7 @@ fn after_command(
         command_completed(alloc, context, &octets)
     } else {
         let octets = Listed::from_inner(octets);
-        Ok((None, Gathered::CommandPart(context, octets)))
+        Ok((None, PartialMessage::CommandPart(context, octets)))
     }
 }
 
@@ -284,10 +284,10 @@ fn after_data(
     alloc: Global,
     begun: Begun,
     pdv: &Pdv,
-) -> Result<(Option<Message>, Gathered), DimseFault>
+) -> Result<(Option<Message>, PartialMessage), DimseFault>
     ensures made { (accepted : List Accepted) (message : Received) →
         accepted_with begun.context.id accepted ≡ Some begun.context → HasBegun begun message →
-        Makes accepted result (after_data message pdv.now) }
+        MakesGathering accepted result (after_data message pdv.now) }
     ensures unspent { IfOk result (λ x. fault_held x.1 ≡ None) }
     ensures memory { (message : Received) → HasBegun begun message →
         result ≡ Err DimseFault.NoMemory → IsKeptData message pdv.now }
@@ -297,9 +297,9 @@ fn after_data(
     }
     let begun = begun.with_fragment(pdv.octets.as_slice())?;
     if pdv.last {
-        Ok((Some(begun.into_message(alloc)), Gathered::Nothing))
+        Ok((Some(begun.into_message(alloc)), PartialMessage::Nothing))
     } else {
-        Ok((None, Gathered::DataPart(begun)))
+        Ok((None, PartialMessage::DataPart(begun)))
     }
 }
 
@@ -307,55 +307,55 @@ fn after_data(
 fn gather(
     alloc: Global,
     accepted: &[Accepted],
-    gathered: Gathered,
+    gathered: PartialMessage,
     pdv: &Pdv,
-) -> Result<(Option<Message>, Gathered), DimseFault>
+) -> Result<(Option<Message>, PartialMessage), DimseFault>
     ensures made { (before : Pure) → HasGathered accepted.now gathered before →
-        Makes accepted.now result (gather (ids_of accepted.now) before pdv.now) }
+        MakesGathering accepted.now result (gather (accepted_ids accepted.now) before pdv.now) }
     ensures unspent { IfOk result (λ x. fault_held x.1 ≡ None) }
-    ensures stays { (fault : DimseFault) → gathered ≡ Gathered.Spent fault → result ≡ Err fault }
+    ensures stays { (fault : DimseFault) → gathered ≡ PartialMessage.Spent fault → result ≡ Err fault }
     ensures memory { (before : Pure) → HasGathered accepted.now gathered before →
-        result ≡ Err DimseFault.NoMemory → IsKept (ids_of accepted.now) before pdv.now }
+        result ≡ Err DimseFault.NoMemory → IsPdvKept (accepted_ids accepted.now) before pdv.now }
 {
     match gathered {
-        Gathered::Nothing => {
+        PartialMessage::Nothing => {
             let Some(context) = accepted_with(pdv.context, accepted) else {
                 return Err(DimseFault::WrongContext);
             };
             after_command(alloc, context, Vec::new(alloc), pdv)
         }
-        Gathered::CommandPart(context, octets) => {
+        PartialMessage::CommandPart(context, octets) => {
             if pdv.context != context.id {
                 return Err(DimseFault::WrongContext);
             }
             after_command(alloc, context, octets.into_inner(), pdv)
         }
-        Gathered::DataPart(begun) => {
+        PartialMessage::DataPart(begun) => {
             if pdv.context != begun.context.id {
                 return Err(DimseFault::WrongContext);
             }
             after_data(alloc, begun, pdv)
         }
-        Gathered::Spent(fault) => Err(fault),
+        PartialMessage::Spent(fault) => Err(fault),
     }
 }
 
 impl Assembler {
     /// An assembler for the accepted contexts, which was given no PDV. It takes no memory.
     pub fn new(alloc: Global, accepted: Listed<Accepted>) -> Self
-        ensures { WasGiven accepted [] result }
+        ensures { WasGivenPdvs accepted [] result }
     {
         Assembler {
             alloc,
             accepted,
-            gathered: Gathered::Nothing,
+            gathered: PartialMessage::Nothing,
         }
     }
 
     /// Takes the next PDV, by what was gathered alone.
     fn take_next(&mut self, pdv: &Pdv) -> Result<Option<Message>, DimseFault>
         ensures exact { (assembly : Assembly) → Assembles self.old assembly →
-            Adds self.old.accepted result [] (messages_from assembly (pdv.now ∷ [])) }
+            AddsMessage self.old.accepted result [] (messages_from assembly (pdv.now ∷ [])) }
         ensures next { (assembly : Assembly) → Assembles self.old assembly →
             OnOk result (Assembles self.new (assembly_from assembly (pdv.now ∷ []))) }
         ensures spent { IfErr result (λ fault. spent_with self.new ≡ Some fault) }
@@ -366,14 +366,17 @@ impl Assembler {
         ensures memory { (assembly : Assembly) → Assembles self.old assembly →
             result ≡ Err DimseFault.NoMemory → NeedsMemory assembly pdv.now }
     {
-        let before = mem::replace(&mut self.gathered, Gathered::Spent(DimseFault::NoMemory));
+        let before = mem::replace(
+            &mut self.gathered,
+            PartialMessage::Spent(DimseFault::NoMemory),
+        );
         match gather(self.alloc, self.accepted.as_slice(), before, pdv) {
             Ok((message, gathered)) => {
                 self.gathered = gathered;
                 Ok(message)
             }
             Err(fault) => {
-                self.gathered = Gathered::Spent(fault);
+                self.gathered = PartialMessage::Spent(fault);
                 Err(fault)
             }
         }
@@ -389,15 +392,15 @@ impl Assembler {
     pub fn take(&mut self, pdv: &Pdv) -> Result<Option<Message>, DimseFault>
         // Whatever PDVs the assembler was given: the message, or the fault, that one more adds.
         ensures adds { (accepted : List Accepted) (pdvs : List Pdv) →
-            WasGiven accepted pdvs self.old →
-            Adds accepted result (messages (ids_of accepted) pdvs).list
-            (messages (ids_of accepted) (pdvs ++ pdv.now ∷ [])) }
+            WasGivenPdvs accepted pdvs self.old →
+            AddsMessage accepted result (messages (accepted_ids accepted) pdvs).list
+            (messages (accepted_ids accepted) (pdvs ++ pdv.now ∷ [])) }
         ensures stands { (accepted : List Accepted) (pdvs : List Pdv) →
-            WasGiven accepted pdvs self.old →
-            OnOk result (WasGiven accepted (pdvs ++ pdv.now ∷ []) self.new) }
+            WasGivenPdvs accepted pdvs self.old →
+            OnOk result (WasGivenPdvs accepted (pdvs ++ pdv.now ∷ []) self.new) }
         // What one PDV adds to whatever the assembler stands for.
         ensures exact { (assembly : Assembly) → Assembles self.old assembly →
-            Adds self.old.accepted result [] (messages_from assembly (pdv.now ∷ [])) }
+            AddsMessage self.old.accepted result [] (messages_from assembly (pdv.now ∷ [])) }
         ensures next { (assembly : Assembly) → Assembles self.old assembly →
             OnOk result (Assembles self.new (assembly_from assembly (pdv.now ∷ []))) }
         ensures spent { IfErr result (λ fault. spent_with self.new ≡ Some fault) }

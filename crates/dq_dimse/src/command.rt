@@ -34,11 +34,11 @@ pub struct LentCommand<'a> {
 }
 
 impl Command {
-    ghost use Rattle.dq_dimse.specs.LentCommands.{said_by};
+    ghost use Rattle.dq_dimse.specs.LentCommands.{command_of_lent};
 
     /// It, without copies.
     pub(crate) fn lent(&self) -> LentCommand<'_>
-        ensures { said_by result ≡ self.now }
+        ensures { command_of_lent result ≡ self.now }
     {
         LentCommand {
             code: self.code,

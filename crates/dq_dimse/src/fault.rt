@@ -1,7 +1,7 @@
 //! Why presentation data values are no messages.
 ghost use Rattle.std.specs.Prelude.{◌≡◌};
 ghost use Rattle.dq_dimse.specs.declared.fault.DimseFault.TheVariants.{NoMemory};
-ghost use Rattle.dq_dimse.specs.Reading.{fault_of};
+ghost use Rattle.dq_dimse.specs.Reading.{dimse_fault};
 
 use dq_dataset::ReadFault;
 use std::alloc::AllocError;
@@ -21,11 +21,11 @@ pub enum DimseFault {
 }
 
 impl DimseFault {
-    ghost use Rattle.dq_dimse.specs.Faults.{number_of};
+    ghost use Rattle.dq_dimse.specs.Faults.{dimse_fault_number};
 
     /// 1 to 4, in the order in which the faults are declared.
     pub fn number(self) -> u8
-        ensures { result ≡ number_of self }
+        ensures { result ≡ dimse_fault_number self }
     {
         self as u8
     }
@@ -40,7 +40,7 @@ impl From<AllocError> for DimseFault {
 }
 
 impl From<ReadFault> for DimseFault {
-    ghost from_gives = { λ e f. f ≡ fault_of e };
+    ghost from_gives = { λ e f. f ≡ dimse_fault e };
 
     fn from(e: ReadFault) -> DimseFault {
         match e {

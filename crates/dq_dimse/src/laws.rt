@@ -2,29 +2,29 @@
 //! that does nothing.
 ghost use Rattle.std.specs.Prelude.{◌≡◌, ◌≤◌, ◌<◌, ◌⊎◌, ℕ, Bool, true, false, IsTrue, List, [], ◌∷◌};
 ghost use Rattle.std.specs.Prelude.{◌++◌, length, map, Option, Some, None};
+ghost use Rattle.dq_list.specs.Octets.{AreOctets};
 ghost use Rattle.dq_pdu.specs.declared.pdu.Pdv.{Pdv};
 ghost use Rattle.dq_pdu.specs.Writing.{body, is_writable, p_data};
 ghost use Rattle.dq_dataset.specs.declared.header.Syntax.{Syntax};
-ghost use Rattle.dq_dataset.specs.Grammar.{AreOctets};
 ghost use Rattle.dq_dimse.specs.declared.command.Command.{Command};
 ghost use Rattle.dq_dimse.specs.declared.command.Message.{Message as HeldMessage};
 ghost use Rattle.dq_dimse.specs.Received.{Message};
 ghost use Rattle.dq_dimse.specs.declared.fault.DimseFault.{DimseFault};
-ghost use Rattle.dq_pdu.specs.Octets.{is_among};
+ghost use Rattle.dq_pdu.specs.Octets.{is_number_among};
 ghost use Rattle.dq_pdu.specs.Stream.{pdus_in};
 ghost use Rattle.dq_dimse.specs.Carrying.{Carries, IsDataOf, pdu_with};
 ghost use Rattle.dq_dimse.specs.Commands.{command_of};
 ghost use Rattle.dq_dimse.specs.CommandSets.{IsCommandSet, HasFields, SaysResponse};
 ghost use Rattle.dq_dimse.specs.declared.assembler.Accepted.{Accepted};
 ghost use Rattle.dq_dimse.specs.declared.assembler.Begun.{Begun};
-ghost use Rattle.dq_dimse.specs.declared.assembler.Gathered.TheVariants as held;
-ghost use Rattle.dq_dimse.specs.Holding.{StandsFor, Holding, WasGiven, is_stored, plain_message};
+ghost use Rattle.dq_dimse.specs.declared.assembler.PartialMessage.TheVariants as held;
+ghost use Rattle.dq_dimse.specs.Holding.{StandsFor, Holding, WasGivenPdvs, is_stored, plain_message};
 ghost use Rattle.dq_dimse.specs.Holding.{octets_gathered, gathered_limit, SiftsWithin};
 ghost use Rattle.dq_dimse.specs.Messages.{AreMessages, AreLeft, command_limit, store_limit};
 ghost use Rattle.dq_dimse.specs.Assembling.{Assembly, AssemblerAfter, messages, messages_from};
 ghost use Rattle.dq_dimse.specs.Assembling.{assembly_from, followed_by, spent_by};
 ghost use Rattle.dq_dimse.specs.Sending.{IsFragmentSize, AreFragmentsOf, command_set, pdu_limit};
-ghost use Rattle.dq_dimse.specs.Sending.{fragment_size, fragments, sent, IsLimit};
+ghost use Rattle.dq_dimse.specs.Sending.{fragment_size, fragments, message_pdus, IsPduLimit};
 ghost use Rattle.dq_dimse.specs.declared.status.TheConstants as coded_status;
 ghost use Rattle.dq_dimse.specs.Statuses as status;
 ghost use Rattle.dq_dimse.specs.declared.command_field.TheConstants as coded_field;
@@ -153,27 +153,27 @@ pub fn plain_messages_are_held()
 /// at most 4,294,967,295 octets (PS3.7 section 6.3.1).
 pub fn unfinished_messages_are_short()
     ensures held { (accepted : List Accepted) (pdvs : List Pdv) (holding : Holding) →
-        WasGiven accepted pdvs holding →
+        WasGivenPdvs accepted pdvs holding →
         length (octets_gathered holding.gathered) ≤ gathered_limit holding.gathered }
     ensures sifted { (accepted : List Accepted) (pdvs : List Pdv) (holding : Holding)
-        (begun : Begun) → WasGiven accepted pdvs holding →
+        (begun : Begun) → WasGivenPdvs accepted pdvs holding →
         holding.gathered ≡ held.DataPart begun →
         SiftsWithin begun.context.syntax begun.data_set store_limit }
 {}
 
 /// The length of a fragment is the largest that a PDU for the peer has room for (PS3.8 annex D.1).
 pub fn fragments_leave_room()
-    ensures { (limit : ℕ) → IsLimit limit →
+    ensures { (limit : ℕ) → IsPduLimit limit →
         IsFragmentSize limit (fragment_size limit) }
 {}
 
 /// A fragment's PDU is no longer than the peer takes, and it can be written.
 pub fn pdus_fit()
     ensures short { (limit context : ℕ) (command last : Bool) (octets : List ℕ) →
-        IsLimit limit → length octets ≤ fragment_size limit →
+        IsPduLimit limit → length octets ≤ fragment_size limit →
         length (body (p_data context command last octets)) ≤ pdu_limit limit }
     ensures writable { (limit context : ℕ) (command last : Bool) (octets : List ℕ) →
-        IsLimit limit → length octets ≤ fragment_size limit →
+        IsPduLimit limit → length octets ≤ fragment_size limit →
         IsTrue (is_writable (p_data context command last octets)) }
 {}
 
@@ -189,8 +189,8 @@ pub fn fragments_are_the_only()
 /// carry the command set and the data set.
 pub fn what_is_sent_is_read()
     ensures { (context limit : ℕ) (command : Command) (octets : Option (List ℕ)) →
-        IsLimit limit → (pdvs : List Pdv)
-        × (pdus_in (sent context command octets limit)
+        IsPduLimit limit → (pdvs : List Pdv)
+        × (pdus_in (message_pdus context command octets limit)
         ≡ record { list = map pdu_with pdvs; rest = []; fault = None })
         × Carries context (command_set command) octets pdvs }
 {
@@ -202,7 +202,7 @@ pub fn what_is_sent_is_read()
 /// other.
 pub fn what_is_carried_is_read()
     ensures { (ids : List ℕ) (message : Message) (set : List ℕ) (octets : Option (List ℕ))
-        (pdvs : List Pdv) → IsTrue (is_among message.context ids) → length set ≤ command_limit →
+        (pdvs : List Pdv) → IsTrue (is_number_among message.context ids) → length set ≤ command_limit →
         command_of set ≡ Some message.command → IsDataOf message octets →
         Carries message.context set octets pdvs →
         messages ids pdvs ≡ record { list = message ∷ []; fault = None } }

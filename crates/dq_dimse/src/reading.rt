@@ -3,9 +3,9 @@
 ghost use Rattle.std.specs.Prelude.{◌≡◌, IfOk, option_map};
 ghost use Rattle.std.specs.List.{list_all};
 ghost use Rattle.dq_dataset.specs.View.{elements_of};
-ghost use Rattle.dq_dimse.specs.Commands.{belongs, value_of, number_of, identifier_of, id_number};
-ghost use Rattle.dq_dimse.specs.Commands.{class_number, instance_number, command_from, command_of};
-ghost use Rattle.dq_dimse.specs.Reading.{Gives};
+ghost use Rattle.dq_dimse.specs.Commands.{belongs, value_of, unsigned_short_at, identifier_of, id_number};
+ghost use Rattle.dq_dimse.specs.Commands.{class_number, instance_number_element, command_from, command_of};
+ghost use Rattle.dq_dimse.specs.Reading.{GivesOrDimseFault};
 
 use crate::command::Command;
 use crate::fault::DimseFault;
@@ -41,7 +41,7 @@ fn value_of(number: u16, set: &DataSet) -> Option<&[u8]>
 
 /// A value of two octets.
 fn number_of(number: u16, set: &DataSet) -> Result<u16, DimseFault>
-    ensures { Gives (λ n. n) result (number_of number set.now) }
+    ensures { GivesOrDimseFault (λ n. n) result (unsigned_short_at number set.now) }
 {
     match value_of(number, set) {
         Some([low, high]) => Ok(u16::from_le_bytes([*low, *high])),
@@ -79,7 +79,7 @@ fn class_number(code: u16) -> u16
 }
 
 fn instance_number(code: u16) -> u16
-    ensures { result ≡ instance_number code }
+    ensures { result ≡ instance_number_element code }
 {
     if code == command_field::N_SET {
         numbers::REQUESTED_SOP_INSTANCE_UID
@@ -91,7 +91,7 @@ fn instance_number(code: u16) -> u16
 /// The command that the elements make.
 #[tactic(auto, unfolding(crate::specs::Commands::command_from))]
 fn command_from(alloc: Global, set: &DataSet) -> Result<Command, DimseFault>
-    ensures { Gives (λ command. command) result (command_from set.now) }
+    ensures { GivesOrDimseFault (λ command. command) result (command_from set.now) }
 {
     let code = number_of(numbers::COMMAND_FIELD, set)?;
     let data_set_type = number_of(numbers::COMMAND_DATA_SET_TYPE, set)?;
@@ -112,7 +112,7 @@ fn command_from(alloc: Global, set: &DataSet) -> Result<Command, DimseFault>
 /// The command that a command set spells.
 #[tactic(auto, unfolding(crate::specs::Commands::command_of))]
 pub(crate) fn command_of(alloc: Global, octets: &[u8]) -> Result<Command, DimseFault>
-    ensures { Gives (λ command. command) result (command_of octets.now) }
+    ensures { GivesOrDimseFault (λ command. command) result (command_of octets.now) }
 {
     let set = read(alloc, octets, Syntax::Implicit)?;
     if !is_own(&set) {

@@ -2,12 +2,12 @@
 ghost use Rattle.std.specs.Prelude.{◌≡◌, ◌+◌, ◌-◌, ◌<◌, ◌≤◌, ◌∷◌, ◌++◌, ◌↔◌, length, IsTrue, IsSome, true, false, take, drop, vec_len};
 ghost use Rattle.std.specs.Prelude.{IfOk, OnOk, option_map};
 ghost use Rattle.std.specs.Int.{w16, w32, to_le_bytes};
-ghost use Rattle.dq_dimse.specs.LentCommands.{said_by};
-ghost use Rattle.dq_dimse.specs.Sending.{padded, element, short_element, instance_element};
+ghost use Rattle.dq_dimse.specs.LentCommands.{command_of_lent};
+ghost use Rattle.dq_dimse.specs.Sending.{zero_padded, command_element, short_command_element, instance_element};
 ghost use Rattle.dq_pdu.specs.Numbers.{pdv_header};
 ghost use Rattle.dq_dimse.specs.Sending.{command_elements, command_set, fragment_size};
-ghost use Rattle.dq_dimse.specs.Sending.{IsLimit, own_limit};
-ghost use Rattle.dq_dimse.specs.Sending.{cut_within, cut, data_cut, sent};
+ghost use Rattle.dq_dimse.specs.Sending.{IsPduLimit, own_limit};
+ghost use Rattle.dq_dimse.specs.Sending.{cut_within, cut_into_pdus, data_cut, message_pdus};
 
 use crate::command::{Command, LentCommand};
 use crate::numbers;
@@ -38,7 +38,7 @@ fn put_header(out: &mut Vec<u8>, number: u16, length: usize) -> Result<(), Alloc
 
 /// Writes an element of group 0000.
 fn put_element(out: &mut Vec<u8>, number: u16, value: &[u8]) -> Result<(), AllocError>
-    ensures { OnOk result (out.new.items ≡ out.old.items ++ element number value.now) }
+    ensures { OnOk result (out.new.items ≡ out.old.items ++ command_element number value.now) }
 {
     put_header(out, number, value.len())?;
     out.extend_from_slice(value)
@@ -46,14 +46,14 @@ fn put_element(out: &mut Vec<u8>, number: u16, value: &[u8]) -> Result<(), Alloc
 
 /// Writes an element whose value is a number of two octets.
 fn put_short(out: &mut Vec<u8>, number: u16, value: u16) -> Result<(), AllocError>
-    ensures { OnOk result (out.new.items ≡ out.old.items ++ short_element number value) }
+    ensures { OnOk result (out.new.items ≡ out.old.items ++ short_command_element number value) }
 {
     put_element(out, number, &value.to_le_bytes())
 }
 
 /// Writes an element whose value is an identifier, with a zero octet after an odd number of octets.
 fn put_identifier(out: &mut Vec<u8>, number: u16, value: &[u8]) -> Result<(), AllocError>
-    ensures { OnOk result (out.new.items ≡ out.old.items ++ element number (padded value.now)) }
+    ensures { OnOk result (out.new.items ≡ out.old.items ++ command_element number (zero_padded value.now)) }
 {
     if value.len() % 2 == 0 {
         return put_element(out, number, value);
@@ -77,7 +77,7 @@ fn put_instance(out: &mut Vec<u8>, instance: &[u8]) -> Result<(), AllocError>
 /// Writes the elements of a response after its group length.
 fn put_command_elements(out: &mut Vec<u8>, command: LentCommand<'_>) -> Result<(), AllocError>
     ensures { OnOk result
-        (out.new.items ≡ out.old.items ++ command_elements (said_by command.entry)) }
+        (out.new.items ≡ out.old.items ++ command_elements (command_of_lent command.entry)) }
 {
     let data_set_type = if command.with_data {
         numbers::DATA_SET
@@ -104,7 +104,7 @@ fn put_group_length(set: &mut Vec<u8>)
 
 /// The command set of a response. Its group length is put in place last.
 fn command_set(alloc: Global, command: LentCommand<'_>) -> Result<Vec<u8>, AllocError>
-    ensures { IfOk result (λ written. written.items ≡ command_set (said_by command.entry)) }
+    ensures { IfOk result (λ written. written.items ≡ command_set (command_of_lent command.entry)) }
 {
     let mut out = Vec::with_capacity(alloc, USUAL_LENGTH)?;
     put_element(&mut out, numbers::COMMAND_GROUP_LENGTH, &[0; 4])?;
@@ -115,7 +115,7 @@ fn command_set(alloc: Global, command: LentCommand<'_>) -> Result<Vec<u8>, Alloc
 
 /// The length of a fragment for a peer's limit, where 0 is no limit.
 fn fragment_size(limit: u32) -> usize
-    requires { IsLimit limit }
+    requires { IsPduLimit limit }
     ensures size { result ≡ fragment_size limit }
     ensures some { 0 < result }
     ensures short { result + pdv_header ≤ own_limit }
@@ -158,9 +158,9 @@ fn put_cut(
     limit: u32,
     octets: &[u8],
 ) -> Result<(), AllocError>
-    requires { IsLimit limit }
+    requires { IsPduLimit limit }
     ensures { OnOk result (out.new.items
-        ≡ out.old.items ++ cut context command limit octets.now) }
+        ≡ out.old.items ++ cut_into_pdus context command limit octets.now) }
 {
     put_fragments(out, context, command, fragment_size(limit), octets)
 }
@@ -174,9 +174,9 @@ pub fn append_command(
     command: LentCommand<'_>,
     limit: u32,
 ) -> Result<(), AllocError>
-    requires { IsLimit limit }
+    requires { IsPduLimit limit }
     ensures { OnOk result (out.new.items
-        ≡ out.old.items ++ cut context true limit (command_set (said_by command.entry))) }
+        ≡ out.old.items ++ cut_into_pdus context true limit (command_set (command_of_lent command.entry))) }
 {
     let set = command_set(alloc, command)?;
     put_cut(out, context, true, limit, &set)
@@ -190,9 +190,9 @@ pub fn append_data_set(
     octets: &[u8],
     limit: u32,
 ) -> Result<(), AllocError>
-    requires { IsLimit limit }
+    requires { IsPduLimit limit }
     ensures { OnOk result (out.new.items
-        ≡ out.old.items ++ cut context false limit octets.now) }
+        ≡ out.old.items ++ cut_into_pdus context false limit octets.now) }
 {
     put_cut(out, context, false, limit, octets)
 }
@@ -204,7 +204,7 @@ fn put_data(
     limit: u32,
     octets: Option<&[u8]>,
 ) -> Result<(), AllocError>
-    requires { IsLimit limit }
+    requires { IsPduLimit limit }
     ensures { OnOk result (out.new.items
         ≡ out.old.items ++ data_cut context limit (option_map (λ o. o.now) octets.entry)) }
 {
@@ -224,9 +224,9 @@ pub fn write_message(
     limit: u32,
 ) -> Result<Vec<u8>, AllocError>
     requires with_data { IsTrue command.now.with_data ↔ IsSome octets }
-    requires limit { IsLimit limit }
+    requires limit { IsPduLimit limit }
     ensures { IfOk result (λ written. written.items
-        ≡ sent context command.now (option_map (λ o. o.now) octets.entry) limit) }
+        ≡ message_pdus context command.now (option_map (λ o. o.now) octets.entry) limit) }
 {
     let mut written = Vec::new(alloc);
     append_command(alloc, &mut written, context, command.lent(), limit)?;

@@ -3,13 +3,13 @@ use Rattle.std.proofs.Common.{◌≡◌, Bool, true, false, cond, ◌||◌, ◌&
 use Rattle.dq_vr.specs.Tags.{specific_character_set, scheduled_procedure_step_start_date, scheduled_procedure_step_start_time}
 use Rattle.dq_dataset.specs.declared.data_set.Value.TheVariants.{Octets}
 use Rattle.dq_dataset.specs.Tree.{ElementList, no_elements, element, sequence}
-use Rattle.dq_dataset.specs.Values.{element_at, octets_in, sole_at}
+use Rattle.dq_dataset.specs.Values.{element_at, element_octets, sole_at}
 use Rattle.dq_match.specs.declared.keys.Place.{Place}
 use Rattle.dq_match.specs.declared.keys.Place.TheVariants.{Outer}
 use Rattle.dq_match.specs.Keys.{items_in, is_key}
 use Rattle.dq_match.specs.Values.{octets_meet}
-use Rattle.dq_match.specs.Matching.{period, start_day, start_time, is_passed, with_period, each_met, items_meet, fits}
-use Rattle.dq_match.specs.Responses.{put, or_empty, shown_keys, unless_empty, put_first, shown}
+use Rattle.dq_match.specs.Matching.{period, start_day, start_time, is_matched_elsewhere, with_period, each_met, items_meet, fits}
+use Rattle.dq_match.specs.Responses.{put, or_empty, shown_keys, unless_empty, put_first, shown_data_set}
 
 abbrev pub Agree : ElementList → ElementList → ElementList → Type 0
 Agree no_elements a b = Unit {0}
@@ -20,9 +20,9 @@ each_alike : (keys : ElementList) (place : Place) (a b : ElementList) (joined : 
     → each_met keys place a joined ≡ each_met keys place b joined
 each_alike no_elements place a b joined h = refl
 each_alike (element t v o rest) place a b joined h =
-    λ i. (is_passed place joined t || octets_meet v o (octets_in (h.0 i))) && each_alike rest place a b joined h.1 i
+    λ i. (is_matched_elsewhere place joined t || octets_meet v o (element_octets (h.0 i))) && each_alike rest place a b joined h.1 i
 each_alike (sequence t v items rest) place a b joined h =
-    λ i. (is_passed place joined t || items_meet items (items_in (h.0 i))) && each_alike rest place a b joined h.1 i
+    λ i. (is_matched_elsewhere place joined t || items_meet items (items_in (h.0 i))) && each_alike rest place a b joined h.1 i
 
 period_alike : (keys a b : ElementList) → start_day a ≡ start_day b → start_time a ≡ start_time b → period keys a ≡ period keys b
 unfolding period
@@ -44,6 +44,6 @@ keys_alike (element t v o rest) place a b h =
 keys_alike (sequence t v items rest) place a b h = grind (arith, keys_alike rest place a b h.1)
 
 pub shown_alike : (keys a b : ElementList) → Agree keys a b → element_at specific_character_set a ≡ element_at specific_character_set b
-    → shown keys a ≡ shown keys b
-unfolding shown
+    → shown_data_set keys a ≡ shown_data_set keys b
+unfolding shown_data_set
 shown_alike keys a b h set = λ i. put_first (unless_empty (set i)) (keys_alike keys Outer a b h i)

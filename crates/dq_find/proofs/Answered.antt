@@ -8,13 +8,13 @@ use Rattle.dq_list.proofs.Among.{among_filter, filtered_from}
 use Rattle.dq_vr.specs.declared.Vr.TheVariants.{AE, CS}
 use Rattle.dq_vr.specs.Tag.{is_below}
 use Rattle.dq_vr.specs.Tags as tags
-use Rattle.dq_value.specs.Title.{stripped}
+use Rattle.dq_value.specs.Title.{without_spaces}
 use Rattle.dq_dataset.specs.declared.data_set.Element.{Element}
 use Rattle.dq_dataset.specs.declared.data_set.Value.TheVariants.{Octets}
-use Rattle.dq_dataset.specs.Rules.{padded}
+use Rattle.dq_dataset.specs.Rules.{padded_value}
 use Rattle.dq_dataset.specs.declared.header.Syntax.{Syntax}
 use Rattle.dq_dataset.specs.Tree.{ElementList}
-use Rattle.dq_dataset.specs.Values.{octets_in}
+use Rattle.dq_dataset.specs.Values.{element_octets}
 use Rattle.dq_dimse.specs.Statuses.{success}
 use Rattle.dq_dimse.specs.Received.{Message}
 use Rattle.dq_tables.specs.declared.row.Kind.{Kind}
@@ -28,9 +28,9 @@ use Rattle.dq_tables.proofs.Listing.{of_kind_from, of_kind_to, listed_in_order, 
 use Rattle.dq_find.specs.declared.level.Level.{Level}
 use Rattle.dq_find.specs.declared.level.Level.TheVariants.{Study, Series, Image}
 use Rattle.dq_find.specs.declared.query.Query.{Query}
-use Rattle.dq_find.specs.Levels.{kind_of, name_of}
-use Rattle.dq_find.specs.Queries.{query_of, key_above, records_asked, asked_records, told, answer_of, answers, about_answers, found_by, found}
-use Rattle.dq_find.specs.Answers.{Tells}
+use Rattle.dq_find.specs.Levels.{kind_of, level_name}
+use Rattle.dq_find.specs.Queries.{message_query, key_above, records_asked, asked_records, answer_elements, record_answer, answers_of_records, about_answers, found_by, query_outcome}
+use Rattle.dq_find.specs.Answers.{TellsLevel}
 use Rattle.dq_find.proofs.Completing.{first_of_three, second_of_three, third_of_three}
 
 -- ---- the records that are asked for
@@ -71,9 +71,9 @@ asked_to Image keys r records h e under = above_to kind.Image (key_above tags.se
 
 -- ---- in order
 
-pub answered_query : (records : List Record) (called : List ℕ) (message : Message) (syntax : Syntax) (query : Query) → query_of message syntax ≡ Ok query
-    → (found records called message syntax).answers ≡ answers records called query
-unfolding found
+pub answered_query : (records : List Record) (called : List ℕ) (message : Message) (syntax : Syntax) (query : Query) → message_query message syntax ≡ Ok query
+    → (query_outcome records called message syntax).answers ≡ answers_of_records records called query
+unfolding query_outcome
 answered_query records called message syntax query is = ap (λ (q : Result Query ℕ). (found_by records called q).answers) is
 
 level_in_order : (institution : List ℕ) (rows : List Row) (level : Level) (keys : ElementList) → IsRising rows
@@ -93,41 +93,41 @@ refused_by : (records : List Record) (called : List ℕ) (q : Result Query ℕ) 
 refused_by records called (Ok query) h = absurd (h refl)
 refused_by records called (Err status) h = refl
 
-pub none_refused : (records : List Record) (called : List ℕ) (message : Message) (syntax : Syntax) → (found records called message syntax).status ≢ success
-    → (found records called message syntax).answers ≡ []
-unfolding found
-none_refused records called message syntax h = refused_by records called (query_of message syntax) h
+pub none_refused : (records : List Record) (called : List ℕ) (message : Message) (syntax : Syntax) → (query_outcome records called message syntax).status ≢ success
+    → (query_outcome records called message syntax).answers ≡ []
+unfolding query_outcome
+none_refused records called message syntax h = refused_by records called (message_query message syntax) h
 
 pub same_found : (own other : List ℕ) → other ≢ own → (edits : List Edit) (rows : List Row) → IsRising rows
     → (called : List ℕ) (message : Message) (syntax : Syntax)
-    → found (of own (after (by other edits) rows)) called message syntax ≡ found (of own rows) called message syntax
+    → query_outcome (of own (after (by other edits) rows)) called message syntax ≡ query_outcome (of own rows) called message syntax
 same_found own other differ edits rows rising called message syntax =
-    ap (λ (records : List Record). found records called message syntax) (others own other differ edits rows rising)
+    ap (λ (records : List Record). query_outcome records called message syntax) (others own other differ edits rows rising)
 
 -- ---- what each answer tells
 
-tells : (called : List ℕ) (query : Query) (part : ElementList) → Tells called query.level (told called query part)
+tells : (called : List ℕ) (query : Query) (part : ElementList) → TellsLevel called query.level (answer_elements called query part)
 unfolding about_answers is_below
 tells called query part =
-    let level : Element = record { tag = tags.query_retrieve_level; vr = CS; value = Octets (padded CS (name_of query.level)) } in
-    let title : Element = record { tag = tags.retrieve_ae_title; vr = AE; value = Octets (padded AE (stripped called)) } in
-    let availability : Element = record { tag = tags.instance_availability; vr = CS; value = Octets (padded CS (codes "UNAVAILABLE")) } in
+    let level : Element = record { tag = tags.query_retrieve_level; vr = CS; value = Octets (padded_value CS (level_name query.level)) } in
+    let title : Element = record { tag = tags.retrieve_ae_title; vr = AE; value = Octets (padded_value AE (without_spaces called)) } in
+    let availability : Element = record { tag = tags.instance_availability; vr = CS; value = Octets (padded_value CS (codes "UNAVAILABLE")) } in
     record {
-      level = ap octets_in (first_of_three part level title availability tags.query_retrieve_level refl);
-      title = ap octets_in (second_of_three part level title availability tags.retrieve_ae_title refl refl refl);
-      availability = ap octets_in (third_of_three part level title availability tags.instance_availability refl refl refl refl refl);
+      level = ap element_octets (first_of_three part level title availability tags.query_retrieve_level refl);
+      title = ap element_octets (second_of_three part level title availability tags.retrieve_ae_title refl refl refl);
+      availability = ap element_octets (third_of_three part level title availability tags.instance_availability refl refl refl refl refl);
     }
 
-tells_by : (called : List ℕ) (query : Query) (o : Option ElementList) (others : List ElementList) → AllByRecursion (Tells called query.level) others
-    → AllByRecursion (Tells called query.level) (cons_option (option_map (told called query) o) others)
+tells_by : (called : List ℕ) (query : Query) (o : Option ElementList) (others : List ElementList) → AllByRecursion (TellsLevel called query.level) others
+    → AllByRecursion (TellsLevel called query.level) (cons_option (option_map (answer_elements called query) o) others)
 tells_by called query None others all = all
 tells_by called query (Some part) others all = (tells called query part, all)
 
 tells_all : (records : List Record) (called : List ℕ) (query : Query) (rs : List Record)
-    → AllByRecursion (Tells called query.level) (filter_map (answer_of records called query) rs)
+    → AllByRecursion (TellsLevel called query.level) (filter_map (record_answer records called query) rs)
 tells_all records called query [] = tt
 tells_all records called query (r ∷ rs) = grind (arith, tells_by, tells_all records called query rs)
 
-pub each_tells : (records : List Record) (called : List ℕ) (query : Query) → AllByRecursion (Tells called query.level) (answers records called query)
-unfolding answers
+pub each_tells : (records : List Record) (called : List ℕ) (query : Query) → AllByRecursion (TellsLevel called query.level) (answers_of_records records called query)
+unfolding answers_of_records
 each_tells records called query = tells_all records called query (asked_records records query)

@@ -9,18 +9,18 @@ use Rattle.dq_dataset.specs.declared.header.Syntax.{Syntax}
 use Rattle.dq_dataset.specs.declared.data_set.Value.TheVariants.{Octets, Items}
 use Rattle.dq_dataset.specs.Tree.{ElementList, no_elements, element, sequence}
 use Rattle.dq_dataset.specs.View.{elements_of, has_tag, list_of}
-use Rattle.dq_dataset.specs.Editing.{merged}
+use Rattle.dq_dataset.specs.Editing.{merged_data_set}
 use Rattle.dq_dataset.specs.Values.{element_at}
 use Rattle.dq_match.specs.Keys.{is_tag}
-use Rattle.dq_match.specs.Answers.{refused}
+use Rattle.dq_match.specs.Answers.{refused_with}
 use Rattle.dq_dimse.specs.Received.{Message}
 use Rattle.dq_dimse.specs.Statuses.{success}
 use Rattle.dq_tables.specs.Rows.{Record}
 use Rattle.dq_find.specs.declared.level.Level.{Level}
 use Rattle.dq_find.specs.declared.level.Level.TheVariants.{Study, Series, Image}
 use Rattle.dq_find.specs.declared.query.Query.{Query}
-use Rattle.dq_find.specs.Computed.{study_values, series_values, computed}
-use Rattle.dq_find.specs.Queries.{told, answer_if, answers, asks_computed, query_of, found_by, found}
+use Rattle.dq_find.specs.Computed.{study_values, series_values, computed_keys}
+use Rattle.dq_find.specs.Queries.{answer_elements, answer_if, answers_of_records, asks_computed, message_query, found_by, query_outcome}
 use Rattle.dq_find.proofs.Completing.{element_stays}
 use Rattle.dq_find.proofs.Agreeing.{Agree, fits_alike, shown_alike}
 
@@ -55,7 +55,7 @@ none_here (tag ∷ others) e rest h =
 module _ (listed : List Tag) (sent : ElementList) (within : (tag : Tag) → list_any (λ one. is_tag one tag) listed ≡ false
     → list_any (has_tag tag) (elements_of sent) ≡ false)
     (held : ElementList) where
-  agree_unasked : (keys : ElementList) → asks_none listed keys ≡ false → Agree keys (merged held sent) held
+  agree_unasked : (keys : ElementList) → asks_none listed keys ≡ false → Agree keys (merged_data_set held sent) held
   agree_unasked no_elements h = tt
   agree_unasked (element t v o rest) h =
       let parts = none_here listed (record { tag = t; vr = v; value = Octets o }) rest h in
@@ -85,37 +85,37 @@ first_three false true c d h = absurd cc
 first_three false false true d h = absurd cc
 
 computed_tags_alone : (records : List Record) (level : Level) (key : List ℕ) (tag : Tag) → list_any (λ one. is_tag one tag) all_computed ≡ false
-    → list_any (has_tag tag) (elements_of (computed records level key)) ≡ false
-unfolding computed study_values series_values
+    → list_any (has_tag tag) (elements_of (computed_keys records level key)) ≡ false
+unfolding computed_keys study_values series_values
 computed_tags_alone records Study key tag h = grind (arith, nat_tests, first_three)
 computed_tags_alone records Series key tag h = grind (arith, nat_tests, last_of)
 computed_tags_alone records Image key tag h = refl
 
 pub stays : (records : List Record) (level : Level) (key : List ℕ) (held : ElementList) (tag : Tag) → list_any (λ one. is_tag one tag) all_computed ≡ false
-    → element_at tag (merged held (computed records level key)) ≡ element_at tag held
-stays records level key held tag other = element_stays tag held (computed records level key) (computed_tags_alone records level key tag other)
+    → element_at tag (merged_data_set held (computed_keys records level key)) ≡ element_at tag held
+stays records level key held tag other = element_stays tag held (computed_keys records level key) (computed_tags_alone records level key tag other)
 
 -- a record is answered alike without what is computed
 pub answered_alike : (records : List Record) (called key : List ℕ) (query : Query) (held : ElementList) → asks_computed query ≡ false
-    → answer_if called query held ≡ answer_if called query (merged held (computed records query.level key))
+    → answer_if called query held ≡ answer_if called query (merged_data_set held (computed_keys records query.level key))
 answered_alike records called key query held h =
-    let sent : ElementList = computed records query.level key in
+    let sent : ElementList = computed_keys records query.level key in
     let agree = agree_unasked all_computed sent (λ tag other. computed_tags_alone records query.level key tag other) held query.keys h in
-    let fit = fits_alike query.keys (merged held sent) held agree (stays records query.level key held tags.scheduled_procedure_step_start_date refl)
+    let fit = fits_alike query.keys (merged_data_set held sent) held agree (stays records query.level key held tags.scheduled_procedure_step_start_date refl)
     (stays records query.level key held tags.scheduled_procedure_step_start_time refl) in
-    let show = shown_alike query.keys (merged held sent) held agree (stays records query.level key held tags.specific_character_set refl) in
-    sym (λ i. option_map (told called query) (cond (fit i) (Some (show i)) None))
+    let show = shown_alike query.keys (merged_data_set held sent) held agree (stays records query.level key held tags.specific_character_set refl) in
+    sym (λ i. option_map (answer_elements called query) (cond (fit i) (Some (show i)) None))
 
 -- ---- what is found
 
-pub found_none : (records : List Record) (called : List ℕ) (message : Message) (syntax : Syntax) (status : ℕ) → query_of message syntax ≡ Err status
-    → found records called message syntax ≡ refused status
-unfolding found
-found_none records called message syntax status refused = ap (found_by records called) refused
+pub found_none : (records : List Record) (called : List ℕ) (message : Message) (syntax : Syntax) (status : ℕ) → message_query message syntax ≡ Err status
+    → query_outcome records called message syntax ≡ refused_with status
+unfolding query_outcome
+found_none records called message syntax status is = ap (found_by records called) is
 
 pub found_some : (records : List Record) (called : List ℕ) (message : Message) (syntax : Syntax) (query : Query) (answered : List ElementList)
-    → query_of message syntax ≡ Ok query → answered ≡ answers records called query
-    → found records called message syntax ≡ record { status = success; optional = query.optional; answers = answered }
-unfolding found
+    → message_query message syntax ≡ Ok query → answered ≡ answers_of_records records called query
+    → query_outcome records called message syntax ≡ record { status = success; optional = query.optional; answers = answered }
+unfolding query_outcome
 found_some records called message syntax query answered asked is =
     ap (found_by records called) asked ∙ (λ i. record { status = success; optional = query.optional; answers = sym is i })

@@ -1,5 +1,5 @@
 -- A kept record that fits has the unique key above that the query gives, and is asked for.
-use Rattle.std.proofs.Common.{◌≡◌, ℕ, Bool, true, false, not, ◌&&◌, List, [], ◌∷◌, map, filter, Option, Some, None, is_some, unwrap_or, Result, Ok, Err, refl, sym, ap, subst, ◌∙◌, if◌then◌else◌, inl, inr, arith}
+use Rattle.std.proofs.Common.{◌≡◌, ℕ, Bool, true, false, not, ◌&&◌, List, [], ◌∷◌, Option, Some, None, is_some, unwrap_or, Result, Ok, Err, refl, sym, ap, ◌∙◌, if◌then◌else◌, arith}
 use Rattle.std.specs.Str.{bytes_eq}
 use Rattle.std.specs.List.{AllByRecursion, list_any}
 use Rattle.std.proofs.lemmas.Bool.{and_parts}
@@ -25,13 +25,14 @@ use Rattle.dq_tables.specs.declared.row.Row.{Row}
 use Rattle.dq_tables.specs.declared.row.Kind.{Kind}
 use Rattle.dq_tables.specs.Rows.{Record, record_of, of}
 use Rattle.dq_tables.specs.Records.{data_set_of}
-use Rattle.dq_tables.specs.Keys.{passing, uid_at}
-use Rattle.dq_tables.specs.Sound.{IsSound, is_own, is_record_of, may_be_started, is_value, has_key, has_above}
+use Rattle.dq_tables.specs.Keys.{uid_at}
+use Rattle.dq_tables.specs.Sound.{IsSound, is_own_row, is_record_of, may_be_started, is_value, has_key, has_above}
+use Rattle.dq_archive.proofs.OwnRecords.{of_each, passed, value_from}
 use Rattle.dq_find.specs.declared.level.Level.{Level}
 use Rattle.dq_find.specs.declared.level.Level.TheVariants.{Study, Series, Image}
 use Rattle.dq_find.specs.Levels.{kind_of, has_keys_above}
 use Rattle.dq_find.specs.Choosing.{is_no_asterisk}
-use Rattle.dq_find.specs.Computed.{completed}
+use Rattle.dq_find.specs.Computed.{with_computed}
 use Rattle.dq_find.specs.Answers.{HasKeyAbove}
 use Rattle.dq_find.proofs.Answered.{IsUnder}
 use Rattle.dq_find.proofs.Answering.{all_computed, stays}
@@ -50,43 +51,19 @@ unfolding data_set_of
 own_by (Err fault) row is own = absurd (cc)
 own_by (Ok d) row is own = grind (arith, and_parts, read_has_known_vrs)
 
-row_own : (row : Row) → is_own row ≡ true → HasOwn (record_of row)
-unfolding is_own
+row_own : (row : Row) → is_own_row row ≡ true → HasOwn (record_of row)
+unfolding is_own_row
 row_own row own =
     own_by (reading Explicit row.octets) row refl (and_parts (may_be_started row.kind row.started) (is_record_of (reading Explicit row.octets) row) own).1
 
-own_step : (r : Record) (row : Row) (b : Bool) (kept : List Row) → is_own row ≡ true → (IsAmong r (map record_of kept) → HasOwn r)
-    → IsAmong r (map record_of (if b then row ∷ kept else kept)) → HasOwn r
-own_step r row true kept own rest (inl e) = subst HasOwn e (row_own row own)
-own_step r row true kept own rest (inr h) = rest h
-own_step r row false kept own rest h = rest h
-
-own_filtered : (r : Record) (p : Row → Bool) (rows : List Row) → AllByRecursion (λ (row : Row). is_own row ≡ true) rows
-    → IsAmong r (map record_of (filter p rows)) → HasOwn r
-own_filtered r p [] own h = absurd h
-own_filtered r p (row ∷ rows) own h = own_step r row (p row) (filter p rows) own.0 (own_filtered r p rows own.1) h
-
 pub has_own : (institution : List ℕ) (rows : List Row) (r : Record) → IsSound rows → IsAmong r (of institution rows) → HasOwn r
-unfolding of
-has_own institution rows r sound h = own_filtered r (λ (row : Row). bytes_eq row.inst institution) rows sound.own h
+has_own institution rows r = of_each HasOwn row_own r institution rows
 
 -- ---- a UID that is asked for is met by itself alone
-
-pub value_from : (value : Option (List ℕ)) (above : List ℕ) → is_value value above ≡ true → value ≡ Some above
-value_from None above h = absurd (cc)
-value_from (Some v) above h = ap (λ (o : List ℕ). Some o) ((bytes_eq-Decides v above).0 h)
 
 given : (value : Option (List ℕ)) → is_some value ≡ true → value ≡ Some (unwrap_or value [])
 given None h = absurd (cc)
 given (Some v) h = refl
-
-passed_is_uid : (value : List ℕ) (b : Bool) → is_uid value ≡ b → (uid : List ℕ) → (if b then Some value else None) ≡ Some uid → is_uid uid ≡ true
-passed_is_uid value true is uid h = (let same : value ≡ uid = cc in ap is_uid (sym same) ∙ is)
-passed_is_uid value false is uid h = absurd (cc)
-
-passing_is_uid : (value : Option (List ℕ)) (uid : List ℕ) → passing is_uid value ≡ Some uid → is_uid uid ≡ true
-passing_is_uid None uid h = absurd (cc)
-passing_is_uid (Some value) uid h = passed_is_uid value (is_uid value) refl uid h
 
 no_asterisk : (uid : List ℕ) (b : Bool) → bytes_eq uid (any_run ∷ []) ≡ b → is_uid uid ≡ true → not b ≡ true
 unfolding is_uid
@@ -95,7 +72,7 @@ no_asterisk uid false is h = refl
 
 uid_is_plain : (tag : Tag) (keys : ElementList) (uid : List ℕ) → uid_at tag keys ≡ Some uid → is_no_asterisk uid ≡ true
 unfolding uid_at
-uid_is_plain tag keys uid h = no_asterisk uid (bytes_eq uid (any_run ∷ [])) refl (passing_is_uid (sole_at tag keys) uid h)
+uid_is_plain tag keys uid h = no_asterisk uid (bytes_eq uid (any_run ∷ [])) refl (passed is_uid (sole_at tag keys) uid h).1
 
 -- what the law of matching says of keys
 abbrev pub EachAlone : ElementList → Type 0
@@ -107,14 +84,14 @@ module _ (records : List Record) (keys : ElementList) (known : AllByRecursion Ha
   held = data_set_of r.octets
 
   same_uid : (level : Level) (tag : Tag) → IsKeyOf UI tag → list_any (λ one. is_tag one tag) all_computed ≡ false
-      → is_some (uid_at tag keys) ≡ true → is_value (uid_at tag held) r.above ≡ true → fits keys (completed records level r) ≡ true
+      → is_some (uid_at tag keys) ≡ true → is_value (uid_at tag held) r.above ≡ true → fits keys (with_computed records level r) ≡ true
       → uid_at tag held ≡ uid_at tag keys
   same_uid level tag is other there said fit =
       let wanted = given (uid_at tag keys) there in
       let asked : List ℕ = unwrap_or (uid_at tag keys) [] in
       let has = value_from (uid_at tag held) r.above said in
-      let met = one_alone UI tag is keys held (completed records level r) known own.known (stays records level r.key held tag other)
-      (alone (completed records level r) fit) asked r.above (sole_of_uid tag keys asked wanted) (sole_of_uid tag held r.above has) in
+      let met = one_alone UI tag is keys held (with_computed records level r) known own.known (stays records level r.key held tag other)
+      (alone (with_computed records level r) fit) asked r.above (sole_of_uid tag keys asked wanted) (sole_of_uid tag held r.above has) in
       let same = (bytes_eq-Decides r.above asked).0 (uid_met asked r.above (uid_is_plain tag keys asked wanted) met) in
       has ∙ ap (λ (o : List ℕ). Some o) same ∙ sym wanted
 
@@ -122,7 +99,7 @@ module _ (records : List Record) (keys : ElementList) (known : AllByRecursion Ha
   own_value level is = ap (λ (k : Kind). has_above k r.above held) (sym is) ∙ own.above
 
   -- a record that fits has the key above
-  pub key_above_met : (level : Level) → r.kind ≡ kind_of level → has_keys_above level keys ≡ true → fits keys (completed records level r) ≡ true
+  pub key_above_met : (level : Level) → r.kind ≡ kind_of level → has_keys_above level keys ≡ true → fits keys (with_computed records level r) ≡ true
       → HasKeyAbove level keys held
   unfolding has_above has_keys_above
   key_above_met Study is there fit = tt

@@ -19,7 +19,7 @@ use Rattle.dq_tables.specs.declared.row.Kind.{Kind}
 use Rattle.dq_tables.specs.declared.row.Kind.TheVariants.{Study}
 use Rattle.dq_tables.specs.Rows.{Record}
 use Rattle.dq_tables.specs.Records.{data_set_of}
-use Rattle.dq_tables.specs.Keys.{passing}
+use Rattle.dq_tables.specs.Keys.{value_passing}
 use Rattle.dq_tables.specs.Labels.{patient_in, day_in}
 use Rattle.dq_tables.specs.Choosing.{is_none_or, has_labels, is_chosen}
 use Rattle.dq_find.specs.declared.level.Level.TheVariants as level
@@ -44,7 +44,7 @@ uid_by uid key true plain met = uid_met uid key plain met
 uid_by uid key false plain met = refl
 
 uid_chosen : (key : List ℕ) (asked : Option (List ℕ)) → ((uid : List ℕ) → asked ≡ Some uid → is_met_by UI uid key ≡ true)
-    → is_none_or (bytes_eq key) (passing is_no_asterisk asked) ≡ true
+    → is_none_or (bytes_eq key) (value_passing is_no_asterisk asked) ≡ true
 uid_chosen key None met = refl
 uid_chosen key (Some uid) met = uid_by uid key (is_no_asterisk uid) refl (met uid refl)
 

@@ -7,7 +7,7 @@ use Rattle.dq_vr.specs.Tag.{is_below}
 use Rattle.dq_dataset.specs.declared.data_set.Element.{Element}
 use Rattle.dq_dataset.specs.Tree.{ElementList}
 use Rattle.dq_dataset.specs.View.{elements_of, as_elements, has_tag}
-use Rattle.dq_dataset.specs.Editing.{elements_below, elements_above, merged_elements, merged}
+use Rattle.dq_dataset.specs.Editing.{elements_below, elements_above, merged_elements, merged_data_set}
 use Rattle.dq_dataset.specs.Values.{element_at}
 use Rattle.dq_dataset.proofs.Views.{elements_of-as_elements}
 use Rattle.dq_match.specs.Keys.{is_tag}
@@ -93,13 +93,13 @@ find_merged tag kept (e ∷ sent) h =
 
 -- an element that is not sent stays
 pub element_stays : (tag : Tag) (kept sent : ElementList) → list_any (has_tag tag) (elements_of sent) ≡ false
-    → element_at tag (merged kept sent) ≡ element_at tag kept
+    → element_at tag (merged_data_set kept sent) ≡ element_at tag kept
 element_stays tag kept sent h = grind (arith, nat_tests, elements_of-as_elements, find_merged)
 
 -- ---- what is sent is there
 
 merged_at : (tag : Tag) (kept sent : ElementList)
-    → element_at tag (merged kept sent) ≡ find (has_tag tag) (merged_elements (elements_of kept) (elements_of sent))
+    → element_at tag (merged_data_set kept sent) ≡ find (has_tag tag) (merged_elements (elements_of kept) (elements_of sent))
 merged_at tag kept sent = ap (find (has_tag tag)) (elements_of-as_elements (merged_elements (elements_of kept) (elements_of sent)))
 
 not_below_itself : (tag : Tag) → is_below tag tag ≡ false
@@ -118,22 +118,22 @@ module _ (kept : ElementList) (e f g : Element) where
   abbrev three : ElementList
   three = as_elements (e ∷ (f ∷ (g ∷ [])))
 
-  sent_three : (tag : Tag) → element_at tag (merged kept three) ≡ find (has_tag tag) (merged_elements (elements_of kept) (e ∷ (f ∷ (g ∷ []))))
+  sent_three : (tag : Tag) → element_at tag (merged_data_set kept three) ≡ find (has_tag tag) (merged_elements (elements_of kept) (e ∷ (f ∷ (g ∷ []))))
   sent_three tag =
       merged_at tag kept three
       ∙ ap (λ (es : List Element). find (has_tag tag) (merged_elements (elements_of kept) es)) (elements_of-as_elements (e ∷ (f ∷ (g ∷ []))))
 
-  pub first_of_three : (tag : Tag) → is_tag e.tag tag ≡ true → element_at tag (merged kept three) ≡ Some e
+  pub first_of_three : (tag : Tag) → is_tag e.tag tag ≡ true → element_at tag (merged_data_set kept three) ≡ Some e
   first_of_three tag is = sent_three tag ∙ sent_here tag e (elements_of kept) (f ∷ (g ∷ [])) is
 
   pub second_of_three : (tag : Tag) → is_tag e.tag tag ≡ false → is_below e.tag tag ≡ true → is_tag f.tag tag ≡ true
-      → element_at tag (merged kept three) ≡ Some f
+      → element_at tag (merged_data_set kept three) ≡ Some f
   second_of_three tag differ above is =
       sent_three tag ∙ sent_later tag e (elements_of kept) (f ∷ (g ∷ [])) differ above ∙ sent_here tag f (elements_above e.tag (elements_of kept)) (g ∷ []) is
 
   pub third_of_three : (tag : Tag) → is_tag e.tag tag ≡ false → is_below e.tag tag ≡ true → is_tag f.tag tag ≡ false → is_below f.tag tag ≡ true
       → is_tag g.tag tag ≡ true
-      → element_at tag (merged kept three) ≡ Some g
+      → element_at tag (merged_data_set kept three) ≡ Some g
   third_of_three tag differ above differ_too above_too is =
       sent_three tag ∙ sent_later tag e (elements_of kept) (f ∷ (g ∷ [])) differ above
       ∙ sent_later tag f (elements_above e.tag (elements_of kept)) (g ∷ []) differ_too above_too

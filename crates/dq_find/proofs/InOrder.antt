@@ -1,11 +1,11 @@
 -- The first of some values in order.
 use Rattle.std.proofs.Common.{◌≡◌, ℕ, zero, suc, ◌+◌, ◌≤◌, List, [], ◌∷◌, ◌++◌, take, drop, length, get_or, ◌<◌, refl, sym, ap, ◌∙◌, arith, append_assoc, take-append-drop}
 use Rattle.std.proofs.lemmas.List.{take_more}
-use Rattle.dq_find.proofs.Looking.{from_place, past_all}
+use Rattle.dq_find.proofs.FromPlace.{from_place, past_all}
 use Rattle.std.specs.declared.cmp.Ordering.{Ordering}
 use Rattle.std.specs.declared.cmp.Ordering.TheVariants.{Less, Equal, Greater}
 use Rattle.dq_tables.specs.Rows.{octet_order}
-use Rattle.dq_find.specs.Computed.{placed, put_in_order, all_in_order}
+use Rattle.dq_find.specs.Computed.{value_inserted, put_in_order, all_in_order}
 
 abbrev Values : Type 0
 Values = List (List ℕ)
@@ -21,7 +21,7 @@ take_after (suc n) x [] = refl
 take_after (suc n) x (y ∷ ys) = ap (λ (zs : Values). x ∷ zs) (take_after n y ys)
 
 placed_take : (n : ℕ) (o : Ordering) (value first : List ℕ) (others : Values) (put put_all : Values) → take n put ≡ take n put_all
-    → take (suc n) (placed o value first (take n others) put) ≡ take (suc n) (placed o value first others put_all)
+    → take (suc n) (value_inserted o value first (take n others) put) ≡ take (suc n) (value_inserted o value first others put_all)
 placed_take n Less value first others put put_all h = ap (λ (xs : Values). value ∷ xs) (take_after n first others)
 placed_take n Equal value first others put put_all h = ap (λ (xs : Values). first ∷ xs) (take_again n others)
 placed_take n Greater value first others put put_all h = ap (λ (xs : Values). first ∷ xs) h
@@ -50,14 +50,14 @@ all_append (value ∷ values) more xs = all_append values more (put_in_order val
 -- ---- the place of a value
 
 put_by : (o : Ordering) (value x : List ℕ) (rest : Values) → octet_order value x ≡ o
-    → put_in_order value (x ∷ rest) ≡ placed o value x rest (put_in_order value rest)
+    → put_in_order value (x ∷ rest) ≡ value_inserted o value x rest (put_in_order value rest)
 unfolding put_in_order
-put_by o value x rest e = ap (λ (p : Ordering). placed p value x rest (put_in_order value rest)) e
+put_by o value x rest e = ap (λ (p : Ordering). value_inserted p value x rest (put_in_order value rest)) e
 
 module _ (value x : List ℕ) (xs : Values) (at : ℕ) (lt : at < length xs) (is : x ≡ get_or xs at x)
     (so_far : put_in_order value xs ≡ take at xs ++ put_in_order value (drop at xs)) where
   here : (o : Ordering) → octet_order value x ≡ o
-      → put_in_order value (drop at xs) ≡ placed o value x (drop (at + 1) xs) (put_in_order value (drop (at + 1) xs))
+      → put_in_order value (drop at xs) ≡ value_inserted o value x (drop (at + 1) xs) (put_in_order value (drop (at + 1) xs))
   here o e = ap (put_in_order value) (from_place xs at x lt is) ∙ put_by o value x (drop (at + 1) xs) e
 
   pub place_later : octet_order value x ≡ Greater → put_in_order value xs ≡ take (at + 1) xs ++ put_in_order value (drop (at + 1) xs)

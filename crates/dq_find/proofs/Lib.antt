@@ -9,7 +9,7 @@ mod Completing
 mod Counting
 mod InOrder
 mod InTurn
-mod Looking
+mod FromPlace
 mod MetFirst
 mod Matching
 mod TextFacts

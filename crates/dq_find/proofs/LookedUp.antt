@@ -13,40 +13,41 @@ use Rattle.std.specs.declared.cmp.Ordering.TheVariants.{Less, Equal, Greater}
 use Rattle.std.proofs.lemmas.Bool.{and_parts}
 use Rattle.std.proofs.lemmas.Cmp.{nat_list_cmp_total, tied_itself}
 use Rattle.std.proofs.lemmas.Slice.Eq.{bytes_eq-Decides}
+use Rattle.dq_list.specs.Octets.{octets_of_vectors}
 use Rattle.dq_list.specs.Among.{IsAmong}
 use Rattle.dq_list.proofs.Among.{among_filter, filtered_from}
 use Rattle.dq_vr.specs.Tags as tags
 use Rattle.dq_dataset.specs.Tree.{ElementList}
 use Rattle.dq_dataset.specs.View.{elements_of}
-use Rattle.dq_dataset.specs.Editing.{merged}
+use Rattle.dq_dataset.specs.Editing.{merged_data_set}
 use Rattle.dq_dataset.specs.Facts.{IsDataSet}
 use Rattle.dq_dataset.specs.Values.{element_at}
 use Rattle.dq_dataset.proofs.KnownVrs.{HasKnownVr, facts_give_known_vrs}
 use Rattle.dq_match.specs.Matching.{fits}
-use Rattle.dq_match.specs.Responses.{shown}
+use Rattle.dq_match.specs.Responses.{shown_data_set}
 use Rattle.dq_match.proofs.Answering.{given_of_each, given_skipped}
 use Rattle.dq_tables.specs.declared.row.Kind.{Kind}
 use Rattle.dq_tables.specs.declared.row.Kind.TheVariants as kind
 use Rattle.dq_tables.specs.declared.row.Row.{Row}
 use Rattle.dq_tables.specs.Rows.{Record, IsRising, octet_order, record_of, row_of, of}
-use Rattle.dq_tables.specs.Finding.{same_kind, record_at, row_at, records_of}
+use Rattle.dq_tables.specs.Finding.{same_kind, record_at, records_of}
 use Rattle.dq_tables.specs.Records.{AreInOrder, data_set_of}
 use Rattle.dq_tables.specs.Keys.{uid_at}
 use Rattle.dq_tables.specs.Sound.{IsSound, has_key}
 use Rattle.dq_tables.proofs.Listing.{its_kind, one_kind, of_kind_to, listed_in_order, in_order_filter}
 use Rattle.dq_tables.proofs.Rising.{each_among, one_list}
-use Rattle.dq_tables.proofs.Seen.{found_own}
+use Rattle.dq_archive.proofs.OwnRecords.{value_from}
 use Rattle.dq_find.specs.declared.level.Level.{Level}
 use Rattle.dq_find.specs.declared.level.Level.TheVariants.{Study, Series, Image}
 use Rattle.dq_find.specs.declared.query.Query.{Query}
 use Rattle.dq_find.specs.Levels.{kind_of, unique_key}
 use Rattle.dq_find.specs.Choosing.{is_asked}
-use Rattle.dq_find.specs.Computed.{completed, computed, placed, put_in_order, all_in_order}
-use Rattle.dq_find.specs.Queries.{key_above, told, answer_of, answers, asked_records}
-use Rattle.dq_find.specs.Candidates.{own_values, names_records, looks_up, has_one_of, candidates, is_under, under, looked_up, named_record, named_rows, octets_of}
+use Rattle.dq_find.specs.Computed.{with_computed, computed_keys, value_inserted, put_in_order, all_in_order}
+use Rattle.dq_find.specs.Queries.{key_above, answer_elements, record_answer, answers_of_records, asked_records}
+use Rattle.dq_find.specs.Candidates.{own_values, names_records, looks_up, has_one_of, query_candidates, is_under, under, looked_up, named_record, named_rows}
 use Rattle.dq_find.proofs.Answered.{IsUnder, asked_from, asked_to, asked_in_order}
 use Rattle.dq_find.proofs.Answering.{stays}
-use Rattle.dq_find.proofs.Asked.{has_own, value_from, EachAlone}
+use Rattle.dq_find.proofs.Asked.{has_own, EachAlone}
 use Rattle.dq_find.proofs.Naming.{unique_keys_are_uids, sole_of_uid, named_among}
 use Rattle.dq_tables.proofs.Taken.{DaysAreInOrder}
 use Rattle.dq_find.proofs.Chosen.{Stay, fit_is_chosen}
@@ -330,7 +331,7 @@ looks_named Image values h = h
 
 pub named_candidates : (institution : List ℕ) (rows : List Row) (query : Query) (uids : List (List ℕ)) → IsRising rows
     → uids ≡ all_in_order (own_values query) [] → looks_up query.level (own_values query) ≡ true
-    → named_rows institution (of institution rows) query uids ≡ map (row_of institution) (candidates (of institution rows) query)
+    → named_rows institution (of institution rows) query uids ≡ map (row_of institution) (query_candidates (of institution rows) query)
 named_candidates institution rows query uids rising is looked = grind (arith, rows_are, named_have_one)
 
 -- a row that was looked up
@@ -343,28 +344,30 @@ row_under : (institution : List ℕ) (level : Level) (keys : ElementList) (o : O
 row_under institution level keys None = refl
 row_under institution level keys (Some r) = under_by institution r (is_under level keys r)
 
-pub looked_up_is : (institution : List ℕ) (rows : List Row) (query : Query) (uid : List ℕ) (kind : Kind) (found given : Option Row)
-    → kind ≡ kind_of query.level → found ≡ row_at kind institution uid rows → given ≡ looked_up query.level query.keys found
-    → given ≡ option_map (row_of institution) (named_record (of institution rows) query uid)
-looked_up_is institution rows query uid kind found given is found_is given_is = grind (arith, found_own, row_under)
+pub looked_up_is : (institution : List ℕ) (records : List Record) (query : Query) (uid : List ℕ) (kind : Kind) (found given : Option Row)
+    → kind ≡ kind_of query.level → found ≡ option_map (row_of institution) (record_at kind uid records)
+    → given ≡ looked_up query.level query.keys found → given ≡ option_map (row_of institution) (named_record records query uid)
+looked_up_is institution records query uid kind found given is found_is given_is =
+    given_is ∙ ap (looked_up query.level query.keys) (found_is ∙ ap (λ (k : Kind). option_map (row_of institution) (record_at k uid records)) is)
+    ∙ row_under institution query.level query.keys (record_at (kind_of query.level) uid records)
 
 -- a value that is put in its place
 placed_octets : (o : Ordering) (value first : Vec ℕ) (others put : List (Vec ℕ))
-    → octets_of (match_ordering o (value ∷ (first ∷ others)) (first ∷ others) (first ∷ put))
-    ≡ placed o value.items first.items (octets_of others) (octets_of put)
+    → octets_of_vectors (match_ordering o (value ∷ (first ∷ others)) (first ∷ others) (first ∷ put))
+    ≡ value_inserted o value.items first.items (octets_of_vectors others) (octets_of_vectors put)
 placed_octets Less value first others put = refl
 placed_octets Equal value first others put = refl
 placed_octets Greater value first others put = refl
 
 put_octets : (value : Vec ℕ) (values : List (Vec ℕ))
-    → octets_of (insert_key (λ (a b : Vec ℕ). octet_order a.items b.items) values value) ≡ put_in_order value.items (octets_of values)
+    → octets_of_vectors (insert_key (λ (a b : Vec ℕ). octet_order a.items b.items) values value) ≡ put_in_order value.items (octets_of_vectors values)
 unfolding put_in_order
 put_octets value [] = refl
 put_octets value (first ∷ others) = grind (arith, placed_octets, put_octets value others)
 
 pub one_more : (value : Vec ℕ) (before after : List (Vec ℕ)) (octets : List ℕ) (others left whole : List (List ℕ))
     → after ≡ insert_key (λ (a b : Vec ℕ). octet_order a.items b.items) before value → value.items ≡ octets → left ≡ octets ∷ others
-    → all_in_order left (octets_of before) ≡ whole → all_in_order others (octets_of after) ≡ whole
+    → all_in_order left (octets_of_vectors before) ≡ whole → all_in_order others (octets_of_vectors after) ≡ whole
 unfolding all_in_order
 one_more value before after octets others left whole put is first so_far = grind (arith, put_octets)
 
@@ -379,7 +382,7 @@ key_is Series r is own = value_from _ r.key (ap (λ (k : Kind). has_key k r.key 
 key_is Image r is own = value_from _ r.key (ap (λ (k : Kind). has_key k r.key (data_set_of r.octets)) (sym is) ∙ own)
 
 unique_key_stays : (records : List Record) (level : Level) (key : List ℕ) (held : ElementList)
-    → element_at (unique_key level) (merged held (computed records level key)) ≡ element_at (unique_key level) held
+    → element_at (unique_key level) (merged_data_set held (computed_keys records level key)) ≡ element_at (unique_key level) held
 unique_key_stays records Study key held = stays records Study key held tags.study_instance_uid refl
 unique_key_stays records Series key held = stays records Series key held tags.series_instance_uid refl
 unique_key_stays records Image key held = stays records Image key held tags.sop_instance_uid refl
@@ -387,30 +390,30 @@ unique_key_stays records Image key held = stays records Image key held tags.sop_
 module _ (institution : List ℕ) (rows : List Row) (called : List ℕ) (query : Query) (sound : IsSound rows)
     (known : AllByRecursion HasKnownVr (elements_of query.keys)) (alone : EachAlone query.keys) (days : DaysAreInOrder) where
   not_named_by : (r : Record) (b : Bool) → IsAmong r (asked_records (of institution rows) query) → names_records (own_values query) ≡ true
-      → has_one_of (own_values query) r ≡ false → fits query.keys (completed (of institution rows) query.level r) ≡ b
-      → option_map (told called query) (if b then Some (shown query.keys (completed (of institution rows) query.level r)) else None) ≡ None
+      → has_one_of (own_values query) r ≡ false → fits query.keys (with_computed (of institution rows) query.level r) ≡ b
+      → option_map (answer_elements called query) (if b then Some (shown_data_set query.keys (with_computed (of institution rows) query.level r)) else None) ≡ None
   not_named_by r true h named other is =
       let from = asked_from query.level query.keys r (of institution rows) h in
       let own = has_own institution rows r sound from.0 in
       let held = data_set_of r.octets in
-      let among = named_among (unique_key query.level) query.keys held (completed (of institution rows) query.level r) (own_values query) r.key
+      let among = named_among (unique_key query.level) query.keys held (with_computed (of institution rows) query.level r) (own_values query) r.key
       (unique_keys_are_uids query.level) known own.known (unique_key_stays (of institution rows) query.level r.key held) refl named
-      (key_is query.level r from.1 own.key) (alone (completed (of institution rows) query.level r) is) in
+      (key_is query.level r from.1 own.key) (alone (with_computed (of institution rows) query.level r) is) in
       absurd (cc (sym other ∙ one_of_to institution rows query sound.rising r.key (own_values query) among))
   not_named_by r false h named other is = refl
 
   not_chosen_by : (r : Record) (level : Level) (b : Bool) → query.level ≡ level → IsAmong r (asked_records (of institution rows) query)
-      → is_asked level query.keys r ≡ false → fits query.keys (completed (of institution rows) query.level r) ≡ b
-      → option_map (told called query) (if b then Some (shown query.keys (completed (of institution rows) query.level r)) else None) ≡ None
+      → is_asked level query.keys r ≡ false → fits query.keys (with_computed (of institution rows) query.level r) ≡ b
+      → option_map (answer_elements called query) (if b then Some (shown_data_set query.keys (with_computed (of institution rows) query.level r)) else None) ≡ None
   not_chosen_by r Study true level h other is =
       let from = asked_from query.level query.keys r (of institution rows) h in
       let own = has_own institution rows r sound from.0 in
       let held = data_set_of r.octets in
-      let whole = completed (of institution rows) query.level r in
+      let whole = with_computed (of institution rows) query.level r in
       let kind : r.kind ≡ kind.Study = from.1 ∙ ap kind_of level in
       let key = sole_of_uid tags.study_instance_uid held r.key (key_is Study r kind own.key) in
-      let at : merged held (computed (of institution rows) Study r.key) ≡ whole =
-      ap (λ (l : Level). merged held (computed (of institution rows) l r.key)) (sym level) in
+      let at : merged_data_set held (computed_keys (of institution rows) Study r.key) ≡ whole =
+      ap (λ (l : Level). merged_data_set held (computed_keys (of institution rows) l r.key)) (sym level) in
       let stay = subst (Stay held) at (record {
         uid = stays (of institution rows) Study r.key held tags.study_instance_uid refl;
         patient = stays (of institution rows) Study r.key held tags.patient_id refl;
@@ -422,26 +425,31 @@ module _ (institution : List ℕ) (rows : List Row) (called : List ℕ) (query :
   not_chosen_by r Image b level h other is = absurd cc
 
   not_looked_at : (r : Record) (b : Bool) → looks_up query.level (own_values query) ≡ b → IsAmong r (asked_records (of institution rows) query)
-      → (if b then has_one_of (own_values query) r else is_asked query.level query.keys r) ≡ false → answer_of (of institution rows) called query r ≡ None
-  not_looked_at r false is h other = not_chosen_by r query.level (fits query.keys (completed (of institution rows) query.level r)) refl h other refl
+      → (if b then has_one_of (own_values query) r else is_asked query.level query.keys r) ≡ false → record_answer (of institution rows) called query r ≡ None
+  not_looked_at r false is h other = not_chosen_by r query.level (fits query.keys (with_computed (of institution rows) query.level r)) refl h other refl
   not_looked_at r true is h other =
-      not_named_by r (fits query.keys (completed (of institution rows) query.level r)) h (looks_named query.level (own_values query) is) other refl
+      not_named_by r (fits query.keys (with_computed (of institution rows) query.level r)) h (looks_named query.level (own_values query) is) other refl
 
-  skipped : answers (of institution rows) called query ≡ filter_map (answer_of (of institution rows) called query) (candidates (of institution rows) query)
-  unfolding answers
+  skipped : answers_of_records (of institution rows) called query ≡ filter_map (record_answer (of institution rows) called query) (query_candidates (of institution rows) query)
+  unfolding answers_of_records
   skipped = grind (arith, given_skipped, not_looked_at)
 
 -- what is answered of the rows that are looked at
-pub answered_of_candidates : (old mid : List Row) (name given called : List ℕ) (query : Query) (found seen : List Row) (answered : List ElementList)
-    → IsSound old → IsDataSet query.keys → EachAlone query.keys → DaysAreInOrder → given ≡ name → mid ≡ old
-    → found ≡ map (row_of given) (candidates (of given old) query) → seen ≡ found
-    → answered ≡ filter_map (λ (row : Row). answer_of (of given mid) called query (record_of row)) seen
-    → answered ≡ answers (of name old) called query
-answered_of_candidates old mid name given called query found seen answered sound facts alone days same_name same_rows found_is seen_is answered_is =
-    grind (arith, given_of_each, skipped, facts_give_known_vrs)
+pub answered_of_candidates : (institution : List ℕ) (rows : List Row) (called : List ℕ) (query : Query) (found seen : List Row) (answered : List ElementList)
+    → IsSound rows → IsDataSet query.keys → EachAlone query.keys → DaysAreInOrder
+    → found ≡ map (row_of institution) (query_candidates (of institution rows) query) → seen ≡ found
+    → answered ≡ filter_map (λ (row : Row). record_answer (of institution rows) called query (record_of row)) seen
+    → answered ≡ answers_of_records (of institution rows) called query
+answered_of_candidates institution rows called query found seen answered sound facts alone days found_is seen_is answered_is =
+    let each = λ (row : Row). record_answer (of institution rows) called query (record_of row) in
+    answered_is ∙ ap (filter_map each) (seen_is ∙ found_is)
+    ∙ given_of_each each (row_of institution) (query_candidates (of institution rows) query)
+    ∙ sym (skipped institution rows called query sound (facts_give_known_vrs 16 None query.keys facts) alone days)
 
 -- where none are looked up, all that are asked for are looked at
-pub all_candidates : (institution : List ℕ) (rows : List Row) (query : Query) → looks_up query.level (own_values query) ≡ false
-    → map (row_of institution) (filter (is_asked query.level query.keys) (asked_records (of institution rows) query))
-    ≡ map (row_of institution) (candidates (of institution rows) query)
-all_candidates institution rows query none = grind arith
+pub all_candidates : (institution : List ℕ) (records : List Record) (query : Query) → looks_up query.level (own_values query) ≡ false
+    → map (row_of institution) (filter (is_asked query.level query.keys) (asked_records records query))
+    ≡ map (row_of institution) (query_candidates records query)
+all_candidates institution records query none =
+    ap (λ (b : Bool). map (row_of institution)
+    (filter (λ (r : Record). if b then has_one_of (own_values query) r else is_asked query.level query.keys r) (asked_records records query))) (sym none)

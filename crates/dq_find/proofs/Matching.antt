@@ -30,9 +30,9 @@ use Rattle.dq_tables.proofs.Listing.{in_order_filter}
 use Rattle.dq_find.specs.declared.level.Level.{Level}
 use Rattle.dq_find.specs.declared.query.Query.{Query}
 use Rattle.dq_find.specs.Levels.{level_of, has_keys_above}
-use Rattle.dq_find.specs.Computed.{completed}
-use Rattle.dq_find.specs.Queries.{query_at, query_in, query_of, told, answers, asked_records, found}
-use Rattle.dq_find.specs.Answers.{Matches, HasKeyAbove, told_of, AreAnswers}
+use Rattle.dq_find.specs.Computed.{with_computed}
+use Rattle.dq_find.specs.Queries.{level_query, identifier_query, message_query, answer_elements, answers_of_records, asked_records, query_outcome}
+use Rattle.dq_find.specs.Answers.{MatchesQuery, HasKeyAbove, told_of, AreQueryAnswers}
 use Rattle.dq_find.proofs.Answered.{answered_query, asked_from, asked_to, asked_in_order}
 use Rattle.dq_find.proofs.Asked.{EachAlone, has_own, key_above_met, under_met}
 
@@ -80,32 +80,32 @@ query_if keys level optional true false query has known e = absurd (cc)
 query_if keys level optional false well query has known e = absurd (cc)
 
 query_from : (identifier : ElementList) (level : Option Level) (query : Query) → AllByRecursion HasKnownVr (elements_of identifier)
-    → query_at identifier level ≡ Ok query → IsGiven query.level query.keys
+    → level_query identifier level ≡ Ok query → IsGiven query.level query.keys
 query_from identifier None query known e = absurd (cc)
 query_from identifier (Some level) query known e = grind (arith, query_if, part_known)
 
 query_read : (identifier : Result ElementList ℕ) (query : Query) → ((d : ElementList) → identifier ≡ Ok d → AllByRecursion HasKnownVr (elements_of d))
-    → query_in identifier ≡ Ok query → IsGiven query.level query.keys
+    → identifier_query identifier ≡ Ok query → IsGiven query.level query.keys
 query_read (Err status) query known e = absurd (cc)
 query_read (Ok identifier) query known e = query_from identifier (level_of identifier) query (known identifier refl) e
 
-keys_given : (message : Message) (syntax : Syntax) (query : Query) → query_of message syntax ≡ Ok query → IsGiven query.level query.keys
-unfolding query_of
+keys_given : (message : Message) (syntax : Syntax) (query : Query) → message_query message syntax ≡ Ok query → IsGiven query.level query.keys
+unfolding message_query
 keys_given message syntax query e = query_read (identifier_in message syntax) query (identifier_known message syntax) e
 
 -- ---- those that fit
 
 told_if : (called : List ℕ) (query : Query) (part : ElementList) (b : Bool)
-    → option_map (told called query) (if b then Some part else None) ≡ (if b then Some (told called query part) else None)
+    → option_map (answer_elements called query) (if b then Some part else None) ≡ (if b then Some (answer_elements called query part) else None)
 told_if called query part true = refl
 told_if called query part false = refl
 
 module _ (records : List Record) (called : List ℕ) (query : Query) where
   abbrev is_fit : Record → Bool
-  is_fit r = fits query.keys (completed records query.level r)
+  is_fit r = fits query.keys (with_computed records query.level r)
 
-  all_told : answers records called query ≡ map (told_of records called query) (filter is_fit (asked_records records query))
-  unfolding answers
+  all_told : answers_of_records records called query ≡ map (told_of records called query) (filter is_fit (asked_records records query))
+  unfolding answers_of_records
   all_told = grind (arith, given_where, told_if)
 
 -- what the law of matching says of all keys
@@ -117,35 +117,35 @@ module _ (institution : List ℕ) (rows : List Row) (called : List ℕ) (query :
   abbrev own : List Record
   own = of institution rows
 
-  match_from : (r : Record) → IsAmong r (filter (is_fit own called query) (asked_records own query)) → Matches own query r
+  match_from : (r : Record) → IsAmong r (filter (is_fit own called query) (asked_records own query)) → MatchesQuery own query r
   match_from r h =
       let kept = filtered_from (is_fit own called query) r (asked_records own query) h in
       let asked = asked_from query.level query.keys r own kept.0 in
       record { kept = asked.0; level = asked.1; fit = kept.1 }
 
-  above_of_match : (r : Record) → Matches own query r → HasKeyAbove query.level query.keys (data_set_of r.octets)
+  above_of_match : (r : Record) → MatchesQuery own query r → HasKeyAbove query.level query.keys (data_set_of r.octets)
   above_of_match r matches =
       key_above_met own query.keys given.known (alone query.keys) r (has_own institution rows r sound matches.kept) query.level matches.level given.there
       matches.fit
 
-  match_to : (r : Record) → Matches own query r → IsAmong r (filter (is_fit own called query) (asked_records own query))
+  match_to : (r : Record) → MatchesQuery own query r → IsAmong r (filter (is_fit own called query) (asked_records own query))
   match_to r matches =
       let under = under_met own query.keys given.known (alone query.keys) r (has_own institution rows r sound matches.kept) query.level matches.level
       (above_of_match r matches) in
       among_filter (is_fit own called query) r (asked_records own query) (asked_to query.level query.keys r own matches.kept matches.level under) matches.fit
 
-  are_answers : AreAnswers own called query (answers own called query)
+  are_answers : AreQueryAnswers own called query (answers_of_records own called query)
   are_answers = grind (arith, in_order_filter, asked_in_order, match_from, match_to, all_told)
 
 pub matching_in_order : Alone → (institution : List ℕ) (rows : List Row) (called : List ℕ) (message : Message) (syntax : Syntax) (query : Query) → IsSound rows
-    → query_of message syntax ≡ Ok query
-    → AreAnswers (of institution rows) called query (found (of institution rows) called message syntax).answers
+    → message_query message syntax ≡ Ok query
+    → AreQueryAnswers (of institution rows) called query (query_outcome (of institution rows) called message syntax).answers
 matching_in_order alone institution rows called message syntax query sound is =
-    subst (AreAnswers (of institution rows) called query) (sym (answered_query (of institution rows) called message syntax query is))
+    subst (AreQueryAnswers (of institution rows) called query) (sym (answered_query (of institution rows) called message syntax query is))
     (are_answers institution rows called query sound alone (keys_given message syntax query is))
 
 pub key_above_of_match : Alone → (institution : List ℕ) (rows : List Row) (message : Message) (syntax : Syntax) (query : Query) → IsSound rows
-    → query_of message syntax ≡ Ok query → (r : Record) → Matches (of institution rows) query r
+    → message_query message syntax ≡ Ok query → (r : Record) → MatchesQuery (of institution rows) query r
     → HasKeyAbove query.level query.keys (data_set_of r.octets)
 key_above_of_match alone institution rows message syntax query sound is =
     above_of_match institution rows [] query sound alone (keys_given message syntax query is)
@@ -159,41 +159,41 @@ unmade : (made : Query) (b : Bool) (status : ℕ) → (if b then Ok made else Er
 unmade made true status e = absurd (cc)
 unmade made false status e = wrong_status status (cc)
 
-unmatched : (identifier : ElementList) (level : Option Level) (status : ℕ) → query_at identifier level ≡ Err status → status ≢ success
+unmatched : (identifier : ElementList) (level : Option Level) (status : ℕ) → level_query identifier level ≡ Err status → status ≢ success
 unmatched identifier None status e = wrong_status status (cc)
 unmatched identifier (Some level) status e = grind (arith, unmade)
 
 refused_from : (message : Message) (syntax : Syntax) (identifier : Result ElementList ℕ) (status : ℕ) → identifier_in message syntax ≡ identifier
-    → query_in identifier ≡ Err status → status ≢ success
+    → identifier_query identifier ≡ Err status → status ≢ success
 refused_from message syntax (Err first) status is e = (let same : first ≡ status = cc in
     λ none. identifier_refused message syntax first is (same ∙ none))
 refused_from message syntax (Ok identifier) status is e = unmatched identifier (level_of identifier) status e
 
-query_refused : (message : Message) (syntax : Syntax) (status : ℕ) → query_of message syntax ≡ Err status → status ≢ success
-unfolding query_of
+query_refused : (message : Message) (syntax : Syntax) (status : ℕ) → message_query message syntax ≡ Err status → status ≢ success
+unfolding message_query
 query_refused message syntax status e = refused_from message syntax (identifier_in message syntax) status refl e
 
 module _ (institution : List ℕ) (rows : List Row) (called : List ℕ) (message : Message) (syntax : Syntax) (sound : IsSound rows) (alone : Alone) where
   abbrev found_own : Found
-  found_own = found (of institution rows) called message syntax
+  found_own = query_outcome (of institution rows) called message syntax
 
-  not_refused : (query : Result Query ℕ) → query_of message syntax ≡ query → found_own.status ≡ success
-      → (q : Query) × (query_of message syntax ≡ Ok q) × AreAnswers (of institution rows) called q found_own.answers
-  unfolding found
+  not_refused : (query : Result Query ℕ) → message_query message syntax ≡ query → found_own.status ≡ success
+      → (q : Query) × (message_query message syntax ≡ Ok q) × AreQueryAnswers (of institution rows) called q found_own.answers
+  unfolding query_outcome
   not_refused (Ok query) is e = (query, is, matching_in_order alone institution rows called message syntax query sound is)
   not_refused (Err status) is e = grind (arith, query_refused)
 
 pub succeeded_in_order : Alone → (institution : List ℕ) (rows : List Row) (called : List ℕ) (message : Message) (syntax : Syntax) → IsSound rows
-    → (found (of institution rows) called message syntax).status ≡ success
-    → (query : Query) × (query_of message syntax ≡ Ok query)
-    × AreAnswers (of institution rows) called query (found (of institution rows) called message syntax).answers
+    → (query_outcome (of institution rows) called message syntax).status ≡ success
+    → (query : Query) × (message_query message syntax ≡ Ok query)
+    × AreQueryAnswers (of institution rows) called query (query_outcome (of institution rows) called message syntax).answers
 succeeded_in_order alone institution rows called message syntax sound e =
-    not_refused institution rows called message syntax sound alone (query_of message syntax) refl e
+    not_refused institution rows called message syntax sound alone (message_query message syntax) refl e
 
 -- ---- no others are answers
 
-pub answers_alone : (records : List Record) (called : List ℕ) (query : Query) (one other : List ElementList) → AreAnswers records called query one
-    → AreAnswers records called query other → one ≡ other
+pub answers_alone : (records : List Record) (called : List ℕ) (query : Query) (one other : List ElementList) → AreQueryAnswers records called query one
+    → AreQueryAnswers records called query other → one ≡ other
 answers_alone records called query one other a b =
     let same = one_list a.matching b.matching a.in_order b.in_order
     (λ r. (λ h. (b.exactly r).1 ((a.exactly r).0 h), λ h. (a.exactly r).1 ((b.exactly r).0 h))) in

@@ -13,7 +13,7 @@ use Rattle.dq_tables.proofs.Rising.{Rises, HaveTheirs, each_among, only_one}
 use Rattle.dq_tables.specs.Rows.{Record, octet_order}
 use Rattle.dq_tables.specs.Records.{data_set_of}
 use Rattle.dq_tables.proofs.Order.{each_weaker}
-use Rattle.dq_find.specs.Computed.{placed, put_in_order, all_in_order, modalities_in}
+use Rattle.dq_find.specs.Computed.{value_inserted, put_in_order, all_in_order, modalities_in}
 use Rattle.dq_find.specs.Modalities.{modality_limit, modalities_of, IsModalityOf, IsPast, AreModalities}
 
 abbrev Values : Type 0
@@ -33,7 +33,7 @@ same_value a b e = (bytes_eq-Decides a b).0 (sym (is_eq-slice_cmp a b) ∙ ap is
 comes_before : (a b : List ℕ) → octet_order a b ≡ Greater → IsBefore b a
 comes_before a b e = nat_list_cmp_total.antisymm b a ∙ ap ordering_reverse e
 
-placed_from : (o : Ordering) (x value y : List ℕ) (ys put : Values) → (IsAmong x put → (value ≡ x) ⊎ IsAmong x ys) → IsAmong x (placed o value y ys put)
+placed_from : (o : Ordering) (x value y : List ℕ) (ys put : Values) → (IsAmong x put → (value ≡ x) ⊎ IsAmong x ys) → IsAmong x (value_inserted o value y ys put)
     → (value ≡ x) ⊎ IsAmong x (y ∷ ys)
 placed_from Less x value y ys put rest h = h
 placed_from Equal x value y ys put rest h = inr h
@@ -46,7 +46,7 @@ put_from x value [] h = h
 put_from x value (y ∷ ys) h = placed_from (octet_order value y) x value y ys (put_in_order value ys) (put_from x value ys) h
 
 placed_to : (o : Ordering) (x value y : List ℕ) (ys put : Values) → octet_order value y ≡ o → ((value ≡ x) ⊎ IsAmong x ys → IsAmong x put)
-    → (value ≡ x) ⊎ IsAmong x (y ∷ ys) → IsAmong x (placed o value y ys put)
+    → (value ≡ x) ⊎ IsAmong x (y ∷ ys) → IsAmong x (value_inserted o value y ys put)
 placed_to Less x value y ys put is rest h = h
 placed_to Equal x value y ys put is rest (inl e) = inl (sym (same_value value y is) ∙ e)
 placed_to Equal x value y ys put is rest (inr h) = h
@@ -60,7 +60,7 @@ put_to x value [] h = h
 put_to x value (y ∷ ys) h = placed_to (octet_order value y) x value y ys (put_in_order value ys) refl (put_to x value ys) h
 
 each_placed : (P : List ℕ → Type 0) (o : Ordering) (value y : List ℕ) (ys put : Values) → P value → AllByRecursion P (y ∷ ys) → AllByRecursion P put
-    → AllByRecursion P (placed o value y ys put)
+    → AllByRecursion P (value_inserted o value y ys put)
 each_placed P Less value y ys put p all rest = (p, all)
 each_placed P Equal value y ys put p all rest = all
 each_placed P Greater value y ys put p all rest = (all.0, rest)
@@ -71,7 +71,7 @@ each_put P value [] p all = (p, tt)
 each_put P value (y ∷ ys) p all = each_placed P (octet_order value y) value y ys (put_in_order value ys) p all (each_put P value ys p all.1)
 
 placed_in_order : (o : Ordering) (value y : List ℕ) (ys : Values) → octet_order value y ≡ o → IsInOrder (y ∷ ys) → IsInOrder (put_in_order value ys)
-    → IsInOrder (placed o value y ys (put_in_order value ys))
+    → IsInOrder (value_inserted o value y ys (put_in_order value ys))
 unfolding IsStrictlySortedBy
 placed_in_order Less value y ys is ordered rest =
     ((is, each_weaker (IsBefore y) (IsBefore value) (λ x less. nat_list_cmp_total.trans value y x is less) ys ordered.0), ordered)

@@ -9,23 +9,24 @@ use Rattle.dq_vr.specs.declared.Tag.{Tag}
 use Rattle.dq_vr.specs.declared.Vr.{Vr}
 use Rattle.dq_vr.specs.declared.Vr.TheVariants.{UI, UN}
 use Rattle.dq_vr.specs.Dictionary.{dictionary, vr_in, known_vr}
-use Rattle.dq_value.specs.Parts.{parts}
-use Rattle.dq_value.specs.Trimming.{is_padded, ignores_leading_spaces, without_leading, without_trailing, unpadded, trimmed}
+use Rattle.dq_value.specs.Parts.{element_values}
+use Rattle.dq_value.specs.Trimming.{is_padded, ignores_leading_spaces, without_leading, without_trailing, without_padding, trimmed_value}
 use Rattle.dq_value.specs.Uid.{is_uid}
 use Rattle.dq_dataset.specs.declared.data_set.Element.{Element}
 use Rattle.dq_dataset.specs.declared.data_set.Value.{Value}
 use Rattle.dq_dataset.specs.declared.data_set.Value.TheVariants.{Octets, Items}
 use Rattle.dq_dataset.specs.Tree.{ElementList}
 use Rattle.dq_dataset.specs.View.{elements_of, has_tag}
-use Rattle.dq_dataset.specs.Values.{element_at, octets_in, sole_at}
+use Rattle.dq_dataset.specs.Values.{element_at, element_octets, sole_at}
 use Rattle.dq_dataset.proofs.KnownVrs.{HasKnownVr}
 use Rattle.dq_match.specs.declared.keys.Place.TheVariants.{Outer}
 use Rattle.dq_match.specs.Keys.{is_key}
 use Rattle.dq_match.specs.Values.{is_asterisk, is_universal, octets_meet, some_meet, matching_of}
 use Rattle.dq_match.specs.Wildcards.{any_run}
-use Rattle.dq_match.specs.Matching.{period, is_passed, is_start, meets}
+use Rattle.dq_match.specs.Matching.{period, is_matched_elsewhere, is_start, meets}
 use Rattle.dq_match.specs.Fitting.{EachIsMet}
-use Rattle.dq_tables.specs.Keys.{passing, uid_at}
+use Rattle.dq_tables.specs.Keys.{uid_at}
+use Rattle.dq_archive.proofs.OwnRecords.{passed}
 use Rattle.dq_find.specs.declared.level.Level.{Level}
 use Rattle.dq_find.specs.declared.level.Level.TheVariants.{Study, Series, Image}
 use Rattle.dq_find.specs.Levels.{unique_key}
@@ -34,17 +35,9 @@ use Rattle.dq_match.proofs.Alone.{not_passed}
 use Rattle.dq_match.proofs.OneValue.{same_tag, found_has, one_at, is_met_by, meets_octets, one_met}
 
 -- one UID is the only value
-passed_by : (value uid : List ℕ) (b : Bool) → (if b then Some value else None) ≡ Some uid → value ≡ uid
-passed_by value uid true h = cc
-passed_by value uid false h = absurd cc
-
-passed : (value : Option (List ℕ)) (uid : List ℕ) → passing is_uid value ≡ Some uid → value ≡ Some uid
-passed None uid h = absurd cc
-passed (Some value) uid h = ap (λ (o : List ℕ). Some o) (passed_by value uid (is_uid value) h)
-
 pub sole_of_uid : (tag : Tag) (d : ElementList) (uid : List ℕ) → uid_at tag d ≡ Some uid → sole_at tag d ≡ Some uid
 unfolding uid_at
-sole_of_uid tag d = passed (sole_at tag d)
+sole_of_uid tag d uid h = (passed is_uid (sole_at tag d) uid h).0
 
 -- a tag whose elements have a VR, and are met each for itself
 abbrev pub IsKeyOf : Vr → Tag → Type 0
@@ -76,7 +69,7 @@ no_asterisk : (first : List ℕ) (others : List (List ℕ)) → names_records (f
 no_asterisk first [] h = not_asterisk (bytes_eq first (any_run ∷ [])) h
 no_asterisk first (next ∷ others) h = refl
 
-met_among : (key held other : List ℕ) (values : List (List ℕ)) → parts UI key ≡ values → parts UI held ≡ other ∷ [] → names_records values ≡ true
+met_among : (key held other : List ℕ) (values : List (List ℕ)) → element_values UI key ≡ values → element_values UI held ≡ other ∷ [] → names_records values ≡ true
     → octets_meet UI key held ≡ true → IsAmong other values
 unfolding octets_meet is_universal matching_of is_padded
 met_among key held other [] one two named h = absurd cc
@@ -93,28 +86,28 @@ pub record HasValues (tag : Tag) (keys : ElementList) (values : List (List ℕ))
   pub octets : List ℕ
   pub there : element_at tag keys ≡ Some element
   pub holds : element.value ≡ Octets octets
-  pub parted : parts UI octets ≡ values
+  pub parted : element_values UI octets ≡ values
 
-none_named : (octets : List ℕ) (values : List (List ℕ)) → octets ≡ [] → parts UI octets ≡ values → names_records values ≡ true → ⊥
-unfolding parts trimmed unpadded without_leading without_trailing is_padded ignores_leading_spaces
+none_named : (octets : List ℕ) (values : List (List ℕ)) → octets ≡ [] → element_values UI octets ≡ values → names_records values ≡ true → ⊥
+unfolding element_values trimmed_value without_padding without_leading without_trailing is_padded ignores_leading_spaces
 none_named octets values none is named = grind arith
 
 values_by : (tag : Tag) (keys : ElementList) (values : List (List ℕ)) (e : Element) (v : Value) → element_at tag keys ≡ Some e → e.value ≡ v
-    → parts UI (octets_in (Some e)) ≡ values → names_records values ≡ true → HasValues tag keys values
+    → element_values UI (element_octets (Some e)) ≡ values → names_records values ≡ true → HasValues tag keys values
 values_by tag keys values e (Octets octets) there holds is named =
-    let same : octets_in (Some e) ≡ octets = rw holds refl in
-    record { element = e; octets = octets; there = there; holds = holds; parted = ap (parts UI) (sym same) ∙ is }
+    let same : element_octets (Some e) ≡ octets = rw holds refl in
+    record { element = e; octets = octets; there = there; holds = holds; parted = ap (element_values UI) (sym same) ∙ is }
 values_by tag keys values e (Items items) there holds is named = grind (arith, none_named)
 
 values_in_element : (tag : Tag) (keys : ElementList) (values : List (List ℕ)) (found : Option Element) → element_at tag keys ≡ found
-    → parts UI (octets_in found) ≡ values → names_records values ≡ true → HasValues tag keys values
+    → element_values UI (element_octets found) ≡ values → names_records values ≡ true → HasValues tag keys values
 values_in_element tag keys values None there is named = absurd (none_named [] values refl is named)
 values_in_element tag keys values (Some e) there is named = values_by tag keys values e e.value there refl is named
 
 -- a record that is met has one of the UIDs that are asked for
 pub named_among : (tag : Tag) (keys d held : ElementList) (values : List (List ℕ)) (other : List ℕ) → IsKeyOf UI tag
     → AllByRecursion HasKnownVr (elements_of keys) → AllByRecursion HasKnownVr (elements_of d) → element_at tag held ≡ element_at tag d
-    → parts UI (octets_in (element_at tag keys)) ≡ values → names_records values ≡ true → uid_at tag d ≡ Some other
+    → element_values UI (element_octets (element_at tag keys)) ≡ values → names_records values ≡ true → uid_at tag d ≡ Some other
     → EachIsMet Outer keys held → IsAmong other values
 named_among tag keys d held values other of_uid known_keys known_held same asked named there each =
     let key = values_in_element tag keys values (element_at tag keys) refl asked named in
@@ -123,11 +116,11 @@ named_among tag keys d held values other of_uid known_keys known_held same asked
     let key_tag = same_tag key.element.tag tag facts.2 in
     let key_vr : key.element.vr ≡ UI =
     facts.1 key.octets key.holds ∙ ap (λ (t : Tag). unwrap_or (known_vr t) UN) key_tag ∙ ap (λ (v : Option Vr). unwrap_or v UN) of_uid.0 in
-    let alone : is_passed Outer (is_some (period keys held)) key.element.tag ≡ false =
-    ap (is_passed Outer (is_some (period keys held))) key_tag ∙ not_passed (is_some (period keys held)) Outer tag of_uid.1 of_uid.2 in
+    let alone : is_matched_elsewhere Outer (is_some (period keys held)) key.element.tag ≡ false =
+    ap (is_matched_elsewhere Outer (is_some (period keys held))) key_tag ∙ not_passed (is_some (period keys held)) Outer tag of_uid.1 of_uid.2 in
     let met = each key.element facts.0 alone in
     let at : element_at key.element.tag held ≡ Some one.element = ap (λ (t : Tag). element_at t held) key_tag ∙ same ∙ one.there in
-    let octets : octets_in (Some one.element) ≡ one.octets = rw one.holds refl in
+    let octets : element_octets (Some one.element) ≡ one.octets = rw one.holds refl in
     met_among key.octets one.octets other values key.parted one.one named
     (sym (ap (λ (o : Option Element). meets key.element o) at ∙ meets_octets key.element (Some one.element) key.octets key.holds
     ∙ (λ i. octets_meet (key_vr i) key.octets (octets i))) ∙ met)

@@ -10,7 +10,7 @@ use Rattle.dq_vr.specs.Tags as tags
 use Rattle.dq_vr.specs.Dictionary.{dictionary, vr_in, known_vr}
 use Rattle.dq_dataset.specs.declared.data_set.Element.{Element}
 use Rattle.dq_dataset.specs.declared.data_set.Value.TheVariants.{Octets}
-use Rattle.dq_dataset.specs.Rules.{pad_of, padded, is_sequence}
+use Rattle.dq_dataset.specs.Rules.{pad_of, padded_value, is_sequence}
 use Rattle.dq_dataset.specs.Reading.{follows}
 use Rattle.dq_dataset.specs.Facts.{IsElementTag, IsPlain, IsDataSet}
 use Rattle.dq_dataset.specs.Tree.{no_elements}
@@ -18,8 +18,8 @@ use Rattle.dq_dataset.specs.View.{as_elements}
 use Rattle.dq_find.specs.declared.level.Level.{Level}
 use Rattle.dq_find.specs.Texts.{text}
 use Rattle.dq_find.specs.Computed.{study_values, series_values}
-use Rattle.dq_value.specs.Title.{stripped}
-use Rattle.dq_find.specs.Levels.{name_of}
+use Rattle.dq_value.specs.Title.{without_spaces}
+use Rattle.dq_find.specs.Levels.{level_name}
 use Rattle.dq_find.specs.Queries.{about_answers}
 
 other_number : (a b : ℕ) → nat_eq a b ≡ false → a ≢ b
@@ -35,7 +35,7 @@ even_by : (b : Bool) (vr : Vr) (value : List ℕ) → nat_eq (length value % 2) 
 even_by true vr value h = same_number (length value % 2) 0 h
 even_by false vr value h = rw (length-append value (pad_of vr ∷ [])) (odd_filled (length value) (other_number (length value % 2) 0 h))
 
-plain : (tag : Tag) (vr : Vr) (value : List ℕ) → vr ≡ unwrap_or (known_vr tag) UN → is_sequence (known_vr tag) ≡ false → IsPlain tag vr (padded vr value)
+plain : (tag : Tag) (vr : Vr) (value : List ℕ) → vr ≡ unwrap_or (known_vr tag) UN → is_sequence (known_vr tag) ≡ false → IsPlain tag vr (padded_value vr value)
 plain tag vr value known no_sequence = grind (arith, nat_tests, even_by)
 
 placed : (last : Option Tag) (tag : Tag) → follows last tag ≡ true → tag.group ≢ 0xFFFE → tag.element ≢ 0 → tag.group < 2 ^ 16
@@ -70,10 +70,10 @@ pub about_answers_facts : (called : List ℕ) (level : Level) → IsDataSet (abo
 unfolding about_answers known_vr vr_in dictionary is_below
 about_answers_facts called level = (
   placed None tags.query_retrieve_level refl (omega arith) (omega arith) (omega arith) (omega arith),
-  plain tags.query_retrieve_level CS (name_of level) refl refl,
+  plain tags.query_retrieve_level CS (level_name level) refl refl,
   (
     placed (Some tags.query_retrieve_level) tags.retrieve_ae_title refl (omega arith) (omega arith) (omega arith) (omega arith),
-    plain tags.retrieve_ae_title AE (stripped called) refl refl,
+    plain tags.retrieve_ae_title AE (without_spaces called) refl refl,
     (
       placed (Some tags.retrieve_ae_title) tags.instance_availability refl (omega arith) (omega arith) (omega arith) (omega arith),
       plain tags.instance_availability CS (codes "UNAVAILABLE") refl refl,
@@ -85,7 +85,7 @@ about_answers_facts called level = (
 -- ---- elements that are made of texts
 
 abbrev text_element : Tag → Vr → List ℕ → Element
-text_element tag vr value = record { tag = tag; vr = vr; value = Octets (padded vr value) }
+text_element tag vr value = record { tag = tag; vr = vr; value = Octets (padded_value vr value) }
 
 pub study_values_of : (elements : List Element) (modalities series_text images_text : List ℕ) (series images : ℕ)
     → elements ≡ text_element tags.modalities_in_study CS modalities
@@ -104,6 +104,6 @@ series_values_of elements images_text images made told_images =
 pub about_answers_of : (elements : List Element) (name title called : List ℕ) (level : Level)
     → elements ≡ text_element tags.query_retrieve_level CS name
     ∷ (text_element tags.retrieve_ae_title AE title ∷ (text_element tags.instance_availability CS (codes "UNAVAILABLE") ∷ []))
-    → name ≡ name_of level → title ≡ stripped called → as_elements elements ≡ about_answers called level
+    → name ≡ level_name level → title ≡ without_spaces called → as_elements elements ≡ about_answers called level
 unfolding about_answers
 about_answers_of elements name title called level made is_name is_title = grind (arith, nat_tests)

@@ -1,14 +1,13 @@
 -- The records that are looked at for a query. This is there for the prover: what is answered is
--- `answers` of Queries, of all records that are asked for.
-use Rattle.std.specs.Prelude.{ℕ, Bool, true, false, not, List, [], ◌∷◌, map, filter, Option, Some, None, option_map, if◌then◌else◌}
-use Rattle.std.specs.Global.{Vec}
+-- `answers_of_records` of Queries, of all records that are asked for.
+use Rattle.std.specs.Prelude.{ℕ, Bool, true, false, not, List, [], ◌∷◌, filter, Option, Some, None, option_map, if◌then◌else◌}
 use Rattle.std.specs.List.{list_any, filter_map}
 use Rattle.std.specs.Str.{bytes_eq}
 use Rattle.dq_vr.specs.declared.Vr.TheVariants.{UI}
 use Rattle.dq_vr.specs.Tags as tags
-use Rattle.dq_value.specs.Parts.{parts}
+use Rattle.dq_value.specs.Parts.{element_values}
 use Rattle.dq_dataset.specs.Tree.{ElementList}
-use Rattle.dq_dataset.specs.Values.{element_at, octets_in}
+use Rattle.dq_dataset.specs.Values.{element_at, element_octets}
 use Rattle.dq_match.specs.Wildcards.{any_run}
 use Rattle.dq_tables.specs.declared.row.Row.{Row}
 use Rattle.dq_tables.specs.Rows.{Record, record_of, row_of}
@@ -22,7 +21,7 @@ use Rattle.dq_find.specs.Choosing.{is_asked}
 
 -- the values that a query gives its level's own unique key
 abbrev pub own_values : Query → List (List ℕ)
-own_values query = parts UI (octets_in (element_at (unique_key query.level) query.keys))
+own_values query = element_values UI (element_octets (element_at (unique_key query.level) query.keys))
 
 -- they name records where there are some, unless the first is an asterisk
 abbrev pub names_records : List (List ℕ) → Bool
@@ -43,8 +42,8 @@ is_looked_at query r =
     if looks_up query.level (own_values query) then has_one_of (own_values query) r
     else is_asked query.level query.keys r
 
-abbrev pub candidates : List Record → Query → List Record
-candidates records query = filter (is_looked_at query) (asked_records records query)
+abbrev pub query_candidates : List Record → Query → List Record
+query_candidates records query = filter (is_looked_at query) (asked_records records query)
 
 -- a record is under the unique keys above it
 abbrev pub is_under : Level → ElementList → Record → Bool
@@ -69,7 +68,3 @@ named_record records query uid =
 abbrev pub named_rows : List ℕ → List Record → Query → List (List ℕ) → List Row
 named_rows institution records query uids =
     filter_map (λ uid. option_map (row_of institution) (named_record records query uid)) uids
-
--- the octets of vectors
-abbrev pub octets_of : List (Vec ℕ) → List (List ℕ)
-octets_of vectors = map (λ (v : Vec ℕ). v.items) vectors

@@ -1,5 +1,5 @@
 -- What a query at the level of studies asks of what is kept of a study beside its data set. This is
--- there for the prover: what is answered is `answers` of Queries.
+-- there for the prover: what is answered is `answers_of_records` of Queries.
 use Rattle.std.specs.Prelude.{ℕ, Bool, true, not, List, [], ◌∷◌, Option}
 use Rattle.std.specs.Str.{bytes_eq}
 use Rattle.dq_vr.specs.Tags as tags
@@ -9,7 +9,7 @@ use Rattle.dq_match.specs.Wildcards.{any_run}
 use Rattle.dq_match.specs.Several.{is_plain}
 use Rattle.dq_tables.specs.declared.choice.Choice.{Choice}
 use Rattle.dq_tables.specs.Rows.{Record}
-use Rattle.dq_tables.specs.Keys.{passing}
+use Rattle.dq_tables.specs.Keys.{value_passing}
 use Rattle.dq_tables.specs.Asked.{choice_asking}
 use Rattle.dq_tables.specs.Choosing.{is_chosen}
 use Rattle.dq_find.specs.declared.level.Level.{Level}
@@ -20,10 +20,10 @@ abbrev pub is_no_asterisk : List ℕ → Bool
 is_no_asterisk uid = not (bytes_eq uid (any_run ∷ []))
 
 abbrev pub uid_asked : ElementList → Option (List ℕ)
-uid_asked keys = passing is_no_asterisk (sole_at tags.study_instance_uid keys)
+uid_asked keys = value_passing is_no_asterisk (sole_at tags.study_instance_uid keys)
 
 abbrev pub patient_asked : ElementList → Option (List ℕ)
-patient_asked keys = passing is_plain (sole_at tags.patient_id keys)
+patient_asked keys = value_passing is_plain (sole_at tags.patient_id keys)
 
 -- the choice by these, and by one value of Study Date: one date, or one range of dates
 unfoldable pub choice_in : ElementList → Choice

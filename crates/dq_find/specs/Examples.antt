@@ -12,8 +12,8 @@ use Rattle.dq_tables.specs.declared.row.Kind.TheVariants as kind
 use Rattle.dq_tables.specs.Rows.{Record}
 
 -- a C-FIND request with an Identifier
-abbrev pub request : ElementList → Message
-request identifier = record {
+abbrev pub query_request : ElementList → Message
+query_request identifier = record {
   context = 1;
   command = record {
     code = 0x0020;
@@ -54,15 +54,15 @@ series modality uid above = record {
 }
 
 -- a study of Jane Doe with a CT and an MR series, and a study of Richard Roe
-abbrev pub kept : List Record
-kept =
+abbrev pub kept_studies : List Record
+kept_studies =
     study (codes "DOE^JANE") (codes "1.2") ∷ study (codes "ROE^RICHARD ") (codes "1.3")
     ∷ series (codes "MR") (codes "1.2.1") (codes "1.2")
     ∷ series (codes "CT") (codes "1.2.2") (codes "1.2") ∷ []
 
 -- the answer that Jane Doe's study gives to who calls the title ARCHIVE
-abbrev pub answer : ElementList
-answer =
+abbrev pub jane_doe_answer : ElementList
+jane_doe_answer =
     element tags.query_retrieve_level CS (codes "STUDY ")
     (element tags.retrieve_ae_title AE (codes "ARCHIVE ")
     (element tags.instance_availability CS (codes "UNAVAILABLE ")
@@ -70,5 +70,5 @@ answer =
     (element tags.patient_name PN (codes "DOE^JANE") no_elements))))
 
 -- answers, after which status 0000 ends the operation; all keys are supported
-abbrev pub found_with : List ElementList → Found
-found_with answers = record { status = success; optional = false; answers = answers }
+abbrev pub found_studies : List ElementList → Found
+found_studies answers = record { status = success; optional = false; answers = answers }

@@ -1,5 +1,5 @@
 -- The keys that are met before anything is computed of a record. This is there for the prover: what
--- is answered is `answers` of Queries.
+-- is answered is `answers_of_records` of Queries.
 use Rattle.std.specs.Prelude.{Bool, List, [], ◌∷◌, ◌||◌}
 use Rattle.std.specs.List.{list_any}
 use Rattle.dq_vr.specs.declared.Tag.{Tag}
@@ -21,5 +21,5 @@ met_later =
 abbrev pub is_met_later : Tag → Bool
 is_met_later tag = list_any (λ one. is_tag one tag) met_later
 
-abbrev pub is_met : ElementList → Element → Bool
-is_met held key = is_met_later key.tag || meets key (element_at key.tag held)
+abbrev pub is_key_met : ElementList → Element → Bool
+is_key_met held key = is_met_later key.tag || meets key (element_at key.tag held)

@@ -5,9 +5,9 @@ use Rattle.std.specs.Str.{bytes_eq}
 use Rattle.dq_vr.specs.declared.Tag.{Tag}
 use Rattle.dq_vr.specs.declared.Vr.TheVariants.{CS}
 use Rattle.dq_vr.specs.Tags as tags
-use Rattle.dq_value.specs.Trimming.{trimmed}
+use Rattle.dq_value.specs.Trimming.{trimmed_value}
 use Rattle.dq_dataset.specs.Tree.{ElementList}
-use Rattle.dq_dataset.specs.Values.{element_at, octets_in}
+use Rattle.dq_dataset.specs.Values.{element_at, element_octets}
 use Rattle.dq_match.specs.declared.supported.KeyList.{KeyList}
 use Rattle.dq_match.specs.declared.supported.KeyList.TheVariants as list
 use Rattle.dq_tables.specs.declared.row.Kind.{Kind}
@@ -22,25 +22,25 @@ kind_of Study = kind.Study
 kind_of Series = kind.Series
 kind_of Image = kind.Image
 
-abbrev pub keys_of : Level → KeyList
-keys_of Study = list.Study
-keys_of Series = list.Series
-keys_of Image = list.Image
+abbrev pub level_keys : Level → KeyList
+level_keys Study = list.Study
+level_keys Series = list.Series
+level_keys Image = list.Image
 
-abbrev pub name_of : Level → List ℕ
-name_of Study = codes "STUDY"
-name_of Series = codes "SERIES"
-name_of Image = codes "IMAGE"
+abbrev pub level_name : Level → List ℕ
+level_name Study = codes "STUDY"
+level_name Series = codes "SERIES"
+level_name Image = codes "IMAGE"
 
 unfoldable pub level_named : List ℕ → Option Level
 level_named name =
-    if bytes_eq name (name_of Study) then Some Study
-    else (if bytes_eq name (name_of Series) then Some Series
-    else (if bytes_eq name (name_of Image) then Some Image else None))
+    if bytes_eq name (level_name Study) then Some Study
+    else (if bytes_eq name (level_name Series) then Some Series
+    else (if bytes_eq name (level_name Image) then Some Image else None))
 
 abbrev pub level_of : ElementList → Option Level
 level_of identifier =
-    level_named (trimmed CS (octets_in (element_at tags.query_retrieve_level identifier)))
+    level_named (trimmed_value CS (element_octets (element_at tags.query_retrieve_level identifier)))
 
 -- the level's own unique key
 abbrev pub unique_key : Level → Tag

@@ -6,7 +6,6 @@ pub mod Queries
 pub mod Choosing
 pub mod Candidates
 pub mod Kept
-pub mod Looking
 pub mod Answers
 pub mod Pages
 pub mod Examples

@@ -6,9 +6,9 @@ use Rattle.std.specs.List.Sorted.{IsStrictlySortedBy}
 use Rattle.dq_list.specs.Among.{IsAmong}
 use Rattle.dq_vr.specs.declared.Vr.TheVariants.{CS}
 use Rattle.dq_vr.specs.Tags as tags
-use Rattle.dq_value.specs.Parts.{parts}
+use Rattle.dq_value.specs.Parts.{element_values}
 use Rattle.dq_dataset.specs.Tree.{ElementList}
-use Rattle.dq_dataset.specs.Values.{element_at, octets_in}
+use Rattle.dq_dataset.specs.Values.{element_at, element_octets}
 use Rattle.dq_tables.specs.Rows.{Record, octet_order}
 use Rattle.dq_tables.specs.Records.{data_set_of}
 
@@ -17,7 +17,7 @@ abbrev pub is_modality : List ℕ → Bool
 is_modality value = nat_le 1 (length value) && nat_le (length value) 16
 
 unfoldable pub modalities_of : ElementList → List (List ℕ)
-modalities_of series = filter is_modality (parts CS (octets_in (element_at tags.modality series)))
+modalities_of series = filter is_modality (element_values CS (element_octets (element_at tags.modality series)))
 
 -- of so many modalities the first are told
 abbrev pub modality_limit : ℕ

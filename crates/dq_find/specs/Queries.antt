@@ -4,10 +4,10 @@ use Rattle.std.specs.List.{filter_map, list_any}
 use Rattle.dq_vr.specs.declared.Tag.{Tag}
 use Rattle.dq_vr.specs.declared.Vr.TheVariants.{AE, CS}
 use Rattle.dq_vr.specs.Tags as tags
-use Rattle.dq_value.specs.Title.{stripped}
+use Rattle.dq_value.specs.Title.{without_spaces}
 use Rattle.dq_dataset.specs.declared.header.Syntax.{Syntax}
 use Rattle.dq_dataset.specs.Tree.{ElementList, no_elements}
-use Rattle.dq_dataset.specs.Editing.{merged}
+use Rattle.dq_dataset.specs.Editing.{merged_data_set}
 use Rattle.dq_dataset.specs.Values.{element_at}
 use Rattle.dq_dimse.specs.Received.{Message}
 use Rattle.dq_dimse.specs.Receiving.{identifier_in}
@@ -16,7 +16,7 @@ use Rattle.dq_match.specs.declared.responses.Found.{Found}
 use Rattle.dq_match.specs.declared.supported.KeyScope.TheVariants.{Identifier}
 use Rattle.dq_match.specs.Identifiers.{is_query}
 use Rattle.dq_match.specs.Supported.{supported_part, has_unsupported}
-use Rattle.dq_match.specs.Answers.{refused, answer}
+use Rattle.dq_match.specs.Answers.{refused_with, answer_to_keys}
 use Rattle.dq_tables.specs.Rows.{Record}
 use Rattle.dq_tables.specs.Finding.{records_of, records_above}
 use Rattle.dq_tables.specs.Keys.{uid_at}
@@ -24,42 +24,42 @@ use Rattle.dq_tables.specs.declared.row.Kind.TheVariants.{Study as StudyKind, Se
 use Rattle.dq_find.specs.declared.level.Level.TheVariants.{Study, Series, Image}
 use Rattle.dq_find.specs.declared.level.Level.{Level}
 use Rattle.dq_find.specs.declared.query.Query.{Query}
-use Rattle.dq_find.specs.Levels.{keys_of, name_of, level_of, has_keys_above}
-use Rattle.dq_find.specs.Computed.{completed}
+use Rattle.dq_find.specs.Levels.{level_keys, level_name, level_of, has_keys_above}
+use Rattle.dq_find.specs.Computed.{with_computed}
 use Rattle.dq_find.specs.Texts.{text}
 
 -- what a level asks for: its supported keys, each unique key above it once, and well-formed values
-abbrev pub query_at : ElementList → Option Level → Result Query ℕ
-query_at identifier None = Err does_not_match_sop_class
-query_at identifier (Some level) =
-    let keys = supported_part (Identifier (keys_of level)) identifier in
-    let optional = has_unsupported (Identifier (keys_of level)) identifier in
+abbrev pub level_query : ElementList → Option Level → Result Query ℕ
+level_query identifier None = Err does_not_match_sop_class
+level_query identifier (Some level) =
+    let keys = supported_part (Identifier (level_keys level)) identifier in
+    let optional = has_unsupported (Identifier (level_keys level)) identifier in
     if has_keys_above level keys && is_query keys
     then Ok (record { level = level; keys = keys; optional = optional })
     else Err does_not_match_sop_class
 
-abbrev pub query_in : Result ElementList ℕ → Result Query ℕ
-query_in (Err status) = Err status
-query_in (Ok identifier) = query_at identifier (level_of identifier)
+abbrev pub identifier_query : Result ElementList ℕ → Result Query ℕ
+identifier_query (Err status) = Err status
+identifier_query (Ok identifier) = level_query identifier (level_of identifier)
 
 -- the query of a message, or the status that refuses it (PS3.4 section C.4.1.1.4)
-unfoldable pub query_of : Message → Syntax → Result Query ℕ
-query_of message syntax = query_in (identifier_in message syntax)
+unfoldable pub message_query : Message → Syntax → Result Query ℕ
+message_query message syntax = identifier_query (identifier_in message syntax)
 
 -- what every answer holds beside the keys: the level, who answers, and that nothing can be
 -- retrieved (PS3.4 section C.4.1.1.3.2)
 unfoldable pub about_answers : List ℕ → Level → ElementList
 about_answers called level =
-    text tags.query_retrieve_level CS (name_of level)
-    (text tags.retrieve_ae_title AE (stripped called)
+    text tags.query_retrieve_level CS (level_name level)
+    (text tags.retrieve_ae_title AE (without_spaces called)
     (text tags.instance_availability CS (codes "UNAVAILABLE") no_elements))
 
-abbrev pub told : List ℕ → Query → ElementList → ElementList
-told called query part = merged part (about_answers called query.level)
+abbrev pub answer_elements : List ℕ → Query → ElementList → ElementList
+answer_elements called query part = merged_data_set part (about_answers called query.level)
 
 -- the answer that a completed record gives, where it fits
 abbrev pub answer_if : List ℕ → Query → ElementList → Option ElementList
-answer_if called query held = option_map (told called query) (answer query.keys held)
+answer_if called query held = option_map (answer_elements called query) (answer_to_keys query.keys held)
 
 -- the value of a unique key above
 abbrev pub key_above : Tag → ElementList → List ℕ
@@ -77,24 +77,24 @@ abbrev pub asked_records : List Record → Query → List Record
 asked_records records query = records_asked records query.level query.keys
 
 -- the answer that a record gives
-abbrev pub answer_of : List Record → List ℕ → Query → Record → Option ElementList
-answer_of records called query r = answer_if called query (completed records query.level r)
+abbrev pub record_answer : List Record → List ℕ → Query → Record → Option ElementList
+record_answer records called query r = answer_if called query (with_computed records query.level r)
 
 -- the answers to a query: those of the records of its level under its unique keys, in their order
-unfoldable pub answers : List Record → List ℕ → Query → List ElementList
-answers records called query =
-    filter_map (answer_of records called query) (asked_records records query)
+unfoldable pub answers_of_records : List Record → List ℕ → Query → List ElementList
+answers_of_records records called query =
+    filter_map (record_answer records called query) (asked_records records query)
 
 abbrev pub found_by : List Record → List ℕ → Result Query ℕ → Found
-found_by records called (Err status) = refused status
+found_by records called (Err status) = refused_with status
 found_by records called (Ok query) = record {
   status = success;
   optional = query.optional;
-  answers = answers records called query;
+  answers = answers_of_records records called query;
 }
 
-unfoldable pub found : List Record → List ℕ → Message → Syntax → Found
-found records called message syntax = found_by records called (query_of message syntax)
+unfoldable pub query_outcome : List Record → List ℕ → Message → Syntax → Found
+query_outcome records called message syntax = found_by records called (message_query message syntax)
 
 -- whether some key is computed
 abbrev pub computed_tags : List Tag

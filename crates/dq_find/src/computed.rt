@@ -2,13 +2,14 @@
 //! C.6.2.1).
 ghost use Rattle.std.specs.Prelude.{◌≡◌, ◌≤◌, ◌∷◌, ◌++◌, length, take, drop, IfOk, OnOk, IfSome, IfNone, map};
 ghost use Rattle.dq_tables.specs.Rows.{record_of};
-ghost use Rattle.dq_find.specs.Computed.{put_in_order, all_in_order, modalities_in, joined, images_below, study_values, series_values, computed};
+ghost use Rattle.dq_find.specs.Computed.{put_in_order, all_in_order, modalities_in, backslash_joined, images_below, study_values, series_values, computed_keys};
 ghost use Rattle.dq_find.specs.Modalities.{is_modality, modality_limit, modalities_of};
-ghost use Rattle.dq_find.specs.Looking.{Looks};
+ghost use Rattle.dq_archive.specs.Archives.{Looks};
 ghost use Rattle.dq_find.specs.declared.level.Level.TheVariants.{Study, Series};
-ghost use Rattle.dq_dataset.specs.Values.{element_at, octets_in};
+ghost use Rattle.dq_dataset.specs.Values.{element_at, element_octets};
 
 use crate::texts::{Text, elements};
+use dq_archive::Archive;
 use dq_dataset::DataSet;
 use dq_list::Listed;
 use dq_match::octets_in;
@@ -60,7 +61,7 @@ fn is_modality(value: &[u8]) -> bool
 
 /// The octets of the element with the tag, none where it is absent or a sequence.
 pub(crate) fn octets_at(data_set: &DataSet, tag: Tag) -> &[u8]
-    ensures { result.now ≡ octets_in (element_at tag data_set.now) }
+    ensures { result.now ≡ element_octets (element_at tag data_set.now) }
 {
     octets_in(data_set.get(tag))
 }
@@ -101,7 +102,7 @@ fn modalities_in(alloc: Global, series: &[Row]) -> Result<Vec<Listed<u8>>, Alloc
 
 /// Values with a backslash between them.
 fn joined(alloc: Global, values: &[Listed<u8>]) -> Result<Vec<u8>, AllocError>
-    ensures { IfOk result (λ v. v.items ≡ joined values.now) }
+    ensures { IfOk result (λ v. v.items ≡ backslash_joined values.now) }
 {
     let [first, others @ ..] = values else {
         return Ok(Vec::new(alloc));
@@ -157,18 +158,13 @@ fn series_values(alloc: Global, images: u64) -> Result<DataSet, AllocError>
 }
 
 /// How many images some series have.
-fn images_below<T: Tables>(
-    alloc: Global,
-    tables: &mut T,
-    institution: &[u8],
-    series: &[Row],
-) -> Result<u128, TableFault>
-    ensures { Looks (T.state tables.old) (T.state tables.new) institution.now
+fn images_below<T: Tables>(archive: &mut Archive<'_, T>, series: &[Row]) -> Result<u128, TableFault>
+    ensures { Looks T.state archive.old archive.new
         (λ records. images_below records (map record_of series.now)) result }
 {
     let mut number = 0;
     for row in series {
-        let images = tables.count_above(alloc, Kind::Image, institution, row.key.as_slice())?;
+        let images = archive.count_above(Kind::Image, row.key.as_slice())?;
         number += images as u128;
     }
     Ok(number)
@@ -176,31 +172,27 @@ fn images_below<T: Tables>(
 
 /// What is computed of the study with the key.
 pub(crate) fn study_computed<T: Tables>(
-    alloc: Global,
-    tables: &mut T,
-    institution: &[u8],
+    archive: &mut Archive<'_, T>,
     key: &[u8],
 ) -> Result<DataSet, TableFault>
-    ensures { Looks (T.state tables.old) (T.state tables.new) institution.now
-        (λ records. computed records Study key.now) result }
+    ensures { Looks T.state archive.old archive.new
+        (λ records. computed_keys records Study key.now) result }
 {
-    let series = tables.series_of(alloc, institution, key)?;
-    let images = images_below(alloc, tables, institution, series.as_slice())?;
-    let modalities = modalities_in(alloc, series.as_slice())?;
-    let modalities = joined(alloc, &modalities)?;
-    Ok(study_values(alloc, &modalities, series.len(), images)?)
+    let series = archive.rows_above(Kind::Series, key)?;
+    let images = images_below(archive, series.as_slice())?;
+    let modalities = modalities_in(archive.alloc, series.as_slice())?;
+    let modalities = joined(archive.alloc, &modalities)?;
+    Ok(study_values(archive.alloc, &modalities, series.len(), images)?)
 }
 
 /// What is computed of the series with the key.
 pub(crate) fn series_computed<T: Tables>(
-    alloc: Global,
-    tables: &mut T,
-    institution: &[u8],
+    archive: &mut Archive<'_, T>,
     key: &[u8],
 ) -> Result<DataSet, TableFault>
-    ensures { Looks (T.state tables.old) (T.state tables.new) institution.now
-        (λ records. computed records Series key.now) result }
+    ensures { Looks T.state archive.old archive.new
+        (λ records. computed_keys records Series key.now) result }
 {
-    let images = tables.count_above(alloc, Kind::Image, institution, key)?;
-    Ok(series_values(alloc, images)?)
+    let images = archive.count_above(Kind::Image, key)?;
+    Ok(series_values(archive.alloc, images)?)
 }

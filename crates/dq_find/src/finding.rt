@@ -1,27 +1,29 @@
 //! The answers to a query (PS3.4 sections C.4.1.3 and C.6.2).
 ghost use Rattle.std.specs.Prelude.{◌≡◌, false, [], IfOk, Some, map, filter, option_map};
 ghost use Rattle.std.specs.List.{filter_map, list_all};
+ghost use Rattle.dq_list.specs.Octets.{octets_of_vectors};
 ghost use Rattle.dq_dataset.specs.View.{elements_of};
 ghost use Rattle.dq_dimse.specs.Holding.{plain_message};
 ghost use Rattle.dq_match.specs.Identifiers.{HasKnownTags};
 ghost use Rattle.dq_tables.specs.Records.{data_set_of};
 ghost use Rattle.dq_tables.specs.Rows.{record_of, row_of};
 ghost use Rattle.dq_tables.specs.Serving.{Serves};
+ghost use Rattle.dq_archive.specs.Archives.{Looks, Decides};
 ghost use Rattle.dq_find.specs.Choosing.{is_asked};
-ghost use Rattle.dq_find.specs.Candidates.{looks_up, candidates, is_under, named_record, named_rows, octets_of, looked_up};
-ghost use Rattle.dq_find.specs.Kept.{is_met_later, is_met};
-ghost use Rattle.dq_find.specs.Computed.{computed, all_in_order};
-ghost use Rattle.dq_value.specs.Parts.{parts};
+ghost use Rattle.dq_find.specs.Candidates.{looks_up, query_candidates, is_under, named_record, named_rows, looked_up};
+ghost use Rattle.dq_find.specs.Kept.{is_met_later, is_key_met};
+ghost use Rattle.dq_find.specs.Computed.{computed_keys, all_in_order};
+ghost use Rattle.dq_value.specs.Parts.{element_values};
 ghost use Rattle.dq_vr.specs.declared.Vr.TheVariants.{UI};
-ghost use Rattle.dq_find.specs.Queries.{about_answers, key_above, asks_computed, asked_records, answer_if, answer_of, found};
+ghost use Rattle.dq_find.specs.Queries.{about_answers, key_above, asks_computed, asked_records, answer_if, record_answer, query_outcome};
 ghost use Rattle.dq_tables.specs.declared.row.Row.{Row as TheRow};
-ghost use Rattle.dq_find.specs.Looking.{Looks};
 
 use crate::choosing::choice_in;
 use crate::computed::{octets_at, series_computed, study_computed};
 use crate::level::Level;
 use crate::query::{Query, query_of};
 use crate::texts::{Text, elements};
+use dq_archive::{Archive, Decision};
 use dq_config::Institution;
 use dq_dataset::{DataSet, Element, Syntax};
 use dq_dimse::Message;
@@ -30,7 +32,7 @@ use dq_list::Listed;
 use dq_match::laws::keys_are_met_alone_and_as_a_period;
 use dq_match::{Found, answer, lent_meets, meets};
 use dq_tables::laws::{day_numbers_are_in_order, honest_rows_are_sound};
-use dq_tables::{Row, TableFault, Tables, uid_at};
+use dq_tables::{Kind, Row, TableFault, Tables, uid_at};
 use dq_value::{stripped, values};
 use dq_vr::{Tag, Vr, tags};
 use std::alloc::{AllocError, Global};
@@ -93,10 +95,9 @@ fn key_above(keys: &DataSet, tag: Tag) -> &[u8]
     }
 }
 
-/// A query, with the institution that is asked and the title that was called.
+/// A query, with the title that was called.
 #[derive(Clone, Copy)]
 struct Search<'a> {
-    institution: &'a [u8],
     called: &'a [u8],
     query: &'a Query,
 }
@@ -104,29 +105,25 @@ struct Search<'a> {
 impl Search<'_> {
     /// The records of the level under the unique keys above it. Of studies, only those that can fit
     /// what is asked of their key, their patient and their day.
-    fn asked_rows<T: Tables>(
-        &self,
-        alloc: Global,
-        tables: &mut T,
-    ) -> Result<Listed<Row>, TableFault>
-        ensures { Looks (T.state tables.old) (T.state tables.new)
-            self.now.institution.now (λ records. map (row_of self.now.institution.now)
+    fn asked_rows<T: Tables>(&self, archive: &mut Archive<'_, T>) -> Result<Listed<Row>, TableFault>
+        ensures { Looks T.state archive.old archive.new (λ records.
+            map (row_of archive.old.institution.now.name)
             (filter (is_asked self.now.query.now.level self.now.query.now.keys)
             (asked_records records self.now.query.now))) result }
     {
         let keys = &self.query.keys;
         match self.query.level {
             Level::Study => {
-                let choice = choice_in(alloc, keys)?;
-                tables.studies_in(alloc, self.institution, &choice)
+                let choice = choice_in(archive.alloc, keys)?;
+                archive.studies_in(&choice)
             }
             Level::Series => {
                 let study = key_above(keys, tags::STUDY_INSTANCE_UID);
-                tables.series_of(alloc, self.institution, study)
+                archive.rows_above(Kind::Series, study)
             }
             Level::Image => {
                 let series = key_above(keys, tags::SERIES_INSTANCE_UID);
-                tables.images_of(alloc, self.institution, series)
+                archive.rows_above(Kind::Image, series)
             }
         }
     }
@@ -155,33 +152,30 @@ impl Search<'_> {
     /// The record of the level with a unique key, where it is under the unique keys above it.
     fn row_named<T: Tables>(
         &self,
-        alloc: Global,
-        tables: &mut T,
+        archive: &mut Archive<'_, T>,
         uid: &[u8],
     ) -> Result<Option<Row>, TableFault>
-        ensures { Looks (T.state tables.old) (T.state tables.new)
-            self.now.institution.now
-            (λ records. option_map (row_of self.now.institution.now)
+        ensures { Looks T.state archive.old archive.new (λ records.
+            option_map (row_of archive.old.institution.now.name)
             (named_record records self.now.query.now uid.now)) result }
     {
-        let row = tables.row(alloc, self.query.level.kind(), self.institution, uid)?;
+        let row = archive.row(self.query.level.kind(), uid)?;
         Ok(self.looked_up(row))
     }
 
     /// The records of the level with some unique keys, in the order of these.
     fn rows_named<T: Tables>(
         &self,
-        alloc: Global,
-        tables: &mut T,
+        archive: &mut Archive<'_, T>,
         mut uids: BTreeSet<Vec<u8>>,
     ) -> Result<Listed<Row>, TableFault>
-        ensures { Looks (T.state tables.old) (T.state tables.new)
-            self.now.institution.now (λ records. named_rows self.now.institution.now records
-            self.now.query.now (octets_of uids.keys)) result }
+        ensures { Looks T.state archive.old archive.new (λ records.
+            named_rows archive.old.institution.now.name records
+            self.now.query.now (octets_of_vectors uids.keys)) result }
     {
-        let mut rows = Listed::empty(alloc);
+        let mut rows = Listed::empty(archive.alloc);
         while let Some(uid) = uids.pop_first() {
-            let row = self.row_named(alloc, tables, uid.as_slice())?;
+            let row = self.row_named(archive, uid.as_slice())?;
             if let Some(row) = row {
                 rows.push(row)?;
             }
@@ -191,35 +185,33 @@ impl Search<'_> {
 
     /// The records that are looked at: where the query gives its level's own unique key values, no
     /// record without one of them can match, and no study that the choice does not take.
-    fn rows<T: Tables>(&self, alloc: Global, tables: &mut T) -> Result<Listed<Row>, TableFault>
-        ensures { Looks (T.state tables.old) (T.state tables.new)
-            self.now.institution.now (λ records. map (row_of self.now.institution.now)
-            (candidates records self.now.query.now)) result }
+    fn rows<T: Tables>(&self, archive: &mut Archive<'_, T>) -> Result<Listed<Row>, TableFault>
+        ensures { Looks T.state archive.old archive.new (λ records.
+            map (row_of archive.old.institution.now.name)
+            (query_candidates records self.now.query.now)) result }
     {
         honest_rows_are_sound::<T>();
         let values = octets_at(&self.query.keys, self.query.level.unique_key());
         if !looks_up(self.query.level, values) {
-            return self.asked_rows(alloc, tables);
+            return self.asked_rows(archive);
         }
-        let uids = uids_in_order(alloc, values)?;
-        self.rows_named(alloc, tables, uids)
+        let uids = uids_in_order(archive.alloc, values)?;
+        self.rows_named(archive, uids)
     }
 
     /// What is computed of the record of the level with the key.
     fn computed<T: Tables>(
         &self,
-        alloc: Global,
-        tables: &mut T,
+        archive: &mut Archive<'_, T>,
         key: &[u8],
     ) -> Result<DataSet, TableFault>
-        ensures { Looks (T.state tables.old) (T.state tables.new)
-            self.now.institution.now
-            (λ records. computed records self.now.query.now.level key.now) result }
+        ensures { Looks T.state archive.old archive.new
+            (λ records. computed_keys records self.now.query.now.level key.now) result }
     {
         match self.query.level {
-            Level::Study => study_computed(alloc, tables, self.institution, key),
-            Level::Series => series_computed(alloc, tables, self.institution, key),
-            Level::Image => Ok(DataSet::new(alloc)),
+            Level::Study => study_computed(archive, key),
+            Level::Series => series_computed(archive, key),
+            Level::Image => Ok(DataSet::new(archive.alloc)),
         }
     }
 
@@ -244,7 +236,7 @@ impl Search<'_> {
     /// Whether a row meets the keys that a kept element meets, as far as its octets tell before they
     /// are read.
     fn may_fit(&self, row: &Row) -> bool
-        ensures { result ≡ false → list_all (is_met (data_set_of row.now.octets))
+        ensures { result ≡ false → list_all (is_key_met (data_set_of row.now.octets))
             (elements_of self.now.query.now.keys) ≡ false }
     {
         let keys = self.query.keys.elements();
@@ -255,51 +247,46 @@ impl Search<'_> {
     /// record that does not meet the keys that are kept.
     fn answer_of<T: Tables>(
         &self,
-        alloc: Global,
-        tables: &mut T,
+        archive: &mut Archive<'_, T>,
         about: &DataSet,
         row: &Row,
     ) -> Result<Option<DataSet>, TableFault>
         requires known { HasKnownTags self.now.query.now.keys }
         requires about { about.now ≡ about_answers self.now.called.now self.now.query.now.level }
-        ensures { Looks (T.state tables.old) (T.state tables.new)
-            self.now.institution.now
-            (λ records. answer_of records self.now.called.now self.now.query.now
-            (record_of row.now)) result }
+        ensures { Looks T.state archive.old archive.new (λ records.
+            record_answer records self.now.called.now self.now.query.now (record_of row.now)) result }
     {
         keys_are_met_alone_and_as_a_period();
         if !self.may_fit(row) {
             return Ok(None);
         }
-        let held = row.data_set(alloc)?;
+        let held = row.data_set(archive.alloc)?;
         if !asks_computed(self.query) {
-            return Ok(self.answer(alloc, about, &held)?);
+            return Ok(self.answer(archive.alloc, about, &held)?);
         }
         if !kept_keys_are_met(self.query.keys.elements(), &held) {
             return Ok(None);
         }
-        let values = self.computed(alloc, tables, row.key.as_slice())?;
-        let held = held.merged(alloc, &values)?;
-        Ok(self.answer(alloc, about, &held)?)
+        let values = self.computed(archive, row.key.as_slice())?;
+        let held = held.merged(archive.alloc, &values)?;
+        Ok(self.answer(archive.alloc, about, &held)?)
     }
 
     /// The answers that some rows give, in their order.
     fn answers_of<T: Tables>(
         &self,
-        alloc: Global,
-        tables: &mut T,
+        archive: &mut Archive<'_, T>,
         rows: &[Row],
     ) -> Result<Listed<DataSet>, TableFault>
         requires { HasKnownTags self.now.query.now.keys }
-        ensures { Looks (T.state tables.old) (T.state tables.new)
-            self.now.institution.now (λ records. filter_map (λ (row : TheRow).
-            answer_of records self.now.called.now self.now.query.now (record_of row)) rows.now)
-            result }
+        ensures { Looks T.state archive.old archive.new (λ records. filter_map
+            (λ (row : TheRow). record_answer records self.now.called.now self.now.query.now
+            (record_of row)) rows.now) result }
     {
-        let about = about_answers(alloc, self.called, self.query.level)?;
-        let mut answers = Listed::empty(alloc);
+        let about = about_answers(archive.alloc, self.called, self.query.level)?;
+        let mut answers = Listed::empty(archive.alloc);
         for row in rows {
-            let answer = self.answer_of(alloc, tables, &about, row)?;
+            let answer = self.answer_of(archive, &about, row)?;
             if let Some(answer) = answer {
                 answers.push(answer)?;
             }
@@ -311,7 +298,7 @@ impl Search<'_> {
 /// Whether values of a level's own unique key are looked up: there are some, and the first is no
 /// asterisk, which every record meets where it stands alone. One study is chosen instead.
 fn looks_up(level: Level, octets: &[u8]) -> bool
-    ensures { result ≡ looks_up level (parts UI octets.now) }
+    ensures { result ≡ looks_up level (element_values UI octets.now) }
 {
     let mut uids = values(Vr::UI, octets);
     let Some(first) = uids.next() else {
@@ -325,8 +312,8 @@ fn looks_up(level: Level, octets: &[u8]) -> bool
 
 /// The values of a unique key in the order of their octets, each once.
 fn uids_in_order(alloc: Global, octets: &[u8]) -> Result<BTreeSet<Vec<u8>>, AllocError>
-    ensures { IfOk result (λ uids. octets_of uids.keys
-        ≡ all_in_order (parts UI octets.now) []) }
+    ensures { IfOk result (λ uids. octets_of_vectors uids.keys
+        ≡ all_in_order (element_values UI octets.now) []) }
 {
     let mut uids = BTreeSet::new(alloc);
     let mut parts = values(Vr::UI, octets);
@@ -350,7 +337,7 @@ fn is_met_later(tag: Tag) -> bool
 
 /// Whether a record, of which nothing is computed yet, meets the keys that a kept element meets.
 fn kept_keys_are_met(keys: &[Element], held: &DataSet) -> bool
-    ensures { result ≡ list_all (is_met held.now) keys.now }
+    ensures { result ≡ list_all (is_key_met held.now) keys.now }
 {
     for key in keys {
         if !is_met_later(key.tag) && !meets(key, held.get(key.tag)) {
@@ -374,26 +361,40 @@ pub fn find<T: Tables>(
     syntax: Syntax,
 ) -> Result<Found, TableFault>
     ensures { Serves (T.state tables.old) (T.state tables.new) institution.now.name
-        (λ records. (found records called.now (plain_message message.now) syntax, [])) result }
+        (λ records. (query_outcome records called.now (plain_message message.now) syntax, [])) result }
 {
-    let query = match query_of(alloc, message, syntax)? {
+    let mut archive = Archive::new(alloc, tables, institution);
+    let decision = decide_answers(&mut archive, called, message, syntax)?;
+    archive.carry_out(decision)
+}
+
+/// The answers to a Study Root C-FIND, which change nothing.
+fn decide_answers<T: Tables>(
+    archive: &mut Archive<'_, T>,
+    called: &[u8],
+    message: &Message,
+    syntax: Syntax,
+) -> Result<Decision<Found>, TableFault>
+    ensures { Decides T.state archive.old archive.new (λ records.
+        (query_outcome records called.now (plain_message message.now) syntax, [])) result }
+{
+    let query = match query_of(archive.alloc, message, syntax)? {
         Ok(query) => query,
-        Err(status) => return Ok(Found::refused(alloc, status)),
+        Err(status) => return Ok(Decision::unchanged(Found::refused(archive.alloc, status))),
     };
     query.keys.has_facts();
     honest_rows_are_sound::<T>();
     day_numbers_are_in_order();
     keys_are_met_alone_and_as_a_period();
     let search = Search {
-        institution: institution.name.as_slice(),
         called,
         query: &query,
     };
-    let rows = search.rows(alloc, tables)?;
-    let answers = search.answers_of(alloc, tables, rows.as_slice())?;
-    Ok(Found {
+    let rows = search.rows(archive)?;
+    let answers = search.answers_of(archive, rows.as_slice())?;
+    Ok(Decision::unchanged(Found {
         status: SUCCESS,
         optional: query.optional,
         answers,
-    })
+    }))
 }

@@ -12,12 +12,12 @@ ghost use Rattle.dq_tables.specs.Rows.{Record, Edit, IsRising, of, by, after};
 ghost use Rattle.dq_tables.specs.Records.{data_set_of};
 ghost use Rattle.dq_tables.specs.Sound.{IsSound};
 ghost use Rattle.dq_find.specs.declared.query.Query.{Query};
-ghost use Rattle.dq_find.specs.Queries.{query_of, answers, found};
+ghost use Rattle.dq_find.specs.Queries.{message_query, answers_of_records, query_outcome};
 ghost use Rattle.dq_find.specs.Computed.{modalities_in};
-ghost use Rattle.dq_find.specs.Answers.{Matches, HasKeyAbove, AreAnswers, Tells};
+ghost use Rattle.dq_find.specs.Answers.{MatchesQuery, HasKeyAbove, AreQueryAnswers, TellsLevel};
 ghost use Rattle.dq_find.specs.Modalities.{AreModalities};
 ghost use Rattle.dq_find.specs.Pages.{HasGiven, GivesInTurn, IsPage, ArePages};
-ghost use Rattle.dq_find.specs.Examples.{request, identifier, kept, answer, found_with};
+ghost use Rattle.dq_find.specs.Examples.{query_request, identifier, kept_studies, jane_doe_answer, found_studies};
 
 use dq_match::laws::keys_are_met_alone_and_as_a_period;
 
@@ -26,17 +26,17 @@ use dq_match::laws::keys_are_met_alone_and_as_a_period;
 pub fn answers_are_the_matching_records_in_order()
     ensures answered { (institution : List ℕ) (rows : List Row) (called : List ℕ)
         (message : Message) (syntax : Syntax) (query : Query) → IsSound rows
-        → query_of message syntax ≡ Ok query → AreAnswers (of institution rows) called query
-        (found (of institution rows) called message syntax).answers }
+        → message_query message syntax ≡ Ok query → AreQueryAnswers (of institution rows) called query
+        (query_outcome (of institution rows) called message syntax).answers }
     ensures succeeded { (institution : List ℕ) (rows : List Row) (called : List ℕ)
         (message : Message) (syntax : Syntax) → IsSound rows
-        → (found (of institution rows) called message syntax).status ≡ success
-        → (query : Query) × (query_of message syntax ≡ Ok query)
-        × AreAnswers (of institution rows) called query
-        (found (of institution rows) called message syntax).answers }
+        → (query_outcome (of institution rows) called message syntax).status ≡ success
+        → (query : Query) × (message_query message syntax ≡ Ok query)
+        × AreQueryAnswers (of institution rows) called query
+        (query_outcome (of institution rows) called message syntax).answers }
     ensures alone { (records : List Record) (called : List ℕ) (query : Query)
-        (one other : List ElementList) → AreAnswers records called query one
-        → AreAnswers records called query other → one ≡ other }
+        (one other : List ElementList) → AreQueryAnswers records called query one
+        → AreQueryAnswers records called query other → one ≡ other }
 {
     keys_are_met_alone_and_as_a_period();
 }
@@ -45,8 +45,8 @@ pub fn answers_are_the_matching_records_in_order()
 /// one of the study that is named, and an image one of the series (PS3.4 section C.4.1.2.1).
 pub fn what_matches_has_the_key_above()
     ensures { (institution : List ℕ) (rows : List Row) (message : Message) (syntax : Syntax)
-        (query : Query) → IsSound rows → query_of message syntax ≡ Ok query → (r : Record)
-        → Matches (of institution rows) query r
+        (query : Query) → IsSound rows → message_query message syntax ≡ Ok query → (r : Record)
+        → MatchesQuery (of institution rows) query r
         → HasKeyAbove query.level query.keys (data_set_of r.octets) }
 {
     keys_are_met_alone_and_as_a_period();
@@ -56,8 +56,8 @@ pub fn what_matches_has_the_key_above()
 #[tactic(auto, using(crate::proofs::Answered::none_refused))]
 pub fn what_is_refused_has_no_answers()
     ensures { (records : List Record) (called : List ℕ) (message : Message) (syntax : Syntax)
-        → (found records called message syntax).status ≢ success
-        → (found records called message syntax).answers ≡ [] }
+        → (query_outcome records called message syntax).status ≢ success
+        → (query_outcome records called message syntax).answers ≡ [] }
 {}
 
 /// What other institutions keep changes no answer.
@@ -65,8 +65,8 @@ pub fn what_is_refused_has_no_answers()
 pub fn other_institutions_change_no_answer()
     ensures { (own other : List ℕ) → other ≢ own → (edits : List Edit) (rows : List Row)
         → IsRising rows → (called : List ℕ) (message : Message) (syntax : Syntax)
-        → found (of own (after (by other edits) rows)) called message syntax
-        ≡ found (of own rows) called message syntax }
+        → query_outcome (of own (after (by other edits) rows)) called message syntax
+        ≡ query_outcome (of own rows) called message syntax }
 {}
 
 /// Each answer tells its level, the title that was called, and that nothing can be retrieved (PS3.4
@@ -74,7 +74,7 @@ pub fn other_institutions_change_no_answer()
 #[tactic(auto, using(crate::proofs::Answered::each_tells))]
 pub fn each_answer_tells_who_answers()
     ensures { (records : List Record) (called : List ℕ) (query : Query)
-        → AllByRecursion (Tells called query.level) (answers records called query) }
+        → AllByRecursion (TellsLevel called query.level) (answers_of_records records called query) }
 {}
 
 /// Modalities in Study are the modalities of the study's series, each once, in the order of their
@@ -106,7 +106,7 @@ pub fn answers_are_given_once_in_order()
 /// On a worked example: of no records nothing is found, with status 0000, and of the studies of two
 /// patients that of the patient whose name was asked for.
 pub fn one_study_of_two_is_found()
-    ensures nothing { found [] (codes "ARCHIVE") (request identifier) Explicit ≡ found_with [] }
-    ensures one { found kept (codes "ARCHIVE") (request identifier) Explicit
-        ≡ found_with (answer ∷ []) }
+    ensures nothing { query_outcome [] (codes "ARCHIVE") (query_request identifier) Explicit ≡ found_studies [] }
+    ensures one { query_outcome kept_studies (codes "ARCHIVE") (query_request identifier) Explicit
+        ≡ found_studies (jane_doe_answer ∷ []) }
 {}

@@ -1,6 +1,6 @@
 //! The levels of a Study Root query (PS3.4 section C.6.2.1).
 ghost use Rattle.std.specs.Prelude.{◌≡◌};
-ghost use Rattle.dq_find.specs.Levels.{kind_of, keys_of, name_of, unique_key, level_named, level_of, keys_above, has_keys_above};
+ghost use Rattle.dq_find.specs.Levels.{kind_of, level_keys, level_name, unique_key, level_named, level_of, keys_above, has_keys_above};
 
 use crate::computed::octets_at;
 use dq_dataset::DataSet;
@@ -33,7 +33,7 @@ impl Level {
     }
 
     pub(crate) fn name(self) -> &'static [u8]
-        ensures { result.now ≡ name_of self }
+        ensures { result.now ≡ level_name self }
     {
         match self {
             Level::Study => b"STUDY",
@@ -44,7 +44,7 @@ impl Level {
 
     /// The keys that are supported at the level.
     pub(crate) fn keys(self) -> KeyList
-        ensures { result ≡ keys_of self }
+        ensures { result ≡ level_keys self }
     {
         match self {
             Level::Study => KeyList::Study,

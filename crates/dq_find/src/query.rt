@@ -3,7 +3,7 @@ ghost use Rattle.std.specs.Prelude.{◌≡◌, IfOk};
 ghost use Rattle.dq_dimse.specs.Holding.{plain_message};
 ghost use Rattle.dq_match.specs.Identifiers.{HasKnownTags};
 ghost use Rattle.dq_find.specs.Levels.{level_of};
-ghost use Rattle.dq_find.specs.Queries.{query_at, query_of};
+ghost use Rattle.dq_find.specs.Queries.{level_query, message_query};
 
 use crate::level::Level;
 use dq_dataset::{DataSet, Syntax};
@@ -22,13 +22,13 @@ pub struct Query {
 
 /// The query of a message, or the status that refuses it: the identifier is too long, unreadable,
 /// names no level, lacks a unique key of a level above, or has a value that is not well formed.
-#[tactic(auto, unfolding(crate::specs::Queries::query_of))]
+#[tactic(auto, unfolding(crate::specs::Queries::message_query))]
 pub(crate) fn query_of(
     alloc: Global,
     message: &Message,
     syntax: Syntax,
 ) -> Result<Result<Query, u16>, AllocError>
-    ensures query { IfOk result (λ q. q ≡ query_of (plain_message message.now) syntax) }
+    ensures query { IfOk result (λ q. q ≡ message_query (plain_message message.now) syntax) }
     ensures known { IfOk result (λ q. IfOk q (λ query. HasKnownTags query.keys)) }
 {
     match message.identifier(alloc, syntax)? {
@@ -38,7 +38,7 @@ pub(crate) fn query_of(
 }
 
 fn query_at(alloc: Global, identifier: &DataSet) -> Result<Result<Query, u16>, AllocError>
-    ensures query { IfOk result (λ q. q ≡ query_at identifier.now (level_of identifier.now)) }
+    ensures query { IfOk result (λ q. q ≡ level_query identifier.now (level_of identifier.now)) }
     ensures known { IfOk result (λ q. IfOk q (λ query. HasKnownTags query.keys)) }
 {
     let Some(level) = Level::of(identifier) else {

@@ -7,8 +7,8 @@ abbrev pub ◌>>=◌ : {A B : Type 0} → Option A → (A → Option B) → Opti
 o >>= f = option_and_then f o
 
 -- the value, if the test holds
-abbrev pub provided : {A : Type 0} → Bool → A → Option A
-provided b x = if b then Some x else None
+abbrev pub only_if : {A : Type 0} → Bool → A → Option A
+only_if b x = if b then Some x else None
 
 -- What a reader returned, seen by view, is what was to be read. `Tells` says what each of its
 -- errors tells of that.

@@ -8,13 +8,13 @@ use Rattle.dq_vr.specs.Tags.{scheduled_procedure_step_start_date, scheduled_proc
 use Rattle.dq_match.specs.declared.keys.Place.{Place}
 use Rattle.dq_match.specs.declared.keys.Place.TheVariants.{Outer}
 use Rattle.dq_match.specs.Keys.{is_tag, is_key, other_than_keys}
-use Rattle.dq_match.specs.Matching.{is_passed, is_start}
+use Rattle.dq_match.specs.Matching.{is_matched_elsewhere, is_start}
 
 pub all_pass : {X : Type 0} (p : X → Bool) (xs : List X) → ((x : X) → IsAmong x xs → p x ≡ true) → list_all p xs ≡ true
 all_pass p [] each = refl
 all_pass p (x ∷ xs) each = (λ i. each x (inl refl) i && list_all p xs) ∙ all_pass p xs (λ y h. each y (inr h))
 
-pub not_passed : (joined : Bool) (place : Place) (tag : Tag) → is_key place tag ≡ true → is_start tag ≡ false → is_passed place joined tag ≡ false
+pub not_passed : (joined : Bool) (place : Place) (tag : Tag) → is_key place tag ≡ true → is_start tag ≡ false → is_matched_elsewhere place joined tag ≡ false
 not_passed true place tag is none = rw (is, none) refl
 not_passed false place tag is none = rw (is) refl
 
@@ -42,5 +42,5 @@ is_among tags tag = list_any (λ one. is_tag one tag) tags
 
 -- a key that is none of those and none of some others
 pub stands_alone : (joined : Bool) (others : List Tag) (tag : Tag) → is_among (other_than_keys ++ (others ++ starts)) tag ≡ false
-    → (is_among others tag ≡ false) × (is_passed Outer joined tag ≡ false)
+    → (is_among others tag ≡ false) × (is_matched_elsewhere Outer joined tag ≡ false)
 stands_alone joined others tag h = grind (arith, none_of, not_passed, no_start)

@@ -4,8 +4,8 @@ use Rattle.std.specs.List.{filter_map, cons_option}
 use Rattle.dq_list.specs.Among.{IsAmong}
 use Rattle.dq_dataset.specs.Tree.{ElementList}
 use Rattle.dq_match.specs.Matching.{fits}
-use Rattle.dq_match.specs.Responses.{shown}
-use Rattle.dq_match.specs.Answers.{answer}
+use Rattle.dq_match.specs.Responses.{shown_data_set}
+use Rattle.dq_match.specs.Answers.{answer_to_keys}
 
 -- ---- one of what is given
 
@@ -55,5 +55,5 @@ answer_by : (b : Bool) (shown_part d : ElementList) → (if b then Some shown_pa
 answer_by true shown_part d e = (refl, cc)
 answer_by false shown_part d e = cc
 
-pub answer_to : (keys held : ElementList) → fits keys held ≡ true → answer keys held ≡ Some (shown keys held)
+pub answer_to : (keys held : ElementList) → fits keys held ≡ true → answer_to_keys keys held ≡ Some (shown_data_set keys held)
 answer_to keys held fit = rw fit refl

@@ -7,7 +7,7 @@ use Rattle.dq_list.specs.Among.{IsAmong}
 use Rattle.dq_vr.specs.declared.Tag.{Tag}
 use Rattle.dq_dataset.specs.Tree.{ElementList, no_elements, element, sequence, ItemList, item}
 use Rattle.dq_dataset.specs.View.{elements_of, items_of, list_of}
-use Rattle.dq_dataset.specs.Values.{element_at, octets_in}
+use Rattle.dq_dataset.specs.Values.{element_at, element_octets}
 use Rattle.dq_dataset.proofs.Views.{items_of-list_of}
 use Rattle.dq_dataset.specs.declared.data_set.Element.{Element}
 use Rattle.dq_dataset.specs.declared.data_set.Value.TheVariants.{Octets, Items}
@@ -15,13 +15,13 @@ use Rattle.dq_match.specs.declared.keys.Place.{Place}
 use Rattle.dq_match.specs.declared.keys.Place.TheVariants.{Inner}
 use Rattle.dq_match.specs.Keys.{items_in}
 use Rattle.dq_match.specs.Values.{octets_meet}
-use Rattle.dq_match.specs.Matching.{is_passed, with_period, each_met, items_meet, all_met, meets}
+use Rattle.dq_match.specs.Matching.{is_matched_elsewhere, with_period, each_met, items_meet, all_met, meets}
 use Rattle.dq_match.specs.Fitting.{EachIsMet, PeriodIsMet, SomeItemFits}
 
 -- ---- one key after the other
 
 abbrev AllAreMet : Place → ElementList → Bool → List Element → Type 0
-AllAreMet place held joined keys = (key : Element) → IsAmong key keys → is_passed place joined key.tag ≡ false → meets key (element_at key.tag held) ≡ true
+AllAreMet place held joined keys = (key : Element) → IsAmong key keys → is_matched_elsewhere place joined key.tag ≡ false → meets key (element_at key.tag held) ≡ true
 
 either : (passed met : Bool) → (passed || met) ≡ true → passed ≡ false → met ≡ true
 either true met h none = cc
@@ -36,7 +36,7 @@ and_both true b is h = h
 and_both false b is h = cc
 
 module _ (place : Place) (held : ElementList) (joined : Bool) where
-  first_met : (key : Element) (rest : ElementList) → (is_passed place joined key.tag || meets key (element_at key.tag held)) ≡ true
+  first_met : (key : Element) (rest : ElementList) → (is_matched_elsewhere place joined key.tag || meets key (element_at key.tag held)) ≡ true
       → AllAreMet place held joined (elements_of rest) → AllAreMet place held joined (key ∷ elements_of rest)
   first_met key rest here later wanted (inl is) = grind (arith, either)
   first_met key rest here later wanted (inr h) = later wanted h
@@ -48,23 +48,23 @@ module _ (place : Place) (held : ElementList) (joined : Bool) where
   pub each_from : (keys : ElementList) → each_met keys place held joined ≡ true → AllAreMet place held joined (elements_of keys)
   each_from no_elements h = λ key none. absurd none
   each_from (element t v o rest) h =
-      let parts = and_parts (is_passed place joined t || octets_meet v o (octets_in (element_at t held))) (each_met rest place held joined) h in
+      let parts = and_parts (is_matched_elsewhere place joined t || octets_meet v o (element_octets (element_at t held))) (each_met rest place held joined) h in
       first_met (record { tag = t; vr = v; value = Octets o }) rest parts.0 (each_from rest parts.1)
   each_from (sequence t v items rest) h =
-      let parts = and_parts (is_passed place joined t || items_meet items (items_in (element_at t held))) (each_met rest place held joined) h in
+      let parts = and_parts (is_matched_elsewhere place joined t || items_meet items (items_in (element_at t held))) (each_met rest place held joined) h in
       first_met (record { tag = t; vr = v; value = Items (list_of items) }) rest
-      (ap (λ (b : Bool). is_passed place joined t || b) (sym (same_items t items)) ∙ parts.0) (each_from rest parts.1)
+      (ap (λ (b : Bool). is_matched_elsewhere place joined t || b) (sym (same_items t items)) ∙ parts.0) (each_from rest parts.1)
 
   pub each_to : (keys : ElementList) → AllAreMet place held joined (elements_of keys) → each_met keys place held joined ≡ true
   each_to no_elements all = refl
   each_to (element t v o rest) all =
-      and_both (is_passed place joined t || octets_meet v o (octets_in (element_at t held))) (each_met rest place held joined)
-      (either_way (is_passed place joined t) (octets_meet v o (octets_in (element_at t held)))
+      and_both (is_matched_elsewhere place joined t || octets_meet v o (element_octets (element_at t held))) (each_met rest place held joined)
+      (either_way (is_matched_elsewhere place joined t) (octets_meet v o (element_octets (element_at t held)))
       (all (record { tag = t; vr = v; value = Octets o }) (inl refl)))
       (each_to rest (λ key h. all key (inr h)))
   each_to (sequence t v items rest) all =
-      and_both (is_passed place joined t || items_meet items (items_in (element_at t held))) (each_met rest place held joined)
-      (either_way (is_passed place joined t) (items_meet items (items_in (element_at t held)))
+      and_both (is_matched_elsewhere place joined t || items_meet items (items_in (element_at t held))) (each_met rest place held joined)
+      (either_way (is_matched_elsewhere place joined t) (items_meet items (items_in (element_at t held)))
       (λ none. same_items t items ∙ all (record { tag = t; vr = v; value = Items (list_of items) }) (inl refl) none))
       (each_to rest (λ key h. all key (inr h)))
 

@@ -2,9 +2,9 @@
 use Rattle.std.proofs.Common.{◌≡◌, ℕ, ◌≤◌, Bool, true, false, nat_eq, nat_le, ◌||◌, List, [], ◌∷◌, Some, None, refl, arith}
 use Rattle.std.proofs.lemmas.Bool.Decides.{nat_tests}
 use Rattle.dq_value.specs.Time.{span}
-use Rattle.dq_value.specs.Range.{ends}
+use Rattle.dq_value.specs.Range.{range_ends}
 use Rattle.dq_match.specs.declared.wildcards.Casing.{Casing}
-use Rattle.dq_match.specs.Wildcards.{wild, any_run, any_one, compared, same, stands_for, after_run}
+use Rattle.dq_match.specs.Wildcards.{wild, any_run, any_one, compared_octet, same, stands_for, after_run}
 use Rattle.dq_match.specs.Values.{is_same}
 use Rattle.dq_match.specs.Ranges.{bounds, time_meets}
 
@@ -29,7 +29,7 @@ run_of_none test (octet ∷ others) h = or_left (test (octet ∷ others)) (after
 
 octet_itself : (casing : Casing) (octet : ℕ) → stands_for casing octet octet ≡ true
 octet_itself casing octet =
-    or_right (nat_eq octet any_one) (same casing octet octet) (nat_itself (compared casing octet))
+    or_right (nat_eq octet any_one) (same casing octet octet) (nat_itself (compared_octet casing octet))
 
 wild-step : (casing : Casing) (octet : ℕ) (pattern : List ℕ) (b : Bool) → nat_eq octet any_run ≡ b
     → wild casing pattern pattern ≡ true → wild casing (octet ∷ pattern) (octet ∷ pattern) ≡ true
@@ -45,7 +45,7 @@ pub same_itself : (value : List ℕ) → is_same value value ≡ true
 same_itself [] = refl
 same_itself (octet ∷ others) = rw (nat_itself octet) (same_itself others)
 
-pub time_itself : (value : List ℕ) (first last : ℕ) → ends value ≡ None → span value ≡ Some (first, last)
+pub time_itself : (value : List ℕ) (first last : ℕ) → range_ends value ≡ None → span value ≡ Some (first, last)
     → first ≤ last → time_meets value value ≡ true
 unfolding time_meets bounds
 time_itself value first last one is_time rises =

@@ -11,7 +11,7 @@ use Rattle.dq_match.specs.declared.supported.KeyScope.{KeyScope}
 use Rattle.dq_match.specs.declared.supported.KeyScope.TheVariants.{Identifier, Step, Code, Reference, Other}
 use Rattle.dq_match.specs.Keys.{is_tag, other_than_keys}
 use Rattle.dq_match.specs.Identifiers.{HasKnownTags, HaveKnownTags}
-use Rattle.dq_match.specs.Supported.{keys_of, leaves, is_among, is_supported, below, supported_part, supported_items, step_keys, code_keys, reference_keys}
+use Rattle.dq_match.specs.Supported.{key_tags, leaves, is_tag_among, is_supported, below, supported_part, supported_items, step_keys, code_keys, reference_keys}
 
 abbrev are_known : List Tag → Bool
 are_known listed = list_all (λ tag. is_some (known_vr tag)) listed
@@ -27,17 +27,17 @@ pub either : (a b : Bool) → (a || b) ≡ true → (a ≡ true) ⊎ (b ≡ true
 either true b h = inl refl
 either false b h = inr h
 
-among_known : (tag : Tag) (listed : List Tag) → are_known listed ≡ true → is_among tag listed ≡ true → is_some (known_vr tag) ≡ true
+among_known : (tag : Tag) (listed : List Tag) → are_known listed ≡ true → is_tag_among tag listed ≡ true → is_some (known_vr tag) ≡ true
 among_known tag [] known h = cc
 among_known tag (one ∷ others) known h =
     let parts = both (is_some (known_vr one)) (are_known others) known in
-    elim (either (is_tag one tag) (is_among tag others) h) [
+    elim (either (is_tag one tag) (is_tag_among tag others) h) [
       | inl here ↦ subst (λ (t : Tag). is_some (known_vr t) ≡ true) (same_tag one tag here) parts.0
       | inr later ↦ among_known tag others parts.1 later
     ]
 
-keys_known : (list : KeyList) → are_known (keys_of list) ≡ true
-unfolding keys_of known_vr vr_in dictionary
+keys_known : (list : KeyList) → are_known (key_tags list) ≡ true
+unfolding key_tags known_vr vr_in dictionary
 keys_known Study = refl
 keys_known Series = refl
 keys_known Image = refl

@@ -16,8 +16,8 @@ use Rattle.dq_dataset.specs.declared.data_set.Value.{Value}
 use Rattle.dq_dataset.specs.declared.data_set.Value.TheVariants.{Octets, Items}
 use Rattle.dq_dataset.specs.Tree.{ElementList, no_elements, element, sequence}
 use Rattle.dq_dataset.specs.View.{elements_of, has_tag}
-use Rattle.dq_dataset.specs.Values.{element_at, octets_in}
-use Rattle.dq_dataset.specs.Rules.{follows, padded, pad_of}
+use Rattle.dq_dataset.specs.Values.{element_at, element_octets}
+use Rattle.dq_dataset.specs.Rules.{follows, padded_value, pad_of}
 use Rattle.dq_dataset.specs.Facts.{AreElements, IsDataSet}
 use Rattle.dq_dataset.specs.Grammar.{IsSpelled}
 use Rattle.dq_dataset.specs.Reading.{reading}
@@ -26,7 +26,7 @@ use Rattle.dq_dataset.specs.Agreement.{IsLentValue, IsLent, Lends, AgreesWith}
 use Rattle.dq_match.specs.Values.{octets_meet}
 use Rattle.dq_match.specs.Keys.{is_tag}
 use Rattle.dq_match.specs.Matching.{meets}
-use Rattle.dq_match.specs.AsLent.{is_left, is_met, are_the_value, value_asked, is_met_by, meets_keys, all_meet}
+use Rattle.dq_match.specs.AsLent.{is_left, is_met_at_once, are_the_value, value_asked, is_met_by, meets_keys, all_meet}
 use Rattle.dq_match.proofs.KnownKeys.{same_tag}
 use Rattle.dq_match.proofs.DataSets.{follows-trans}
 
@@ -90,7 +90,7 @@ sequences levels last (sequence t v items rest) h e (inr a) = sequences levels (
 
 -- ---- a key that is met by an element is met as it is lent
 
-even_padded : (vr : Vr) (octets : List ℕ) (b : Bool) → (length octets % 2 == 0) ≡ b → b ≡ true → padded vr octets ≡ octets
+even_padded : (vr : Vr) (octets : List ℕ) (b : Bool) → (length octets % 2 == 0) ≡ b → b ≡ true → padded_value vr octets ≡ octets
 even_padded vr octets true is even = ap (λ (b : Bool). cond b octets (octets ++ pad_of vr ∷ [])) is
 even_padded vr octets false is even = absurd (cc)
 
@@ -100,17 +100,17 @@ no_sequence vr octets seq plain =
 
 -- the value of an element that is no sequence, and even, is what is lent
 lent_value : (x : Spelled) (e : Element) (v : Value) → e.value ≡ v → IsLentValue x v → IsSequenceAt x.vr v → are_the_value x.vr x.octets ≡ true
-    → octets_in (Some e) ≡ x.octets
+    → element_octets (Some e) ≡ x.octets
 lent_value x e (Octets held) is lent seq plain = grind (arith, nat_tests, and_parts, even_padded)
 lent_value x e (Items items) is lent seq plain = absurd (no_sequence x.vr x.octets seq plain)
 
-asked : (later : List Tag) (x : Spelled) (key : Element) (v : Value) (e : Element) → octets_in (Some e) ≡ x.octets
+asked : (later : List Tag) (x : Spelled) (key : Element) (v : Value) (e : Element) → element_octets (Some e) ≡ x.octets
     → meets (record key { value = v }) (Some e) ≡ true → value_asked v key.vr x.octets ≡ true
 asked later x key (Octets octets) e same met = ap (octets_meet key.vr octets) (sym same) ∙ met
 asked later x key (Items items) e same met = refl
 
 module _ (later : List Tag) (d : ElementList) (facts : IsDataSet d) where
-  met_by : (x : Spelled) (e key : Element) → IsLent x e → IsAmong e (elements_of d) → are_the_value x.vr x.octets ≡ true → is_met later d key ≡ true
+  met_by : (x : Spelled) (e key : Element) → IsLent x e → IsAmong e (elements_of d) → are_the_value x.vr x.octets ≡ true → is_met_at_once later d key ≡ true
       → (b c : Bool) → is_tag key.tag x.tag ≡ b → is_left later key.tag ≡ c → is_met_by later x key ≡ true
   met_by x e key lent among plain met false c tag left = ap (λ (b : Bool). not (b && not (is_left later key.tag)) || value_asked key.value key.vr x.octets) tag
   met_by x e key lent among plain met true true tag left =
@@ -123,19 +123,19 @@ module _ (later : List Tag) (d : ElementList) (facts : IsDataSet d) where
       (lent_value x e e.value refl lent.value (subst (λ (vr : Vr). IsSequenceAt vr e.value) (sym lent.vr) (sequences 16 None d facts e among)) plain) meets_it
 
   all_by : (x : Spelled) (e : Element) → IsLent x e → IsAmong e (elements_of d) → are_the_value x.vr x.octets ≡ true
-      → (keys : List Element) → list_all (is_met later d) keys ≡ true → list_all (is_met_by later x) keys ≡ true
+      → (keys : List Element) → list_all (is_met_at_once later d) keys ≡ true → list_all (is_met_by later x) keys ≡ true
   all_by x e lent among plain [] met = refl
   all_by x e lent among plain (key ∷ keys) met =
-      let parts = and_parts (is_met later d key) (list_all (is_met later d) keys) met in
+      let parts = and_parts (is_met_at_once later d key) (list_all (is_met_at_once later d) keys) met in
       (λ i. met_by x e key lent among plain parts.0 _ _ refl refl i && list_all (is_met_by later x) keys)
       ∙ all_by x e lent among plain keys parts.1
 
-  one_by : (x : Spelled) (e : Element) (keys : List Element) → IsLent x e → IsAmong e (elements_of d) → list_all (is_met later d) keys ≡ true
+  one_by : (x : Spelled) (e : Element) (keys : List Element) → IsLent x e → IsAmong e (elements_of d) → list_all (is_met_at_once later d) keys ≡ true
       → (b : Bool) → are_the_value x.vr x.octets ≡ b → meets_keys later keys x ≡ true
   one_by x e keys lent among met true plain = (λ i. not (plain i) || list_all (is_met_by later x) keys) ∙ all_by x e lent among plain keys met
   one_by x e keys lent among met false plain = (λ i. not (plain i) || list_all (is_met_by later x) keys)
 
-  each_by : (keys : List Element) → list_all (is_met later d) keys ≡ true → (xs : List (Result Spelled ReadFault)) (es : List Element) → Lends xs es []
+  each_by : (keys : List Element) → list_all (is_met_at_once later d) keys ≡ true → (xs : List (Result Spelled ReadFault)) (es : List Element) → Lends xs es []
       → ((e : Element) → IsAmong e es → IsAmong e (elements_of d)) → all_meet later keys true xs ≡ true
   each_by keys met xs [] h within = ap (all_meet later keys true) h
   each_by keys met [] (e ∷ es) h within = absurd h
@@ -149,7 +149,7 @@ module _ (later : List Tag) (d : ElementList) (facts : IsDataSet d) where
 module _ (later : List Tag) (keys : List Element) (octets : List ℕ) (xs : List (Result Spelled ReadFault))
     (facts : (d : ElementList) → IsSpelled Explicit octets d → IsDataSet d)
     (reads : (d : ElementList) → IsSpelled Explicit octets d → reading Explicit octets ≡ Ok d) where
-  pub passes : AgreesWith Explicit octets xs → list_all (is_met later (result_unwrap_or (reading Explicit octets) no_elements)) keys ≡ true
+  pub passes : AgreesWith Explicit octets xs → list_all (is_met_at_once later (result_unwrap_or (reading Explicit octets) no_elements)) keys ≡ true
       → all_meet later keys true xs ≡ true
   passes (inl one) met = grind (arith, nat_tests, each_by)
   passes (inr none) met = faulty_meets later keys true none.1 xs (elements_of none.0) none.3

@@ -7,7 +7,7 @@ use Rattle.std.proofs.lemmas.Int.{ints}
 use Rattle.std.proofs.lemmas.Bool.Decides.{nat_tests}
 use Rattle.dq_value.specs.Day.{day, date_in}
 use Rattle.dq_value.specs.Time.{Span}
-use Rattle.dq_value.specs.Range.{ends, end_of}
+use Rattle.dq_value.specs.Range.{range_ends, end_of}
 use Rattle.dq_match.specs.Ranges.{Bounds, bounds, unless_open, has_day, has_time, date_meets, is_from, is_until}
 use Rattle.dq_match.proofs.KnownKeys.{both, either}
 
@@ -94,7 +94,7 @@ unfolding day date_in end_of
 day_some [] d h = absurd cc
 day_some (octet ∷ others) d h = refl
 
-pub range_met : (key from to value : List ℕ) (first last date : ℤ) → ends key ≡ Some (end_of from, end_of to) → day from ≡ Some first → day to ≡ Some last
+pub range_met : (key from to value : List ℕ) (first last date : ℤ) → range_ends key ≡ Some (end_of from, end_of to) → day from ≡ Some first → day to ≡ Some last
     → day value ≡ Some date → date_meets key value ≡ has_day (Some first, Some last) date
 unfolding date_meets bounds
 range_met key from to value first last date split is_first is_last is_date =
@@ -103,7 +103,7 @@ range_met key from to value first last date split is_first is_last is_date =
 same_day : (d : ℤ) → has_day (Some d, Some d) d ≡ true
 same_day d = (λ i. true_le d d (omega (arith, ints)) i && true_le d d (omega (arith, ints)) i)
 
-pub single_met : (value : List ℕ) (date : ℤ) → ends value ≡ None → day value ≡ Some date → date_meets value value ≡ true
+pub single_met : (value : List ℕ) (date : ℤ) → range_ends value ≡ None → day value ≡ Some date → date_meets value value ≡ true
 unfolding date_meets bounds
 single_met value date one is_date = rw (one, is_date) (same_day date)
 

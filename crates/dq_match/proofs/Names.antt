@@ -4,7 +4,7 @@ use Rattle.std.specs.Char.{to_ascii_lowercase}
 use Rattle.dq_match.specs.declared.wildcards.Casing.TheVariants.{Folded}
 use Rattle.dq_match.specs.declared.values.Matching.TheVariants.{Name}
 use Rattle.dq_match.specs.Wildcards.{wild, after_run, after_one, stands_for, any_run, any_one}
-use Rattle.dq_match.specs.Values.{is_name_pad, name_of, value_meets}
+use Rattle.dq_match.specs.Values.{is_name_pad, compared_name, value_meets}
 use Rattle.dq_match.proofs.NamePads.{without_trailing-push}
 
 abbrev lowered : List ℕ → List ℕ
@@ -42,10 +42,10 @@ wild_alike (wanted ∷ pattern) a b h =
     λ i. cond (nat_eq wanted any_run) (run_alike (wild Folded pattern) (wild_alike pattern) a b h i)
     (one_alike wanted (wild Folded pattern) (wild_alike pattern) a b h i)
 
-pub name_case : (key value other : List ℕ) → map to_ascii_lowercase (name_of value) ≡ map to_ascii_lowercase (name_of other)
+pub name_case : (key value other : List ℕ) → map to_ascii_lowercase (compared_name value) ≡ map to_ascii_lowercase (compared_name other)
     → value_meets Name key value ≡ value_meets Name key other
-name_case key value other h = wild_alike (name_of key) (name_of value) (name_of other) h
+name_case key value other h = wild_alike (compared_name key) (compared_name value) (compared_name other) h
 
 pub name_pad : (key value : List ℕ) (pad : ℕ) → is_name_pad pad ≡ true → value_meets Name key (value ++ pad ∷ []) ≡ value_meets Name key value
 name_pad key value pad h =
-    ap (wild Folded (name_of key)) (without_trailing-push is_name_pad pad value ∙ ap (λ (b : Bool). cond b (name_of value) (value ++ pad ∷ [])) h)
+    ap (wild Folded (compared_name key)) (without_trailing-push is_name_pad pad value ∙ ap (λ (b : Bool). cond b (compared_name value) (value ++ pad ∷ [])) h)

@@ -18,8 +18,8 @@ use Rattle.dq_vr.specs.Tags.{scheduled_procedure_step_start_date}
 use Rattle.dq_vr.specs.Vr.{is_text}
 use Rattle.dq_value.specs.Digits.{◌>>=◌}
 use Rattle.dq_value.specs.Day.{date_in, day}
-use Rattle.dq_value.specs.Parts.{parts, sole}
-use Rattle.dq_value.specs.Range.{Ends, halves, behind, ends_of_halves, ends}
+use Rattle.dq_value.specs.Parts.{element_values, sole}
+use Rattle.dq_value.specs.Range.{Ends, halves, behind, ends_of_halves, range_ends}
 use Rattle.dq_value.specs.Time.{Span}
 use Rattle.dq_value.specs.Trimming.{is_padded}
 use Rattle.dq_dataset.specs.declared.data_set.Element.{Element}
@@ -27,14 +27,14 @@ use Rattle.dq_dataset.specs.declared.data_set.Value.{Value}
 use Rattle.dq_dataset.specs.declared.data_set.Value.TheVariants.{Octets, Items}
 use Rattle.dq_dataset.specs.Tree.{ElementList}
 use Rattle.dq_dataset.specs.View.{elements_of, has_tag}
-use Rattle.dq_dataset.specs.Values.{element_at, octets_in, values_of, values_in, sole_at}
+use Rattle.dq_dataset.specs.Values.{element_at, element_octets, values_of, values_in, sole_at}
 use Rattle.dq_dataset.proofs.KnownVrs.{HasKnownVr}
 use Rattle.dq_match.specs.declared.keys.Place.{Place}
 use Rattle.dq_match.specs.declared.keys.Place.TheVariants.{Inner}
 use Rattle.dq_match.specs.Fitting.{EachIsMet, PeriodIsMet}
 use Rattle.dq_match.specs.Keys.{is_tag}
-use Rattle.dq_match.specs.Matching.{asked_days, start_day, asked_times, start_time, period, is_passed, meets}
-use Rattle.dq_match.specs.Ranges.{Bounds, bound, bounds_of_ends, range_bounds, bounds_by_ends, bounds, single, unless_open, has_day, both, date_meets, is_within}
+use Rattle.dq_match.specs.Matching.{asked_days, start_day, asked_times, start_time, period, is_matched_elsewhere, meets}
+use Rattle.dq_match.specs.Ranges.{Bounds, bound, bounds_of_ends, range_bounds, bounds_by_ends, bounds, single, unless_open, has_day, both, date_meets, is_in_range}
 use Rattle.dq_match.specs.Several.{is_plain}
 use Rattle.dq_match.specs.Values.{is_same, is_asterisk, is_universal, octets_meet, some_meet, value_meets, matching_of}
 use Rattle.dq_match.specs.Wildcards.{any_run}
@@ -57,7 +57,7 @@ pub record HasOne (vr : Vr) (tag : Tag) (d : ElementList) (value : List ℕ) : T
   pub tagged : element.tag ≡ tag
   pub vr_is : element.vr ≡ vr
   pub holds : element.value ≡ Octets octets
-  pub one : parts vr octets ≡ value ∷ []
+  pub one : element_values vr octets ≡ value ∷ []
 
 pub sole_is : {X : Type 0} (values : List X) (one : X) → sole values ≡ Some one → values ≡ one ∷ []
 sole_is [] one h = absurd cc
@@ -88,7 +88,7 @@ module _ (vr : Vr) (tag : Tag) (known : known_vr tag ≡ Some vr) (d : ElementLi
         tagged = tagged;
         vr_is = vr_is;
         holds = holds;
-        one = ap (λ (v : Vr). parts v octets) (sym vr_is) ∙ sole_is (parts e.vr octets) value is;
+        one = ap (λ (v : Vr). element_values v octets) (sym vr_is) ∙ sole_is (element_values e.vr octets) value is;
       }
   one_by e (Items items) there holds is = absurd cc
 
@@ -105,7 +105,7 @@ module _ (vr : Vr) (tag : Tag) (known : known_vr tag ≡ Some vr) (d : ElementLi
 abbrev pub is_met_by : Vr → List ℕ → List ℕ → Bool
 is_met_by vr key value = (is_padded vr && is_same key (any_run ∷ [])) || value_meets (matching_of vr) key value
 
-met_alike : (vr : Vr) (asked said key value : List ℕ) → parts vr asked ≡ key ∷ [] → parts vr said ≡ value ∷ []
+met_alike : (vr : Vr) (asked said key value : List ℕ) → element_values vr asked ≡ key ∷ [] → element_values vr said ≡ value ∷ []
     → octets_meet vr asked said ≡ is_met_by vr key value
 unfolding octets_meet is_universal
 met_alike vr asked said key value one two =
@@ -118,20 +118,20 @@ met_alike vr asked said key value one two =
     alone false false = refl
 
 pub meets_octets : (key : Element) (held : Option Element) (octets : List ℕ) → key.value ≡ Octets octets
-    → meets key held ≡ octets_meet key.vr octets (octets_in held)
+    → meets key held ≡ octets_meet key.vr octets (element_octets held)
 meets_octets key held octets is = rw is refl
 
 -- the record's element stands in its data set `d`, beside what else is met
 pub one_met : (vr : Vr) (tag : Tag) → known_vr tag ≡ Some vr → (place : Place) (keys d held : ElementList)
     → AllByRecursion HasKnownVr (elements_of keys) → AllByRecursion HasKnownVr (elements_of d) → element_at tag held ≡ element_at tag d
-    → EachIsMet place keys held → is_passed place (is_some (period keys held)) tag ≡ false
+    → EachIsMet place keys held → is_matched_elsewhere place (is_some (period keys held)) tag ≡ false
     → (asked said : List ℕ) → sole_at tag keys ≡ Some asked → sole_at tag d ≡ Some said → is_met_by vr asked said ≡ true
 one_met vr tag known place keys d held known_keys known_held same each alone asked said wanted there =
     let key = one_at vr tag known keys known_keys asked wanted in
     let one = one_at vr tag known d known_held said there in
-    let met = each key.element key.among (ap (is_passed place (is_some (period keys held))) key.tagged ∙ alone) in
+    let met = each key.element key.among (ap (is_matched_elsewhere place (is_some (period keys held))) key.tagged ∙ alone) in
     let at : element_at key.element.tag held ≡ Some one.element = ap (λ (t : Tag). element_at t held) key.tagged ∙ same ∙ one.there in
-    let octets : octets_in (Some one.element) ≡ one.octets = rw one.holds refl in
+    let octets : element_octets (Some one.element) ≡ one.octets = rw one.holds refl in
     sym (met_alike vr key.octets one.octets asked said key.one one.one)
     ∙ sym (ap (λ (o : Option Element). meets key.element o) at ∙ meets_octets key.element (Some one.element) key.octets key.holds
     ∙ (λ i. octets_meet (key.vr_is i) key.octets (octets i))) ∙ met
@@ -159,7 +159,7 @@ plain_short key value plain met =
 
 -- the ends of a range, and of one date the date
 abbrev pub ends_asked : List ℕ → Ends
-ends_asked key = unwrap_or (ends key) (Some key, Some key)
+ends_asked key = unwrap_or (range_ends key) (Some key, Some key)
 
 -- a date is not before the first end nor after the last, where these are dates
 pub record IsBetween (both_ends : Ends) (value : List ℕ) : Type 0 where
@@ -203,7 +203,7 @@ module _ (value : List ℕ) (y : ℤ) (at : day value ≡ Some y) where
   in_days found days is h = grind (arith, nat_tests, and_parts, between_by, le_true)
 
   in_period : (found : Ends) (days : Bounds ℤ) (times : Bounds Span) (time : Span) → bounds_of_ends day found ≡ Some days
-      → is_within days times y time ≡ true → IsBetween found value
+      → is_in_range days times y time ≡ true → IsBetween found value
   in_period found days times time is h = grind (arith, nat_tests, and_parts, between_by, lt_or_same)
 
 no_date : (octets : List ℕ) (x : ℤ) → octets ≡ any_run ∷ [] → day octets ≡ Some x → ⊥
@@ -212,7 +212,7 @@ no_date octets x is h = (let none : None ≡ Some x = sym (ap day is) ∙ h in c
 
 -- an asterisk asks for all dates
 all_between : (value : List ℕ) → IsBetween (ends_asked (any_run ∷ [])) value
-unfolding ends ends_of_halves halves behind
+unfolding range_ends ends_of_halves halves behind
 all_between value = record {
   from = λ first x y there read found. absurd (no_date first x (cc (sym there)) read);
   until = λ last x y there read found. absurd (no_date last x (cc (sym there)) read);
@@ -243,7 +243,7 @@ module _ (key value : List ℕ) where
 
   date_met : date_meets key value ≡ true → IsBetween (ends_asked key) value
   unfolding date_meets bounds
-  date_met h = by_ends (ends key) (day value) refl h
+  date_met h = by_ends (range_ends key) (day value) refl h
 
   by_asterisk : (b : Bool) → is_same key (any_run ∷ []) ≡ b → (b || date_meets key value) ≡ true → IsBetween (ends_asked key) value
   by_asterisk true is h = subst (λ (k : List ℕ). IsBetween (ends_asked k) value) (sym (is_asterisk_then key is)) (all_between value)
@@ -255,7 +255,7 @@ module _ (key value : List ℕ) where
 
   by_period : (found : Option Ends) (days : Option (Bounds ℤ)) (times : Option (Bounds Span)) (date : Option ℤ) (time : Option Span)
       → found >>= bounds_of_ends day ≡ days → day value ≡ date
-      → days >>= (λ d. times >>= (λ t. date >>= (λ on. time >>= (λ from. Some (is_within d t on from))))) ≡ Some true → IsBetween (either found) value
+      → days >>= (λ d. times >>= (λ t. date >>= (λ on. time >>= (λ from. Some (is_in_range d t on from))))) ≡ Some true → IsBetween (either found) value
   by_period None None times date time is at h = absurd cc
   by_period None (Some d) times date time is at h = absurd cc
   by_period (Some found) None times date time is at h = absurd cc
@@ -263,7 +263,7 @@ module _ (key value : List ℕ) where
   by_period (Some found) (Some d) (Some t) None time is at h = absurd cc
   by_period (Some found) (Some d) (Some t) (Some y) None is at h = absurd cc
   by_period (Some found) (Some d) (Some t) (Some y) (Some from) is at h =
-      let within : is_within d t y from ≡ true = cc in
+      let within : is_in_range d t y from ≡ true = cc in
       in_period value y at found d t from is within
 
   module _ (keys held : ElementList) (wanted : sole_at scheduled_procedure_step_start_date keys ≡ Some key)
@@ -271,9 +271,9 @@ module _ (key value : List ℕ) where
     period_between : period keys held ≡ Some true → IsBetween (ends_asked key) value
     unfolding period asked_days start_day range_bounds
     period_between h =
-        by_period (ends key) (ends key >>= bounds_of_ends day) (asked_times keys) (day value) (start_time held) refl refl
+        by_period (range_ends key) (range_ends key >>= bounds_of_ends day) (asked_times keys) (day value) (start_time held) refl refl
         ((λ i. sym wanted i >>= range_bounds day >>= (λ d. asked_times keys >>= (λ t. sym there i >>= day >>= (λ on. start_time held >>= (λ from.
-        Some (is_within d t on from)))))) ∙ h)
+        Some (is_in_range d t on from)))))) ∙ h)
 
     module _ (known_keys : AllByRecursion HasKnownVr (elements_of keys)) (known_held : AllByRecursion HasKnownVr (elements_of held))
         (each : EachIsMet Inner keys held) where
@@ -284,7 +284,7 @@ module _ (key value : List ℕ) where
       by_joined : (joined : Option Bool) → period keys held ≡ joined → IfSome joined (λ inside. inside ≡ true) → IsBetween (ends_asked key) value
       by_joined None is met =
           date_between (one_met DA scheduled_procedure_step_start_date start_is_date Inner keys held held known_keys known_held refl each
-          (ap (λ (o : Option Bool). is_passed Inner (is_some o) scheduled_procedure_step_start_date) is) key value wanted there)
+          (ap (λ (o : Option Bool). is_matched_elsewhere Inner (is_some o) scheduled_procedure_step_start_date) is) key value wanted there)
       by_joined (Some inside) is met = period_between (is ∙ ap Some met)
 
       -- whether it is met alone or as the date of a period

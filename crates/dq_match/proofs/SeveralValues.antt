@@ -9,11 +9,12 @@ use Rattle.std.specs.declared.cmp.Ordering.{Ordering}
 use Rattle.std.specs.declared.cmp.Ordering.TheVariants.{Less, Equal, Greater}
 use Rattle.std.proofs.lemmas.Map.Text.{is_eq-slice_cmp}
 use Rattle.std.proofs.lemmas.Slice.Eq.{bytes_eq-Decides}
+use Rattle.dq_list.specs.Octets.{octets_of_vectors}
 use Rattle.dq_match.specs.declared.wildcards.Casing.TheVariants.{Exact}
 use Rattle.dq_match.specs.declared.values.Matching.TheVariants.{WildCard}
 use Rattle.dq_match.specs.Wildcards.{wild, after_run, after_one, stands_for, any_run, any_one}
 use Rattle.dq_match.specs.Values.{is_same}
-use Rattle.dq_match.specs.Several.{is_among, some_equal, AreMetByEquality, is_plain, octets_of}
+use Rattle.dq_match.specs.Several.{is_one_of_values, some_equal, AreMetByEquality, is_plain}
 
 -- ---- a pattern without wild cards fits itself alone
 
@@ -63,18 +64,18 @@ same_items : (a b : List ℕ) → slice_cmp nat_cmp a b ≡ Equal → a ≡ b
 same_items a b e = (bytes_eq-Decides a b).0 (sym (is_eq-slice_cmp a b) ∙ ap is_eq e)
 
 put_by : (o : Ordering) (value : List ℕ) (new first : Vec ℕ) (others put : List (Vec ℕ)) → order new first ≡ o
-    → is_among value (octets_of put) ≡ (is_same value new.items || is_among value (octets_of others))
-    → is_among value (octets_of (match_ordering o (new ∷ (first ∷ others)) (first ∷ others) (first ∷ put)))
-    ≡ (is_same value new.items || (is_same value first.items || is_among value (octets_of others)))
+    → is_one_of_values value (octets_of_vectors put) ≡ (is_same value new.items || is_one_of_values value (octets_of_vectors others))
+    → is_one_of_values value (octets_of_vectors (match_ordering o (new ∷ (first ∷ others)) (first ∷ others) (first ∷ put)))
+    ≡ (is_same value new.items || (is_same value first.items || is_one_of_values value (octets_of_vectors others)))
 put_by Less value new first others put is rest = refl
 put_by Equal value new first others put is rest =
-    again (is_same value first.items) (is_among value (octets_of others))
-    ∙ ap (λ (o : List ℕ). is_same value o || (is_same value first.items || is_among value (octets_of others))) (sym (same_items new.items first.items is))
+    again (is_same value first.items) (is_one_of_values value (octets_of_vectors others))
+    ∙ ap (λ (o : List ℕ). is_same value o || (is_same value first.items || is_one_of_values value (octets_of_vectors others))) (sym (same_items new.items first.items is))
 put_by Greater value new first others put is rest =
-    or_same (is_same value first.items) (is_same value new.items) (is_among value (octets_of others)) (is_among value (octets_of put)) rest
+    or_same (is_same value first.items) (is_same value new.items) (is_one_of_values value (octets_of_vectors others)) (is_one_of_values value (octets_of_vectors put)) rest
 
 put_among : (value : List ℕ) (new : Vec ℕ) (set : List (Vec ℕ))
-    → is_among value (octets_of (insert_key order set new)) ≡ (is_same value new.items || is_among value (octets_of set))
+    → is_one_of_values value (octets_of_vectors (insert_key order set new)) ≡ (is_same value new.items || is_one_of_values value (octets_of_vectors set))
 put_among value new [] = refl
 put_among value new (first ∷ others) =
     put_by (order new first) value new first others (insert_key order others new) refl (put_among value new others)
@@ -82,31 +83,31 @@ put_among value new (first ∷ others) =
 -- what is in the set or still to come stays so
 pub one_more : (value octets : List ℕ) (new : Vec ℕ) (before after : List (Vec ℕ)) (left others : List (List ℕ)) (whole : Bool)
     → after ≡ insert_key order before new → new.items ≡ octets → left ≡ octets ∷ others
-    → (is_among value (octets_of before) || is_among value left) ≡ whole → (is_among value (octets_of after) || is_among value others) ≡ whole
+    → (is_one_of_values value (octets_of_vectors before) || is_one_of_values value left) ≡ whole → (is_one_of_values value (octets_of_vectors after) || is_one_of_values value others) ≡ whole
 one_more value octets new before after left others whole put is first so_far =
-    (λ i. (ap (λ (vs : List (Vec ℕ)). is_among value (octets_of vs)) put ∙ put_among value new before) i || is_among value others)
-    ∙ regroup (is_same value new.items) (is_among value (octets_of before)) (is_among value others)
-    ∙ (λ i. is_among value (octets_of before) || (is_same value (is i) || is_among value others))
-    ∙ ap (λ (vs : List (List ℕ)). is_among value (octets_of before) || is_among value vs) (sym first) ∙ so_far
+    (λ i. (ap (λ (vs : List (Vec ℕ)). is_one_of_values value (octets_of_vectors vs)) put ∙ put_among value new before) i || is_one_of_values value others)
+    ∙ regroup (is_same value new.items) (is_one_of_values value (octets_of_vectors before)) (is_one_of_values value others)
+    ∙ (λ i. is_one_of_values value (octets_of_vectors before) || (is_same value (is i) || is_one_of_values value others))
+    ∙ ap (λ (vs : List (List ℕ)). is_one_of_values value (octets_of_vectors before) || is_one_of_values value vs) (sym first) ∙ so_far
   where
     regroup : (a b c : Bool) → ((a || b) || c) ≡ (b || (a || c))
     regroup true true c = refl
     regroup true false c = refl
     regroup false b c = refl
 
-pub all_in : (inside : Bool) (left : List (List ℕ)) (value : List ℕ) (whole : Bool) → left ≡ [] → (inside || is_among value left) ≡ whole → inside ≡ whole
-all_in inside left value whole none h = or_none inside ∙ sym (ap (λ (vs : List (List ℕ)). inside || is_among value vs) none) ∙ h
+pub all_in : (inside : Bool) (left : List (List ℕ)) (value : List ℕ) (whole : Bool) → left ≡ [] → (inside || is_one_of_values value left) ≡ whole → inside ≡ whole
+all_in inside left value whole none h = or_none inside ∙ sym (ap (λ (vs : List (List ℕ)). inside || is_one_of_values value vs) none) ∙ h
   where
     or_none : (b : Bool) → b ≡ (b || false)
     or_none true = refl
     or_none false = refl
 
 -- a look-up in the set
-pub found_in : (value : List ℕ) (set : List (Vec ℕ)) → list_any (λ (v : Vec ℕ). is_eq (slice_cmp nat_cmp value v.items)) set ≡ is_among value (octets_of set)
+pub found_in : (value : List ℕ) (set : List (Vec ℕ)) → list_any (λ (v : Vec ℕ). is_eq (slice_cmp nat_cmp value v.items)) set ≡ is_one_of_values value (octets_of_vectors set)
 found_in value [] = refl
 found_in value (first ∷ others) = (λ i. is_eq-slice_cmp value first.items i || found_in value others i)
 
 pub one_looked_up : (b : Bool) (value : List ℕ) (set : List (Vec ℕ)) (rest keys : List (List ℕ)) (whole : Bool)
-    → list_any (λ (v : Vec ℕ). is_eq (slice_cmp nat_cmp value v.items)) set ≡ b → keys ≡ value ∷ rest → some_equal keys (octets_of set) ≡ whole
-    → (b || some_equal rest (octets_of set)) ≡ whole
+    → list_any (λ (v : Vec ℕ). is_eq (slice_cmp nat_cmp value v.items)) set ≡ b → keys ≡ value ∷ rest → some_equal keys (octets_of_vectors set) ≡ whole
+    → (b || some_equal rest (octets_of_vectors set)) ≡ whole
 one_looked_up b value set rest keys whole is first so_far = grind (arith, found_in)

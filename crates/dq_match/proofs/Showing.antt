@@ -13,16 +13,16 @@ use Rattle.dq_dataset.specs.declared.data_set.Value.TheVariants.{Octets, Items}
 use Rattle.dq_dataset.specs.Tree.{ElementList, no_elements, element, sequence, ItemList, no_items, item}
 use Rattle.dq_dataset.specs.View.{as_elements, elements_of, items_of, list_of, with_value}
 use Rattle.dq_dataset.specs.Facts.{IsElementTag, IsPlain, IsSequence, AreElements, AreItems, IsDataSet}
-use Rattle.dq_dataset.specs.Values.{element_at, octets_in}
+use Rattle.dq_dataset.specs.Values.{element_at, element_octets}
 use Rattle.dq_dataset.proofs.Views.{elements_of-with_value, items_of-list_of}
 use Rattle.dq_match.specs.declared.keys.Place.{Place}
 use Rattle.dq_match.specs.declared.keys.Place.TheVariants.{Outer, Inner}
 use Rattle.dq_list.specs.Lengths.{is_empty}
-use Rattle.dq_value.specs.Parts.{parts}
+use Rattle.dq_value.specs.Parts.{element_values}
 use Rattle.dq_match.specs.Keys.{is_tag, is_key}
 use Rattle.dq_match.specs.Identifiers.{HasKnownTags}
 use Rattle.dq_match.specs.Matching.{all_met}
-use Rattle.dq_match.specs.Responses.{put, or_empty, has_no_elements, cut_value, with_cut, shown_keys, shown_items, cut_keys, cut_by, shown_element, unless_empty, character_set, put_first, before, shown_elements, shown}
+use Rattle.dq_match.specs.Responses.{put, or_empty, has_no_elements, cut_value, with_cut, shown_keys, shown_items, cut_keys, cut_by, shown_element, unless_empty, character_set, put_first, before, shown_elements, shown_data_set}
 use Rattle.dq_match.proofs.KnownKeys.{same_tag, both}
 use Rattle.dq_match.proofs.DataSets.{after_earlier, elements_by}
 use Rattle.dq_dataset.proofs.Places.{from_place}
@@ -213,7 +213,7 @@ shown_after_set (sequence t v items rest) last held h known k =
 
 set_facts : (found : Option Element) → IfFound 16 specific_character_set found → IfFound 16 specific_character_set (unless_empty found)
 set_facts None h = tt
-set_facts (Some e) h = kept (is_empty (parts e.vr (octets_in (Some e))))
+set_facts (Some e) h = kept (is_empty (element_values e.vr (element_octets (Some e))))
   where
     kept : (b : Bool) → IfFound 16 specific_character_set (cond b None (Some e))
     kept true = tt
@@ -298,9 +298,9 @@ first_shown : (first : Option Element) (rest : ElementList) → elements_of (put
 first_shown None rest = refl
 first_shown (Some e) rest = elements_of-with_value e.tag e.vr e.value rest
 
-pub keys_show : (identifier held : ElementList) → elements_of (shown identifier held)
+pub keys_show : (identifier held : ElementList) → elements_of (shown_data_set identifier held)
     ≡ before (character_set held) (shown_elements (elements_of identifier) held)
-unfolding shown
+unfolding shown_data_set
 keys_show identifier held =
     first_shown (character_set held) (shown_keys identifier Outer held) ∙ ap (before (character_set held)) (each_shown identifier Outer held)
 

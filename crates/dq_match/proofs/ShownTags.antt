@@ -7,15 +7,15 @@ use Rattle.dq_dataset.specs.declared.data_set.Value.{Value}
 use Rattle.dq_dataset.specs.declared.data_set.Value.TheVariants.{Octets, Items}
 use Rattle.dq_dataset.specs.Tree.{ElementList, no_elements, element, sequence}
 use Rattle.dq_dataset.specs.View.{has_tag, with_value}
-use Rattle.dq_dataset.specs.Values.{octets_in}
+use Rattle.dq_dataset.specs.Values.{element_octets}
 use Rattle.dq_vr.specs.Tags.{specific_character_set}
 use Rattle.dq_match.specs.declared.keys.Place.{Place}
 use Rattle.dq_match.specs.declared.keys.Place.TheVariants.{Outer}
 use Rattle.dq_match.specs.Keys.{is_tag, is_key}
-use Rattle.dq_match.specs.Responses.{put, or_empty, with_cut, shown_keys, unless_empty, character_set, put_first, shown}
+use Rattle.dq_match.specs.Responses.{put, or_empty, with_cut, shown_keys, unless_empty, character_set, put_first, shown_data_set}
 use Rattle.dq_match.specs.ShownTags.{tags_of, set_tags}
 use Rattle.dq_match.proofs.KnownKeys.{same_tag}
-use Rattle.dq_value.specs.Parts.{parts}
+use Rattle.dq_value.specs.Parts.{element_values}
 use Rattle.dq_list.specs.Lengths.{is_empty}
 
 abbrev HasTag : Tag → Option Element → Type 0
@@ -59,13 +59,13 @@ set_by false e h = h
 
 set_tag : (found : Option Element) → HasTag specific_character_set found → HasTag specific_character_set (unless_empty found)
 set_tag None h = tt
-set_tag (Some e) h = set_by (is_empty (parts e.vr (octets_in (Some e)))) e h
+set_tag (Some e) h = set_by (is_empty (element_values e.vr (element_octets (Some e)))) e h
 
 first_tags : (first : Option Element) (rest : ElementList) → HasTag specific_character_set first
     → tags_of (put_first first rest) ≡ set_tags first (tags_of rest)
 first_tags None rest h = refl
 first_tags (Some e) rest h = put_tag e.tag e.vr e.value rest ∙ ap (λ (t : Tag). t ∷ tags_of rest) h
 
-pub tags_shown : (identifier held : ElementList) → tags_of (shown identifier held) ≡ set_tags (character_set held) (filter (is_key Outer) (tags_of identifier))
-unfolding shown
+pub tags_shown : (identifier held : ElementList) → tags_of (shown_data_set identifier held) ≡ set_tags (character_set held) (filter (is_key Outer) (tags_of identifier))
+unfolding shown_data_set
 tags_shown identifier held = grind (arith, first_tags, set_tag, found_tag, keys_shown)

@@ -7,22 +7,22 @@ use Rattle.dq_vr.specs.declared.Tag.{Tag}
 use Rattle.dq_vr.specs.declared.Vr.{Vr}
 use Rattle.dq_value.specs.Digits.{◌>>=◌}
 use Rattle.dq_value.specs.Day.{day}
-use Rattle.dq_value.specs.Trimming.{trimmed, unpadded, without_leading, without_trailing, is_padded, ignores_leading_spaces}
-use Rattle.dq_value.specs.Parts.{parts, pieces_of, sole}
-use Rattle.dq_value.specs.Range.{ends, ends_of_halves, halves, behind}
+use Rattle.dq_value.specs.Trimming.{trimmed_value, without_padding, without_leading, without_trailing, is_padded, ignores_leading_spaces}
+use Rattle.dq_value.specs.Parts.{element_values, value_pieces, sole}
+use Rattle.dq_value.specs.Range.{range_ends, ends_of_halves, halves, behind}
 use Rattle.dq_dataset.specs.declared.data_set.Element.{Element}
 use Rattle.dq_dataset.specs.declared.data_set.Value.{Value}
 use Rattle.dq_dataset.specs.declared.data_set.Value.TheVariants.{Octets, Items}
 use Rattle.dq_dataset.specs.Tree.{ElementList, no_elements, element, sequence, ItemList, no_items, item}
 use Rattle.dq_dataset.specs.View.{list_of}
-use Rattle.dq_dataset.specs.Values.{element_at, value_octets, octets_in, values_of, values_in, sole_at}
+use Rattle.dq_dataset.specs.Values.{element_at, value_octets, element_octets, values_of, values_in, sole_at}
 use Rattle.dq_match.specs.declared.keys.Place.{Place}
 use Rattle.dq_match.specs.declared.keys.Place.TheVariants.{Inner}
 use Rattle.dq_match.specs.Wildcards.{any_run}
 use Rattle.dq_match.specs.Ranges.{Bounds, range_bounds}
 use Rattle.dq_match.specs.Values.{is_asterisk, is_universal, is_same, octets_meet}
 use Rattle.dq_match.specs.Keys.{items_in, is_tag}
-use Rattle.dq_match.specs.Matching.{asked_days, period, is_passed, with_period, each_met, items_meet, all_met}
+use Rattle.dq_match.specs.Matching.{asked_days, period, is_matched_elsewhere, with_period, each_met, items_meet, all_met}
 use Rattle.dq_match.specs.Universal.{all_universal, are_universal}
 use Rattle.dq_match.proofs.KnownKeys.{both}
 
@@ -51,7 +51,7 @@ asterisk_value [] h = absurd cc
 asterisk_value (octet ∷ others) h = same_octet octet others h
 
 no_range : {A : Type 0} (read : List ℕ → Option A) → range_bounds read (any_run ∷ []) ≡ None
-unfolding range_bounds ends ends_of_halves halves behind
+unfolding range_bounds range_ends ends_of_halves halves behind
 no_range read = refl
 
 range_of_sole : {A : Type 0} → (List ℕ → Option A) → List (List ℕ) → Option (Bounds A)
@@ -70,8 +70,8 @@ abbrev IsUniversal : Option Element → Type 0
 IsUniversal None = Unit {0}
 IsUniversal (Some e) = is_universal e.vr (value_octets e.value) ≡ true
 
-trimmed_nothing : (vr : Vr) → trimmed vr [] ≡ []
-unfolding trimmed unpadded without_leading without_trailing
+trimmed_nothing : (vr : Vr) → trimmed_value vr [] ≡ []
+unfolding trimmed_value without_padding without_leading without_trailing
 trimmed_nothing vr = by_tests (ignores_leading_spaces vr) (is_padded vr)
   where
     by_tests : (a b : Bool) → cond a (without_leading (λ octet. nat_eq octet 0x20) (cond b [] [])) (cond b [] []) ≡ []
@@ -80,9 +80,9 @@ trimmed_nothing vr = by_tests (ignores_leading_spaces vr) (is_padded vr)
     by_tests false true = refl
     by_tests false false = refl
 
-no_parts : (vr : Vr) → parts vr [] ≡ []
-unfolding parts
-no_parts vr = ap (λ (o : List ℕ). cond (length o == 0) [] (map (trimmed vr) (pieces_of vr []))) (trimmed_nothing vr)
+no_parts : (vr : Vr) → element_values vr [] ≡ []
+unfolding element_values
+no_parts vr = ap (λ (o : List ℕ). cond (length o == 0) [] (map (trimmed_value vr) (value_pieces vr []))) (trimmed_nothing vr)
 
 nothing_universal : (vr : Vr) → is_universal vr [] ≡ true
 unfolding is_universal
@@ -105,7 +105,7 @@ found_universal tag (sequence t v items rest) h =
 not_asked_by : {A : Type 0} (read : List ℕ → Option A) (vr : Vr) (value : Value) → is_universal vr (value_octets value) ≡ true
     → range_of_sole read (values_of vr value) ≡ None
 unfolding range_of_sole is_universal
-not_asked_by read vr (Octets octets) h = sole_no_range read (is_padded vr) (parts vr octets) h
+not_asked_by read vr (Octets octets) h = sole_no_range read (is_padded vr) (element_values vr octets) h
 not_asked_by read vr (Items items) h = refl
 
 not_asked : {A : Type 0} (read : List ℕ → Option A) (found : Option Element) → IsUniversal found → range_of_sole read (values_in found) ≡ None
@@ -128,11 +128,11 @@ mutual
   each_universal no_elements place held h = refl
   each_universal (element t v o rest) place held h =
       let parts = both (is_universal v o) (all_universal rest) h in
-      λ i. or_true (is_passed place false t) (octets_meet v o (octets_in (element_at t held))) (universal_octets v o (octets_in (element_at t held)) parts.0) i
+      λ i. or_true (is_matched_elsewhere place false t) (octets_meet v o (element_octets (element_at t held))) (universal_octets v o (element_octets (element_at t held)) parts.0) i
       && each_universal rest place held parts.1 i
   each_universal (sequence t v items rest) place held h =
       let parts = both (are_universal items) (all_universal rest) h in
-      λ i. or_true (is_passed place false t) (items_meet items (items_in (element_at t held))) (items_universal items (items_in (element_at t held)) parts.0) i
+      λ i. or_true (is_matched_elsewhere place false t) (items_meet items (items_in (element_at t held))) (items_universal items (items_in (element_at t held)) parts.0) i
       && each_universal rest place held parts.1 i
 
   items_universal : (items : ItemList) (held : List ElementList) → are_universal items ≡ true → items_meet items held ≡ true

@@ -6,7 +6,7 @@ use Rattle.std.proofs.lemmas.List.{get_or-drop, get_or-take}
 use Rattle.dq_match.specs.declared.wildcards.Casing.{Casing}
 use Rattle.dq_match.specs.declared.wildcards.Scan.{Scan}
 use Rattle.dq_match.specs.declared.wildcards.Scan.TheVariants.{End, Mismatch, Star}
-use Rattle.dq_match.specs.Wildcards.{wild, after_run, stands_for, compared, any_run, any_one}
+use Rattle.dq_match.specs.Wildcards.{wild, after_run, stands_for, compared_octet, any_run, any_one}
 use Rattle.dq_match.specs.Scans.{IsScan, IsFirstFit}
 use Rattle.dq_match.specs.Words.{IsWord, IsStretch, StandsAtFront, compared_at}
 use Rattle.dq_match.proofs.Scanning.{at_octet}
@@ -104,16 +104,16 @@ not_same : (a b : ℕ) → a ≢ b → nat_eq a b ≡ false
 not_same a b differ = grind (arith, nat_tests)
 
 stands : (casing : Casing) (wanted octet : ℕ) → wanted ≢ any_one → stands_for casing wanted octet ≡ true
-    → compared casing wanted ≡ compared casing octet
+    → compared_octet casing wanted ≡ compared_octet casing octet
 stands casing wanted octet differ h =
-    same_number (compared casing wanted) (compared casing octet) (or_left (nat_eq wanted any_one) _ h (not_same wanted any_one differ))
+    same_number (compared_octet casing wanted) (compared_octet casing octet) (or_left (nat_eq wanted any_one) _ h (not_same wanted any_one differ))
 
 module _ (casing : Casing) (pattern word text : List ℕ) (before : ℕ) (is : IsWord pattern before word) where
   -- where the pattern fits, its word is there
   word_there : wild casing pattern text ≡ true → (k : ℕ) → k < length word → compared_at casing word k ≡ compared_at casing text (before + k)
   word_there fits k h =
       let there = fits_at casing pattern text (before + length word) (before + k) is.no_run is.within fits (omega arith) in
-      ap (compared casing) (is.there k h)
+      ap (compared_octet casing) (is.there k h)
       ∙ stands casing (get_or pattern (before + k) 0) (get_or text (before + k) 0) (is.no_one k h) there.1
 
   pub too_short : length text < before + length word → wild casing pattern text ≡ false
@@ -133,7 +133,7 @@ module _ (casing : Casing) (pattern word text : List ℕ) (before matched period
     (stretch : IsStretch (compared_at casing word) matched period) (within : matched ≤ length word)
     (agrees : StandsAtFront casing word (drop before text) matched) where
   text_at : (k : ℕ) → k < matched → compared_at casing word k ≡ compared_at casing text (before + k)
-  text_at k h = agrees k h ∙ ap (compared casing) (get_or-drop before text k 0)
+  text_at k h = agrees k h ∙ ap (compared_octet casing) (get_or-drop before text k 0)
 
   long : (t : ℕ) → 0 < t → t < period → (0 < matched) ⊎ (matched ≤ 0) → period ≤ matched
   long t some small (inl more) = stretch.long more
@@ -148,7 +148,7 @@ module _ (casing : Casing) (pattern word text : List ℕ) (before matched period
       let there = word_there casing pattern word (drop t text) before is fits lower.place (omega (arith, lower.within)) in
       let moved : t + (before + lower.place) ≡ before + (lower.place + t) = omega arith in
       let same : compared_at casing (drop t text) (before + lower.place) ≡ compared_at casing text (before + (lower.place + t)) =
-      ap (compared casing) (get_or-drop t text (before + lower.place) 0 ∙ ap (λ n. get_or text n 0) moved) in
+      ap (compared_octet casing) (get_or-drop t text (before + lower.place) 0 ∙ ap (λ n. get_or text n 0) moved) in
       let here = text_at (lower.place + t) (omega (arith, lower.within)) in
       omega (arith, lower.lower, there, same, here))
 

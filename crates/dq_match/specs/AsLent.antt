@@ -20,8 +20,8 @@ abbrev pub is_left : List Tag → Tag → Bool
 is_left later tag = list_any (λ one. is_tag one tag) later
 
 -- a data set meets a key that is not left for later
-abbrev pub is_met : List Tag → ElementList → Element → Bool
-is_met later held key = is_left later key.tag || meets key (element_at key.tag held)
+abbrev pub is_met_at_once : List Tag → ElementList → Element → Bool
+is_met_at_once later held key = is_left later key.tag || meets key (element_at key.tag held)
 
 -- the octets of a sequence, and those that lack their pad, are not the element's value
 abbrev pub are_the_value : Vr → List ℕ → Bool

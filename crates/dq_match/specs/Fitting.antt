@@ -7,14 +7,14 @@ use Rattle.dq_dataset.specs.Values.{element_at}
 use Rattle.dq_dataset.specs.declared.data_set.Element.{Element}
 use Rattle.dq_match.specs.declared.keys.Place.{Place}
 use Rattle.dq_match.specs.declared.keys.Place.TheVariants.{Inner}
-use Rattle.dq_match.specs.Matching.{period, is_passed, all_met, meets}
+use Rattle.dq_match.specs.Matching.{period, is_matched_elsewhere, all_met, meets}
 
 -- Each key that stands alone is met by the element with its tag: each but the date and the time of
 -- a period.
 abbrev pub EachIsMet : Place → ElementList → ElementList → Type 0
 EachIsMet place keys held =
     (key : Element) → IsAmong key (elements_of keys)
-    → is_passed place (is_some (period keys held)) key.tag ≡ false
+    → is_matched_elsewhere place (is_some (period keys held)) key.tag ≡ false
     → meets key (element_at key.tag held) ≡ true
 
 -- the start of the procedure step is in the period, where there is one

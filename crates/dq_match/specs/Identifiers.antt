@@ -4,17 +4,17 @@ use Rattle.dq_vr.specs.Dictionary.{known_vr}
 use Rattle.dq_dataset.specs.Tree.{ElementList, no_elements, element, sequence, ItemList, no_items, item}
 use Rattle.dq_match.specs.Values.{are_well_formed}
 
-abbrev pub at_most_one : ItemList → Bool
-at_most_one no_items = true
-at_most_one (item d no_items) = true
-at_most_one (item d (item next rest)) = false
+abbrev pub has_at_most_one_item : ItemList → Bool
+has_at_most_one_item no_items = true
+has_at_most_one_item (item d no_items) = true
+has_at_most_one_item (item d (item next rest)) = false
 
 -- each value of a date or time key is well formed, and each sequence key has at most one item
 abbrev mutual
   pub is_query : ElementList → Bool
   is_query no_elements = true
   is_query (element tag vr octets rest) = are_well_formed vr octets && is_query rest
-  is_query (sequence tag vr items rest) = (at_most_one items && are_queries items) && is_query rest
+  is_query (sequence tag vr items rest) = (has_at_most_one_item items && are_queries items) && is_query rest
 
   pub are_queries : ItemList → Bool
   are_queries no_items = true

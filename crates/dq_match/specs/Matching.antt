@@ -9,12 +9,12 @@ use Rattle.dq_value.specs.Day.{day}
 use Rattle.dq_value.specs.Time.{Span, span}
 use Rattle.dq_dataset.specs.Tree.{ElementList, no_elements, element, sequence, ItemList, no_items, item}
 use Rattle.dq_dataset.specs.View.{with_value}
-use Rattle.dq_dataset.specs.Values.{element_at, octets_in, sole_at}
+use Rattle.dq_dataset.specs.Values.{element_at, element_octets, sole_at}
 use Rattle.dq_dataset.specs.declared.data_set.Element.{Element}
 use Rattle.dq_match.specs.declared.keys.Place.{Place}
 use Rattle.dq_match.specs.declared.keys.Place.TheVariants.{Outer, Inner}
 use Rattle.dq_match.specs.Values.{octets_meet}
-use Rattle.dq_match.specs.Ranges.{Bounds, range_bounds, is_within}
+use Rattle.dq_match.specs.Ranges.{Bounds, range_bounds, is_in_range}
 use Rattle.dq_match.specs.Keys.{items_in, is_tag, is_key}
 
 -- the ranges that ask for the start of a procedure step
@@ -49,15 +49,15 @@ period keys held = do
   times ← asked_times keys
   date ← start_day held
   time ← start_time held
-  Some (is_within days times date time)
+  Some (is_in_range days times date time)
 
 abbrev pub is_start : Tag → Bool
 is_start tag =
     is_tag scheduled_procedure_step_start_date tag || is_tag scheduled_procedure_step_start_time tag
 
 -- the elements that are not met each for itself: what is no key, and the date and time of a period
-abbrev pub is_passed : Place → Bool → Tag → Bool
-is_passed place joined tag = not (is_key place tag) || (joined && is_start tag)
+abbrev pub is_matched_elsewhere : Place → Bool → Tag → Bool
+is_matched_elsewhere place joined tag = not (is_key place tag) || (joined && is_start tag)
 
 -- a period is met too, where there is one
 abbrev pub with_period : Option Bool → (Bool → Bool) → Bool
@@ -71,10 +71,10 @@ abbrev mutual
   pub each_met : ElementList → Place → ElementList → Bool → Bool
   each_met no_elements place held joined = true
   each_met (element tag vr octets rest) place held joined =
-      (is_passed place joined tag || octets_meet vr octets (octets_in (element_at tag held)))
+      (is_matched_elsewhere place joined tag || octets_meet vr octets (element_octets (element_at tag held)))
       && each_met rest place held joined
   each_met (sequence tag vr items rest) place held joined =
-      (is_passed place joined tag || items_meet items (items_in (element_at tag held)))
+      (is_matched_elsewhere place joined tag || items_meet items (items_in (element_at tag held)))
       && each_met rest place held joined
 
   pub items_meet : ItemList → List ElementList → Bool
@@ -92,7 +92,7 @@ fits identifier held = all_met Outer identifier held
 -- one key is met by the element of the record with its tag
 abbrev pub first_met : ElementList → Option Element → Bool
 first_met no_elements held = true
-first_met (element tag vr octets rest) held = octets_meet vr octets (octets_in held)
+first_met (element tag vr octets rest) held = octets_meet vr octets (element_octets held)
 first_met (sequence tag vr items rest) held = items_meet items (items_in held)
 
 abbrev pub meets : Element → Option Element → Bool

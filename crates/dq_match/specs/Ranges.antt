@@ -4,7 +4,7 @@ use Rattle.std.specs.Prelude.{ℕ, ℤ, Bool, true, false, List, Option, Some, N
 use Rattle.std.specs.Ordering.{int_eq}
 use Rattle.dq_value.specs.Day.{day}
 use Rattle.dq_value.specs.Time.{Span, span}
-use Rattle.dq_value.specs.Range.{Ends, ends}
+use Rattle.dq_value.specs.Range.{Ends, range_ends}
 
 -- the first and the last that a key takes, none for an end that is left open
 abbrev pub Bounds : Type 0 → Type 0
@@ -24,7 +24,7 @@ bounds_of_ends read found = do
 -- a range
 unfoldable pub range_bounds : {A : Type 0} → (List ℕ → Option A) → List ℕ → Option (Bounds A)
 range_bounds read octets = do
-  found ← ends octets
+  found ← range_ends octets
   bounds_of_ends read found
 
 -- one date or time is a range from itself to itself
@@ -38,7 +38,7 @@ bounds_by_ends read octets None = option_map single (read octets)
 bounds_by_ends read octets (Some found) = bounds_of_ends read found
 
 unfoldable pub bounds : {A : Type 0} → (List ℕ → Option A) → List ℕ → Option (Bounds A)
-bounds read octets = bounds_by_ends read octets (ends octets)
+bounds read octets = bounds_by_ends read octets (range_ends octets)
 
 -- what is left open sets no bound
 abbrev pub unless_open : {A : Type 0} → (A → Bool) → Option A → Bool
@@ -84,6 +84,6 @@ is_until days times date microsecond =
     let in_time = unless_open (λ time. nat_le microsecond time.1) times in
     unless_open (λ last. int_lt date last || (int_eq date last && in_time)) days
 
-abbrev pub is_within : Bounds ℤ → Bounds Span → ℤ → Span → Bool
-is_within days times date time =
+abbrev pub is_in_range : Bounds ℤ → Bounds Span → ℤ → Span → Bool
+is_in_range days times date time =
     is_from days.0 times.0 date time.0 && is_until days.1 times.1 date time.0

@@ -4,10 +4,10 @@ use Rattle.dq_list.specs.Lengths.{is_empty}
 use Rattle.dq_vr.specs.declared.Tag.{Tag}
 use Rattle.dq_vr.specs.declared.Vr.{Vr}
 use Rattle.dq_vr.specs.Tags.{specific_character_set}
-use Rattle.dq_value.specs.Parts.{parts}
+use Rattle.dq_value.specs.Parts.{element_values}
 use Rattle.dq_dataset.specs.Tree.{ElementList, no_elements, element, sequence, ItemList, no_items, item}
 use Rattle.dq_dataset.specs.View.{with_value}
-use Rattle.dq_dataset.specs.Values.{element_at, octets_in}
+use Rattle.dq_dataset.specs.Values.{element_at, element_octets}
 use Rattle.dq_dataset.specs.declared.data_set.Element.{Element}
 use Rattle.dq_dataset.specs.declared.data_set.Value.{Value}
 use Rattle.dq_dataset.specs.declared.data_set.Value.TheVariants.{Octets, Items}
@@ -65,7 +65,7 @@ abbrev mutual
 -- the record's character set, where it has a value
 abbrev pub unless_empty : Option Element → Option Element
 unless_empty None = None
-unless_empty (Some e) = if is_empty (parts e.vr (octets_in (Some e))) then None else Some e
+unless_empty (Some e) = if is_empty (element_values e.vr (element_octets (Some e))) then None else Some e
 
 abbrev pub character_set : ElementList → Option Element
 character_set held = unless_empty (element_at specific_character_set held)
@@ -75,8 +75,8 @@ put_first None others = others
 put_first (Some e) others = put e others
 
 -- the character set comes first, asked for or not
-unfoldable pub shown : ElementList → ElementList → ElementList
-shown identifier held = put_first (character_set held) (shown_keys identifier Outer held)
+unfoldable pub shown_data_set : ElementList → ElementList → ElementList
+shown_data_set identifier held = put_first (character_set held) (shown_keys identifier Outer held)
 
 -- ---- one key at a time
 

@@ -1,16 +1,15 @@
 -- Several values of a key against several of a record, where values are met by equality.
-use Rattle.std.specs.Prelude.{◌≡◌, ℕ, Bool, not, nat_eq, ◌||◌, List, map}
-use Rattle.std.specs.Global.{Vec}
+use Rattle.std.specs.Prelude.{◌≡◌, ℕ, Bool, not, nat_eq, ◌||◌, List}
 use Rattle.std.specs.List.{list_any, list_all}
 use Rattle.dq_match.specs.declared.values.Matching.{Matching}
 use Rattle.dq_match.specs.Values.{is_same, some_meet}
 use Rattle.dq_match.specs.Wildcards.{any_run, any_one}
 
-abbrev pub is_among : List ℕ → List (List ℕ) → Bool
-is_among value values = list_any (is_same value) values
+abbrev pub is_one_of_values : List ℕ → List (List ℕ) → Bool
+is_one_of_values value values = list_any (is_same value) values
 
 abbrev pub some_equal : List (List ℕ) → List (List ℕ) → Bool
-some_equal keys values = list_any (λ key. is_among key values) keys
+some_equal keys values = list_any (λ key. is_one_of_values key values) keys
 
 -- the values of a key are met by equality
 abbrev pub AreMetByEquality : Matching → List (List ℕ) → Type 0
@@ -23,7 +22,3 @@ is_plain_octet octet = not (nat_eq octet any_run || nat_eq octet any_one)
 
 abbrev pub is_plain : List ℕ → Bool
 is_plain value = list_all is_plain_octet value
-
--- the octets of vectors
-abbrev pub octets_of : List (Vec ℕ) → List (List ℕ)
-octets_of vectors = map (λ (v : Vec ℕ). v.items) vectors

@@ -14,8 +14,8 @@ use Rattle.dq_match.specs.declared.supported.KeyScope.{KeyScope}
 use Rattle.dq_match.specs.declared.supported.KeyScope.TheVariants.{Identifier, Step, Code, Reference, Other}
 use Rattle.dq_match.specs.Keys.{is_tag, other_than_keys}
 
-abbrev pub is_among : Tag → List Tag → Bool
-is_among tag listed = list_any (λ one. is_tag one tag) listed
+abbrev pub is_tag_among : Tag → List Tag → Bool
+is_tag_among tag listed = list_any (λ one. is_tag one tag) listed
 
 abbrev pub study_keys : List Tag
 study_keys =
@@ -69,25 +69,25 @@ code_keys =
 abbrev pub reference_keys : List Tag
 reference_keys = tags.referenced_sop_class_uid ∷ tags.referenced_sop_instance_uid ∷ []
 
-unfoldable pub keys_of : KeyList → List Tag
-keys_of Study = study_keys
-keys_of Series = series_keys
-keys_of Image = image_keys
-keys_of Entry = entry_keys
+unfoldable pub key_tags : KeyList → List Tag
+key_tags Study = study_keys
+key_tags Series = series_keys
+key_tags Image = image_keys
+key_tags Entry = entry_keys
 
 -- What is no key stays in an identifier too. A worklist query has no level and no retrieval, so of
 -- that it has the character set alone.
 unfoldable pub leaves : KeyList → Tag → Bool
-leaves Study tag = is_among tag other_than_keys
-leaves Series tag = is_among tag other_than_keys
-leaves Image tag = is_among tag other_than_keys
+leaves Study tag = is_tag_among tag other_than_keys
+leaves Series tag = is_tag_among tag other_than_keys
+leaves Image tag = is_tag_among tag other_than_keys
 leaves Entry tag = is_tag tags.specific_character_set tag
 
 unfoldable pub is_supported : KeyScope → Tag → Bool
-is_supported (Identifier list) tag = is_among tag (keys_of list) || leaves list tag
-is_supported Step tag = is_among tag step_keys
-is_supported Code tag = is_among tag code_keys
-is_supported Reference tag = is_among tag reference_keys
+is_supported (Identifier list) tag = is_tag_among tag (key_tags list) || leaves list tag
+is_supported Step tag = is_tag_among tag step_keys
+is_supported Code tag = is_tag_among tag code_keys
+is_supported Reference tag = is_tag_among tag reference_keys
 is_supported Other tag = false
 
 abbrev pub is_reference : Tag → Bool

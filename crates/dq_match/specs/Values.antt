@@ -8,7 +8,7 @@ use Rattle.dq_vr.specs.declared.Vr.TheVariants.{AE, CS, DA, LO, LT, PN, SH, ST, 
 use Rattle.dq_value.specs.Day.{day}
 use Rattle.dq_value.specs.Time.{span}
 use Rattle.dq_value.specs.Trimming.{is_padded, without_trailing}
-use Rattle.dq_value.specs.Parts.{parts}
+use Rattle.dq_value.specs.Parts.{element_values}
 use Rattle.dq_match.specs.declared.values.Matching.{Matching}
 use Rattle.dq_match.specs.declared.values.Matching.TheVariants.{Name, WildCard, Date, Time, Equality}
 use Rattle.dq_match.specs.declared.wildcards.Casing.TheVariants.{Exact, Folded}
@@ -39,12 +39,12 @@ matching_of _ = Equality
 abbrev pub is_name_pad : ℕ → Bool
 is_name_pad octet = (nat_eq octet 0x20 || nat_eq octet 0x5e) || nat_eq octet 0x3d
 
-abbrev pub name_of : List ℕ → List ℕ
-name_of octets = without_trailing is_name_pad octets
+abbrev pub compared_name : List ℕ → List ℕ
+compared_name octets = without_trailing is_name_pad octets
 
 -- one value of the key is met by one of the record (C.2.2.2.1)
 abbrev pub value_meets : Matching → List ℕ → List ℕ → Bool
-value_meets Name key value = wild Folded (name_of key) (name_of value)
+value_meets Name key value = wild Folded (compared_name key) (compared_name value)
 value_meets WildCard key value = wild Exact key value
 value_meets Date key value = date_meets key value
 value_meets Time key value = time_meets key value
@@ -58,7 +58,7 @@ is_asterisk (value ∷ (next ∷ others)) = false
 
 unfoldable pub is_universal : Vr → List ℕ → Bool
 is_universal vr octets =
-    is_empty (parts vr octets) || (is_padded vr && is_asterisk (parts vr octets))
+    is_empty (element_values vr octets) || (is_padded vr && is_asterisk (element_values vr octets))
 
 -- some value of the key is met by some value of the record (C.2.2.2.2)
 abbrev pub some_meet : Matching → List (List ℕ) → List (List ℕ) → Bool
@@ -67,15 +67,15 @@ some_meet matching keys values = list_any (λ key. list_any (value_meets matchin
 -- A record without values is unknown, and meets every key.
 unfoldable pub octets_meet : Vr → List ℕ → List ℕ → Bool
 octets_meet vr key held =
-    (is_universal vr key || is_empty (parts vr held))
-    || some_meet (matching_of vr) (parts vr key) (parts vr held)
+    (is_universal vr key || is_empty (element_values vr held))
+    || some_meet (matching_of vr) (element_values vr key) (element_values vr held)
 
 -- a value of a date or time key is one date or time, or a range
-abbrev pub is_well_formed : Matching → List ℕ → Bool
-is_well_formed Date key = is_some (bounds day key)
-is_well_formed Time key = is_some (bounds span key)
-is_well_formed _ key = true
+abbrev pub is_well_formed_value : Matching → List ℕ → Bool
+is_well_formed_value Date key = is_some (bounds day key)
+is_well_formed_value Time key = is_some (bounds span key)
+is_well_formed_value _ key = true
 
 unfoldable pub are_well_formed : Vr → List ℕ → Bool
 are_well_formed vr key =
-    is_universal vr key || list_all (is_well_formed (matching_of vr)) (parts vr key)
+    is_universal vr key || list_all (is_well_formed_value (matching_of vr)) (element_values vr key)

@@ -13,23 +13,23 @@ abbrev pub any_one : ℕ
 any_one = 0x3f
 
 -- an octet as it is compared: in names letters of either case are one
-abbrev pub compared : Casing → ℕ → ℕ
-compared Exact octet = octet
-compared Folded octet = to_ascii_lowercase octet
+abbrev pub compared_octet : Casing → ℕ → ℕ
+compared_octet Exact octet = octet
+compared_octet Folded octet = to_ascii_lowercase octet
 
 abbrev pub same : Casing → ℕ → ℕ → Bool
-same casing a b = nat_eq (compared casing a) (compared casing b)
+same casing a b = nat_eq (compared_octet casing a) (compared_octet casing b)
 
 -- the pattern fits the text
-pub data Fits : Casing → List ℕ → List ℕ → Type 0 where
-  ended : (casing : Casing) → Fits casing [] []
-  run : (casing : Casing) (pattern before after : List ℕ) → Fits casing pattern after
-      → Fits casing (any_run ∷ pattern) (before ++ after)
-  one : (casing : Casing) (octet : ℕ) (pattern text : List ℕ) → Fits casing pattern text
-      → Fits casing (any_one ∷ pattern) (octet ∷ text)
+pub data FitsPattern : Casing → List ℕ → List ℕ → Type 0 where
+  ended : (casing : Casing) → FitsPattern casing [] []
+  run : (casing : Casing) (pattern before after : List ℕ) → FitsPattern casing pattern after
+      → FitsPattern casing (any_run ∷ pattern) (before ++ after)
+  one : (casing : Casing) (octet : ℕ) (pattern text : List ℕ) → FitsPattern casing pattern text
+      → FitsPattern casing (any_one ∷ pattern) (octet ∷ text)
   itself : (casing : Casing) (wanted octet : ℕ) (pattern text : List ℕ) → wanted ≢ any_run
-      → compared casing wanted ≡ compared casing octet → Fits casing pattern text
-      → Fits casing (wanted ∷ pattern) (octet ∷ text)
+      → compared_octet casing wanted ≡ compared_octet casing octet → FitsPattern casing pattern text
+      → FitsPattern casing (wanted ∷ pattern) (octet ∷ text)
 
 -- ---- computed
 

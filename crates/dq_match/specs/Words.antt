@@ -1,13 +1,13 @@
 -- A word of a pattern: octets that stand for themselves, with no wild card among them. It is looked
 -- for in a text by going along it, and going on by as much as the word differs from itself.
 use Rattle.std.specs.Prelude.{◌≡◌, ◌≢◌, ℕ, ◌+◌, ◌<◌, ◌≤◌, List, length, slice_index}
-use Rattle.dq_match.specs.Wildcards.{compared, any_run, any_one}
+use Rattle.dq_match.specs.Wildcards.{compared_octet, any_run, any_one}
 use Rattle.dq_match.specs.declared.wildcards.Casing.{Casing}
 use Rattle.dq_match.specs.declared.words.Stretch.{Stretch}
 
 -- an octet of a list as it is compared
 abbrev pub compared_at : Casing → List ℕ → ℕ → ℕ
-compared_at casing octets place = compared casing (slice_index octets place)
+compared_at casing octets place = compared_octet casing (slice_index octets place)
 
 -- A pattern has the word after some octets, and no asterisk up to the word's end.
 pub record IsWord (pattern : List ℕ) (before : ℕ) (word : List ℕ) : Type 0 where

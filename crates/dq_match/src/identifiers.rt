@@ -2,7 +2,7 @@
 ghost use Rattle.std.specs.Prelude.{◌≡◌};
 ghost use Rattle.dq_dataset.specs.Tree.{no_elements};
 ghost use Rattle.dq_dataset.specs.View.{as_elements, items_of, with_value};
-ghost use Rattle.dq_match.specs.Identifiers.{at_most_one, is_query, are_queries};
+ghost use Rattle.dq_match.specs.Identifiers.{has_at_most_one_item, is_query, are_queries};
 
 use crate::values::are_well_formed;
 use dq_dataset::{DataSet, Element, Value};
@@ -39,7 +39,7 @@ fn is_one_query(key: &Element) -> bool
 }
 
 fn at_most_one(items: &[DataSet]) -> bool
-    ensures { result ≡ at_most_one (items_of items.now) }
+    ensures { result ≡ has_at_most_one_item (items_of items.now) }
 {
     items.len() <= 1
 }

@@ -4,7 +4,7 @@ ghost use Rattle.std.specs.Option.{option_copied};
 ghost use Rattle.std.specs.List.{list_any};
 ghost use Rattle.dq_match.specs.Keys.{items_in, is_tag, is_key, other_than_keys};
 ghost use Rattle.dq_dataset.specs.View.{has_tag};
-ghost use Rattle.dq_dataset.specs.Values.{octets_in};
+ghost use Rattle.dq_dataset.specs.Values.{element_octets};
 
 use dq_dataset::{DataSet, Element, Value};
 use dq_vr::{Tag, tags};
@@ -51,7 +51,7 @@ pub(crate) fn element_at(elements: &[Element], tag: Tag) -> Option<&Element>
 
 /// The octets of a record's element, none where it is absent or a sequence.
 pub fn octets_in(held: Option<&Element>) -> &[u8]
-    ensures { result.now ≡ octets_in (option_copied held.entry) }
+    ensures { result.now ≡ element_octets (option_copied held.entry) }
 {
     match held {
         Some(element) => match &element.value {

@@ -9,20 +9,20 @@ ghost use Rattle.dq_match.specs.declared.keys.Place.{Place};
 ghost use Rattle.dq_match.specs.declared.keys.Place.TheVariants.{Outer};
 ghost use Rattle.dq_match.specs.declared.supported.KeyScope.{KeyScope};
 ghost use Rattle.dq_match.specs.declared.wildcards.Casing.{Casing};
-ghost use Rattle.dq_match.specs.Wildcards.{Fits, wild};
+ghost use Rattle.dq_match.specs.Wildcards.{FitsPattern, wild};
 ghost use Rattle.std.specs.Char.{to_ascii_lowercase};
 ghost use Rattle.dq_value.specs.Day.{day};
 ghost use Rattle.dq_value.specs.Time.{Span, span};
-ghost use Rattle.dq_value.specs.Range.{IsRange, ends, end_of};
+ghost use Rattle.dq_value.specs.Range.{IsRange, range_ends, end_of};
 ghost use Rattle.dq_match.specs.declared.values.Matching.TheVariants.{Name, WildCard, Equality};
 ghost use Rattle.dq_match.specs.Ranges.{Bounds, has_day, has_time, date_meets, time_meets, is_from, is_until};
-ghost use Rattle.dq_match.specs.Values.{is_name_pad, name_of, value_meets, is_universal, octets_meet};
+ghost use Rattle.dq_match.specs.Values.{is_name_pad, compared_name, value_meets, is_universal, octets_meet};
 ghost use Rattle.dq_match.specs.Keys.{is_key};
 ghost use Rattle.dq_match.specs.Matching.{items_meet, all_met};
 ghost use Rattle.dq_match.specs.Fitting.{EachIsMet, PeriodIsMet, SomeItemFits};
 ghost use Rattle.dq_match.specs.Universal.{all_universal};
 ghost use Rattle.dq_match.specs.Supported.{is_supported, supported_part, supported_value, supported_element, has_unsupported};
-ghost use Rattle.dq_match.specs.Responses.{no_value, character_set, cut_keys, before, shown_element, shown_elements, shown};
+ghost use Rattle.dq_match.specs.Responses.{no_value, character_set, cut_keys, before, shown_element, shown_elements, shown_data_set};
 ghost use Rattle.dq_match.specs.ShownTags.{tags_of, set_tags};
 
 use dq_value::range_law;
@@ -31,7 +31,7 @@ use dq_value::range_law;
 #[tactic(auto, using(crate::proofs::WildFits::wild_is_fits))]
 pub fn wild_cards_fit()
     ensures { (casing : Casing) (pattern text : List ℕ)
-        → (wild casing pattern text ≡ true) ↔ Fits casing pattern text }
+        → (wild casing pattern text ≡ true) ↔ FitsPattern casing pattern text }
 {}
 
 /// A record, or an item of one, fits keys where each key that stands alone is met by the element
@@ -52,7 +52,7 @@ pub fn a_value_meets_itself()
     ensures text { (value : List ℕ) → value_meets WildCard value value ≡ true }
     ensures name { (value : List ℕ) → value_meets Name value value ≡ true }
     ensures equal { (value : List ℕ) → value_meets Equality value value ≡ true }
-    ensures time { (value : List ℕ) (first last : ℕ) → ends value ≡ None
+    ensures time { (value : List ℕ) (first last : ℕ) → range_ends value ≡ None
         → span value ≡ Some (first, last) → first ≤ last → time_meets value value ≡ true }
 {}
 
@@ -73,11 +73,11 @@ pub fn ranges_take_what_is_between()
     ensures between { (first last date : ℤ)
         → (has_day (Some first, Some last) date ≡ true) ↔ ((first ≤ℤ date) × (date ≤ℤ last)) }
     ensures spelled { (key from to value : List ℕ) (first last date : ℤ)
-        → ends key ≡ Some (end_of from, end_of to)
+        → range_ends key ≡ Some (end_of from, end_of to)
         → day from ≡ Some first → day to ≡ Some last → day value ≡ Some date
         → date_meets key value ≡ has_day (Some first, Some last) date }
     ensures single { (value : List ℕ) (date : ℤ)
-        → ends value ≡ None → day value ≡ Some date → date_meets value value ≡ true }
+        → range_ends value ≡ None → day value ≡ Some date → date_meets value value ≡ true }
     ensures days { (range : Bounds ℤ) (date : ℤ)
         → has_day range date ≡ (has_day (range.0, None) date && has_day (None, range.1) date) }
     ensures times { (range : Bounds Span) (time : Span)
@@ -98,7 +98,7 @@ pub fn a_range_of_times_is_met_between_its_ends()
     ensures until { (key to value : List ℕ) (last time : Span) → IsRange key [] to
         → span to ≡ Some last → span value ≡ Some time
         → (time_meets key value ≡ true) ↔ (time.0 ≤ last.1) }
-    ensures single { (key value : List ℕ) (asked time : Span) → ends key ≡ None
+    ensures single { (key value : List ℕ) (asked time : Span) → range_ends key ≡ None
         → span key ≡ Some asked → span value ≡ Some time
         → (time_meets key value ≡ true) ↔ ((asked.0 ≤ time.0) × (time.0 ≤ asked.1)) }
     ensures unread { (key value : List ℕ) → span value ≡ None → time_meets key value ≡ false }
@@ -118,7 +118,7 @@ pub fn a_range_of_dates_is_met_between_its_ends()
     ensures until { (key to value : List ℕ) (last date : ℤ) → IsRange key [] to
         → day to ≡ Some last → day value ≡ Some date
         → (date_meets key value ≡ true) ↔ (date ≤ℤ last) }
-    ensures single { (key value : List ℕ) (asked date : ℤ) → ends key ≡ None
+    ensures single { (key value : List ℕ) (asked date : ℤ) → range_ends key ≡ None
         → day key ≡ Some asked → day value ≡ Some date
         → (date_meets key value ≡ true) ↔ ((asked ≤ℤ date) × (date ≤ℤ asked)) }
     ensures unread { (key value : List ℕ) → day value ≡ None → date_meets key value ≡ false }
@@ -141,7 +141,7 @@ pub fn periods_are_an_order()
 #[tactic(auto, using(crate::proofs::Names::name_case, crate::proofs::Names::name_pad))]
 pub fn names_are_met_in_any_case()
     ensures letters { (key value other : List ℕ)
-        → map to_ascii_lowercase (name_of value) ≡ map to_ascii_lowercase (name_of other)
+        → map to_ascii_lowercase (compared_name value) ≡ map to_ascii_lowercase (compared_name other)
         → value_meets Name key value ≡ value_meets Name key other }
     ensures pads { (key value : List ℕ) (pad : ℕ) → is_name_pad pad ≡ true
         → value_meets Name key (value ++ pad ∷ []) ≡ value_meets Name key value }
@@ -176,7 +176,7 @@ pub fn what_is_supported_stays()
 #[tactic(auto, using(crate::proofs::Showing::keys_show, crate::proofs::Showing::plain_whole))]
 pub fn each_key_shows_the_element_of_the_record()
     ensures each { (identifier held : ElementList)
-        → elements_of (shown identifier held)
+        → elements_of (shown_data_set identifier held)
         ≡ before (character_set held) (shown_elements (elements_of identifier) held) }
     ensures whole { (key found : Element)
         → cut_keys key.value ≡ None → shown_element key (Some found) ≡ found }
@@ -189,6 +189,6 @@ pub fn each_key_shows_the_element_of_the_record()
 #[tactic(auto, using(crate::proofs::ShownTags::tags_shown))]
 pub fn what_is_asked_is_shown()
     ensures { (identifier held : ElementList)
-        → tags_of (shown identifier held)
+        → tags_of (shown_data_set identifier held)
         ≡ set_tags (character_set held) (filter (is_key Outer) (tags_of identifier)) }
 {}

@@ -4,10 +4,10 @@ ghost use Rattle.std.specs.Prelude.{◌≡◌, true};
 ghost use Rattle.std.specs.List.{list_all};
 ghost use Rattle.std.specs.Result.{result_unwrap_or};
 ghost use Rattle.dq_dataset.specs.declared.header.Syntax.TheVariants.{Explicit};
-ghost use Rattle.dq_dataset.specs.Lending.{lent};
+ghost use Rattle.dq_dataset.specs.Lending.{lent_elements};
 ghost use Rattle.dq_dataset.specs.Reading.{reading};
 ghost use Rattle.dq_dataset.specs.Tree.{no_elements};
-ghost use Rattle.dq_match.specs.AsLent.{is_left, is_met, are_the_value, asks_for, value_asked, meets_keys, all_meet};
+ghost use Rattle.dq_match.specs.AsLent.{is_left, is_met_at_once, are_the_value, asks_for, value_asked, meets_keys, all_meet};
 
 use crate::values::octets_meet;
 use dq_dataset::laws::spelling_law;
@@ -68,9 +68,9 @@ fn meets_keys(keys: &[Element], later: &[Tag], lent: Lent) -> bool
 /// a data set is built: sequences are passed over, and keys with the tags that are left for later.
 /// Octets that spell no data set meet all keys.
 pub fn lent_meets(keys: &[Element], later: &[Tag], octets: &[u8]) -> bool
-    ensures as_lent { result ≡ all_meet later.now keys.now true (lent Explicit octets.now) }
+    ensures as_lent { result ≡ all_meet later.now keys.now true (lent_elements Explicit octets.now) }
     // A data set that meets the keys passes.
-    ensures passes { list_all (is_met later.now (result_unwrap_or (reading Explicit octets.now) no_elements))
+    ensures passes { list_all (is_met_at_once later.now (result_unwrap_or (reading Explicit octets.now) no_elements))
         keys.now ≡ true → result ≡ true }
 {
     spelling_law();

@@ -5,7 +5,7 @@ ghost use Rattle.std.specs.List.{list_any};
 ghost use Rattle.jiff.specs.Words.{epoch_day};
 ghost use Rattle.dq_dataset.specs.View.{as_elements, items_of};
 ghost use Rattle.dq_match.specs.DateBounds.{days_of};
-ghost use Rattle.dq_match.specs.Matching.{asked_days, asked_times, start_day, start_time, period, is_start, is_passed, each_met, items_meet, all_met, fits, meets};
+ghost use Rattle.dq_match.specs.Matching.{asked_days, asked_times, start_day, start_time, period, is_start, is_matched_elsewhere, each_met, items_meet, all_met, fits, meets};
 ghost use Rattle.dq_match.specs.declared.keys.Place.TheVariants.{Inner};
 
 use crate::keys::{Place, items_in, octets_in};
@@ -64,8 +64,8 @@ fn is_start(tag: Tag) -> bool
     tag == SCHEDULED_PROCEDURE_STEP_START_DATE || tag == SCHEDULED_PROCEDURE_STEP_START_TIME
 }
 
-fn is_passed(place: Place, joined: bool, tag: Tag) -> bool
-    ensures { result ≡ is_passed place joined tag }
+fn is_matched_elsewhere(place: Place, joined: bool, tag: Tag) -> bool
+    ensures { result ≡ is_matched_elsewhere place joined tag }
 {
     !place.is_key(tag) || (joined && is_start(tag))
 }
@@ -88,7 +88,7 @@ fn each_met(place: Place, joined: bool, keys: &[Element], held: &DataSet) -> boo
     ensures { result ≡ each_met (as_elements keys.now) place held.now joined }
 {
     for key in keys {
-        if !is_passed(place, joined, key.tag) && !meets(key, held.get(key.tag)) {
+        if !is_matched_elsewhere(place, joined, key.tag) && !meets(key, held.get(key.tag)) {
             return false;
         }
     }

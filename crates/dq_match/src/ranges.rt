@@ -4,7 +4,7 @@ ghost use Rattle.std.specs.Option.{option_copied};
 ghost use Rattle.jiff.specs.Words.{epoch_day};
 ghost use Rattle.dq_value.specs.Day.{day};
 ghost use Rattle.dq_value.specs.Time.{span};
-ghost use Rattle.dq_match.specs.Ranges.{bound, range_bounds, bounds, has_day, unless_open, date_meets, time_meets, is_from, is_until, is_within};
+ghost use Rattle.dq_match.specs.Ranges.{bound, range_bounds, bounds, has_day, unless_open, date_meets, time_meets, is_from, is_until, is_in_range};
 ghost use Rattle.dq_match.specs.DateBounds.{days_of};
 
 use dq_value::{date_of, range_of, time_of};
@@ -170,7 +170,7 @@ fn is_until(days: Option<Date>, times: Option<Span>, date: Date, microsecond: u6
 /// Whether a moment is in the period from the first day at the first time to the last day at the
 /// last time (PS3.4 table K.6-1).
 pub(crate) fn is_within(days: Bounds<Date>, times: Bounds<Span>, date: Date, time: Span) -> bool
-    ensures { result ≡ is_within (days_of days) times (epoch_day date) time }
+    ensures { result ≡ is_in_range (days_of days) times (epoch_day date) time }
 {
     let (first_day, last_day) = days;
     let (first_time, last_time) = times;

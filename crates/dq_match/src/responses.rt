@@ -5,7 +5,7 @@ ghost use Rattle.dq_dataset.specs.View.{as_elements, elements_of};
 ghost use Rattle.dq_match.specs.declared.keys.Place.TheVariants.{Inner};
 ghost use Rattle.dq_match.specs.Identifiers.{HasKnownTags};
 ghost use Rattle.dq_match.specs.Matching.{all_met};
-ghost use Rattle.dq_match.specs.Responses.{no_value, unless_empty, character_set, put_first, cut_keys, shown_keys, shown_element, shown_found, shown};
+ghost use Rattle.dq_match.specs.Responses.{no_value, unless_empty, character_set, put_first, cut_keys, shown_keys, shown_element, shown_found, shown_data_set};
 
 use crate::keys::{Place, element_at, octets_in};
 use crate::matching::all_met;
@@ -158,10 +158,10 @@ fn shown_items(alloc: Global, keys: &DataSet, items: &[DataSet]) -> Result<Vec<D
 
 /// What a response to the identifier shows of a record: for each key the record's element, or one
 /// without a value, and the record's character set (0008,0005) where it has a value.
-#[tactic(auto, unfolding(crate::specs::Responses::shown))]
+#[tactic(auto, unfolding(crate::specs::Responses::shown_data_set))]
 pub fn shown(alloc: Global, identifier: &DataSet, held: &DataSet) -> Result<DataSet, AllocError>
     requires { HasKnownTags identifier.now }
-    ensures { IfOk result (λ d. d ≡ shown identifier.now held.now) }
+    ensures { IfOk result (λ d. d ≡ shown_data_set identifier.now held.now) }
 {
     let keys = shown_keys(alloc, Place::Outer, identifier.elements(), held.elements())?;
     let elements = put_first(alloc, character_set(held), keys)?;

@@ -1,8 +1,9 @@
 //! Several values of a key against several of a record, without comparing each with each.
 ghost use Rattle.std.specs.Prelude.{◌≡◌, ℕ, List, IfOk};
 ghost use Rattle.std.specs.List.{list_all};
-ghost use Rattle.dq_value.specs.Parts.{parts};
-ghost use Rattle.dq_match.specs.Several.{is_among, some_equal, is_plain_octet, is_plain, octets_of};
+ghost use Rattle.dq_list.specs.Octets.{octets_of_vectors};
+ghost use Rattle.dq_value.specs.Parts.{element_values};
+ghost use Rattle.dq_match.specs.Several.{is_one_of_values, some_equal, is_plain_octet, is_plain};
 
 use dq_value::values;
 use dq_vr::Vr;
@@ -29,7 +30,7 @@ pub fn is_plain(value: &[u8]) -> bool
 
 /// Whether no value has a wild card.
 pub(crate) fn all_plain(vr: Vr, key: &[u8]) -> bool
-    ensures { result ≡ list_all is_plain (parts vr key.now) }
+    ensures { result ≡ list_all is_plain (element_values vr key.now) }
 {
     let mut keys = values(vr, key);
     while let Some(value) = keys.next() {
@@ -49,7 +50,7 @@ pub(crate) fn has_several(vr: Vr, octets: &[u8]) -> bool {
 /// The values in the order of their octets.
 fn in_order(alloc: Global, vr: Vr, octets: &[u8]) -> Result<BTreeSet<Vec<u8>>, AllocError>
     ensures { IfOk result (λ set. (value : List ℕ)
-        → is_among value (octets_of set.keys) ≡ is_among value (parts vr octets.now)) }
+        → is_one_of_values value (octets_of_vectors set.keys) ≡ is_one_of_values value (element_values vr octets.now)) }
 {
     let mut set = BTreeSet::new(alloc);
     let mut all = values(vr, octets);
@@ -60,7 +61,7 @@ fn in_order(alloc: Global, vr: Vr, octets: &[u8]) -> Result<BTreeSet<Vec<u8>>, A
 }
 
 fn some_is_in(vr: Vr, key: &[u8], set: &BTreeSet<Vec<u8>>) -> bool
-    ensures { result ≡ some_equal (parts vr key.now) (octets_of set.now.keys) }
+    ensures { result ≡ some_equal (element_values vr key.now) (octets_of_vectors set.now.keys) }
 {
     let mut keys = values(vr, key);
     while let Some(value) = keys.next() {
@@ -74,7 +75,7 @@ fn some_is_in(vr: Vr, key: &[u8], set: &BTreeSet<Vec<u8>>) -> bool
 /// Whether some value of the record is some value of the key.
 pub(crate) fn some_equal(alloc: Global, vr: Vr, key: &[u8], held: &[u8]) -> Result<bool, AllocError>
     ensures { IfOk result (λ met. met
-        ≡ some_equal (parts vr key.now) (parts vr held.now)) }
+        ≡ some_equal (element_values vr key.now) (element_values vr held.now)) }
 {
     let set = in_order(alloc, vr, held)?;
     Ok(some_is_in(vr, key, &set))

@@ -3,7 +3,7 @@
 ghost use Rattle.std.specs.Prelude.{◌≡◌, IfOk};
 ghost use Rattle.dq_dataset.specs.View.{as_elements, elements_of, items_of, list_of};
 ghost use Rattle.dq_match.specs.Identifiers.{HasKnownTags};
-ghost use Rattle.dq_match.specs.Supported.{keys_of, leaves, is_among, is_supported, below, below_entry, below_step, supported_part, supported_items, supported_value, has_unsupported, have_unsupported, value_has_unsupported};
+ghost use Rattle.dq_match.specs.Supported.{key_tags, leaves, is_tag_among, is_supported, below, below_entry, below_step, supported_part, supported_items, supported_value, has_unsupported, have_unsupported, value_has_unsupported};
 ghost use Rattle.dq_match.specs.declared.supported.KeyScope.TheVariants.{Identifier};
 
 use crate::keys::is_other_than_key;
@@ -142,15 +142,15 @@ static REFERENCE_KEYS: [Tag; 2] = [
 ];
 
 fn is_among(tag: Tag, listed: &[Tag]) -> bool
-    ensures { result ≡ is_among tag listed.now }
+    ensures { result ≡ is_tag_among tag listed.now }
 {
     listed.iter().any(|one| *one == tag)
 }
 
 impl KeyList {
-    #[tactic(auto, unfolding(crate::specs::Supported::keys_of))]
+    #[tactic(auto, unfolding(crate::specs::Supported::key_tags))]
     fn has(self, tag: Tag) -> bool
-        ensures { result ≡ is_among tag (keys_of self) }
+        ensures { result ≡ is_tag_among tag (key_tags self) }
     {
         match self {
             KeyList::Study => is_among(tag, &STUDY_KEYS),

@@ -2,9 +2,9 @@
 ghost use Rattle.std.specs.Prelude.{◌≡◌, true};
 ghost use Rattle.std.specs.List.{list_any, list_all};
 ghost use Rattle.dq_list.specs.Lengths.{is_empty};
-ghost use Rattle.dq_value.specs.Parts.{parts};
+ghost use Rattle.dq_value.specs.Parts.{element_values};
 ghost use Rattle.dq_value.specs.Trimming.{is_padded, without_trailing};
-ghost use Rattle.dq_match.specs.Values.{matching_of, is_name_pad, name_of, value_meets, is_asterisk, is_universal, some_meet, octets_meet, is_well_formed, are_well_formed};
+ghost use Rattle.dq_match.specs.Values.{matching_of, is_name_pad, compared_name, value_meets, is_asterisk, is_universal, some_meet, octets_meet, is_well_formed_value, are_well_formed};
 ghost use Rattle.dq_match.specs.Several.{AreMetByEquality};
 
 use crate::ranges::{date_bounds, date_meets, time_bounds, time_meets};
@@ -58,7 +58,7 @@ impl Matching {
 
     /// Whether each value of the key is met by equality.
     fn is_by_equality(self, vr: Vr, key: &[u8]) -> bool
-        ensures { result ≡ true → AreMetByEquality self (parts vr key.now) }
+        ensures { result ≡ true → AreMetByEquality self (element_values vr key.now) }
     {
         match self {
             Matching::Equality => true,
@@ -68,7 +68,7 @@ impl Matching {
     }
 
     fn is_well_formed(self, key: &[u8]) -> bool
-        ensures { result ≡ is_well_formed self key.now }
+        ensures { result ≡ is_well_formed_value self key.now }
     {
         match self {
             Matching::Date => date_bounds(key).is_some(),
@@ -114,13 +114,13 @@ fn is_universal(vr: Vr, key: &[u8]) -> bool
 }
 
 pub(crate) fn has_no_values(vr: Vr, octets: &[u8]) -> bool
-    ensures { result ≡ is_empty (parts vr octets.now) }
+    ensures { result ≡ is_empty (element_values vr octets.now) }
 {
     values(vr, octets).next().is_none()
 }
 
 fn is_asterisk(vr: Vr, key: &[u8]) -> bool
-    ensures { result ≡ is_asterisk (parts vr key.now) }
+    ensures { result ≡ is_asterisk (element_values vr key.now) }
 {
     match sole_value(vr, key) {
         Some(value) => value == b"*".as_slice(),
@@ -142,7 +142,7 @@ fn some_value_meets(matching: Matching, key: &[u8], mut held: Parts) -> bool
 
 /// Whether some value of the record meets some value of the key, each compared with each.
 fn some_meets_some(matching: Matching, vr: Vr, key: &[u8], held: &[u8]) -> bool
-    ensures { result ≡ some_meet matching (parts vr key.now) (parts vr held.now) }
+    ensures { result ≡ some_meet matching (element_values vr key.now) (element_values vr held.now) }
 {
     let mut keys = values(vr, key);
     while let Some(value) = keys.next() {
@@ -156,7 +156,7 @@ fn some_meets_some(matching: Matching, vr: Vr, key: &[u8], held: &[u8]) -> bool
 /// Whether some value of the record meets some value of the key. Several values that are met by
 /// equality are looked up among those of the record, where memory suffices to put these in order.
 fn some_meet(alloc: Global, vr: Vr, key: &[u8], held: &[u8]) -> bool
-    ensures { result ≡ some_meet (matching_of vr) (parts vr key.now) (parts vr held.now) }
+    ensures { result ≡ some_meet (matching_of vr) (element_values vr key.now) (element_values vr held.now) }
 {
     let matching = Matching::of(vr);
     if has_several(vr, key) && has_several(vr, held) {
@@ -186,7 +186,7 @@ pub(crate) fn are_well_formed(vr: Vr, key: &[u8]) -> bool
 }
 
 fn all_well_formed(vr: Vr, key: &[u8]) -> bool
-    ensures { result ≡ list_all (is_well_formed (matching_of vr)) (parts vr key.now) }
+    ensures { result ≡ list_all (is_well_formed_value (matching_of vr)) (element_values vr key.now) }
 {
     let matching = Matching::of(vr);
     let mut keys = values(vr, key);

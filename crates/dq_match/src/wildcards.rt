@@ -1,6 +1,6 @@
 //! Wild card matching (PS3.4 section C.2.2.2.4).
 ghost use Rattle.std.specs.Prelude.{◌≡◌, ◌≢◌, ℕ, ◌+◌, ◌<◌, ◌≤◌, false, length, slice_index};
-ghost use Rattle.dq_match.specs.Wildcards.{wild, compared, stands_for, any_run};
+ghost use Rattle.dq_match.specs.Wildcards.{wild, compared_octet, stands_for, any_run};
 ghost use Rattle.dq_match.specs.Scans.{IsScan, IsFirstFit};
 ghost use Rattle.dq_match.specs.Words.{IsWord};
 ghost use Rattle.dq_match.specs.declared.wildcards.Casing.TheVariants.{Exact};
@@ -34,7 +34,7 @@ pub(crate) enum Scan<'a> {
 
 impl Casing {
     pub(crate) fn compared(self, octet: u8) -> u8
-        ensures { result ≡ compared self octet }
+        ensures { result ≡ compared_octet self octet }
     {
         match self {
             Casing::Exact => octet,

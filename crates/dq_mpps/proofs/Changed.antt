@@ -12,19 +12,19 @@ use Rattle.dq_dataset.specs.Tree.{ElementList, no_elements}
 use Rattle.dq_dataset.specs.Facts.{IsDataSet}
 use Rattle.dq_dataset.specs.Reading.{reading}
 use Rattle.dq_dataset.specs.Canonical.{canonical, HasLengths}
-use Rattle.dq_dataset.specs.Editing.{merged}
+use Rattle.dq_dataset.specs.Editing.{merged_data_set}
 use Rattle.dq_dataset.specs.Values.{element_at}
 use Rattle.dq_dimse.specs.Received.{Message}
 use Rattle.dq_dimse.specs.Statuses.{success}
 use Rattle.dq_tables.specs.declared.row.Kind.{Kind}
 use Rattle.dq_tables.specs.declared.row.Kind.TheVariants.{Step}
-use Rattle.dq_tables.specs.Rows.{Record, Place, place_of, Edit, Put, edited}
+use Rattle.dq_tables.specs.Rows.{Record, Place, record_place, Edit, Put, records_after_edits}
 use Rattle.dq_tables.specs.Finding.{record_at}
 use Rattle.dq_tables.specs.Records.{data_set_of}
-use Rattle.dq_tables.specs.Serving.{first_refusal, outcome}
+use Rattle.dq_tables.specs.Serving.{first_refusal, refusal_or}
 use Rattle.dq_mpps.specs.Steps.{step_record}
-use Rattle.dq_mpps.specs.Changing.{kept_data_set, changes_fixed, change_refusals, changed}
-use Rattle.dq_mpps.specs.Changed.{step_at, IsChanged}
+use Rattle.dq_mpps.specs.Changing.{kept_data_set, changes_fixed, change_refusals, set_outcome}
+use Rattle.dq_mpps.specs.Changed.{step_at, IsStepChanged}
 use Rattle.dq_mpps.proofs.Created.{accepted, apart, put_here, put_elsewhere}
 use Rattle.dq_mpps.proofs.Standing.{standing_after, fixed_stay}
 use Rattle.dq_mpps.proofs.StaysSound.{short_step}
@@ -32,14 +32,14 @@ use Rattle.dq_mpps.proofs.StaysSound.{short_step}
 -- ---- what is accepted
 
 cleared_step : (b : Bool) (status : ℕ) (o : Option ℕ) (edits : List Edit) → status ≢ success
-    → (outcome (if b then Some status else o) (success, edits)).0 ≡ success
-    → (b ≡ false) × ((outcome o (success, edits)).0 ≡ success)
+    → (refusal_or (if b then Some status else o) (success, edits)).0 ≡ success
+    → (b ≡ false) × ((refusal_or o (success, edits)).0 ≡ success)
 cleared_step true status o edits failure is = absurd (failure is)
 cleared_step false status o edits failure is = (refl, is)
 
 -- no refusal holds of what is answered by success
 cleared : (refusals : List (Bool × ℕ)) (edits : List Edit) → AllByRecursion (λ (r : Bool × ℕ). r.1 ≢ success) refusals
-    → (outcome (first_refusal refusals) (success, edits)).0 ≡ success → AllByRecursion (λ (r : Bool × ℕ). r.0 ≡ false) refusals
+    → (refusal_or (first_refusal refusals) (success, edits)).0 ≡ success → AllByRecursion (λ (r : Bool × ℕ). r.0 ≡ false) refusals
 cleared [] edits failures is = tt
 cleared (r ∷ refusals) edits failures is =
     let both = cleared_step r.0 r.1 (first_refusal refusals) edits failures.0 is in
@@ -49,12 +49,12 @@ cleared (r ∷ refusals) edits failures is =
 
 module _ (records : List Record) (uid : List ℕ) (sent : ElementList) (are_kept : IsDataSet (step_at uid records)) (are_sent : IsDataSet sent)
     (none : changes_fixed (step_at uid records) sent ≡ false)
-    (back : reading Explicit (canonical Explicit (merged (step_at uid records) sent)) ≡ Ok (merged (step_at uid records) sent)) where
+    (back : reading Explicit (canonical Explicit (merged_data_set (step_at uid records) sent)) ≡ Ok (merged_data_set (step_at uid records) sent)) where
   abbrev step : ElementList
-  step = merged (step_at uid records) sent
+  step = merged_data_set (step_at uid records) sent
 
   abbrev after : List Record
-  after = edited (Put (step_record uid step) ∷ []) records
+  after = records_after_edits (Put (step_record uid step) ∷ []) records
 
   there : record_at Step uid after ≡ Some (step_record uid step)
   there = put_here (step_record uid step) records
@@ -72,9 +72,9 @@ module _ (records : List Record) (uid : List ℕ) (sent : ElementList) (are_kept
   others_after : (kind : Kind) (key : List ℕ) → (kind ≡ Step → key ≢ uid) → record_at kind key after ≡ record_at kind key records
   others_after kind key other =
       let q : Place = record { kind = kind; key = key } in
-      put_elsewhere (step_record uid step) q records (apart q (place_of (step_record uid step)) (λ kinds same. other kinds same))
+      put_elsewhere (step_record uid step) q records (apart q (record_place (step_record uid step)) (λ kinds same. other kinds same))
 
-  is_changed : IsChanged records after uid sent
+  is_changed : IsStepChanged records after uid sent
   is_changed =
       record {
         kept = there ∙ ap (λ (d : ElementList). Some (step_record uid d)) (sym holds);
@@ -102,14 +102,14 @@ module _ (records : List Record) (message : Message) (syntax : Syntax) where
   sent_facts facts (Err fault) read good = cc
 
   pub changed_is : IsDataSet (step_at own records) → ((d : ElementList) → reading syntax message.octets ≡ Ok d → IsDataSet d)
-      → ((sent : ElementList) → IsDataSet sent → let step = merged (step_at own records) sent in HasLengths Explicit step
+      → ((sent : ElementList) → IsDataSet sent → let step = merged_data_set (step_at own records) sent in HasLengths Explicit step
       → reading Explicit (canonical Explicit step) ≡ Ok step)
-      → (changed records message syntax).0 ≡ success
-      → IsChanged records (edited (changed records message syntax).1 records) own (sent_in data_set)
-  unfolding changed
+      → (set_outcome records message syntax).0 ≡ success
+      → IsStepChanged records (records_after_edits (set_outcome records message syntax).1 records) own (sent_in data_set)
+  unfolding set_outcome
   changed_is are_kept facts back is =
       let sent = sent_in data_set in
-      let step = merged (step_at own records) sent in
+      let step = merged_data_set (step_at own records) sent in
       let edits : List Edit = Put (step_record own step) ∷ [] in
       let refusals = change_refusals records message data_set in
       let failures : AllByRecursion (λ (r : Bool × ℕ). r.1 ≢ success) refusals =
@@ -117,5 +117,5 @@ module _ (records : List Record) (message : Message) (syntax : Syntax) where
       let clear = cleared refusals edits failures is in
       let are_sent = sent_facts facts data_set refl clear.1.0 in
       let short = short_step step clear.1.1.1.1.1.1.0 in
-      subst (λ (es : List Edit). IsChanged records (edited es records) own sent) (sym (accepted refusals edits failures is))
+      subst (λ (es : List Edit). IsStepChanged records (records_after_edits es records) own sent) (sym (accepted refusals edits failures is))
       (is_changed records own sent are_kept are_sent clear.1.1.1.1.0 (back sent are_sent short))

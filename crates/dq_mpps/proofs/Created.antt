@@ -18,15 +18,15 @@ use Rattle.dq_dimse.specs.Statuses.{success}
 use Rattle.dq_config.specs.Limits.{Limits}
 use Rattle.dq_tables.specs.declared.row.Kind.{Kind}
 use Rattle.dq_tables.specs.declared.row.Kind.TheVariants.{Entry, Step}
-use Rattle.dq_tables.specs.Rows.{Record, Place, place_of, Edit, Put, Start, as_started, number_of, kind_order, octet_order, place_order, edited, edited_by, left_by, records_before, records_past}
+use Rattle.dq_tables.specs.Rows.{Record, Place, record_place, Edit, Put, Start, as_started, number_of_kind, kind_order, octet_order, place_order, records_after_edits, edited_by, records_after_edit, records_before, records_past}
 use Rattle.dq_tables.specs.Finding.{record_at, same_kind}
-use Rattle.dq_tables.specs.Serving.{first_refusal, outcome}
+use Rattle.dq_tables.specs.Serving.{first_refusal, refusal_or}
 use Rattle.dq_tables.specs.Starting.{names, entries_named}
 use Rattle.dq_tables.proofs.InOrder.{is_eq_then, is_eq_nat}
 use Rattle.dq_tables.proofs.Listing.{one_kind, its_kind}
 use Rattle.dq_tables.proofs.There.{StandsAt, stands_there}
 use Rattle.dq_mpps.specs.Steps.{step_record}
-use Rattle.dq_mpps.specs.Creating.{creation_refusals, creation, created}
+use Rattle.dq_mpps.specs.Creating.{creation_refusals, creation, create_outcome}
 use Rattle.dq_mpps.specs.Created.{started_by, IsCreated}
 use Rattle.dq_mpps.proofs.Named.{is_named}
 
@@ -38,13 +38,13 @@ stands_at p r = same_kind r.kind p.kind && bytes_eq r.key p.key
 abbrev at : Place → List Record → Option Record
 at p records = find (stands_at p) records
 
-stands_in_order : (p : Place) (r : Record) → stands_at p r ≡ is_eq (place_order (place_of r) p)
+stands_in_order : (p : Place) (r : Record) → stands_at p r ≡ is_eq (place_order (record_place r) p)
 stands_in_order p r =
     sym (is_eq_then (kind_order r.kind p.kind) (octet_order r.key p.key)
     ∙ ap (λ (b : Bool). is_eq (kind_order r.kind p.kind) && b) (is_eq-slice_cmp r.key p.key)
-    ∙ ap (λ (b : Bool). b && bytes_eq r.key p.key) (is_eq_nat (number_of r.kind) (number_of p.kind)))
+    ∙ ap (λ (b : Bool). b && bytes_eq r.key p.key) (is_eq_nat (number_of_kind r.kind) (number_of_kind p.kind)))
 
-its_place : (p : Place) (r : Record) → stands_at p r ≡ true → place_of r ≡ p
+its_place : (p : Place) (r : Record) → stands_at p r ≡ true → record_place r ≡ p
 its_place p r e =
     let parts = and_parts (same_kind r.kind p.kind) (bytes_eq r.key p.key) e in
     let kinds = one_kind r.kind p.kind parts.0 in
@@ -72,16 +72,16 @@ none_past t (x ∷ xs) ys none = past_step t x xs ys (t x) (none_past t xs ys no
 -- records on one side of a place, of which those at another all are, or none
 module _ (p q : Place) (side : Ordering → Bool) (records : List Record) where
   abbrev beside : List Record
-  beside = filter (λ (r : Record). side (place_order (place_of r) p)) records
+  beside = filter (λ (r : Record). side (place_order (record_place r) p)) records
 
   all_beside : side (place_order q p) ≡ true → at q beside ≡ at q records
   all_beside is =
-      found_filtered (stands_at q) (λ (r : Record). side (place_order (place_of r) p))
+      found_filtered (stands_at q) (λ (r : Record). side (place_order (record_place r) p))
       (λ r e. ap (λ (o : Place). side (place_order o p)) (its_place q r e) ∙ is) records
 
   none_beside : side (place_order q p) ≡ false → at q beside ≡ None
   none_beside is =
-      none_filtered (stands_at q) (λ (r : Record). side (place_order (place_of r) p))
+      none_filtered (stands_at q) (λ (r : Record). side (place_order (record_place r) p))
       (λ r e. ap (λ (o : Place). side (place_order o p)) (its_place q r e) ∙ is) records
 
 -- what an edit leaves at a place, the records before it and those past it
@@ -92,7 +92,7 @@ itself : (p : Place) → is_eq (place_order p p) ≡ true
 itself p =
     is_eq_then (kind_order p.kind p.kind) (octet_order p.key p.key)
     ∙ ap (λ (b : Bool). is_eq (kind_order p.kind p.kind) && b) (is_eq-slice_cmp p.key p.key ∙ (bytes_eq-Decides p.key p.key).1 refl)
-    ∙ ap (λ (b : Bool). b && true) (is_eq_nat (number_of p.kind) (number_of p.kind) ∙ its_kind p.kind p.kind refl)
+    ∙ ap (λ (b : Bool). b && true) (is_eq_nat (number_of_kind p.kind) (number_of_kind p.kind) ∙ its_kind p.kind p.kind refl)
 
 equal_from : (o : Ordering) → is_eq o ≡ true → o ≡ Equal
 equal_from Less e = absurd cc
@@ -122,10 +122,10 @@ found_elsewhere : (p q : Place) (left records : List Record) → is_eq (place_or
     → at q (around p left records) ≡ at q records
 found_elsewhere p q left records other none = found_by p q left records (place_order q p) refl other none
 
-none_alone : (q : Place) (r : Record) → is_eq (place_order (place_of r) q) ≡ false → at q (r ∷ []) ≡ None
+none_alone : (q : Place) (r : Record) → is_eq (place_order (record_place r) q) ≡ false → at q (r ∷ []) ≡ None
 none_alone q r other = rw (stands_in_order q r, other) refl
 
-alone : (p : Place) (r : Record) → place_of r ≡ p → at p (r ∷ []) ≡ Some r
+alone : (p : Place) (r : Record) → record_place r ≡ p → at p (r ∷ []) ≡ Some r
 alone p r is =
     let here : stands_at p r ≡ true = stands_in_order p r ∙ ap (λ (o : Place). is_eq (place_order o p)) is ∙ itself p in
     rw here refl
@@ -134,7 +134,7 @@ alone p r is =
 
 pub put_here : (r : Record) (records : List Record) → record_at r.kind r.key (edited_by (Put r) records) ≡ Some r
 unfolding record_at edited_by
-put_here r records = found_here (place_of r) (r ∷ []) records ∙ alone (place_of r) r refl
+put_here r records = found_here (record_place r) (r ∷ []) records ∙ alone (record_place r) r refl
 
 apart_back : (a b : Place) → is_eq (place_order a b) ≡ false → is_eq (place_order b a) ≡ false
 apart_back a b e = by (is_eq (place_order b a)) refl
@@ -146,11 +146,11 @@ apart_back a b e = by (is_eq (place_order b a)) refl
         let same : b ≡ a = its_place a r (stands_in_order a r ∙ is) in
         absurd (cc (sym e ∙ ap (λ (o : Place). is_eq (place_order a o)) same ∙ itself a))
 
-pub put_elsewhere : (r : Record) (q : Place) (records : List Record) → is_eq (place_order q (place_of r)) ≡ false
+pub put_elsewhere : (r : Record) (q : Place) (records : List Record) → is_eq (place_order q (record_place r)) ≡ false
     → record_at q.kind q.key (edited_by (Put r) records) ≡ record_at q.kind q.key records
 unfolding record_at edited_by
 put_elsewhere r q records other =
-    found_elsewhere (place_of r) q (r ∷ []) records other (none_alone q r (apart_back q (place_of r) other))
+    found_elsewhere (record_place r) q (r ∷ []) records other (none_alone q r (apart_back q (record_place r) other))
 
 -- ---- entries that are started
 
@@ -158,12 +158,12 @@ abbrev entry_at : List ℕ → Place
 entry_at id = record { kind = Entry; key = id }
 
 left_here : (id : List ℕ) (o : Option Record) → StandsAt (entry_at id) o → (records : List Record) → record_at Entry id records ≡ o
-    → at (entry_at id) (left_by (Start id) records) ≡ option_map as_started o
+    → at (entry_at id) (records_after_edit (Start id) records) ≡ option_map as_started o
 left_here id None stands records is = rw is refl
 left_here id (Some r) stands records is = rw is (alone (entry_at id) (as_started r) stands)
 
 left_elsewhere : (id : List ℕ) (q : Place) → is_eq (place_order q (entry_at id)) ≡ false → (o : Option Record) → StandsAt (entry_at id) o
-    → (records : List Record) → record_at Entry id records ≡ o → at q (left_by (Start id) records) ≡ None
+    → (records : List Record) → record_at Entry id records ≡ o → at q (records_after_edit (Start id) records) ≡ None
 left_elsewhere id q other None stands records is = rw is refl
 left_elsewhere id q other (Some r) stands records is =
     rw is (none_alone q (as_started r) (ap (λ (o : Place). is_eq (place_order o q)) stands ∙ apart_back q (entry_at id) other))
@@ -175,7 +175,7 @@ found_at p records = refl
 start_here : (id : List ℕ) (records : List Record) → record_at Entry id (edited_by (Start id) records) ≡ option_map as_started (record_at Entry id records)
 unfolding edited_by
 start_here id records =
-    found_at (entry_at id) (edited_by (Start id) records) ∙ found_here (entry_at id) (left_by (Start id) records) records
+    found_at (entry_at id) (edited_by (Start id) records) ∙ found_here (entry_at id) (records_after_edit (Start id) records) records
     ∙ left_here id (record_at Entry id records) (stands_there (entry_at id) records) records refl
 
 start_elsewhere : (id : List ℕ) (q : Place) (records : List Record) → is_eq (place_order q (entry_at id)) ≡ false
@@ -183,7 +183,7 @@ start_elsewhere : (id : List ℕ) (q : Place) (records : List Record) → is_eq 
 unfolding edited_by
 start_elsewhere id q records other =
     found_at q (edited_by (Start id) records)
-    ∙ found_elsewhere (entry_at id) q (left_by (Start id) records) records other
+    ∙ found_elsewhere (entry_at id) q (records_after_edit (Start id) records) records other
     (left_elsewhere id q other (record_at Entry id records) (stands_there (entry_at id) records) records refl) ∙ sym (found_at q records)
 
 abbrev started_if : Bool → Record → Record
@@ -207,9 +207,9 @@ once_more b (Some r) = (let e = or_true r.started in λ i. Some (record r { star
 
 module _ (id : List ℕ) where
   start_step : (key : List ℕ) (keys : List (List ℕ)) (records : List Record) (b : Bool) → bytes_eq id key ≡ b
-      → record_at Entry id (edited (map Start keys) (edited_by (Start key) records))
+      → record_at Entry id (records_after_edits (map Start keys) (edited_by (Start key) records))
       ≡ option_map (started_if (list_any (bytes_eq id) keys)) (record_at Entry id (edited_by (Start key) records))
-      → record_at Entry id (edited (map Start keys) (edited_by (Start key) records))
+      → record_at Entry id (records_after_edits (map Start keys) (edited_by (Start key) records))
       ≡ option_map (started_if (b || list_any (bytes_eq id) keys)) (record_at Entry id records)
   start_step key keys records true is rest =
       let same : id ≡ key = (bytes_eq-Decides id key).0 is in
@@ -222,13 +222,13 @@ module _ (id : List ℕ) where
       rest ∙ ap (option_map (started_if (list_any (bytes_eq id) keys))) (start_elsewhere key (entry_at id) records apart)
 
   starts_here : (keys : List (List ℕ)) (records : List Record)
-      → record_at Entry id (edited (map Start keys) records) ≡ option_map (started_if (list_any (bytes_eq id) keys)) (record_at Entry id records)
+      → record_at Entry id (records_after_edits (map Start keys) records) ≡ option_map (started_if (list_any (bytes_eq id) keys)) (record_at Entry id records)
   starts_here [] records = if_none (record_at Entry id records)
   starts_here (key ∷ keys) records =
       start_step key keys records (bytes_eq id key) refl (starts_here keys (edited_by (Start key) records))
 
 starts_elsewhere : (keys : List (List ℕ)) (q : Place) (records : List Record) → ((key : List ℕ) → is_eq (place_order q (entry_at key)) ≡ false)
-    → record_at q.kind q.key (edited (map Start keys) records) ≡ record_at q.kind q.key records
+    → record_at q.kind q.key (records_after_edits (map Start keys) records) ≡ record_at q.kind q.key records
 starts_elsewhere [] q records other = refl
 starts_elsewhere (key ∷ keys) q records other =
     starts_elsewhere keys q (edited_by (Start key) records) other ∙ start_elsewhere key q records (other key)
@@ -257,7 +257,7 @@ started_is d id (Some r) stands =
 
 module _ (records : List Record) (uid : List ℕ) (d : ElementList) where
   abbrev after : List Record
-  after = edited (creation records uid d) records
+  after = records_after_edits (creation records uid d) records
 
   abbrev with_step : List Record
   with_step = edited_by (Put (step_record uid d)) records
@@ -265,8 +265,8 @@ module _ (records : List Record) (uid : List ℕ) (d : ElementList) where
   abbrev keys : List (List ℕ)
   keys = entries_named records d
 
-  entry_apart : (id : List ℕ) → is_eq (place_order (entry_at id) (place_of (step_record uid d))) ≡ false
-  entry_apart id = apart (entry_at id) (place_of (step_record uid d)) (λ kinds. absurd cc)
+  entry_apart : (id : List ℕ) → is_eq (place_order (entry_at id) (record_place (step_record uid d))) ≡ false
+  entry_apart id = apart (entry_at id) (record_place (step_record uid d)) (λ kinds. absurd cc)
 
   entries_after : (id : List ℕ) → record_at Entry id after ≡ option_map (started_by d) (record_at Entry id records)
   entries_after id =
@@ -279,11 +279,11 @@ module _ (records : List Record) (uid : List ℕ) (d : ElementList) where
   others_after kind key no_entry other =
       let q : Place = record { kind = kind; key = key } in
       starts_elsewhere keys q with_step (λ id. apart q (entry_at id) (λ kinds same. no_entry kinds))
-      ∙ put_elsewhere (step_record uid d) q records (apart q (place_of (step_record uid d)) (λ kinds same. other kinds same))
+      ∙ put_elsewhere (step_record uid d) q records (apart q (record_place (step_record uid d)) (λ kinds same. other kinds same))
 
   step_after : record_at Step uid after ≡ Some (step_record uid d)
   step_after =
-      let q : Place = place_of (step_record uid d) in
+      let q : Place = record_place (step_record uid d) in
       starts_elsewhere keys q with_step (λ id. apart q (entry_at id) (λ kinds same. absurd cc)) ∙ put_here (step_record uid d) records
 
   pub is_created : IsCreated records after uid d
@@ -292,22 +292,22 @@ module _ (records : List Record) (uid : List ℕ) (d : ElementList) where
 -- ---- an N-CREATE that is accepted
 
 accepted_step : (b : Bool) (status : ℕ) (o : Option ℕ) (edits : List Edit) → status ≢ success
-    → (outcome (if b then Some status else o) (success, edits)).0 ≡ success
-    → ((outcome o (success, edits)).0 ≡ success → (outcome o (success, edits)).1 ≡ edits)
-    → (outcome (if b then Some status else o) (success, edits)).1 ≡ edits
+    → (refusal_or (if b then Some status else o) (success, edits)).0 ≡ success
+    → ((refusal_or o (success, edits)).0 ≡ success → (refusal_or o (success, edits)).1 ≡ edits)
+    → (refusal_or (if b then Some status else o) (success, edits)).1 ≡ edits
 accepted_step true status o edits failure is rest = absurd (failure is)
 accepted_step false status o edits failure is rest = rest is
 
 pub accepted : (refusals : List (Bool × ℕ)) (edits : List Edit) → AllByRecursion (λ (r : Bool × ℕ). r.1 ≢ success) refusals
-    → (outcome (first_refusal refusals) (success, edits)).0 ≡ success → (outcome (first_refusal refusals) (success, edits)).1 ≡ edits
+    → (refusal_or (first_refusal refusals) (success, edits)).0 ≡ success → (refusal_or (first_refusal refusals) (success, edits)).1 ≡ edits
 accepted [] edits failures is = refl
 accepted (r ∷ refusals) edits failures is =
     accepted_step r.0 r.1 (first_refusal refusals) edits failures.0 is (accepted refusals edits failures.1)
 
-pub created_is : (limits : Limits) (records : List Record) (message : Message) (syntax : Syntax) → (created limits records message syntax).0 ≡ success
-    → IsCreated records (edited (created limits records message syntax).1 records) message.command.sop_instance
+pub created_is : (limits : Limits) (records : List Record) (message : Message) (syntax : Syntax) → (create_outcome limits records message syntax).0 ≡ success
+    → IsCreated records (records_after_edits (create_outcome limits records message syntax).1 records) message.command.sop_instance
     (result_unwrap_or (reading syntax message.octets) no_elements)
-unfolding created
+unfolding create_outcome
 created_is limits records message syntax is =
     let data_set = reading syntax message.octets in
     let d = result_unwrap_or data_set no_elements in
@@ -315,4 +315,4 @@ created_is limits records message syntax is =
     let edits = creation records uid d in
     let made = accepted (creation_refusals limits records message data_set) edits
     ((λ e. cc), ((λ e. cc), ((λ e. cc), ((λ e. cc), ((λ e. cc), ((λ e. cc), ((λ e. cc), ((λ e. cc), tt)))))))) is in
-    subst (λ (es : List Edit). IsCreated records (edited es records) uid d) (sym made) (is_created records uid d)
+    subst (λ (es : List Edit). IsCreated records (records_after_edits es records) uid d) (sym made) (is_created records uid d)

@@ -15,8 +15,8 @@ use Rattle.dq_tables.specs.declared.row.Kind.{Kind}
 use Rattle.dq_tables.specs.declared.row.Kind.TheVariants.{Entry, Step}
 use Rattle.dq_tables.specs.declared.row.Row.{Row}
 use Rattle.dq_tables.specs.Rows.{of, row_of}
-use Rattle.dq_tables.specs.Finding.{same_kind, is_of, row_at, record_at}
-use Rattle.dq_tables.specs.Sound.{is_record_of, may_be_started, is_own, OwnEach, is_held, has_key, has_above, is_within, IsNew, FitsStep, IsChanged}
+use Rattle.dq_tables.specs.Finding.{same_kind, is_of_kind, row_at, record_at}
+use Rattle.dq_tables.specs.Sound.{is_record_of, may_be_started, is_own_row, OwnEach, is_held, has_key, has_above, is_within_limits, IsNew, FitsStep, MayReplace}
 use Rattle.dq_tables.specs.Starting.{entries_named}
 use Rattle.dq_tables.proofs.Seen.{found_own}
 use Rattle.dq_tables.proofs.Listing.{one_kind}
@@ -28,8 +28,8 @@ same_bytes o = (bytes_eq-Decides o o).1 refl
 
 -- the record of a step is its own
 pub own_step : (h uid : List ℕ) (d : ElementList) → reading Explicit (canonical Explicit d) ≡ Ok d → is_uid uid ≡ true
-    → is_own (row_of h (step_record uid d)) ≡ true
-unfolding is_own has_key has_above is_within
+    → is_own_row (row_of h (step_record uid d)) ≡ true
+unfolding is_own_row has_key has_above is_within_limits
 own_step h uid d back uid_is = rw (back, same_bytes (canonical Explicit d), uid_is) refl
 
 pub new_fits : (h uid : List ℕ) (d : ElementList) (rows : List Row) → reading Explicit (canonical Explicit d) ≡ Ok d → is_uid uid ≡ true
@@ -66,13 +66,13 @@ uid_of_record : (r : Result ElementList ReadFault) (row : Row) → row.kind ≡ 
 unfolding has_key
 uid_of_record (Err fault) row kind own = cc
 uid_of_record (Ok d) row kind own =
-    let above = has_above row.kind row.above d && is_within row.kind row.octets in
+    let above = has_above row.kind row.above d && is_within_limits row.kind row.octets in
     let keys = (and_parts (bytes_eq (canonical Explicit d) row.octets) (has_key row.kind row.key d && above) own).1 in
     let has_its_key = (and_parts (has_key row.kind row.key d) above keys).0 in
     subst (λ (k : Kind). has_key k row.key d ≡ true) kind has_its_key
 
-uid_of_row : (row : Row) → row.kind ≡ Step → is_own row ≡ true → is_uid row.key ≡ true
-unfolding is_own
+uid_of_row : (row : Row) → row.kind ≡ Step → is_own_row row ≡ true → is_uid row.key ≡ true
+unfolding is_own_row
 uid_of_row row kind own =
     uid_of_record (reading Explicit row.octets) row kind
     (and_parts (may_be_started row.kind row.started) (is_record_of (reading Explicit row.octets) row) own).1
@@ -80,19 +80,19 @@ uid_of_row row kind own =
 kept_uid : (h uid : List ℕ) (rows : List Row) (row : Row) → OwnEach rows → row_at Step h uid rows ≡ Some row → is_uid uid ≡ true
 unfolding row_at
 kept_uid h uid rows row own found =
-    let both = found_among (λ (r : Row). is_own r ≡ true) (λ (r : Row). is_of Step h r && bytes_eq r.key uid) row rows own found in
-    let tests = and_parts (is_of Step h row) (bytes_eq row.key uid) both.1 in
+    let both = found_among (λ (r : Row). is_own_row r ≡ true) (λ (r : Row). is_of_kind Step h r && bytes_eq r.key uid) row rows own found in
+    let tests = and_parts (is_of_kind Step h row) (bytes_eq row.key uid) both.1 in
     let kind = one_kind row.kind Step (and_parts (same_kind row.kind Step) (bytes_eq row.inst h) tests.0).0 in
     subst (λ (key : List ℕ). is_uid key ≡ true) ((bytes_eq-Decides row.key uid).0 tests.1) (uid_of_row row kind both.0)
 
 -- a changed step takes the place of the one that is kept
 pub changed_fits : (h uid : List ℕ) (d : ElementList) (octets : List ℕ) (rows : List Row) (row : Row) → OwnEach rows → Some row ≡ row_at Step h uid rows
-    → octets ≡ canonical Explicit d → reading Explicit octets ≡ Ok d → IsChanged rows Step (row_of h (spelled_step uid octets))
+    → octets ≡ canonical Explicit d → reading Explicit octets ≡ Ok d → MayReplace rows Step (row_of h (spelled_step uid octets))
 changed_fits h uid d octets rows row own found spelled back =
     let back_again = subst (λ (o : List ℕ). reading Explicit o ≡ Ok d) spelled back in
     record {
       kind_is = refl;
       there = ap is_some (sym found);
-      own = subst (λ (o : List ℕ). is_own (row_of h (spelled_step uid o)) ≡ true) (sym spelled)
+      own = subst (λ (o : List ℕ). is_own_row (row_of h (spelled_step uid o)) ≡ true) (sym spelled)
           (own_step h uid d back_again (kept_uid h uid rows row own (sym found)));
     }

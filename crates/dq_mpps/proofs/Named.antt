@@ -12,6 +12,7 @@ use Rattle.std.proofs.lemmas.Bool.{and_parts}
 use Rattle.std.proofs.lemmas.Cmp.{nat_list_cmp_total}
 use Rattle.std.proofs.lemmas.Map.Text.{is_eq-slice_cmp}
 use Rattle.std.proofs.lemmas.Slice.Eq.{bytes_eq-Decides}
+use Rattle.dq_list.specs.Octets.{octets_of_vectors}
 use Rattle.dq_list.specs.Among.{IsAmong}
 use Rattle.dq_list.proofs.Among.{among_filter, filtered_from}
 use Rattle.dq_dataset.specs.Tree.{ElementList}
@@ -19,17 +20,13 @@ use Rattle.dq_tables.specs.declared.row.Kind.TheVariants.{Entry}
 use Rattle.dq_tables.specs.declared.row.Row.{Row}
 use Rattle.dq_tables.specs.Rows.{Record, octet_order, IsRising, of}
 use Rattle.dq_tables.specs.Finding.{same_kind, record_at, row_at, records_of}
-use Rattle.dq_tables.specs.Keeping.{State, Reads}
 use Rattle.dq_tables.specs.Records.{AreInOrder}
 use Rattle.dq_tables.specs.Starting.{names, entries_named}
-use Rattle.dq_tables.proofs.Calling.{reads_then, reads_right}
 use Rattle.dq_tables.proofs.Listing.{listed_in_order, in_order_filter}
 use Rattle.dq_tables.proofs.Order.{each_filtered}
 use Rattle.dq_tables.proofs.Rising.{Rises, only_one}
-use Rattle.dq_archive.specs.declared.archive.Archive.{Archive}
-use Rattle.dq_archive.specs.Archives.{IsSame, state_in, records_in, Looks}
-use Rattle.dq_archive.proofs.Looking.{there_own, same_then}
-use Rattle.dq_mpps.specs.Views.{octets_of, AreNamed, ids_kept}
+use Rattle.dq_archive.proofs.Looking.{there_own}
+use Rattle.dq_mpps.specs.Views.{AreNamed, ids_kept}
 
 -- ---- a set of ids
 
@@ -37,11 +34,11 @@ abbrev vec_order : Vec ℕ → Vec ℕ → Ordering
 vec_order a b = octet_order a.items b.items
 
 sorted_past : (v : Vec ℕ) (vs : List (Vec ℕ)) → AllByRecursion (λ (w : Vec ℕ). vec_order v w ≡ Less) vs
-    → AllByRecursion (λ (id : List ℕ). octet_order v.items id ≡ Less) (octets_of vs)
+    → AllByRecursion (λ (id : List ℕ). octet_order v.items id ≡ Less) (octets_of_vectors vs)
 sorted_past v [] all = tt
 sorted_past v (w ∷ vs) all = (all.0, sorted_past v vs all.1)
 
-sorted_octets : (vs : List (Vec ℕ)) → IsStrictlySortedBy vec_order vs → IsStrictlySortedBy octet_order (octets_of vs)
+sorted_octets : (vs : List (Vec ℕ)) → IsStrictlySortedBy vec_order vs → IsStrictlySortedBy octet_order (octets_of_vectors vs)
 unfolding IsStrictlySortedBy
 sorted_octets [] sorted = tt
 sorted_octets (v ∷ vs) sorted = (sorted_past v vs sorted.0, sorted_octets vs sorted.1)
@@ -62,17 +59,17 @@ again true b = refl
 again false b = refl
 
 put_by : (o : Ordering) (id : List ℕ) (new first : Vec ℕ) (others put : List (Vec ℕ)) → vec_order new first ≡ o
-    → is_in id (octets_of put) ≡ (bytes_eq id new.items || is_in id (octets_of others))
-    → is_in id (octets_of (match_ordering o (new ∷ (first ∷ others)) (first ∷ others) (first ∷ put)))
-    ≡ (bytes_eq id new.items || (bytes_eq id first.items || is_in id (octets_of others)))
+    → is_in id (octets_of_vectors put) ≡ (bytes_eq id new.items || is_in id (octets_of_vectors others))
+    → is_in id (octets_of_vectors (match_ordering o (new ∷ (first ∷ others)) (first ∷ others) (first ∷ put)))
+    ≡ (bytes_eq id new.items || (bytes_eq id first.items || is_in id (octets_of_vectors others)))
 put_by Less id new first others put is rest = refl
 put_by Equal id new first others put is rest =
-    again (bytes_eq id first.items) (is_in id (octets_of others))
-    ∙ ap (λ (o : List ℕ). bytes_eq id o || (bytes_eq id first.items || is_in id (octets_of others))) (sym (same_items new.items first.items is))
+    again (bytes_eq id first.items) (is_in id (octets_of_vectors others))
+    ∙ ap (λ (o : List ℕ). bytes_eq id o || (bytes_eq id first.items || is_in id (octets_of_vectors others))) (sym (same_items new.items first.items is))
 put_by Greater id new first others put is rest =
-    or_same (bytes_eq id first.items) (bytes_eq id new.items) (is_in id (octets_of others)) (is_in id (octets_of put)) rest
+    or_same (bytes_eq id first.items) (bytes_eq id new.items) (is_in id (octets_of_vectors others)) (is_in id (octets_of_vectors put)) rest
 
-put_in : (id : List ℕ) (new : Vec ℕ) (set : List (Vec ℕ)) → is_in id (octets_of (insert_key vec_order set new)) ≡ (bytes_eq id new.items || is_in id (octets_of set))
+put_in : (id : List ℕ) (new : Vec ℕ) (set : List (Vec ℕ)) → is_in id (octets_of_vectors (insert_key vec_order set new)) ≡ (bytes_eq id new.items || is_in id (octets_of_vectors set))
 put_in id new [] = refl
 put_in id new (first ∷ others) =
     put_by (vec_order new first) id new first others (insert_key vec_order others new) refl (put_in id new others)
@@ -80,7 +77,7 @@ put_in id new (first ∷ others) =
 -- what is in the set or still to come
 pub record SoFar (set : List (Vec ℕ)) (left named : List (List ℕ)) : Type 0 where
   pub in_order : IsStrictlySortedBy vec_order set
-  pub same : (id : List ℕ) → (is_in id (octets_of set) || is_in id left) ≡ is_in id named
+  pub same : (id : List ℕ) → (is_in id (octets_of_vectors set) || is_in id left) ≡ is_in id named
 
 regroup : (a b c : Bool) → ((a || b) || c) ≡ (b || (a || c))
 regroup true true c = refl
@@ -93,10 +90,10 @@ pub one_more : (before after : List (Vec ℕ)) (new : Vec ℕ) (first : List ℕ
 one_more before after new first left others named put sorted is next so_far = record {
   in_order = sorted;
   same = λ id.
-      (λ i. (ap (λ (vs : List (Vec ℕ)). is_in id (octets_of vs)) put ∙ put_in id new before) i || is_in id others)
-      ∙ regroup (bytes_eq id new.items) (is_in id (octets_of before)) (is_in id others)
-      ∙ (λ i. is_in id (octets_of before) || (bytes_eq id (is i) || is_in id others))
-      ∙ ap (λ (ids : List (List ℕ)). is_in id (octets_of before) || is_in id ids) (sym next) ∙ so_far.same id;
+      (λ i. (ap (λ (vs : List (Vec ℕ)). is_in id (octets_of_vectors vs)) put ∙ put_in id new before) i || is_in id others)
+      ∙ regroup (bytes_eq id new.items) (is_in id (octets_of_vectors before)) (is_in id others)
+      ∙ (λ i. is_in id (octets_of_vectors before) || (bytes_eq id (is i) || is_in id others))
+      ∙ ap (λ (ids : List (List ℕ)). is_in id (octets_of_vectors before) || is_in id ids) (sym next) ∙ so_far.same id;
 }
 
 or_none : (b : Bool) → b ≡ (b || false)
@@ -104,10 +101,10 @@ or_none true = refl
 or_none false = refl
 
 pub all_in : (step : ElementList) (set : List (Vec ℕ)) (left named : List (List ℕ)) → left ≡ [] → ((id : List ℕ) → is_in id named ≡ names step id)
-    → SoFar set left named → AreNamed step (octets_of set)
+    → SoFar set left named → AreNamed step (octets_of_vectors set)
 all_in step set left named none those so_far = record {
   in_order = sorted_octets set so_far.in_order;
-  same = λ id. or_none (is_in id (octets_of set)) ∙ ap (λ (ids : List (List ℕ)). is_in id (octets_of set) || is_in id ids) (sym none)
+  same = λ id. or_none (is_in id (octets_of_vectors set)) ∙ ap (λ (ids : List (List ℕ)). is_in id (octets_of_vectors set) || is_in id ids) (sym none)
       ∙ so_far.same id ∙ those id;
 }
 
@@ -244,33 +241,22 @@ kept_is_named name rows step ids rising named =
 -- ---- looking them up
 
 -- the keys that were found so far, and those of the ids that are left
-pub record KeptSoFar {T : Type 0} (state : T → State) (old new : Archive T) (keys left whole : List (List ℕ)) : Type 0 where
-  pub same : IsSame old new
-  pub reads : Reads (state_in state old) (state_in state new) (Ok keys)
-  pub so_far : (state_in state new).honest → keys ++ ids_kept (records_in state old) left ≡ ids_kept (records_in state old) whole
+abbrev pub KeptSoFar : List (List ℕ) → List (List ℕ) → List (List ℕ) → List Record → Type 0
+KeptSoFar keys left whole records = keys ++ ids_kept records left ≡ ids_kept records whole
 
 moved_on : (keys others : List (List ℕ)) (id : List ℕ) (b : Bool)
     → (keys ++ (if b then id ∷ [] else [])) ++ others ≡ keys ++ (if b then id ∷ others else others)
 moved_on keys others id true = append_assoc keys (id ∷ []) others
 moved_on keys others id false = ap (λ (ks : List (List ℕ)). ks ++ others) (append-nil keys)
 
-pub looked_up : {T : Type 0} (state : T → State) (old mid new : Archive T) (keys keys' : List (List ℕ)) (before after : List (Vec ℕ)) (id : Vec ℕ) (octets : List ℕ)
-    (whole : List (List ℕ)) (b : Bool) → KeptSoFar state old mid keys (octets_of before) whole → before ≡ id ∷ after → octets ≡ id.items
-    → Looks state mid new (λ records. is_some (record_at Entry octets records)) (Ok b)
-    → keys' ≡ keys ++ (if b then id.items ∷ [] else []) → KeptSoFar state old new keys' (octets_of after) whole
-looked_up state old mid new keys keys' before after id octets whole b so_far next same has put = record {
-  same = same_then old mid new so_far.same has.same;
-  reads = reads_right (state_in state old) (state_in state new) b keys'
-      (reads_then (state_in state old) (state_in state mid) (state_in state new) keys (Ok b) so_far.reads has.reads);
-  so_far = λ h.
-      (let was = has.reads.goes.was_honest h in
-      let records = records_in state old in
-      let stay : records_in state mid ≡ records = λ i. of (so_far.same.institution i).now.name (so_far.reads.same was i) in
-      let kept : is_some (record_at Entry id.items records) ≡ b = (λ i. is_some (record_at Entry (sym same i) (sym stay i))) ∙ sym (has.answered h) in
-      ap (λ (ks : List (List ℕ)). ks ++ ids_kept records (octets_of after)) put ∙ moved_on keys (ids_kept records (octets_of after)) id.items b
-      ∙ ap (λ (c : Bool). keys ++ (if c then id.items ∷ ids_kept records (octets_of after) else ids_kept records (octets_of after))) (sym kept)
-      ∙ ap (λ (vs : List (Vec ℕ)). keys ++ ids_kept records (octets_of vs)) (sym next) ∙ so_far.so_far was);
-}
+pub looked_up : (keys keys' : List (List ℕ)) (before after : List (Vec ℕ)) (id : Vec ℕ) (octets : List ℕ) (whole : List (List ℕ)) (b : Bool)
+    → before ≡ id ∷ after → octets ≡ id.items → keys' ≡ keys ++ (if b then id.items ∷ [] else []) → (records : List Record)
+    → KeptSoFar keys (octets_of_vectors before) whole records → b ≡ is_some (record_at Entry octets records) → KeptSoFar keys' (octets_of_vectors after) whole records
+looked_up keys keys' before after id octets whole b next same put records so_far found =
+    let kept : is_some (record_at Entry id.items records) ≡ b = ap (λ (k : List ℕ). is_some (record_at Entry k records)) (sym same) ∙ sym found in
+    ap (λ (ks : List (List ℕ)). ks ++ ids_kept records (octets_of_vectors after)) put ∙ moved_on keys (ids_kept records (octets_of_vectors after)) id.items b
+    ∙ ap (λ (c : Bool). keys ++ (if c then id.items ∷ ids_kept records (octets_of_vectors after) else ids_kept records (octets_of_vectors after))) (sym kept)
+    ∙ ap (λ (vs : List (Vec ℕ)). keys ++ ids_kept records (octets_of_vectors vs)) (sym next) ∙ so_far
 
 all_of : {X : Type 0} (P : X → Type 0) (xs : List X) → ((x : X) → IsAmong x xs → P x) → AllByRecursion P xs
 all_of P [] each = tt

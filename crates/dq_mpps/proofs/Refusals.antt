@@ -6,65 +6,65 @@ use Rattle.dq_dimse.specs.Receiving.{is_over}
 use Rattle.dq_value.specs.Uid.{is_uid}
 use Rattle.dq_dataset.specs.declared.header.Syntax.{Syntax}
 use Rattle.dq_dataset.specs.Reading.{reading}
-use Rattle.dq_dataset.specs.Editing.{merged}
+use Rattle.dq_dataset.specs.Editing.{merged_data_set}
 use Rattle.dq_dimse.specs.Received.{Message}
 use Rattle.dq_dimse.specs.Statuses.{success, processing_failure, invalid_sop_instance, duplicate_sop_instance, no_such_sop_instance, invalid_attribute_value, resource_limitation}
 use Rattle.dq_config.specs.Limits.{Limits}
 use Rattle.dq_tables.specs.declared.row.Kind.TheVariants.{Step}
 use Rattle.dq_tables.specs.Rows.{Record, Edit, Put}
 use Rattle.dq_tables.specs.Finding.{record_at, records_of}
-use Rattle.dq_tables.specs.Serving.{first_refusal, outcome}
+use Rattle.dq_tables.specs.Serving.{first_refusal, refusal_or}
 use Rattle.dq_tables.proofs.Refusing.{stopped}
 use Rattle.dq_dimse.specs.Limits.{other_limit}
 use Rattle.dq_mpps.specs.Steps.{step_record}
-use Rattle.dq_mpps.specs.Creating.{creation_refusals, creation, created}
+use Rattle.dq_mpps.specs.Creating.{creation_refusals, creation, create_outcome}
 use Rattle.dq_mpps.specs.Creating as creating
-use Rattle.dq_mpps.specs.Changing.{kept_data_set, is_ended, changes_fixed, sends_unknown_status, is_too_long, change_refusals, changed}
+use Rattle.dq_mpps.specs.Changing.{kept_data_set, is_ended, changes_fixed, sends_unknown_status, is_too_long, change_refusals, set_outcome}
 
-refusal_edits_nothing : (refusal : Option ℕ) (edits : List Edit) → (outcome refusal (success, edits)).0 ≢ success
-    → (outcome refusal (success, edits)).1 ≡ []
+refusal_edits_nothing : (refusal : Option ℕ) (edits : List Edit) → (refusal_or refusal (success, edits)).0 ≢ success
+    → (refusal_or refusal (success, edits)).1 ≡ []
 refusal_edits_nothing None edits h = absurd (h refl)
 refusal_edits_nothing (Some status) edits h = refl
 
-pub created_unless : (limits : Limits) (records : List Record) (message : Message) (syntax : Syntax) → (created limits records message syntax).0 ≢ success
-    → (created limits records message syntax).1 ≡ []
-unfolding created
+pub created_unless : (limits : Limits) (records : List Record) (message : Message) (syntax : Syntax) → (create_outcome limits records message syntax).0 ≢ success
+    → (create_outcome limits records message syntax).1 ≡ []
+unfolding create_outcome
 created_unless limits records message syntax h =
     let data_set = reading syntax message.octets in
     let sent = result_unwrap_or data_set no_elements in
     refusal_edits_nothing (first_refusal (creation_refusals limits records message data_set)) (creation records message.command.sop_instance sent) h
 
-pub changed_unless : (records : List Record) (message : Message) (syntax : Syntax) → (changed records message syntax).0 ≢ success
-    → (changed records message syntax).1 ≡ []
-unfolding changed
+pub changed_unless : (records : List Record) (message : Message) (syntax : Syntax) → (set_outcome records message syntax).0 ≢ success
+    → (set_outcome records message syntax).1 ≡ []
+unfolding set_outcome
 changed_unless records message syntax h =
     let data_set = reading syntax message.octets in
     let sent = result_unwrap_or data_set no_elements in
     let kept = kept_data_set (record_at Step message.command.sop_instance records) in
     refusal_edits_nothing (first_refusal (change_refusals records message data_set))
-    (Put (step_record message.command.sop_instance (merged kept sent)) ∷ []) h
+    (Put (step_record message.command.sop_instance (merged_data_set kept sent)) ∷ []) h
 
 pub created_again : (limits : Limits) (records : List Record) (message : Message) (syntax : Syntax) (kept : Record)
-    → record_at Step message.command.sop_instance records ≡ Some kept → (created limits records message syntax).1 ≡ []
-unfolding created
+    → record_at Step message.command.sop_instance records ≡ Some kept → (create_outcome limits records message syntax).1 ≡ []
+unfolding create_outcome
 created_again limits records message syntax kept found =
     let data_set = reading syntax message.octets in
     let sent = result_unwrap_or data_set no_elements in
     let uid = message.command.sop_instance in
     let before =
     (is_over other_limit message, resource_limitation) ∷ (is_err data_set, processing_failure) ∷ (not (is_uid uid), invalid_sop_instance) ∷ [] in
-    let others = creating.attribute_refusals sent ++ (nat_le limits.steps (length (records_of Step records)), resource_limitation) ∷ [] in
+    let others = creating.create_attribute_refusals sent ++ (nat_le limits.steps (length (records_of Step records)), resource_limitation) ∷ [] in
     rw found (stopped (success, creation records uid sent) before others duplicate_sop_instance)
 
 pub ended_stays : (records : List Record) (message : Message) (syntax : Syntax) (kept : Record)
     → record_at Step message.command.sop_instance records ≡ Some kept → is_ended (kept_data_set (Some kept)) ≡ true
-    → (changed records message syntax).1 ≡ []
-unfolding changed
+    → (set_outcome records message syntax).1 ≡ []
+unfolding set_outcome
 ended_stays records message syntax kept found ended =
     let data_set = reading syntax message.octets in
     let sent = result_unwrap_or data_set no_elements in
     let step = kept_data_set (Some kept) in
     let before = (is_over other_limit message, resource_limitation) ∷ (is_err data_set, processing_failure) ∷ (false, no_such_sop_instance) ∷ [] in
     let others = (changes_fixed step sent, invalid_attribute_value) ∷ (sends_unknown_status sent, invalid_attribute_value)
-    ∷ (is_too_long (merged step sent), resource_limitation) ∷ [] in
-    rw (found, ended) (stopped (success, Put (step_record message.command.sop_instance (merged step sent)) ∷ []) before others processing_failure)
+    ∷ (is_too_long (merged_data_set step sent), resource_limitation) ∷ [] in
+    rw (found, ended) (stopped (success, Put (step_record message.command.sop_instance (merged_data_set step sent)) ∷ []) before others processing_failure)

@@ -10,7 +10,7 @@ use Rattle.dq_dataset.specs.declared.data_set.Value.TheVariants.{Octets}
 use Rattle.dq_dataset.specs.Tree.{ElementList}
 use Rattle.dq_dataset.specs.View.{as_elements, elements_of, has_tag}
 use Rattle.dq_dataset.specs.Facts.{AreElements, IsDataSet}
-use Rattle.dq_dataset.specs.Editing.{elements_below, elements_above, merged_elements, merged}
+use Rattle.dq_dataset.specs.Editing.{elements_below, elements_above, merged_elements, merged_data_set}
 use Rattle.dq_dataset.proofs.Edits.{facts-parts}
 use Rattle.dq_dataset.proofs.Views.{as_elements-elements_of, elements_of-as_elements}
 use Rattle.dq_mpps.specs.Attributes.{is_fixed}
@@ -101,7 +101,7 @@ module _ (t : Tag) where
 listed : (d : ElementList) → IsDataSet d → AreElements 16 None (as_elements (elements_of d))
 listed d is = subst IsDataSet (sym (as_elements-elements_of d)) is
 
-pub standing_after : (kept sent : ElementList) → IsDataSet sent → (t : Tag) → element_at t (merged kept sent)
+pub standing_after : (kept sent : ElementList) → IsDataSet sent → (t : Tag) → element_at t (merged_data_set kept sent)
     ≡ option_or (element_at t sent) (element_at t kept)
 standing_after kept sent is t =
     ap (find (has_tag t)) (elements_of-as_elements (merged_elements (elements_of kept) (elements_of sent)))
@@ -177,5 +177,5 @@ module _ (kept sent : ElementList) (are_kept : IsDataSet kept) (none : changes_f
       let there = stands_found s 16 None (elements_of kept) (listed kept are_kept) stands in
       sym (subst (λ (t : Tag). find (has_tag t) (elements_of kept) ≡ Some s) same_tag there)
 
-  pub fixed_stay : IsDataSet sent → element_at e.tag (merged kept sent) ≡ element_at e.tag kept
+  pub fixed_stay : IsDataSet sent → element_at e.tag (merged_data_set kept sent) ≡ element_at e.tag kept
   fixed_stay are_sent = standing_after kept sent are_sent e.tag ∙ as_kept (element_at e.tag sent) refl

@@ -10,7 +10,7 @@ use Rattle.dq_dataset.specs.declared.header.Syntax.TheVariants.{Explicit}
 use Rattle.dq_dataset.specs.Tree.{ElementList}
 use Rattle.dq_dataset.specs.Reading.{reading}
 use Rattle.dq_dataset.specs.Canonical.{canonical, HasLengths}
-use Rattle.dq_dataset.specs.Editing.{merged}
+use Rattle.dq_dataset.specs.Editing.{merged_data_set}
 use Rattle.dq_dataset.specs.Sieve.{is_over_limit}
 use Rattle.dq_dataset.specs.Grammar.{IsSpelled}
 use Rattle.dq_dataset.proofs.Large.{small_has_lengths}
@@ -21,9 +21,9 @@ use Rattle.dq_config.specs.Limits.{Limits}
 use Rattle.dq_tables.specs.declared.change.Change.TheVariants.{StepAdded, StepChanged}
 use Rattle.dq_tables.specs.declared.row.Kind.TheVariants.{Entry, Step}
 use Rattle.dq_tables.specs.declared.row.Row.{Row}
-use Rattle.dq_tables.specs.Rows.{Record, Edit, Put, Start, IsRising, of, by, after, after_edit, after_edits, place_of, record_of, row_of, rows_before, rows_past, within}
+use Rattle.dq_tables.specs.Rows.{Record, Edit, Put, Start, IsRising, of, by, after, after_edit, after_edits, record_place, record_of, row_of, rows_before, rows_past, within}
 use Rattle.dq_tables.specs.Finding.{record_at, row_at}
-use Rattle.dq_tables.specs.Serving.{first_refusal, outcome}
+use Rattle.dq_tables.specs.Serving.{first_refusal, refusal_or}
 use Rattle.dq_tables.specs.Sound.{IsSound}
 use Rattle.dq_tables.specs.Starting.{entries_named}
 use Rattle.dq_tables.proofs.Lens.{rising_edit}
@@ -36,8 +36,8 @@ use Rattle.dq_tables.proofs.Started.{started, start_keeps}
 use Rattle.dq_dimse.specs.Limits.{other_limit}
 use Rattle.dq_mpps.specs.Steps.{step_record}
 use Rattle.dq_mpps.specs.Creating as creating
-use Rattle.dq_mpps.specs.Creating.{created}
-use Rattle.dq_mpps.specs.Changing.{kept_data_set, step_limit, is_too_long, attribute_refusals, changed}
+use Rattle.dq_mpps.specs.Creating.{create_outcome}
+use Rattle.dq_mpps.specs.Changing.{kept_data_set, step_limit, is_too_long, set_attribute_refusals, set_outcome}
 use Rattle.dq_mpps.specs.Views.{step_created, step_changed}
 use Rattle.dq_mpps.proofs.Fitting.{new_step_fits, changed_fits}
 use Rattle.dq_mpps.proofs.Outcomes.{create_over, create_unread, create_unnamed, create_handed_on, refused_by, too_long, changed_to, set_over, set_unread, set_handed_on}
@@ -100,7 +100,7 @@ module _ (P : List Row → Type 0) (h : List ℕ) (rows : List Row) (holds : P r
   refused_stays : (done : ℕ × List Edit) (status : ℕ) → done ≡ (status, []) → Stays done
   refused_stays done status e = subst Stays (sym e) holds
 
-  unless_refused : (refusal : Option ℕ) (done : ℕ × List Edit) → Stays done → Stays (outcome refusal done)
+  unless_refused : (refusal : Option ℕ) (done : ℕ × List Edit) → Stays done → Stays (refusal_or refusal done)
   unless_refused (Some status) done kept = holds
   unless_refused None done kept = kept
 
@@ -111,61 +111,61 @@ module _ (P : List Row → Type 0) (h : List ℕ) (rows : List Row) (holds : P r
         → (kept : Option Record) → record_at Step uid (of h rows) ≡ kept → Stays (step_created limits uid d (of h rows))
     new_stays d short read named (Some r) there = rw there holds
     new_stays d short read named None free =
-        unless_refused (first_refusal (creating.step_refusals limits (of h rows) uid d)) (0, creating.creation (of h rows) uid d)
+        unless_refused (first_refusal (creating.create_refusals limits (of h rows) uid d)) (0, creating.creation (of h rows) uid d)
         (keeps d short read named free)
 
     named_stays : (d : ElementList) → is_over other_limit message ≡ false → reading syntax message.octets ≡ Ok d
-        → (named : Bool) → is_uid uid ≡ named → Stays (created limits (of h rows) message syntax)
+        → (named : Bool) → is_uid uid ≡ named → Stays (create_outcome limits (of h rows) message syntax)
     named_stays d short read false other = refused_stays _ _ (create_unnamed limits (of h rows) message syntax d short read other)
     named_stays d short read true named =
         subst Stays (sym (create_handed_on limits (of h rows) message syntax d short read named))
         (new_stays d short read named (record_at Step uid (of h rows)) refl)
 
     created_of : (r : Result ElementList ReadFault) → is_over other_limit message ≡ false → reading syntax message.octets ≡ r
-        → Stays (created limits (of h rows) message syntax)
+        → Stays (create_outcome limits (of h rows) message syntax)
     created_of (Ok d) short read = named_stays d short read (is_uid uid) refl
     created_of (Err fault) short read = refused_stays _ _ (create_unread limits (of h rows) message syntax short (rw read refl))
 
-    created_by : (long : Bool) → is_over other_limit message ≡ long → Stays (created limits (of h rows) message syntax)
+    created_by : (long : Bool) → is_over other_limit message ≡ long → Stays (create_outcome limits (of h rows) message syntax)
     created_by true long = refused_stays _ _ (create_over limits (of h rows) message syntax long)
     created_by false short = created_of (reading syntax message.octets) short refl
 
-    pub created_stays : P (after (by h (created limits (of h rows) message syntax).1) rows)
+    pub created_stays : P (after (by h (create_outcome limits (of h rows) message syntax).1) rows)
     created_stays = created_by (is_over other_limit message) refl
 
   module _ (keeps : (d : ElementList) → reading syntax message.octets ≡ Ok d → (r : Record) → record_at Step uid (of h rows) ≡ Some r
-      → is_too_long (merged (kept_data_set (Some r)) d) ≡ false
-      → P (after (by h (Put (step_record uid (merged (kept_data_set (Some r)) d)) ∷ [])) rows)) where
+      → is_too_long (merged_data_set (kept_data_set (Some r)) d) ≡ false
+      → P (after (by h (Put (step_record uid (merged_data_set (kept_data_set (Some r)) d)) ∷ [])) rows)) where
     short_stays : (d : ElementList) → reading syntax message.octets ≡ Ok d → (r : Record) → record_at Step uid (of h rows) ≡ Some r
-        → first_refusal (attribute_refusals (kept_data_set (Some r)) d) ≡ None
-        → (long : Bool) → is_too_long (merged (kept_data_set (Some r)) d) ≡ long → Stays (step_changed uid d (Some r))
+        → first_refusal (set_attribute_refusals (kept_data_set (Some r)) d) ≡ None
+        → (long : Bool) → is_too_long (merged_data_set (kept_data_set (Some r)) d) ≡ long → Stays (step_changed uid d (Some r))
     short_stays d read r there clear true long = refused_stays _ _ (too_long uid d r (kept_data_set (Some r)) refl clear long)
     short_stays d read r there clear false short =
-        let step = merged (kept_data_set (Some r)) d in
+        let step = merged_data_set (kept_data_set (Some r)) d in
         subst Stays (sym (changed_to uid d r (kept_data_set (Some r)) refl clear short (canonical Explicit step) refl))
         (keeps d read r there short)
 
     clear_stays : (d : ElementList) → reading syntax message.octets ≡ Ok d → (r : Record) → record_at Step uid (of h rows) ≡ Some r
-        → (refusal : Option ℕ) → first_refusal (attribute_refusals (kept_data_set (Some r)) d) ≡ refusal → Stays (step_changed uid d (Some r))
+        → (refusal : Option ℕ) → first_refusal (set_attribute_refusals (kept_data_set (Some r)) d) ≡ refusal → Stays (step_changed uid d (Some r))
     clear_stays d read r there (Some status) refused = refused_stays _ status (refused_by uid d r (kept_data_set (Some r)) refl status refused)
-    clear_stays d read r there None clear = short_stays d read r there clear (is_too_long (merged (kept_data_set (Some r)) d)) refl
+    clear_stays d read r there None clear = short_stays d read r there clear (is_too_long (merged_data_set (kept_data_set (Some r)) d)) refl
 
     step_stays : (d : ElementList) → reading syntax message.octets ≡ Ok d
         → (kept : Option Record) → record_at Step uid (of h rows) ≡ kept → Stays (step_changed uid d kept)
     step_stays d read None none = holds
-    step_stays d read (Some r) there = clear_stays d read r there (first_refusal (attribute_refusals (kept_data_set (Some r)) d)) refl
+    step_stays d read (Some r) there = clear_stays d read r there (first_refusal (set_attribute_refusals (kept_data_set (Some r)) d)) refl
 
     changed_of : (r : Result ElementList ReadFault) → is_over other_limit message ≡ false → reading syntax message.octets ≡ r
-        → Stays (changed (of h rows) message syntax)
+        → Stays (set_outcome (of h rows) message syntax)
     changed_of (Ok d) short read =
         subst Stays (sym (set_handed_on (of h rows) message syntax d short read)) (step_stays d read (record_at Step uid (of h rows)) refl)
     changed_of (Err fault) short read = refused_stays _ _ (set_unread (of h rows) message syntax short (rw read refl))
 
-    changed_by : (long : Bool) → is_over other_limit message ≡ long → Stays (changed (of h rows) message syntax)
+    changed_by : (long : Bool) → is_over other_limit message ≡ long → Stays (set_outcome (of h rows) message syntax)
     changed_by true long = refused_stays _ _ (set_over (of h rows) message syntax long)
     changed_by false short = changed_of (reading syntax message.octets) short refl
 
-    pub changed_stays : P (after (by h (changed (of h rows) message syntax).1) rows)
+    pub changed_stays : P (after (by h (set_outcome (of h rows) message syntax).1) rows)
     changed_stays = changed_by (is_over other_limit message) refl
 
 -- ---- that they are sound
@@ -189,7 +189,7 @@ module _ (Each : Row → Type 0) where
       → AllByRecursion Each (after_edit h (Put r) rows)
   unfolding after_edit
   each_put h r rows all new =
-      let p = within h (place_of r) in
+      let p = within h (record_place r) in
       each_appended Each (rows_before p rows ++ row_of h r ∷ []) (rows_past p rows)
       (each_appended Each (rows_before p rows) (row_of h r ∷ []) (each_filtered Each (is_before p) rows all) (new, tt))
       (each_filtered Each (is_past p) rows all)

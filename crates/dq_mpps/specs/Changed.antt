@@ -18,7 +18,7 @@ step_at uid records = kept_data_set (record_at Step uid records)
 
 -- The step is kept under its UID, each element that was sent stands in it, and any other as it was
 -- kept. What is fixed is as it was kept, and so is each other record.
-pub record IsChanged (records after : List Record) (uid : List ℕ) (sent : ElementList)
+pub record IsStepChanged (records after : List Record) (uid : List ℕ) (sent : ElementList)
     : Type 0 where
   pub kept : record_at Step uid after ≡ Some (step_record uid (step_at uid after))
   pub stands : (tag : Tag) (e : Element) → element_at tag sent ≡ Some e

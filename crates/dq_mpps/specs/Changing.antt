@@ -12,7 +12,7 @@ use Rattle.dq_dataset.specs.Tree.{ElementList, no_elements}
 use Rattle.dq_dataset.specs.View.{elements_of}
 use Rattle.dq_dataset.specs.Reading.{reading}
 use Rattle.dq_dataset.specs.Canonical.{canonical}
-use Rattle.dq_dataset.specs.Editing.{merged}
+use Rattle.dq_dataset.specs.Editing.{merged_data_set}
 use Rattle.dq_dataset.specs.Same.{has_element}
 use Rattle.dq_dataset.specs.Values.{element_at}
 use Rattle.dq_dimse.specs.Limits.{other_limit}
@@ -24,7 +24,7 @@ use Rattle.dq_tables.specs.declared.row.Row.{Row}
 use Rattle.dq_tables.specs.Rows.{Record, Edit, Put}
 use Rattle.dq_tables.specs.Finding.{same_kind, record_at}
 use Rattle.dq_tables.specs.Records.{data_set_of}
-use Rattle.dq_tables.specs.Serving.{first_refusal, outcome}
+use Rattle.dq_tables.specs.Serving.{first_refusal, refusal_or}
 use Rattle.dq_mpps.specs.Attributes.{is_fixed}
 use Rattle.dq_mpps.specs.Steps.{in_progress, completed, discontinued, has_status, step_record}
 
@@ -59,19 +59,19 @@ is_too_long d = nat_lt step_limit (length (canonical Explicit d))
 abbrev pub is_short_step : Row → Bool
 is_short_step row = not (same_kind row.kind Step) || nat_le (length row.octets) step_limit
 
-abbrev pub attribute_refusals : ElementList → ElementList → List (Bool × ℕ)
-attribute_refusals kept sent =
+abbrev pub set_attribute_refusals : ElementList → ElementList → List (Bool × ℕ)
+set_attribute_refusals kept sent =
     (is_ended kept, processing_failure)
     ∷ (changes_fixed kept sent, invalid_attribute_value)
     ∷ (sends_unknown_status sent, invalid_attribute_value)
     ∷ []
 
 -- those of a data set that was read, for an instance which is kept or not
-abbrev pub step_refusals : Option Record → ElementList → List (Bool × ℕ)
-step_refusals kept sent =
+abbrev pub set_refusals : Option Record → ElementList → List (Bool × ℕ)
+set_refusals kept sent =
     (is_none kept, no_such_sop_instance)
-    ∷ (attribute_refusals (kept_data_set kept) sent
-    ++ (is_too_long (merged (kept_data_set kept) sent), resource_limitation) ∷ [])
+    ∷ (set_attribute_refusals (kept_data_set kept) sent
+    ++ (is_too_long (merged_data_set (kept_data_set kept) sent), resource_limitation) ∷ [])
 
 -- The refusals in their order, each with its status.
 abbrev pub change_refusals
@@ -80,15 +80,15 @@ change_refusals records message data_set =
     let sent = result_unwrap_or data_set no_elements in
     (is_over other_limit message, resource_limitation)
     ∷ (is_err data_set, processing_failure)
-    ∷ step_refusals (record_at Step message.command.sop_instance records) sent
+    ∷ set_refusals (record_at Step message.command.sop_instance records) sent
 
 -- Where a change is not refused, each element of it replaces the kept one with its tag, or joins
 -- the others.
-unfoldable pub changed : List Record → Message → Syntax → ℕ × List Edit
-changed records message syntax =
+unfoldable pub set_outcome : List Record → Message → Syntax → ℕ × List Edit
+set_outcome records message syntax =
     let data_set = reading syntax message.octets in
     let sent = result_unwrap_or data_set no_elements in
     let uid = message.command.sop_instance in
     let kept = kept_data_set (record_at Step uid records) in
-    outcome (first_refusal (change_refusals records message data_set))
-    (success, Put (step_record uid (merged kept sent)) ∷ [])
+    refusal_or (first_refusal (change_refusals records message data_set))
+    (success, Put (step_record uid (merged_data_set kept sent)) ∷ [])

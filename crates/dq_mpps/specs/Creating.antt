@@ -4,7 +4,7 @@ use Rattle.std.specs.Prelude.{ℕ, Bool, false, not, nat_le, List, [], ◌∷◌
 use Rattle.std.specs.List.{list_all}
 use Rattle.std.specs.Result.{result_unwrap_or}
 use Rattle.dq_list.specs.Lengths.{is_empty}
-use Rattle.dq_value.specs.Parts.{parts}
+use Rattle.dq_value.specs.Parts.{element_values}
 use Rattle.dq_value.specs.Uid.{is_uid}
 use Rattle.dq_dataset.specs.declared.fault.ReadFault.{ReadFault}
 use Rattle.dq_dataset.specs.declared.header.Syntax.{Syntax}
@@ -21,7 +21,7 @@ use Rattle.dq_config.specs.Limits.{Limits}
 use Rattle.dq_tables.specs.declared.row.Kind.TheVariants.{Step}
 use Rattle.dq_tables.specs.Rows.{Record, Edit, Put, Start}
 use Rattle.dq_tables.specs.Finding.{record_at, records_of}
-use Rattle.dq_tables.specs.Serving.{first_refusal, outcome}
+use Rattle.dq_tables.specs.Serving.{first_refusal, refusal_or}
 use Rattle.dq_tables.specs.Starting.{entries_named}
 use Rattle.dq_mpps.specs.Attributes.{required_attributes}
 use Rattle.dq_mpps.specs.Steps.{in_progress, has_status, step_record}
@@ -30,7 +30,7 @@ use Rattle.dq_mpps.specs.Steps.{in_progress, has_status, step_record}
 unfoldable pub has_value : Option Element → Bool
 has_value None = false
 has_value (Some e) = elim e.value [
-  | Octets octets ↦ not (is_empty (parts e.vr octets))
+  | Octets octets ↦ not (is_empty (element_values e.vr octets))
   | Items items ↦ not (is_empty items)
 ]
 
@@ -40,18 +40,18 @@ has_attributes d = list_all (λ tag. is_some (element_at tag d)) required_attrib
 unfoldable pub has_attribute_values : ElementList → Bool
 has_attribute_values d = list_all (λ tag. has_value (element_at tag d)) required_attributes
 
-abbrev pub attribute_refusals : ElementList → List (Bool × ℕ)
-attribute_refusals d =
+abbrev pub create_attribute_refusals : ElementList → List (Bool × ℕ)
+create_attribute_refusals d =
     (not (has_attributes d), missing_attribute)
     ∷ (not (has_attribute_values d), missing_attribute_value)
     ∷ (not (has_status in_progress d), invalid_attribute_value)
     ∷ []
 
 -- those of a data set that was read, for an instance with that UID
-abbrev pub step_refusals : Limits → List Record → List ℕ → ElementList → List (Bool × ℕ)
-step_refusals limits records uid d =
+abbrev pub create_refusals : Limits → List Record → List ℕ → ElementList → List (Bool × ℕ)
+create_refusals limits records uid d =
     (is_some (record_at Step uid records), duplicate_sop_instance)
-    ∷ (attribute_refusals d
+    ∷ (create_attribute_refusals d
     ++ (nat_le limits.steps (length (records_of Step records)), resource_limitation) ∷ [])
 
 -- The refusals in their order, each with its status.
@@ -62,16 +62,16 @@ creation_refusals limits records message data_set =
     (is_over other_limit message, resource_limitation)
     ∷ (is_err data_set, processing_failure)
     ∷ (not (is_uid message.command.sop_instance), invalid_sop_instance)
-    ∷ step_refusals limits records message.command.sop_instance sent
+    ∷ create_refusals limits records message.command.sop_instance sent
 
 -- A step is kept with its data set whole, and starts the entries that it names.
 abbrev pub creation : List Record → List ℕ → ElementList → List Edit
 creation records uid d = Put (step_record uid d) ∷ map Start (entries_named records d)
 
 -- what an N-CREATE is answered, and its edits, of which a refusal makes none
-unfoldable pub created : Limits → List Record → Message → Syntax → ℕ × List Edit
-created limits records message syntax =
+unfoldable pub create_outcome : Limits → List Record → Message → Syntax → ℕ × List Edit
+create_outcome limits records message syntax =
     let data_set = reading syntax message.octets in
     let sent = result_unwrap_or data_set no_elements in
-    outcome (first_refusal (creation_refusals limits records message data_set))
+    refusal_or (first_refusal (creation_refusals limits records message data_set))
     (success, creation records message.command.sop_instance sent)

@@ -3,13 +3,13 @@ ghost use Rattle.std.specs.Prelude.{◌≡◌, Some, Ok, IfOk, IfSome, is_none};
 ghost use Rattle.dq_dataset.specs.declared.header.Syntax.TheVariants.{Explicit};
 ghost use Rattle.dq_dataset.specs.Reading.{reading};
 ghost use Rattle.dq_dataset.specs.Canonical.{canonical};
-ghost use Rattle.dq_dataset.specs.Editing.{merged};
+ghost use Rattle.dq_dataset.specs.Editing.{merged_data_set};
 ghost use Rattle.dq_dimse.specs.Holding.{plain_message};
 ghost use Rattle.dq_tables.specs.declared.row.Kind.TheVariants.{Step};
 ghost use Rattle.dq_tables.specs.Finding.{record_at};
 ghost use Rattle.dq_tables.specs.Serving.{Serves, first_refusal};
 ghost use Rattle.dq_archive.specs.Archives.{Decides};
-ghost use Rattle.dq_mpps.specs.Changing.{is_too_long, attribute_refusals, changed};
+ghost use Rattle.dq_mpps.specs.Changing.{is_too_long, set_attribute_refusals, set_outcome};
 ghost use Rattle.dq_mpps.specs.Views.{step_changed};
 
 use crate::attributes::changes_fixed;
@@ -35,7 +35,7 @@ pub fn set<T: Tables>(
     syntax: Syntax,
 ) -> Result<u16, TableFault>
     ensures { Serves (T.state tables.old) (T.state tables.new) institution.now.name
-        (λ records. changed records (plain_message message.now) syntax) result }
+        (λ records. set_outcome records (plain_message message.now) syntax) result }
 {
     let mut archive = Archive::new(alloc, tables, institution);
     let decision = decide_change(&mut archive, message, syntax)?;
@@ -49,7 +49,7 @@ fn decide_change<T: Tables>(
     syntax: Syntax,
 ) -> Result<Decision<u16>, TableFault>
     ensures { Decides T.state archive.old archive.new
-        (λ records. changed records (plain_message message.now) syntax) result }
+        (λ records. set_outcome records (plain_message message.now) syntax) result }
 {
     if message.is_over(DATA_SET_LIMIT) {
         return Ok(Decision::unchanged(status::RESOURCE_LIMITATION));
@@ -89,7 +89,7 @@ fn decide_changed_step<T: Tables>(
 
 /// The status that refuses what is sent, by the step as it is kept.
 fn attribute_refusal(kept: &DataSet, sent: &DataSet) -> Option<u16>
-    ensures { result ≡ first_refusal (attribute_refusals kept.now sent.now) }
+    ensures { result ≡ first_refusal (set_attribute_refusals kept.now sent.now) }
 {
     if is_ended(kept) {
         return Some(status::PROCESSING_FAILURE);
@@ -108,11 +108,11 @@ fn merged_octets(
     sent: &DataSet,
 ) -> Result<Option<Vec<u8>>, AllocError>
     ensures spelled { IfOk result (λ octets. IfSome octets (λ octets.
-        octets.items ≡ canonical Explicit (merged kept.now sent.now))) }
+        octets.items ≡ canonical Explicit (merged_data_set kept.now sent.now))) }
     ensures read_back { IfOk result (λ octets. IfSome octets (λ octets.
-        reading Explicit octets.items ≡ Ok (merged kept.now sent.now))) }
+        reading Explicit octets.items ≡ Ok (merged_data_set kept.now sent.now))) }
     ensures within { IfOk result (λ octets.
-        is_none octets ≡ is_too_long (merged kept.now sent.now)) }
+        is_none octets ≡ is_too_long (merged_data_set kept.now sent.now)) }
 {
     editing_law();
     written_law();

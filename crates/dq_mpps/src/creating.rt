@@ -10,7 +10,7 @@ ghost use Rattle.dq_tables.specs.Rows.{row_of};
 ghost use Rattle.dq_tables.specs.Serving.{Serves, first_refusal};
 ghost use Rattle.dq_archive.specs.Archives.{Looks, Decides};
 ghost use Rattle.dq_mpps.specs.Steps.{step_record};
-ghost use Rattle.dq_mpps.specs.Creating.{attribute_refusals, step_refusals, created};
+ghost use Rattle.dq_mpps.specs.Creating.{create_attribute_refusals, create_refusals, create_outcome};
 ghost use Rattle.dq_mpps.specs.Views.{step_created};
 
 use crate::attributes::{has_attribute_values, has_attributes};
@@ -35,7 +35,7 @@ pub fn create<T: Tables>(
     syntax: Syntax,
 ) -> Result<u16, TableFault>
     ensures { Serves (T.state tables.old) (T.state tables.new) institution.now.name
-        (λ records. created (limits_of institution.now) records (plain_message message.now) syntax) result }
+        (λ records. create_outcome (limits_of institution.now) records (plain_message message.now) syntax) result }
 {
     let mut archive = Archive::new(alloc, tables, institution);
     let decision = decide_creation(&mut archive, message, syntax)?;
@@ -49,7 +49,7 @@ fn decide_creation<T: Tables>(
     syntax: Syntax,
 ) -> Result<Decision<u16>, TableFault>
     ensures { Decides T.state archive.old archive.new (λ records.
-        created (limits_of archive.old.institution.now) records (plain_message message.now) syntax)
+        create_outcome (limits_of archive.old.institution.now) records (plain_message message.now) syntax)
         result }
 {
     if message.is_over(DATA_SET_LIMIT) {
@@ -92,7 +92,7 @@ fn refusal<T: Tables>(
     archive: &mut Archive<'_, T>,
     sent: &Sent<'_>,
 ) -> Result<Option<u16>, TableFault>
-    ensures { Looks T.state archive.old archive.new (λ records. first_refusal (step_refusals
+    ensures { Looks T.state archive.old archive.new (λ records. first_refusal (create_refusals
         (limits_of archive.old.institution.now) records sent.now.uid.now sent.now.data_set.now)) result }
 {
     if archive.has(Kind::Step, sent.uid)? {
@@ -110,7 +110,7 @@ fn refusal<T: Tables>(
 
 /// The status that refuses the attributes of a new step.
 fn attribute_refusal(step: &DataSet) -> Option<u16>
-    ensures { result ≡ first_refusal (attribute_refusals step.now) }
+    ensures { result ≡ first_refusal (create_attribute_refusals step.now) }
 {
     if !has_attributes(step) {
         return Some(status::MISSING_ATTRIBUTE);

@@ -3,29 +3,29 @@ ghost use Rattle.std.specs.Prelude.{◌≡◌, ◌≢◌, ◌⊎◌, ℕ, Bool, 
 ghost use Rattle.std.specs.List.{AllByRecursion};
 ghost use Rattle.std.specs.Option.{option_or};
 ghost use Rattle.std.specs.Result.{result_unwrap_or};
+ghost use Rattle.dq_list.specs.Octets.{AreOctets};
 ghost use Rattle.dq_vr.specs.declared.Tag.{Tag};
 ghost use Rattle.dq_dataset.specs.declared.header.Syntax.{Syntax};
 ghost use Rattle.dq_dataset.specs.declared.data_set.Element.{Element};
 ghost use Rattle.dq_dataset.specs.Tree.{ElementList, no_elements};
 ghost use Rattle.dq_dataset.specs.Reading.{reading};
-ghost use Rattle.dq_dataset.specs.Grammar.{AreOctets};
 ghost use Rattle.dq_dataset.specs.Facts.{IsDataSet};
-ghost use Rattle.dq_dataset.specs.Editing.{merged};
+ghost use Rattle.dq_dataset.specs.Editing.{merged_data_set};
 ghost use Rattle.dq_dataset.specs.Values.{element_at};
 ghost use Rattle.dq_dimse.specs.Received.{Message};
 ghost use Rattle.dq_dimse.specs.Statuses.{success};
 ghost use Rattle.dq_config.specs.Limits.{Limits};
 ghost use Rattle.dq_tables.specs.declared.row.Kind.TheVariants.{Entry, Step};
 ghost use Rattle.dq_tables.specs.declared.row.Row.{Row};
-ghost use Rattle.dq_tables.specs.Rows.{Record, Edit, IsRising, of, by, after, edited};
+ghost use Rattle.dq_tables.specs.Rows.{Record, Edit, IsRising, of, by, after, records_after_edits};
 ghost use Rattle.dq_tables.specs.Finding.{record_at};
 ghost use Rattle.dq_tables.specs.Records.{data_set_of};
 ghost use Rattle.dq_tables.specs.Sound.{IsSound};
 ghost use Rattle.dq_mpps.specs.Attributes.{is_fixed};
-ghost use Rattle.dq_mpps.specs.Creating.{created};
+ghost use Rattle.dq_mpps.specs.Creating.{create_outcome};
 ghost use Rattle.dq_mpps.specs.Created.{IsCreated};
-ghost use Rattle.dq_mpps.specs.Changed.{step_at, IsChanged};
-ghost use Rattle.dq_mpps.specs.Changing.{kept_data_set, is_ended, is_short_step, changes_fixed, changed};
+ghost use Rattle.dq_mpps.specs.Changed.{step_at, IsStepChanged};
+ghost use Rattle.dq_mpps.specs.Changing.{kept_data_set, is_ended, is_short_step, changes_fixed, set_outcome};
 
 use dq_dataset::laws::{editing_law, spelling_law, written_law};
 
@@ -33,11 +33,11 @@ use dq_dataset::laws::{editing_law, spelling_law, written_law};
 #[tactic(auto, using(crate::proofs::Refusals::created_unless, crate::proofs::Refusals::changed_unless))]
 pub fn refusals_change_nothing()
     ensures created { (limits : Limits) (records : List Record) (message : Message)
-        (syntax : Syntax) → (created limits records message syntax).0 ≢ success
-        → (created limits records message syntax).1 ≡ [] }
+        (syntax : Syntax) → (create_outcome limits records message syntax).0 ≢ success
+        → (create_outcome limits records message syntax).1 ≡ [] }
     ensures changed { (records : List Record) (message : Message) (syntax : Syntax)
-        → (changed records message syntax).0 ≢ success
-        → (changed records message syntax).1 ≡ [] }
+        → (set_outcome records message syntax).0 ≢ success
+        → (set_outcome records message syntax).1 ≡ [] }
 {}
 
 /// A step that is kept is not created again, and one that is completed or discontinued stays as it
@@ -47,11 +47,11 @@ pub fn kept_steps_stay()
     ensures created { (limits : Limits) (records : List Record) (message : Message)
         (syntax : Syntax) (kept : Record)
         → record_at Step message.command.sop_instance records ≡ Some kept
-        → (created limits records message syntax).1 ≡ [] }
+        → (create_outcome limits records message syntax).1 ≡ [] }
     ensures ended { (records : List Record) (message : Message) (syntax : Syntax) (kept : Record)
         → record_at Step message.command.sop_instance records ≡ Some kept
         → is_ended (kept_data_set (Some kept)) ≡ true
-        → (changed records message syntax).1 ≡ [] }
+        → (set_outcome records message syntax).1 ≡ [] }
 {}
 
 /// After a change that is not refused each element that was sent stands, and any other as it was
@@ -59,7 +59,7 @@ pub fn kept_steps_stay()
 #[tactic(auto, using(crate::proofs::Standing::standing_after))]
 pub fn what_is_sent_stands()
     ensures { (kept sent : ElementList) → IsDataSet sent → (tag : Tag)
-        → element_at tag (merged kept sent)
+        → element_at tag (merged_data_set kept sent)
         ≡ option_or (element_at tag sent) (element_at tag kept) }
 {}
 
@@ -69,7 +69,7 @@ pub fn what_is_sent_stands()
 pub fn fixed_attributes_stay()
     ensures { (kept sent : ElementList) → IsDataSet kept → IsDataSet sent
         → changes_fixed kept sent ≡ false → (e : Element) → is_fixed e ≡ true
-        → element_at e.tag (merged kept sent) ≡ element_at e.tag kept }
+        → element_at e.tag (merged_data_set kept sent) ≡ element_at e.tag kept }
 {}
 
 /// After a change that is not refused what was sent stands in the step, and all else of it as it was
@@ -78,13 +78,13 @@ pub fn fixed_attributes_stay()
 pub fn changed_steps_hold_what_was_sent()
     ensures changed { (records : List Record) (message : Message) (syntax : Syntax)
         → AreOctets message.octets → IsDataSet (step_at message.command.sop_instance records)
-        → (changed records message syntax).0 ≡ success
-        → IsChanged records (edited (changed records message syntax).1 records)
+        → (set_outcome records message syntax).0 ≡ success
+        → IsStepChanged records (records_after_edits (set_outcome records message syntax).1 records)
         message.command.sop_instance
         (result_unwrap_or (reading syntax message.octets) no_elements) }
     ensures refused { (records : List Record) (message : Message) (syntax : Syntax)
-        → (changed records message syntax).0 ≢ success
-        → edited (changed records message syntax).1 records ≡ records }
+        → (set_outcome records message syntax).0 ≢ success
+        → records_after_edits (set_outcome records message syntax).1 records ≡ records }
 {
     spelling_law();
     editing_law();
@@ -96,20 +96,20 @@ pub fn changed_steps_hold_what_was_sent()
 pub fn other_institutions_change_no_status()
     ensures created { (own other : List ℕ) → other ≢ own → (edits : List Edit) (rows : List Row)
         → IsRising rows → (limits : Limits) (message : Message) (syntax : Syntax)
-        → created limits (of own (after (by other edits) rows)) message syntax
-        ≡ created limits (of own rows) message syntax }
+        → create_outcome limits (of own (after (by other edits) rows)) message syntax
+        ≡ create_outcome limits (of own rows) message syntax }
     ensures changed { (own other : List ℕ) → other ≢ own → (edits : List Edit) (rows : List Row)
         → IsRising rows → (message : Message) (syntax : Syntax)
-        → changed (of own (after (by other edits) rows)) message syntax
-        ≡ changed (of own rows) message syntax }
+        → set_outcome (of own (after (by other edits) rows)) message syntax
+        ≡ set_outcome (of own rows) message syntax }
 {}
 
 /// A step that is created is kept, and has started the entries that it names: an entry is started
 /// afterwards exactly where it was before or is named. Nothing else of the records changes.
 pub fn named_entries_are_started()
     ensures { (limits : Limits) (records : List Record) (message : Message) (syntax : Syntax)
-        → (created limits records message syntax).0 ≡ success
-        → IsCreated records (edited (created limits records message syntax).1 records)
+        → (create_outcome limits records message syntax).0 ≡ success
+        → IsCreated records (records_after_edits (create_outcome limits records message syntax).1 records)
         message.command.sop_instance
         (result_unwrap_or (reading syntax message.octets) no_elements) }
 {}
@@ -119,11 +119,11 @@ pub fn named_entries_are_started()
 pub fn sound_rows_stay_sound()
     ensures created { (h : List ℕ) (limits : Limits) (rows : List Row) (message : Message)
         (syntax : Syntax) → AreOctets message.octets → IsSound rows
-        → IsSound (after (by h (created limits (of h rows) message syntax).1) rows) }
+        → IsSound (after (by h (create_outcome limits (of h rows) message syntax).1) rows) }
     ensures changed { (h : List ℕ) (rows : List Row) (message : Message) (syntax : Syntax)
         → AreOctets message.octets → IsSound rows
         → AllByRecursion (λ (row : Row). IsDataSet (data_set_of row.octets)) rows
-        → IsSound (after (by h (changed (of h rows) message syntax).1) rows) }
+        → IsSound (after (by h (set_outcome (of h rows) message syntax).1) rows) }
 {
     spelling_law();
     editing_law();
@@ -137,12 +137,12 @@ pub fn rows_hold_data_sets()
         (syntax : Syntax) → AreOctets message.octets → IsRising rows
         → AllByRecursion (λ (row : Row). IsDataSet (data_set_of row.octets)) rows
         → AllByRecursion (λ (row : Row). IsDataSet (data_set_of row.octets))
-        (after (by h (created limits (of h rows) message syntax).1) rows) }
+        (after (by h (create_outcome limits (of h rows) message syntax).1) rows) }
     ensures changed { (h : List ℕ) (rows : List Row) (message : Message) (syntax : Syntax)
         → AreOctets message.octets
         → AllByRecursion (λ (row : Row). IsDataSet (data_set_of row.octets)) rows
         → AllByRecursion (λ (row : Row). IsDataSet (data_set_of row.octets))
-        (after (by h (changed (of h rows) message syntax).1) rows) }
+        (after (by h (set_outcome (of h rows) message syntax).1) rows) }
 {
     spelling_law();
     editing_law();
@@ -157,13 +157,13 @@ pub fn rows_of_other_kinds_stay()
         → (h : List ℕ) (limits : Limits) (rows : List Row) (message : Message) (syntax : Syntax)
         → IsRising rows → AllByRecursion (λ (row : Row). holds row ≡ true) rows
         → AllByRecursion (λ (row : Row). holds row ≡ true)
-        (after (by h (created limits (of h rows) message syntax).1) rows) }
+        (after (by h (create_outcome limits (of h rows) message syntax).1) rows) }
     ensures changed { (holds : Row → Bool)
         → ((row : Row) → row.kind ≡ Step → holds row ≡ true)
         → (h : List ℕ) (rows : List Row) (message : Message) (syntax : Syntax)
         → AllByRecursion (λ (row : Row). holds row ≡ true) rows
         → AllByRecursion (λ (row : Row). holds row ≡ true)
-        (after (by h (changed (of h rows) message syntax).1) rows) }
+        (after (by h (set_outcome (of h rows) message syntax).1) rows) }
 {}
 
 /// A step that is kept has at most 4,194,304 octets, whatever it is created from and changed by.
@@ -172,11 +172,11 @@ pub fn kept_steps_are_short()
         (syntax : Syntax) → AreOctets message.octets → IsRising rows
         → AllByRecursion (λ (row : Row). is_short_step row ≡ true) rows
         → AllByRecursion (λ (row : Row). is_short_step row ≡ true)
-        (after (by h (created limits (of h rows) message syntax).1) rows) }
+        (after (by h (create_outcome limits (of h rows) message syntax).1) rows) }
     ensures changed { (h : List ℕ) (rows : List Row) (message : Message) (syntax : Syntax)
         → AllByRecursion (λ (row : Row). is_short_step row ≡ true) rows
         → AllByRecursion (λ (row : Row). is_short_step row ≡ true)
-        (after (by h (changed (of h rows) message syntax).1) rows) }
+        (after (by h (set_outcome (of h rows) message syntax).1) rows) }
 {
     spelling_law();
 }

@@ -1,8 +1,9 @@
 //! The worklist entries that a performed procedure step names (PS3.4 table F.7.2-1).
 ghost use Rattle.std.specs.Prelude.{◌≡◌, IfOk};
+ghost use Rattle.dq_list.specs.Octets.{octets_of_vectors};
 ghost use Rattle.dq_tables.specs.Starting.{entries_named};
 ghost use Rattle.dq_archive.specs.Archives.{Looks};
-ghost use Rattle.dq_mpps.specs.Views.{AreNamed, ids_kept, octets_of};
+ghost use Rattle.dq_mpps.specs.Views.{AreNamed, ids_kept};
 
 use dq_archive::Archive;
 use dq_dataset::DataSet;
@@ -27,7 +28,7 @@ pub(crate) fn entries_named<T: Tables>(
 
 /// The ids that a step names, in the order of their octets, each once.
 fn ids_in_order(alloc: Global, step: &DataSet) -> Result<BTreeSet<Vec<u8>>, AllocError>
-    ensures { IfOk result (λ ids. AreNamed step.now (octets_of ids.keys)) }
+    ensures { IfOk result (λ ids. AreNamed step.now (octets_of_vectors ids.keys)) }
 {
     let named = ids_named(alloc, step)?;
     let mut ids = BTreeSet::new(alloc);
@@ -43,7 +44,7 @@ fn kept_of<T: Tables>(
     mut ids: BTreeSet<Vec<u8>>,
 ) -> Result<Listed<Listed<u8>>, TableFault>
     ensures { Looks T.state archive.old archive.new
-        (λ records. ids_kept records (octets_of ids.keys)) result }
+        (λ records. ids_kept records (octets_of_vectors ids.keys)) result }
 {
     let mut keys = Listed::empty(archive.alloc);
     while let Some(id) = ids.pop_first() {

@@ -3,7 +3,7 @@ use Rattle.std.proofs.Common.{◌≡◌, ℕ, ◌≤◌, leb, List, length, map,
 use Rattle.std.specs.Prelude.{option_map}
 use Rattle.std.specs.Int.{w16, from_be_bytes}
 use Rattle.std.proofs.lemmas.Bool.{leb-true, le-leb}
-use Rattle.dq_list.specs.Readers.{◌>>=◌, provided}
+use Rattle.dq_list.specs.Readers.{◌>>=◌, only_if}
 use Rattle.dq_list.proofs.Readers.{bind_some, provided_some}
 use Rattle.dq_pdu.specs.declared.reading.Item.{Item}
 use Rattle.dq_pdu.specs.declared.bodies.Associate.{Associate}
@@ -11,8 +11,8 @@ use Rattle.dq_pdu.specs.declared.pdu.ProposedContext.{ProposedContext}
 use Rattle.dq_pdu.specs.declared.pdu.AnsweredContext.{AnsweredContext}
 use Rattle.dq_pdu.specs.declared.pdu.Request.{Request}
 use Rattle.dq_pdu.specs.declared.pdu.Accept.{Accept}
-use Rattle.dq_pdu.specs.Octets.{parts_of, each, bodies, at_most_one, unpadded, are_distinct}
-use Rattle.dq_pdu.specs.Spelling.{IsProposed, IsAnswered, AreFields, IsUserInformation, IsAssociate, IsRequest, IsAccept, request_fields, accept_fields}
+use Rattle.dq_pdu.specs.Octets.{parts_of, each_given, bodies, at_most_one, without_uid_padding, are_distinct}
+use Rattle.dq_pdu.specs.Spelling.{IsProposed, IsAnsweredContext, AreFields, IsUserInformation, IsAssociate, IsRequest, IsAccept, request_fields, accept_fields}
 use Rattle.dq_pdu.specs.Reading.{item_at, proposed_of, answered_of, user_information_of, fields_of, associate_of, request_with, accept_with, request_of, accept_of}
 use Rattle.dq_pdu.proofs.PartLaws.{some_is}
 use Rattle.dq_pdu.proofs.ItemLaws.{items_fill}
@@ -26,7 +26,7 @@ fields_at body application maximum = record {
   called = take 16 (drop 4 body);
   calling = take 16 (drop 20 body);
   reserved = take 32 (drop 36 body);
-  application_context = option_map unpadded application;
+  application_context = option_map without_uid_padding application;
   maximum_length = maximum;
 }
 
@@ -39,7 +39,7 @@ fields_from body items application user maximum e1 e2 e3 = rw (e1, e2, e3) refl
 -- the fixed fields, the application context and the maximum length of a body with the items
 pub record HasFields (fields : Associate) (items : List Item) (body : List ℕ) : Type 0 where
   pub fixed : AreFields fields.version fields.called fields.calling fields.reserved items body
-  pub application : option_map (option_map unpadded) (at_most_one (bodies 16 items)) ≡ Some fields.application_context
+  pub application : option_map (option_map without_uid_padding) (at_most_one (bodies 16 items)) ≡ Some fields.application_context
   pub user : IsUserInformation fields.maximum_length (bodies 80 items)
 
 fields_spelled : (body : List ℕ) (items : List Item) (fields : Associate) → 68 ≤ length body → parts_of item_at (drop 68 body) ≡ Some items
@@ -53,12 +53,12 @@ fields_spelled body items fields long read e =
     let s3 = bind_some (user_information_of s2.0) (made s1.0) fields s2.2 in
     subst (λ (f : Associate). HasFields f items body) (some_is (fields_at body s1.0 s3.0) fields s3.2) (record {
       fixed = associate_spelled body items long (items_fill (drop 68 body) items read);
-      application = ap (option_map (option_map unpadded)) s1.1;
+      application = ap (option_map (option_map without_uid_padding)) s1.1;
       user = user_spelled (bodies 80 items) s2.0 s3.0 s2.1 s3.1;
     })
 
-name_found : (o : Option (Option (List ℕ))) (name : Option (List ℕ)) → option_map (option_map unpadded) o ≡ Some name
-    → (found : Option (List ℕ)) × (o ≡ Some found) × (option_map unpadded found ≡ name)
+name_found : (o : Option (Option (List ℕ))) (name : Option (List ℕ)) → option_map (option_map without_uid_padding) o ≡ Some name
+    → (found : Option (List ℕ)) × (o ≡ Some found) × (option_map without_uid_padding found ≡ name)
 name_found None name e = absurd cc
 name_found (Some found) name e = (found, refl, cc)
 
@@ -78,14 +78,14 @@ module _ {C : Type 0} (Context : C → List ℕ → Type 0) (context_of : List �
       → (body : List ℕ) (made : Associate × List C) → associate_of context_of id_of kind body ≡ Some made → IsAssociate Context kind id_of made.0 made.1 body
   unfolding associate_of
   made_spelled sound body made e =
-      let last = λ (fields : Associate) (contexts : List C). provided (are_distinct (map id_of contexts)) (fields, contexts) in
-      let after_fields = λ (items : List Item) (fields : Associate). each context_of (bodies kind items) >>= λ contexts. last fields contexts in
+      let last = λ (fields : Associate) (contexts : List C). only_if (are_distinct (map id_of contexts)) (fields, contexts) in
+      let after_fields = λ (items : List Item) (fields : Associate). each_given context_of (bodies kind items) >>= λ contexts. last fields contexts in
       let after_items = λ (items : List Item). fields_of body items >>= λ fields. after_fields items fields in
-      let s1 = bind_some (provided (leb 68 (length body)) (drop 68 body)) (λ rest. parts_of item_at rest >>= λ items. after_items items) made e in
+      let s1 = bind_some (only_if (leb 68 (length body)) (drop 68 body)) (λ rest. parts_of item_at rest >>= λ items. after_items items) made e in
       let p1 = provided_some (leb 68 (length body)) (drop 68 body) s1.0 s1.1 in
       let s2 = bind_some (parts_of item_at s1.0) after_items made s1.2 in
       let s3 = bind_some (fields_of body s2.0) (after_fields s2.0) made s2.2 in
-      let s4 = bind_some (each context_of (bodies kind s2.0)) (last s3.0) made s3.2 in
+      let s4 = bind_some (each_given context_of (bodies kind s2.0)) (last s3.0) made s3.2 in
       let p4 = provided_some (are_distinct (map id_of s4.0)) (s3.0, s4.0) made s4.2 in
       let read : parts_of item_at (drop 68 body) ≡ Some s2.0 = ap (parts_of item_at) p1.1 ∙ s2.1 in
       let has = fields_spelled body s2.0 s3.0 (leb-true _ _ p1.0) read s3.1 in
@@ -133,10 +133,10 @@ unfolding accept_of
 accept_spelled body accept e =
     let a = bind_some (associate_of answered_of answered_id 33 body) (λ read. Some (accept_with read.0 read.1)) accept e in
     subst (λ (r : Accept). IsAccept r body) (some_is (accept_with a.0.0 a.0.1) accept a.2)
-    (made_spelled IsAnswered answered_of answered_id 33 answered_spelled body a.0 a.1)
+    (made_spelled IsAnsweredContext answered_of answered_id 33 answered_spelled body a.0 a.1)
 
 pub accept_again : (accept : Accept) (body : List ℕ) → IsAccept accept body → accept_of body ≡ Some accept
 unfolding accept_of
 accept_again accept body is =
     ap (λ (o : Option (Associate × List AnsweredContext)). o >>= λ read. Some (accept_with read.0 read.1))
-    (made_again IsAnswered answered_of answered_id 33 answered_read (accept_fields accept) accept.contexts body is)
+    (made_again IsAnsweredContext answered_of answered_id 33 answered_read (accept_fields accept) accept.contexts body is)

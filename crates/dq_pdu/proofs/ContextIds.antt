@@ -3,7 +3,7 @@ use Rattle.std.proofs.Common.{◌≡◌, ℕ, zero, suc, ◌+◌, ◌%◌, ◌<�
 use Rattle.std.specs.Prelude.{not}
 use Rattle.std.specs.List.{list_all}
 use Rattle.std.proofs.lemmas.Bool.{and_parts, or_parts, eqb-true, eqb-false, ltb-true, not-true, cases_Bool}
-use Rattle.dq_pdu.specs.Octets.{is_among, are_distinct}
+use Rattle.dq_pdu.specs.Octets.{is_number_among, are_distinct}
 use Rattle.dq_pdu.specs.Reading.{is_odd}
 use Rattle.dq_pdu.specs.Acceptances.{AreContextIds}
 
@@ -17,29 +17,29 @@ without x [] = []
 without x (y ∷ ys) = cond (eqb x y) (without x ys) (y ∷ without x ys)
 
 -- the number is not lost twice
-without_absent : (x : ℕ) (xs : List ℕ) → is_among x xs ≡ false → without x xs ≡ xs
+without_absent : (x : ℕ) (xs : List ℕ) → is_number_among x xs ≡ false → without x xs ≡ xs
 without_absent x [] e = refl
 without_absent x (y ∷ ys) e =
-    let p = or_parts (eqb x y) (is_among x ys) e in
+    let p = or_parts (eqb x y) (is_number_among x ys) e in
     rw (p.0, without_absent x ys p.1) refl
 
 fewer_by_one : (x : ℕ) (xs : List ℕ) → are_distinct xs ≡ true → length xs ≤ length (without x xs) + 1
 fewer_by_one x [] e = omega arith
 fewer_by_one x (y ∷ ys) e =
-    let p = and_parts (not (is_among y ys)) (are_distinct ys) e in
+    let p = and_parts (not (is_number_among y ys)) (are_distinct ys) e in
     elim (cases_Bool (eqb x y)) [
       | inl same ↦
-          let absent : is_among x ys ≡ false = rw (eqb-true x y same) (not-true (is_among y ys) p.0) in
+          let absent : is_number_among x ys ≡ false = rw (eqb-true x y same) (not-true (is_number_among y ys) p.0) in
           rw (same, without_absent x ys absent) (omega arith)
       | inr other ↦
           let ih = fewer_by_one x ys p.1 in
           rw other (omega (arith, ih))
     ]
 
-absent_without : (x z : ℕ) (xs : List ℕ) → is_among z xs ≡ false → is_among z (without x xs) ≡ false
+absent_without : (x z : ℕ) (xs : List ℕ) → is_number_among z xs ≡ false → is_number_among z (without x xs) ≡ false
 absent_without x z [] e = refl
 absent_without x z (y ∷ ys) e =
-    let p = or_parts (eqb z y) (is_among z ys) e in
+    let p = or_parts (eqb z y) (is_number_among z ys) e in
     let ih = absent_without x z ys p.1 in
     elim (cases_Bool (eqb x y)) [
       | inl same ↦ rw same ih
@@ -49,11 +49,11 @@ absent_without x z (y ∷ ys) e =
 distinct_without : (x : ℕ) (xs : List ℕ) → are_distinct xs ≡ true → are_distinct (without x xs) ≡ true
 distinct_without x [] e = refl
 distinct_without x (y ∷ ys) e =
-    let p = and_parts (not (is_among y ys)) (are_distinct ys) e in
+    let p = and_parts (not (is_number_among y ys)) (are_distinct ys) e in
     let ih = distinct_without x ys p.1 in
     elim (cases_Bool (eqb x y)) [
       | inl same ↦ rw same ih
-      | inr other ↦ rw (other, absent_without x y ys (not-true (is_among y ys) p.0)) ih
+      | inr other ↦ rw (other, absent_without x y ys (not-true (is_number_among y ys) p.0)) ih
     ]
 
 -- without the greatest odd number below the bound, the others are below a lower one

@@ -6,10 +6,10 @@ use Rattle.dq_pdu.specs.declared.reading.Item.{Item}
 use Rattle.dq_pdu.specs.declared.pdu.ProposedContext.{ProposedContext}
 use Rattle.dq_pdu.specs.declared.pdu.AnsweredContext.{AnsweredContext}
 use Rattle.dq_list.specs.Lengths.{is_empty}
-use Rattle.dq_list.specs.Readers.{◌>>=◌, provided}
+use Rattle.dq_list.specs.Readers.{◌>>=◌, only_if}
 use Rattle.dq_list.proofs.Readers.{bind_some, provided_some}
-use Rattle.dq_pdu.specs.Octets.{Pairwise, parts_of, each, bodies, at_most_one, exactly_one, unpadded}
-use Rattle.dq_pdu.specs.Spelling.{IsProposed, IsAnswered, IsMaximumLength, IsUserInformation}
+use Rattle.dq_pdu.specs.Octets.{Pairwise, parts_of, each_given, bodies, at_most_one, exactly_one, without_uid_padding}
+use Rattle.dq_pdu.specs.Spelling.{IsProposed, IsAnsweredContext, IsMaximumLength, IsUserInformation}
 use Rattle.dq_pdu.specs.Reading.{item_at, proposed_of, answered_of, maximum_in, user_information_of}
 use Rattle.dq_pdu.proofs.PartLaws.{some_is}
 use Rattle.dq_pdu.proofs.ItemLaws.{items_fill, items_read}
@@ -24,22 +24,22 @@ pub filled : {A : Type 0} (xs : List A) → xs ≢ [] → not (is_empty xs) ≡ 
 filled [] n = absurd (n refl)
 filled (x ∷ xs) n = refl
 
-map_nil : (xs : List (List ℕ)) → map unpadded xs ≢ [] → xs ≢ []
+map_nil : (xs : List (List ℕ)) → map without_uid_padding xs ≢ [] → xs ≢ []
 map_nil [] n = λ e. n refl
 map_nil (x ∷ xs) n = λ e. cc
 
-nil_map : (xs : List (List ℕ)) → xs ≢ [] → map unpadded xs ≢ []
+nil_map : (xs : List (List ℕ)) → xs ≢ [] → map without_uid_padding xs ≢ []
 nil_map [] n = λ e. n refl
 nil_map (x ∷ xs) n = λ e. cc
 
-pub only : (o : Option (List ℕ)) (x : List ℕ) → option_map unpadded o ≡ Some x → (y : List ℕ) × (o ≡ Some y) × (unpadded y ≡ x)
+pub only : (o : Option (List ℕ)) (x : List ℕ) → option_map without_uid_padding o ≡ Some x → (y : List ℕ) × (o ≡ Some y) × (without_uid_padding y ≡ x)
 only None x e = absurd cc
 only (Some y) x e = (y, refl, cc)
 
 -- ---- proposed contexts
 
 abbrev made : ℕ → List ℕ → List (List ℕ) → ProposedContext
-made id abstract names = record { id = id; abstract_syntax = unpadded abstract; transfer_syntaxes = map unpadded names }
+made id abstract names = record { id = id; abstract_syntax = without_uid_padding abstract; transfer_syntaxes = map without_uid_padding names }
 
 pub proposed_spelled : (body : List ℕ) (context : ProposedContext) → proposed_of body ≡ Some context → IsProposed context body
 unfolding proposed_of
@@ -49,8 +49,8 @@ proposed_spelled (i ∷ a ∷ []) context e = absurd cc
 proposed_spelled (i ∷ a ∷ b ∷ []) context e = absurd cc
 proposed_spelled (i ∷ a ∷ b ∷ c ∷ rest) context e =
     let test = λ (items : List Item). eqb (i % 2) 1 && not (is_empty (bodies 64 items)) in
-    let last = λ (items : List Item) (abstract : List ℕ). provided (test items) (made i abstract (bodies 64 items)) in
-    let s1 = bind_some (provided (leb 4 (length (i ∷ a ∷ b ∷ c ∷ rest))) rest) (λ r. parts_of item_at r >>= λ items. exactly_one
+    let last = λ (items : List Item) (abstract : List ℕ). only_if (test items) (made i abstract (bodies 64 items)) in
+    let s1 = bind_some (only_if (leb 4 (length (i ∷ a ∷ b ∷ c ∷ rest))) rest) (λ r. parts_of item_at r >>= λ items. exactly_one
     (bodies 48 items) >>= λ abstract. last items abstract) context e in
     let p1 = provided_some (leb 4 (length (i ∷ a ∷ b ∷ c ∷ rest))) rest s1.0 s1.1 in
     let s2 = bind_some (parts_of item_at s1.0) (λ items. exactly_one (bodies 48 items) >>= λ abstract. last items abstract) context s1.2 in
@@ -66,7 +66,7 @@ proposed_spelled (i ∷ a ∷ b ∷ c ∷ rest) context e =
       three = refl;
       odd = eqb-true _ _ t.0;
       fills = items_fill rest s2.0 read;
-      abstract = ap (option_map unpadded) s3.1;
+      abstract = ap (option_map without_uid_padding) s3.1;
       transfer = refl;
       some = nil_map (bodies 64 s2.0) (not_nil (bodies 64 s2.0) t.1);
     })
@@ -87,9 +87,9 @@ proposed_read context body is = grind (arith, only, map_nil, proposed_at, items_
 -- ---- answered contexts
 
 abbrev answer : ℕ → ℕ → List ℕ → AnsweredContext
-answer id result transfer = record { id = id; result = result; transfer_syntax = unpadded transfer }
+answer id result transfer = record { id = id; result = result; transfer_syntax = without_uid_padding transfer }
 
-pub answered_spelled : (body : List ℕ) (context : AnsweredContext) → answered_of body ≡ Some context → IsAnswered context body
+pub answered_spelled : (body : List ℕ) (context : AnsweredContext) → answered_of body ≡ Some context → IsAnsweredContext context body
 unfolding answered_of
 answered_spelled [] context e = absurd cc
 answered_spelled (i ∷ []) context e = absurd cc
@@ -97,15 +97,15 @@ answered_spelled (i ∷ a ∷ []) context e = absurd cc
 answered_spelled (i ∷ a ∷ b ∷ []) context e = absurd cc
 answered_spelled (i ∷ a ∷ b ∷ c ∷ rest) context e =
     let body = i ∷ a ∷ b ∷ c ∷ rest in
-    let last = λ (transfer : List ℕ). provided (eqb (i % 2) 1) (answer i b transfer) in
-    let s1 = bind_some (provided (leb 4 (length body)) rest) (λ r. parts_of item_at r >>= λ items. exactly_one
+    let last = λ (transfer : List ℕ). only_if (eqb (i % 2) 1) (answer i b transfer) in
+    let s1 = bind_some (only_if (leb 4 (length body)) rest) (λ r. parts_of item_at r >>= λ items. exactly_one
     (bodies 64 items) >>= λ transfer. last transfer) context e in
     let p1 = provided_some (leb 4 (length body)) rest s1.0 s1.1 in
     let s2 = bind_some (parts_of item_at s1.0) (λ items. exactly_one (bodies 64 items) >>= λ transfer. last transfer) context s1.2 in
     let s3 = bind_some (exactly_one (bodies 64 s2.0)) last context s2.2 in
     let p3 = provided_some (eqb (i % 2) 1) (answer i b s3.0) context s3.2 in
     let read : parts_of item_at rest ≡ Some s2.0 = ap (parts_of item_at) p1.1 ∙ s2.1 in
-    subst (λ (d : AnsweredContext). IsAnswered d (i ∷ a ∷ b ∷ c ∷ rest)) p3.1 (record {
+    subst (λ (d : AnsweredContext). IsAnsweredContext d (i ∷ a ∷ b ∷ c ∷ rest)) p3.1 (record {
       before = a;
       behind = c;
       rest = rest;
@@ -113,7 +113,7 @@ answered_spelled (i ∷ a ∷ b ∷ c ∷ rest) context e =
       spelled = refl;
       odd = eqb-true _ _ p3.0;
       fills = items_fill rest s2.0 read;
-      transfer = ap (option_map unpadded) s3.1;
+      transfer = ap (option_map without_uid_padding) s3.1;
     })
 
 answered_at : (i before result behind : ℕ) (rest : List ℕ) (items : List Item) (name : List ℕ) → i % 2 ≡ 1 → parts_of item_at rest ≡ Some items
@@ -122,21 +122,21 @@ answered_at : (i before result behind : ℕ) (rest : List ℕ) (items : List Ite
 unfolding answered_of
 answered_at i before result behind rest items name odd e1 e2 = grind (arith, le-leb, eq-eqb)
 
-pub answered_read : (context : AnsweredContext) (body : List ℕ) → IsAnswered context body → answered_of body ≡ Some context
+pub answered_read : (context : AnsweredContext) (body : List ℕ) → IsAnsweredContext context body → answered_of body ≡ Some context
 answered_read context body is = grind (arith, only, answered_at, items_read)
 
 -- ---- contexts, one by one
 
 pub each_spelled : {A : Type 0} (f : List ℕ → Option A) (Is : A → List ℕ → Type 0) → ((body : List ℕ) (x : A) → f body ≡ Some x → Is x body)
-    → (octets : List (List ℕ)) (xs : List A) → each f octets ≡ Some xs → Pairwise Is xs octets
+    → (octets : List (List ℕ)) (xs : List A) → each_given f octets ≡ Some xs → Pairwise Is xs octets
 each_spelled f Is sound [] xs e = subst (λ ys. Pairwise Is ys []) (some_is [] xs e) tt
 each_spelled {A} f Is sound (body ∷ octets) xs e =
-    let a = bind_some (f body) (λ first. each f octets >>= λ others. Some (first ∷ others)) xs e in
-    let b = bind_some (each f octets) (λ others. Some (a.0 ∷ others)) xs a.2 in
+    let a = bind_some (f body) (λ first. each_given f octets >>= λ others. Some (first ∷ others)) xs e in
+    let b = bind_some (each_given f octets) (λ others. Some (a.0 ∷ others)) xs a.2 in
     subst (λ (ys : List A). Pairwise Is ys (body ∷ octets)) (some_is (a.0 ∷ b.0) xs b.2) (sound body a.0 a.1, each_spelled f Is sound octets b.0 b.1)
 
 pub each_read : {A : Type 0} (f : List ℕ → Option A) (Is : A → List ℕ → Type 0) → ((x : A) (body : List ℕ) → Is x body → f body ≡ Some x)
-    → (xs : List A) (octets : List (List ℕ)) → Pairwise Is xs octets → each f octets ≡ Some xs
+    → (xs : List A) (octets : List (List ℕ)) → Pairwise Is xs octets → each_given f octets ≡ Some xs
 each_read f Is complete [] [] h = refl
 each_read f Is complete [] (body ∷ octets) h = absurd h
 each_read f Is complete (x ∷ xs) [] h = absurd h

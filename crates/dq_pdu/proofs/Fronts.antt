@@ -9,7 +9,7 @@ use Rattle.dq_pdu.specs.declared.fault.PduFault.{PduFault}
 use Rattle.dq_pdu.specs.declared.fault.PduFault.TheVariants.{Unrecognized, TooLong, Malformed}
 use Rattle.dq_pdu.specs.declared.pdu.Pdu.{Pdu}
 use Rattle.dq_pdu.specs.Reading.{front, pdu_of, is_unrecognized, body_length, whole_or_malformed}
-use Rattle.dq_pdu.specs.Stream.{fault_of}
+use Rattle.dq_pdu.specs.Stream.{fault_at_front}
 
 -- the choice after the six octets
 abbrev chosen : Bool → Bool → Bool → Option Pdu → ℕ → Front
@@ -97,7 +97,7 @@ partial_fault false false true read n e = refl
 partial_fault false false false None n e = absurd cc
 partial_fault false false false (Some p) n e = absurd cc
 
-pub fault_of-faulty : (s : List ℕ) (fault : PduFault) → front s ≡ Faulty fault → fault_of s ≡ Some fault
+pub fault_of-faulty : (s : List ℕ) (fault : PduFault) → front s ≡ Faulty fault → fault_at_front s ≡ Some fault
 fault_of-faulty s fault e =
     elim (cases_lt (length s) 6) [
       | inl few ↦ absurd (let p = sym (front-few s few) ∙ e in cc)
@@ -105,7 +105,7 @@ fault_of-faulty s fault e =
           ∙ e))
     ]
 
-pub fault_of-partial : (s : List ℕ) → front s ≡ Partial → fault_of s ≡ None
+pub fault_of-partial : (s : List ℕ) → front s ≡ Partial → fault_at_front s ≡ None
 fault_of-partial s e =
     elim (cases_lt (length s) 6) [
       | inl few ↦ rw (lt-ltb (length s) 6 few) refl

@@ -7,9 +7,9 @@ use Rattle.dq_pdu.specs.declared.reading.Front.TheVariants.{Partial, Faulty, Who
 use Rattle.dq_pdu.specs.declared.inbox.InboxState.{InboxState}
 use Rattle.dq_pdu.specs.declared.inbox.InboxState.TheVariants.{Reading, Stopped, Spent}
 use Rattle.dq_pdu.specs.Reading.{front}
-use Rattle.dq_pdu.specs.Stream.{pdus_in, with_list, fault_of}
-use Rattle.dq_pdu.specs.Holding.{held_at, holding, HoldsPart}
-use Rattle.dq_pdu.specs.Inboxes.{fault_in, octets_in}
+use Rattle.dq_pdu.specs.Stream.{pdus_in, with_list, fault_at_front}
+use Rattle.dq_pdu.specs.Holding.{held_at, inbox_holding, HoldsPart}
+use Rattle.dq_pdu.specs.Inboxes.{inbox_fault, inbox_octets}
 use Rattle.dq_pdu.proofs.Fronts.{fault_of-faulty, partial_is_short}
 use Rattle.dq_pdu.proofs.PduLaws.{pdus_partial, pdus_in-append}
 use Rattle.dq_pdu.proofs.StreamLaws.{HasNoFront, known}
@@ -22,17 +22,17 @@ held_stopped : (found : Option PduFault) (rest : List ℕ) (fault : PduFault) �
 held_stopped None rest fault e = absurd cc
 held_stopped (Some found) rest fault e = cc
 
-pub reading_on : (stream piece held : List ℕ) → Reading held ≡ holding stream
+pub reading_on : (stream piece held : List ℕ) → Reading held ≡ inbox_holding stream
     → pdus_in (stream ++ piece) ≡ with_list (pdus_in stream).list (pdus_in (held ++ piece))
 reading_on stream piece held e = grind (arith, held_reading, pdus_in-append)
 
-pub stopped_on : (stream piece : List ℕ) (fault : PduFault) → Stopped fault ≡ holding stream
+pub stopped_on : (stream piece : List ℕ) (fault : PduFault) → Stopped fault ≡ inbox_holding stream
     → pdus_in (stream ++ piece) ≡ record { list = (pdus_in stream).list; rest = (pdus_in stream).rest ++ piece; fault = Some fault }
 stopped_on stream piece fault e = grind (arith, pdus_in-append, held_stopped)
 
 -- ---- no whole PDU is held
 
-part_by : (rest : List ℕ) (f : Front) → front rest ≡ f → HasNoFront rest → fault_of rest ≡ None → front rest ≡ Partial
+part_by : (rest : List ℕ) (f : Front) → front rest ≡ f → HasNoFront rest → fault_at_front rest ≡ None → front rest ≡ Partial
 part_by rest Partial e ends fault = e
 part_by rest (Faulty found) e ends fault = absurd (let z = sym (fault_of-faulty rest found e) ∙ fault in cc)
 part_by rest (Whole pdu count) e ends fault = absurd (ends pdu count e)
@@ -41,7 +41,7 @@ held_part : (fault : Option PduFault) (rest : List ℕ) → (fault ≡ None → 
 held_part None rest h = h refl
 held_part (Some fault) rest h = tt
 
-pub holding-part : (stream : List ℕ) → HoldsPart (holding stream)
+pub holding-part : (stream : List ℕ) → HoldsPart (inbox_holding stream)
 holding-part stream =
     let k = known stream in
     held_part (pdus_in stream).fault (pdus_in stream).rest (λ e. part_by (pdus_in stream).rest (front (pdus_in stream).rest) refl k.ends (sym k.fault ∙ e))
@@ -61,7 +61,7 @@ idle_exact held piece none part = ap (λ (p : List ℕ). pdus_in (held ++ p)) no
 
 -- ---- laws
 
-fault_held_at : (fault : Option PduFault) (rest : List ℕ) → fault_in (held_at fault rest) ≡ fault
+fault_held_at : (fault : Option PduFault) (rest : List ℕ) → inbox_fault (held_at fault rest) ≡ fault
 fault_held_at None rest = refl
 fault_held_at (Some fault) rest = refl
 
@@ -69,21 +69,21 @@ not_spent_at : (fault : Option PduFault) (rest : List ℕ) → Spent ≡ held_at
 not_spent_at None rest e = cc
 not_spent_at (Some fault) rest e = cc
 
-pub not_spent : (stream : List ℕ) → Spent ≡ holding stream → ⊥
+pub not_spent : (stream : List ℕ) → Spent ≡ inbox_holding stream → ⊥
 not_spent stream e = not_spent_at (pdus_in stream).fault (pdus_in stream).rest e
 
-pub fault_held : (stream : List ℕ) → fault_in (holding stream) ≡ (pdus_in stream).fault
+pub fault_held : (stream : List ℕ) → inbox_fault (inbox_holding stream) ≡ (pdus_in stream).fault
 fault_held stream = fault_held_at (pdus_in stream).fault (pdus_in stream).rest
 
 -- ---- how much is held
 
-pub part_is_short : (held : InboxState) → HoldsPart held → length (octets_in held) < 6 + 65536
+pub part_is_short : (held : InboxState) → HoldsPart held → length (inbox_octets held) < 6 + 65536
 part_is_short (Reading rest) part = partial_is_short rest part
 part_is_short (Stopped fault) part = omega arith
 part_is_short Spent part = omega arith
 
-pub held_is_short : (stream : List ℕ) → length (octets_in (holding stream)) < 6 + 65536
-held_is_short stream = part_is_short (holding stream) (holding-part stream)
+pub held_is_short : (stream : List ℕ) → length (inbox_octets (inbox_holding stream)) < 6 + 65536
+held_is_short stream = part_is_short (inbox_holding stream) (holding-part stream)
 
 pub rest_is_short : (stream : List ℕ) → (pdus_in stream).fault ≡ None → length (pdus_in stream).rest < 6 + 65536
 rest_is_short stream e =

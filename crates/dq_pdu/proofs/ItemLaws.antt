@@ -9,7 +9,7 @@ use Rattle.dq_pdu.specs.declared.pdu.Pdv.{Pdv}
 use Rattle.dq_pdu.specs.Octets.{Fills, parts_of}
 use Rattle.dq_pdu.specs.Spelling.{IsItem, IsPdv}
 use Rattle.dq_pdu.specs.Reading.{item_at, pdv_at}
-use Rattle.dq_pdu.specs.Shrinking.{guarded, item_shrinks, pdv_shrinks}
+use Rattle.dq_pdu.specs.Shrinking.{test_held, item_shrinks, pdv_shrinks}
 use Rattle.dq_pdu.proofs.PartLaws.{Sound, Complete, fills_from, parts_from, fills_once}
 
 abbrev pub IsSpelledAt : {A : Type 0} → (A → List ℕ → Type 0) → List ℕ → A × List ℕ → Type 0
@@ -25,7 +25,7 @@ item_spelled (a ∷ b ∷ []) x e = absurd cc
 item_spelled (a ∷ b ∷ c ∷ []) x e = absurd cc
 item_spelled (a ∷ b ∷ c ∷ d ∷ rest) x e =
     let n = from_be_bytes w16 (c ∷ d ∷ []) in
-    let g = guarded (ltb (length (a ∷ b ∷ c ∷ d ∷ rest)) 4 || ltb (length rest) n) (record { kind = a; octets = take n rest }, drop n rest) x e in
+    let g = test_held (ltb (length (a ∷ b ∷ c ∷ d ∷ rest)) 4 || ltb (length rest) n) (record { kind = a; octets = take n rest }, drop n rest) x e in
     let t = or_parts (ltb (length (a ∷ b ∷ c ∷ d ∷ rest)) 4) (ltb (length rest) n) g.0 in
     let long : n ≤ length rest = ltb-false _ _ t.1 in
     subst (IsSpelledAt IsItem (a ∷ b ∷ c ∷ d ∷ rest)) g.1 (
@@ -73,7 +73,7 @@ pdv_spelled (a ∷ b ∷ c ∷ d ∷ f ∷ []) x e = absurd cc
 pdv_spelled (a ∷ b ∷ c ∷ d ∷ f ∷ h ∷ rest) x e =
     let n = from_be_bytes w32 (a ∷ b ∷ c ∷ d ∷ []) in
     let whole = a ∷ b ∷ c ∷ d ∷ f ∷ h ∷ rest in
-    let g = guarded ((ltb (length whole) 6 || ltb n 2) || ltb (length (f ∷ h ∷ rest)) n) (value_of f h (take (n - 2) rest), drop (n - 2) rest) x e in
+    let g = test_held ((ltb (length whole) 6 || ltb n 2) || ltb (length (f ∷ h ∷ rest)) n) (value_of f h (take (n - 2) rest), drop (n - 2) rest) x e in
     let t = or_parts (ltb (length whole) 6 || ltb n 2) (ltb (length (f ∷ h ∷ rest)) n) g.0 in
     let s = or_parts (ltb (length whole) 6) (ltb n 2) t.0 in
     let two : 2 ≤ n = ltb-false _ _ s.1 in

@@ -6,7 +6,7 @@ use Rattle.dq_pdu.specs.declared.reading.Front.TheVariants.{Partial, Faulty, Who
 use Rattle.dq_pdu.specs.declared.fault.PduFault.{PduFault}
 use Rattle.dq_pdu.specs.declared.pdu.Pdu.{Pdu}
 use Rattle.dq_pdu.specs.Reading.{front}
-use Rattle.dq_pdu.specs.Stream.{Pdus, with_first, with_list, pdus_from, pdus_within, pdus_in, continued}
+use Rattle.dq_pdu.specs.Stream.{Pdus, with_first, with_list, pdus_from, pdus_within, pdus_in, stream_read_on}
 use Rattle.dq_pdu.proofs.Fronts.{count_within, front-append}
 
 abbrev nothing_of : List ℕ → Pdus
@@ -57,12 +57,12 @@ pdus_whole (o ∷ s) pdu count e = grind (arith, count_within, length-drop, pdus
 -- ---- a stream that goes on
 
 continued-first : (pdu : Pdu) (fault : Option PduFault) (list : List Pdu) (rest more : List ℕ)
-    → with_first pdu (continued fault list rest more) ≡ continued fault (pdu ∷ list) rest more
+    → with_first pdu (stream_read_on fault list rest more) ≡ stream_read_on fault (pdu ∷ list) rest more
 continued-first pdu None list rest more = refl
 continued-first pdu (Some fault) list rest more = refl
 
 abbrev continues : List ℕ → List ℕ → Type 0
-continues s t = pdus_in (s ++ t) ≡ continued (pdus_in s).fault (pdus_in s).list (pdus_in s).rest t
+continues s t = pdus_in (s ++ t) ≡ stream_read_on (pdus_in s).fault (pdus_in s).list (pdus_in s).rest t
 
 append_by : (s t : List ℕ) (f : Front) → front s ≡ f → ((count : ℕ) → 6 ≤ count → count ≤ length s → continues (drop count s) t) → continues s t
 append_by s t Partial e next = rw (pdus_partial s e) refl
@@ -83,7 +83,7 @@ append_within zero s t h = absurd (omega arith)
 append_within (suc n) s t h =
     append_by s t (front s) refl (λ count six le. append_within n (drop count s) t (omega (arith, length-drop count s)))
 
-pub pdus_in-append : (s t : List ℕ) → pdus_in (s ++ t) ≡ continued (pdus_in s).fault (pdus_in s).list (pdus_in s).rest t
+pub pdus_in-append : (s t : List ℕ) → pdus_in (s ++ t) ≡ stream_read_on (pdus_in s).fault (pdus_in s).list (pdus_in s).rest t
 pdus_in-append s t = append_within (length s + 1) s t (omega arith)
 
 -- ---- a loop over the PDUs

@@ -2,14 +2,15 @@
 use Rattle.std.proofs.Common.{◌≡◌, ℕ, suc, ◌<◌, true, ltb, eqb, List, [], ◌∷◌, ◌++◌, map, refl, subst, inl, inr, arith}
 use Rattle.std.specs.List.{list_all}
 use Rattle.std.proofs.lemmas.Bool.{and_from, eq-eqb, lt-ltb, cases_Bool}
+use Rattle.dq_list.specs.Octets.{AreOctets}
 use Rattle.dq_pdu.specs.declared.reading.Item.{Item}
 use Rattle.dq_pdu.specs.declared.pdu.Pdu.TheVariants.{Request as request_pdu}
 use Rattle.dq_pdu.specs.declared.pdu.Request.{Request}
 use Rattle.dq_pdu.specs.declared.pdu.ProposedContext.{ProposedContext}
 use Rattle.dq_pdu.specs.Octets.{Fills, Pairwise, bodies}
-use Rattle.dq_pdu.specs.Spelling.{IsItem, IsProposed, Spells}
+use Rattle.dq_pdu.specs.Spelling.{IsItem, IsProposed, SpellsPdu}
 use Rattle.dq_pdu.specs.Reading.{is_odd}
-use Rattle.dq_pdu.specs.Acceptances.{AreOctets, IsReceived}
+use Rattle.dq_pdu.specs.Acceptances.{IsReceived}
 
 -- the same, one by one
 abbrev Small : List ℕ → Type 0
@@ -57,7 +58,7 @@ small_ids [] (body ∷ octets) h s = absurd h
 small_ids (c ∷ cs) [] h s = absurd h
 small_ids (c ∷ cs) (body ∷ octets) h s = grind (arith, and_from, lt-ltb, small_ids cs octets h.1 s.1)
 
-pub received : (octets : List ℕ) (request : Request) → AreOctets octets → Spells (request_pdu request) octets → IsReceived request
+pub received : (octets : List ℕ) (request : Request) → AreOctets octets → SpellsPdu (request_pdu request) octets → IsReceived request
 received octets request octets_are s =
     let is = s.says.1 in
     let all = subst Small s.whole (small octets octets_are) in

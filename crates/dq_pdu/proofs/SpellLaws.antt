@@ -12,8 +12,8 @@ use Rattle.dq_pdu.specs.declared.reading.Front.TheVariants.{Whole}
 use Rattle.dq_pdu.specs.declared.pdu.Accept.{Accept}
 use Rattle.dq_list.proofs.Readers.{bind_some, provided_some}
 use Rattle.dq_pdu.specs.Octets.{parts_of}
-use Rattle.dq_pdu.specs.Spelling.{IsBody, Spells}
-use Rattle.dq_pdu.specs.Reading.{pdv_at, request_of, accept_of, values_of, if_short, pdu_of, front, body_length, is_unrecognized}
+use Rattle.dq_pdu.specs.Spelling.{IsBody, SpellsPdu}
+use Rattle.dq_pdu.specs.Reading.{pdv_at, request_of, accept_of, data_pdu_of, if_short, pdu_of, front, body_length, is_unrecognized}
 use Rattle.dq_pdu.proofs.PartLaws.{some_is}
 use Rattle.dq_pdu.proofs.ItemLaws.{values_fill, values_read}
 use Rattle.dq_pdu.proofs.ContextLaws.{not_nil, filled}
@@ -47,8 +47,8 @@ request_body body pdu e = grind (arith, request_made, request_spelled)
 accept_body : (body : List ℕ) (pdu : Pdu) → option_map accept_pdu (accept_of body) ≡ Some pdu → IsBody pdu 2 body
 accept_body body pdu e = grind (arith, accept_made, accept_spelled)
 
-values_body : (body : List ℕ) (pdu : Pdu) → values_of body ≡ Some pdu → IsBody pdu 4 body
-unfolding values_of
+values_body : (body : List ℕ) (pdu : Pdu) → data_pdu_of body ≡ Some pdu → IsBody pdu 4 body
+unfolding data_pdu_of
 values_body body pdu e = grind (arith, bind_some, provided_some, not_nil, values_fill)
 
 reject_body : (body : List ℕ) → length body ≡ 4 → IsBody (Reject (get_or body 1 0) (get_or body 2 0) (get_or body 3 0)) 3 body
@@ -72,7 +72,7 @@ pdu_spelled kind body pdu e =
     let o7 = cond (eqb kind 7) (if_short body abort) None in
     let o6 = cond (eqb kind 6) (if_short body ReleaseRp) o7 in
     let o5 = cond (eqb kind 5) (if_short body ReleaseRq) o6 in
-    let o4 = cond (eqb kind 4) (values_of body) o5 in
+    let o4 = cond (eqb kind 4) (data_pdu_of body) o5 in
     let o3 = cond (eqb kind 3) (if_short body reject) o4 in
     let o2 = cond (eqb kind 2) (option_map accept_pdu (accept_of body)) o3 in
     elim (chose (eqb kind 1) (option_map request_pdu (request_of body)) o2 (Some pdu) e) [
@@ -81,7 +81,7 @@ pdu_spelled kind body pdu e =
         | inl h ↦ body_of_kind kind 2 body pdu h.0 (accept_body body pdu h.1)
         | inr n2 ↦ elim (chose (eqb kind 3) (if_short body reject) o4 (Some pdu) n2.1) [
           | inl h ↦ body_of_kind kind 3 body pdu h.0 (four_body 3 body reject pdu (reject_body body) h.1)
-          | inr n3 ↦ elim (chose (eqb kind 4) (values_of body) o5 (Some pdu) n3.1) [
+          | inr n3 ↦ elim (chose (eqb kind 4) (data_pdu_of body) o5 (Some pdu) n3.1) [
             | inl h ↦ body_of_kind kind 4 body pdu h.0 (values_body body pdu h.1)
             | inr n4 ↦ elim (chose (eqb kind 5) (if_short body ReleaseRq) o6 (Some pdu) n4.1) [
               | inl h ↦ body_of_kind kind 5 body pdu h.0 (four_body 5 body ReleaseRq pdu (λ n. (refl, n)) h.1)
@@ -98,8 +98,8 @@ pdu_spelled kind body pdu e =
       ]
     ]
 
-values_again : (values : List Pdv) (body : List ℕ) → (values ≢ []) → parts_of pdv_at body ≡ Some values → values_of body ≡ Some (PData values)
-unfolding values_of
+values_again : (values : List Pdv) (body : List ℕ) → (values ≢ []) → parts_of pdv_at body ≡ Some values → data_pdu_of body ≡ Some (PData values)
+unfolding data_pdu_of
 values_again values body some e = grind (arith, filled)
 
 pub pdu_read : (pdu : Pdu) (kind : ℕ) (body : List ℕ) → IsBody pdu kind body → pdu_of kind body ≡ Some pdu
@@ -115,7 +115,7 @@ pdu_read (Abort source reason) kind body is = rw (is.0, is.3) refl
 abbrev head : List ℕ → ℕ
 head o = get_or o 0 0
 
-pub spells_once : (octets : List ℕ) (pdu other : Pdu) → Spells pdu octets → Spells other octets → pdu ≡ other
+pub spells_once : (octets : List ℕ) (pdu other : Pdu) → SpellsPdu pdu octets → SpellsPdu other octets → pdu ≡ other
 spells_once octets pdu other p q =
     let e : p.kind ∷ p.reserved ∷ (p.size ++ p.body) ≡ q.kind ∷ q.reserved ∷ (q.size ++ q.body) = sym p.whole ∙ q.whole in
     let kind : p.kind ≡ q.kind = ap head e in
@@ -153,7 +153,7 @@ known_kind ReleaseRq kind body is = rw is.0 refl
 known_kind ReleaseRp kind body is = rw is.0 refl
 known_kind (Abort source reason) kind body is = rw is.0 refl
 
-pub spelled_read : (pdu : Pdu) (octets behind : List ℕ) → Spells pdu octets → front (octets ++ behind) ≡ Whole pdu (length octets)
+pub spelled_read : (pdu : Pdu) (octets behind : List ℕ) → SpellsPdu pdu octets → front (octets ++ behind) ≡ Whole pdu (length octets)
 spelled_read pdu octets behind s =
     let w = whole_at s.kind s.reserved s.size s.body behind pdu (known_kind pdu s.kind s.body s.says) s.sized.wide s.sized.value s.short
     (pdu_read pdu s.kind s.body s.says) in
@@ -169,5 +169,5 @@ front_split (a ∷ b ∷ c ∷ d ∷ []) n h = absurd (omega arith)
 front_split (a ∷ b ∷ c ∷ d ∷ f ∷ []) n h = absurd (omega arith)
 front_split (a ∷ b ∷ c ∷ d ∷ f ∷ g ∷ s) n h = grind arith
 
-pub front_spelled : (s : List ℕ) (pdu : Pdu) (count : ℕ) → front s ≡ Whole pdu count → Spells pdu (take count s)
+pub front_spelled : (s : List ℕ) (pdu : Pdu) (count : ℕ) → front s ≡ Whole pdu count → SpellsPdu pdu (take count s)
 front_spelled s pdu count e = grind (arith, whole_is, pdu_spelled, length-take-le, front_split, length-drop)

@@ -6,7 +6,7 @@ use Rattle.dq_pdu.specs.declared.reading.Front.TheVariants.{Partial, Faulty, Who
 use Rattle.dq_pdu.specs.declared.fault.PduFault.{PduFault}
 use Rattle.dq_pdu.specs.declared.pdu.Pdu.{Pdu}
 use Rattle.dq_pdu.specs.Reading.{front}
-use Rattle.dq_pdu.specs.Stream.{Pdus, Follow, HasNoPdu, Splits, fault_of, pdus_within, pdus_in, continued}
+use Rattle.dq_pdu.specs.Stream.{Pdus, Follow, HasNoPdu, Splits, fault_at_front, pdus_within, pdus_in, stream_read_on}
 use Rattle.dq_pdu.proofs.Fronts.{count_within, fault_of-faulty, fault_of-partial}
 use Rattle.dq_pdu.proofs.PduLaws.{pdus_partial, pdus_faulty, pdus_whole, pdus_in-append}
 use Rattle.dq_pdu.proofs.SpellLaws.{spelled_read, front_spelled}
@@ -19,7 +19,7 @@ HasNoFront rest = (pdu : Pdu) (count : ℕ) → front rest ≡ Whole pdu count �
 pub record Known (stream : List ℕ) (found : Pdus) : Type 0 where
   pub follow : Follow found.list stream found.rest
   pub ends : HasNoFront found.rest
-  pub fault : found.fault ≡ fault_of found.rest
+  pub fault : found.fault ≡ fault_at_front found.rest
 
 known_by : (s : List ℕ) (f : Front) → front s ≡ f → ((count : ℕ) → 6 ≤ count → count ≤ length s → Known (drop count s) (pdus_in (drop count s)))
     → Known s (pdus_in s)
@@ -57,7 +57,7 @@ no_pdu rest ends = λ pdu octets behind e t. ends pdu (length octets) (ap front 
 pub pdus_split : (stream : List ℕ) → Splits stream (pdus_in stream).list (pdus_in stream).rest
 pdus_split stream = record { follow = (known stream).follow; ends = no_pdu (pdus_in stream).rest (known stream).ends }
 
-pub pdus_fault : (stream : List ℕ) → (pdus_in stream).fault ≡ fault_of (pdus_in stream).rest
+pub pdus_fault : (stream : List ℕ) → (pdus_in stream).fault ≡ fault_at_front (pdus_in stream).rest
 pdus_fault stream = (known stream).fault
 
 -- ---- the only ones
@@ -87,7 +87,7 @@ pdus_only stream pdus rest s = follow_only pdus stream rest s.follow s.ends
 
 -- ---- a longer stream
 
-more_from : (fault : Option PduFault) (list : List Pdu) (rest more : List ℕ) → (added : List Pdu) × ((continued fault list rest more).list ≡ list ++ added)
+more_from : (fault : Option PduFault) (list : List Pdu) (rest more : List ℕ) → (added : List Pdu) × ((stream_read_on fault list rest more).list ≡ list ++ added)
 more_from None list rest more = ((pdus_in (rest ++ more)).list, refl)
 more_from (Some fault) list rest more = ([], sym (append-nil list))
 
@@ -100,7 +100,7 @@ pub fault_stays : (stream more : List ℕ) (fault : PduFault) → (pdus_in strea
     → ((pdus_in (stream ++ more)).list ≡ (pdus_in stream).list) × ((pdus_in (stream ++ more)).fault ≡ Some fault)
 fault_stays stream more fault e = grind (arith, pdus_in-append)
 
-faultless_if : (fault : Option PduFault) (list : List Pdu) (rest more : List ℕ) → (continued fault list rest more).fault ≡ None → fault ≡ None
+faultless_if : (fault : Option PduFault) (list : List Pdu) (rest more : List ℕ) → (stream_read_on fault list rest more).fault ≡ None → fault ≡ None
 faultless_if None list rest more e = refl
 faultless_if (Some fault) list rest more e = absurd cc
 

@@ -9,7 +9,7 @@ use Rattle.dq_pdu.specs.declared.pdu.Pdu.{Pdu}
 use Rattle.dq_pdu.specs.declared.pdu.Pdu.TheVariants.{Request as request_pdu, Accept as accept_pdu, Reject, PData, ReleaseRq, ReleaseRp, Abort}
 use Rattle.dq_pdu.specs.Spelling.{request_fields, accept_fields, IsBody}
 use Rattle.dq_pdu.specs.Writing.{kind, body, IsWritable, has_parts, is_writable}
-use Rattle.dq_pdu.specs.Widths.{counted, HasWidths}
+use Rattle.dq_pdu.specs.Widths.{capped_count, HasWidths}
 use Rattle.dq_pdu.proofs.ContextLaws.{not_nil, filled}
 use Rattle.dq_pdu.proofs.WritingLaws.{values_written}
 use Rattle.dq_pdu.proofs.WrittenAssociates.{of_requests, of_accepts, associate_spelled, associate_tells}
@@ -59,10 +59,10 @@ writable_is pdu w = (written pdu w, tells pdu)
 
 -- ---- as the test is computed
 
-fits_same : (n : ℕ) → leb (counted n) 65536 ≡ leb n 65536
+fits_same : (n : ℕ) → leb (capped_count n) 65536 ≡ leb n 65536
 fits_same n = grind (arith, cases_lt, lt-leb, le-leb)
 
-pub means_by_size : (pdu : Pdu) (size : ℕ) → HasWidths pdu → has_parts pdu ≡ true → size ≡ counted (length (body pdu))
+pub means_by_size : (pdu : Pdu) (size : ℕ) → HasWidths pdu → has_parts pdu ≡ true → size ≡ capped_count (length (body pdu))
     → IsTrue (leb size 65536) ↔ IsWritable pdu
 means_by_size pdu size w e n = grind (arith, fits_same, writable_is)
 

@@ -11,8 +11,8 @@ use Rattle.dq_pdu.specs.declared.pdu.ProposedContext.{ProposedContext}
 use Rattle.dq_pdu.specs.declared.pdu.AnsweredContext.{AnsweredContext}
 use Rattle.dq_pdu.specs.declared.pdu.Pdv.{Pdv}
 use Rattle.dq_list.specs.Lengths.{is_empty}
-use Rattle.dq_pdu.specs.Octets.{Fills, bodies, exactly_one, is_padding, unpadded}
-use Rattle.dq_pdu.specs.Spelling.{IsItem, IsPdv, IsProposed, IsAnswered}
+use Rattle.dq_pdu.specs.Octets.{Fills, bodies, exactly_one, is_uid_padding, without_uid_padding}
+use Rattle.dq_pdu.specs.Spelling.{IsItem, IsPdv, IsProposed, IsAnsweredContext}
 use Rattle.dq_pdu.specs.Writing.{item, control_header, pdv, proposed_body, answered_body, is_bare, is_proposable, is_answerable}
 use Rattle.dq_pdu.specs.Reading.{is_odd}
 use Rattle.dq_pdu.proofs.ContextLaws.{not_nil, filled}
@@ -25,31 +25,31 @@ tail_stays : (p : Bool) (x : ℕ) (xs : List ℕ) → cond (p && false) [] (x �
 tail_stays true x xs = refl
 tail_stays false x xs = refl
 
-pub bare_stays : (octets : List ℕ) → is_bare octets ≡ true → unpadded octets ≡ octets
+pub bare_stays : (octets : List ℕ) → is_bare octets ≡ true → without_uid_padding octets ≡ octets
 bare_stays [] e = refl
-bare_stays (x ∷ []) e = rw (not-true (is_padding x) e) refl
-bare_stays (x ∷ y ∷ ys) e = rw (bare_stays (y ∷ ys) e) (tail_stays (is_padding x) x (y ∷ ys))
+bare_stays (x ∷ []) e = rw (not-true (is_uid_padding x) e) refl
+bare_stays (x ∷ y ∷ ys) e = rw (bare_stays (y ∷ ys) e) (tail_stays (is_uid_padding x) x (y ∷ ys))
 
 unpadded_once : (b : Bool) (x : ℕ) (xs ys : List ℕ) → cond b [] (x ∷ xs) ≡ x ∷ ys → (b ≡ false) × (xs ≡ ys)
 unpadded_once true x xs ys e = absurd cc
 unpadded_once false x xs ys e = (refl, cc)
 
-pub stays_bare : (octets : List ℕ) → unpadded octets ≡ octets → is_bare octets ≡ true
+pub stays_bare : (octets : List ℕ) → without_uid_padding octets ≡ octets → is_bare octets ≡ true
 stays_bare [] e = refl
 stays_bare (x ∷ []) e = grind (arith, unpadded_once, cases_Bool)
-stays_bare (x ∷ y ∷ ys) e = stays_bare (y ∷ ys) (unpadded_once (is_padding x && is_empty (unpadded (y ∷ ys))) x (unpadded (y ∷ ys)) (y ∷ ys) e).1
+stays_bare (x ∷ y ∷ ys) e = stays_bare (y ∷ ys) (unpadded_once (is_uid_padding x && is_empty (without_uid_padding (y ∷ ys))) x (without_uid_padding (y ∷ ys)) (y ∷ ys) e).1
 
-pub all_stay : (names : List (List ℕ)) → list_all is_bare names ≡ true → map unpadded names ≡ names
+pub all_stay : (names : List (List ℕ)) → list_all is_bare names ≡ true → map without_uid_padding names ≡ names
 all_stay [] e = refl
 all_stay (name ∷ names) e =
     let p = and_parts (is_bare name) (list_all is_bare names) e in
     rw (bare_stays name p.0, all_stay names p.1) refl
 
-pub all_bare : (names : List (List ℕ)) → map unpadded names ≡ names → list_all is_bare names ≡ true
+pub all_bare : (names : List (List ℕ)) → map without_uid_padding names ≡ names → list_all is_bare names ≡ true
 all_bare [] e = refl
 all_bare (name ∷ names) e =
-    let one : unpadded name ≡ name = cc in
-    let others : map unpadded names ≡ names = cc in
+    let one : without_uid_padding name ≡ name = cc in
+    let others : map without_uid_padding names ≡ names = cc in
     and_from (is_bare name) (list_all is_bare names) (stays_bare name one) (all_bare names others)
 
 -- ---- items
@@ -175,8 +175,8 @@ proposed_written c h e =
       three = refl;
       odd = eqb-true _ _ r.0;
       fills = proposed_fills c h;
-      abstract = ap (option_map unpadded) (abstract_found c) ∙ ap (λ n. Some n) (bare_stays c.abstract_syntax r.1);
-      transfer = sym (ap (map unpadded) (transfers_found c) ∙ all_stay c.transfer_syntaxes p.1);
+      abstract = ap (option_map without_uid_padding) (abstract_found c) ∙ ap (λ n. Some n) (bare_stays c.abstract_syntax r.1);
+      transfer = sym (ap (map without_uid_padding) (transfers_found c) ∙ all_stay c.transfer_syntaxes p.1);
       some = not_nil c.transfer_syntaxes q.1;
     }
 
@@ -190,12 +190,12 @@ proposed_tells c h is =
     let rest : octets ≡ is.rest = after_three c.id is.reserved is.rest octets 0 0 0 is.three is.spelled in
     let items : is.items ≡ proposed_items c = items_once is.items (proposed_items c) octets (subst (Fills IsItem is.items) (sym rest) is.fills)
     (proposed_fills c h) in
-    let abstract : Some (unpadded c.abstract_syntax) ≡ Some c.abstract_syntax = ap (option_map unpadded) (sym (abstract_found c)) ∙ ap (λ
-    (is : List Item). option_map unpadded (exactly_one (bodies 48 is))) (sym items) ∙ is.abstract in
-    let transfers : map unpadded c.transfer_syntaxes ≡ c.transfer_syntaxes = ap (map unpadded) (sym (transfers_found c)) ∙ ap (λ
-    (is : List Item). map unpadded (bodies 64 is)) (sym items) ∙ sym is.transfer in
+    let abstract : Some (without_uid_padding c.abstract_syntax) ≡ Some c.abstract_syntax = ap (option_map without_uid_padding) (sym (abstract_found c)) ∙ ap (λ
+    (is : List Item). option_map without_uid_padding (exactly_one (bodies 48 is))) (sym items) ∙ is.abstract in
+    let transfers : map without_uid_padding c.transfer_syntaxes ≡ c.transfer_syntaxes = ap (map without_uid_padding) (sym (transfers_found c)) ∙ ap (λ
+    (is : List Item). map without_uid_padding (bodies 64 is)) (sym items) ∙ sym is.transfer in
     let t1 = and_from (is_odd c.id) (is_bare c.abstract_syntax) (eq-eqb _ _ is.odd) (stays_bare c.abstract_syntax (some_is
-    (unpadded c.abstract_syntax) c.abstract_syntax abstract)) in
+    (without_uid_padding c.abstract_syntax) c.abstract_syntax abstract)) in
     let t2 = and_from (is_odd c.id && is_bare c.abstract_syntax) (not (is_empty c.transfer_syntaxes)) t1 (filled c.transfer_syntaxes is.some) in
     and_from (is_odd c.id && is_bare c.abstract_syntax && not (is_empty c.transfer_syntaxes)) (list_all is_bare c.transfer_syntaxes) t2
     (all_bare c.transfer_syntaxes transfers)
@@ -205,7 +205,7 @@ proposed_tells c h is =
 answered_fills : (c : AnsweredContext) → length (answered_body c) ≤ 65536 → Fills IsItem (of_kind 64 c.transfer_syntax ∷ []) (item 64 c.transfer_syntax)
 answered_fills c h = fills_one IsItem (of_kind 64 c.transfer_syntax) (item 64 c.transfer_syntax) (item_written 64 c.transfer_syntax (omega (arith, h)))
 
-pub answered_written : (c : AnsweredContext) → length (answered_body c) ≤ 65536 → is_answerable c ≡ true → IsAnswered c (answered_body c)
+pub answered_written : (c : AnsweredContext) → length (answered_body c) ≤ 65536 → is_answerable c ≡ true → IsAnsweredContext c (answered_body c)
 answered_written c h e =
     let p = and_parts (is_odd c.id) (is_bare c.transfer_syntax) e in
     record {
@@ -219,12 +219,12 @@ answered_written c h e =
       transfer = ap (λ n. Some n) (bare_stays c.transfer_syntax p.1);
     }
 
-pub answered_tells : (c : AnsweredContext) → length (answered_body c) ≤ 65536 → IsAnswered c (answered_body c) → is_answerable c ≡ true
+pub answered_tells : (c : AnsweredContext) → length (answered_body c) ≤ 65536 → IsAnsweredContext c (answered_body c) → is_answerable c ≡ true
 answered_tells c h is =
     let rest : item 64 c.transfer_syntax ≡ is.rest = ap (drop 4) is.spelled in
     let items : is.items ≡ of_kind 64 c.transfer_syntax ∷ [] = items_once is.items (of_kind 64 c.transfer_syntax ∷ []) (item 64 c.transfer_syntax) (subst
     (Fills IsItem is.items) (sym rest) is.fills) (answered_fills c h) in
-    let transfer : Some (unpadded c.transfer_syntax) ≡ Some c.transfer_syntax = ap (λ (is : List Item). option_map unpadded (exactly_one (bodies 64 is)))
+    let transfer : Some (without_uid_padding c.transfer_syntax) ≡ Some c.transfer_syntax = ap (λ (is : List Item). option_map without_uid_padding (exactly_one (bodies 64 is)))
     (sym items) ∙ is.transfer in
     and_from (is_odd c.id) (is_bare c.transfer_syntax) (eq-eqb _ _ is.odd) (stays_bare c.transfer_syntax (some_is
-    (unpadded c.transfer_syntax) c.transfer_syntax transfer))
+    (without_uid_padding c.transfer_syntax) c.transfer_syntax transfer))

@@ -6,9 +6,9 @@ use Rattle.std.proofs.lemmas.Bool.{and_parts, and_from}
 use Rattle.std.proofs.lemmas.List.{append-nil}
 use Rattle.dq_pdu.specs.declared.reading.Item.{Item}
 use Rattle.dq_pdu.specs.declared.bodies.Associate.{Associate}
-use Rattle.dq_pdu.specs.Octets.{Fills, Pairwise, bodies, at_most_one, unpadded, are_distinct}
-use Rattle.dq_pdu.specs.Spelling.{IsItem, IsProposed, IsAnswered, IsUserInformation, IsAssociate}
-use Rattle.dq_pdu.specs.Writing.{item, proposed_body, answered_body, application_context, request_information, accept_information, fixed_fields, associate, is_name, is_proposable, is_answerable}
+use Rattle.dq_pdu.specs.Octets.{Fills, Pairwise, bodies, at_most_one, without_uid_padding, are_distinct}
+use Rattle.dq_pdu.specs.Spelling.{IsItem, IsProposed, IsAnsweredContext, IsUserInformation, IsAssociate}
+use Rattle.dq_pdu.specs.Writing.{item, proposed_body, answered_body, application_context, request_information, accept_information, fixed_fields, associate_octets, is_uid_name, is_proposable, is_answerable}
 use Rattle.dq_pdu.specs.Widths.{AreWide}
 use Rattle.dq_pdu.proofs.PartLaws.{some_is}
 use Rattle.dq_pdu.proofs.WritingLaws.{of_kind, fills-append, items_written, bodies_same, bodies_other, proposed_written, proposed_tells, answered_written, answered_tells}
@@ -37,7 +37,7 @@ of_requests = record {
   user_none = request_user_none;
 }
 
-pub of_accepts : AreWritten IsAnswered 33 answered_body is_answerable accept_user_items accept_information
+pub of_accepts : AreWritten IsAnsweredContext 33 answered_body is_answerable accept_user_items accept_information
 of_accepts = record {
   no_name = (refl, refl);
   no_user = (refl, refl);
@@ -79,10 +79,10 @@ module _ {C : Type 0} {Context : C → List ℕ → Type 0} {kind : ℕ} {body_o
     octets = application_context f.application_context ++ context_octets contexts ++ information f.maximum_length
 
     abbrev written_octets : List ℕ
-    written_octets = associate f.version f.called f.calling f.reserved octets
+    written_octets = associate_octets f.version f.called f.calling f.reserved octets
 
     abbrev fit : Bool
-    fit = is_name f.application_context && list_all fits contexts && are_distinct (map id_of contexts)
+    fit = is_uid_name f.application_context && list_all fits contexts && are_distinct (map id_of contexts)
 
     short : length written_octets ≤ 65536 → Short (application_context f.application_context) (context_octets contexts) (information f.maximum_length)
     short h = short_parts (fixed_fields f.version f.called f.calling f.reserved) (application_context f.application_context) (context_octets contexts)
@@ -117,12 +117,12 @@ module _ {C : Type 0} {Context : C → List ℕ → Type 0} {kind : ℕ} {body_o
     pub associate_spelled : AreWide f.version f.called f.calling f.reserved f.maximum_length → length written_octets ≤ 65536 → fit ≡ true
         → IsAssociate Context kind id_of f contexts written_octets
     associate_spelled w h e =
-        let p = and_parts (is_name f.application_context && list_all fits contexts) (are_distinct (map id_of contexts)) e in
-        let q = and_parts (is_name f.application_context) (list_all fits contexts) p.0 in
+        let p = and_parts (is_uid_name f.application_context && list_all fits contexts) (are_distinct (map id_of contexts)) e in
+        let q = and_parts (is_uid_name f.application_context) (list_all fits contexts) p.0 in
         record {
           items = items;
           fixed = associate_written f.version f.called f.calling f.reserved f.maximum_length items octets w (items_fill h);
-          application = ap (option_map (option_map unpadded)) name_there ∙ ap (λ n. Some n) (name_stays f.application_context q.0);
+          application = ap (option_map (option_map without_uid_padding)) name_there ∙ ap (λ n. Some n) (name_stays f.application_context q.0);
           each = subst (Pairwise Context contexts) (sym contexts_there) (all_written contexts (short h).contexts_short q.1);
           distinct = p.1;
           user = subst (IsUserInformation f.maximum_length) (sym users_there) (are.user_is f.maximum_length w.maximum_four);
@@ -131,9 +131,9 @@ module _ {C : Type 0} {Context : C → List ℕ → Type 0} {kind : ℕ} {body_o
     pub associate_tells : length written_octets ≤ 65536 → IsAssociate Context kind id_of f contexts written_octets → fit ≡ true
     associate_tells h is =
         let same = items_are f.version f.called f.calling f.reserved is.items items octets is.fixed (items_fill h) in
-        let name : Some (option_map unpadded f.application_context) ≡ Some f.application_context = ap (option_map (option_map unpadded)) (sym
-        name_there) ∙ ap (λ (is : List Item). option_map (option_map unpadded) (at_most_one (bodies 16 is))) (sym same) ∙ is.application in
+        let name : Some (option_map without_uid_padding f.application_context) ≡ Some f.application_context = ap (option_map (option_map without_uid_padding)) (sym
+        name_there) ∙ ap (λ (is : List Item). option_map (option_map without_uid_padding) (at_most_one (bodies 16 is))) (sym same) ∙ is.application in
         let each : Pairwise Context contexts (map body_of contexts) = subst (Pairwise Context contexts) (ap (bodies kind) same ∙ contexts_there) is.each in
-        let one = name_bare f.application_context (some_is (option_map unpadded f.application_context) f.application_context name) in
-        let two = and_from (is_name f.application_context) (list_all fits contexts) one (all_fit contexts (short h).contexts_short each) in
-        and_from (is_name f.application_context && list_all fits contexts) (are_distinct (map id_of contexts)) two is.distinct
+        let one = name_bare f.application_context (some_is (option_map without_uid_padding f.application_context) f.application_context name) in
+        let two = and_from (is_uid_name f.application_context) (list_all fits contexts) one (all_fit contexts (short h).contexts_short each) in
+        and_from (is_uid_name f.application_context && list_all fits contexts) (are_distinct (map id_of contexts)) two is.distinct

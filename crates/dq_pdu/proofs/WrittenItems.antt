@@ -5,10 +5,10 @@ use Rattle.std.specs.Int.{w16, w32, to_be_bytes}
 use Rattle.std.proofs.lemmas.List.{drop_at}
 use Rattle.std.proofs.lemmas.Nat.{from_be_bytes-to_be_bytes_2, from_be_bytes-to_be_bytes_4}
 use Rattle.dq_pdu.specs.declared.reading.Item.{Item}
-use Rattle.dq_pdu.specs.Octets.{Fills, parts_of, bodies, at_most_one, unpadded}
+use Rattle.dq_pdu.specs.Octets.{Fills, parts_of, bodies, at_most_one, without_uid_padding}
 use Rattle.dq_pdu.specs.Spelling.{IsItem, AreFields, IsMaximumLength, IsUserInformation}
 use Rattle.dq_pdu.specs.Reading.{item_at}
-use Rattle.dq_pdu.specs.Writing.{item, application_context, maximum_length, request_information, implementation, accept_information, fixed_fields, associate, kind, is_name}
+use Rattle.dq_pdu.specs.Writing.{item, application_context, maximum_length, request_information, implementation, accept_information, fixed_fields, associate_octets, kind, is_uid_name}
 use Rattle.dq_pdu.specs.Widths.{AreWide}
 use Rattle.dq_pdu.proofs.PartLaws.{some_is}
 use Rattle.dq_pdu.proofs.ItemLaws.{items_read}
@@ -33,13 +33,13 @@ pub name_none : (kind : ℕ) (name : Option (List ℕ)) → eqb 16 kind ≡ fals
 name_none kind None e = refl
 name_none kind (Some name) e = rw e refl
 
-pub name_stays : (name : Option (List ℕ)) → is_name name ≡ true → option_map unpadded name ≡ name
+pub name_stays : (name : Option (List ℕ)) → is_uid_name name ≡ true → option_map without_uid_padding name ≡ name
 name_stays None e = refl
 name_stays (Some name) e = ap (λ n. Some n) (bare_stays name e)
 
-pub name_bare : (name : Option (List ℕ)) → option_map unpadded name ≡ name → is_name name ≡ true
+pub name_bare : (name : Option (List ℕ)) → option_map without_uid_padding name ≡ name → is_uid_name name ≡ true
 name_bare None e = refl
-name_bare (Some name) e = stays_bare name (some_is (unpadded name) name e)
+name_bare (Some name) e = stays_bare name (some_is (without_uid_padding name) name e)
 
 abbrev pub maximum_items : Option ℕ → List Item
 maximum_items None = []
@@ -122,7 +122,7 @@ three_runs kind a b c x y z e1 e2 e3 = bodies-append kind (a ++ b) c ∙ ap (λ 
 
 pub associate_written : (version : ℕ) (called calling reserved : List ℕ) (maximum : Option ℕ) (items : List Item) (octets : List ℕ)
     → AreWide version called calling reserved maximum → Fills IsItem items octets
-    → AreFields version called calling reserved items (associate version called calling reserved octets)
+    → AreFields version called calling reserved items (associate_octets version called calling reserved octets)
 associate_written version called calling reserved maximum items octets w fills = record {
   number = to_be_bytes w16 version;
   gap = 0 ∷ 0 ∷ [];
@@ -138,15 +138,15 @@ associate_written version called calling reserved maximum items octets w fills =
 
 -- the items after the fixed fields are those that were written
 pub items_are : (version : ℕ) (called calling reserved : List ℕ) (items written : List Item) (octets : List ℕ)
-    → AreFields version called calling reserved items (associate version called calling reserved octets) → Fills IsItem written octets → items ≡ written
+    → AreFields version called calling reserved items (associate_octets version called calling reserved octets) → Fills IsItem written octets → items ≡ written
 items_are version called calling reserved items written octets is fills =
-    let fixed = fixed_from version called calling reserved items (associate version called calling reserved octets) is in
+    let fixed = fixed_from version called calling reserved items (associate_octets version called calling reserved octets) is in
     let n1 = length-append ((to_be_bytes w16 version ++ (0 ∷ 0 ∷ called)) ++ calling) reserved in
     let n2 = length-append (to_be_bytes w16 version ++ (0 ∷ 0 ∷ called)) calling in
     let n3 = length-append (to_be_bytes w16 version) (0 ∷ 0 ∷ called) in
     let size : length (fixed_fields version called calling reserved) ≡ 68 = omega
     (arith, n1, n2, n3, is.called_sixteen, is.calling_sixteen, is.reserved_thirty_two) in
-    let behind : drop 68 (associate version called calling reserved octets) ≡ octets = drop_at (fixed_fields version called calling reserved) octets 68 size in
+    let behind : drop 68 (associate_octets version called calling reserved octets) ≡ octets = drop_at (fixed_fields version called calling reserved) octets 68 size in
     some_is items written (sym fixed.items_are ∙ ap (parts_of item_at) behind ∙ items_read written octets fills)
 
 -- how long the parts of a request are at most

@@ -1,6 +1,6 @@
 -- When an acceptance can be written: its contexts have the ids of a request's, and identifiers are
 -- not too long.
-use Rattle.std.specs.Prelude.{◌<◌, ◌≡◌, ℕ, Bool, true, IsTrue, ◌&&◌, nat_le, nat_lt, List, length, map, slice_index, Option, Some, None}
+use Rattle.std.specs.Prelude.{◌≡◌, ℕ, Bool, true, IsTrue, ◌&&◌, nat_le, nat_lt, List, length, map, Option, Some, None}
 use Rattle.std.specs.List.{list_all}
 use Rattle.dq_pdu.specs.declared.pdu.Request.{Request}
 use Rattle.dq_pdu.specs.declared.pdu.Accept.{Accept}
@@ -11,10 +11,6 @@ use Rattle.dq_pdu.specs.Octets.{are_distinct}
 use Rattle.dq_pdu.specs.Reading.{is_odd}
 use Rattle.dq_pdu.specs.Writing.{is_bare}
 use Rattle.dq_pdu.specs.Widths.{AreWide}
-
--- the numbers are octets
-abbrev pub AreOctets : List ℕ → Type 0
-AreOctets octets = (i : ℕ) → slice_index octets i < 0x100
 
 -- The ids of a request's contexts: odd octets, and none comes again (PS3.8 section 9.3.2.2).
 pub record AreContextIds (ids : List ℕ) : Type 0 where
@@ -41,7 +37,7 @@ abbrev pub has_identifier : AnsweredContext → Bool
 has_identifier context = is_identifier context.transfer_syntax
 
 -- an acceptance that answers the contexts of a request
-pub record IsAnswer (a : Accept) : Type 0 where
+pub record IsAcceptance (a : Accept) : Type 0 where
   pub wide : AreWide a.version a.called a.calling a.reserved a.maximum_length
   pub application : IsTrue (is_identifier_or_none a.application_context)
   pub ids : AreContextIds (map (λ (c : AnsweredContext). c.id) a.contexts)

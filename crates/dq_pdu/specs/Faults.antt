@@ -5,10 +5,10 @@ use Rattle.dq_pdu.specs.declared.fault.PduFault.TheVariants.{Unrecognized, TooLo
 use Rattle.dq_pdu.specs.declared.fault.InboxError.{InboxError}
 use Rattle.dq_pdu.specs.declared.fault.InboxError.TheVariants.{NoMemory, Spent}
 
-abbrev pub number_of_fault : PduFault → ℕ
-number_of_fault Unrecognized = 1
-number_of_fault TooLong = 2
-number_of_fault Malformed = 3
+abbrev pub pdu_fault_number : PduFault → ℕ
+pdu_fault_number Unrecognized = 1
+pdu_fault_number TooLong = 2
+pdu_fault_number Malformed = 3
 
 abbrev pub number_of_error : InboxError → ℕ
 number_of_error NoMemory = 4

@@ -12,8 +12,8 @@ abbrev pub held_at : Option PduFault → List ℕ → InboxState
 held_at None rest = Reading rest
 held_at (Some fault) rest = Stopped fault
 
-abbrev pub holding : List ℕ → InboxState
-holding stream = held_at (pdus_in stream).fault (pdus_in stream).rest
+abbrev pub inbox_holding : List ℕ → InboxState
+inbox_holding stream = held_at (pdus_in stream).fault (pdus_in stream).rest
 
 -- an inbox holds no whole PDU
 abbrev pub HoldsPart : InboxState → Type 0

@@ -27,24 +27,24 @@ Pairwise R (x ∷ xs) [] = ⊥
 
 -- The same, computed: a part at the front and what is left after it, again and again. No more parts
 -- than octets.
-unfoldable pub parts : {A : Type 0} → (List ℕ → Option (A × List ℕ)) → ℕ → List ℕ
+unfoldable pub successive_parts : {A : Type 0} → (List ℕ → Option (A × List ℕ)) → ℕ → List ℕ
     → Option (List A)
-parts part fuel [] = Some []
-parts part zero (o ∷ os) = None
-parts part (suc fuel) (o ∷ os) = do
+successive_parts part fuel [] = Some []
+successive_parts part zero (o ∷ os) = None
+successive_parts part (suc fuel) (o ∷ os) = do
   first ← part (o ∷ os)
-  others ← parts part fuel first.1
+  others ← successive_parts part fuel first.1
   Some (first.0 ∷ others)
 
 abbrev pub parts_of : {A : Type 0} → (List ℕ → Option (A × List ℕ)) → List ℕ → Option (List A)
-parts_of part octets = parts part (length octets) octets
+parts_of part octets = successive_parts part (length octets) octets
 
 -- what each gives, if each gives something
-abbrev pub each : {A B : Type 0} → (A → Option B) → List A → Option (List B)
-each f [] = Some []
-each f (x ∷ xs) = do
+abbrev pub each_given : {A B : Type 0} → (A → Option B) → List A → Option (List B)
+each_given f [] = Some []
+each_given f (x ∷ xs) = do
   first ← f x
-  others ← each f xs
+  others ← each_given f xs
   Some (first ∷ others)
 
 -- the bodies of the items of one type, in order
@@ -66,20 +66,20 @@ exactly_one (x ∷ []) = Some x
 exactly_one (x ∷ y ∷ ys) = None
 
 -- A unique identifier may be padded at its end with zero octets or spaces (PS3.5 section 9.1).
-abbrev pub is_padding : ℕ → Bool
-is_padding octet = (octet == 0x00) || (octet == 0x20)
+abbrev pub is_uid_padding : ℕ → Bool
+is_uid_padding octet = (octet == 0x00) || (octet == 0x20)
 
 -- octets without the padding at their end
-abbrev pub unpadded : List ℕ → List ℕ
-unpadded [] = []
-unpadded (octet ∷ octets) =
-    if is_padding octet && is_empty (unpadded octets) then [] else octet ∷ unpadded octets
+abbrev pub without_uid_padding : List ℕ → List ℕ
+without_uid_padding [] = []
+without_uid_padding (octet ∷ octets) =
+    if is_uid_padding octet && is_empty (without_uid_padding octets) then [] else octet ∷ without_uid_padding octets
 
-abbrev pub is_among : ℕ → List ℕ → Bool
-is_among x [] = false
-is_among x (y ∷ ys) = (x == y) || is_among x ys
+abbrev pub is_number_among : ℕ → List ℕ → Bool
+is_number_among x [] = false
+is_number_among x (y ∷ ys) = (x == y) || is_number_among x ys
 
 -- no number comes again
 abbrev pub are_distinct : List ℕ → Bool
 are_distinct [] = true
-are_distinct (x ∷ xs) = not (is_among x xs) && are_distinct xs
+are_distinct (x ∷ xs) = not (is_number_among x xs) && are_distinct xs

@@ -3,7 +3,7 @@
 use Rattle.std.specs.Prelude.{◌≡◌, ℕ, ◌+◌, ◌-◌, ◌/◌, ◌%◌, Bool, not, ◌&&◌, ◌||◌, ◌==◌, nat_lt, nat_le, if◌then◌else◌, List, length, take, drop, map, slice_index, Option, Some, None, option_map}
 use Rattle.std.specs.Int.{w16, w32, from_be_bytes}
 use Rattle.dq_list.specs.Lengths.{is_empty}
-use Rattle.dq_list.specs.Readers.{◌>>=◌, provided}
+use Rattle.dq_list.specs.Readers.{◌>>=◌, only_if}
 use Rattle.dq_pdu.specs.declared.reading.Item.{Item}
 use Rattle.dq_pdu.specs.declared.reading.ReadError.{ReadError}
 use Rattle.dq_pdu.specs.declared.reading.ReadError.TheVariants as errors
@@ -19,7 +19,7 @@ use Rattle.dq_pdu.specs.declared.pdu.ProposedContext.{ProposedContext}
 use Rattle.dq_pdu.specs.declared.pdu.AnsweredContext.{AnsweredContext}
 use Rattle.dq_pdu.specs.declared.pdu.Pdv.{Pdv}
 use Rattle.dq_pdu.specs.Numbers.{a_associate_rq, a_associate_ac, a_associate_rj, p_data_tf, a_release_rq, a_release_rp, a_abort, application_context_item, proposed_context_item, answered_context_item, abstract_syntax_item, transfer_syntax_item, user_information_item, maximum_length_item, pdu_header, longest_body, associate_fields, item_header, context_fields, pdv_header, pdv_fields, title_length, reserved_length, short_body}
-use Rattle.dq_pdu.specs.Octets.{parts_of, each, bodies, at_most_one, exactly_one, unpadded, are_distinct}
+use Rattle.dq_pdu.specs.Octets.{parts_of, each_given, bodies, at_most_one, exactly_one, without_uid_padding, are_distinct}
 
 -- what an error of a reader tells of what was to be read: nothing where memory ran out
 abbrev pub Fails : {Y : Type 0} → ReadError → Option Y → Type 0
@@ -61,31 +61,31 @@ is_odd id = id % 2 == 1
 
 unfoldable pub proposed_of : List ℕ → Option ProposedContext
 proposed_of body = do
-  rest ← provided (nat_le context_fields (length body)) (drop context_fields body)
+  rest ← only_if (nat_le context_fields (length body)) (drop context_fields body)
   items ← parts_of item_at rest
   abstract ← exactly_one (bodies abstract_syntax_item items)
   let syntaxes = bodies transfer_syntax_item items
-  provided (is_odd (slice_index body 0) && not (is_empty syntaxes)) (record {
+  only_if (is_odd (slice_index body 0) && not (is_empty syntaxes)) (record {
     id = slice_index body 0;
-    abstract_syntax = unpadded abstract;
-    transfer_syntaxes = map unpadded syntaxes;
+    abstract_syntax = without_uid_padding abstract;
+    transfer_syntaxes = map without_uid_padding syntaxes;
   })
 
 unfoldable pub answered_of : List ℕ → Option AnsweredContext
 answered_of body = do
-  rest ← provided (nat_le context_fields (length body)) (drop context_fields body)
+  rest ← only_if (nat_le context_fields (length body)) (drop context_fields body)
   items ← parts_of item_at rest
   transfer ← exactly_one (bodies transfer_syntax_item items)
-  provided (is_odd (slice_index body 0)) (record {
+  only_if (is_odd (slice_index body 0)) (record {
     id = slice_index body 0;
     result = slice_index body 2;
-    transfer_syntax = unpadded transfer;
+    transfer_syntax = without_uid_padding transfer;
   })
 
 -- the maximum length, four octets
 abbrev pub maximum_in : Option (List ℕ) → Option (Option ℕ)
 maximum_in None = Some None
-maximum_in (Some octets) = provided (length octets == 4) (Some (from_be_bytes w32 octets))
+maximum_in (Some octets) = only_if (length octets == 4) (Some (from_be_bytes w32 octets))
 
 -- the maximum length that user information holds
 unfoldable pub user_information_of : Option (List ℕ) → Option (Option ℕ)
@@ -107,7 +107,7 @@ fields_of body items = do
     called = take title_length (drop 4 body);
     calling = take title_length (drop 20 body);
     reserved = take reserved_length (drop 36 body);
-    application_context = option_map unpadded application;
+    application_context = option_map without_uid_padding application;
     maximum_length = maximum;
   })
 
@@ -137,11 +137,11 @@ accept_with fields contexts = record {
 unfoldable pub associate_of : {C : Type 0} → (List ℕ → Option C) → (C → ℕ) → ℕ → List ℕ
     → Option (Associate × List C)
 associate_of context_of id_of kind body = do
-  rest ← provided (nat_le associate_fields (length body)) (drop associate_fields body)
+  rest ← only_if (nat_le associate_fields (length body)) (drop associate_fields body)
   items ← parts_of item_at rest
   fields ← fields_of body items
-  contexts ← each context_of (bodies kind items)
-  provided (are_distinct (map id_of contexts)) (fields, contexts)
+  contexts ← each_given context_of (bodies kind items)
+  only_if (are_distinct (map id_of contexts)) (fields, contexts)
 
 unfoldable pub request_of : List ℕ → Option Request
 request_of body = do
@@ -153,14 +153,14 @@ accept_of body = do
   read ← associate_of answered_of (λ c. c.id) answered_context_item body
   Some (accept_with read.0 read.1)
 
-unfoldable pub values_of : List ℕ → Option Pdu
-values_of body = do
+unfoldable pub data_pdu_of : List ℕ → Option Pdu
+data_pdu_of body = do
   values ← parts_of pdv_at body
-  provided (not (is_empty values)) (PData values)
+  only_if (not (is_empty values)) (PData values)
 
 -- a PDU of which the body has four octets
 abbrev pub if_short : List ℕ → Pdu → Option Pdu
-if_short body pdu = provided (length body == short_body) pdu
+if_short body pdu = only_if (length body == short_body) pdu
 
 -- the PDU of a type that has the body
 unfoldable pub pdu_of : ℕ → List ℕ → Option Pdu
@@ -169,7 +169,7 @@ pdu_of kind body =
     else (if kind == a_associate_ac then option_map accept_pdu (accept_of body)
     else (if kind == a_associate_rj
     then if_short body (Reject (slice_index body 1) (slice_index body 2) (slice_index body 3))
-    else (if kind == p_data_tf then values_of body
+    else (if kind == p_data_tf then data_pdu_of body
     else (if kind == a_release_rq then if_short body ReleaseRq
     else (if kind == a_release_rp then if_short body ReleaseRp
     else (if kind == a_abort then if_short body (Abort (slice_index body 2) (slice_index body 3))

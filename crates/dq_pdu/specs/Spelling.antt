@@ -12,7 +12,7 @@ use Rattle.dq_pdu.specs.declared.pdu.ProposedContext.{ProposedContext}
 use Rattle.dq_pdu.specs.declared.pdu.AnsweredContext.{AnsweredContext}
 use Rattle.dq_pdu.specs.declared.pdu.Pdv.{Pdv}
 use Rattle.dq_pdu.specs.Numbers.{a_associate_rq, a_associate_ac, a_associate_rj, p_data_tf, a_release_rq, a_release_rp, a_abort, application_context_item, proposed_context_item, answered_context_item, abstract_syntax_item, transfer_syntax_item, user_information_item, maximum_length_item, longest_body, title_length, reserved_length, short_body, pdv_fields}
-use Rattle.dq_pdu.specs.Octets.{Says, Fills, Pairwise, bodies, at_most_one, exactly_one, unpadded, are_distinct}
+use Rattle.dq_pdu.specs.Octets.{Says, Fills, Pairwise, bodies, at_most_one, exactly_one, without_uid_padding, are_distinct}
 
 -- An item or sub-item: its type, a reserved octet, the length of its body in two octets, its body
 -- (PS3.8 section 9.3.2).
@@ -44,14 +44,14 @@ pub record IsProposed (context : ProposedContext) (body : List ℕ) : Type 0 whe
   pub odd : context.id % 2 ≡ 1
   pub fills : Fills IsItem items rest
   pub abstract :
-      option_map unpadded (exactly_one (bodies abstract_syntax_item items))
+      option_map without_uid_padding (exactly_one (bodies abstract_syntax_item items))
       ≡ Some context.abstract_syntax
-  pub transfer : context.transfer_syntaxes ≡ map unpadded (bodies transfer_syntax_item items)
+  pub transfer : context.transfer_syntaxes ≡ map without_uid_padding (bodies transfer_syntax_item items)
   pub some : context.transfer_syntaxes ≢ []
 
 -- An answered presentation context: id, a reserved octet, result, a reserved octet and one transfer
 -- syntax (40H) (PS3.8 section 9.3.3.2).
-pub record IsAnswered (context : AnsweredContext) (body : List ℕ) : Type 0 where
+pub record IsAnsweredContext (context : AnsweredContext) (body : List ℕ) : Type 0 where
   pub before : ℕ
   pub behind : ℕ
   pub rest : List ℕ
@@ -60,7 +60,7 @@ pub record IsAnswered (context : AnsweredContext) (body : List ℕ) : Type 0 whe
   pub odd : context.id % 2 ≡ 1
   pub fills : Fills IsItem items rest
   pub transfer :
-      option_map unpadded (exactly_one (bodies transfer_syntax_item items))
+      option_map without_uid_padding (exactly_one (bodies transfer_syntax_item items))
       ≡ Some context.transfer_syntax
 
 -- The fixed fields of a request or an acceptance, and its items (PS3.8 sections 9.3.2 and 9.3.3).
@@ -103,7 +103,7 @@ pub record IsAssociate {C : Type 0}
   pub items : List Item
   pub fixed : AreFields fields.version fields.called fields.calling fields.reserved items body
   pub application :
-      option_map (option_map unpadded) (at_most_one (bodies application_context_item items))
+      option_map (option_map without_uid_padding) (at_most_one (bodies application_context_item items))
       ≡ Some fields.application_context
   pub each : Pairwise Context contexts (bodies kind items)
   pub distinct : IsTrue (are_distinct (map id_of contexts))
@@ -138,7 +138,7 @@ accept_fields a = record {
 -- an acceptance has answered contexts (21H) in their place
 abbrev pub IsAccept : Accept → List ℕ → Type 0
 IsAccept a body =
-    IsAssociate IsAnswered answered_context_item (λ (c : AnsweredContext). c.id)
+    IsAssociate IsAnsweredContext answered_context_item (λ (c : AnsweredContext). c.id)
     (accept_fields a) a.contexts body
 
 -- the type of a PDU, and the body that it may have (PS3.8 sections 9.3.2 to 9.3.8)
@@ -156,7 +156,7 @@ IsBody (Abort source reason) kind body =
 
 -- A PDU's octets: its type, a reserved octet, the length of the rest in four octets, and its body
 -- of at most 65,536.
-pub record Spells (pdu : Pdu) (octets : List ℕ) : Type 0 where
+pub record SpellsPdu (pdu : Pdu) (octets : List ℕ) : Type 0 where
   pub kind : ℕ
   pub reserved : ℕ
   pub size : List ℕ

@@ -7,7 +7,7 @@ use Rattle.dq_pdu.specs.declared.fault.PduFault.TheVariants.{Unrecognized, TooLo
 use Rattle.dq_pdu.specs.declared.reading.Front.{Front}
 use Rattle.dq_pdu.specs.declared.reading.Front.TheVariants.{Partial, Faulty, Whole}
 use Rattle.dq_pdu.specs.Numbers.{pdu_header, longest_body}
-use Rattle.dq_pdu.specs.Spelling.{Spells}
+use Rattle.dq_pdu.specs.Spelling.{SpellsPdu}
 use Rattle.dq_pdu.specs.Reading.{body_length, is_unrecognized, front}
 
 -- the stream is spellings of the PDUs, one after the other, and then the rest
@@ -15,12 +15,12 @@ abbrev pub Follow : List Pdu → List ℕ → List ℕ → Type 0
 Follow [] stream rest = stream ≡ rest
 Follow (pdu ∷ pdus) stream rest =
     (octets : List ℕ) × (others : List ℕ)
-    × (stream ≡ octets ++ others) × Spells pdu octets × Follow pdus others rest
+    × (stream ≡ octets ++ others) × SpellsPdu pdu octets × Follow pdus others rest
 
 -- no prefix of the rest spells a PDU
 abbrev pub HasNoPdu : List ℕ → Type 0
 HasNoPdu rest =
-    (pdu : Pdu) (octets others : List ℕ) → rest ≡ octets ++ others → Spells pdu octets → ⊥
+    (pdu : Pdu) (octets others : List ℕ) → rest ≡ octets ++ others → SpellsPdu pdu octets → ⊥
 
 -- what a stream is split into
 pub record Splits (stream : List ℕ) (pdus : List Pdu) (rest : List ℕ) : Type 0 where
@@ -29,8 +29,8 @@ pub record Splits (stream : List ℕ) (pdus : List Pdu) (rest : List ℕ) : Type
 
 -- The fault that can be read off a rest: its type, then its length, then its body where all of it
 -- is there.
-abbrev pub fault_of : List ℕ → Option PduFault
-fault_of rest =
+abbrev pub fault_at_front : List ℕ → Option PduFault
+fault_at_front rest =
     if nat_lt (length rest) pdu_header then None
     else (if is_unrecognized (slice_index rest 0) then Some Unrecognized
     else (if nat_lt longest_body (body_length rest) then Some TooLong
@@ -66,7 +66,7 @@ with_list list others =
     record { list = list ++ others.list; rest = others.rest; fault = others.fault }
 
 -- the PDUs of a stream that goes on: a fault stays, and else the rest is read on
-abbrev pub continued : Option PduFault → List Pdu → List ℕ → List ℕ → Pdus
-continued None list rest more = with_list list (pdus_in (rest ++ more))
-continued (Some fault) list rest more =
+abbrev pub stream_read_on : Option PduFault → List Pdu → List ℕ → List ℕ → Pdus
+stream_read_on None list rest more = with_list list (pdus_in (rest ++ more))
+stream_read_on (Some fault) list rest more =
     record { list = list; rest = rest ++ more; fault = Some fault }

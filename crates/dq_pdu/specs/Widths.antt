@@ -6,8 +6,8 @@ use Rattle.dq_pdu.specs.declared.pdu.Pdu.TheVariants.{Request as request_pdu, Ac
 use Rattle.dq_pdu.specs.Numbers.{title_length, reserved_length}
 
 -- a number of octets, or the greatest that is counted
-abbrev pub counted : ℕ → ℕ
-counted n = min n (2 ^ 64 - 1)
+abbrev pub capped_count : ℕ → ℕ
+capped_count n = min n (2 ^ 64 - 1)
 
 -- the numbers and the fixed fields of a PDU are as wide as their types
 pub record AreWide (version : ℕ) (called calling reserved : List ℕ) (maximum : Option ℕ)

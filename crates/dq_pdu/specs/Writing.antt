@@ -12,8 +12,8 @@ use Rattle.dq_pdu.specs.declared.pdu.AnsweredContext.{AnsweredContext}
 use Rattle.dq_pdu.specs.declared.pdu.Pdv.{Pdv}
 use Rattle.dq_list.specs.Lengths.{is_empty}
 use Rattle.dq_pdu.specs.Numbers.{a_associate_rq, a_associate_ac, a_associate_rj, p_data_tf, a_release_rq, a_release_rp, a_abort, application_context_item, proposed_context_item, answered_context_item, abstract_syntax_item, transfer_syntax_item, user_information_item, maximum_length_item, implementation_class_uid_item, implementation_version_name_item, longest_body, pdv_fields}
-use Rattle.dq_pdu.specs.Octets.{is_padding, are_distinct}
-use Rattle.dq_pdu.specs.Spelling.{Spells}
+use Rattle.dq_pdu.specs.Octets.{is_uid_padding, are_distinct}
+use Rattle.dq_pdu.specs.Spelling.{SpellsPdu}
 use Rattle.dq_pdu.specs.Reading.{is_odd}
 
 -- an item or sub-item (PS3.8 section 9.3.2)
@@ -33,14 +33,14 @@ proposed_body c =
     let abstract = item abstract_syntax_item c.abstract_syntax in
     c.id ∷ 0 ∷ 0 ∷ 0 ∷ (abstract ++ flat_map (item transfer_syntax_item) c.transfer_syntaxes)
 
-abbrev pub proposed : ProposedContext → List ℕ
-proposed c = item proposed_context_item (proposed_body c)
+abbrev pub proposed_context_octets : ProposedContext → List ℕ
+proposed_context_octets c = item proposed_context_item (proposed_body c)
 
 abbrev pub answered_body : AnsweredContext → List ℕ
 answered_body c = c.id ∷ 0 ∷ c.result ∷ 0 ∷ item transfer_syntax_item c.transfer_syntax
 
-abbrev pub answered : AnsweredContext → List ℕ
-answered c = item answered_context_item (answered_body c)
+abbrev pub answered_context_octets : AnsweredContext → List ℕ
+answered_context_octets c = item answered_context_item (answered_body c)
 
 abbrev pub application_context : Option (List ℕ) → List ℕ
 application_context None = []
@@ -69,18 +69,18 @@ abbrev pub fixed_fields : ℕ → List ℕ → List ℕ → List ℕ → List �
 fixed_fields version called calling reserved =
     to_be_bytes w16 version ++ (0 ∷ 0 ∷ called) ++ calling ++ reserved
 
-abbrev pub associate : ℕ → List ℕ → List ℕ → List ℕ → List ℕ → List ℕ
-associate version called calling reserved items =
+abbrev pub associate_octets : ℕ → List ℕ → List ℕ → List ℕ → List ℕ → List ℕ
+associate_octets version called calling reserved items =
     fixed_fields version called calling reserved ++ items
 
-abbrev pub request : Request → List ℕ
-request r = associate r.version r.called r.calling r.reserved
-    (application_context r.application_context ++ flat_map proposed r.contexts
+abbrev pub request_octets : Request → List ℕ
+request_octets r = associate_octets r.version r.called r.calling r.reserved
+    (application_context r.application_context ++ flat_map proposed_context_octets r.contexts
     ++ request_information r.maximum_length)
 
 abbrev pub accept : Accept → List ℕ
-accept a = associate a.version a.called a.calling a.reserved
-    (application_context a.application_context ++ flat_map answered a.contexts
+accept a = associate_octets a.version a.called a.calling a.reserved
+    (application_context a.application_context ++ flat_map answered_context_octets a.contexts
     ++ accept_information a.maximum_length)
 
 abbrev pub kind : Pdu → ℕ
@@ -93,7 +93,7 @@ kind ReleaseRp = a_release_rp
 kind (Abort source reason) = a_abort
 
 abbrev pub body : Pdu → List ℕ
-body (request_pdu r) = request r
+body (request_pdu r) = request_octets r
 body (accept_pdu a) = accept a
 body (Reject result source reason) = 0 ∷ result ∷ source ∷ reason ∷ []
 body (PData values) = flat_map pdv values
@@ -112,7 +112,7 @@ p_data context command last octets =
 
 -- a PDU that has a spelling: the octets that are written for it spell it
 abbrev pub IsWritable : Pdu → Type 0
-IsWritable pdu = Spells pdu (spelling pdu)
+IsWritable pdu = SpellsPdu pdu (spelling pdu)
 
 abbrev pub AreWritable : List Pdu → Type 0
 AreWritable [] = Unit {0}
@@ -122,12 +122,12 @@ AreWritable (pdu ∷ pdus) = IsWritable pdu × AreWritable pdus
 -- they need, and the body is not too long.
 abbrev pub is_bare : List ℕ → Bool
 is_bare [] = true
-is_bare (octet ∷ []) = not (is_padding octet)
+is_bare (octet ∷ []) = not (is_uid_padding octet)
 is_bare (octet ∷ next ∷ octets) = is_bare (next ∷ octets)
 
-abbrev pub is_name : Option (List ℕ) → Bool
-is_name None = true
-is_name (Some name) = is_bare name
+abbrev pub is_uid_name : Option (List ℕ) → Bool
+is_uid_name None = true
+is_uid_name (Some name) = is_bare name
 
 abbrev pub is_proposable : ProposedContext → Bool
 is_proposable c =
@@ -139,10 +139,10 @@ is_answerable c = is_odd c.id && is_bare c.transfer_syntax
 
 abbrev pub has_parts : Pdu → Bool
 has_parts (request_pdu r) =
-    is_name r.application_context && list_all is_proposable r.contexts
+    is_uid_name r.application_context && list_all is_proposable r.contexts
     && are_distinct (map (λ (c : ProposedContext). c.id) r.contexts)
 has_parts (accept_pdu a) =
-    is_name a.application_context && list_all is_answerable a.contexts
+    is_uid_name a.application_context && list_all is_answerable a.contexts
     && are_distinct (map (λ (c : AnsweredContext). c.id) a.contexts)
 has_parts (PData values) = not (is_empty values)
 has_parts (Reject result source reason) = true

@@ -2,8 +2,8 @@
 ghost use Rattle.std.specs.Prelude.{◌≡◌, ◌≤◌, ◌+◌, ℕ, List, Option, length, take, drop, option_map, IfOk};
 ghost use Rattle.dq_list.specs.Readers.{Gives};
 ghost use Rattle.dq_pdu.specs.Numbers.{associate_fields};
-ghost use Rattle.dq_pdu.specs.Octets.{parts_of, bodies, each, unpadded};
-ghost use Rattle.dq_pdu.specs.Reading.{Fails, maximum_in, user_information_of, proposed_of, answered_of, fields_of, associate_of, request_of, accept_of, pdv_at, values_of, pdu_of};
+ghost use Rattle.dq_pdu.specs.Octets.{parts_of, bodies, each_given, without_uid_padding};
+ghost use Rattle.dq_pdu.specs.Reading.{Fails, maximum_in, user_information_of, proposed_of, answered_of, fields_of, associate_of, request_of, accept_of, pdv_at, data_pdu_of, pdu_of};
 ghost use Rattle.dq_pdu.specs.Shrinking.{pdv_shrinks};
 
 use crate::items::{ReadPart, at_most_one, exactly_one, name_of, names_of, parts_of};
@@ -98,7 +98,7 @@ impl Context for AnsweredContext {
 
 /// The contexts in the items of a type.
 fn contexts_of<C: Context>(alloc: Global, items: &[Item], kind: u8) -> Result<Vec<C>, ReadError>
-    ensures { Gives Fails (λ v. v.items) result (each C.context_of (bodies kind items.now)) }
+    ensures { Gives Fails (λ v. v.items) result (each_given C.context_of (bodies kind items.now)) }
 {
     let mut contexts = Vec::new(alloc);
     for item in items {
@@ -124,7 +124,7 @@ fn application_context_of(
     found: Option<&[u8]>,
 ) -> Result<Option<Listed<u8>>, AllocError>
     ensures { IfOk result (λ name.
-        name ≡ option_map unpadded (option_map (λ x. x.now) found.entry)) }
+        name ≡ option_map without_uid_padding (option_map (λ x. x.now) found.entry)) }
 {
     match found {
         None => Ok(None),
@@ -264,9 +264,9 @@ impl ReadPart for Pdv {
 }
 
 /// A P-DATA-TF PDU, from its body.
-#[tactic(auto, unfolding(crate::specs::Reading::values_of))]
+#[tactic(auto, unfolding(crate::specs::Reading::data_pdu_of))]
 fn values_of(alloc: Global, body: &[u8]) -> Result<Pdu, ReadError>
-    ensures { Gives Fails (λ x. x) result (values_of body.now) }
+    ensures { Gives Fails (λ x. x) result (data_pdu_of body.now) }
 {
     let values = parts_of(alloc, body)?;
     if values.is_empty() {

@@ -17,11 +17,11 @@ pub enum PduFault {
 }
 
 impl PduFault {
-    ghost use Rattle.dq_pdu.specs.Faults.{number_of_fault};
+    ghost use Rattle.dq_pdu.specs.Faults.{pdu_fault_number};
 
     /// 1 to 3, in the order in which the faults are declared.
     pub fn number(self) -> u8
-        ensures { result ≡ number_of_fault self }
+        ensures { result ≡ pdu_fault_number self }
     {
         self as u8
     }

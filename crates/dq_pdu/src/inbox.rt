@@ -1,8 +1,8 @@
 //! A stream that is taken in pieces.
 ghost use Rattle.std.specs.Prelude.{◌≡◌, List, ℕ, ◌++◌, [], ◌↔◌, IfOk, IfErr, OnOk, OnErr, IsErrOf, IsOk, IsOkUnless, ◌<◌, ◌+◌, length};
 ghost use Rattle.dq_pdu.specs.Stream.{pdus_in};
-ghost use Rattle.dq_pdu.specs.Holding.{holding};
-ghost use Rattle.dq_pdu.specs.Inboxes.{InboxAfter, octets_in};
+ghost use Rattle.dq_pdu.specs.Holding.{inbox_holding};
+ghost use Rattle.dq_pdu.specs.Inboxes.{InboxAfter, inbox_octets};
 ghost use Rattle.dq_pdu.specs.Numbers.{longest_body, pdu_header};
 
 use crate::fault::{InboxError, PduFault};
@@ -93,7 +93,7 @@ impl Inbox {
         ensures exact { (rest : List ℕ) → self.old ≡ InboxState.Reading rest → IfOk result (λ fed.
             ((pdus_in (rest ++ piece.now)).list ≡ fed.pdus)
             × ((pdus_in (rest ++ piece.now)).fault ≡ fed.fault)
-            × (self.new ≡ holding (rest ++ piece.now))) }
+            × (self.new ≡ inbox_holding (rest ++ piece.now))) }
         // A fault stays, and no PDU comes after it.
         ensures stopped { (fault : PduFault) → self.old ≡ InboxState.Stopped fault
             → IfOk result (λ fed. (fed.pdus ≡ []) × (fed.fault ≡ Some fault)) }
@@ -106,7 +106,7 @@ impl Inbox {
             → IfErr result (λ e. e ≡ InboxError.NoMemory) }
         ensures err { OnErr result (self.new ≡ InboxState.Spent) }
         // Whatever it was fed, it holds less than a PDU of the greatest length.
-        ensures few { length (octets_in self.new) < pdu_header + longest_body }
+        ensures few { length (inbox_octets self.new) < pdu_header + longest_body }
     {
         match mem::replace(&mut self.state, InboxState::Spent) {
             InboxState::Spent => Err(InboxError::Spent),
@@ -145,7 +145,7 @@ fn emptied(alloc: Global, mut octets: Vec<u8>) -> Vec<u8>
 
 /// Reads a rest and the piece after it, and gives what is held from then on.
 fn read_on(alloc: Global, rest: Listed<u8>, piece: &[u8]) -> Result<(InboxState, Fed), AllocError>
-    ensures held { IfOk result (λ x. x.0 ≡ holding (rest ++ piece.now)) }
+    ensures held { IfOk result (λ x. x.0 ≡ inbox_holding (rest ++ piece.now)) }
     ensures fed { IfOk result (λ x. ((pdus_in (rest ++ piece.now)).list ≡ x.1.pdus)
         × ((pdus_in (rest ++ piece.now)).fault ≡ x.1.fault)) }
 {

@@ -1,7 +1,7 @@
 //! Parts of a body that stand one after the other, as they are read, and items among them (PS3.8
 //! section 9.3.2).
 ghost use Rattle.std.specs.Prelude.{◌≡◌, ℕ, List, Option, map, option_map, IfOk, Some};
-ghost use Rattle.dq_pdu.specs.Octets.{parts_of, bodies, at_most_one, exactly_one, unpadded};
+ghost use Rattle.dq_pdu.specs.Octets.{parts_of, bodies, at_most_one, exactly_one, without_uid_padding};
 ghost use Rattle.dq_list.specs.Readers.{Gives};
 ghost use Rattle.dq_pdu.specs.Reading.{Fails, item_at};
 ghost use Rattle.dq_pdu.specs.Shrinking.{Shrinks, item_shrinks};
@@ -86,7 +86,7 @@ pub(crate) fn exactly_one(items: &[Item], kind: u8) -> Result<&[u8], ReadError>
 
 /// The octets without the padding at their end (PS3.5 section 9.1).
 fn unpadded(octets: &[u8]) -> &[u8]
-    ensures { result.now ≡ unpadded octets.now }
+    ensures { result.now ≡ without_uid_padding octets.now }
 {
     let mut rest = octets;
     while let [front @ .., last] = rest {
@@ -100,7 +100,7 @@ fn unpadded(octets: &[u8]) -> &[u8]
 
 /// A unique identifier without its padding.
 pub(crate) fn name_of(alloc: Global, octets: &[u8]) -> Result<Listed<u8>, AllocError>
-    ensures { IfOk result (λ name. name ≡ unpadded octets.now) }
+    ensures { IfOk result (λ name. name ≡ without_uid_padding octets.now) }
 {
     Ok(Listed::from_inner(Vec::from_slice(alloc, unpadded(octets))?))
 }
@@ -111,7 +111,7 @@ pub(crate) fn names_of(
     items: &[Item],
     kind: u8,
 ) -> Result<Vec<Listed<u8>>, AllocError>
-    ensures { IfOk result (λ names. names.items ≡ map unpadded (bodies kind items.now)) }
+    ensures { IfOk result (λ names. names.items ≡ map without_uid_padding (bodies kind items.now)) }
 {
     let mut names = Vec::new(alloc);
     for item in items {

@@ -1,6 +1,7 @@
 //! What holds of all PDUs and of all streams. Each law is what a function with no body ensures.
 ghost use Rattle.std.specs.Prelude.{◌≡◌, ◌≤◌, ◌<◌, ◌+◌, ℕ, Bool, List, [], ◌++◌, length, take, Some, None, IsTrue};
 ghost use Rattle.std.specs.List.{flat_map, list_all};
+ghost use Rattle.dq_list.specs.Octets.{AreOctets};
 ghost use Rattle.dq_pdu.specs.declared.fault.PduFault.{PduFault};
 ghost use Rattle.dq_pdu.specs.declared.inbox.InboxState.{InboxState};
 ghost use Rattle.dq_pdu.specs.declared.inbox.InboxState.TheVariants.{Spent};
@@ -10,25 +11,25 @@ ghost use Rattle.dq_pdu.specs.declared.pdu.Request.{Request};
 ghost use Rattle.dq_pdu.specs.declared.pdu.Accept.{Accept};
 ghost use Rattle.dq_pdu.specs.declared.reading.Front.TheVariants.{Whole};
 ghost use Rattle.dq_pdu.specs.Numbers.{longest_body, pdu_header, pdv_header};
-ghost use Rattle.dq_pdu.specs.Octets.{is_padding, unpadded};
-ghost use Rattle.dq_pdu.specs.Spelling.{Spells};
+ghost use Rattle.dq_pdu.specs.Octets.{is_uid_padding, without_uid_padding};
+ghost use Rattle.dq_pdu.specs.Spelling.{SpellsPdu};
 ghost use Rattle.dq_pdu.specs.Reading.{front};
 ghost use Rattle.dq_pdu.specs.Writing.{spelling, p_data, is_bare, IsWritable, AreWritable};
-ghost use Rattle.dq_pdu.specs.Stream.{Splits, pdus_in, fault_of, with_list, continued};
-ghost use Rattle.dq_pdu.specs.Inboxes.{InboxAfter, fault_in, octets_in};
-ghost use Rattle.dq_pdu.specs.Acceptances.{AreOctets, AreContextIds, IsReceived, IsAnswer};
+ghost use Rattle.dq_pdu.specs.Stream.{Splits, pdus_in, fault_at_front, with_list, stream_read_on};
+ghost use Rattle.dq_pdu.specs.Inboxes.{InboxAfter, inbox_fault, inbox_octets};
+ghost use Rattle.dq_pdu.specs.Acceptances.{AreContextIds, IsReceived, IsAcceptance};
 
 /// Octets spell at most one PDU.
 pub fn spelling_is_unique()
     ensures { (octets : List ℕ) (pdu other : Pdu)
-        → Spells pdu octets → Spells other octets → pdu ≡ other }
+        → SpellsPdu pdu octets → SpellsPdu other octets → pdu ≡ other }
 {}
 
 /// What is read is spelled so, and what is spelled so is read, whatever follows it.
 pub fn reading_is_spelling()
     ensures spelled { (octets : List ℕ) (pdu : Pdu) (count : ℕ)
-        → front octets ≡ Whole pdu count → Spells pdu (take count octets) }
-    ensures read { (octets others : List ℕ) (pdu : Pdu) → Spells pdu octets
+        → front octets ≡ Whole pdu count → SpellsPdu pdu (take count octets) }
+    ensures read { (octets others : List ℕ) (pdu : Pdu) → SpellsPdu pdu octets
         → front (octets ++ others) ≡ Whole pdu (length octets) }
 {}
 
@@ -58,8 +59,8 @@ pub fn fragments_are_writable()
 /// section 9.1).
 pub fn padding_is_stripped()
     ensures lost { (octets : List ℕ) → (padding : List ℕ)
-        × (octets ≡ unpadded octets ++ padding) × IsTrue (list_all is_padding padding) }
-    ensures left { (octets : List ℕ) → IsTrue (is_bare (unpadded octets)) }
+        × (octets ≡ without_uid_padding octets ++ padding) × IsTrue (list_all is_uid_padding padding) }
+    ensures left { (octets : List ℕ) → IsTrue (is_bare (without_uid_padding octets)) }
 {}
 
 /// A stream is its PDUs, one after the other, and then a rest of which no prefix spells a PDU; and
@@ -72,7 +73,7 @@ pub fn pdus_split_a_stream()
 
 /// The fault of a stream is the one that its rest has.
 pub fn a_fault_is_of_the_rest()
-    ensures { (stream : List ℕ) → (pdus_in stream).fault ≡ fault_of (pdus_in stream).rest }
+    ensures { (stream : List ℕ) → (pdus_in stream).fault ≡ fault_at_front (pdus_in stream).rest }
 {}
 
 /// An empty stream has no PDUs, no rest and no fault.
@@ -91,7 +92,7 @@ pub fn a_longer_stream_adds()
     ensures faultless { (stream more : List ℕ) → (pdus_in (stream ++ more)).fault ≡ None
         → (pdus_in stream).fault ≡ None }
     ensures exact { (stream more : List ℕ) → pdus_in (stream ++ more)
-        ≡ continued (pdus_in stream).fault (pdus_in stream).list (pdus_in stream).rest more }
+        ≡ stream_read_on (pdus_in stream).fault (pdus_in stream).list (pdus_in stream).rest more }
 {}
 
 /// An inbox stands for the stream that it was fed, whatever its pieces were: it is the only one
@@ -101,7 +102,7 @@ pub fn an_inbox_stands_for_its_stream()
         → InboxAfter stream inbox → InboxAfter stream other → inbox ≡ other }
     ensures not_spent { (stream : List ℕ) → InboxAfter stream Spent → ⊥ }
     ensures fault { (stream : List ℕ) (inbox : InboxState)
-        → InboxAfter stream inbox → fault_in inbox ≡ (pdus_in stream).fault }
+        → InboxAfter stream inbox → inbox_fault inbox ≡ (pdus_in stream).fault }
 {}
 
 /// What is left of a stream that has no fault is less than a PDU of the greatest length, and so is
@@ -110,7 +111,7 @@ pub fn a_rest_is_less_than_a_pdu()
     ensures rest { (stream : List ℕ) → (pdus_in stream).fault ≡ None
         → length (pdus_in stream).rest < pdu_header + longest_body }
     ensures held { (stream : List ℕ) (inbox : InboxState) → InboxAfter stream inbox
-        → length (octets_in inbox) < pdu_header + longest_body }
+        → length (inbox_octets inbox) < pdu_header + longest_body }
 {}
 
 /// There are at most 128 contexts: their ids are odd octets of their own (PS3.8 section 9.3.2.2).
@@ -122,11 +123,11 @@ pub fn contexts_are_few()
 /// reserved octets have their lengths (PS3.8 section 9.3.2).
 pub fn requests_have_context_ids()
     ensures { (octets : List ℕ) (request : Request) → AreOctets octets
-        → Spells (request_pdu request) octets → IsReceived request }
+        → SpellsPdu (request_pdu request) octets → IsReceived request }
 {}
 
 /// An acceptance that answers the contexts of a request can be written: its contexts are few, and
 /// its identifiers short (PS3.8 section 9.3.3, PS3.5 section 9.1).
 pub fn answers_are_writable()
-    ensures { (accept : Accept) → IsAnswer accept → IsWritable (accept_pdu accept) }
+    ensures { (accept : Accept) → IsAcceptance accept → IsWritable (accept_pdu accept) }
 {}

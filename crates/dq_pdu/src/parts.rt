@@ -3,8 +3,8 @@ ghost use Rattle.std.specs.Prelude.{◌≡◌, ◌≤◌, ◌<◌, ◌+◌, ◌�
 ghost use Rattle.std.specs.Int.{w16, to_be_bytes};
 ghost use Rattle.std.specs.List.{flat_map};
 ghost use Rattle.dq_pdu.specs.Numbers.{transfer_syntax_item, longest_body};
-ghost use Rattle.dq_pdu.specs.Writing.{item, proposed, proposed_body, answered, control_header, pdv};
-ghost use Rattle.dq_pdu.specs.Widths.{counted};
+ghost use Rattle.dq_pdu.specs.Writing.{item, proposed_context_octets, proposed_body, answered_context_octets, control_header, pdv};
+ghost use Rattle.dq_pdu.specs.Widths.{capped_count};
 
 use crate::numbers::{CONTEXT_FIELDS, ITEM_HEADER, PDV_FIELDS, PDV_HEADER, item_type};
 use crate::pdu::{AnsweredContext, Pdv, ProposedContext};
@@ -17,7 +17,7 @@ pub(crate) trait Part {
 
     /// How many octets it takes, or the greatest `usize`.
     fn size(&self) -> usize
-        ensures { result ≡ counted (length (octets self.now)) };
+        ensures { result ≡ capped_count (length (octets self.now)) };
 
     /// Writes it at the end.
     fn put(&self, out: &mut Vec<u8>) -> Result<(), AllocError>
@@ -27,7 +27,7 @@ pub(crate) trait Part {
 
 /// How many octets the parts take, or the greatest `usize`.
 pub(crate) fn size_of_parts<P: Part>(parts: &[P]) -> usize
-    ensures { result ≡ counted (length (flat_map P.octets parts.now)) }
+    ensures { result ≡ capped_count (length (flat_map P.octets parts.now)) }
 {
     let mut total: usize = 0;
     for part in parts {
@@ -80,7 +80,7 @@ impl Part for Listed<u8> {
 }
 
 fn proposed_size(context: &ProposedContext) -> usize
-    ensures { result ≡ counted (length (proposed_body context.now)) }
+    ensures { result ≡ capped_count (length (proposed_body context.now)) }
 {
     let names = size_of_parts(context.transfer_syntaxes.as_slice());
     let name = context.abstract_syntax.len();
@@ -90,7 +90,7 @@ fn proposed_size(context: &ProposedContext) -> usize
 }
 
 impl Part for ProposedContext {
-    ghost octets = { proposed };
+    ghost octets = { proposed_context_octets };
 
     fn size(&self) -> usize {
         proposed_size(self).saturating_add(ITEM_HEADER)
@@ -106,7 +106,7 @@ impl Part for ProposedContext {
 }
 
 impl Part for AnsweredContext {
-    ghost octets = { answered };
+    ghost octets = { answered_context_octets };
 
     fn size(&self) -> usize {
         self.transfer_syntax

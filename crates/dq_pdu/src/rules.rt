@@ -1,8 +1,8 @@
 //! What the parts of a PDU have to keep (PS3.8 section 9.3).
 ghost use Rattle.std.specs.Prelude.{◌≡◌, ℕ, map};
 ghost use Rattle.std.specs.List.{list_all};
-ghost use Rattle.dq_pdu.specs.Octets.{is_padding, is_among, are_distinct};
-ghost use Rattle.dq_pdu.specs.Writing.{is_bare, is_name, is_proposable, is_answerable, has_parts};
+ghost use Rattle.dq_pdu.specs.Octets.{is_uid_padding, is_number_among, are_distinct};
+ghost use Rattle.dq_pdu.specs.Writing.{is_bare, is_uid_name, is_proposable, is_answerable, has_parts};
 
 use crate::pdu::{AnsweredContext, Pdu, ProposedContext};
 use dq_list::Listed;
@@ -33,7 +33,7 @@ impl Identified for AnsweredContext {
 
 /// Whether a context has the id.
 fn has_id<C: Identified>(id: u8, contexts: &[C]) -> bool
-    ensures { result ≡ is_among id (map C.id_of contexts.now) }
+    ensures { result ≡ is_number_among id (map C.id_of contexts.now) }
 {
     for context in contexts {
         if context.id() == id {
@@ -59,7 +59,7 @@ pub(crate) fn are_distinct<C: Identified>(contexts: &[C]) -> bool
 
 /// Whether a unique identifier may be padded with the octet (PS3.5 section 9.1).
 pub(crate) fn is_padding(octet: u8) -> bool
-    ensures { result ≡ is_padding octet }
+    ensures { result ≡ is_uid_padding octet }
 {
     octet == 0x00 || octet == b' '
 }
@@ -82,7 +82,7 @@ fn are_bare(names: &[Listed<u8>]) -> bool
 }
 
 fn is_name(name: &Option<Listed<u8>>) -> bool
-    ensures { result ≡ is_name name.now }
+    ensures { result ≡ is_uid_name name.now }
 {
     match name {
         None => true,

@@ -2,8 +2,8 @@
 ghost use Rattle.std.specs.Prelude.{◌≡◌, ◌≤◌, ◌+◌, ◌<◌, ◌++◌, ◌∷◌, length, Some, IsTrue, ◌↔◌, IfOk, OnOk};
 ghost use Rattle.std.specs.Int.{w32, to_be_bytes};
 ghost use Rattle.dq_pdu.specs.Numbers.{longest_body, pdv_header};
-ghost use Rattle.dq_pdu.specs.Writing.{application_context, maximum_length, request_information, implementation, accept_information, request as request_body, accept as accept_body, kind, body, spelling, p_data, is_writable, IsWritable};
-ghost use Rattle.dq_pdu.specs.Widths.{counted, AreWide, HasWidths};
+ghost use Rattle.dq_pdu.specs.Writing.{application_context, maximum_length, request_information, implementation, accept_information, request_octets as request_body, accept as accept_body, kind, body, spelling, p_data, is_writable, IsWritable};
+ghost use Rattle.dq_pdu.specs.Widths.{capped_count, AreWide, HasWidths};
 
 use crate::numbers::{
     ITEM_HEADER, LONGEST_BODY, MAXIMUM_LENGTH_ITEM, PDU_HEADER, PDV_HEADER, SHORT_BODY, item_type,
@@ -17,7 +17,7 @@ use std::alloc::{AllocError, Global};
 
 /// How many octets a name takes as an item, or the greatest `usize`.
 fn size_of_name(name: &Option<Listed<u8>>) -> usize
-    ensures { result ≡ counted (length (application_context name.now)) }
+    ensures { result ≡ capped_count (length (application_context name.now)) }
 {
     match name {
         None => 0,
@@ -26,7 +26,7 @@ fn size_of_name(name: &Option<Listed<u8>>) -> usize
 }
 
 fn size_of_request(request: &Request) -> usize
-    ensures size { result ≡ counted (length (request_body request.now)) }
+    ensures size { result ≡ capped_count (length (request_body request.now)) }
     ensures widths { let r = request.now in
         AreWide r.version r.called r.calling r.reserved r.maximum_length }
 {
@@ -45,7 +45,7 @@ fn size_of_request(request: &Request) -> usize
 }
 
 fn size_of_accept(accept: &Accept) -> usize
-    ensures size { result ≡ counted (length (accept_body accept.now)) }
+    ensures size { result ≡ capped_count (length (accept_body accept.now)) }
     ensures widths { let a = accept.now in
         AreWide a.version a.called a.calling a.reserved a.maximum_length }
 {
@@ -65,7 +65,7 @@ fn size_of_accept(accept: &Accept) -> usize
 
 /// How many octets a PDU's body takes, or the greatest `usize`.
 fn size_of_body(pdu: &Pdu) -> usize
-    ensures size { result ≡ counted (length (body pdu.now)) }
+    ensures size { result ≡ capped_count (length (body pdu.now)) }
     ensures widths { HasWidths pdu.now }
 {
     match pdu {

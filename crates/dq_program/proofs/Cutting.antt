@@ -1,5 +1,5 @@
 -- Replies that are cut short.
-use Rattle.std.proofs.Common.{◌≡◌, ◌≢◌, ◌⊎◌, ℕ, ◌≤◌, ◌<◌, List, [], length, take, Option, Some, None, inl, inr, refl, sym, ap, ◌∙◌}
+use Rattle.std.proofs.Common.{◌≡◌, ◌≢◌, ◌⊎◌, ℕ, ◌<◌, List, length, Option, Some, None, inl, inr, sym, ap, ◌∙◌}
 use Rattle.std.specs.Io.KnownBytes.{Keeps, Appends}
 use Rattle.dq_config.specs.declared.config.Institution.{Institution}
 use Rattle.dq_tables.specs.declared.row.Row.{Row}
@@ -7,10 +7,10 @@ use Rattle.dq_core.specs.declared.event.Event.{Event}
 use Rattle.dq_core.specs.declared.event.Reply.{Reply}
 use Rattle.dq_core.specs.declared.fault.Fault.{Fault}
 use Rattle.dq_core.specs.declared.fault.Fault.TheVariants as fault
-use Rattle.dq_core.specs.Faults.{number_of as fault_number}
+use Rattle.dq_core.specs.Faults.{server_fault_number as fault_number}
 use Rattle.dq_core.specs.Runs.{FaultsAfter, HasNoRoom}
 use Rattle.dq_core.specs.Shared.{replies}
-use Rattle.dq_captures.specs.Printing.{printed_line, printed}
+use Rattle.dq_captures.specs.Printing.{printed_line}
 use Rattle.dq_captures.specs.Surroundings.{AppendsPart}
 use Rattle.dq_captures.proofs.Written.{AppendsPart-items, AppendsPart-whole, Appends-kept}
 use Rattle.dq_program.specs.Program.{AreGiven, FaultsAt, CutsGiven, Cuts}

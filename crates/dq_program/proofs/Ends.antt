@@ -12,7 +12,7 @@ use Rattle.dq_program.specs.declared.network.Unheard.TheVariants as unheard
 use Rattle.dq_program.specs.declared.stop.Stop.{Stop}
 use Rattle.dq_program.specs.declared.stop.Stop.TheVariants.{Usage, Config, Capture, Store, Fault, Output, Network}
 use Rattle.dq_program.specs.Errands.{EndsEarly}
-use Rattle.dq_program.specs.Program.{no_memory, unclosed, status_of, stop_of_listening, RefusesFile}
+use Rattle.dq_program.specs.Program.{no_memory, unclosed_store, status_of, stop_of_listening, RefusesFile}
 use Rattle.dq_program.specs.Serving.{ready_text, IsUnheard, HasCause, EndsService}
 
 memory_or_not : (k : ErrorKind) → (k ≡ kind.OutOfMemory) ⊎ (k ≢ kind.OutOfMemory)
@@ -53,13 +53,13 @@ module _ {Wired : Type 0} (log : Wired → Option (List Call)) (held : List ℕ 
   no-usage (Plays request) (inr (inl refused)) = refused.2
   no-usage (Plays request) (inr (inr (institutions, events, by, tells, inl refused))) = refused.1
   no-usage (Plays request) (inr (inr (institutions, events, by, tells, inr (inl ended)))) = ended.0
-  no-usage (Plays request) (inr (inr (institutions, events, by, tells, inr (inr kept)))) = let is : Usage ≡ unclosed = kept.1 in absurd (cc)
+  no-usage (Plays request) (inr (inr (institutions, events, by, tells, inr (inr kept)))) = let is : Usage ≡ unclosed_store = kept.1 in absurd (cc)
   no-usage (Serves serving) (inl refused) = no-usage-file unread held serving.config refused.1
   no-usage (Serves serving) (inr (institutions, by, inl refused)) = refused.1
   no-usage (Serves serving) (inr (institutions, by, inr ends)) = ends
   no-usage (Loops file) ends = ends
   no-usage (Migrates files) (inl refused) = refused.1
-  no-usage (Migrates files) (inr kept) = let is : Usage ≡ unclosed = kept.0 in absurd (cc)
+  no-usage (Migrates files) (inr kept) = let is : Usage ≡ unclosed_store = kept.0 in absurd (cc)
 
   -- words that are understood are not told as usage
   pub not_usage : (errand : Errand) (cause : Stop) → EndsEarly log held stored input before after unread unfed fails breaks errand cause
@@ -99,6 +99,10 @@ status_bounds (Store number) = (omega arith, omega arith)
 status_bounds (Fault number) = (omega arith, omega arith)
 status_bounds Output = (omega arith, omega arith)
 status_bounds Network = (omega arith, omega arith)
+
+-- what holds of the output's failure holds of a stop that is one
+pub stops-at : (P : Stop → Type 0) (cause : Stop) → cause ≡ Output → P Output → P cause
+stops-at P cause is holds = rw is holds
 
 -- what each says of a success, all say
 pub both-ok : {T E : Type 0} (A B : Type 0) (r : Result T E) → OnOk r A → OnOk r B → OnOk r (A × B)

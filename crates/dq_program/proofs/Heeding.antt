@@ -2,13 +2,13 @@
 use Rattle.std.proofs.Common.{◌≡◌, ◌≤◌, ◌++◌, ℕ, length, length-append, arith, ◌∙◌, ◌∷◌, Bool, true, false, if◌then◌else◌, List, [], Option, Some, Ok, refl, sym, ap}
 use Rattle.dq_wires.specs.declared.calls.Call.{Call}
 use Rattle.dq_wires.specs.declared.calls.Call.TheVariants.{Read, Accept, Shut}
-use Rattle.dq_wires.specs.declared.calls.Came.TheVariants.{Octets}
+use Rattle.dq_wires.specs.declared.calls.ReadOutcome.TheVariants.{Octets}
 use Rattle.dq_wires.specs.Deeds.{Shutting}
 use Rattle.dq_wires.specs.Logs.{Logs}
 use Rattle.dq_wires.proofs.Logging.{logs-then}
 use Rattle.dq_program.specs.declared.caller.Next.{Next}
 use Rattle.dq_program.specs.declared.caller.Next.TheVariants.{Held, Left}
-use Rattle.dq_program.specs.Console.{Calling, new_calling, HasRoom, HasNone, IsListening, is_line_end, line_end}
+use Rattle.dq_program.specs.Console.{Calling, new_calling, HasRoomForCaller, HasNone, TakesMore, is_line_end, first_line_length}
 use Rattle.dq_program.proofs.Lines.{end-append}
 use Rattle.dq_program.specs.Console.Heed.{Heard, Lost}
 use Rattle.dq_program.specs.Console.Letting.{LetIn, TurnedAway}
@@ -29,7 +29,7 @@ reads-octets before after room old new octets came false told is grown = (Octets
 
 -- where the first line ends is not searched too far
 pub searched-still : (came octets grown : List ℕ) (searched : ℕ) (kept : Bool) → grown ≡ (if kept then came ++ octets else came)
-    → searched ≤ length came → searched ≤ line_end came → (searched ≤ length grown) × (searched ≤ line_end grown)
+    → searched ≤ length came → searched ≤ first_line_length came → (searched ≤ length grown) × (searched ≤ first_line_length grown)
 searched-still came octets grown searched true is within before = (
   rw is (omega (arith, within, length-append came octets)),
   rw is (omega (arith, before, end-append is_line_end came octets)),
@@ -37,7 +37,7 @@ searched-still came octets grown searched true is within before = (
 searched-still came octets grown searched false is within before = (rw is within, rw is before)
 
 -- from a caller was read
-pub reads : {before after : Option (List Call)} (room : ℕ) {old new : Calling} (there : Bool) → IsListening old → HasNone old.came
+pub reads : {before after : Option (List Call)} (room : ℕ) {old new : Calling} (there : Bool) → TakesMore old → HasNone old.came
     → Reads before after room old new there → Quiet before after old new there
 reads room true listening none read = record {
   heed = Heard room read.0;
@@ -50,7 +50,7 @@ reads room false listening none read =
     record { heed = Lost room read.0; is = (listening, none, read.2); quiet = refl; calls = read.1; leaves = refl }
 
 -- one is let in
-pub came-in : (before after : Option (List Call)) (from to : List Calling) (place : ℕ) (caller : Calling) (kept : Bool) → HasRoom from
+pub came-in : (before after : Option (List Call)) (from to : List Calling) (place : ℕ) (caller : Calling) (kept : Bool) → HasRoomForCaller from
     → Logs before after (Accept (Ok (Some place))) → caller ≡ new_calling place → kept ≡ true
     → to ≡ (if kept then from ++ caller ∷ [] else from) → LetsIn before after from to
 came-in before after from to place caller kept room told new is_kept is =
@@ -58,7 +58,7 @@ came-in before after from to place caller kept room told new is_kept is =
 
 -- one for whom there is no memory is let go
 pub turned-away : (before mid after : Option (List Call)) (from to : List Calling) (place : ℕ) (answer : Shutting) (caller : Calling) (kept : Bool)
-    → HasRoom from → Logs before mid (Accept (Ok (Some place))) → Logs mid after (Shut place answer) → kept ≡ false
+    → HasRoomForCaller from → Logs before mid (Accept (Ok (Some place))) → Logs mid after (Shut place answer) → kept ≡ false
     → to ≡ (if kept then from ++ caller ∷ [] else from) → LetsIn before after from to
 turned-away before mid after from to place answer caller kept room told shut is_lost is = record {
   letting = TurnedAway place answer;

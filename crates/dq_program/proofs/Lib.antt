@@ -1,4 +1,3 @@
-pub mod Counting
 pub mod Inputs
 pub mod Cutting
 pub mod Ends

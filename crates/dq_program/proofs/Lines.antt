@@ -4,7 +4,7 @@ use Rattle.std.specs.List.{position_or_len}
 use Rattle.std.proofs.lemmas.List.{take_rest, length-drop, take-take, drop_all}
 use Rattle.std.proofs.lemmas.List.Sums.{prefix_len-le-length}
 use Rattle.std.proofs.lemmas.Grind.{common_steps}
-use Rattle.dq_program.specs.Console.{line_most, line_end, line_to, first_line, other_lines}
+use Rattle.dq_program.specs.Console.{line_most, first_line_length, line_to, first_line, other_lines}
 
 module _ {X : Type 0} (p : X → Bool) where
   pub end-le-length : (xs : List X) → position_or_len p xs ≤ length xs
@@ -61,9 +61,9 @@ module _ {X : Type 0} (p : X → Bool) where
 pub cut-line : (end : ℕ) (octets : List ℕ) → line_to end (take (end + 1) octets) ≡ line_to end octets
 cut-line end octets = rw (take-take end (end + 1) octets (omega arith)) refl
 
-module _ (octets : List ℕ) (none : line_end octets ≡ length octets) (long : line_most < length octets) where
+module _ (octets : List ℕ) (none : first_line_length octets ≡ length octets) (long : line_most < length octets) where
   pub long-line : first_line octets ≡ []
-  long-line = let long : nat_lt line_most (line_end octets) ≡ true = grind (arith, common_steps, none, long) in rw long refl
+  long-line = let long : nat_lt line_most (first_line_length octets) ≡ true = grind (arith, common_steps, none, long) in rw long refl
 
   pub long-others : other_lines octets ≡ []
-  long-others = drop_all (line_end octets + 1) octets (omega (arith, none))
+  long-others = drop_all (first_line_length octets + 1) octets (omega (arith, none))

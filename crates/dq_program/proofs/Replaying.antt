@@ -4,7 +4,7 @@ use Rattle.dq_config.specs.declared.config.Institution.{Institution}
 use Rattle.dq_tables.specs.declared.row.Row.{Row}
 use Rattle.dq_core.specs.declared.event.Event.{Event}
 use Rattle.dq_core.specs.declared.event.Reply.{Reply}
-use Rattle.dq_core.specs.Histories.{is_well_formed}
+use Rattle.dq_core.specs.Histories.{is_well_formed_history}
 use Rattle.dq_core.specs.Owners.{owner}
 use Rattle.dq_core.specs.Own.{stream_of}
 use Rattle.dq_core.specs.Runs.{IsRun}
@@ -16,7 +16,7 @@ use Rattle.dq_program.specs.Replays.{IsExactReplay}
 -- the clause `exact` of `associations_are_answered_in_full`
 abbrev pub AreExactRuns : Type 0
 AreExactRuns = (institutions : List Institution) (rows : List Row) (events : List Event) (given : List Reply) (kept : List Row) (number : ℕ) (i : Institution)
-    → IsRun institutions rows events given kept → IsTrue (is_well_formed events) → HoldSound rows → BringOctets events
+    → IsRun institutions rows events given kept → IsTrue (is_well_formed_history events) → HoldSound rows → BringOctets events
     → owner institutions (stream_of number (take (length given) events)) ≡ Some i → IsAnsweredRun institutions rows events given number i
 
 pub replayed : AreExactRuns → (stored : Option (List Row)) (lines : List (List ℕ)) (institutions : List Institution) (rows : List Row)

@@ -8,7 +8,7 @@ use Rattle.dq_core.specs.declared.event.Event.{Event}
 use Rattle.dq_core.specs.declared.event.Event.TheVariants.{Open}
 use Rattle.dq_core.specs.declared.fault.Fault.{Fault}
 use Rattle.dq_core.specs.declared.fault.Fault.TheVariants as fault
-use Rattle.dq_core.specs.Faults.{number_of as fault_number}
+use Rattle.dq_core.specs.Faults.{server_fault_number as fault_number}
 use Rattle.dq_core.specs.Standing.{Standing}
 use Rattle.dq_wires.specs.declared.calls.Call.{Call}
 use Rattle.dq_wires.specs.Deeds.{break_event}
@@ -16,7 +16,7 @@ use Rattle.dq_wires.specs.Logs.{LogsAll}
 use Rattle.dq_wires.specs.declared.fault.TurnFault.{TurnFault}
 use Rattle.dq_wires.specs.Servings.{Act, act_calls, all_turned}
 use Rattle.dq_wires.specs.Servings.Act.{Turned}
-use Rattle.dq_wires.specs.Steps.{Stops}
+use Rattle.dq_wires.specs.Steps.{StopsBy}
 use Rattle.dq_wires.specs.Stepping.{Moves, Fails}
 use Rattle.dq_wires.specs.Turns.{Turn, TurnsWent, TurnsCut, Cut, cut_calls, CutStops}
 use Rattle.dq_wires.specs.Turns.Cut.{NoRoom, Unaccepted, Unopened, Midway}
@@ -131,11 +131,11 @@ console-cause breaks stop.Output is = is
 console-cause breaks stop.Network is = absurd is
 
 module _ {Tables : Type 0} (state : Tables → State) (breaks : Type 0) (old new : Standing Tables) where
-  stops-cause : (cut : Cut) (event : Option Event) (fault : TurnFault) → Stops (Fails state) old new event fault → HasCause breaks cut (stop_of_turning fault)
+  stops-cause : (cut : Cut) (event : Option Event) (fault : TurnFault) → StopsBy (Fails state) old new event fault → HasCause breaks cut (stop_of_turning fault)
   stops-cause cut None fault stops = rw stops.1 (inl (inl refl))
   stops-cause cut (Some event) fault stops = rw stops.1 (service-fault stops.0)
 
-  stops-left : (event : Option Event) (fault : TurnFault) → Stops (Fails state) old new event fault → IsLeft state old new
+  stops-left : (event : Option Event) (fault : TurnFault) → StopsBy (Fails state) old new event fault → IsLeft state old new
   stops-left None fault stops = inl stops.0
   stops-left (Some event) fault stops = inr (inl (event, stops.0, stops.2))
 

@@ -12,10 +12,12 @@ use Rattle.dq_tables.specs.declared.row.Row.{Row}
 use Rattle.dq_tables.specs.Keeping.{State}
 use Rattle.dq_wires.specs.declared.calls.Call.{Call}
 use Rattle.dq_wires.specs.declared.fault.TurnFault.{TurnFault}
-use Rattle.dq_wires.specs.Servings.{Act, Serving, all_turned, act_steps, served_steps, served_events}
+use Rattle.dq_wires.specs.Looping.{ArePlayed}
+use Rattle.dq_wires.specs.Logs.{LogsAll}
+use Rattle.dq_wires.specs.Servings.{Act, act_calls, Serving, nothing_held, all_turned, served_steps, served_events}
 use Rattle.dq_wires.specs.Servings.{Served as ServedOver}
 use Rattle.dq_wires.specs.Steps.{replies_of}
-use Rattle.dq_wires.specs.Turns.{Cut}
+use Rattle.dq_wires.specs.Turns.{Cut, cut_calls}
 use Rattle.dq_wires.specs.Turns.Cut.{NoRoom}
 use Rattle.dq_wires.specs.Servings.Act.{Ordered}
 use Rattle.dq_wires.specs.Stepping.{Stepped, Moves, Fails}
@@ -24,12 +26,13 @@ use Rattle.dq_wires.specs.Turners.{Turning, IsOrder}
 use Rattle.dq_program.specs.declared.desk.Line.{Line}
 use Rattle.dq_program.specs.declared.desk.Line.TheVariants as line
 use Rattle.dq_program.specs.declared.stop.Stop.{Stop}
-use Rattle.dq_program.specs.Desk.{HasOrders, Tells, Answered, is_bad, LooksInPart, Unanswered}
-use Rattle.dq_program.specs.Console.{Calling, answered}
-use Rattle.dq_program.specs.Console.Answer.{Obeyed, Reported, BackedUp, Unread}
+use Rattle.dq_program.specs.Desk.{HasOrders, TellsLine, Answered, is_bad, LooksInPart, Unanswered}
+use Rattle.dq_program.specs.Console.{Calling, caller_with_answer}
+use Rattle.dq_program.specs.Console.LineAnswer.{Obeyed, Reported, BackedUp, Unread}
 use Rattle.dq_program.specs.Heeding.{Does, Halted}
+use Rattle.dq_program.specs.Looping.{ArePlayedOver}
 use Rattle.dq_program.specs.Rounds.{RoundsCut}
-use Rattle.dq_program.specs.Serving.{WentOn, Attended, Round, rounds_acts, Halt, halt_acts, halt_cut, HasConsole, HasConsoleTo, IsUncalled, Served, ServedUpTo}
+use Rattle.dq_program.specs.Serving.{WentOn, Attended, Round, rounds_acts, Halt, HasConsole, HasConsoleTo, IsUncalled, AreServed, Served, ServedUpTo}
 
 module _ {Tables : Type 0} (state : Tables → State) where
   -- the laws of servings that are used
@@ -101,32 +104,32 @@ module _ {Tables : Type 0} (state : Tables → State) where
 
     -- what a line tells was done, and its answer is kept
     module _ (copied : List Row → Type 0) (names : List (List ℕ)) (octets text : List ℕ) (caller next : Calling) (is_over : Bool) (orders : OrdersServe)
-        (looks : LooksServe) (put : next ≡ answered caller text is_over) where
-      pub does-line : (l : Line) → Tells octets l → HasOrders l → is_over ≡ is_bad l → Answered state copied names old.server new.server l text
+        (looks : LooksServe) (put : next ≡ caller_with_answer caller text is_over) where
+      pub does-line : (l : Line) → TellsLine octets l → HasOrders l → is_over ≡ is_bad l → Answered state copied names old.server new.server l text
           → Does state old new octets caller next
       does-line (line.Order event) tells order bad is = record {
         answer = Obeyed event is.0;
         is = (tells, order);
         acts = went-by-order orders event is.0 order is.1;
-        leaves = put ∙ ap₂ (λ (t : List ℕ) (b : Bool). answered caller t b) is.2 bad;
+        leaves = put ∙ ap₂ (λ (t : List ℕ) (b : Bool). caller_with_answer caller t b) is.2 bad;
       }
       does-line line.Report tells order bad is = record {
         answer = Reported text;
         is = tells;
         acts = went-by-look looks is.0;
-        leaves = put ∙ ap (λ (b : Bool). answered caller text b) bad;
+        leaves = put ∙ ap (λ (b : Bool). caller_with_answer caller text b) bad;
       }
       does-line (line.Backup path) tells order bad is = record {
         answer = BackedUp is.made;
         is = (_, tells);
         acts = went-by-look looks is.looked;
-        leaves = put ∙ ap₂ (λ (t : List ℕ) (b : Bool). answered caller t b) is.text_is bad;
+        leaves = put ∙ ap₂ (λ (t : List ℕ) (b : Bool). caller_with_answer caller t b) is.text_is bad;
       }
       does-line line.Bad tells order bad is = record {
         answer = Unread;
         is = tells;
         acts = went-by-nothing is.0;
-        leaves = put ∙ ap₂ (λ (t : List ℕ) (b : Bool). answered caller t b) is.1 bad;
+        leaves = put ∙ ap₂ (λ (t : List ℕ) (b : Bool). caller_with_answer caller t b) is.1 bad;
       }
 
   -- a turner as it was, but for its server
@@ -144,7 +147,7 @@ module _ {Tables : Type 0} (state : Tables → State) where
       left = looked.2;
     }
 
-    pub line-halted : (l : Line) → Tells octets l → HasOrders l → Unanswered state old.server new.server l → Halted state old new octets
+    pub line-halted : (l : Line) → TellsLine octets l → HasOrders l → Unanswered state old.server new.server l → Halted state old new octets
     line-halted (line.Order event) tells order (inl fails) =
         record { order = None; is = tt; last = old; acts = λ log. went-nowhere log old; left = inr (inl (event, fails.0, fails.1)) }
     line-halted (line.Order event) tells order (inr stepped) = record {
@@ -164,24 +167,37 @@ module _ {Tables : Type 0} (state : Tables → State) (rows : List Row) where
   AreReplied = (rows : List Row) (first last : Standing Tables) (acts : List Act) (cut : Cut) → ServedOver state rows first last acts cut
       → (state last.tables).honest → replies_of (served_steps acts cut) ≡ replies first.institutions rows (served_events acts cut)
 
+  served-to : {Wired : Type 0} (log : Wired → Option (List Call)) (wires left : Wired) {first last : Standing Tables} {acts : List Act} {cut : Cut}
+      {institutions : List Institution} → AreReplied → ServedOver state rows first last acts cut
+      → LogsAll (log wires) (log left) (flat_map act_calls acts ++ cut_calls cut) → (state last.tables).honest → first.institutions ≡ institutions
+      → IsUncalled (log wires) → AreServed log institutions rows acts cut
+  served-to log wires left {first} {last} {acts} {cut} replied served calls honest same uncalled = record {
+    wires = wires;
+    left = left;
+    uncalled = uncalled;
+    are = served.are;
+    fits = served.fits;
+    calls = calls;
+    answered = rw same at (replied rows first last acts cut served honest);
+  }
+
+  -- the acts of a serving are served
+  pub served-by : {Wired : Type 0} (log : Wired → Option (List Call)) (wires left : Wired) {first last : Standing Tables} {hold : Hold} {acts : List Act}
+      {institutions : List Institution} → WholeServes state → AreReplied → Serving state rows (log wires) (log left) first last hold acts
+      → (state last.tables).honest → first.institutions ≡ institutions → IsUncalled (log wires) → AreServed log institutions rows acts NoRoom
+  served-by log wires left {first} {last} {hold} {acts} whole replied service honest same uncalled =
+      served-to log wires left replied (whole rows (log wires) (log left) first last hold acts service) (rw append-nil service.calls) honest same uncalled
+
   pub service-of : {Wired : Type 0} (log : Wired → Option (List Call)) (wires left : Wired) {old new : Turning Tables} {count made : ℕ} (console : Option (List ℕ))
       (institutions : List Institution) (rounds : List Round) → WholeServes state → AreReplied
       → Serving state rows (log wires) (log wires) old.server old.server old.hold [] → (state new.server.tables).honest
       → old.server.institutions ≡ institutions → made ≡ count → IsUncalled (log wires) → length rounds ≡ made → HasConsole log console rounds
       → WentOn state (log wires) (log left) old new (rounds_acts rounds) → Served log institutions rows count console
   service-of log wires left {old} {new} console institutions rounds whole replied begun honest same number uncalled counted consoled went =
-      let service = went.serves rows (log wires) old.server [] begun in
-      let served = whole rows (log wires) (log left) old.server new.server new.hold (rounds_acts rounds) service in
-      let steps = append-nil (flat_map act_steps (rounds_acts rounds)) in
       record {
-        wires = wires;
-        left = left;
-        uncalled = uncalled;
         rounds = rounds;
         counted = counted ∙ number;
-        are = service.are;
-        calls = service.calls;
-        answered = rw (same, steps) at (replied rows old.server new.server (rounds_acts rounds) NoRoom served honest);
+        served = served-by log wires left whole replied (went.serves rows (log wires) old.server [] begun) honest same uncalled;
         consoled = consoled;
       }
 
@@ -195,17 +211,22 @@ module _ {Tables : Type 0} (state : Tables → State) (rows : List Row) where
   service-cut log wires left {old = old} console institutions replied begun honest same number uncalled off consoled =
       let cut = off.off rows (log wires) old.server [] begun in
       record {
-        wires = wires;
-        left = left;
-        uncalled = uncalled;
         rounds = off.rounds;
         most = rw number at off.most;
         halt = off.halt;
         causes = off.causes;
-        are = cut.served.are;
-        fits = cut.served.fits;
-        calls = cut.calls;
-        answered = rw same at (replied rows old.server cut.last (rounds_acts off.rounds ++ halt_acts off.halt) (halt_cut off.halt) cut.served
-            (honest cut.last.tables));
+        served = served-to log wires left replied cut.served cut.calls (honest cut.last.tables) same uncalled;
         consoled = consoled;
       }
+
+-- the events of a capture were played
+module _ {Tables : Type 0} (state : Tables → State) where
+  pub played-by : {Wired : Type 0} (log : Wired → Option (List Call)) (wires : Wired) {first : Standing Tables} {institutions : List Institution}
+      {events : List Event} → WholeServes state → AreReplied state [] → ((tables : Tables) → (state tables).honest) → first.institutions ≡ institutions
+      → IsUncalled (log wires) → ((acts : List Act) × (left : Wired) × (last : Standing Tables) × (hold : Hold) × ArePlayed [] nothing_held events acts
+      × Serving state [] (log wires) (log left) first last hold acts) → ArePlayedOver log institutions events
+  played-by log wires whole replied honest same uncalled (acts, left, last, hold, played, service) = record {
+    acts = acts;
+    played = played;
+    served = served-by state [] log wires left whole replied service (honest last.tables) same uncalled;
+  }

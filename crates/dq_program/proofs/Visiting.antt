@@ -11,7 +11,7 @@ use Rattle.dq_wires.specs.Servings.{Act}
 use Rattle.dq_wires.specs.Turners.{Turning}
 use Rattle.dq_wires.proofs.Logging.{logs-then, logs-none}
 use Rattle.dq_wires.proofs.Rounding.{flat_map-more, map-more, get-at, set-at, remove-at}
-use Rattle.dq_program.specs.Console.{Calling, HasLine, first_line, without_line, IsListening, answered, answer_text, is_unread, heed_calls, after_heed, Attending, IsAttending, letting_calls, attending_calls, attending_acts, after_attending, Visit, IsVisit, AreVisits, caller_of, kept_of, visit_calls, visit_acts, shut_calls}
+use Rattle.dq_program.specs.Console.{Calling, HasLine, first_line, without_line, TakesMore, caller_with_answer, line_answer_text, is_unread, heed_calls, after_heed, Attending, IsAttending, letting_calls, attending_calls, attending_acts, after_attending, Visit, IsVisit, AreVisits, caller_of, callers_kept, visit_calls, visit_acts, shut_calls}
 use Rattle.dq_program.specs.Console.Heed.{Took, Forgotten}
 use Rattle.dq_program.specs.Heeding.{Writes, Does, LetsIn, HaltedAt, Heeded, Visited, AllVisited, SomeVisited, Interrupted}
 use Rattle.dq_program.specs.Serving.{Attended}
@@ -44,10 +44,10 @@ module _ {Tables : Type 0} (state : Tables → State) where
 
   -- a line was taken, and its answer offered
   pub heeded-line : {before mid after : Option (List Call)} {old new : Turning Tables} {caller taken put next : Calling} {line : List ℕ} {there : Bool}
-      → IsListening caller → HasLine caller.came → line ≡ first_line caller.came → taken ≡ without_line caller → mid ≡ before
+      → TakesMore caller → HasLine caller.came → line ≡ first_line caller.came → taken ≡ without_line caller → mid ≡ before
       → Does state old new line taken put → Writes mid after put next there → Heeded state before after old new caller next there
   heeded-line {caller = caller} listening has is without same does writes =
-      let became = does.leaves ∙ ap (λ (c : Calling). answered c (answer_text does.answer) (is_unread does.answer)) without in
+      let became = does.leaves ∙ ap (λ (c : Calling). caller_with_answer c (line_answer_text does.answer) (is_unread does.answer)) without in
       let sent = rw (became, same) at writes in
       record {
         heed = Took does.answer sent.0;
@@ -58,7 +58,7 @@ module _ {Tables : Type 0} (state : Tables → State) where
       }
 
   -- there was no memory for a line
-  pub heeded-forgotten : {before after : Option (List Call)} {old new : Turning Tables} {caller next : Calling} → IsListening caller → after ≡ before
+  pub heeded-forgotten : {before after : Option (List Call)} {old new : Turning Tables} {caller next : Calling} → TakesMore caller → after ≡ before
       → new ≡ old → Heeded state before after old new caller next false
   heeded-forgotten {before} {old = old} listening same is = record {
     heed = Forgotten;
@@ -76,8 +76,8 @@ module _ {Tables : Type 0} (state : Tables → State) where
     pub are : AreVisits visits
     pub calls : LogsAll before now (flat_map visit_calls visits)
     pub acts : Attended state old mid (flat_map visit_acts visits)
-    pub holds : callers ≡ flat_map kept_of visits ++ others
-    pub place : at ≡ length (flat_map kept_of visits)
+    pub holds : callers ≡ flat_map callers_kept visits ++ others
+    pub place : at ≡ length (flat_map callers_kept visits)
 
   pub visits-begin : (log : Option (List Call)) (old : Turning Tables) (from : List Calling) → VisitsSo log log old old from from 0
   visits-begin log old from = record {
@@ -94,7 +94,7 @@ module _ {Tables : Type 0} (state : Tables → State) where
   module _ {before now : Option (List Call)} {old mid : Turning Tables} {from callers : List Calling} {at : ℕ} (so : VisitsSo before now old mid from callers at) where
     pub visits-end : length callers < at + 1 → AllVisited state before now old mid from callers
     visits-end h = ends so.others so.each so.holds where
-      ends : (others : List Calling) → map caller_of so.visits ++ others ≡ from → callers ≡ flat_map kept_of so.visits ++ others
+      ends : (others : List Calling) → map caller_of so.visits ++ others ≡ from → callers ≡ flat_map callers_kept so.visits ++ others
           → AllVisited state before now old mid from callers
       ends [] each holds = record {
         visits = so.visits;
@@ -102,17 +102,17 @@ module _ {Tables : Type 0} (state : Tables → State) where
         are = so.are;
         calls = so.calls;
         acts = so.acts;
-        kept = holds ∙ append-nil (flat_map kept_of so.visits);
+        kept = holds ∙ append-nil (flat_map callers_kept so.visits);
       }
-      ends (caller ∷ others) each holds = absurd (omega (arith, so.place, h, ap length holds, length-append (flat_map kept_of so.visits) (caller ∷ others)))
+      ends (caller ∷ others) each holds = absurd (omega (arith, so.place, h, ap length holds, length-append (flat_map callers_kept so.visits) (caller ∷ others)))
 
     module _ (others : List Calling) (caller : Calling) (each : map caller_of so.visits ++ caller ∷ others ≡ from)
-        (holds : callers ≡ flat_map kept_of so.visits ++ caller ∷ others) where
+        (holds : callers ≡ flat_map callers_kept so.visits ++ caller ∷ others) where
       next-is : (d : Calling) → get_or callers at d ≡ caller
-      next-is d = rw (holds, so.place) (get-at (flat_map kept_of so.visits) caller others d)
+      next-is d = rw (holds, so.place) (get-at (flat_map callers_kept so.visits) caller others d)
 
-      after-set : (next : Calling) → set callers at next ≡ flat_map kept_of so.visits ++ next ∷ others
-      after-set next = rw (holds, so.place) (set-at (flat_map kept_of so.visits) caller others next)
+      after-set : (next : Calling) → set callers at next ≡ flat_map callers_kept so.visits ++ next ∷ others
+      after-set next = rw (holds, so.place) (set-at (flat_map callers_kept so.visits) caller others next)
 
       module _ {after : Option (List Call)} {new : Turning Tables} {next : Calling} {there : Bool} (went : Visited state now after mid new caller next there) where
         abbrev item : Visit
@@ -131,12 +131,12 @@ module _ {Tables : Type 0} (state : Tables → State) where
         acts-more = rw (flat_map-more visit_acts so.visits item) (attended-then so.acts went.acts)
 
         kept-more : (left : List Calling) → after_heed caller went.heed ≡ left
-            → flat_map kept_of (so.visits ++ item ∷ []) ≡ flat_map kept_of so.visits ++ left
-        kept-more left e = flat_map-more kept_of so.visits item ∙ ap (λ l. flat_map kept_of so.visits ++ l) e
+            → flat_map callers_kept (so.visits ++ item ∷ []) ≡ flat_map callers_kept so.visits ++ left
+        kept-more left e = flat_map-more callers_kept so.visits item ∙ ap (λ l. flat_map callers_kept so.visits ++ l) e
 
         is-kept : there ≡ true → VisitsSo before after old new from (set callers at next) (at + 1)
         is-kept is =
-            let grown : flat_map kept_of (so.visits ++ item ∷ []) ≡ flat_map kept_of so.visits ++ next ∷ [] = kept-more (next ∷ []) (rw is at went.leaves) in
+            let grown : flat_map callers_kept (so.visits ++ item ∷ []) ≡ flat_map callers_kept so.visits ++ next ∷ [] = kept-more (next ∷ []) (rw is at went.leaves) in
             record {
               visits = so.visits ++ item ∷ [];
               others = others;
@@ -144,14 +144,14 @@ module _ {Tables : Type 0} (state : Tables → State) where
               are = are-more;
               calls = calls-more;
               acts = acts-more;
-              holds = after-set next ∙ sym (append_assoc (flat_map kept_of so.visits) (next ∷ []) others) ∙ ap (λ l. l ++ others) (sym grown);
-              place = omega (arith, so.place, ap length grown, length-append (flat_map kept_of so.visits) (next ∷ []));
+              holds = after-set next ∙ sym (append_assoc (flat_map callers_kept so.visits) (next ∷ []) others) ∙ ap (λ l. l ++ others) (sym grown);
+              place = omega (arith, so.place, ap length grown, length-append (flat_map callers_kept so.visits) (next ∷ []));
             }
 
         is-gone : there ≡ false → VisitsSo before after old new from (remove (set callers at next) at) at
         is-gone is =
-            let grown : flat_map kept_of (so.visits ++ item ∷ []) ≡ flat_map kept_of so.visits =
-            kept-more [] (rw is at went.leaves) ∙ append-nil (flat_map kept_of so.visits) in
+            let grown : flat_map callers_kept (so.visits ++ item ∷ []) ≡ flat_map callers_kept so.visits =
+            kept-more [] (rw is at went.leaves) ∙ append-nil (flat_map callers_kept so.visits) in
             record {
               visits = so.visits ++ item ∷ [];
               others = others;
@@ -159,33 +159,33 @@ module _ {Tables : Type 0} (state : Tables → State) where
               are = are-more;
               calls = calls-more;
               acts = acts-more;
-              holds = ap (λ l. remove l at) (after-set next) ∙ ap (λ (n : ℕ). remove (flat_map kept_of so.visits ++ next ∷ others) n) so.place
-                  ∙ remove-at (flat_map kept_of so.visits) next others ∙ ap (λ l. l ++ others) (sym grown);
+              holds = ap (λ l. remove l at) (after-set next) ∙ ap (λ (n : ℕ). remove (flat_map callers_kept so.visits ++ next ∷ others) n) so.place
+                  ∙ remove-at (flat_map callers_kept so.visits) next others ∙ ap (λ l. l ++ others) (sym grown);
               place = so.place ∙ ap length (sym grown);
             }
 
     module _ {after : Option (List Call)} {new : Turning Tables} {next : Calling} {there : Bool} (within : at < length callers) (w : Calling) (found : w ≡ get_or callers at w) where
       pub visits-kept : there ≡ true → Visited state now after mid new w next there → VisitsSo before after old new from (set callers at next) (at + 1)
       visits-kept is went = by so.others so.each so.holds where
-        by : (others : List Calling) → map caller_of so.visits ++ others ≡ from → callers ≡ flat_map kept_of so.visits ++ others
+        by : (others : List Calling) → map caller_of so.visits ++ others ≡ from → callers ≡ flat_map callers_kept so.visits ++ others
             → VisitsSo before after old new from (set callers at next) (at + 1)
-        by [] each holds = absurd (omega (arith, so.place, within, ap length holds, length-append (flat_map kept_of so.visits) []))
+        by [] each holds = absurd (omega (arith, so.place, within, ap length holds, length-append (flat_map callers_kept so.visits) []))
         by (caller ∷ others) each holds = is-kept others caller each holds (rw (found ∙ next-is others caller each holds w) at went) is
 
       pub visits-gone : there ≡ false → Visited state now after mid new w next there → VisitsSo before after old new from (remove (set callers at next) at) at
       visits-gone is went = by so.others so.each so.holds where
-        by : (others : List Calling) → map caller_of so.visits ++ others ≡ from → callers ≡ flat_map kept_of so.visits ++ others
+        by : (others : List Calling) → map caller_of so.visits ++ others ≡ from → callers ≡ flat_map callers_kept so.visits ++ others
             → VisitsSo before after old new from (remove (set callers at next) at) at
-        by [] each holds = absurd (omega (arith, so.place, within, ap length holds, length-append (flat_map kept_of so.visits) []))
+        by [] each holds = absurd (omega (arith, so.place, within, ap length holds, length-append (flat_map callers_kept so.visits) []))
         by (caller ∷ others) each holds = is-gone others caller each holds (rw (found ∙ next-is others caller each holds w) at went) is
 
     -- a fault came in the turn of the next
     pub visits-halted : {after : Option (List Call)} {new : Turning Tables} → at < length callers → (w : Calling) → w ≡ get_or callers at w
         → HaltedAt state now after mid new w → SomeVisited state before after old new from
     visits-halted {after} {new} within w found halted = by so.others so.each so.holds where
-      by : (others : List Calling) → map caller_of so.visits ++ others ≡ from → callers ≡ flat_map kept_of so.visits ++ others
+      by : (others : List Calling) → map caller_of so.visits ++ others ≡ from → callers ≡ flat_map callers_kept so.visits ++ others
           → SomeVisited state before after old new from
-      by [] each holds = absurd (omega (arith, so.place, within, ap length holds, length-append (flat_map kept_of so.visits) []))
+      by [] each holds = absurd (omega (arith, so.place, within, ap length holds, length-append (flat_map callers_kept so.visits) []))
       by (caller ∷ others) each holds =
           let is : HaltedAt state now after mid new caller = rw (found ∙ next-is others caller each holds w) at halted in
           record {

@@ -4,21 +4,21 @@ use Rattle.std.specs.List.{flat_map, position_or_len}
 use Rattle.dq_core.specs.declared.event.Event.{Event}
 use Rattle.dq_core.specs.declared.event.Reply.{Reply}
 use Rattle.dq_wires.specs.declared.calls.WireFault.{WireFault}
-use Rattle.dq_wires.specs.declared.calls.Came.{Came}
-use Rattle.dq_wires.specs.declared.calls.Came.TheVariants as what
+use Rattle.dq_wires.specs.declared.calls.ReadOutcome.{ReadOutcome}
+use Rattle.dq_wires.specs.declared.calls.ReadOutcome.TheVariants as what
 use Rattle.dq_wires.specs.declared.calls.Call.{Call}
 use Rattle.dq_wires.specs.declared.calls.Call.TheVariants.{Accept, Read, Write, Shut}
 use Rattle.dq_wires.specs.Deeds.{Shutting}
 use Rattle.dq_wires.specs.Servings.{Act}
 use Rattle.dq_wires.specs.Servings.Act.{Ordered}
 use Rattle.dq_wires.specs.Turners.{IsOrder}
-use Rattle.dq_wires.specs.Turns.{refused}
+use Rattle.dq_wires.specs.Turns.{accept_failure}
 use Rattle.dq_captures.specs.Captures.{line_feed}
 use Rattle.dq_captures.specs.Printing.{printed_line}
 use Rattle.dq_program.specs.declared.desk.Line.TheVariants as line
 use Rattle.dq_program.specs.declared.stores.Uncopied.{Uncopied}
 use Rattle.dq_program.specs.Backups.{backup_text}
-use Rattle.dq_program.specs.Desk.{Tells, bad_line}
+use Rattle.dq_program.specs.Desk.{TellsLine, bad_line}
 
 -- A caller: its place among the wires, the octets that came and are not taken, those of its answer
 -- that are not written, and whether nothing more is taken of it.
@@ -43,59 +43,59 @@ abbrev pub is_line_end : ℕ → Bool
 is_line_end octet = octet == line_feed
 
 -- where the first line ends; the length, where none is whole
-abbrev pub line_end : List ℕ → ℕ
-line_end octets = position_or_len is_line_end octets
+abbrev pub first_line_length : List ℕ → ℕ
+first_line_length octets = position_or_len is_line_end octets
 
 -- The first line is whole, or longer than a line may be.
 abbrev pub HasLine : List ℕ → Type 0
-HasLine octets = (line_end octets < length octets) ⊎ (line_most < length octets)
+HasLine octets = (first_line_length octets < length octets) ⊎ (line_most < length octets)
 
 -- It is neither.
 abbrev pub HasNone : List ℕ → Type 0
-HasNone octets = (line_end octets ≡ length octets) × (length octets ≤ line_most)
+HasNone octets = (first_line_length octets ≡ length octets) × (length octets ≤ line_most)
 
 -- The line that ends there. One that is too long is taken as an empty one, which tells nothing.
 abbrev pub line_to : ℕ → List ℕ → List ℕ
 line_to end octets = if nat_lt line_most end then [] else take end octets
 
 abbrev pub first_line : List ℕ → List ℕ
-first_line octets = line_to (line_end octets) octets
+first_line octets = line_to (first_line_length octets) octets
 
 -- what came after it
 abbrev pub other_lines : List ℕ → List ℕ
-other_lines octets = drop (line_end octets + 1) octets
+other_lines octets = drop (first_line_length octets + 1) octets
 
 -- ---- answers
 
 -- What was done at a line: an order was stepped, with this reply; a report was answered; a copy of
 -- all rows was made or refused; or nothing.
-pub data Answer : Type 0 where
-  Obeyed : Event → Reply → Answer
-  Reported : List ℕ → Answer
-  BackedUp : Result (Unit {0}) Uncopied → Answer
-  Unread : Answer
+pub data LineAnswer : Type 0 where
+  Obeyed : Event → Reply → LineAnswer
+  Reported : List ℕ → LineAnswer
+  BackedUp : Result (Unit {0}) Uncopied → LineAnswer
+  Unread : LineAnswer
 
 -- which lines it is for
-abbrev pub IsAnswer : List ℕ → Answer → Type 0
-IsAnswer text (Obeyed event reply) = Tells text (line.Order event) × IsOrder event
-IsAnswer text (Reported report) = Tells text line.Report
-IsAnswer text (BackedUp made) = (path : List ℕ) × (text ≡ codes "backup " ++ path)
-IsAnswer text Unread = Tells text line.Bad
+abbrev pub IsLineAnswer : List ℕ → LineAnswer → Type 0
+IsLineAnswer text (Obeyed event reply) = TellsLine text (line.Order event) × IsOrder event
+IsLineAnswer text (Reported report) = TellsLine text line.Report
+IsLineAnswer text (BackedUp made) = (path : List ℕ) × (text ≡ codes "backup " ++ path)
+IsLineAnswer text Unread = TellsLine text line.Bad
 
 -- An order is answered by the line of its reply, as in a replay.
-abbrev pub answer_text : Answer → List ℕ
-answer_text (Obeyed event reply) = printed_line reply
-answer_text (Reported report) = report
-answer_text (BackedUp made) = backup_text made
-answer_text Unread = bad_line
+abbrev pub line_answer_text : LineAnswer → List ℕ
+line_answer_text (Obeyed event reply) = printed_line reply
+line_answer_text (Reported report) = report
+line_answer_text (BackedUp made) = backup_text made
+line_answer_text Unread = bad_line
 
-abbrev pub answer_acts : Answer → List Act
+abbrev pub answer_acts : LineAnswer → List Act
 answer_acts (Obeyed event reply) = Ordered event reply ∷ []
 answer_acts (Reported report) = []
 answer_acts (BackedUp made) = []
 answer_acts Unread = []
 
-abbrev pub is_unread : Answer → Bool
+abbrev pub is_unread : LineAnswer → Bool
 is_unread (Obeyed event reply) = false
 is_unread (Reported report) = false
 is_unread (BackedUp made) = false
@@ -110,35 +110,35 @@ pub data Heed : Type 0 where
   -- all was written, and nothing more is taken
   Closed : Heed
   -- from it was read, so many octets at most, and what came is kept
-  Heard : ℕ → Came → Heed
+  Heard : ℕ → ReadOutcome → Heed
   -- from it was read; it sends no more, or there is no memory for what came
-  Lost : ℕ → Came → Heed
+  Lost : ℕ → ReadOutcome → Heed
   -- there is no memory for its next line
   Forgotten : Heed
   -- its next line was taken, and this answer offered
-  Took : Answer → Result ℕ WireFault → Heed
+  Took : LineAnswer → Result ℕ WireFault → Heed
 
 -- all was written, and more may be taken
-abbrev pub IsListening : Calling → Type 0
-IsListening caller = (caller.unsent ≡ []) × (caller.is_over ≡ false)
+abbrev pub TakesMore : Calling → Type 0
+TakesMore caller = (caller.unsent ≡ []) × (caller.is_over ≡ false)
 
 -- more may come
-abbrev pub IsThere : Came → Type 0
-IsThere (what.Octets octets) = Unit {0}
-IsThere what.Nothing = Unit {0}
-IsThere what.Ended = ⊥
-IsThere what.Failed = ⊥
+abbrev pub MayBring : ReadOutcome → Type 0
+MayBring (what.Octets octets) = Unit {0}
+MayBring what.Nothing = Unit {0}
+MayBring what.Ended = ⊥
+MayBring what.Failed = ⊥
 
 -- Which caller it is for: what is not written goes first, then a line is taken, and else is read.
 abbrev pub IsHeed : Calling → Heed → Type 0
 IsHeed caller (Offered taken) = caller.unsent ≢ []
 IsHeed caller Closed = (caller.unsent ≡ []) × (caller.is_over ≡ true)
-IsHeed caller (Heard room came) = IsListening caller × HasNone caller.came × IsThere came
+IsHeed caller (Heard room came) = TakesMore caller × HasNone caller.came × MayBring came
 IsHeed caller (Lost room came) =
-    IsListening caller × HasNone caller.came × (came ≢ what.Nothing)
-IsHeed caller Forgotten = IsListening caller
-IsHeed caller (Took answer taken) = IsListening caller × HasLine caller.came
-    × IsAnswer (first_line caller.came) answer
+    TakesMore caller × HasNone caller.came × (came ≢ what.Nothing)
+IsHeed caller Forgotten = TakesMore caller
+IsHeed caller (Took answer taken) = TakesMore caller × HasLine caller.came
+    × IsLineAnswer (first_line caller.came) answer
 
 abbrev pub heed_calls : Calling → Heed → List Call
 heed_calls caller (Offered taken) = Write caller.place caller.unsent taken ∷ []
@@ -146,7 +146,7 @@ heed_calls caller Closed = []
 heed_calls caller (Heard room came) = Read caller.place room came ∷ []
 heed_calls caller (Lost room came) = Read caller.place room came ∷ []
 heed_calls caller Forgotten = []
-heed_calls caller (Took answer taken) = Write caller.place (answer_text answer) taken ∷ []
+heed_calls caller (Took answer taken) = Write caller.place (line_answer_text answer) taken ∷ []
 
 abbrev pub heed_acts : Heed → List Act
 heed_acts (Offered taken) = []
@@ -160,10 +160,10 @@ abbrev pub without_line : Calling → Calling
 without_line caller = record caller { came = other_lines caller.came }
 
 -- The answer is to be written. The first line that tells nothing is the last that is taken.
-abbrev pub answered : Calling → List ℕ → Bool → Calling
-answered caller text is_over = record caller { unsent = text; is_over = is_over }
+abbrev pub caller_with_answer : Calling → List ℕ → Bool → Calling
+caller_with_answer caller text is_over = record caller { unsent = text; is_over = is_over }
 
-abbrev pub with_octets : Calling → Came → Calling
+abbrev pub with_octets : Calling → ReadOutcome → Calling
 with_octets caller (what.Octets octets) = record caller { came = caller.came ++ octets }
 with_octets caller what.Nothing = caller
 with_octets caller what.Ended = caller
@@ -182,7 +182,7 @@ after_heed caller (Heard room came) = with_octets caller came ∷ []
 after_heed caller (Lost room came) = []
 after_heed caller Forgotten = []
 after_heed caller (Took answer taken) =
-    after_write (answered (without_line caller) (answer_text answer) (is_unread answer)) taken
+    after_write (caller_with_answer (without_line caller) (line_answer_text answer) (is_unread answer)) taken
 
 -- ---- a turn of the console
 
@@ -195,8 +195,8 @@ pub record Visit : Type 0 where
 abbrev pub caller_of : Visit → Calling
 caller_of visit = visit.caller
 
-abbrev pub kept_of : Visit → List Calling
-kept_of visit = after_heed visit.caller visit.heed
+abbrev pub callers_kept : Visit → List Calling
+callers_kept visit = after_heed visit.caller visit.heed
 
 abbrev pub visit_acts : Visit → List Act
 visit_acts visit = heed_acts visit.heed
@@ -216,7 +216,7 @@ IsShut (caller ∷ callers) None = Unit {0}
 IsShut (caller ∷ callers) (Some answer) = ⊥
 
 abbrev pub IsVisit : Visit → Type 0
-IsVisit visit = IsHeed visit.caller visit.heed × IsShut (kept_of visit) visit.shut
+IsVisit visit = IsHeed visit.caller visit.heed × IsShut (callers_kept visit) visit.shut
 
 abbrev pub AreVisits : List Visit → Type 0
 AreVisits [] = Unit {0}
@@ -239,20 +239,20 @@ pub data Letting : Type 0 where
   -- one came at this place, and there is no memory for it
   TurnedAway : ℕ → Shutting → Letting
 
-abbrev pub HasRoom : List Calling → Type 0
-HasRoom callers = length callers < most_callers
+abbrev pub HasRoomForCaller : List Calling → Type 0
+HasRoomForCaller callers = length callers < most_callers
 
 abbrev pub IsLetting : List Calling → Letting → Type 0
 IsLetting callers Full = most_callers ≤ length callers
-IsLetting callers Nobody = HasRoom callers
-IsLetting callers Unaccepted = HasRoom callers
-IsLetting callers (LetIn place) = HasRoom callers
-IsLetting callers (TurnedAway place answer) = HasRoom callers
+IsLetting callers Nobody = HasRoomForCaller callers
+IsLetting callers Unaccepted = HasRoomForCaller callers
+IsLetting callers (LetIn place) = HasRoomForCaller callers
+IsLetting callers (TurnedAway place answer) = HasRoomForCaller callers
 
 abbrev pub letting_calls : Letting → List Call
 letting_calls Full = []
 letting_calls Nobody = Accept (Ok None) ∷ []
-letting_calls Unaccepted = Accept refused ∷ []
+letting_calls Unaccepted = Accept accept_failure ∷ []
 letting_calls (LetIn place) = Accept (Ok (Some place)) ∷ []
 letting_calls (TurnedAway place answer) = Accept (Ok (Some place)) ∷ Shut place answer ∷ []
 
@@ -283,7 +283,7 @@ abbrev pub attending_acts : Attending → List Act
 attending_acts a = flat_map visit_acts a.visits
 
 abbrev pub after_attending : Attending → List Calling
-after_attending a = flat_map kept_of a.visits
+after_attending a = flat_map callers_kept a.visits
 
 -- ---- a turn of the console that a fault ended
 
@@ -298,7 +298,7 @@ pub record Interruption : Type 0 where
 -- which line the order is of
 abbrev pub IsUnanswered : List ℕ → Option (Event × Reply) → Type 0
 IsUnanswered text None = Unit {0}
-IsUnanswered text (Some order) = Tells text (line.Order order.0) × IsOrder order.0
+IsUnanswered text (Some order) = TellsLine text (line.Order order.0) × IsOrder order.0
 
 abbrev pub order_acts : Option (Event × Reply) → List Act
 order_acts None = []
@@ -310,7 +310,7 @@ pub record IsInterruption (callers : List Calling) (it : Interruption) : Type 0 
   pub others : List Calling
   pub each : map caller_of it.visits ++ it.caller ∷ others ≡ with_let_in callers it.letting
   pub are : AreVisits it.visits
-  pub listening : IsListening it.caller
+  pub listening : TakesMore it.caller
   pub has : HasLine it.caller.came
   pub is : IsUnanswered (first_line it.caller.came) it.order
 

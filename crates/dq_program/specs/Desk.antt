@@ -12,21 +12,21 @@ use Rattle.dq_wires.specs.Stepping.{Stepped, Fails}
 use Rattle.dq_wires.specs.Turners.{IsOrder}
 use Rattle.dq_program.specs.declared.desk.Line.{Line}
 use Rattle.dq_program.specs.declared.desk.Line.TheVariants.{Order, Report, Backup, Bad}
-use Rattle.dq_captures.specs.Captures.{line_feed, Spells}
+use Rattle.dq_captures.specs.Captures.{line_feed, SpellsEvent}
 use Rattle.dq_captures.specs.Printing.{printed_line}
 use Rattle.dq_program.specs.declared.stores.Uncopied.{Uncopied}
 use Rattle.dq_program.specs.Backups.{backup_text}
-use Rattle.dq_program.specs.Reports.{reported}
+use Rattle.dq_program.specs.Reports.{report_text}
 
 -- What a line tells: an order, spelled as in a capture; that a report is wanted; that a copy of all
 -- rows is, at a path; or none of these.
-abbrev pub Tells : List ℕ → Line → Type 0
-Tells line (Order event) = Spells line event
-Tells line Report = line ≡ codes "report"
-Tells line (Backup path) = line ≡ codes "backup " ++ string_bytes path
-Tells line Bad = IsUtf8 line
+abbrev pub TellsLine : List ℕ → Line → Type 0
+TellsLine line (Order event) = SpellsEvent line event
+TellsLine line Report = line ≡ codes "report"
+TellsLine line (Backup path) = line ≡ codes "backup " ++ string_bytes path
+TellsLine line Bad = IsUtf8 line
     → (line ≢ codes "report") × ((path : List ℕ) → line ≡ codes "backup " ++ path → ⊥)
-    × ((event : Event) → Spells line event → IsOrder event → ⊥)
+    × ((event : Event) → SpellsEvent line event → IsOrder event → ⊥)
 
 -- Its order is one of the console's.
 abbrev pub HasOrders : Line → Type 0
@@ -63,7 +63,7 @@ module _ {Tables : Type 0} (state : Tables → State) (copied : List Row → Typ
   Answered old new (Order event) text =
       (reply : Reply) × Stepped state old new event reply × (text ≡ printed_line reply)
   Answered old new Report text = Looked state old new
-      × ((state new.tables).honest → text ≡ reported (state old.tables).rows names)
+      × ((state new.tables).honest → text ≡ report_text (state old.tables).rows names)
   Answered old new (Backup path) text = BacksUp state copied old new text
   Answered old new Bad text = (new ≡ old) × (text ≡ bad_line)
 

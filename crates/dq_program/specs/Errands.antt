@@ -6,7 +6,7 @@ use Rattle.dq_wires.specs.declared.calls.Call.{Call}
 use Rattle.dq_words.specs.Words.{Errand, Plays, Serves, Loops, Migrates}
 use Rattle.dq_program.specs.declared.stop.Stop.{Stop}
 use Rattle.dq_program.specs.Looping.{IsLooped, EndsLoop}
-use Rattle.dq_program.specs.Program.{IsPlayed, StopsPlay, migrated_line, EndsMigration}
+use Rattle.dq_program.specs.Program.{IsReplayed, StopsPlay, migrated_line, EndsMigration}
 use Rattle.dq_program.specs.Serving.{IsServed, StopsService}
 
 -- What is held in files and in stores, what is there once a store is closed, the input, and what was
@@ -16,9 +16,9 @@ module _ {Wired : Type 0} (log : Wired → Option (List Call)) (held : List ℕ 
     (input : Option (List ℕ)) (before after : Option (List ℕ)) where
   -- all was done
   abbrev pub IsDone : Errand → Type 0
-  IsDone (Plays request) = IsPlayed held stored closed input before after request
+  IsDone (Plays request) = IsReplayed held stored closed input before after request
   IsDone (Serves serving) = IsServed log held stored before after serving closed
-  IsDone (Loops file) = IsLooped held file input (Appends before after)
+  IsDone (Loops file) = IsLooped log held file input (Appends before after)
   -- A new store of the old one's rows was made and closed, and a line was printed.
   IsDone (Migrates files) = Appends before after migrated_line
       × ((kept : List Row) × closed kept × IfSome (migrated files.from) (λ rows. kept ≡ rows))
@@ -32,5 +32,5 @@ module _ {Wired : Type 0} (log : Wired → Option (List Call)) (held : List ℕ 
       StopsPlay request unread held stored unfed input fails before after cause
   EndsEarly (Serves serving) cause =
       StopsService log held stored before after serving breaks unread fails cause
-  EndsEarly (Loops file) cause = EndsLoop held file input fails before after cause
+  EndsEarly (Loops file) cause = EndsLoop log held file input fails before after cause
   EndsEarly (Migrates files) cause = EndsMigration fails before after cause

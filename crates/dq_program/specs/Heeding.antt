@@ -5,8 +5,8 @@ use Rattle.dq_tables.specs.Keeping.{State}
 use Rattle.dq_core.specs.declared.event.Event.{Event}
 use Rattle.dq_core.specs.declared.event.Reply.{Reply}
 use Rattle.dq_wires.specs.declared.calls.WireFault.{WireFault}
-use Rattle.dq_wires.specs.declared.calls.Came.{Came}
-use Rattle.dq_wires.specs.declared.calls.Came.TheVariants as what
+use Rattle.dq_wires.specs.declared.calls.ReadOutcome.{ReadOutcome}
+use Rattle.dq_wires.specs.declared.calls.ReadOutcome.TheVariants as what
 use Rattle.dq_wires.specs.declared.calls.Call.{Call}
 use Rattle.dq_wires.specs.declared.calls.Call.TheVariants.{Read, Write}
 use Rattle.dq_wires.specs.Deeds.{Shutting}
@@ -14,14 +14,14 @@ use Rattle.dq_wires.specs.Logs.{Logs, LogsAll}
 use Rattle.dq_wires.specs.Turners.{Turning}
 use Rattle.dq_program.specs.declared.caller.Next.{Next}
 use Rattle.dq_program.specs.declared.caller.Next.TheVariants as next
-use Rattle.dq_program.specs.Console.{Calling, HasNone, HasLine, first_line, without_line, IsListening, IsThere, with_octets, after_write, Answer, IsAnswer, answer_text, answer_acts, is_unread, answered, Heed, IsHeed, heed_calls, heed_acts, after_heed, Letting, IsLetting, letting_calls, with_let_in, Visit, caller_of, kept_of, visit_calls, visit_acts, IsShut, AreVisits, IsUnanswered, order_acts, Interruption, IsInterruption, interruption_calls, interruption_acts}
+use Rattle.dq_program.specs.Console.{Calling, HasNone, HasLine, first_line, without_line, TakesMore, MayBring, with_octets, after_write, LineAnswer, IsLineAnswer, line_answer_text, answer_acts, is_unread, caller_with_answer, Heed, IsHeed, heed_calls, heed_acts, after_heed, Letting, IsLetting, letting_calls, with_let_in, Visit, caller_of, callers_kept, visit_calls, visit_acts, IsShut, AreVisits, IsUnanswered, order_acts, Interruption, IsInterruption, interruption_calls, interruption_acts}
 use Rattle.dq_program.specs.Desk.{IsLeft}
 use Rattle.dq_program.specs.Serving.{Attended}
 
 -- what is taken of a caller
-abbrev pub Takes : Calling → Calling → Option (List ℕ) → Type 0
-Takes old new None = HasNone old.came × (new ≡ old)
-Takes old new (Some line) =
+abbrev pub TakesLine : Calling → Calling → Option (List ℕ) → Type 0
+TakesLine old new None = HasNone old.came × (new ≡ old)
+TakesLine old new (Some line) =
     HasLine old.came × (line ≡ first_line old.came) × (new ≡ without_line old)
 
 -- What is not written was offered: the caller is still there, or the write failed.
@@ -33,9 +33,9 @@ Writes before after old new there = (taken : Result ℕ WireFault)
 -- From a caller was read, so many octets at most. What came is kept; or no more comes, or there is
 -- no memory for it.
 abbrev pub Reads : Option (List Call) → Option (List Call) → ℕ → Calling → Calling → Bool → Type 0
-Reads before after room old new true = (came : Came) × Logs before after (Read old.place room came)
-    × IsThere came × (new ≡ with_octets old came)
-Reads before after room old new false = (came : Came)
+Reads before after room old new true = (came : ReadOutcome) × Logs before after (Read old.place room came)
+    × MayBring came × (new ≡ with_octets old came)
+Reads before after room old new false = (came : ReadOutcome)
     × Logs before after (Read old.place room came) × (came ≢ what.Nothing)
 
 -- something was done for a caller, which took no line, and it is still there or not
@@ -51,16 +51,16 @@ pub record Quiet (before after : Option (List Call)) (old new : Calling)
 abbrev pub ComesNext : Option (List Call) → Option (List Call) → Calling → Calling → Next → Type 0
 ComesNext before after old new next.Held = Quiet before after old new true
 ComesNext before after old new next.Left = Quiet before after old new false
-ComesNext before after old new (next.Line line) = IsListening old × HasLine old.came
+ComesNext before after old new (next.Line line) = TakesMore old × HasLine old.came
     × (line.items ≡ first_line old.came) × (new ≡ without_line old) × (after ≡ before)
 
 module _ {Tables : Type 0} (state : Tables → State) where
   -- what a line tells was done, and the caller has its answer
   pub record Does (old new : Turning Tables) (line : List ℕ) (caller next : Calling) : Type 0 where
-    pub answer : Answer
-    pub is : IsAnswer line answer
+    pub answer : LineAnswer
+    pub is : IsLineAnswer line answer
     pub acts : Attended state old new (answer_acts answer)
-    pub leaves : next ≡ answered caller (answer_text answer) (is_unread answer)
+    pub leaves : next ≡ caller_with_answer caller (line_answer_text answer) (is_unread answer)
 
   -- the same; or there was no memory for the line, and nothing was done
   abbrev pub DoesIf : Turning Tables → Turning Tables → List ℕ → Calling → Calling → Bool → Type 0
@@ -78,7 +78,7 @@ module _ {Tables : Type 0} (state : Tables → State) where
   -- in the turn of a caller, whose line was taken
   abbrev pub HaltedAt : Option (List Call) → Option (List Call) → Turning Tables → Turning Tables
       → Calling → Type 0
-  HaltedAt before after old new caller = IsListening caller × HasLine caller.came
+  HaltedAt before after old new caller = TakesMore caller × HasLine caller.came
       × (after ≡ before) × Halted old new (first_line caller.came)
 
   -- the turn of a caller was made, but for its shut if it is gone
@@ -110,7 +110,7 @@ module _ {Tables : Type 0} (state : Tables → State) where
     pub are : AreVisits visits
     pub calls : LogsAll before after (flat_map visit_calls visits)
     pub acts : Attended state old new (flat_map visit_acts visits)
-    pub kept : to ≡ flat_map kept_of visits
+    pub kept : to ≡ flat_map callers_kept visits
 
   -- the turns of some were made, and a fault came in that of the next
   pub record SomeVisited (before after : Option (List Call)) (old new : Turning Tables)
@@ -121,7 +121,7 @@ module _ {Tables : Type 0} (state : Tables → State) where
     pub each : map caller_of visits ++ caller ∷ others ≡ from
     pub are : AreVisits visits
     pub calls : LogsAll before after (flat_map visit_calls visits)
-    pub listening : IsListening caller
+    pub listening : TakesMore caller
     pub has : HasLine caller.came
     pub order : Option (Event × Reply)
     pub is : IsUnanswered (first_line caller.came) order

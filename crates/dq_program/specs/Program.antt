@@ -8,12 +8,12 @@ use Rattle.dq_config.specs.declared.fault.ConfigFault.{ConfigFault}
 use Rattle.dq_config.specs.declared.fault.ConfigFault.TheVariants as config
 use Rattle.dq_config.specs.Conditions.{configuration}
 use Rattle.dq_config.specs.Document.{built_in}
-use Rattle.dq_config.specs.Faults.{number_of as config_number}
+use Rattle.dq_config.specs.Faults.{config_fault_number as config_number}
 use Rattle.dq_core.specs.declared.event.Event.{Event}
 use Rattle.dq_core.specs.declared.event.Reply.{Reply}
 use Rattle.dq_core.specs.declared.fault.Fault.{Fault}
 use Rattle.dq_core.specs.declared.fault.Fault.TheVariants as fault
-use Rattle.dq_core.specs.Faults.{number_of as fault_number}
+use Rattle.dq_core.specs.Faults.{server_fault_number as fault_number}
 use Rattle.dq_core.specs.Runs.{FaultsAfter}
 use Rattle.dq_core.specs.Shared.{replies, world_after}
 use Rattle.dq_captures.specs.declared.capture.CaptureFault.{CaptureFault}
@@ -25,14 +25,14 @@ use Rattle.dq_captures.specs.declared.surroundings.Unread.TheVariants as unread
 use Rattle.dq_program.specs.declared.stop.Stop.{Stop}
 use Rattle.dq_program.specs.declared.stop.Stop.TheVariants as stop
 use Rattle.dq_captures.specs.Captures.{line_feed, lines_of, AreCapture, IsFirstBadLine}
-use Rattle.dq_captures.specs.Printing.{numbered_line, printed}
-use Rattle.dq_program.specs.Reports.{names_of, reported}
+use Rattle.dq_captures.specs.Printing.{numbered_line, reply_lines}
+use Rattle.dq_program.specs.Reports.{names_of, report_text}
 use Rattle.dq_captures.specs.Surroundings.{AppendsPart, BreaksOff}
 use Rattle.dq_program.specs.declared.stores.Unkept.{Unkept}
 use Rattle.dq_program.specs.declared.stores.Unkept.TheVariants as unkept
 use Rattle.dq_words.specs.declared.words.Task.{Task}
 use Rattle.dq_words.specs.declared.words.Task.TheVariants.{Replay, Report}
-use Rattle.dq_words.specs.Words.{Request, Place, InMemory, InNewStore, InStore}
+use Rattle.dq_words.specs.Words.{Request, RowsPlace, InMemory, InNewStore, InStore}
 use Rattle.dq_tables.specs.Keeping.{State}
 use Rattle.dq_tables.specs.declared.row.Row.{Row}
 use Rattle.dq_wires.specs.declared.fault.TurnFault.{TurnFault}
@@ -110,7 +110,7 @@ IsConfigured held (Some path) institutions =
     IfSome (held path) (λ octets. IsUtf8 octets × (configuration octets ≡ Ok institutions))
 
 -- The octets are a text of the right size, whose lines tell the events.
-pub record Tells (octets : List ℕ) (events : List Event) : Type 0 where
+pub record TellsEvents (octets : List ℕ) (events : List Event) : Type 0 where
   pub bounded : length octets ≤ capture_limit
   pub text : IsUtf8 octets
   pub lines : AreCapture (lines_of octets) events
@@ -157,8 +157,8 @@ RefusesStore (stop.Fault number) = number ≡ no_memory
 RefusesStore other = ⊥
 
 -- All was done and printed, but the log of the store is not copied into its database file.
-abbrev pub unclosed : Stop
-unclosed = stop.Store 5
+abbrev pub unclosed_store : Stop
+unclosed_store = stop.Store 5
 
 -- ---- what is printed
 
@@ -197,8 +197,8 @@ pub record AreGiven (institutions : List Institution) (rows : List Row) (events 
 abbrev pub CutsGiven : Option (List ℕ) → Option (List ℕ) → List Reply → Option Fault → Stop
     → Type 0
 CutsGiven before after given end (stop.Fault number) = (why : Fault) × (end ≡ Some why)
-    × (number ≡ fault_number why) × Appends before after (printed given)
-CutsGiven before after given end stop.Output = AppendsPart before after (printed given)
+    × (number ≡ fault_number why) × Appends before after (reply_lines given)
+CutsGiven before after given end stop.Output = AppendsPart before after (reply_lines given)
 CutsGiven before after given end other = ⊥
 
 -- How the replies to events are cut short: at a fault of the run the lines of those before it were
@@ -207,9 +207,9 @@ abbrev pub Cuts : Option (List ℕ) → Option (List ℕ) → List Institution �
     → Stop → Type 0
 Cuts before after institutions rows events (stop.Fault number) = (answered : ℕ)
     × FaultsAt institutions rows events answered number
-    × Appends before after (printed (take answered (replies institutions rows events)))
+    × Appends before after (reply_lines (take answered (replies institutions rows events)))
 Cuts before after institutions rows events stop.Output =
-    AppendsPart before after (printed (replies institutions rows events))
+    AppendsPart before after (reply_lines (replies institutions rows events))
 Cuts before after institutions rows events other = ⊥
 
 -- How a text that is printed at once is cut short: at a fault nothing was printed; where the output
@@ -223,7 +223,7 @@ Breaks before after text other = ⊥
 
 -- the rows that a task begins with, where they are known: those of the store that is there, and
 -- else none
-abbrev pub rows_at : (List ℕ → Option (List Row)) → Place → Option (List Row)
+abbrev pub rows_at : (List ℕ → Option (List Row)) → RowsPlace → Option (List Row)
 rows_at stored InMemory = Some []
 rows_at stored (InNewStore path) = option_map (λ rows. []) (stored path)
 rows_at stored (InStore path) = stored path
@@ -231,18 +231,18 @@ rows_at stored (InStore path) = stored path
 -- What a task prints: of a replay the replies, and of a report how many rows each institution has
 -- after the events.
 abbrev pub text_of : Task → List Institution → List Row → List Event → List ℕ
-text_of Replay institutions rows events = printed (replies institutions rows events)
+text_of Replay institutions rows events = reply_lines (replies institutions rows events)
 text_of Report institutions rows events =
-    reported (world_after institutions rows events).rows (names_of institutions)
+    report_text (world_after institutions rows events).rows (names_of institutions)
 
 -- rows are kept in a store
-abbrev pub IsInStore : Place → Type 0
+abbrev pub IsInStore : RowsPlace → Type 0
 IsInStore InMemory = ⊥
 IsInStore (InNewStore path) = Unit {0}
 IsInStore (InStore path) = Unit {0}
 
 -- Where rows are kept in a store, one was closed, with rows that are so.
-abbrev pub ClosesAt : Place → (List Row → Type 0) → (List Row → Type 0) → Type 0
+abbrev pub ClosesAt : RowsPlace → (List Row → Type 0) → (List Row → Type 0) → Type 0
 ClosesAt place closed AreSo = IsInStore place → (kept : List Row) × closed kept × AreSo kept
 
 -- the rows are those after the events, where the rows before them are known
@@ -268,13 +268,13 @@ abbrev pub EndsMigration : Type 0 → Option (List ℕ) → Option (List ℕ) �
 EndsMigration may_fail before after stop.Output =
     may_fail × AppendsPart before after migrated_line
 EndsMigration may_fail before after cause = (Keeps before after × RefusesStore cause)
-    ⊎ ((cause ≡ unclosed) × Appends before after migrated_line)
+    ⊎ ((cause ≡ unclosed_store) × Appends before after migrated_line)
 
 -- It is so by some configuration of the file and some events that the input tells.
 abbrev pub IsBy : (List ℕ → Option (List ℕ)) → Option (List ℕ) → Option (List ℕ)
     → (List Institution → List Event → Type 0) → Type 0
 IsBy held file input IsSo = (institutions : List Institution) × (events : List Event)
-    × IsConfigured held file institutions × IfSome input (λ octets. Tells octets events)
+    × IsConfigured held file institutions × IfSome input (λ octets. TellsEvents octets events)
     × IsSo institutions events
 
 -- there is a configuration, and events are told
@@ -283,9 +283,9 @@ HasConfig held file = (institutions : List Institution) × IsConfigured held fil
 
 -- A task printed its whole text. Where rows are kept in a store it is then closed: its database file
 -- has all rows alone, those after the events.
-abbrev pub IsPlayed : (List ℕ → Option (List ℕ)) → (List ℕ → Option (List Row))
+abbrev pub IsReplayed : (List ℕ → Option (List ℕ)) → (List ℕ → Option (List Row))
     → (List Row → Type 0) → Option (List ℕ) → Option (List ℕ) → Option (List ℕ) → Request → Type 0
-IsPlayed held stored closed input before after request =
+IsReplayed held stored closed input before after request =
     IsBy held request.config input (λ institutions events.
     IfSome (rows_at stored request.place) (λ rows.
     Appends before after (text_of request.task institutions rows events))
@@ -300,7 +300,7 @@ module _ (request : Request) (file_fails : List ℕ → Type 0) (held : List ℕ
   EndsPlay cause institutions events = (Keeps before after × RefusesStore cause)
       ⊎ (EndsTask fails cause × IfSome (rows_at stored request.place) (λ rows.
       CutsTask request.task before after institutions rows events cause))
-      ⊎ (IsInStore request.place × (cause ≡ unclosed) × IfSome (rows_at stored request.place)
+      ⊎ (IsInStore request.place × (cause ≡ unclosed_store) × IfSome (rows_at stored request.place)
       (λ rows. Appends before after (text_of request.task institutions rows events)))
 
   abbrev pub StopsPlay : Stop → Type 0

@@ -32,5 +32,5 @@ abbrev pub names_of : List Institution → List (List ℕ)
 names_of institutions = map (λ (i : Institution). i.name) institutions
 
 -- a line for each name
-abbrev pub reported : List Row → List (List ℕ) → List ℕ
-reported rows names = flat_map (report_line rows) names
+abbrev pub report_text : List Row → List (List ℕ) → List ℕ
+report_text rows names = flat_map (report_line rows) names

@@ -4,24 +4,24 @@ use Rattle.std.specs.List.{flat_map}
 use Rattle.std.specs.Io.KnownBytes.{Keeps, Appends}
 use Rattle.dq_config.specs.declared.config.Institution.{Institution}
 use Rattle.dq_core.specs.declared.fault.Fault.TheVariants as fault
-use Rattle.dq_core.specs.Faults.{number_of as fault_number}
+use Rattle.dq_core.specs.Faults.{server_fault_number as fault_number}
 use Rattle.dq_core.specs.Shared.{replies}
 use Rattle.dq_core.specs.Standing.{Standing}
 use Rattle.dq_tables.specs.declared.row.Row.{Row}
 use Rattle.dq_tables.specs.Keeping.{State}
 use Rattle.dq_wires.specs.declared.calls.Call.{Call}
 use Rattle.dq_wires.specs.Logs.{LogsAll}
-use Rattle.dq_wires.specs.Steps.{events_of, replies_of}
+use Rattle.dq_wires.specs.Steps.{replies_of}
 use Rattle.dq_wires.specs.Turns.{Turn, Cut, IsCut, cut_calls}
 use Rattle.dq_wires.specs.Turns.Cut.{NoRoom, Unaccepted}
 use Rattle.dq_wires.specs.Turners.{Turning}
-use Rattle.dq_wires.specs.Servings.{Act, act_calls, act_steps, nothing_held, AreActs, after_acts, served_steps, served_events, Serving}
+use Rattle.dq_wires.specs.Servings.{Act, act_calls, nothing_held, AreActs, after_acts, served_steps, served_events, Serving}
 use Rattle.dq_words.specs.Words.{Serving as Service}
 use Rattle.dq_wires.specs.Servings.Act.{Turned}
 use Rattle.dq_program.specs.declared.stop.Stop.{Stop}
 use Rattle.dq_program.specs.declared.stop.Stop.TheVariants as stop
 use Rattle.dq_program.specs.Console.{Calling, Attending, IsAttending, attending_acts, attending_calls, after_attending, Interruption, IsInterruption, interruption_acts, interruption_calls}
-use Rattle.dq_program.specs.Program.{no_memory, IsRunFault, IsConfigured, RefusesFile, RefusesStore, rows_at, ClosesAt, unclosed}
+use Rattle.dq_program.specs.Program.{no_memory, IsRunFault, IsConfigured, RefusesFile, RefusesStore, rows_at, ClosesAt, unclosed_store}
 use Rattle.dq_captures.specs.Printing.{numbered_line}
 use Rattle.dq_captures.specs.Surroundings.{BreaksOff}
 
@@ -158,20 +158,27 @@ module _ {Wired : Type 0} (log : Wired → Option (List Call)) where
       × IsUncalled (log wires) × AreConsoled [] rounds
       × LogsAll (log wires) (log left) (flat_map console_calls rounds)
 
--- So many rounds were made from rows that were there, over wires which were not called before. The
--- calls are exactly those of the turns, and what was answered is what the plain server answers.
-pub record Served {Wired : Type 0} (log : Wired → Option (List Call))
-    (institutions : List Institution) (rows : List Row) (count : ℕ)
-    (console : Option (List ℕ)) : Type 0 where
+-- Acts were done over wires which were not called before, from rows that were there, and the part of
+-- a turn up to a cut; up to `NoRoom` they are all. The calls are exactly theirs, and what was
+-- answered is what the plain server answers.
+pub record AreServed {Wired : Type 0} (log : Wired → Option (List Call))
+    (institutions : List Institution) (rows : List Row) (acts : List Act) (cut : Cut) : Type 0 where
   pub wires : Wired
   pub left : Wired
   pub uncalled : IsUncalled (log wires)
+  pub are : AreActs nothing_held acts
+  pub fits : IsCut (after_acts nothing_held acts) cut
+  pub calls : LogsAll (log wires) (log left) (flat_map act_calls acts ++ cut_calls cut)
+  pub answered : replies_of (served_steps acts cut)
+      ≡ replies institutions rows (served_events acts cut)
+
+-- So many rounds were made and served.
+pub record Served {Wired : Type 0} (log : Wired → Option (List Call))
+    (institutions : List Institution) (rows : List Row) (count : ℕ)
+    (console : Option (List ℕ)) : Type 0 where
   pub rounds : List Round
   pub counted : length rounds ≡ count
-  pub are : AreActs nothing_held (rounds_acts rounds)
-  pub calls : LogsAll (log wires) (log left) (flat_map act_calls (rounds_acts rounds))
-  pub answered : replies_of (flat_map act_steps (rounds_acts rounds))
-      ≡ replies institutions rows (events_of (flat_map act_steps (rounds_acts rounds)))
+  pub served : AreServed log institutions rows (rounds_acts rounds) NoRoom
   pub consoled : HasConsole log console rounds
 
 -- The console of a service that was stopped: its calls are exactly those of the rounds, and of the
@@ -183,25 +190,15 @@ module _ {Wired : Type 0} (log : Wired → Option (List Call)) where
       × IsUncalled (log wires) × AreConsoled [] rounds × IsHalt (callers_left [] rounds) halt
       × LogsAll (log wires) (log left) (flat_map console_calls rounds ++ halt_calls halt)
 
--- Rounds were made, at most so many, and the next was stopped, for this cause. The calls are exactly
--- those of the turns and of the part of one, and what was answered is what the plain server answers.
+-- Rounds were made, at most so many, and the next was stopped, for this cause.
 pub record ServedUpTo {Wired : Type 0} (log : Wired → Option (List Call)) (breaks : Type 0)
     (institutions : List Institution) (rows : List Row) (count : ℕ)
     (console : Option (List ℕ)) (cause : Stop) : Type 0 where
-  pub wires : Wired
-  pub left : Wired
-  pub uncalled : IsUncalled (log wires)
   pub rounds : List Round
   pub most : length rounds ≤ count
   pub halt : Halt
   pub causes : HasCause breaks (halt_cut halt) cause
-  pub are : AreActs nothing_held (rounds_acts rounds ++ halt_acts halt)
-  pub fits : IsCut (after_acts nothing_held (rounds_acts rounds ++ halt_acts halt)) (halt_cut halt)
-  pub calls : LogsAll (log wires) (log left)
-      (flat_map act_calls (rounds_acts rounds ++ halt_acts halt) ++ cut_calls (halt_cut halt))
-  pub answered : replies_of (served_steps (rounds_acts rounds ++ halt_acts halt) (halt_cut halt))
-      ≡ replies institutions rows
-      (served_events (rounds_acts rounds ++ halt_acts halt) (halt_cut halt))
+  pub served : AreServed log institutions rows (rounds_acts rounds ++ halt_acts halt) (halt_cut halt)
   pub consoled : HasConsoleTo log console rounds halt
 
 -- How a service ends early: for want of memory, or because nobody can come in, before it was ready;
@@ -216,7 +213,7 @@ module _ (breaks may_fail : Type 0) (before after : Option (List ℕ)) (port : �
       ⊎ (Appends before after (ready_text port) × IsSo stop.Network)
   EndsService stop.Output = BreaksOff may_fail before after (ready_text port)
   EndsService (stop.Store number) =
-      (stop.Store number ≡ unclosed) × Appends before after (ready_text port)
+      (stop.Store number ≡ unclosed_store) × Appends before after (ready_text port)
   EndsService other = ⊥
 
 module _ {Wired : Type 0} (log : Wired → Option (List Call))

@@ -1,9 +1,9 @@
 //! The replies to a capture, printed.
 ghost use Rattle.std.specs.Prelude.{◌≡◌, ◌≢◌, false, None, Some, IsTrue, IsOk, IfOk, IfErr, OnOk};
 ghost use Rattle.std.specs.Io.KnownBytes.{Appends};
-ghost use Rattle.dq_core.specs.Histories.{is_well_formed};
+ghost use Rattle.dq_core.specs.Histories.{is_well_formed_history};
 ghost use Rattle.dq_core.specs.Shared.{replies, world_after};
-ghost use Rattle.dq_captures.specs.Printing.{printed};
+ghost use Rattle.dq_captures.specs.Printing.{reply_lines};
 ghost use Rattle.dq_program.specs.Program.{AreGiven, AreHonest, CutsGiven, Cuts, EndsTask};
 
 use crate::reading::History;
@@ -19,7 +19,7 @@ pub fn outcome_of<T: Tables + Drop>(
     history: History,
     tables: T,
 ) -> Result<Outcome<T>, Fault>
-    requires formed { IsTrue (is_well_formed history.events.items) }
+    requires formed { IsTrue (is_well_formed_history history.events.items) }
     requires unfailed { (T.state tables).failed ≡ false }
     ensures given { AreHonest T.state → IfOk result (λ outcome. AreGiven history.config
         (T.state tables).rows history.events.items outcome.replies outcome.fault) }
@@ -38,7 +38,7 @@ pub fn outcome_of<T: Tables + Drop>(
 fn print_all<W: Sink>(replies: &[Reply], fault: Option<Fault>, output: &mut W) -> Result<(), Stop>
     requires { fault ≢ Some Fault.Stopped }
     ensures done { OnOk result
-        (Appends (W.written output.old) (W.written output.new) (printed replies.now)) }
+        (Appends (W.written output.old) (W.written output.new) (reply_lines replies.now)) }
     ensures flushed { OnOk result (W.is_flushed output.new) }
     ensures unfaulted { OnOk result (fault ≡ None) }
     ensures ends { IfErr result (EndsTask (W.may_fail output.old)) }
@@ -66,13 +66,13 @@ pub fn answer<T: Tables + Drop, W: Sink>(
     tables: T,
     output: &mut W,
 ) -> Result<T, Stop>
-    requires formed { IsTrue (is_well_formed history.events.items) }
+    requires formed { IsTrue (is_well_formed_history history.events.items) }
     requires unfailed { (T.state tables).failed ≡ false }
     ensures kept { AreHonest T.state → IfOk result (λ kept. (T.state kept).rows
         ≡ (world_after history.config (T.state tables).rows history.events.items).rows) }
     ensures done { AreHonest T.state → OnOk result
         (Appends (W.written output.old) (W.written output.new)
-        (printed (replies history.config (T.state tables).rows history.events.items))) }
+        (reply_lines (replies history.config (T.state tables).rows history.events.items))) }
     ensures flushed { OnOk result (W.is_flushed output.new) }
     ensures ends { IfErr result (EndsTask (W.may_fail output.old)) }
     ensures cut { AreHonest T.state → IfErr result (Cuts (W.written output.old)

@@ -1,7 +1,7 @@
 //! Who calls the console.
 ghost use Rattle.std.specs.Prelude.{◌≡◌, ◌≢◌, [], length, position, option_map, if◌then◌else◌, IfOk, MatchBool};
-ghost use Rattle.dq_program.specs.Console.{new_calling, is_line_end, line_to, answered};
-ghost use Rattle.dq_program.specs.Heeding.{Takes, Reads, Writes, ComesNext};
+ghost use Rattle.dq_program.specs.Console.{new_calling, is_line_end, line_to, caller_with_answer};
+ghost use Rattle.dq_program.specs.Heeding.{TakesLine, Reads, Writes, ComesNext};
 
 use dq_wires::{ReadTurn, WireFault, Wires};
 use std::alloc::{AllocError, Global};
@@ -59,7 +59,7 @@ pub struct Caller {
 
 impl Model for Caller {
     ghost use Rattle.std.specs.Prelude.{◌≤◌, length, drop};
-    ghost use Rattle.dq_program.specs.Console.{Calling, line_end};
+    ghost use Rattle.dq_program.specs.Console.{Calling, first_line_length};
 
     ghost Value = { Calling };
 
@@ -71,7 +71,7 @@ impl Model for Caller {
     } };
 
     ghost invariant = { λ c. (c.written ≤ length c.answer.items)
-        × (c.searched ≤ length c.came.items) × (c.searched ≤ line_end c.came.items) };
+        × (c.searched ≤ length c.came.items) × (c.searched ≤ first_line_length c.came.items) };
 }
 
 impl Caller {
@@ -105,7 +105,7 @@ impl Caller {
 
     /// Keeps what is to be written, and whether nothing more is taken.
     pub fn put(&mut self, answer: Vec<u8>, is_over: bool)
-        ensures { self.new ≡ answered self.old answer.items is_over }
+        ensures { self.new ≡ caller_with_answer self.old answer.items is_over }
     {
         self.answer = answer;
         self.written = 0;
@@ -130,7 +130,7 @@ impl Caller {
     // The next line that is whole or too long.
     fn take_line(&mut self) -> Result<Option<Vec<u8>>, AllocError>
         ensures { IfOk result (λ line.
-            Takes self.old self.new (option_map (λ it. it.items) line)) }
+            TakesLine self.old self.new (option_map (λ it. it.items) line)) }
     {
         let Some(at) = end_in(&self.came[self.searched..]) else {
             self.searched = self.came.len();

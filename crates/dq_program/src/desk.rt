@@ -5,16 +5,15 @@ ghost use Rattle.dq_core.specs.Looking.{Looked};
 ghost use Rattle.dq_wires.specs.Logs.{LogsAll};
 ghost use Rattle.dq_wires.specs.Turners.{IsOrder};
 ghost use Rattle.dq_program.specs.declared.desk.Line.{Line};
-ghost use Rattle.dq_program.specs.Reports.{count_text, report_line, reported};
 ghost use Rattle.dq_program.specs.Backups.{backup_text};
 ghost use Rattle.dq_program.specs.Console.{Attending, IsAttending, attending_calls, attending_acts, after_attending};
-ghost use Rattle.dq_program.specs.Desk.{Tells, HasOrders, is_bad, BacksUp, Answered, LooksInPart, Unanswered};
+ghost use Rattle.dq_program.specs.Desk.{TellsLine, HasOrders, is_bad, BacksUp, Answered, LooksInPart, Unanswered};
 ghost use Rattle.dq_program.specs.Heeding.{DoesIf, Halted, HaltedAt, Heeded, Visited, AllVisited, SomeVisited, Interrupted, LetsIn};
 ghost use Rattle.dq_program.specs.Serving.{Attended, IsConsoleStop};
 
 use crate::backup::{Backups, Copying};
 use crate::caller::{Caller, Next};
-use crate::reporting::{KINDS, count_text};
+use crate::reporting::{CountsRows, lines_of};
 use crate::stop::Stop;
 use crate::stores::Uncopied;
 use dq_captures::{event_of, printed_line};
@@ -68,7 +67,7 @@ fn backup_path(line: &str) -> Option<&str>
 }
 
 fn line_of(alloc: Global, text: &str) -> Result<Line, AllocError>
-    ensures told { IfOk result (Tells text.now) }
+    ensures told { IfOk result (TellsLine text.now) }
     ensures orders { IfOk result HasOrders }
 {
     if text == "report" {
@@ -89,69 +88,36 @@ fn line_of(alloc: Global, text: &str) -> Result<Line, AllocError>
     }
 }
 
-/// Adds how many rows of a kind an institution has.
-fn put_count<T: Tables>(
-    alloc: Global,
-    text: &mut Vec<u8>,
-    turner: &mut Turner<T>,
-    name: &[u8],
-    kind: Kind,
-) -> Result<(), Fault>
-    ensures count { (T.state turner.new.server.tables).honest → OnOk result (text.new.items
-        ≡ text.old.items ++ count_text (T.state turner.old.server.tables).rows name.now kind) }
-    ensures looked { OnOk result (Looked T.state turner.old.server turner.new.server) }
-    ensures hold { turner.new.hold ≡ turner.old.hold }
-    ensures fault { OnOk result (turner.new.fault ≡ turner.old.fault) }
-    ensures cut { OnErr result (LooksInPart T.state turner.old.server turner.new.server) }
-{
-    looks_are_one_look::<T>();
-    let count = turner.count(kind, name)?;
-    text.extend_from_slice(count_text(alloc, kind, count)?.as_bytes())?;
-    Ok(())
-}
+impl<T: Tables> CountsRows for Turner<T> {
+    ghost use Rattle.std.proofs.Common.{refl, inl, ◌∙◌};
+    ghost use Rattle.dq_core.proofs.Looking.{looked-none, looked-then};
 
-/// Adds the line of an institution.
-fn put_line<T: Tables>(
-    alloc: Global,
-    text: &mut Vec<u8>,
-    turner: &mut Turner<T>,
-    name: &[u8],
-) -> Result<(), Fault>
-    ensures line { (T.state turner.new.server.tables).honest → OnOk result (text.new.items
-        ≡ text.old.items ++ report_line (T.state turner.old.server.tables).rows name.now) }
-    ensures looked { OnOk result (Looked T.state turner.old.server turner.new.server) }
-    ensures hold { turner.new.hold ≡ turner.old.hold }
-    ensures fault { OnOk result (turner.new.fault ≡ turner.old.fault) }
-    ensures cut { OnErr result (LooksInPart T.state turner.old.server turner.new.server) }
-{
-    looks_are_one_look::<T>();
-    text.extend_from_slice(name)?;
-    for kind in &KINDS {
-        put_count(alloc, text, turner, name, *kind)?;
-    }
-    text.push(b'\n')?;
-    Ok(())
-}
+    ghost rows = { λ turner. (T.state turner.server.tables).rows };
 
-/// The lines of institutions.
-fn report<T: Tables>(
-    alloc: Global,
-    turner: &mut Turner<T>,
-    names: &[Listed<u8>],
-) -> Result<Vec<u8>, Fault>
-    ensures text { (T.state turner.new.server.tables).honest → IfOk result (λ text.
-        text.items ≡ reported (T.state turner.old.server.tables).rows names.now) }
-    ensures looked { OnOk result (Looked T.state turner.old.server turner.new.server) }
-    ensures hold { turner.new.hold ≡ turner.old.hold }
-    ensures fault { OnOk result (turner.new.fault ≡ turner.old.fault) }
-    ensures cut { OnErr result (LooksInPart T.state turner.old.server turner.new.server) }
-{
-    looks_are_one_look::<T>();
-    let mut text = Vec::new(alloc);
-    for name in names {
-        put_line(alloc, &mut text, turner, name.as_slice())?;
+    ghost is_honest = { λ turner. (T.state turner.server.tables).honest };
+
+    ghost leads = { λ old new. Looked T.state old.server new.server
+        × (new.hold ≡ old.hold) × (new.fault ≡ old.fault) };
+
+    ghost fails = { λ old new _.
+        LooksInPart T.state old.server new.server × (new.hold ≡ old.hold) };
+
+    fn count_rows(&mut self, kind: Kind, name: &[u8]) -> Result<u64, Fault> {
+        self.count(kind, name)
     }
-    Ok(text)
+
+    ghost leads_nowhere = { λ it. (looked-none it.server, refl, refl) };
+
+    ghost leads_on = { λ old mid new one next.
+        (looked-then one.0 next.0, next.1 ∙ one.1, next.2 ∙ one.2) };
+
+    ghost fails_later = { λ old mid new fault one next.
+        ((next.0.0, looked-then one.0 next.0.1, next.0.2), next.1 ∙ one.1) };
+
+    ghost wants_memory = { λ old new one. ((new.server, one.0, inl refl), one.1) };
+
+    ghost keeps_rows = { λ old new one honest.
+        (one.0.goes.was_honest honest, one.0.same honest) };
 }
 
 /// What is answered to a copy of all rows.
@@ -209,7 +175,7 @@ fn answer_to<T: Tables, B: Backups<T>>(
             let reply = turner.console(event)?;
             Ok(printed_line(alloc, &reply)?)
         }
-        Line::Report => Ok(report(alloc, turner, names)?),
+        Line::Report => Ok(lines_of(alloc, turner, names)?),
         Line::Backup(path) => Ok(back_up(alloc, turner, backups, path.as_str())?),
         Line::Bad => Ok(Vec::from_slice(alloc, BAD_LINE.as_bytes())?),
     }
@@ -217,7 +183,7 @@ fn answer_to<T: Tables, B: Backups<T>>(
 
 /// What octets tell, which are text or no line.
 fn line_in(alloc: Global, octets: &[u8]) -> Result<Line, AllocError>
-    ensures told { IfOk result (Tells octets.now) }
+    ensures told { IfOk result (TellsLine octets.now) }
     ensures orders { IfOk result HasOrders }
 {
     match str::from_utf8(octets) {

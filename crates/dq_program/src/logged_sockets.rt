@@ -2,7 +2,11 @@
 ghost use Rattle.std.specs.Prelude.{◌≤◌, length, IfOk};
 ghost use Rattle.dq_wires.specs.Logs.{IfGot};
 
-use dq_wires::{LogEnd, LoggedWires, ReadTurn, SocketWires, WireFault, Wires};
+use dq_captures::Host;
+use dq_wires::{
+    Called, LogEnd, LoggedWires, ReadTurn, SocketClient, SocketWires, WireFault, Wires,
+};
+use std::time::Duration;
 
 /// Sockets whose connections are told of in a log, if there is one.
 #[derive(Drop)]
@@ -27,5 +31,19 @@ impl Wires for LoggedSockets {
 
     fn shut(&mut self, place: usize) -> Result<(), WireFault> {
         self.0.shut(place)
+    }
+}
+
+impl<H: Host> Called<H> for LoggedSockets {
+    fn connect(&self, machine: &H) -> Result<SocketClient, WireFault> {
+        match self.0.wires.address() {
+            Ok(address) => SocketClient::connect(machine.runtime(), address).or(Err(WireFault)),
+            Err(_) => Err(WireFault),
+        }
+    }
+
+    fn look(&mut self, machine: &H) -> Result<(), WireFault> {
+        let looked = self.0.wires.rest(machine.runtime(), Duration::ZERO);
+        looked.or(Err(WireFault))
     }
 }

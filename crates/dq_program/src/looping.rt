@@ -5,12 +5,13 @@ ghost use Rattle.std.specs.Io.KnownBytes.{Appends};
 ghost use Rattle.dq_captures.specs.Surroundings.{BreaksOff};
 ghost use Rattle.dq_program.specs.Looping.{sent_text, IsLooped, EndsLoop};
 
-use crate::network::{Callers, Listening, Network};
+use crate::network::{Listening, Network};
 use crate::reading::{configured, read_events};
 use crate::stop::Stop;
 use crate::stores::Stores;
 use dq_captures::{Folder, Sink, Source, put_sent};
 use dq_core::Server;
+use dq_wires::laws::{calls_are_a_serving, servings_are_answered};
 use dq_wires::{Limits, Sent, loop_back};
 
 const LOOPBACK: Listening<'static> = Listening {
@@ -50,16 +51,19 @@ pub fn loop_over<Rt: AllocGlobal + Folder + Stores + Network, R: Source, W: Sink
     input: R,
     output: &mut W,
 ) -> Result<(), Stop>
-    ensures done { OnOk result (IsLooped (Rt.held rt.now) (option_copied file.entry)
+    ensures done { OnOk result (IsLooped Rt.Wired.log (Rt.held rt.now) (option_copied file.entry)
         (R.octets input) (Appends (W.written output.old) (W.written output.new))) }
     ensures flushed { OnOk result (W.is_flushed output.new) }
-    ensures ends { IfErr result (EndsLoop (Rt.held rt.now) (option_copied file.entry)
-        (R.octets input) (W.may_fail output.old) (W.written output.old) (W.written output.new)) }
+    ensures ends { IfErr result (EndsLoop Rt.Wired.log (Rt.held rt.now)
+        (option_copied file.entry) (R.octets input) (W.may_fail output.old)
+        (W.written output.old) (W.written output.new)) }
 {
+    calls_are_a_serving::<Rt::Memory>();
+    servings_are_answered::<Rt::Memory>();
     let config = configured(rt, file)?;
     let events = read_events(rt.alloc(), input)?;
     let server = Server::new(rt.alloc(), config, rt.memory(rt.alloc())?)?;
     let wires = rt.listen(rt.alloc(), LOOPBACK)?;
-    let all = loop_back(rt.alloc(), server, wires, &Callers(rt), events)?;
+    let all = loop_back(rt.alloc(), server, wires, rt, events)?;
     print_sent(all.as_slice(), output)
 }

@@ -4,10 +4,7 @@ ghost use Rattle.std.specs.Prelude.{◌≡◌, [], IfOk, IfSome, IsErrOf, OnErr}
 use crate::logged_sockets::LoggedSockets;
 use dq_captures::Host;
 use dq_tables::Tables;
-use dq_wires::{
-    AssociationLog, Client, Clients, Limits, LogEnd, LoggedWires, SocketClient, SocketWires,
-    Turner, WireFault, Wires,
-};
+use dq_wires::{AssociationLog, Called, Limits, LogEnd, LoggedWires, SocketWires, Turner};
 use std::alloc::{AllocError, Global};
 use std::io;
 use std::net::{IpAddr, SocketAddr};
@@ -53,10 +50,7 @@ pub struct Listening<'a> {
 /// What listens for connections.
 pub trait Network {
     /// The wires over which they come.
-    type Wired: Wires + Drop;
-
-    /// A client of theirs.
-    type Caller: Client + Drop;
+    type Wired: Called<Self> + Drop;
 
     /// It may be that nobody can be listened for, or waited for.
     ghost may_break: { Self → Type 0 };
@@ -108,28 +102,6 @@ pub trait Network {
     /// Tells there that the server stops: by a fault of a number, or for want of connections.
     fn note_stop(&self, wires: &mut Self::Wired, fault: Option<u8>)
         ensures { Self.Wired.log wires.new ≡ Self.Wired.log wires.old };
-
-    /// Calls the wires from the same process.
-    fn call(&self, wires: &Self::Wired) -> Result<Self::Caller, WireFault>;
-}
-
-/// Who calls wires of a network from the same process.
-#[derive(Clone, Copy)]
-pub struct Callers<'a, N>(pub &'a N);
-
-impl<N: Network> Clients<N::Wired> for Callers<'_, N> {
-    type Client = N::Caller;
-
-    fn connect(&self, wires: &N::Wired) -> Result<N::Caller, WireFault> {
-        self.0.call(wires)
-    }
-
-    fn look(&self, wires: &mut N::Wired) -> Result<(), WireFault> {
-        match self.0.rest(wires, Duration::ZERO) {
-            Ok(()) => Ok(()),
-            Err(_) => Err(WireFault),
-        }
-    }
 }
 
 // Why no connections come in, by the error of what listens.
@@ -192,8 +164,6 @@ fn console_at(alloc: Global, rt: &HostRuntime, path: &str) -> Result<SocketWires
 
 impl<H: Host> Network for H {
     type Wired = LoggedSockets;
-
-    type Caller = SocketClient;
 
     ghost may_break = { λ _. Unit {0} };
 
@@ -261,13 +231,6 @@ impl<H: Host> Network for H {
     fn note_stop(&self, wires: &mut Self::Wired, fault: Option<u8>) {
         if let Some(log) = &mut wires.0.log {
             log.stop(fault);
-        }
-    }
-
-    fn call(&self, wires: &Self::Wired) -> Result<SocketClient, WireFault> {
-        match wires.0.wires.address() {
-            Ok(address) => SocketClient::connect(self.runtime(), address).or(Err(WireFault)),
-            Err(_) => Err(WireFault),
         }
     }
 }

@@ -4,11 +4,11 @@ ghost use Rattle.std.specs.Prelude.{◌≡◌, ◌≢◌, ◌≤◌, ◌⊎◌, 
 ghost use Rattle.std.specs.IoError.{error_kind};
 ghost use Rattle.std.specs.Io.KnownBytes.{Keeps, Appends};
 ghost use Rattle.clap.specs.Words.{kind_of};
-ghost use Rattle.dq_core.specs.Histories.{is_well_formed};
+ghost use Rattle.dq_core.specs.Histories.{is_well_formed_history};
 ghost use Rattle.dq_core.specs.Shared.{world_after};
 ghost use Rattle.dq_captures.specs.Surroundings.{BreaksOff};
-ghost use Rattle.dq_words.specs.Words.{Errand, asked, place_in, request_in, errand_in};
-ghost use Rattle.dq_program.specs.Program.{no_memory, status_of, IsTold, no_text_line, RefusesStore, AreHonest, EndsTask, CutsTask, StopsPlay, IsPlayed, rows_at, text_of, IsInStore, ClosesAt, AreAfter, unclosed};
+ghost use Rattle.dq_words.specs.Words.{Errand, errand_asked, place_asked, request_asked, errand_in};
+ghost use Rattle.dq_program.specs.Program.{no_memory, status_of, IsTold, no_text_line, RefusesStore, AreHonest, EndsTask, CutsTask, StopsPlay, IsReplayed, rows_at, text_of, IsInStore, ClosesAt, AreAfter, unclosed_store};
 ghost use Rattle.dq_program.specs.Errands.{IsDone, EndsEarly};
 
 use crate::answering::answer;
@@ -37,7 +37,7 @@ fn do_task<T: Tables + Drop, W: Sink>(
     tables: T,
     output: &mut W,
 ) -> Result<T, Stop>
-    requires formed { IsTrue (is_well_formed history.events.items) }
+    requires formed { IsTrue (is_well_formed_history history.events.items) }
     requires unfailed { (T.state tables).failed ≡ false }
     ensures kept { AreHonest T.state → IfOk result (λ kept. (T.state kept).rows
         ≡ (world_after history.config (T.state tables).rows history.events.items).rows) }
@@ -61,22 +61,22 @@ fn do_over<Rt: AllocGlobal + Stores, W: Sink>(
     history: History,
     output: &mut W,
 ) -> Result<(), Stop>
-    requires { IsTrue (is_well_formed history.events.items) }
-    ensures done { OnOk result (IfSome (rows_at (Rt.stored rt.now) (place_in asked.entry.keeper))
+    requires { IsTrue (is_well_formed_history history.events.items) }
+    ensures done { OnOk result (IfSome (rows_at (Rt.stored rt.now) (place_asked asked.entry.keeper))
         (λ rows. Appends (W.written output.old) (W.written output.new)
         (text_of asked.entry.task history.config rows history.events.items))) }
-    ensures closed { OnOk result (ClosesAt (place_in asked.entry.keeper) (Rt.closed rt.now)
-        (AreAfter (rows_at (Rt.stored rt.now) (place_in asked.entry.keeper)) history.config
+    ensures closed { OnOk result (ClosesAt (place_asked asked.entry.keeper) (Rt.closed rt.now)
+        (AreAfter (rows_at (Rt.stored rt.now) (place_asked asked.entry.keeper)) history.config
         history.events.items)) }
     ensures flushed { OnOk result (W.is_flushed output.new) }
     ensures stops { IfErr result (λ stop.
         (Keeps (W.written output.old) (W.written output.new) × RefusesStore stop)
         ⊎ (EndsTask (W.may_fail output.old) stop
-        × IfSome (rows_at (Rt.stored rt.now) (place_in asked.entry.keeper)) (λ rows.
+        × IfSome (rows_at (Rt.stored rt.now) (place_asked asked.entry.keeper)) (λ rows.
         CutsTask asked.entry.task (W.written output.old) (W.written output.new) history.config rows
         history.events.items stop))
-        ⊎ (IsInStore (place_in asked.entry.keeper) × (stop ≡ unclosed)
-        × IfSome (rows_at (Rt.stored rt.now) (place_in asked.entry.keeper)) (λ rows.
+        ⊎ (IsInStore (place_asked asked.entry.keeper) × (stop ≡ unclosed_store)
+        × IfSome (rows_at (Rt.stored rt.now) (place_asked asked.entry.keeper)) (λ rows.
         Appends (W.written output.old) (W.written output.new)
         (text_of asked.entry.task history.config rows history.events.items)))) }
 {
@@ -107,11 +107,11 @@ fn play<Rt: AllocGlobal + Folder + Stores, R: Source, W: Sink>(
     input: R,
     output: &mut W,
 ) -> Result<(), Stop>
-    ensures done { OnOk result (IsPlayed (Rt.held rt.now) (Rt.stored rt.now) (Rt.closed rt.now)
+    ensures done { OnOk result (IsReplayed (Rt.held rt.now) (Rt.stored rt.now) (Rt.closed rt.now)
         (R.octets input) (W.written output.old) (W.written output.new)
-        (request_in asked.entry)) }
+        (request_asked asked.entry)) }
     ensures flushed { OnOk result (W.is_flushed output.new) }
-    ensures stops { IfErr result (StopsPlay (request_in asked.entry) (Rt.may_fail rt.now)
+    ensures stops { IfErr result (StopsPlay (request_asked asked.entry) (Rt.may_fail rt.now)
         (Rt.held rt.now) (Rt.stored rt.now) (R.may_fail input) (R.octets input)
         (W.may_fail output.old) (W.written output.old) (W.written output.new)) }
 {
@@ -182,16 +182,16 @@ pub fn perform<Rt: AllocGlobal + Folder + Stores + Network, S: AsStr, R: Source,
     ensures statuses { result ≤ 5 }
     ensures flushed { result ≡ 0 → W.is_flushed output.new }
     ensures quiet { result ≡ 0 → Keeps (E.written errors.old) (E.written errors.new) }
-    ensures usage { result ≡ 1 → (asked (map S.text words.now) ≡ None)
+    ensures usage { result ≡ 1 → (errand_asked (map S.text words.now) ≡ None)
         × Keeps (W.written output.old) (W.written output.new) }
-    ensures refused { asked (map S.text words.now) ≡ None → (result ≡ 1) ⊎ (result ≡ 4) }
+    ensures refused { errand_asked (map S.text words.now) ≡ None → (result ≡ 1) ⊎ (result ≡ 4) }
     // At 0 all was done that the words ask for.
-    ensures done { (errand : Errand) → asked (map S.text words.now) ≡ Some errand → result ≡ 0 →
+    ensures done { (errand : Errand) → errand_asked (map S.text words.now) ≡ Some errand → result ≡ 0 →
         IsDone Rt.Wired.log (Rt.held rt.now) (Rt.stored rt.now) (Rt.migrated rt.now)
         (Rt.closed rt.now) (R.octets input) (W.written output.old) (W.written output.new)
         errand }
     // At any other status it stopped short of its end, as is told, and this is what was done.
-    ensures stops { (errand : Errand) → asked (map S.text words.now) ≡ Some errand → result ≢ 0 →
+    ensures stops { (errand : Errand) → errand_asked (map S.text words.now) ≡ Some errand → result ≢ 0 →
         (stop : Stop) × (result ≡ status_of stop)
         × IsTold (E.may_fail errors.old) (E.written errors.old) (E.written errors.new) stop
         × EndsEarly Rt.Wired.log (Rt.held rt.now) (Rt.stored rt.now) (R.octets input)

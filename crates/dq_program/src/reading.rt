@@ -3,8 +3,8 @@ ghost use Rattle.std.specs.Prelude.{◌≡◌, ◌≤◌, IsTrue, IfOk, IfErr, I
 ghost use Rattle.std.specs.Option.{option_copied};
 ghost use Rattle.std.specs.Str.{IsUtf8};
 ghost use Rattle.dq_config.specs.Conditions.{configuration};
-ghost use Rattle.dq_core.specs.Histories.{is_well_formed};
-ghost use Rattle.dq_program.specs.Program.{capture_limit, IsConfigured, Tells, RefusesConfig, RefusesFile, RefusesCapture};
+ghost use Rattle.dq_core.specs.Histories.{is_well_formed_history};
+ghost use Rattle.dq_program.specs.Program.{capture_limit, IsConfigured, TellsEvents, RefusesConfig, RefusesFile, RefusesCapture};
 
 use crate::stop::Stop;
 use dq_captures::{Folder, Source, read_capture};
@@ -73,8 +73,8 @@ fn read_octets<R: Source>(alloc: Global, input: R) -> Result<Vec<u8>, Stop>
 /// The events that a capture tells.
 pub fn read_events<R: Source>(alloc: Global, input: R) -> Result<Vec<Event>, Stop>
     ensures read { IfOk result (λ events. IfSome (R.octets input) (λ octets.
-        Tells octets events.items)) }
-    ensures formed { IfOk result (λ events. IsTrue (is_well_formed events.items)) }
+        TellsEvents octets events.items)) }
+    ensures formed { IfOk result (λ events. IsTrue (is_well_formed_history events.items)) }
     ensures refused { IfErr result (RefusesCapture (R.may_fail input) (R.octets input)) }
 {
     let octets = read_octets(alloc, input)?;

@@ -1,12 +1,15 @@
 //! What is kept after a capture, counted.
-ghost use Rattle.std.specs.Prelude.{◌≡◌, ◌≢◌, ◌++◌, codes, false, IsTrue, IfOk, IfErr, OnOk, string_bytes};
+ghost use Rattle.std.specs.Prelude.{◌≡◌, ◌≢◌, ◌++◌, List, length, codes, false, IsTrue, IfOk, IfErr, OnOk, string_bytes};
 ghost use Rattle.std.specs.Fmt.{decimal};
 ghost use Rattle.std.specs.Io.KnownBytes.{Appends};
-ghost use Rattle.dq_core.specs.Histories.{is_well_formed};
+ghost use Rattle.dq_tables.specs.declared.row.Row.{Row};
+ghost use Rattle.dq_tables.specs.Finding.{rows_of};
+ghost use Rattle.dq_core.specs.declared.fault.Fault.{Fault};
+ghost use Rattle.dq_core.specs.Histories.{is_well_formed_history};
 ghost use Rattle.dq_core.specs.Shared.{world_after};
 ghost use Rattle.dq_words.specs.declared.words.Task.TheVariants.{Report};
 ghost use Rattle.dq_program.specs.Program.{text_of, AreHonest, Breaks, EndsTask};
-ghost use Rattle.dq_program.specs.Reports.{kind_word, count_text, report_line, names_of, reported};
+ghost use Rattle.dq_program.specs.Reports.{kind_word, count_text, report_line, names_of, report_text};
 
 use crate::answering::outcome_of;
 use crate::reading::History;
@@ -18,7 +21,7 @@ use dq_list::Listed;
 use dq_tables::{Kind, Tables};
 use std::alloc::{AllocError, Global};
 
-pub static KINDS: [Kind; 5] = [
+static KINDS: [Kind; 5] = [
     Kind::Study,
     Kind::Series,
     Kind::Image,
@@ -39,67 +42,135 @@ fn kind_word(kind: Kind) -> &'static str
 }
 
 /// A count of rows of a kind, after the word for them.
-pub fn count_text(alloc: Global, kind: Kind, count: u64) -> Result<String, AllocError>
+fn count_text(alloc: Global, kind: Kind, count: u64) -> Result<String, AllocError>
     ensures { IfOk result (λ text. string_bytes text
         ≡ codes " " ++ kind_word kind ++ codes " " ++ decimal count) }
 {
     format!(in alloc; " {} {count}", kind_word(kind))
 }
 
+/// What rows are counted in.
+pub trait CountsRows {
+    /// The rows that are there.
+    ghost rows: { Self → List Row };
+
+    /// They are what is counted.
+    ghost is_honest: { Self → Type 0 };
+
+    /// Counts lead from one to the other.
+    ghost leads: { Self → Self → Type 0 };
+
+    /// Counts lead there, and end by this fault.
+    ghost fails: { Self → Self → Fault → Type 0 };
+
+    /// How many rows of a kind the institution of a name has.
+    fn count_rows(&mut self, kind: Kind, name: &[u8]) -> Result<u64, Fault>
+        ensures found { is_honest self.new → IfOk result (λ count.
+            count ≡ length (rows_of kind name.now (rows self.old))) }
+        ensures leads { OnOk result (leads self.old self.new) }
+        ensures fails { IfErr result (fails self.old self.new) };
+
+    ghost leads_nowhere: { (it : Self) → leads it it };
+
+    ghost leads_on: { (old mid new : Self) → leads old mid → leads mid new → leads old new };
+
+    ghost fails_later: { (old mid new : Self) (fault : Fault) → leads old mid
+        → fails mid new fault → fails old new fault };
+
+    ghost wants_memory: { (old new : Self) → leads old new → fails old new Fault.NoMemory };
+
+    ghost keeps_rows: { (old new : Self) → leads old new → is_honest new
+        → is_honest old × (rows new ≡ rows old) };
+}
+
 /// Adds how many rows of a kind an institution has.
-fn put_count<T: Tables>(
+fn put_count<C: CountsRows>(
     alloc: Global,
     line: &mut Vec<u8>,
-    tables: &mut T,
+    counts: &mut C,
     name: &[u8],
     kind: Kind,
 ) -> Result<(), Fault>
-    ensures count { AreHonest T.state → OnOk result (line.new.items ≡ line.old.items
-        ++ count_text (T.state tables.old).rows name.now kind) }
-    ensures same { AreHonest T.state → (T.state tables.new).rows ≡ (T.state tables.old).rows }
-    ensures fault { IfErr result (λ fault. fault ≢ Fault.Stopped) }
+    ensures count { C.is_honest counts.new → OnOk result (line.new.items ≡ line.old.items
+        ++ count_text (C.rows counts.old) name.now kind) }
+    ensures leads { OnOk result (C.leads counts.old counts.new) }
+    ensures fails { IfErr result (C.fails counts.old counts.new) }
 {
-    let count = tables.count(alloc, kind, name)?;
+    let count = counts.count_rows(kind, name)?;
     line.extend_from_slice(count_text(alloc, kind, count)?.as_bytes())?;
     Ok(())
 }
 
 /// Adds the line of an institution.
-fn put_line<T: Tables>(
+fn put_line<C: CountsRows>(
     alloc: Global,
     text: &mut Vec<u8>,
-    tables: &mut T,
+    counts: &mut C,
     name: &[u8],
 ) -> Result<(), Fault>
-    ensures line { AreHonest T.state → OnOk result (text.new.items ≡ text.old.items
-        ++ report_line (T.state tables.old).rows name.now) }
-    ensures same { AreHonest T.state → (T.state tables.new).rows ≡ (T.state tables.old).rows }
-    ensures fault { IfErr result (λ fault. fault ≢ Fault.Stopped) }
+    ensures line { C.is_honest counts.new → OnOk result (text.new.items ≡ text.old.items
+        ++ report_line (C.rows counts.old) name.now) }
+    ensures leads { OnOk result (C.leads counts.old counts.new) }
+    ensures fails { IfErr result (C.fails counts.old counts.new) }
 {
     text.extend_from_slice(name)?;
     for kind in &KINDS {
-        put_count(alloc, text, tables, name, *kind)?;
+        put_count(alloc, text, counts, name, *kind)?;
     }
     text.push(b'\n')?;
     Ok(())
 }
 
 /// The lines of institutions.
-fn lines_of<T: Tables>(
+pub fn lines_of<C: CountsRows>(
     alloc: Global,
-    tables: &mut T,
+    counts: &mut C,
     names: &[Listed<u8>],
 ) -> Result<Vec<u8>, Fault>
-    ensures lines { AreHonest T.state → IfOk result (λ text. text.items
-        ≡ reported (T.state tables.old).rows names.now) }
-    ensures same { AreHonest T.state → (T.state tables.new).rows ≡ (T.state tables.old).rows }
-    ensures fault { IfErr result (λ fault. fault ≢ Fault.Stopped) }
+    ensures lines { C.is_honest counts.new → IfOk result (λ text. text.items
+        ≡ report_text (C.rows counts.old) names.now) }
+    ensures leads { OnOk result (C.leads counts.old counts.new) }
+    ensures fails { IfErr result (C.fails counts.old counts.new) }
 {
     let mut text = Vec::new(alloc);
     for name in names {
-        put_line(alloc, &mut text, tables, name.as_slice())?;
+        put_line(alloc, &mut text, counts, name.as_slice())?;
     }
     Ok(text)
+}
+
+/// Tables, as what is kept after a history.
+#[derive(Drop)]
+struct Kept<T> {
+    alloc: Global,
+    tables: T,
+}
+
+impl<T: Tables> CountsRows for Kept<T> {
+    ghost use Rattle.std.proofs.Common.{refl, ◌∙◌};
+
+    ghost rows = { λ kept. (T.state kept.tables).rows };
+
+    ghost is_honest = { λ _. AreHonest T.state };
+
+    ghost leads = { λ old new.
+        AreHonest T.state → (T.state new.tables).rows ≡ (T.state old.tables).rows };
+
+    ghost fails = { λ _ _ fault. fault ≢ Fault.Stopped };
+
+    fn count_rows(&mut self, kind: Kind, name: &[u8]) -> Result<u64, Fault> {
+        Ok(self.tables.count(self.alloc, kind, name)?)
+    }
+
+    ghost leads_nowhere = { λ it honest. refl };
+
+    ghost leads_on = { λ old mid new one next honest. next honest ∙ one honest };
+
+    ghost fails_later = { λ old mid new fault one fails. fails };
+
+    ghost wants_memory = { λ old new one is. Prim.cc };
+
+    ghost keeps_rows = { λ old new one honest. (honest, one honest) };
 }
 
 /// The names of institutions, in their order.
@@ -115,7 +186,7 @@ pub fn names_of(alloc: Global, institutions: &[Institution]) -> Result<Vec<Liste
 
 /// What is kept after a history, over the rows that are there.
 fn kept_after<T: Tables + Drop>(alloc: Global, history: History, tables: T) -> Result<T, Fault>
-    requires formed { IsTrue (is_well_formed history.events.items) }
+    requires formed { IsTrue (is_well_formed_history history.events.items) }
     requires unfailed { (T.state tables).failed ≡ false }
     ensures kept { AreHonest T.state → IfOk result (λ kept. (T.state kept).rows
         ≡ (world_after history.config (T.state tables).rows history.events.items).rows) }
@@ -138,7 +209,7 @@ fn report_of<T: Tables + Drop>(
     history: History,
     tables: T,
 ) -> Result<(Vec<u8>, T), Fault>
-    requires formed { IsTrue (is_well_formed history.events.items) }
+    requires formed { IsTrue (is_well_formed_history history.events.items) }
     requires unfailed { (T.state tables).failed ≡ false }
     ensures text { AreHonest T.state → IfOk result (λ it. it.0.items
         ≡ text_of Report history.config (T.state tables).rows history.events.items) }
@@ -147,9 +218,13 @@ fn report_of<T: Tables + Drop>(
     ensures fault { IfErr result (λ fault. fault ≢ Fault.Stopped) }
 {
     let names = names_of(alloc, history.config.institutions())?;
-    let mut kept = kept_after(alloc, history, tables)?;
+    let mut kept = Kept {
+        alloc,
+        tables: kept_after(alloc, history, tables)?,
+    };
     let text = lines_of(alloc, &mut kept, names.as_slice())?;
-    Ok((text, kept))
+    let Kept { alloc: _, tables } = kept;
+    Ok((text, tables))
 }
 
 /// Writes a text and hands it on.
@@ -177,7 +252,7 @@ pub fn report<T: Tables + Drop, W: Sink>(
     tables: T,
     output: &mut W,
 ) -> Result<T, Stop>
-    requires formed { IsTrue (is_well_formed history.events.items) }
+    requires formed { IsTrue (is_well_formed_history history.events.items) }
     requires unfailed { (T.state tables).failed ≡ false }
     ensures kept { AreHonest T.state → IfOk result (λ kept. (T.state kept).rows
         ≡ (world_after history.config (T.state tables).rows history.events.items).rows) }

@@ -6,7 +6,7 @@ ghost use Rattle.dq_config.specs.declared.config.Institution.{Institution};
 ghost use Rattle.dq_core.specs.Standing.{StandsFor};
 ghost use Rattle.dq_wires.specs.Stepping.{Moves, Fails};
 ghost use Rattle.dq_wires.specs.Turns.{TurnsWent, TurnsCut};
-ghost use Rattle.dq_words.specs.Words.{place_in, serving_in};
+ghost use Rattle.dq_words.specs.Words.{place_asked, serving_in};
 ghost use Rattle.dq_captures.specs.Surroundings.{BreaksOff};
 ghost use Rattle.dq_program.specs.Program.{AreHonest, IsConfigured, rows_at, ClosesAt};
 ghost use Rattle.dq_program.specs.Rounds.{RoundsWent, RoundsCut, Beside, BesideCut};
@@ -387,10 +387,10 @@ pub fn serve<Rt: AllocGlobal + Folder + Stores + Network, W: Sink>(
     ensures flushed { OnOk result (W.is_flushed output.new) }
     ensures served { OnOk result ((institutions : List Institution)
         × IsConfigured (Rt.held rt.now) (option_copied service.entry.config) institutions
-        × IfSome (rows_at (Rt.stored rt.now) (place_in service.entry.keeper)) (λ rows.
+        × IfSome (rows_at (Rt.stored rt.now) (place_asked service.entry.keeper)) (λ rows.
         Served Rt.Wired.log institutions rows (turn_count service.entry.turns)
         (option_copied service.entry.console))) }
-    ensures closed { OnOk result (ClosesAt (place_in service.entry.keeper) (Rt.closed rt.now)
+    ensures closed { OnOk result (ClosesAt (place_asked service.entry.keeper) (Rt.closed rt.now)
         (λ _. Unit {0})) }
     ensures stops { IfErr result (StopsService Rt.Wired.log (Rt.held rt.now) (Rt.stored rt.now)
         (W.written output.old) (W.written output.new) (serving_in service.entry)

@@ -90,9 +90,9 @@ impl From<Unkept> for Stop {
 
 impl From<Unclosed> for Stop {
     ghost use Rattle.std.specs.Prelude.{◌≡◌};
-    ghost use Rattle.dq_program.specs.Program.{unclosed};
+    ghost use Rattle.dq_program.specs.Program.{unclosed_store};
 
-    ghost from_gives = { λ _ stop. stop ≡ unclosed };
+    ghost from_gives = { λ _ stop. stop ≡ unclosed_store };
 
     fn from(_unclosed: Unclosed) -> Stop {
         Stop::Store(5)
@@ -101,10 +101,10 @@ impl From<Unclosed> for Stop {
 
 impl From<Fault> for Stop {
     ghost use Rattle.std.specs.Prelude.{◌≡◌};
-    ghost use Rattle.dq_core.specs.Faults.{number_of};
+    ghost use Rattle.dq_core.specs.Faults.{server_fault_number};
     ghost use Rattle.dq_program.specs.declared.stop.Stop.TheVariants.{Fault};
 
-    ghost from_gives = { λ fault stop. stop ≡ Fault (number_of fault) };
+    ghost from_gives = { λ fault stop. stop ≡ Fault (server_fault_number fault) };
 
     fn from(fault: Fault) -> Stop {
         Stop::Fault(fault.number())

@@ -9,7 +9,7 @@ ghost use Rattle.sqlite.specs.Start.{FindsIn};
 ghost use Rattle.dq_tables.specs.declared.row.Row.{Row};
 ghost use Rattle.dq_tables.specs.Keeping.{IsSettled};
 ghost use Rattle.dq_sql.specs.declared.fault.StoreFault.TheVariants.{WrongVersion, BadRows};
-ghost use Rattle.dq_core.specs.Histories.{is_well_formed};
+ghost use Rattle.dq_core.specs.Histories.{is_well_formed_history};
 ghost use Rattle.dq_core.specs.Restarts.{IsRestart};
 
 use dq_config::Config;
@@ -43,7 +43,7 @@ pub fn what_was_answered_outlasts_a_crash<D: Disk + Drop, E: Disk + Drop>(
     Files<D>,
     Result<SqlTables<FileStore<E>>, (StoreFault, Connection<FileStore<E>>)>,
 )
-    requires formed { IsTrue (is_well_formed events.items) }
+    requires formed { IsTrue (is_well_formed_history events.items) }
     requires working { (⟦<SqlTables<FileStore<D>> as Tables>⟧.state tables).failed ≡ false }
     ensures outlasts { AreClean D.Disk result.1.log result.1.db
         → IsSettled (⟦<SqlTables<FileStore<D>> as Tables>⟧.state tables)

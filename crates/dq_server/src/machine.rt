@@ -11,7 +11,7 @@ ghost use Rattle.dq_tables.specs.declared.row.Row.{Row};
 ghost use Rattle.dq_tables.specs.Sound.{IsSound};
 ghost use Rattle.dq_core.specs.Looking.{LeavesAlone};
 ghost use Rattle.dq_core.specs.Soundness.{HoldSound};
-ghost use Rattle.dq_sql.specs.Restarting.{HoldsRows};
+ghost use Rattle.dq_sql.specs.Restarting.{ImageHoldsRows};
 ghost use Rattle.dq_server.specs.Closing.{HaveAlone};
 
 use crate::memory::RowsInMemory;
@@ -108,7 +108,7 @@ pub fn kept_at<S: Start>(
     path: &str,
     start: S,
 ) -> Result<SqlTables<FileStore<FileFrom<S>>>, Unkept>
-    ensures rows { (rows : List Row) → HoldsRows (image_at S.Start) rows → IsSound rows
+    ensures rows { (rows : List Row) → ImageHoldsRows (image_at S.Start) rows → IsSound rows
         → IfOk result (λ t. (⟦<SqlTables<FileStore<FileFrom<S>>> as Tables>⟧.state t).honest
         → (⟦<SqlTables<FileStore<FileFrom<S>>> as Tables>⟧.state t).rows ≡ rows) }
     // Whatever the files hold, the rows are sound, and each holds a data set.

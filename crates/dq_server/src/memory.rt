@@ -39,10 +39,10 @@ impl RowsInMemory {
 
 impl Tables for RowsInMemory {
     ghost use Rattle.dq_sql.specs.Kept.{kept_sound, left_sound};
-    ghost use Rattle.dq_server.specs.Memory.{unfailing};
+    ghost use Rattle.dq_server.specs.Memory.{without_faults};
 
     // Want of memory is no failure of what keeps the rows.
-    ghost state = { λ t. unfailing (⟦<SqlTables<FileStore<MemoryFile>> as Tables>⟧.state t.tables) };
+    ghost state = { λ t. without_faults (⟦<SqlTables<FileStore<MemoryFile>> as Tables>⟧.state t.tables) };
 
     ghost sound = { λ t. kept_sound _ _ t.tables.keeps };
 

@@ -17,12 +17,12 @@ use Rattle.sqlite.specs.Effect.{Database, IsDatabase}
 use Rattle.dq_tables.specs.declared.row.Kind.{Kind}
 use Rattle.dq_tables.specs.declared.row.Kind.TheVariants.{Study, Series, Image, Entry, Step}
 use Rattle.dq_tables.specs.declared.row.Row.{Row}
-use Rattle.dq_tables.specs.Rows.{number_of, after_edit, Put, record_of, row_place_of, rows_elsewhere}
+use Rattle.dq_tables.specs.Rows.{number_of_kind, after_edit, Put, record_of, row_place_of, rows_elsewhere}
 use Rattle.dq_tables.proofs.Lens.{rising_edit}
-use Rattle.dq_sql.specs.Tie.{kind_in, is_set, kept_of, Holds, IsKept, same_id, HasRows}
+use Rattle.dq_sql.specs.Tie.{kind_in, is_set, row_of_cells, Holds, IsKeptRow, same_id, HasRows}
 use Rattle.dq_sql.specs.Schema.{kept_schema}
 use Rattle.dq_sql.specs.Cells.{flag, columns_of}
-use Rattle.dq_sql.specs.Writing.{Adds}
+use Rattle.dq_sql.specs.Writing.{AddsRow}
 use Rattle.dq_tables.proofs.Members.{put_has, free_is}
 use Rattle.dq_sql.proofs.Inserted.{numbered_cells, Inserted}
 
@@ -73,7 +73,7 @@ apart_put new [] free apart = (tt, tt)
 apart_put new (x ∷ rows) free apart =
     apart_step new x rows (value_cmp (rowid x) (rowid new)) refl free apart (apart_put new rows free.1 apart.1)
 
-pub kind_is : (kind : Kind) → kind_in (Int (pos (number_of kind))) ≡ kind
+pub kind_is : (kind : Kind) → kind_in (Int (pos (number_of_kind kind))) ≡ kind
 kind_is Study = refl
 kind_is Series = refl
 kind_is Image = refl
@@ -85,7 +85,7 @@ set_is true = refl
 set_is false = refl
 
 module _ (row : Row) (id : ℤ) where
-  pub columns_kept : kept_of (Int id ∷ columns_of row) ≡ row
+  pub columns_kept : row_of_cells (Int id ∷ columns_of row) ≡ row
   columns_kept = λ i. let r : Row = record row { kind = kind_is row.kind i; started = set_is row.started i } in r
 
   columns_hold : Holds row (Int id ∷ columns_of row)
@@ -94,27 +94,27 @@ module _ (row : Row) (id : ℤ) where
   -- A row is put among those that hold the rows at other places.
   pub placed : (d e : Database) (old : List Values) (rows : List Row) → HasRows d rows
       → e.schema ≡ kept_schema → IsDatabase e → e.trees 2 ≡ d.trees 2 → e.trees 0 ≡ put_row (Int id ∷ columns_of row) old → is_taken old (Int id ∷ columns_of row) ≡ false
-      → IsDistinct same_id old → AllByRecursion (λ r. IsTrue (is_int (rowid r))) old → AllByRecursion IsKept old
-      → IsPermutation (map kept_of old) (rows_elsewhere (row_place_of row) rows)
+      → IsDistinct same_id old → AllByRecursion (λ r. IsTrue (is_int (rowid r))) old → AllByRecursion IsKeptRow old
+      → IsPermutation (map row_of_cells old) (rows_elsewhere (row_place_of row) rows)
       → HasRows e (after_edit row.inst (Put (record_of row)) rows)
   placed d e old rows has schema database version is fresh apart ids kept same =
       let new = Int id ∷ columns_of row in
-      let is_kept : IsKept new = subst (λ (x : Row). Holds x new) (sym columns_kept) columns_hold in
-      let held : IsPermutation (map kept_of (put_row new old)) (row ∷ map kept_of old) =
-      subst (λ (x : Row). IsPermutation (map kept_of (put_row new old)) (x ∷ map kept_of old)) columns_kept (IsPermutation-map kept_of _ _ (put_is new old fresh)) in
+      let is_kept : IsKeptRow new = subst (λ (x : Row). Holds x new) (sym columns_kept) columns_hold in
+      let held : IsPermutation (map row_of_cells (put_row new old)) (row ∷ map row_of_cells old) =
+      subst (λ (x : Row). IsPermutation (map row_of_cells (put_row new old)) (x ∷ map row_of_cells old)) columns_kept (IsPermutation-map row_of_cells _ _ (put_is new old fresh)) in
       record {
         version_is = record { schema = schema; says = rw version has.version_is.says };
         database = database;
         table = record {
           apart = rw is (apart_put new old (untaken new old fresh) apart);
           ids = rw is (all-put_row (λ r. IsTrue (is_int (rowid r))) new old refl ids);
-          kept = rw is (all-put_row IsKept new old is_kept kept);
+          kept = rw is (all-put_row IsKeptRow new old is_kept kept);
           same = rw is (IsPermutation-trans _ _ _ held (IsPermutation-trans _ _ _ (IsPermutation-cons row _ _ same) (put_has row rows has.table.rising)));
           rising = rising_edit row.inst (Put (record_of row)) rows has.table.rising;
         };
       }
 
-pub added : (d e : Database) (row : Row) → Inserted d e (numbered_cells d row) → Adds d e row
+pub added : (d e : Database) (row : Row) → Inserted d e (numbered_cells d row) → AddsRow d e row
 added d e row it rows has free =
     placed row (next_rowid (d.trees 0)) d e (d.trees 0) rows has it.schema it.database it.version it.rows it.fresh has.table.apart has.table.ids has.table.kept
-    (subst (IsPermutation (map kept_of (d.trees 0))) (sym (free_is row.kind row.inst row.key rows free)) has.table.same)
+    (subst (IsPermutation (map row_of_cells (d.trees 0))) (sym (free_is row.kind row.inst row.key rows free)) has.table.same)

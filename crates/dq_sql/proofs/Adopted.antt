@@ -8,7 +8,7 @@ use Rattle.dq_tables.specs.declared.row.Row.{Row}
 use Rattle.dq_sql.specs.declared.fault.StoreFault.{StoreFault}
 use Rattle.dq_sql.specs.declared.version.Version.TheVariants.{Two}
 use Rattle.dq_sql.specs.Tie.{HasRows, Stays}
-use Rattle.dq_sql.specs.Keeping.{under_schema, MayLeave, Keeps}
+use Rattle.dq_sql.specs.Keeping.{under_schema, MayLeave, KeepsSoundRows}
 use Rattle.dq_sql.specs.Kept.{one_list}
 use Rattle.dq_sql.specs.Adopting.{IsFound}
 
@@ -34,7 +34,7 @@ found_left a b rows law found stays clean trees left = elim (stays.survives.cras
   | inr none ↦ absurd none
 ]
 
-pub found_keeps : (a b : State) (rows : List Row) → LeavesCommit a → IsFound Two a rows → Stays a b → HasCleanDisk b → Keeps b rows
+pub found_keeps : (a b : State) (rows : List Row) → LeavesCommit a → IsFound Two a rows → Stays a b → HasCleanDisk b → KeepsSoundRows b rows
 found_keeps a b rows law found stays clean = record {
   sound = found.sound;
   has = λ live. subst (λ (d : Database). HasRows d rows) (sym (stays.same clean live found.rest).now) found.has;

@@ -18,7 +18,7 @@ use Rattle.sqlite_trees.specs.View.{is_int}
 use Rattle.sqlite_rules.specs.Edit.{id_in}
 use Rattle.dq_tables.proofs.Order.{each_weaker}
 use Rattle.dq_sql.specs.Tie.{same_id}
-use Rattle.dq_sql.specs.Adopting.{AreApart, IsNumbered, id_of}
+use Rattle.dq_sql.specs.Adopting.{AreApart, HasWholeRowid, rowid_of}
 
 abbrev same_int : ℤ → ℤ → Bool
 same_int a b = is_eq (int_cmp a b)
@@ -104,32 +104,32 @@ id_alike (Int m) (Real x) a b = absurd (let e = b in cc)
 id_alike (Int m) (Text t) a b = absurd (let e = b in cc)
 id_alike (Int m) (Blob t) a b = absurd (let e = b in cc)
 
-each_alike : (r : Values) → IsNumbered r → (rest : List Values) → AllByRecursion IsNumbered rest
-    → AllByRecursion (λ n. same_int (id_of r) n ≡ false) (map id_of rest) → AllByRecursion (λ s. same_id r s ≡ false) rest
+each_alike : (r : Values) → HasWholeRowid r → (rest : List Values) → AllByRecursion HasWholeRowid rest
+    → AllByRecursion (λ n. same_int (rowid_of r) n ≡ false) (map rowid_of rest) → AllByRecursion (λ s. same_id r s ≡ false) rest
 each_alike r a [] all h = tt
 each_alike r a (s ∷ rest) all h = (id_alike (rowid r) (rowid s) a all.0 ∙ h.0, each_alike r a rest all.1 h.1)
 
-each_back : (r : Values) → IsNumbered r → (rest : List Values) → AllByRecursion IsNumbered rest
-    → AllByRecursion (λ s. same_id r s ≡ false) rest → AllByRecursion (λ n. same_int (id_of r) n ≡ false) (map id_of rest)
+each_back : (r : Values) → HasWholeRowid r → (rest : List Values) → AllByRecursion HasWholeRowid rest
+    → AllByRecursion (λ s. same_id r s ≡ false) rest → AllByRecursion (λ n. same_int (rowid_of r) n ≡ false) (map rowid_of rest)
 each_back r a [] all h = tt
 each_back r a (s ∷ rest) all h = (sym (id_alike (rowid r) (rowid s) a all.0) ∙ h.0, each_back r a rest all.1 h.1)
 
-ids_to_rows : (found : List Values) → AllByRecursion IsNumbered found → IsDistinct same_int (map id_of found) → IsDistinct same_id found
+ids_to_rows : (found : List Values) → AllByRecursion HasWholeRowid found → IsDistinct same_int (map rowid_of found) → IsDistinct same_id found
 unfolding IsDistinct
 ids_to_rows [] all h = tt
 ids_to_rows (r ∷ rest) all h = (each_alike r all.0 rest all.1 h.0, ids_to_rows rest all.1 h.1)
 
-rows_to_ids : (found : List Values) → AllByRecursion IsNumbered found → IsDistinct same_id found → IsDistinct same_int (map id_of found)
+rows_to_ids : (found : List Values) → AllByRecursion HasWholeRowid found → IsDistinct same_id found → IsDistinct same_int (map rowid_of found)
 unfolding IsDistinct
 rows_to_ids [] all h = tt
 rows_to_ids (r ∷ rest) all h = (each_back r all.0 rest all.1 h.0, rows_to_ids rest all.1 h.1)
 
 -- what the test of the sorted rowids says of the rows
-pub apart_answer : (found : List Values) (ids : List ℤ) (b : Bool) → AllByRecursion IsNumbered found → IsPermutation (map id_of found) ids → IsSorted int_cmp ids
+pub apart_answer : (found : List Values) (ids : List ℤ) (b : Bool) → AllByRecursion HasWholeRowid found → IsPermutation (map rowid_of found) ids → IsSorted int_cmp ids
     → IsAllAdjacentAnswer (λ x y rises. rises ≡ is_lt (int_cmp x y)) ids b → MatchBool b (AreApart found) (¬ AreApart found)
 apart_answer found ids true all same sorted h = record {
   whole = all;
-  apart = ids_to_rows found all (IsDistinct-IsPermutation same_int flips ids (map id_of found) (IsPermutation-sym _ _ same) (rise_apart ids h));
+  apart = ids_to_rows found all (IsDistinct-IsPermutation same_int flips ids (map rowid_of found) (IsPermutation-sym _ _ same) (rise_apart ids h));
 }
 apart_answer found ids false all same sorted h = λ are.
-    fall_alike ids sorted h.0 h.1 h.2 (IsDistinct-IsPermutation same_int flips (map id_of found) ids same (rows_to_ids found are.whole are.apart))
+    fall_alike ids sorted h.0 h.1 h.2 (IsDistinct-IsPermutation same_int flips (map rowid_of found) ids same (rows_to_ids found are.whole are.apart))

@@ -16,10 +16,10 @@ use Rattle.dq_tables.specs.declared.row.Kind.TheVariants.{Study}
 use Rattle.dq_tables.specs.declared.row.Row.{Row}
 use Rattle.dq_tables.specs.Labels.{patient_of, day_of}
 use Rattle.dq_tables.specs.Choosing.{is_open_or}
-use Rattle.dq_tables.specs.Finding.{same_kind, is_of}
+use Rattle.dq_tables.specs.Finding.{same_kind, is_of_kind}
 use Rattle.dq_sql.specs.declared.choosing.Label.TheVariants.{Patient, Day}
 use Rattle.dq_sql.specs.Cells as cells
-use Rattle.dq_sql.specs.Tie.{kept_of, IsKept}
+use Rattle.dq_sql.specs.Tie.{row_of_cells, IsKeptRow}
 use Rattle.dq_sql.specs.Choosing.{says, is_of_patient, is_of_days, last_day_or_blob}
 use Rattle.dq_sql.proofs.Placed.{equals, equals-Blob}
 use Rattle.dq_sql.proofs.Selecting.{passes}
@@ -100,16 +100,16 @@ null_day : (v : Value) (said : Option ℤ) → v ≡ or_null Int said → is_nul
 null_day v None e = ap is_null e
 null_day v (Some z) e = ap is_null e
 
-module _ (inst : List ℕ) (r : Values) (h : IsKept r) where
+module _ (inst : List ℕ) (r : Values) (h : IsKeptRow r) where
   abbrev row : Row
-  row = kept_of r
+  row = row_of_cells r
 
   patient_is : column r 5 ≡ or_null Blob (patient_of row)
-  unfolding cells.patient_of
+  unfolding cells.patient_cell
   patient_is = h.patient
 
   day_is : column r 6 ≡ or_null Int (day_of row)
-  unfolding cells.day_of
+  unfolding cells.day_cell
   day_is = h.day
 
   -- a study does not say what its column has as null
@@ -120,13 +120,13 @@ module _ (inst : List ℕ) (r : Values) (h : IsKept r) where
   unsaid_day = null_day (column r 6) (day_of row) day_is
 
   pub patient_finds : (patient : List ℕ) → passes patient_tests (of_params Study inst (Blob patient ∷ [])) r
-      ≡ (is_of Study inst row && (is_of_patient patient row && says Patient row))
+      ≡ (is_of_kind Study inst row && (is_of_patient patient row && says Patient row))
   patient_finds patient =
       rw (kind_test (column r 1) row.kind Study h.kind, text_test (column r 2) row.inst inst h.inst, patient_is, patient_said patient (patient_of row))
       (three (same_kind row.kind Study) (bytes_eq row.inst inst) (is_of_patient patient row && says Patient row))
 
   pub days_find : AreNatural → (first last : Option ℕ) → passes days_tests (of_params Study inst (Int (pos (unwrap_or first 0)) ∷ last_day_or_blob last ∷ [])) r
-      ≡ (is_of Study inst row && (is_of_days first last row && says Day row))
+      ≡ (is_of_kind Study inst row && (is_of_days first last row && says Day row))
   days_find natural first last =
       rw (kind_test (column r 1) row.kind Study h.kind, text_test (column r 2) row.inst inst h.inst, day_is)
       (four (same_kind row.kind Study) (bytes_eq row.inst inst) (at_most (Int (pos (unwrap_or first 0))) (or_null Int (day_of row)))

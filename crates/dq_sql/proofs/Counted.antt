@@ -10,8 +10,8 @@ use Rattle.dq_tables.specs.declared.row.Kind.TheVariants.{Study, Series, Image, 
 use Rattle.dq_tables.specs.declared.row.Row.{Row}
 use Rattle.dq_tables.specs.declared.change.Change.TheVariants.{Stored, EntryRemoved, StepAdded, StepChanged}
 use Rattle.dq_tables.specs.Rows.{IsRising, IsOf, RowPlace, place, row_place_of, rows_elsewhere, after, after_edit, after_edits, operation_of, put_if, Put, Start, record_of}
-use Rattle.dq_tables.specs.Finding.{row_at, is_of, rows_of}
-use Rattle.dq_tables.specs.Sound.{IsNew, IsNewIf, FitsStored, FitsStep, IsChanged}
+use Rattle.dq_tables.specs.Finding.{row_at, is_of_kind, rows_of}
+use Rattle.dq_tables.specs.Sound.{IsNew, IsNewIf, FitsStored, FitsStep, MayReplace}
 use Rattle.dq_tables.proofs.Order.{is_at, each_passed}
 use Rattle.dq_tables.proofs.Lens.{rising_edit}
 use Rattle.dq_tables.proofs.Listing.{one_kind, its_kind}
@@ -20,7 +20,7 @@ use Rattle.dq_tables.proofs.Soundness.{stored_is}
 use Rattle.dq_tables.proofs.Started.{started, is_found, start_is_put, start_of_none}
 use Rattle.dq_sql.specs.declared.counts.Count.{Count}
 use Rattle.dq_sql.specs.declared.counts.Counts.{Counts}
-use Rattle.dq_sql.specs.Counts.{IsRight, AreRight, added}
+use Rattle.dq_sql.specs.Counts.{IsRight, AreRight, with_one_more}
 use Rattle.dq_sql.proofs.Making.{free_place}
 use Rattle.dq_sql.proofs.Moved.{both, IsAtPlace, at_place}
 
@@ -33,7 +33,7 @@ pub one_more : (kind : Kind) (inst : List ℕ) (row : Row) (rows : List Row) →
 unfolding rows_of
 one_more kind inst row rows p q = rw (its_kind row.kind kind p, (bytes_eq-Decides row.inst inst).1 q) refl
 
-others_step : (kind : Kind) (inst : List ℕ) (row : Row) (rows : List Row) (b : Bool) → is_of kind inst row ≡ b → ¬ ((row.kind ≡ kind) × (row.inst ≡ inst))
+others_step : (kind : Kind) (inst : List ℕ) (row : Row) (rows : List Row) (b : Bool) → is_of_kind kind inst row ≡ b → ¬ ((row.kind ≡ kind) × (row.inst ≡ inst))
     → length (rows_of kind inst (row ∷ rows)) ≡ length (rows_of kind inst rows)
 unfolding rows_of
 others_step kind inst row rows true e other =
@@ -43,11 +43,11 @@ others_step kind inst row rows false e other = rw e refl
 -- another row is none
 pub no_more : (kind : Kind) (inst : List ℕ) (row : Row) (rows : List Row) → ¬ ((row.kind ≡ kind) × (row.inst ≡ inst))
     → length (rows_of kind inst (row ∷ rows)) ≡ length (rows_of kind inst rows)
-no_more kind inst row rows other = others_step kind inst row rows (is_of kind inst row) refl other
+no_more kind inst row rows other = others_step kind inst row rows (is_of_kind kind inst row) refl other
 
 counted_moved : (kind : Kind) (inst : List ℕ) (xs ys : List Row) → IsPermutation xs ys → count_of kind inst xs ≡ count_of kind inst ys
 unfolding rows_of
-counted_moved kind inst xs ys h = sym (length_permutation _ _ (IsPermutation-filter (is_of kind inst) xs ys h))
+counted_moved kind inst xs ys h = sym (length_permutation _ _ (IsPermutation-filter (is_of_kind kind inst) xs ys h))
 
 same_number : (number : Option ℕ) (m n : ℕ) → m ≡ n → IfSome number (λ k. k ≡ m) → IfSome number (λ k. k ≡ n)
 same_number None m n e h = tt
@@ -67,7 +67,7 @@ module _ (rows : List Row) (rising : IsRising rows) where
   pub new_right : (kind : Kind) (row : Row) (counts : Counts) → IsNew rows kind row → AreRight (row ∷ rows) counts → AreRight (after_edit row.inst (Put (record_of row)) rows) counts
   new_right kind row counts new = right_moved _ _ counts (added_has row rows rising (free_place rows kind row new))
 
-  new_if_right : (h : List ℕ) (kind : Kind) (row : Option Row) (counts : Counts) → IsOf h row → IsNewIf rows kind row → AreRight (added row rows) counts
+  new_if_right : (h : List ℕ) (kind : Kind) (row : Option Row) (counts : Counts) → IsOf h row → IsNewIf rows kind row → AreRight (with_one_more row rows) counts
       → AreRight (after_edits h (put_if row) rows) counts
   new_if_right h kind None counts own new right = right
   new_if_right h kind (Some row) counts own new right =
@@ -79,8 +79,8 @@ module _ (rows : List Row) (rising : IsRising rows) where
 
 -- an image, with its study and its series where they are new
 pub stored_right : (study series : Option Row) (image : Row) (rows : List Row) (c1 c2 c3 : Counts) → IsRising rows → FitsStored rows study series image
-    → AreRight (added study rows) c1
-    → ((rows : List Row) → AreRight rows c1 → AreRight (added series rows) c2)
+    → AreRight (with_one_more study rows) c1
+    → ((rows : List Row) → AreRight rows c1 → AreRight (with_one_more series rows) c2)
     → ((rows : List Row) → AreRight rows c2 → AreRight (image ∷ rows) c3)
     → AreRight (after (operation_of (Stored study series image)) rows) c3
 stored_right study series image rows c1 c2 c3 rising fits right more most =
@@ -138,10 +138,10 @@ counted_if false x rows = refl
 alike : (kind : Kind) (inst : List ℕ) (x y : Row) (rows : List Row) → x.kind ≡ y.kind → x.inst ≡ y.inst → count_of kind inst (x ∷ rows) ≡ count_of kind inst (y ∷ rows)
 unfolding rows_of
 alike kind inst x y rows p q =
-    let same : is_of kind inst x ≡ is_of kind inst y = rw (p, q) refl in
+    let same : is_of_kind kind inst x ≡ is_of_kind kind inst y = rw (p, q) refl in
     let others = rows_of kind inst rows in
-    counted_if (is_of kind inst x) x others ∙ ap (λ (b : Bool). if b then suc (length others) else length others) same
-    ∙ sym (counted_if (is_of kind inst y) y others)
+    counted_if (is_of_kind kind inst x) x others ∙ ap (λ (b : Bool). if b then suc (length others) else length others) same
+    ∙ sym (counted_if (is_of_kind kind inst y) y others)
 
 -- a row that takes the place of another is neither
 put_right : (row : Row) (rows : List Row) (counts : Counts) → IsRising rows → is_some (row_at row.kind row.inst row.key rows) ≡ true → AreRight rows counts
@@ -154,7 +154,7 @@ put_right row rows counts rising there right =
     put (λ i d low. as_right (it.row ∷ rows_elsewhere p rows) (row ∷ rows_elsewhere p rows) (get_or counts.known.items i d)
     (alike _ _ it.row row (rows_elsewhere p rows) it.at.kind it.at.institution) (before i d low))
 
-pub changed_right : (row : Row) (rows : List Row) (counts : Counts) → IsRising rows → IsChanged rows Step row → AreRight rows counts
+pub changed_right : (row : Row) (rows : List Row) (counts : Counts) → IsRising rows → MayReplace rows Step row → AreRight rows counts
     → AreRight (after (operation_of (StepChanged row)) rows) counts
 changed_right row rows counts rising fits right =
     put_right row rows counts rising (subst (λ (k : Kind). is_some (row_at k row.inst row.key rows) ≡ true) (sym fits.kind_is) fits.there) right

@@ -17,7 +17,7 @@ use Rattle.sqlite_sql.specs.Program.{overlay}
 use Rattle.sqlite.specs.Effect.{Database}
 use Rattle.sqlite.proofs.Callers.{one_permutation}
 use Rattle.dq_tables.specs.declared.row.Row.{Row}
-use Rattle.dq_sql.specs.Tie.{kept_of, IsKept, HasRows}
+use Rattle.dq_sql.specs.Tie.{row_of_cells, IsKeptRow, HasRows}
 use Rattle.dq_sql.proofs.Queries.{selecting, counted, count_grouping}
 use Rattle.dq_sql.proofs.Selecting.{with_row, passes, chosen, each_match}
 
@@ -61,17 +61,17 @@ count_answer tests db params answer a =
     let ordered = one_permutation o a.ordered (subst (λ k. IsPermutation k a.ordered) kept a.same) in
     a.shown ∙ ap (map (λ (p : Output). p.1)) ordered
 
-size_kept : (tests : List Term) (params : Values) (keeps : Row → Bool) → ((r : Values) → IsKept r → passes tests params r ≡ keeps (kept_of r))
-    → (tree : List Values) → AllByRecursion IsKept tree → length (filter (passes tests params) tree) ≡ length (filter keeps (map kept_of tree))
+size_kept : (tests : List Term) (params : Values) (keeps : Row → Bool) → ((r : Values) → IsKeptRow r → passes tests params r ≡ keeps (row_of_cells r))
+    → (tree : List Values) → AllByRecursion IsKeptRow tree → length (filter (passes tests params) tree) ≡ length (filter keeps (map row_of_cells tree))
 size_kept tests params keeps finds [] h = refl
 size_kept tests params keeps finds (r ∷ rest) h =
-    rw (finds r h.0) (elim (keeps (kept_of r)) as (λ b. length (if b then r ∷ filter (passes tests params) rest else filter (passes tests params) rest)
-    ≡ length (if b then kept_of r ∷ filter keeps (map kept_of rest) else filter keeps (map kept_of rest))) [
+    rw (finds r h.0) (elim (keeps (row_of_cells r)) as (λ b. length (if b then r ∷ filter (passes tests params) rest else filter (passes tests params) rest)
+    ≡ length (if b then row_of_cells r ∷ filter keeps (map row_of_cells rest) else filter keeps (map row_of_cells rest))) [
       | true ↦ ap suc (size_kept tests params keeps finds rest h.1)
       | false ↦ size_kept tests params keeps finds rest h.1
     ])
 
-pub size_found : (tests : List Term) (params : Values) (keeps : Row → Bool) → ((r : Values) → IsKept r → passes tests params r ≡ keeps (kept_of r))
+pub size_found : (tests : List Term) (params : Values) (keeps : Row → Bool) → ((r : Values) → IsKeptRow r → passes tests params r ≡ keeps (row_of_cells r))
     → (d : Database) (rows : List Row) → HasRows d rows → length (chosen 0 tests d.trees params) ≡ length (filter keeps rows)
 size_found tests params keeps finds d rows has =
     size_kept tests params keeps finds (d.trees 0) has.table.kept

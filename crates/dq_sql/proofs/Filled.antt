@@ -13,7 +13,7 @@ use Rattle.dq_tables.specs.Finding.{IsFree}
 use Rattle.dq_tables.proofs.InOrder.{rising_at, located_free}
 use Rattle.dq_tables.proofs.Edits.{inserts}
 use Rattle.dq_sql.specs.Tie.{HasRows}
-use Rattle.dq_sql.specs.Writing.{Adds, Went}
+use Rattle.dq_sql.specs.Writing.{AddsRow, Went}
 use Rattle.dq_sql.specs.Filling.{AddsRows}
 use Rattle.dq_sql.proofs.NewStore.{keeps_then}
 
@@ -56,7 +56,7 @@ module _ (rows : List Row) (i : ℕ) (row : Row) (within : i < length rows) (is 
       sym (inserts (take i rows) row (length (take i rows)) free) ∙ at_end (take i rows) ∙ ap (λ r. take i rows ++ r ∷ []) is
       ∙ sym (rw add-one (take-suc rows i row within))
 
-  pub next_added : (d e : Database) → HasRows d (take i rows) → Adds d e row → HasRows e (take (i + 1) rows)
+  pub next_added : (d e : Database) → HasRows d (take i rows) → AddsRow d e row → HasRows e (take (i + 1) rows)
   next_added d e has adds = subst (HasRows e) last (adds (take i rows) has free.found)
 
 -- ---- the rows in turn
@@ -70,7 +70,7 @@ pub record HasPut (old new : State) (rows : List Row) : Type 0 where
 
 module _ (old mid new : State) (rows : List Row) (i : ℕ) (row : Row) (within : i < length rows) (is : row ≡ get_or rows i row) (rising : IsRising rows) where
   -- one more that was put
-  pub put_next : HasPut old mid (take i rows) → (HasCleanDisk new → IsTrue mid.in_transaction → Went mid new × Adds mid.now new.now row)
+  pub put_next : HasPut old mid (take i rows) → (HasCleanDisk new → IsTrue mid.in_transaction → Went mid new × AddsRow mid.now new.now row)
       → (HasCleanDisk new → IsTrue mid.in_transaction → KeepsCommit mid new) → Survives mid new (λ _. ⊥) → HasPut old new (take (i + 1) rows)
   put_next had went kept survives =
       let early : HasCleanDisk new → HasCleanDisk mid = λ clean. omega (arith, survives.clean) in

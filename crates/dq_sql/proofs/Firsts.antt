@@ -18,7 +18,7 @@ use Rattle.sqlite.specs.Effect.{Database}
 use Rattle.dq_tables.specs.declared.row.Kind.{Kind}
 use Rattle.dq_tables.specs.declared.row.Row.{Row}
 use Rattle.dq_tables.proofs.Order.{both_tests}
-use Rattle.dq_sql.specs.Tie.{kept_of, IsKept, HasRows}
+use Rattle.dq_sql.specs.Tie.{row_of_cells, IsKeptRow, HasRows}
 use Rattle.dq_sql.specs.Reading.{row_shown}
 use Rattle.dq_sql.specs.Choosing.{leading_nulls, EndsWithin}
 use Rattle.dq_sql.proofs.Queries.{of_tests, shown_columns}
@@ -99,8 +99,8 @@ module _ (at : ℕ) where
       )
 
   module _ (params : Values) (most : ℕ) (limit : eval (col 0 2) (params ∷ []) ≡ Int (pos most)) (kind : Kind) (inst : List ℕ) (keeps says : Row → Bool)
-      (finds : (r : Values) → IsKept r → passes of_tests params r ≡ keeps (kept_of r))
-      (said : (r : Values) → IsKept r → is_null (column r at) ≡ not (says (kept_of r)))
+      (finds : (r : Values) → IsKeptRow r → passes of_tests params r ≡ keeps (row_of_cells r))
+      (said : (r : Values) → IsKeptRow r → is_null (column r at) ≡ not (says (row_of_cells r)))
       (own : (row : Row) → (keeps row && not (says row)) ≡ true → (row.kind ≡ kind) × (row.inst ≡ inst)) where
     abbrev shown : Values → Values
     shown r = eval_all (shown_columns ++ col 1 at ∷ []) (with_row params r)
@@ -114,22 +114,22 @@ module _ (at : ℕ) where
     abbrev silent_row : Row → Bool
     silent_row row = keeps row && not (says row)
 
-    back_is : (r : Values) → silent_row (kept_of r) ≡ true → back r ≡ kept_of r
+    back_is : (r : Values) → silent_row (row_of_cells r) ≡ true → back r ≡ row_of_cells r
     back_is r e =
-        let whose = own (kept_of r) e in
-        ap₂ (λ k i. record { kind = k; inst = i; key = (kept_of r).key; above = (kept_of r).above; octets = (kept_of r).octets; started = (kept_of r).started })
+        let whose = own (row_of_cells r) e in
+        ap₂ (λ k i. record { kind = k; inst = i; key = (row_of_cells r).key; above = (row_of_cells r).above; octets = (row_of_cells r).octets; started = (row_of_cells r).started })
         (sym whose.0) (sym whose.1)
 
-    back_step : (r : Values) (rest : List Values) (b : Bool) → silent_row (kept_of r) ≡ b
-        → map back (filter silent_one rest) ≡ filter silent_row (map kept_of rest)
+    back_step : (r : Values) (rest : List Values) (b : Bool) → silent_row (row_of_cells r) ≡ b
+        → map back (filter silent_one rest) ≡ filter silent_row (map row_of_cells rest)
         → map back (if b then r ∷ filter silent_one rest else filter silent_one rest)
-        ≡ (if b then kept_of r ∷ filter silent_row (map kept_of rest) else filter silent_row (map kept_of rest))
+        ≡ (if b then row_of_cells r ∷ filter silent_row (map row_of_cells rest) else filter silent_row (map row_of_cells rest))
     back_step r rest true e on = ap₂ ◌∷◌ (back_is r e) on
     back_step r rest false e on = on
 
-    all_back : (tree : List Values) → AllByRecursion IsKept tree → map back (filter silent_one tree) ≡ filter silent_row (map kept_of tree)
+    all_back : (tree : List Values) → AllByRecursion IsKeptRow tree → map back (filter silent_one tree) ≡ filter silent_row (map row_of_cells tree)
     all_back [] h = refl
-    all_back (r ∷ rest) h = rw (finds r h.0, said r h.0) (back_step r rest (silent_row (kept_of r)) refl (all_back rest h.1))
+    all_back (r ∷ rest) h = rw (finds r h.0, said r h.0) (back_step r rest (silent_row (row_of_cells r)) refl (all_back rest h.1))
 
     all_led : (tree : List Values) → AllByRecursion IsLed (map (λ r. output (first_by at) (with_row params r)) tree)
     all_led [] = tt
@@ -159,8 +159,8 @@ module _ (at : ℕ) where
         filter-map ends_null shown passed ∙ ap (map shown) (both_tests (passes of_tests params) (λ (r : Values). is_null (column r at)) tree) in
         let seen : IsPermutation (map shown (filter silent_one tree)) silent =
         subst (λ l. IsPermutation (map shown (filter silent_one tree)) l) (sym whole) (subst (λ l. IsPermutation l (filter ends_null those)) nulls (IsPermutation-filter ends_null _ _ each)) in
-        let here : map (row_shown kind inst) (map shown (filter silent_one tree)) ≡ filter silent_row (map kept_of tree) =
+        let here : map (row_shown kind inst) (map shown (filter silent_one tree)) ≡ filter silent_row (map row_of_cells tree) =
         map_map shown (row_shown kind inst) (filter silent_one tree) ∙ all_back tree has.table.kept in
-        IsPermutation-trans (filter silent_row rows) (filter silent_row (map kept_of tree)) _
+        IsPermutation-trans (filter silent_row rows) (filter silent_row (map row_of_cells tree)) _
         (IsPermutation-sym _ _ (IsPermutation-filter silent_row _ _ has.table.same))
         (subst (λ l. IsPermutation l (map (row_shown kind inst) silent)) here (IsPermutation-map (row_shown kind inst) _ _ seen))

@@ -22,7 +22,7 @@ use Rattle.dq_tables.specs.declared.row.Row.{Row}
 use Rattle.dq_sql.specs.declared.version.Version.TheVariants.{Two}
 use Rattle.dq_sql.specs.Schema.{schema_of, kept_schema, kept_table}
 use Rattle.sqlite.specs.Values.{or_null}
-use Rattle.dq_sql.specs.Cells.{day_of, columns_of}
+use Rattle.dq_sql.specs.Cells.{day_cell, columns_of}
 use Rattle.dq_sql.proofs.Statements.{insert_text, terms, insert_is, insert_plain}
 
 either : (b : Bool) (x : Value) → cond b x x ≡ x
@@ -64,8 +64,8 @@ pub not_so : (b : Bool) → (not b && true) ≡ true → b ≡ false
 not_so true h = absurd cc
 not_so false h = refl
 
-pub day_cast : (row : Row) → cast Integer (day_of row) ≡ day_of row
-unfolding day_of
+pub day_cast : (row : Row) → cast Integer (day_cell row) ≡ day_cell row
+unfolding day_cell
 day_cast row = cast-day _
 
 pub inserted : (old new : State) (row : Row) (count : ℕ) → old.now.schema ≡ kept_schema → Executes insert_text (columns_of row) old new (Ok count)

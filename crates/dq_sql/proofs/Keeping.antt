@@ -9,13 +9,13 @@ use Rattle.dq_tables.specs.declared.row.Row.{Row}
 use Rattle.dq_tables.specs.declared.change.Change.{Change}
 use Rattle.dq_tables.specs.contracts.row.Row.{the_row}
 use Rattle.dq_tables.specs.Rows.{after, operation_of, IsRising}
-use Rattle.dq_tables.specs.Sound.{IsSound, Fits}
+use Rattle.dq_tables.specs.Sound.{IsSound, ChangeFits}
 use Rattle.dq_tables.proofs.Soundness.{change_sound}
 use Rattle.dq_sql.specs.Tie.{HasRows, Stays}
 use Rattle.dq_sql.specs.Filling.{IsFilled}
 use Rattle.dq_sql.specs.Reading.{HoldsOf}
 use Rattle.dq_sql.specs.Writing.{IsMade, IsUndone, Commits}
-use Rattle.dq_sql.specs.Keeping.{Keeps, MayLeave, under_schema}
+use Rattle.dq_sql.specs.Keeping.{KeepsSoundRows, MayLeave, under_schema}
 use Rattle.dq_sql.specs.Kept.{one_list, kept_sound}
 use Rattle.dq_sql.specs.declared.counts.Counts.{Counts}
 use Rattle.dq_sql.specs.Counts.{AreRight}
@@ -35,7 +35,7 @@ if_ok (Err e) P Q f h = tt
 
 -- what is kept of a connection
 abbrev pub Kept : Connected → List Row → Type 0
-Kept s rows = ∥ (HasCleanDisk s → Keeps s rows) ∥₁
+Kept s rows = ∥ (HasCleanDisk s → KeepsSoundRows s rows) ∥₁
 
 -- what is remembered of how many rows there are
 abbrev pub Counted : Connected → List Row → Counts → Type 0
@@ -73,7 +73,7 @@ module _ (old new : Connected) (rows : List Row) where
 
     -- a change that was made
     pub made_kept : HasCleanDisk old → (Settled : (trees : Trees) → IsTrue new.is_open → new.may_leave trees → trees ≡ new.committed.trees)
-        → Fits rows change → IsMade old new change → Keeps old rows → Keeps new changed
+        → ChangeFits rows change → IsMade old new change → KeepsSoundRows old rows → KeepsSoundRows new changed
     made_kept clean settled fits made it =
         let has = made.made rows (it.has made.was_open) fits in
         let sound = change_sound rows change it.sound fits in
@@ -88,19 +88,19 @@ module _ (old new : Connected) (rows : List Row) where
 
     -- where a change was made a crash leaves its rows and no others
     pub made_settles : (Settled : (trees : Trees) → IsTrue new.is_open → new.may_leave trees → trees ≡ new.committed.trees)
-        → Fits rows change → IsMade old new change → Keeps old rows → (r : List Row) → MayLeave new r → r ≡ changed
+        → ChangeFits rows change → IsMade old new change → KeepsSoundRows old rows → (r : List Row) → MayLeave new r → r ≡ changed
     made_settles settled fits made it r left =
         let has = made.made rows (it.has made.was_open) fits in
         let is : left.trees ≡ new.now.trees = settled left.trees made.is_open left.left ∙ ap (λ (d : Database). d.trees) made.committed in
         one_list (under_schema new.now.trees) r changed (subst (λ t. HasRows (under_schema t) r) is left.has) (under new.now changed has)
 
     -- the rows of what a change would have committed
-    committed_rows : (trees : Trees) → Fits rows change → Keeps old rows → Commits old change trees → HasRows (under_schema trees) changed
+    committed_rows : (trees : Trees) → ChangeFits rows change → KeepsSoundRows old rows → Commits old change trees → HasRows (under_schema trees) changed
     committed_rows trees fits it commits =
         subst (λ t. HasRows (under_schema t) changed) (sym commits.is) (under commits.after changed (commits.made rows (it.has commits.was_open) fits))
 
     -- a change that was not made
-    pub undone_kept : HasCleanDisk new → Fits rows change → (IsTrue new.is_open → IsUndone old new) → Survives old new (Commits old change) → Keeps old rows → Keeps new rows
+    pub undone_kept : HasCleanDisk new → ChangeFits rows change → (IsTrue new.is_open → IsUndone old new) → Survives old new (Commits old change) → KeepsSoundRows old rows → KeepsSoundRows new rows
     undone_kept clean fits undone survives it =
         record {
           sound = it.sound;
@@ -113,7 +113,7 @@ module _ (old new : Connected) (rows : List Row) where
         }
 
     -- then a crash leaves what it could leave before, or the rows with the change
-    pub undone_leaves : HasCleanDisk new → Kept old rows → (HasCleanDisk old → Fits rows change) → Survives old new (Commits old change)
+    pub undone_leaves : HasCleanDisk new → Kept old rows → (HasCleanDisk old → ChangeFits rows change) → Survives old new (Commits old change)
         → (r : List Row) → MayLeave new r → MayLeave old r ⊎ (r ≡ changed)
     undone_leaves clean kept fits survives r left =
         let before : HasCleanDisk old = omega (arith, survives.clean) in
@@ -125,8 +125,8 @@ module _ (old new : Connected) (rows : List Row) where
 
 -- and so it is of a change that it follows
 pub followed_counted : (old new : Connected) (rows : List Row) (change : Change) (before after_it : Counts) {P : Trees → Type 0} → Survives old new P → Kept old rows
-    → (HasCleanDisk old → Fits rows change) → Counted old rows before
-    → (IsRising rows → Fits rows change → AreRight rows before → AreRight (after (operation_of change) rows) after_it)
+    → (HasCleanDisk old → ChangeFits rows change) → Counted old rows before
+    → (IsRising rows → ChangeFits rows change → AreRight rows before → AreRight (after (operation_of change) rows) after_it)
     → Counted new (after (operation_of change) rows) after_it
 followed_counted old new rows change before after_it survives kept fits counted follows =
     ∥∥₁_map counted (λ right clean.
@@ -139,7 +139,7 @@ no_rows_sound = record { rising = tt; own = tt; held = tt }
 
 -- a store that was filled keeps its rows
 pub filled_keeps : (s : Connected) (rows : List Row) → ((trees : Trees) → IsTrue s.is_open → s.may_leave trees → trees ≡ s.committed.trees)
-    → IsSound rows → IsFilled s rows → Keeps s rows
+    → IsSound rows → IsFilled s rows → KeepsSoundRows s rows
 filled_keeps s rows settled sound filled = record {
   sound = sound;
   has = λ opened. filled.has;

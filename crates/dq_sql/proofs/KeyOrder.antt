@@ -12,8 +12,8 @@ use Rattle.std.proofs.lemmas.List.Sorted.{IsPermutation-trans, All-permutation}
 use Rattle.std.proofs.lemmas.List.Elements.{recursion_from_All, All-from_recursion}
 use Rattle.dq_tables.specs.declared.row.Kind.{Kind}
 use Rattle.dq_tables.specs.declared.row.Row.{Row}
-use Rattle.dq_tables.specs.Rows.{row_place_of, row_place_order, octet_order, kind_order, number_of, IsRising}
-use Rattle.dq_tables.specs.Finding.{is_of, rows_of}
+use Rattle.dq_tables.specs.Rows.{row_place_of, row_place_order, octet_order, kind_order, number_of_kind, IsRising}
+use Rattle.dq_tables.specs.Finding.{is_of_kind, rows_of}
 use Rattle.dq_tables.proofs.Order.{each_passed, each_filtered, IsRising-filter}
 use Rattle.dq_tables.proofs.OneOrder.{NeverFalls, in_order}
 use Rattle.dq_sql.proofs.Found.{sorted_tail}
@@ -37,7 +37,7 @@ module _ (kind : Kind) (inst : List ℕ) where
   by_keys : (a b : Row) → IsIn a → IsIn b → row_place_order (row_place_of a) (row_place_of b) ≡ octet_order a.key b.key
   by_keys a b p q =
       (λ i. ordering_then (ordering_then (kind_order (p.0 i) (q.0 i)) (octet_order (p.1 i) (q.1 i))) (octet_order a.key b.key))
-      ∙ (rw (tied_itself nat_cmp_total (number_of kind), tied_itself nat_list_cmp_total inst) refl)
+      ∙ (rw (tied_itself nat_cmp_total (number_of_kind kind), tied_itself nat_list_cmp_total inst) refl)
 
   falls_never : (rows : List Row) → AllByRecursion IsIn rows → IsSortedByKey key_of octet_order rows → NeverFalls rows
   falls_never [] own s = tt
@@ -50,8 +50,8 @@ module _ (kind : Kind) (inst : List ℕ) where
       → IsPermutation found sorted → IsSortedByKey key_of octet_order sorted → sorted ≡ filter test (rows_of kind inst rows)
   unfolding rows_of
   in_key_order test rows found sorted rising shown same s =
-      let those : List Row = filter (is_of kind inst) rows in
+      let those : List Row = filter (is_of_kind kind inst) rows in
       let whole = IsPermutation-trans _ _ _ shown same in
-      let own = each_filtered IsIn test those (each_passed IsIn (is_of kind inst) (of_own kind inst) rows) in
+      let own = each_filtered IsIn test those (each_passed IsIn (is_of_kind kind inst) (of_own kind inst) rows) in
       let all = recursion_from_All IsIn sorted (All-permutation IsIn _ sorted whole (All-from_recursion IsIn _ own)) in
-      in_order (filter test those) sorted (IsRising-filter test those (IsRising-filter (is_of kind inst) rows rising)) whole (falls_never sorted all s)
+      in_order (filter test those) sorted (IsRising-filter test those (IsRising-filter (is_of_kind kind inst) rows rising)) whole (falls_never sorted all s)

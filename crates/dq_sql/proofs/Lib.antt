@@ -5,6 +5,7 @@ mod Filled
 mod Found
 mod Inserted
 mod Judged
+mod Judgements
 mod Keeping
 mod Making
 mod Meaning

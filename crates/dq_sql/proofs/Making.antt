@@ -11,7 +11,7 @@ use Rattle.dq_tables.specs.Finding.{row_at}
 use Rattle.dq_tables.specs.Sound.{IsNew, IsNewIf}
 use Rattle.dq_tables.proofs.Soundness.{stored_is}
 use Rattle.dq_sql.specs.Tie.{HasRows}
-use Rattle.dq_sql.specs.Writing.{Adds, AddsIf, Replaces, StartsEach, Makes}
+use Rattle.dq_sql.specs.Writing.{AddsRow, AddsIf, Replaces, StartsEach, MakesChange}
 
 pub free_place : (rows : List Row) (kind : Kind) (row : Row) → IsNew rows kind row → row_at row.kind row.inst row.key rows ≡ None
 free_place rows kind row new = subst (λ (k : Kind). row_at k row.inst row.key rows ≡ None) (sym new.kind_is) new.free
@@ -23,8 +23,8 @@ added_if d e kind h (Some row) rows adds has own new =
     subst (λ (g : List ℕ). HasRows e (after_edit g (Put (record_of row)) rows)) own (adds rows has (free_place rows kind row new))
 
 module _ (d : Database) where
-  pub stored_made : (d1 d2 e : Database) (study series : Option Row) (image : Row) → AddsIf d d1 study → AddsIf d1 d2 series → Adds d2 e image
-      → Makes d e (Stored study series image)
+  pub stored_made : (d1 d2 e : Database) (study series : Option Row) (image : Row) → AddsIf d d1 study → AddsIf d1 d2 series → AddsRow d2 e image
+      → MakesChange d e (Stored study series image)
   stored_made d1 d2 e study series image first second third rows has fits =
       let h = image.inst in
       let has1 = added_if d d1 Study h study rows first has fits.study_of fits.study_new in
@@ -32,10 +32,10 @@ module _ (d : Database) where
       let more = after_edits h (put_if series) (after_edits h (put_if study) rows) in
       subst (HasRows e) (sym (stored_is rows study series image)) (third more has2 (free_place more Image image fits.image_new))
 
-  pub step_made : (e f : Database) (row : Row) (keys : List (List ℕ)) → Adds d e row → StartsEach e f row.inst keys → Makes d f (StepAdded row keys)
+  pub step_made : (e f : Database) (row : Row) (keys : List (List ℕ)) → AddsRow d e row → StartsEach e f row.inst keys → MakesChange d f (StepAdded row keys)
   step_made e f row keys adds starts rows has fits =
       starts (after_edit row.inst (Put (record_of row)) rows) (adds rows has (free_place rows Step row fits.step_new))
 
-  pub step_changed : (e : Database) (row : Row) → Replaces d e row → Makes d e (StepChanged row)
+  pub step_changed : (e : Database) (row : Row) → Replaces d e row → MakesChange d e (StepChanged row)
   step_changed e row replaces rows has fits =
       replaces rows has (subst (λ (k : Kind). is_some (row_at k row.inst row.key rows) ≡ true) (sym fits.kind_is) fits.there)

@@ -23,8 +23,8 @@ use Rattle.sqlite.proofs.Callers.{reads_as, one_permutation}
 use Rattle.dq_tables.specs.declared.row.Kind.{Kind}
 use Rattle.dq_tables.specs.declared.row.Kind.TheVariants.{Entry}
 use Rattle.dq_tables.specs.declared.row.Row.{Row}
-use Rattle.dq_tables.specs.Rows.{RowPlace, place, number_of, IsRising, row_place_of, row_place_order}
-use Rattle.dq_tables.specs.Finding.{same_kind, is_of, row_at, rows_of, rows_above, waiting}
+use Rattle.dq_tables.specs.Rows.{RowPlace, place, number_of_kind, IsRising, row_place_of, row_place_order}
+use Rattle.dq_tables.specs.Finding.{same_kind, is_of_kind, row_at, rows_of, rows_above, waiting_entries}
 use Rattle.dq_tables.proofs.InOrder.{is_eq_nat}
 use Rattle.dq_tables.proofs.Listing.{one_kind}
 use Rattle.dq_tables.proofs.Order.{rows_total, each_passed, filter_all, IsRising-filter, both_tests}
@@ -32,8 +32,8 @@ use Rattle.dq_sql.specs.declared.version.Version.{Version}
 use Rattle.dq_sql.specs.declared.version.Version.TheVariants.{One, Two}
 use Rattle.dq_sql.specs.Schema.{schema_of}
 use Rattle.dq_sql.specs.Cells.{flag}
-use Rattle.dq_sql.specs.Tie.{kept_of, IsKept, unstarted}
-use Rattle.dq_sql.specs.Reading.{ShowsNoWrite, HoldsOf, Shows, kept_shown, numbers_shown, IsCount, columns, row_shown}
+use Rattle.dq_sql.specs.Tie.{row_of_cells, IsKeptRow, as_unstarted}
+use Rattle.dq_sql.specs.Reading.{ShowsNoWrite, HoldsOf, Shows, kept_shown, numbers_shown, IsCount, selected_columns, row_shown}
 use Rattle.dq_sql.proofs.Queries.{Means, selecting, of_tests, at_tests, above_tests, waiting_tests, shown_columns, by_id, row_text, of_text, above_text, waiting_text, row_means, of_means, above_means, waiting_means, count_text, count_above_text, count_means, count_above_means, all_text, all_columns, by_place, all_means, version_text, version_means}
 use Rattle.dq_sql.proofs.Selecting.{with_row, passes, chosen, selection, selection_rows}
 use Rattle.dq_sql.proofs.Found.{found_rows, listed_rows}
@@ -51,10 +51,10 @@ answer_of version text q m params old new has answer h =
 -- ---- what WHERE tests
 
 abbrev pub of_params : Kind → List ℕ → Values → Values
-of_params kind inst more = Int (pos (number_of kind)) ∷ Text inst ∷ more
+of_params kind inst more = Int (pos (number_of_kind kind)) ∷ Text inst ∷ more
 
-pub kind_test : (v : Value) (a b : Kind) → v ≡ Int (pos (number_of a)) → equals v (Int (pos (number_of b))) ≡ same_kind a b
-kind_test v a b e = ap (λ w. equals w (Int (pos (number_of b)))) e ∙ equals-Int (number_of a) (number_of b) ∙ is_eq_nat (number_of a) (number_of b)
+pub kind_test : (v : Value) (a b : Kind) → v ≡ Int (pos (number_of_kind a)) → equals v (Int (pos (number_of_kind b))) ≡ same_kind a b
+kind_test v a b e = ap (λ w. equals w (Int (pos (number_of_kind b)))) e ∙ equals-Int (number_of_kind a) (number_of_kind b) ∙ is_eq_nat (number_of_kind a) (number_of_kind b)
 
 pub text_test : (v : Value) (s t : List ℕ) → v ≡ Text s → equals v (Text t) ≡ bytes_eq s t
 text_test v s t e = ap (λ w. equals w (Text t)) e ∙ equals-Text s t ∙ is_eq-slice_cmp s t
@@ -73,39 +73,39 @@ three true true false = refl
 three true false c = refl
 three false b c = refl
 
-pub of_finds : (kind : Kind) (inst : List ℕ) (more r : Values) → IsKept r → passes of_tests (of_params kind inst more) r ≡ is_of kind inst (kept_of r)
+pub of_finds : (kind : Kind) (inst : List ℕ) (more r : Values) → IsKeptRow r → passes of_tests (of_params kind inst more) r ≡ is_of_kind kind inst (row_of_cells r)
 of_finds kind inst more r h =
-    rw (kind_test (column r 1) (kept_of r).kind kind h.kind, text_test (column r 2) (kept_of r).inst inst h.inst)
-    (two (same_kind (kept_of r).kind kind) (bytes_eq (kept_of r).inst inst))
+    rw (kind_test (column r 1) (row_of_cells r).kind kind h.kind, text_test (column r 2) (row_of_cells r).inst inst h.inst)
+    (two (same_kind (row_of_cells r).kind kind) (bytes_eq (row_of_cells r).inst inst))
 
-at_finds : (kind : Kind) (inst key : List ℕ) (r : Values) → IsKept r
-    → passes at_tests (of_params kind inst (Blob key ∷ [])) r ≡ (is_of kind inst (kept_of r) && bytes_eq (kept_of r).key key)
+at_finds : (kind : Kind) (inst key : List ℕ) (r : Values) → IsKeptRow r
+    → passes at_tests (of_params kind inst (Blob key ∷ [])) r ≡ (is_of_kind kind inst (row_of_cells r) && bytes_eq (row_of_cells r).key key)
 at_finds kind inst key r h =
-    rw (kind_test (column r 1) (kept_of r).kind kind h.kind, text_test (column r 2) (kept_of r).inst inst h.inst, blob_test (column r 3) (kept_of r).key key h.key)
-    (three (same_kind (kept_of r).kind kind) (bytes_eq (kept_of r).inst inst) (bytes_eq (kept_of r).key key))
+    rw (kind_test (column r 1) (row_of_cells r).kind kind h.kind, text_test (column r 2) (row_of_cells r).inst inst h.inst, blob_test (column r 3) (row_of_cells r).key key h.key)
+    (three (same_kind (row_of_cells r).kind kind) (bytes_eq (row_of_cells r).inst inst) (bytes_eq (row_of_cells r).key key))
 
-above_finds : (kind : Kind) (inst above : List ℕ) (r : Values) → IsKept r
-    → passes above_tests (of_params kind inst (Blob above ∷ [])) r ≡ (is_of kind inst (kept_of r) && bytes_eq (kept_of r).above above)
+above_finds : (kind : Kind) (inst above : List ℕ) (r : Values) → IsKeptRow r
+    → passes above_tests (of_params kind inst (Blob above ∷ [])) r ≡ (is_of_kind kind inst (row_of_cells r) && bytes_eq (row_of_cells r).above above)
 above_finds kind inst above r h =
-    rw (kind_test (column r 1) (kept_of r).kind kind h.kind, text_test (column r 2) (kept_of r).inst inst h.inst, blob_test (column r 4) (kept_of r).above above h.above)
-    (three (same_kind (kept_of r).kind kind) (bytes_eq (kept_of r).inst inst) (bytes_eq (kept_of r).above above))
+    rw (kind_test (column r 1) (row_of_cells r).kind kind h.kind, text_test (column r 2) (row_of_cells r).inst inst h.inst, blob_test (column r 4) (row_of_cells r).above above h.above)
+    (three (same_kind (row_of_cells r).kind kind) (bytes_eq (row_of_cells r).inst inst) (bytes_eq (row_of_cells r).above above))
 
 not_started : (v : Value) (b : Bool) → v ≡ flag b → equals v (Int (pos 0)) ≡ not b
 not_started v true e = ap (λ w. equals w (Int (pos 0))) e ∙ equals-Int 1 0
 not_started v false e = ap (λ w. equals w (Int (pos 0))) e ∙ equals-Int 0 0
 
-waiting_finds : (inst : List ℕ) (r : Values) → IsKept r → passes waiting_tests (of_params Entry inst []) r ≡ (is_of Entry inst (kept_of r) && not (kept_of r).started)
+waiting_finds : (inst : List ℕ) (r : Values) → IsKeptRow r → passes waiting_tests (of_params Entry inst []) r ≡ (is_of_kind Entry inst (row_of_cells r) && not (row_of_cells r).started)
 waiting_finds inst r h =
-    rw (kind_test (column r 1) (kept_of r).kind Entry h.kind, text_test (column r 2) (kept_of r).inst inst h.inst, not_started (column r 8) (kept_of r).started h.started)
-    (three (same_kind (kept_of r).kind Entry) (bytes_eq (kept_of r).inst inst) (not (kept_of r).started))
+    rw (kind_test (column r 1) (row_of_cells r).kind Entry h.kind, text_test (column r 2) (row_of_cells r).inst inst h.inst, not_started (column r 8) (row_of_cells r).started h.started)
+    (three (same_kind (row_of_cells r).kind Entry) (bytes_eq (row_of_cells r).inst inst) (not (row_of_cells r).started))
 
-pub of_own : (kind : Kind) (inst : List ℕ) (row : Row) → is_of kind inst row ≡ true → (row.kind ≡ kind) × (row.inst ≡ inst)
+pub of_own : (kind : Kind) (inst : List ℕ) (row : Row) → is_of_kind kind inst row ≡ true → (row.kind ≡ kind) × (row.inst ≡ inst)
 of_own kind inst row h =
     let parts = and_parts (same_kind row.kind kind) (bytes_eq row.inst inst) h in
     (one_kind row.kind kind parts.0, (bytes_eq-Decides row.inst inst).0 parts.1)
 
-pub and_own : (kind : Kind) (inst : List ℕ) (test : Row → Bool) (row : Row) → (is_of kind inst row && test row) ≡ true → (row.kind ≡ kind) × (row.inst ≡ inst)
-and_own kind inst test row h = of_own kind inst row (and_parts (is_of kind inst row) (test row) h).0
+pub and_own : (kind : Kind) (inst : List ℕ) (test : Row → Bool) (row : Row) → (is_of_kind kind inst row && test row) ≡ true → (row.kind ≡ kind) × (row.inst ≡ inst)
+and_own kind inst test row h = of_own kind inst row (and_parts (is_of_kind kind inst row) (test row) h).0
 
 -- ---- the row at a place
 
@@ -121,11 +121,11 @@ only_first p (a ∷ b ∷ rest) found rising at h =
     absurd (let wrong : Less ≡ Equal = sym rising.0.0 ∙ tied in cc)
 
 abbrev keeps_at : Kind → List ℕ → List ℕ → Row → Bool
-keeps_at kind inst key row = is_of kind inst row && bytes_eq row.key key
+keeps_at kind inst key row = is_of_kind kind inst row && bytes_eq row.key key
 
 at_place : (kind : Kind) (inst key : List ℕ) (row : Row) → keeps_at kind inst key row ≡ true → row_place_of row ≡ place kind inst key
 at_place kind inst key row h =
-    let parts = and_parts (is_of kind inst row) (bytes_eq row.key key) h in
+    let parts = and_parts (is_of_kind kind inst row) (bytes_eq row.key key) h in
     let whose = of_own kind inst row parts.0 in
     λ i. place (whose.0 i) (whose.1 i) ((bytes_eq-Decides row.key key).0 parts.1 i)
 
@@ -154,7 +154,7 @@ module _ (old new : State) (kind : Kind) (inst : List ℕ) (answer : List Values
     of_rows = λ rows has.
         let params = of_params kind inst [] in
         let s = selection 0 of_tests shown_columns by_id old.now.trees params answer refl (answer_of Two of_text _ of_means params old new has.version_is.schema answer h) in
-        listed_rows of_tests params kind inst (is_of kind inst) (of_finds kind inst []) (of_own kind inst) old.now rows answer has s;
+        listed_rows of_tests params kind inst (is_of_kind kind inst) (of_finds kind inst []) (of_own kind inst) old.now rows answer has s;
   }
 
   pub found_above : (above : List ℕ) → Shown above_text (of_params kind inst (Blob above ∷ [])) old new answer
@@ -166,12 +166,12 @@ module _ (old new : State) (kind : Kind) (inst : List ℕ) (answer : List Values
         let params = of_params kind inst (Blob above ∷ []) in
         let under : Row → Bool = λ row. bytes_eq row.above above in
         let s = selection 0 above_tests shown_columns by_id old.now.trees params answer refl (answer_of Two above_text _ above_means params old new has.version_is.schema answer h) in
-        listed_rows above_tests params kind inst (λ row. is_of kind inst row && under row) (above_finds kind inst above) (and_own kind inst under) old.now rows answer has s
-        ∙ sym (both_tests (is_of kind inst) under rows);
+        listed_rows above_tests params kind inst (λ row. is_of_kind kind inst row && under row) (above_finds kind inst above) (and_own kind inst under) old.now rows answer has s
+        ∙ sym (both_tests (is_of_kind kind inst) under rows);
   }
 
 pub found_waiting : (old new : State) (inst : List ℕ) (answer : List Values) → Shown waiting_text (of_params Entry inst []) old new answer
-    → HoldsOf old (λ rows. map (row_shown Entry inst) answer ≡ waiting inst rows)
+    → HoldsOf old (λ rows. map (row_shown Entry inst) answer ≡ waiting_entries inst rows)
 unfolding rows_of
 found_waiting old new inst answer h = record {
   is_open = (shown_unchanged waiting_text (of_params Entry inst []) old new waiting_silent answer h).0.was_open;
@@ -179,8 +179,8 @@ found_waiting old new inst answer h = record {
       let params = of_params Entry inst [] in
       let waits : Row → Bool = λ row. not row.started in
       let s = selection 0 waiting_tests shown_columns by_id old.now.trees params answer refl (answer_of Two waiting_text _ waiting_means params old new has.version_is.schema answer h) in
-      listed_rows waiting_tests params Entry inst (λ row. is_of Entry inst row && waits row) (waiting_finds inst) (and_own Entry inst waits) old.now rows answer has s
-      ∙ sym (both_tests (is_of Entry inst) waits rows);
+      listed_rows waiting_tests params Entry inst (λ row. is_of_kind Entry inst row && waits row) (waiting_finds inst) (and_own Entry inst waits) old.now rows answer has s
+      ∙ sym (both_tests (is_of_kind Entry inst) waits rows);
 }
 
 count_is : (n number : ℕ) (answer : List Values) → answer ≡ (stored_count n ∷ []) ∷ [] → IsCount answer number → number ≡ n
@@ -199,7 +199,7 @@ module _ (old new : State) (kind : Kind) (inst : List ℕ) (answer : List Values
         let params = of_params kind inst [] in
         let one = count_answer of_tests old.now.trees params answer (answer_of Two count_text _ count_means params old new has.version_is.schema answer h) in
         count_is (length (chosen 0 of_tests old.now.trees params)) number answer one shown
-        ∙ size_found of_tests params (is_of kind inst) (of_finds kind inst []) old.now rows has;
+        ∙ size_found of_tests params (is_of_kind kind inst) (of_finds kind inst []) old.now rows has;
   }
 
   pub counted_above : (above : List ℕ) → Shown count_above_text (of_params kind inst (Blob above ∷ [])) old new answer → IsCount answer number
@@ -212,8 +212,8 @@ module _ (old new : State) (kind : Kind) (inst : List ℕ) (answer : List Values
         let under : Row → Bool = λ row. bytes_eq row.above above in
         let one = count_answer above_tests old.now.trees params answer (answer_of Two count_above_text _ count_above_means params old new has.version_is.schema answer h) in
         count_is (length (chosen 0 above_tests old.now.trees params)) number answer one shown
-        ∙ size_found above_tests params (λ row. is_of kind inst row && under row) (above_finds kind inst above) old.now rows has
-        ∙ ap length (sym (both_tests (is_of kind inst) under rows));
+        ∙ size_found above_tests params (λ row. is_of_kind kind inst row && under row) (above_finds kind inst above) old.now rows has
+        ∙ ap length (sym (both_tests (is_of_kind kind inst) under rows));
   }
 
 pub holds_weaker : (s : State) (P Q : List Row → Type 0) → ((rows : List Row) → P rows → Q rows) → HoldsOf s P → HoldsOf s Q
@@ -236,9 +236,9 @@ shows_tree version text tree shown order means silent old new at answer h = reco
       (selection_rows tree [] shown order old.now.trees [] answer s);
 }
 
-unstarted_shown : (tree : List Values) → map unstarted tree ≡ map columns (map unstarted tree)
+unstarted_shown : (tree : List Values) → map as_unstarted tree ≡ map selected_columns (map as_unstarted tree)
 unstarted_shown [] = refl
-unstarted_shown (r ∷ tree) = ap (λ l. unstarted r ∷ l) (unstarted_shown tree)
+unstarted_shown (r ∷ tree) = ap (λ l. as_unstarted r ∷ l) (unstarted_shown tree)
 
 pub shows_rows : (version : Version) (old new : State) (answer : List Values) → Shown (all_text version) [] old new answer → Shows version old (kept_shown version) answer
 shows_rows One old new answer h =

@@ -13,7 +13,7 @@ use Rattle.dq_sql.specs.declared.version.Version.TheVariants.{One}
 use Rattle.dq_sql.specs.Tie.{IsOfVersion, HasRowsOf, IsAtRest, IsSame, Stays}
 use Rattle.dq_tables.specs.Sound.{IsSound}
 use Rattle.dq_sql.specs.Filling.{HasThese, IsNotMade}
-use Rattle.dq_sql.specs.Migration.{fault_of, IsMigrated, IsNotTaken, IsNotMigrated}
+use Rattle.dq_sql.specs.Migration.{fault_of_migration, IsMigrated, IsNotTaken, IsNotMigrated}
 
 pub survives_itself : (s : State) (P : Trees → Type 0) → Survives s s P
 survives_itself s P = record {
@@ -55,15 +55,15 @@ not_blamed old left fault plain = record {
 }
 
 -- what the two faults of a store that fails are called
-pub plain_fault : (cause : StoreFault) → (cause ≡ store.NoMemory) ⊎ (cause ≡ store.Store) → IsPlain (fault_of cause)
-plain_fault cause (inl is) = inl (ap fault_of is)
-plain_fault cause (inr is) = inr (ap fault_of is)
+pub plain_fault : (cause : StoreFault) → (cause ≡ store.NoMemory) ⊎ (cause ≡ store.Store) → IsPlain (fault_of_migration cause)
+plain_fault cause (inl is) = inl (ap fault_of_migration is)
+plain_fault cause (inr is) = inr (ap fault_of_migration is)
 
 -- a fault by which the old store is refused
 pub told_by : (old left : State) (cause : StoreFault) → (HasCleanDisk left → cause ≡ store.WrongVersion → ¬ IsOfVersion One old.now)
     → (HasCleanDisk left → cause ≡ store.BadRows → IsOfVersion One old.now)
     → (HasCleanDisk left → cause ≡ store.BadRows → (rows : List Row) → HasRowsOf One old.now rows → ¬ IsSound rows)
-    → IsNotTaken old left (fault_of cause)
+    → IsNotTaken old left (fault_of_migration cause)
 told_by old left store.NoMemory wrong said bad = not_blamed old left NoMemory (inl refl)
 told_by old left store.Store wrong said bad = not_blamed old left Store (inr refl)
 told_by old left store.WrongVersion wrong said bad = record {

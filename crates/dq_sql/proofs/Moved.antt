@@ -19,15 +19,15 @@ use Rattle.sqlite.proofs.Callers.{one_permutation}
 use Rattle.dq_tables.specs.declared.row.Kind.{Kind}
 use Rattle.dq_tables.specs.declared.row.Kind.TheVariants.{Entry}
 use Rattle.dq_tables.specs.declared.row.Row.{Row}
-use Rattle.dq_tables.specs.Rows.{RowPlace, place, row_place_of, number_of, after_edit, Put, Remove, Start, record_of, kind_order, octet_order}
+use Rattle.dq_tables.specs.Rows.{RowPlace, place, row_place_of, number_of_kind, after_edit, Put, Remove, Start, record_of, kind_order, octet_order}
 use Rattle.dq_tables.proofs.Order.{is_at, each_filtered, each_passed}
 use Rattle.dq_tables.proofs.InOrder.{is_eq_then, is_eq_nat, row_at_is}
 use Rattle.dq_tables.proofs.Listing.{one_kind}
 use Rattle.dq_tables.proofs.Lens.{rising_edit}
 use Rattle.dq_sql.specs.declared.version.Version.TheVariants.{Two}
 use Rattle.dq_sql.specs.Schema.{kept_table}
-use Rattle.dq_sql.specs.Cells.{patient_of, day_of, flag, columns_of}
-use Rattle.dq_sql.specs.Tie.{kept_of, IsKept, same_id, HoldsRows, HasRows}
+use Rattle.dq_sql.specs.Cells.{patient_cell, day_cell, flag, columns_of}
+use Rattle.dq_sql.specs.Tie.{row_of_cells, IsKeptRow, same_id, TableHoldsRows, HasRows}
 use Rattle.dq_sql.specs.Writing.{Replaces, Removes, Starts}
 use Rattle.dq_sql.proofs.Statements.{changed, begun}
 use Rattle.dq_tables.proofs.Members.{removed_has}
@@ -63,7 +63,7 @@ at_place p row h =
     let second = both (is_eq (kind_order row.kind p.kind)) (is_eq (octet_order row.inst p.institution))
     (sym (is_eq_then (kind_order row.kind p.kind) (octet_order row.inst p.institution)) ∙ first.0) in
     record {
-      kind = one_kind row.kind p.kind (sym (is_eq_nat (number_of row.kind) (number_of p.kind)) ∙ second.0);
+      kind = one_kind row.kind p.kind (sym (is_eq_nat (number_of_kind row.kind) (number_of_kind p.kind)) ∙ second.0);
       institution = (bytes_eq-Decides row.inst p.institution).0 (sym (is_eq-slice_cmp row.inst p.institution) ∙ second.1);
       key = (bytes_eq-Decides row.key p.key).0 (sym (is_eq-slice_cmp row.key p.key) ∙ first.1);
     }
@@ -78,12 +78,12 @@ module _ (p : RowPlace) (d : Database) (rows : List Row) (has : HasRows d rows) 
   the_id : (x : Values) → filter (holds_at p) (d.trees 0) ≡ x ∷ [] → rowid x ≡ Int (id_in (rowid x))
   the_id x one = int_of (rowid x) (subst (AllByRecursion (λ r. IsTrue (is_int (rowid r)))) one (each_filtered _ (holds_at p) (d.trees 0) has.table.ids)).0
 
-  is_kept : (x : Values) → filter (holds_at p) (d.trees 0) ≡ x ∷ [] → IsKept x
-  is_kept x one = (subst (AllByRecursion IsKept) one (each_filtered IsKept (holds_at p) (d.trees 0) has.table.kept)).0
+  is_kept : (x : Values) → filter (holds_at p) (d.trees 0) ≡ x ∷ [] → IsKeptRow x
+  is_kept x one = (subst (AllByRecursion IsKeptRow) one (each_filtered IsKeptRow (holds_at p) (d.trees 0) has.table.kept)).0
 
-  is_there : (x : Values) → filter (holds_at p) (d.trees 0) ≡ x ∷ [] → IsAtPlace p (kept_of x)
+  is_there : (x : Values) → filter (holds_at p) (d.trees 0) ≡ x ∷ [] → IsAtPlace p (row_of_cells x)
   is_there x one =
-      at_place p (kept_of x) (subst (AllByRecursion (λ r. holds_at p r ≡ true)) one (each_passed (λ r. holds_at p r ≡ true) (holds_at p) (λ r h. h) (d.trees 0))).0
+      at_place p (row_of_cells x) (subst (AllByRecursion (λ r. holds_at p r ≡ true)) one (each_passed (λ r. holds_at p r ≡ true) (holds_at p) (λ r h. h) (d.trees 0))).0
 
   -- the one row that is found has the id
   shown_one : (f : Values → Values) (found : List Values) (x : Values) → IsPermutation (map f (filter (holds_at p) (d.trees 0))) found
@@ -110,8 +110,8 @@ removed d e kind institution key it rows has =
       table = record {
         apart = rw left (apart_filter _ (d.trees 0) has.table.apart);
         ids = rw left (each_filtered _ _ (d.trees 0) has.table.ids);
-        kept = rw left (each_filtered IsKept _ (d.trees 0) has.table.kept);
-        same = rw left (subst (IsPermutation (map kept_of (filter (λ r. not (q r)) (d.trees 0)))) (sym (removed_has kind institution key rows has.table.rising)) (others_same p (d.trees 0) rows has.table.same));
+        kept = rw left (each_filtered IsKeptRow _ (d.trees 0) has.table.kept);
+        same = rw left (subst (IsPermutation (map row_of_cells (filter (λ r. not (q r)) (d.trees 0)))) (sym (removed_has kind institution key rows has.table.rising)) (others_same p (d.trees 0) rows has.table.same));
         rising = rising_edit institution (Remove kind key) rows has.table.rising;
       };
     }
@@ -140,7 +140,7 @@ moved_one d e row params project it rows has x one shows =
     let fresh : are_fresh left (new ∷ []) ≡ true =
     sym (ap (λ l. are_fresh l (recasts it.found)) base ∙ ap (are_fresh left) news) ∙ it.edits.fresh in
     placed row id d e left rows has it.edits.schema it.edits.database it.edits.version is (not_so (is_taken left new) fresh)
-    (apart_filter _ (d.trees 0) has.table.apart) (each_filtered _ _ (d.trees 0) has.table.ids) (each_filtered IsKept _ (d.trees 0) has.table.kept)
+    (apart_filter _ (d.trees 0) has.table.apart) (each_filtered _ _ (d.trees 0) has.table.ids) (each_filtered IsKeptRow _ (d.trees 0) has.table.kept)
     (others_same p (d.trees 0) rows has.table.same)
 
 pub replaced : (d e : Database) (row : Row) → Updated d e (row_place_of row) (columns_of row) changed → Replaces d e row
@@ -157,15 +157,15 @@ replaced d e row it rows has there =
         let kept = is_kept p d rows has x one in
         let at = is_there p d rows has x one in
         let id = the_id p d rows has x one in
-        let kind = kept.kind ∙ ap (λ k. Int (pos (number_of k))) at.kind in
+        let kind = kept.kind ∙ ap (λ k. Int (pos (number_of_kind k))) at.kind in
         let inst = kept.inst ∙ ap Text at.institution in
         let key = kept.key ∙ ap Blob at.key in
-        λ i. rowid x ∷ id i ∷ kind i ∷ inst i ∷ key i ∷ Blob row.above ∷ patient_of row ∷ day_of row ∷ Blob row.octets ∷ flag row.started ∷ []
+        λ i. rowid x ∷ id i ∷ kind i ∷ inst i ∷ key i ∷ Blob row.above ∷ patient_cell row ∷ day_cell row ∷ Blob row.octets ∷ flag row.started ∷ []
 
 -- ---- an entry that is started
 
-begun_shows : (x : Values) (id : ℤ) → rowid x ≡ Int id → IsKept x → (params : Values) → eval_all begun (params ∷ x ∷ []) ≡ rowid x ∷ Int id ∷ columns_of (started (kept_of x))
-unfolding patient_of day_of labels.patient_of labels.day_of
+begun_shows : (x : Values) (id : ℤ) → rowid x ≡ Int id → IsKeptRow x → (params : Values) → eval_all begun (params ∷ x ∷ []) ≡ rowid x ∷ Int id ∷ columns_of (started (row_of_cells x))
+unfolding patient_cell day_cell labels.patient_of labels.day_of
 begun_shows x id is kept params =
     λ i. rowid x ∷ is i ∷ kept.kind i ∷ kept.inst i ∷ kept.key i ∷ kept.above i ∷ kept.patient i ∷ kept.day i ∷ kept.octets i ∷ Int (pos 1) ∷ []
 
@@ -183,16 +183,16 @@ module _ (d e : Database) (institution key : List ℕ) (it : Updated d e (place 
       subst (HasRows e) (sym (start_of_none institution key rows has.table.rising free)) (record {
         version_is = record { schema = it.edits.schema; says = rw it.edits.version has.version_is.says };
         database = it.edits.database;
-        table = subst (λ t. HoldsRows t rows) (sym is) has.table;
+        table = subst (λ t. TableHoldsRows t rows) (sym is) has.table;
       })
 
   moved : (x : Values) → filter (holds_at p) (d.trees 0) ≡ x ∷ [] → HasRows e (after_edit institution (Start key) rows)
   moved x one =
-      let row = started (kept_of x) in
+      let row = started (row_of_cells x) in
       let at = is_there p d rows has x one in
       let there : row_place_of row ≡ p = λ i. place (at.kind i) (at.institution i) (at.key i) in
       let found = one_there p (d.trees 0) rows has.table.same x one in
-      subst (HasRows e) (sym (start_is_put institution key rows (kept_of x) found))
+      subst (HasRows e) (sym (start_is_put institution key rows (row_of_cells x) found))
       (moved_one d e row (at_params Entry institution key) begun (subst (λ q. Updated d e q (at_params Entry institution key) begun) (sym there) it) rows has x
       (subst (λ q. filter (holds_at q) (d.trees 0) ≡ x ∷ []) (sym there) one)
       (begun_shows x (id_in (rowid x)) (the_id p d rows has x one) (is_kept p d rows has x one) (at_params Entry institution key)))

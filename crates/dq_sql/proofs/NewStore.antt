@@ -29,7 +29,7 @@ use Rattle.dq_sql.specs.Tie.{HasRows}
 use Rattle.sqlite.proofs.Callers.{statement_of, runs_as, one_step}
 use Rattle.dq_sql.specs.declared.version.Version.TheVariants.{Two}
 use Rattle.dq_sql.specs.Schema.{schema_of, kept_table, version_table, above_index, patient_index, day_index, started_index, kept_schema}
-use Rattle.dq_sql.specs.Making.{no_schema, with_kept, with_indexes, MakesKept, MakesVersion, TakesSchema, MakesIndex, MakesIndexes, SaysVersion, GoesOn}
+use Rattle.dq_sql.specs.Making.{no_schema, with_kept, with_indexes, MakesKept, MakesVersion, TakesSchema, MakesIndex, MakesIndexes, SaysVersion, StoreGoesOn}
 use Rattle.dq_sql.proofs.Texts.{kept_text, version_text, number_text, number_terms, MakesIt, kept_is, version_is, number_is, both_made, all_made, kept_plain, version_plain, number_plain}
 
 -- a part that gave a value did not stop on the way
@@ -40,7 +40,7 @@ went (inr on) = on
 same_value : {B E : Type 0} {a b : B} → ◌≡◌ {A = Result B E} (Ok a) (Ok b) → a ≡ b
 same_value e = cc
 
-pub goes_on : (sql : List ℕ) (old new : State) (count : ℕ) → ExecutesInside 0 sql [] old new (Ok count) → GoesOn old new
+pub goes_on : (sql : List ℕ) (old new : State) (count : ℕ) → ExecutesInside 0 sql [] old new (Ok count) → StoreGoesOn old new
 goes_on sql old new count h = record { was_open = h.1.was_open; is_open = h.1.is_open; committed = h.1.committed_is; inside = h.1.mode }
 
 pub makes_kept : (old new : State) (count : ℕ) → ExecutesInside 0 kept_text [] old new (Ok count) → MakesKept old.now new.now

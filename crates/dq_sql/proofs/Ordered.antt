@@ -7,19 +7,18 @@ use Rattle.std.specs.declared.cmp.Ordering.{Ordering}
 use Rattle.std.specs.declared.cmp.Ordering.TheVariants.{Less, Equal, Greater}
 use Rattle.std.proofs.lemmas.List.Sorted.{IsPermutation-sym, IsPermutation-trans, IsPermutation-cons, IsPermutation-refl, IsPermutation-to_front, Contains-permutation}
 use Rattle.std.proofs.lemmas.Map.Keys.{IsDistinct-IsPermutation}
+use Rattle.dq_list.specs.Octets.{AreOctets}
 use Rattle.sqlite_value.specs.Order.{Row as Values}
-use Rattle.dq_dataset.specs.Grammar.{AreOctets}
 use Rattle.dq_tables.specs.declared.row.Kind.{Kind}
 use Rattle.dq_tables.specs.declared.row.Row.{Row}
 use Rattle.dq_tables.specs.Rows.{IsRising, place, row_place_of, row_place_order, after_edit, Put, record_of}
-use Rattle.dq_tables.specs.Finding.{row_at, IsThere, IsFree}
+use Rattle.dq_tables.specs.Finding.{row_at, IsAtIndex, IsFree}
 use Rattle.dq_tables.proofs.Order.{rows_total, is_at}
 use Rattle.dq_tables.proofs.InOrder.{row_at_is}
 use Rattle.dq_tables.proofs.OneOrder.{rising_distinct}
 use Rattle.dq_tables.proofs.Members.{added_has}
-use Rattle.dq_sql.specs.declared.fault.StoreFault.{StoreFault}
-use Rattle.dq_sql.specs.Tie.{kept_of}
-use Rattle.dq_sql.specs.Adopting.{HoldOctets, IsTaken, IsGood, AreGood}
+use Rattle.dq_sql.specs.Tie.{row_of_cells}
+use Rattle.dq_sql.specs.Adopting.{HoldOctets, IsPlaceTaken, IsGood, AreGood}
 
 within : {X : Type 0} (xs : List X) (at : ℕ) → at < length xs → is_some (slice_get xs at) ≡ true
 within [] at h = absurd (omega arith)
@@ -27,7 +26,7 @@ within (x ∷ xs) zero h = refl
 within (x ∷ xs) (suc at) h = within xs at (omega arith)
 
 pub there_is : (kind : Kind) (institution key : List ℕ) (rows : List Row) (r : Result ℕ ℕ)
-    → MatchResult r (IsThere (place kind institution key) rows) (IsFree (place kind institution key) rows)
+    → MatchResult r (IsAtIndex (place kind institution key) rows) (IsFree (place kind institution key) rows)
     → is_ok r ≡ is_some (row_at kind institution key rows)
 there_is kind institution key rows (Ok at) there = sym (ap is_some there.found ∙ within rows at there.within)
 there_is kind institution key rows (Err at) free = sym (ap is_some free.found)
@@ -45,8 +44,8 @@ put_adds row kept rows room new same roomy rising free is =
     subst (λ (k : Row). IsPermutation (k ∷ rows) new) same
     (subst (IsPermutation (row ∷ rows)) made (added_has row rows rising (none_inside _ free)))
 
-pub kept_taken : (row kept : Row) (rows : List Row) → row ≡ kept → is_some (row_at row.kind row.inst row.key rows) ≡ true → IsTaken rows kept
-kept_taken row kept rows same taken = subst (IsTaken rows) same taken
+pub kept_taken : (row kept : Row) (rows : List Row) → row ≡ kept → is_some (row_at row.kind row.inst row.key rows) ≡ true → IsPlaceTaken rows kept
+kept_taken row kept rows same taken = subst (IsPlaceTaken rows) same taken
 
 head_in : {X : Type 0} (x : X) (xs : List X) → Contains (x ∷ xs) x
 head_in x xs = (0, omega arith, refl)
@@ -89,7 +88,7 @@ is_eq_reverse Greater = refl
 flips : (a b : Row) → same_place a b ≡ same_place b a
 flips a b = is_eq_reverse (row_place_order (row_place_of a) (row_place_of b)) ∙ ap is_eq (sym (rows_total.antisymm (row_place_of b) (row_place_of a)))
 
-at_middle : {X : Type 0} (P : X → Type 0) (done : List X) (x : X) (more : List X) → AllByRecursion P (done ++ x ∷ more) → P x
+pub at_middle : {X : Type 0} (P : X → Type 0) (done : List X) (x : X) (more : List X) → AllByRecursion P (done ++ x ∷ more) → P x
 at_middle P [] x more h = h.0
 at_middle P (d ∷ done) x more h = at_middle P done x more h.1
 
@@ -102,47 +101,44 @@ none_found : (q : Row → Bool) (rows : List Row) → AllByRecursion (λ r. q r 
 none_found q [] h = refl
 none_found q (r ∷ rows) h = rw h.0 (none_found q rows h.1)
 
-map_split : (done : List Values) (x : Values) (more : List Values) → map kept_of (done ++ x ∷ more) ≡ map kept_of done ++ kept_of x ∷ map kept_of more
+map_split : (done : List Values) (x : Values) (more : List Values) → map row_of_cells (done ++ x ∷ more) ≡ map row_of_cells done ++ row_of_cells x ∷ map row_of_cells more
 map_split [] x more = refl
-map_split (d ∷ done) x more = ap (λ l. kept_of d ∷ l) (map_split done x more)
+map_split (d ∷ done) x more = ap (λ l. row_of_cells d ∷ l) (map_split done x more)
 
 -- The place of a row is free of those before it, where all are rows of one order.
-free_before : (done more : List Values) (x : Values) (rows all : List Row) → IsPermutation (map kept_of done) rows
-    → IsPermutation (map kept_of (done ++ x ∷ more)) all → IsRising all → ¬ IsTaken rows (kept_of x)
+free_before : (done more : List Values) (x : Values) (rows all : List Row) → IsPermutation (map row_of_cells done) rows
+    → IsPermutation (map row_of_cells (done ++ x ∷ more)) all → IsRising all → ¬ IsPlaceTaken rows (row_of_cells x)
 free_before done more x rows all some every rising taken =
-    let apart = IsDistinct-IsPermutation same_place flips all (map kept_of (done ++ x ∷ more)) (IsPermutation-sym _ all every) (rising_distinct all rising) in
-    let free = before_apart (map kept_of done) (kept_of x) (map kept_of more) (subst (IsDistinct same_place) (map_split done x more) apart) in
-    let none = none_found (is_at (row_place_of (kept_of x))) rows (each_moved (λ d. same_place d (kept_of x) ≡ false) _ rows some free) in
-    let no : is_some (row_at (kept_of x).kind (kept_of x).inst (kept_of x).key rows) ≡ false = ap is_some (row_at_is (row_place_of (kept_of x)) rows ∙ none) in
+    let apart = IsDistinct-IsPermutation same_place flips all (map row_of_cells (done ++ x ∷ more)) (IsPermutation-sym _ all every) (rising_distinct all rising) in
+    let free = before_apart (map row_of_cells done) (row_of_cells x) (map row_of_cells more) (subst (IsDistinct same_place) (map_split done x more) apart) in
+    let none = none_found (is_at (row_place_of (row_of_cells x))) rows (each_moved (λ d. same_place d (row_of_cells x) ≡ false) _ rows some free) in
+    let no : is_some (row_at (row_of_cells x).kind (row_of_cells x).inst (row_of_cells x).key rows) ≡ false = ap is_some (row_at_is (row_place_of (row_of_cells x)) rows ∙ none) in
     let wrong : true ≡ false = sym taken ∙ no in cc
 
-each_and : {X : Type 0} (P : X → Type 0) (xs : List X) (x : X) → AllByRecursion P xs → P x → AllByRecursion P (xs ++ x ∷ [])
+pub each_and : {X : Type 0} (P : X → Type 0) (xs : List X) (x : X) → AllByRecursion P xs → P x → AllByRecursion P (xs ++ x ∷ [])
 each_and P [] x all last = (last, tt)
 each_and P (y ∷ ys) x all last = (all.0, each_and P ys x all.1 last)
 
-last_first : (done : List Values) (x : Values) → IsPermutation (map kept_of (done ++ x ∷ [])) (kept_of x ∷ map kept_of done)
-last_first done x = subst (λ l. IsPermutation l (kept_of x ∷ map kept_of done)) (sym (map_split done x [])) (IsPermutation-to_front (map kept_of done) (kept_of x))
+last_first : (done : List Values) (x : Values) → IsPermutation (map row_of_cells (done ++ x ∷ [])) (row_of_cells x ∷ map row_of_cells done)
+last_first done x = subst (λ l. IsPermutation l (row_of_cells x ∷ map row_of_cells done)) (sym (map_split done x [])) (IsPermutation-to_front (map row_of_cells done) (row_of_cells x))
 
 -- a good row that is added
 pub good_next : (done : List Values) (x : Values) (rows new : List Row) → AreGood done rows → IsGood x
-    → IsPermutation (kept_of x ∷ rows) new → IsRising new → AreGood (done ++ x ∷ []) new
+    → IsPermutation (row_of_cells x ∷ rows) new → IsRising new → AreGood (done ++ x ∷ []) new
 good_next done x rows new good is_good added rising = record {
   each = each_and IsGood done x good.each is_good;
-  same = IsPermutation-trans _ (kept_of x ∷ rows) new
-      (IsPermutation-trans _ (kept_of x ∷ map kept_of done) _ (last_first done x) (IsPermutation-cons (kept_of x) _ rows good.same)) added;
+  same = IsPermutation-trans _ (row_of_cells x ∷ rows) new
+      (IsPermutation-trans _ (row_of_cells x ∷ map row_of_cells done) _ (last_first done x) (IsPermutation-cons (row_of_cells x) _ rows good.same)) added;
   rising = rising;
 }
 
 -- a row that is bad, or whose place is taken, is none of good ones
 pub bad_next : (found done more : List Values) (x : Values) (rows : List Row) → done ++ x ∷ more ≡ found → AreGood done rows
-    → (IsGood x → IsTaken rows (kept_of x)) → (all : List Row) → ¬ AreGood found all
+    → (IsGood x → IsPlaceTaken rows (row_of_cells x)) → (all : List Row) → ¬ AreGood found all
 bad_next found done more x rows whole good bad all every =
     let is_good = at_middle IsGood done x more (subst (AllByRecursion IsGood) (sym whole) every.each) in
-    free_before done more x rows all good.same (subst (λ l. IsPermutation (map kept_of l) all) (sym whole) every.same) every.rising (bad is_good)
+    free_before done more x rows all good.same (subst (λ l. IsPermutation (map row_of_cells l) all) (sym whole) every.same) every.rising (bad is_good)
 
 pub none_good : AreGood [] []
 unfolding IsRising
 none_good = record { each = tt; same = IsPermutation-refl []; rising = tt }
-
-pub same_fault : {A : Type 0} (a b : StoreFault) → ◌≡◌ {A = Result A StoreFault} (Err a) (Err b) → a ≡ b
-same_fault a b e = cc

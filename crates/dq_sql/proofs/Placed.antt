@@ -15,10 +15,10 @@ use Rattle.sqlite_sql.specs.Term.{holds}
 use Rattle.std.proofs.Common.{Some}
 use Rattle.dq_tables.specs.declared.row.Kind.{Kind}
 use Rattle.dq_tables.specs.declared.row.Row.{Row}
-use Rattle.dq_tables.specs.Rows.{place, number_of, octet_order, kind_order}
+use Rattle.dq_tables.specs.Rows.{place, number_of_kind, octet_order, kind_order}
 use Rattle.dq_tables.proofs.Order.{is_at}
 use Rattle.dq_tables.proofs.InOrder.{is_eq_then}
-use Rattle.dq_sql.specs.Tie.{kept_of, IsKept}
+use Rattle.dq_sql.specs.Tie.{row_of_cells, IsKeptRow}
 use Rattle.dq_sql.proofs.Statements.{at_place}
 
 -- whether two values are equal, as WHERE tests it
@@ -50,15 +50,15 @@ grouped true true false = refl
 grouped true false c = refl
 grouped false b c = refl
 
-tests_are : (kind : Kind) (inst key : List ℕ) (row : Row) (a b c : Value) → a ≡ Int (pos (number_of row.kind)) → b ≡ Text row.inst → c ≡ Blob row.key
-    → (equals a (Int (pos (number_of kind))) && (equals b (Text inst) && (equals c (Blob key) && true))) ≡ is_at (place kind inst key) row
+tests_are : (kind : Kind) (inst key : List ℕ) (row : Row) (a b c : Value) → a ≡ Int (pos (number_of_kind row.kind)) → b ≡ Text row.inst → c ≡ Blob row.key
+    → (equals a (Int (pos (number_of_kind kind))) && (equals b (Text inst) && (equals c (Blob key) && true))) ≡ is_at (place kind inst key) row
 tests_are kind inst key row a b c p q r =
-    rw (p, q, r, equals-Int (number_of row.kind) (number_of kind), equals-Text row.inst inst, equals-Blob row.key key)
+    rw (p, q, r, equals-Int (number_of_kind row.kind) (number_of_kind kind), equals-Text row.inst inst, equals-Blob row.key key)
     (grouped (is_eq (kind_order row.kind kind)) (is_eq (octet_order row.inst inst)) (is_eq (octet_order row.key key)) ∙ ap (λ b. b && is_eq (octet_order row.key key)) (sym (is_eq_then (kind_order row.kind kind) (octet_order row.inst inst)))
     ∙ sym (is_eq_then (ordering_then (kind_order row.kind kind) (octet_order row.inst inst)) (octet_order row.key key)))
 
 -- WHERE finds the rows at the place
-pub finds_place : (kind : Kind) (inst key : List ℕ) (more : Values) (r : Values) → IsKept r
-    → list_all (holds ((Int (pos (number_of kind)) ∷ Text inst ∷ Blob key ∷ more) ∷ r ∷ [])) at_place ≡ is_at (place kind inst key) (kept_of r)
+pub finds_place : (kind : Kind) (inst key : List ℕ) (more : Values) (r : Values) → IsKeptRow r
+    → list_all (holds ((Int (pos (number_of_kind kind)) ∷ Text inst ∷ Blob key ∷ more) ∷ r ∷ [])) at_place ≡ is_at (place kind inst key) (row_of_cells r)
 finds_place kind inst key more r h =
-    tests_are kind inst key (kept_of r) (column r 1) (column r 2) (column r 3) h.kind h.inst h.key
+    tests_are kind inst key (row_of_cells r) (column r 1) (column r 2) (column r 3) h.kind h.inst h.key

@@ -92,6 +92,9 @@ count_text = codes "SELECT count(*) FROM kept WHERE kind = ?1 AND inst = ?2"
 abbrev pub count_above_text : List ℕ
 count_above_text = codes "SELECT count(*) FROM kept WHERE kind = ?1 AND inst = ?2 AND above = ?3"
 
+abbrev pub told_text : List ℕ
+told_text = codes "SELECT count(*) FROM kept"
+
 abbrev pub all_text : Version → List ℕ
 all_text One = codes "SELECT rowid, kind, inst, id, above, patient, day, octets, 0 FROM kept ORDER BY kind, inst, id"
 all_text Two = codes "SELECT rowid, kind, inst, id, above, patient, day, octets, started FROM kept ORDER BY kind, inst, id"

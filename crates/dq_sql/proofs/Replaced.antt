@@ -22,11 +22,11 @@ use Rattle.sqlite.proofs.Callers.{IsPlain, command_of, statement_of, runs_as, on
 use Rattle.dq_tables.specs.declared.row.Kind.{Kind}
 use Rattle.dq_tables.specs.declared.row.Kind.TheVariants.{Entry}
 use Rattle.dq_tables.specs.declared.row.Row.{Row}
-use Rattle.dq_tables.specs.Rows.{RowPlace, place, row_place_of, number_of}
+use Rattle.dq_tables.specs.Rows.{RowPlace, place, row_place_of, number_of_kind}
 use Rattle.dq_sql.specs.declared.version.Version.TheVariants.{Two}
 use Rattle.dq_sql.specs.Schema.{schema_of, kept_schema, kept_table}
 use Rattle.dq_sql.specs.Cells.{columns_of}
-use Rattle.dq_sql.specs.Tie.{IsKept}
+use Rattle.dq_sql.specs.Tie.{IsKeptRow}
 use Rattle.dq_sql.proofs.Statements.{update_text, start_text, delete_text, selecting, changed, begun, update_is, start_is, delete_is, update_plain, start_plain, delete_plain}
 use Rattle.dq_sql.proofs.Inserted.{went, same_value}
 use Rattle.dq_sql.proofs.Selected.{holds_at, selected}
@@ -41,7 +41,7 @@ pub record Edits (d e : Database) (ids : List ℤ) (news : List Values) : Type 0
 
 -- the parameters of a statement on the row at a place
 abbrev pub at_params : Kind → List ℕ → List ℕ → Values
-at_params kind institution key = Int (pos (number_of kind)) ∷ Text institution ∷ Blob key ∷ []
+at_params kind institution key = Int (pos (number_of_kind kind)) ∷ Text institution ∷ Blob key ∷ []
 
 -- The rows that DELETE finds are taken out.
 pub record Deleted (d e : Database) (kind : Kind) (institution key : List ℕ) : Type 0 where
@@ -49,7 +49,7 @@ pub record Deleted (d e : Database) (kind : Kind) (institution key : List ℕ) :
   pub shown : IsPermutation (map (λ r. rowid r ∷ []) (filter (holds_at (place kind institution key)) (d.trees 0))) found
   pub edits : Edits d e (ids_of found) []
 
-pub deleted : (old new : State) (kind : Kind) (institution key : List ℕ) (count : ℕ) → old.now.schema ≡ kept_schema → AllByRecursion IsKept (old.now.trees 0)
+pub deleted : (old new : State) (kind : Kind) (institution key : List ℕ) (count : ℕ) → old.now.schema ≡ kept_schema → AllByRecursion IsKeptRow (old.now.trees 0)
     → Executes delete_text (at_params kind institution key) old new (Ok count) → Deleted old.now new.now kind institution key
 unfolding schema_of
 deleted old new kind institution key count has kept h =
@@ -84,11 +84,11 @@ pub record Updated (d e : Database) (p : RowPlace) (params : Values) (project : 
 
 updated_by : (text : List ℕ) (project : List Term) → command_of (understood kept_schema text) ≡ Update 0 (record { lets = []; body = selecting project })
     → IsPlain (understood kept_schema text) → (kind : Kind) (institution key : List ℕ) (more : Values) (old new : State) (count : ℕ) → old.now.schema ≡ kept_schema
-    → AllByRecursion IsKept (old.now.trees 0) → Executes text (Int (pos (number_of kind)) ∷ Text institution ∷ Blob key ∷ more) old new (Ok count)
-    → Updated old.now new.now (place kind institution key) (Int (pos (number_of kind)) ∷ Text institution ∷ Blob key ∷ more) project
+    → AllByRecursion IsKeptRow (old.now.trees 0) → Executes text (Int (pos (number_of_kind kind)) ∷ Text institution ∷ Blob key ∷ more) old new (Ok count)
+    → Updated old.now new.now (place kind institution key) (Int (pos (number_of_kind kind)) ∷ Text institution ∷ Blob key ∷ more) project
 unfolding schema_of
 updated_by sql project is plain kind institution key more old new count has kept h =
-    let params : Values = Int (pos (number_of kind)) ∷ Text institution ∷ Blob key ∷ more in
+    let params : Values = Int (pos (number_of_kind kind)) ∷ Text institution ∷ Blob key ∷ more in
     let db = old.now.trees in
     let command = Update 0 (record { lets = []; body = selecting project }) in
     let w = runs_as sql params old new kept_schema has command is plain count h in
@@ -114,11 +114,11 @@ updated_by sql project is plain kind institution key more old new count has kept
       };
     }
 
-pub updated : (old new : State) (row : Row) (count : ℕ) → old.now.schema ≡ kept_schema → AllByRecursion IsKept (old.now.trees 0)
+pub updated : (old new : State) (row : Row) (count : ℕ) → old.now.schema ≡ kept_schema → AllByRecursion IsKeptRow (old.now.trees 0)
     → Executes update_text (columns_of row) old new (Ok count) → Updated old.now new.now (row_place_of row) (columns_of row) changed
 updated old new row = updated_by update_text changed update_is update_plain row.kind row.inst row.key _ old new
 
-pub begins : (old new : State) (institution key : List ℕ) (count : ℕ) → old.now.schema ≡ kept_schema → AllByRecursion IsKept (old.now.trees 0)
+pub begins : (old new : State) (institution key : List ℕ) (count : ℕ) → old.now.schema ≡ kept_schema → AllByRecursion IsKeptRow (old.now.trees 0)
     → Executes start_text (at_params Entry institution key) old new (Ok count)
     → Updated old.now new.now (place Entry institution key) (at_params Entry institution key) begun
 begins old new institution key = updated_by start_text begun start_is start_plain Entry institution key [] old new

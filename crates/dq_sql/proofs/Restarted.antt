@@ -11,7 +11,7 @@ use Rattle.dq_sql.specs.Schema.{schema_of, kept_schema}
 use Rattle.dq_sql.specs.Keeping.{under_schema}
 use Rattle.dq_sql.specs.Tie.{HasRows}
 use Rattle.sqlite.specs.Files.{HoldsDatabase}
-use Rattle.dq_sql.specs.Restarting.{HoldsRows, HoldsAlone, IsReopened}
+use Rattle.dq_sql.specs.Restarting.{ImageHoldsRows, HoldsAlone, IsReopened}
 use Rattle.dq_sql.proofs.OneSchema.{one_schema}
 
 -- The trees say the schema.
@@ -22,7 +22,7 @@ found_again s rows live it =
     subst (λ (x : Schema). let d : Database = record { schema = x; trees = s.now.trees } in HasRows d rows) same it.has
 
 -- An open of files that hold rows finds these.
-pub reopened : (image : Image) (s : State) (rows : List Row) → Opens s → FindsIn image s → HoldsRows image rows → IsSound rows → IsReopened s rows
+pub reopened : (image : Image) (s : State) (rows : List Row) → Opens s → FindsIn image s → ImageHoldsRows image rows → IsSound rows → IsReopened s rows
 reopened image s rows opens found held sound =
     let same : s.now.trees ≡ held.trees = ap (λ (d : Database). d.trees) opens.clean ∙ found.holds held.trees held.holds in
     record { opens = opens; has = subst (λ t. HasRows (under_schema t) rows) (sym same) held.has; sound = sound }

@@ -9,7 +9,7 @@ use Rattle.sqlite_schema.specs.declared.schema.Table.{Table}
 use Rattle.sqlite_schema.specs.declared.schema.Index.{Index}
 use Rattle.dq_sql.specs.declared.version.Version.{Version}
 use Rattle.dq_sql.specs.Schema.{kept_columns, version_columns, kind_checks, kept_table, version_table, kept_index}
-use Rattle.dq_sql.specs.SchemaTest.{HasNoMore, HasNoRules, IsKept, BoundsKind}
+use Rattle.dq_sql.specs.SchemaTest.{HasNoMore, HasNoRules, IsKeptTable, BoundsKind}
 
 pub kind_range : (a b c d e f g : Op) → BoundsKind a b c Ge (pos 1) 0 → BoundsKind d e f Le (pos 5) 3 → g ≡ Binary And 2 5
     → terms_in (a ∷ b ∷ c ∷ d ∷ e ∷ f ∷ g ∷ []) (6 ∷ []) ≡ kind_checks
@@ -19,7 +19,7 @@ pub index_from : (i : Index) (name : List ℕ) (tree : ℕ) (columns : List ℕ)
     → i.columns ≡ columns → i.order.digits ≡ 0 → i.is_unique ≡ is_unique → i ≡ kept_index name tree columns is_unique
 index_from i name tree columns is_unique p q r s t u = rw (p, q, r, s, t, u) refl
 
-pub kept_from : (t : Table) (version : Version) → IsKept t → t.columns ≡ kept_columns version → t ≡ kept_table version
+pub kept_from : (t : Table) (version : Version) → IsKeptTable t → t.columns ≡ kept_columns version → t ≡ kept_table version
 kept_from t version it columns =
     let key = it.key in
     let more = it.more in

@@ -22,22 +22,22 @@ use Rattle.sqlite_rules.specs.Edit.{id_in}
 use Rattle.sqlite.proofs.Callers.{one_permutation}
 use Rattle.dq_tables.specs.declared.row.Kind.{Kind}
 use Rattle.dq_tables.specs.declared.row.Row.{Row}
-use Rattle.dq_tables.specs.Rows.{IsRising, RowPlace, place, number_of, row_place_of, rows_elsewhere}
+use Rattle.dq_tables.specs.Rows.{IsRising, RowPlace, place, number_of_kind, row_place_of, rows_elsewhere}
 use Rattle.dq_tables.specs.Finding.{row_at}
 use Rattle.dq_tables.proofs.Order.{is_at, filter_all, each_passed, each_filtered, rows_total, IsRising-filter}
 use Rattle.dq_tables.proofs.InOrder.{row_at_is}
-use Rattle.dq_sql.specs.Tie.{kept_of, IsKept, same_id}
+use Rattle.dq_sql.specs.Tie.{row_of_cells, IsKeptRow, same_id}
 use Rattle.dq_sql.proofs.Statements.{at_place, selecting}
 use Rattle.dq_sql.proofs.Placed.{finds_place}
 use Rattle.dq_sql.proofs.Added.{apart_back, each}
 
 -- a row of the table holds the row at a place
 abbrev pub holds_at : RowPlace → Values → Bool
-holds_at p r = is_at p (kept_of r)
+holds_at p r = is_at p (row_of_cells r)
 
 module _ (kind : Kind) (inst key : List ℕ) (more : Values) where
   abbrev given : Values
-  given = Int (pos (number_of kind)) ∷ Text inst ∷ Blob key ∷ more
+  given = Int (pos (number_of_kind kind)) ∷ Text inst ∷ Blob key ∷ more
 
   abbrev found_here : Bool → Values → List Env
   found_here b r = if b then (given ∷ r ∷ []) ∷ [] else []
@@ -49,7 +49,7 @@ module _ (kind : Kind) (inst key : List ℕ) (more : Values) where
   matched_step true r rows on = ap (λ l. (given ∷ r ∷ []) ∷ l) on
   matched_step false r rows on = on
 
-  matched : (rows : List Values) → AllByRecursion IsKept rows
+  matched : (rows : List Values) → AllByRecursion IsKeptRow rows
       → flat_map (λ r. found_here (list_all (holds (given ∷ r ∷ [])) at_place) r) rows ≡ map (λ r. given ∷ r ∷ []) (filter (holds_at (place kind inst key)) rows)
   matched [] kept = refl
   matched (r ∷ rows) kept =
@@ -57,7 +57,7 @@ module _ (kind : Kind) (inst key : List ℕ) (more : Values) where
       ∙ matched_step (holds_at (place kind inst key) r) r rows (matched rows kept.1)
 
   -- what a statement shows of the row at the place
-  pub selected : (project : List Term) (db : Trees) (rows : List Values) → AllByRecursion IsKept (db 0) → IsAnswer (selecting project) (overlay db []) given rows
+  pub selected : (project : List Term) (db : Trees) (rows : List Values) → AllByRecursion IsKeptRow (db 0) → IsAnswer (selecting project) (overlay db []) given rows
       → IsPermutation (map (λ r. eval_all project (given ∷ r ∷ [])) (filter (holds_at (place kind inst key)) (db 0))) rows
   selected project db rows kept a =
       let q = selecting project in
@@ -122,30 +122,30 @@ first_kept p (x ∷ xs) = elim (p x) as (λ b. (if b then Some x else find p xs)
   | false ↦ first_kept p xs
 ]
 
-module _ (p : RowPlace) (t : List Values) (rows : List Row) (same : IsPermutation (map kept_of t) rows) where
+module _ (p : RowPlace) (t : List Values) (rows : List Row) (same : IsPermutation (map row_of_cells t) rows) where
   -- the others are the rows that are not at the place
-  pub others_same : IsPermutation (map kept_of (filter (λ r. not (holds_at p r)) t)) (rows_elsewhere p rows)
+  pub others_same : IsPermutation (map row_of_cells (filter (λ r. not (holds_at p r)) t)) (rows_elsewhere p rows)
   others_same =
-      subst (λ (l : List Row). IsPermutation l (rows_elsewhere p rows)) (filter-map (λ (row : Row). not (is_at p row)) kept_of t)
-      (IsPermutation-filter (λ (row : Row). not (is_at p row)) (map kept_of t) rows same)
+      subst (λ (l : List Row). IsPermutation l (rows_elsewhere p rows)) (filter-map (λ (row : Row). not (is_at p row)) row_of_cells t)
+      (IsPermutation-filter (λ (row : Row). not (is_at p row)) (map row_of_cells t) rows same)
 
   as_many : length (filter (is_at p) rows) ≡ length (filter (holds_at p) t)
   as_many =
-      length_permutation _ _ (subst (λ (l : List Row). IsPermutation l (filter (is_at p) rows)) (filter-map (is_at p) kept_of t)
-      (IsPermutation-filter (is_at p) (map kept_of t) rows same)) ∙ length-map (filter (holds_at p) t) kept_of
+      length_permutation _ _ (subst (λ (l : List Row). IsPermutation l (filter (is_at p) rows)) (filter-map (is_at p) row_of_cells t)
+      (IsPermutation-filter (is_at p) (map row_of_cells t) rows same)) ∙ length-map (filter (holds_at p) t) row_of_cells
 
   -- where none of the table holds a row at the place, there is none
   pub none_at : filter (holds_at p) t ≡ [] → filter (is_at p) rows ≡ []
   none_at none = none_if (filter (is_at p) rows) (as_many ∙ ap length none)
 
   -- where one of the table holds a row at the place, it is that row
-  pub one_there : (x : Values) → filter (holds_at p) t ≡ x ∷ [] → row_at p.kind p.institution p.key rows ≡ Some (kept_of x)
+  pub one_there : (x : Values) → filter (holds_at p) t ≡ x ∷ [] → row_at p.kind p.institution p.key rows ≡ Some (row_of_cells x)
   one_there x one =
-      let here : IsPermutation (kept_of x ∷ []) (filter (is_at p) rows) =
-      subst (λ (l : List Values). IsPermutation (map kept_of l) (filter (is_at p) rows)) one
-      (subst (λ (l : List Row). IsPermutation l (filter (is_at p) rows)) (filter-map (is_at p) kept_of t)
-      (IsPermutation-filter (is_at p) (map kept_of t) rows same)) in
-      row_at_is p rows ∙ first_kept (is_at p) rows ∙ ap (λ (l : List Row). slice_get l 0) (one_permutation (kept_of x) (filter (is_at p) rows) here)
+      let here : IsPermutation (row_of_cells x ∷ []) (filter (is_at p) rows) =
+      subst (λ (l : List Values). IsPermutation (map row_of_cells l) (filter (is_at p) rows)) one
+      (subst (λ (l : List Row). IsPermutation l (filter (is_at p) rows)) (filter-map (is_at p) row_of_cells t)
+      (IsPermutation-filter (is_at p) (map row_of_cells t) rows same)) in
+      row_at_is p rows ∙ first_kept (is_at p) rows ∙ ap (λ (l : List Row). slice_get l 0) (one_permutation (row_of_cells x) (filter (is_at p) rows) here)
 
   -- at most one row of the table holds the row at a place
   pub one_found : IsRising rows → (filter (holds_at p) t ≡ []) ⊎ ((x : Values) × (filter (holds_at p) t ≡ x ∷ []))

@@ -13,7 +13,7 @@ use Rattle.sqlite_tied.specs.Compute.{everything}
 use Rattle.sqlite.specs.Listing.{understood, if_select, is_select, reads_listing, listing_schema}
 use Rattle.dq_sql.specs.declared.version.Version.TheVariants.{One, Two}
 use Rattle.dq_sql.specs.Reading.{ShowsNoWrite}
-use Rattle.dq_sql.proofs.Queries.{row_text, of_text, above_text, waiting_text, count_text, count_above_text, all_text, version_text}
+use Rattle.dq_sql.proofs.Queries.{row_text, of_text, above_text, waiting_text, count_text, told_text, count_above_text, all_text, version_text}
 
 abbrev returning_in : Schema → ℕ → Checked Parsed → Checked (Option Returning)
 returning_in schema base (Ok p) = returning schema base p.statement
@@ -93,6 +93,13 @@ count_bare schema base = refl
 
 pub count_silent : ShowsNoWrite count_text
 count_silent = bare_shows count_text count_bare
+
+told_bare : IsBare told_text
+unfolding everything
+told_bare schema base = refl
+
+pub told_silent : ShowsNoWrite told_text
+told_silent = bare_shows told_text told_bare
 
 count_above_bare : IsBare count_above_text
 unfolding everything

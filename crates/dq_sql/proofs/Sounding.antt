@@ -12,15 +12,15 @@ use Rattle.sqlite.specs.State.{State, HasCleanDisk}
 use Rattle.sqlite.proofs.StateLemmas.{survives_then}
 use Rattle.sqlite.proofs.Callers.{one_permutation}
 use Rattle.dq_tables.specs.declared.row.Row.{Row}
-use Rattle.dq_tables.specs.Sound.{is_own, IsSound}
+use Rattle.dq_tables.specs.Sound.{is_own_row, IsSound}
 use Rattle.dq_tables.proofs.OneOrder.{one_order}
 use Rattle.sqlite_schema.specs.declared.schema.Schema.{Schema}
 use Rattle.sqlite_schema.specs.declared.schema.Table.{Table}
 use Rattle.dq_sql.specs.declared.version.Version.{Version}
 use Rattle.dq_sql.specs.declared.version.Version.TheVariants.{One, Two}
 use Rattle.dq_sql.specs.Schema.{schema_of}
-use Rattle.dq_sql.specs.Tie.{IsKept, kept_of, kept_in, same_id, IsOfVersion, HasRowsOf, IsAtRest, IsSame, Stays}
-use Rattle.dq_sql.specs.Reading.{columns, Shows, kept_shown, numbers_shown}
+use Rattle.dq_sql.specs.Tie.{IsKeptRow, row_of_cells, kept_in, same_id, IsOfVersion, HasRowsOf, IsAtRest, IsSame, Stays}
+use Rattle.dq_sql.specs.Reading.{selected_columns, ShowsSame, Shows, kept_shown, numbers_shown}
 use Rattle.dq_sql.specs.Adopting.{IsGood, AreGood, AreSound, SaysNumber, IsShaped, IsFound}
 use Rattle.dq_sql.proofs.Ordered.{each_moved}
 use Rattle.dq_sql.proofs.Added.{apart_back}
@@ -72,11 +72,11 @@ flips a b = both_ways (same_id a b) (same_id b a) (apart_back a b) (apart_back b
 pub one_good : (found : List Values) (a b : List Row) → AreGood found a → AreGood found b → a ≡ b
 one_good found a b p q = one_order a b p.rising q.rising (IsPermutation-trans _ _ _ (IsPermutation-sym _ _ p.same) q.same)
 
-each_shown : (P : Values → Type 0) (trees : List Values) → ((r : Values) → P (columns r) → P r) → AllByRecursion P (map columns trees) → AllByRecursion P trees
+each_shown : (P : Values → Type 0) (trees : List Values) → ((r : Values) → P (selected_columns r) → P r) → AllByRecursion P (map selected_columns trees) → AllByRecursion P trees
 each_shown P [] f h = tt
 each_shown P (r ∷ trees) f h = (f r h.0, each_shown P trees f h.1)
 
-shown_each : (P : Values → Type 0) (trees : List Values) → ((r : Values) → P r → P (columns r)) → AllByRecursion P trees → AllByRecursion P (map columns trees)
+shown_each : (P : Values → Type 0) (trees : List Values) → ((r : Values) → P r → P (selected_columns r)) → AllByRecursion P trees → AllByRecursion P (map selected_columns trees)
 shown_each P [] f h = tt
 shown_each P (r ∷ trees) f h = (f r h.0, shown_each P trees f h.1)
 
@@ -84,41 +84,41 @@ each_then : (P Q : Values → Type 0) (rows : List Values) → ((r : Values) →
 each_then P Q [] f h = tt
 each_then P Q (r ∷ rows) f h = (f r h.0, each_then P Q rows f h.1)
 
-apart_shown : (trees : List Values) → IsDistinct same_id (map columns trees) → IsDistinct same_id trees
+apart_shown : (trees : List Values) → IsDistinct same_id (map selected_columns trees) → IsDistinct same_id trees
 unfolding IsDistinct
 apart_shown [] h = tt
 apart_shown (r ∷ trees) h = (each_shown (λ x. same_id r x ≡ false) trees (λ x e. e) h.0, apart_shown trees h.1)
 
-shown_apart : (trees : List Values) → IsDistinct same_id trees → IsDistinct same_id (map columns trees)
+shown_apart : (trees : List Values) → IsDistinct same_id trees → IsDistinct same_id (map selected_columns trees)
 unfolding IsDistinct
 shown_apart [] h = tt
 shown_apart (r ∷ trees) h = (shown_each (λ x. same_id r x ≡ false) trees (λ x e. e) h.0, shown_apart trees h.1)
 
-kept_shown_is : (trees : List Values) → map kept_of (map columns trees) ≡ map kept_of trees
+kept_shown_is : (trees : List Values) → map row_of_cells (map selected_columns trees) ≡ map row_of_cells trees
 kept_shown_is [] = refl
-kept_shown_is (r ∷ trees) = ap (λ l. kept_of r ∷ l) (kept_shown_is trees)
+kept_shown_is (r ∷ trees) = ap (λ l. row_of_cells r ∷ l) (kept_shown_is trees)
 
-own_each : (rows : List Values) → AllByRecursion IsGood rows → AllByRecursion (λ (row : Row). is_own row ≡ true) (map kept_of rows)
+own_each : (rows : List Values) → AllByRecursion IsGood rows → AllByRecursion (λ (row : Row). is_own_row row ≡ true) (map row_of_cells rows)
 own_each [] h = tt
 own_each (r ∷ rows) h = (h.0.own, own_each rows h.1)
 
-good_each : (rows : List Values) → AllByRecursion IsKept rows → AllByRecursion (λ (row : Row). is_own row ≡ true) (map kept_of rows) → AllByRecursion IsGood rows
+good_each : (rows : List Values) → AllByRecursion IsKeptRow rows → AllByRecursion (λ (row : Row). is_own_row row ≡ true) (map row_of_cells rows) → AllByRecursion IsGood rows
 good_each [] h o = tt
 good_each (r ∷ rows) h o = (record { kept = h.0; own = o.0 }, good_each rows h.1 o.1)
 
-good_shown : (r : Values) → IsGood r → IsGood (columns r)
+good_shown : (r : Values) → IsGood r → IsGood (selected_columns r)
 good_shown r h =
     let k = h.kept in
     record { kept = record { kind = k.kind; inst = k.inst; key = k.key; above = k.above; patient = k.patient; day = k.day; octets = k.octets; started = k.started }; own = h.own }
 
-shown_kept : (r : Values) → IsKept (columns r) → IsKept r
+shown_kept : (r : Values) → IsKeptRow (selected_columns r) → IsKeptRow r
 shown_kept r k = record { kind = k.kind; inst = k.inst; key = k.key; above = k.above; patient = k.patient; day = k.day; octets = k.octets; started = k.started }
 
 -- Found rows are sound, whatever the store has.
 pub found_sound : (found : List Values) (rows : List Row) → AreSound found rows → IsSound rows
 found_sound found rows sound = record {
   rising = sound.good.rising;
-  own = each_moved (λ (row : Row). is_own row ≡ true) (map kept_of found) rows sound.good.same (own_each found sound.good.each);
+  own = each_moved (λ (row : Row). is_own_row row ≡ true) (map row_of_cells found) rows sound.good.same (own_each found sound.good.each);
   held = sound.held;
 }
 
@@ -139,9 +139,9 @@ found_from version s found rows rest ours database shows sound =
         table = record {
           apart = apart_shown table apart;
           ids = each_shown (λ r. IsTrue (is_int (rowid r))) table (λ r e. e) (each_moved _ found _ back sound.apart.whole);
-          kept = each_shown IsKept table shown_kept (each_moved IsKept found _ back (each_then IsGood IsKept found (λ r h. h.kept) sound.good.each));
-          same = IsPermutation-trans _ (map kept_of found) rows
-              (subst (λ l. IsPermutation l (map kept_of found)) (kept_shown_is table) (IsPermutation-map kept_of _ found on)) sound.good.same;
+          kept = each_shown IsKeptRow table shown_kept (each_moved IsKeptRow found _ back (each_then IsGood IsKeptRow found (λ r h. h.kept) sound.good.each));
+          same = IsPermutation-trans _ (map row_of_cells found) rows
+              (subst (λ l. IsPermutation l (map row_of_cells found)) (kept_shown_is table) (IsPermutation-map row_of_cells _ found on)) sound.good.same;
           rising = sound.good.rising;
         };
       };
@@ -154,7 +154,7 @@ pub sound_in : (version : Version) (s : State) (found : List Values) (rows : Lis
 sound_in version s found rows shows has sound =
     let table = kept_in version s.now in
     let on = shows.rows has.version_is.schema in
-    let own = each_moved (λ (row : Row). is_own row ≡ true) rows (map kept_of table) (IsPermutation-sym _ _ has.table.same) sound.own in
+    let own = each_moved (λ (row : Row). is_own_row row ≡ true) rows (map row_of_cells table) (IsPermutation-sym _ _ has.table.same) sound.own in
     let good = good_each table has.table.kept own in
     record {
       apart = record {
@@ -163,8 +163,8 @@ sound_in version s found rows shows has sound =
       };
       good = record {
         each = each_moved IsGood _ found on (shown_each IsGood table good_shown good);
-        same = IsPermutation-trans _ (map kept_of table) rows
-            (subst (IsPermutation (map kept_of found)) (kept_shown_is table) (IsPermutation-map kept_of found _ (IsPermutation-sym _ _ on))) has.table.same;
+        same = IsPermutation-trans _ (map row_of_cells table) rows
+            (subst (IsPermutation (map row_of_cells found)) (kept_shown_is table) (IsPermutation-map row_of_cells found _ (IsPermutation-sym _ _ on))) has.table.same;
         rising = has.table.rising;
       };
       held = sound.held;
@@ -198,6 +198,13 @@ shown_before version a b rows found rest stays clean shows =
       rows = subst (λ (d : Database). d.schema ≡ schema_of version → IsPermutation (rows d) found) same.now shows.rows;
     }
 
+-- the same after a read that shows the same
+pub shown_same : (version : Version) (a b : State) (rows : Database → List Values) (found : List Values) → ShowsSame a b → Shows version b rows found → Shows version a rows found
+shown_same version a b rows found same shows = record {
+  is_open = same.was_open shows.is_open;
+  rows = subst (λ (d : Database). d.schema ≡ schema_of version → IsPermutation (rows d) found) same.now shows.rows;
+}
+
 pub found_after : (version : Version) (a b : State) (items found : List Values) (rows : List Row) → IsAtRest a → IsOfVersion version a.now
     → (IsTrue a.is_open → IsDatabase a.now) → Stays a b → HasCleanDisk b
     → Shows version b (kept_shown version) items → found ≡ items → AreSound found rows → IsFound version a rows
@@ -217,3 +224,7 @@ ok_then P Q (Err e) f h = tt
 pub told : {P : Type 0} (Q : Type 0) (b : Bool) → b ≡ true → MatchBool b P Q → P
 told Q true h p = p
 told Q false h q = absurd (cc)
+
+pub untold : {Q : Type 0} (P : Type 0) (b : Bool) → b ≡ false → MatchBool b P Q → Q
+untold P true h p = absurd (cc)
+untold P false h q = q

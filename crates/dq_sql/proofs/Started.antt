@@ -10,7 +10,7 @@ use Rattle.std.proofs.lemmas.List.Elements.{filter-append}
 use Rattle.dq_tables.specs.declared.row.Kind.TheVariants.{Entry, Step}
 use Rattle.dq_tables.specs.declared.row.Row.{Row}
 use Rattle.dq_tables.specs.Rows.{RowPlace, Operation, Start, by, place, row_place_of, row_place_order, rows_before, rows_past, after, after_edit, after_edits, after_all, IsRising, same_kind}
-use Rattle.dq_tables.specs.Finding.{is_of, row_at}
+use Rattle.dq_tables.specs.Finding.{is_of_kind, row_at}
 use Rattle.dq_tables.specs.Records.{data_set_of}
 use Rattle.dq_tables.specs.Starting.{ids_named, names}
 use Rattle.dq_tables.specs.Sound.{IsSound}
@@ -21,7 +21,7 @@ use Rattle.dq_tables.proofs.Lens.{rising}
 use Rattle.dq_tables.proofs.Started.{started, is_found, start_is_put, start_of_none}
 use Rattle.dq_tables.proofs.Soundness.{starts_sound}
 use Rattle.dq_sql.specs.declared.kept_steps.NamedEntries.{NamedEntries}
-use Rattle.dq_sql.specs.Migrating.{starts_of, started_by, steps_among, migrated, is_named, with_start}
+use Rattle.dq_sql.specs.Migrating.{starts_of, starting_operation, steps_among, migrated_rows, is_entry_named, with_start}
 
 -- ---- rows that are started by a test
 
@@ -109,7 +109,7 @@ start_at h key rows up (Some row) e =
 -- ---- the entries of an institution with some ids
 
 abbrev is_listed : List ℕ → List (List ℕ) → Row → Bool
-is_listed h ids row = is_of Entry h row && list_any (bytes_eq row.key) ids
+is_listed h ids row = is_of_kind Entry h row && list_any (bytes_eq row.key) ids
 
 and_none : (a : Bool) → (a && false) ≡ false
 and_none true = refl
@@ -121,7 +121,7 @@ both_or false b c = refl
 
 none_listed : (h : List ℕ) (rows : List Row) → AllByRecursion (λ (row : Row). is_listed h [] row ≡ false) rows
 none_listed h [] = tt
-none_listed h (row ∷ rows) = (and_none (is_of Entry h row), none_listed h rows)
+none_listed h (row ∷ rows) = (and_none (is_of_kind Entry h row), none_listed h rows)
 
 ids_started : (h : List ℕ) (ids : List (List ℕ)) (rows : List Row) → IsRising rows
     → after_edits h (map Start ids) rows ≡ map (start_by (is_listed h ids)) rows
@@ -132,12 +132,12 @@ ids_started h (id ∷ ids) rows up =
     ∙ ap (map (start_by (is_listed h ids))) (start_at h id rows up (row_at Entry h id rows) refl)
     ∙ then_by (is_at p) (is_listed h ids) (λ row. refl) rows
     ∙ same_by (λ row. is_at p row || is_listed h ids row) (is_listed h (id ∷ ids))
-    (λ row. ap (λ b. b || is_listed h ids row) (sym (at_is_found p row)) ∙ both_or (is_of Entry h row) (bytes_eq row.key id) (list_any (bytes_eq row.key) ids)) rows
+    (λ row. ap (λ b. b || is_listed h ids row) (sym (at_is_found p row)) ∙ both_or (is_of_kind Entry h row) (bytes_eq row.key id) (list_any (bytes_eq row.key) ids)) rows
 
 -- ---- all steps
 
 abbrev names_it : Row → Row → Bool
-names_it row step = is_of Entry step.inst row && names (data_set_of step.octets) row.key
+names_it row step = is_of_kind Entry step.inst row && names (data_set_of step.octets) row.key
 
 none_named : (rows : List Row) → AllByRecursion (λ (row : Row). list_any (names_it row) [] ≡ false) rows
 none_named [] = tt
@@ -160,11 +160,11 @@ any_chosen p q [] = refl
 any_chosen p q (row ∷ rows) = any_step p q row rows (p row) refl (any_chosen p q rows)
 
 -- The rows are those that were there, each started where it is an entry that a kept step names.
-pub migrated_is : (rows : List Row) → IsRising rows → migrated rows ≡ map (with_start rows) rows
-unfolding migrated
+pub migrated_is : (rows : List Row) → IsRising rows → migrated_rows rows ≡ map (with_start rows) rows
+unfolding migrated_rows
 migrated_is rows up =
     steps_started (steps_among rows) rows up
-    ∙ same_by (λ row. list_any (names_it row) (steps_among rows)) (is_named rows)
+    ∙ same_by (λ row. list_any (names_it row) (steps_among rows)) (is_entry_named rows)
     (λ row. any_chosen (λ (step : Row). same_kind step.kind Step) (names_it row) rows) rows
 
 -- ---- sound rows
@@ -174,8 +174,8 @@ all_sound [] rows sound = sound
 all_sound (step ∷ steps) rows sound =
     all_sound steps (after (starts_of step) rows) (starts_sound step.inst (ids_named (data_set_of step.octets)) rows sound)
 
-pub migrated_sound : (rows : List Row) → IsSound rows → IsSound (migrated rows)
-unfolding migrated
+pub migrated_sound : (rows : List Row) → IsSound rows → IsSound (migrated_rows rows)
+unfolding migrated_rows
 migrated_sound rows sound = all_sound (steps_among rows) rows sound
 
 -- ---- in turn
@@ -192,24 +192,24 @@ steps_more rows i row within is =
     ∙ filter-append (λ (r : Row). same_kind r.kind Step) (take i rows) (row ∷ [])
 
 pub no_step : (rows : List Row) (i : ℕ) (row : Row) (all : List NamedEntries) → i < length rows → row ≡ get_or rows i row
-    → same_kind row.kind Step ≡ false → map started_by all ≡ map starts_of (steps_among (take i rows))
-    → map started_by all ≡ map starts_of (steps_among (take (i + 1) rows))
+    → same_kind row.kind Step ≡ false → map starting_operation all ≡ map starts_of (steps_among (take i rows))
+    → map starting_operation all ≡ map starts_of (steps_among (take (i + 1) rows))
 no_step rows i row all within is kind had =
     had ∙ ap (map starts_of) (sym (steps_more rows i row within is ∙ rw kind (append-nil (steps_among (take i rows)))))
 
 -- what one more step starts
 pub next_starts : (all : List NamedEntries) (i : ℕ) (starts : NamedEntries) (rows mid new : List Row) → i < length all → starts ≡ get_or all i starts
-    → mid ≡ after_all (map started_by (take i all)) rows → new ≡ after (started_by starts) mid → new ≡ after_all (map started_by (take (i + 1) all)) rows
+    → mid ≡ after_all (map starting_operation (take i all)) rows → new ≡ after (starting_operation starts) mid → new ≡ after_all (map starting_operation (take (i + 1) all)) rows
 next_starts all i starts rows mid new within is had next =
-    next ∙ ap (after (started_by starts)) had
-    ∙ sym (all_append (map started_by (take i all)) (started_by starts ∷ []) rows)
-    ∙ ap (λ os. after_all os rows) (sym (map-append started_by (take i all) (starts ∷ [])) ∙ ap (λ l. map started_by (take i all ++ l ∷ [])) is
-    ∙ ap (map started_by) (sym (take_more all i starts within)))
+    next ∙ ap (after (starting_operation starts)) had
+    ∙ sym (all_append (map starting_operation (take i all)) (starting_operation starts ∷ []) rows)
+    ∙ ap (λ os. after_all os rows) (sym (map-append starting_operation (take i all) (starts ∷ [])) ∙ ap (λ l. map starting_operation (take i all ++ l ∷ [])) is
+    ∙ ap (map starting_operation) (sym (take_more all i starts within)))
 
 -- all steps
-pub all_started : (all given : List NamedEntries) (i : ℕ) (rows shown new : List Row) → shown ≡ rows → map started_by all ≡ map starts_of (steps_among shown)
-    → given ≡ all → length given ≤ i → new ≡ after_all (map started_by (take i given)) rows → new ≡ migrated rows
-unfolding migrated
+pub all_started : (all given : List NamedEntries) (i : ℕ) (rows shown new : List Row) → shown ≡ rows → map starting_operation all ≡ map starts_of (steps_among shown)
+    → given ≡ all → length given ≤ i → new ≡ after_all (map starting_operation (take i given)) rows → new ≡ migrated_rows rows
+unfolding migrated_rows
 all_started all given i rows shown new same found is whole done =
-    done ∙ ap (λ l. after_all (map started_by l) rows) (take_all i given whole ∙ is)
+    done ∙ ap (λ l. after_all (map starting_operation l) rows) (take_all i given whole ∙ is)
     ∙ ap (λ os. after_all os rows) (found ∙ ap (λ l. map starts_of (steps_among l)) same)

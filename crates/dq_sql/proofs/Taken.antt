@@ -17,13 +17,13 @@ use Rattle.dq_tables.specs.declared.row.Row.{Row}
 use Rattle.dq_tables.specs.Rows.{record_of, octet_order}
 use Rattle.dq_tables.specs.Labels.{patient_of, day_of}
 use Rattle.dq_tables.specs.Choosing.{is_none_or, is_open_or, has_labels, is_chosen, studies_in}
-use Rattle.dq_tables.specs.Finding.{is_of, row_at, rows_of}
+use Rattle.dq_tables.specs.Finding.{is_of_kind, row_at, rows_of}
 use Rattle.dq_tables.proofs.Order.{both_tests}
 use Rattle.dq_tables.proofs.Keyed.{chosen_of_one}
 use Rattle.dq_sql.specs.declared.choosing.Label.{Label}
 use Rattle.dq_sql.specs.declared.choosing.Label.TheVariants.{Patient, Day}
 use Rattle.dq_sql.specs.declared.version.Version.TheVariants.{Two}
-use Rattle.dq_sql.specs.Tie.{kept_of, IsKept}
+use Rattle.dq_sql.specs.Tie.{row_of_cells, IsKeptRow}
 use Rattle.dq_sql.specs.Reading.{ShowsNoWrite, HoldsOf, row_shown}
 use Rattle.dq_sql.specs.Choosing.{says, is_of_patient, is_of_days, ShowsThose, ShowsSaying, ShowsSilent, EndsWithin, last_day_or_blob}
 use Rattle.dq_sql.proofs.Queries.{Means, selecting, shown_columns}
@@ -40,15 +40,15 @@ use Rattle.dq_sql.proofs.ChoiceTexts.{first_by, patient_text, patient_tests, pat
 
 module _ (old new : State) (inst : List ℕ) (answer : List Values) where
   shows_those : (text : List ℕ) (tests : List Term) → Means Two text (selecting 0 tests None shown_columns []) → ShowsNoWrite text → (params : Values) (test : Row → Bool)
-      → ((r : Values) → IsKept r → passes tests params r ≡ (is_of Study inst (kept_of r) && test (kept_of r)))
+      → ((r : Values) → IsKeptRow r → passes tests params r ≡ (is_of_kind Study inst (row_of_cells r) && test (row_of_cells r)))
       → Shown text params old new answer → HoldsOf old (λ rows. ShowsThose inst test rows answer)
   unfolding rows_of
   shows_those text tests means silent params test finds h = record {
     is_open = (shown_unchanged text params old new silent answer h).0.was_open;
     of_rows = λ rows has.
         let s = selection 0 tests shown_columns [] old.now.trees params answer refl (answer_of Two text _ means params old new has.version_is.schema answer h) in
-        subst (λ l. IsPermutation l (map (row_shown Study inst) answer)) (sym (both_tests (is_of Study inst) test rows))
-        (found_rows tests params Study inst (λ row. is_of Study inst row && test row) finds (and_own Study inst test) [] old.now rows answer has s);
+        subst (λ l. IsPermutation l (map (row_shown Study inst) answer)) (sym (both_tests (is_of_kind Study inst) test rows))
+        (found_rows tests params Study inst (λ row. is_of_kind Study inst row && test row) finds (and_own Study inst test) [] old.now rows answer has s);
   }
 
   pub found_patient : (patient : List ℕ) → Shown patient_text (of_params Study inst (Blob patient ∷ [])) old new answer
@@ -66,7 +66,7 @@ module _ (old new : State) (inst : List ℕ) (answer : List Values) where
 
 module _ (old new : State) (inst : List ℕ) (most : ℕ) (answer silent : List Values) (ends : EndsWithin most answer silent) where
   found_silent : (at : ℕ) (text : List ℕ) → Means Two text (first_by at) → ShowsNoWrite text → (label : Label)
-      → ((r : Values) → IsKept r → is_null (column r at) ≡ not (says label (kept_of r)))
+      → ((r : Values) → IsKeptRow r → is_null (column r at) ≡ not (says label (row_of_cells r)))
       → Shown text (of_params Study inst (Int (pos most) ∷ [])) old new answer → HoldsOf old (λ rows. ShowsSilent label inst rows silent)
   unfolding rows_of
   found_silent at text means shows label unsaid h =
@@ -76,9 +76,9 @@ module _ (old new : State) (inst : List ℕ) (most : ℕ) (answer silent : List 
         is_open = (shown_unchanged text params old new shows answer h).0.was_open;
         of_rows = λ rows has.
             let a = answer_of Two text _ means params old new has.version_is.schema answer h in
-            let got = silent_rows at params most refl Study inst (is_of Study inst) (says label) (of_finds Study inst more) unsaid
-            (λ row e. of_own Study inst row (and_parts (is_of Study inst row) _ e).0) old.now rows answer silent has a ends in
-            subst (λ l. IsPermutation l (map (row_shown Study inst) silent)) (sym (both_tests (is_of Study inst) (λ row. not (says label row)) rows)) got;
+            let got = silent_rows at params most refl Study inst (is_of_kind Study inst) (says label) (of_finds Study inst more) unsaid
+            (λ row e. of_own Study inst row (and_parts (is_of_kind Study inst row) _ e).0) old.now rows answer silent has a ends in
+            subst (λ l. IsPermutation l (map (row_shown Study inst) silent)) (sym (both_tests (is_of_kind Study inst) (λ row. not (says label row)) rows)) got;
       }
 
   pub found_no_patient : Shown no_patient_text (of_params Study inst (Int (pos most) ∷ [])) old new answer → HoldsOf old (λ rows. ShowsSilent Patient inst rows silent)

@@ -1,6 +1,7 @@
 -- Which rows of a found table are rows of ours.
-use Rattle.std.specs.Prelude.{◌≡◌, ◌≢◌, true, pos, List, [], ◌∷◌, ℤ, IsTrue, is_some, map, IsPermutation}
+use Rattle.std.specs.Prelude.{◌≡◌, ◌≢◌, true, pos, List, [], ◌∷◌, ◌++◌, ℤ, Vec, Option, MatchOption, IsTrue, is_some, map, IsPermutation}
 use Rattle.std.specs.List.{AllByRecursion, Any, IsDistinct}
+use Rattle.dq_list.specs.Octets.{AreOctets}
 use Rattle.sqlite_value.specs.declared.value.Value.TheVariants.{Int, Text, Blob}
 use Rattle.sqlite_value.specs.Order.{Row as Values, column}
 use Rattle.sqlite_trees.specs.Tree.{rowid}
@@ -10,21 +11,21 @@ use Rattle.sqlite_schema.specs.declared.schema.Schema.{Schema}
 use Rattle.sqlite_schema.specs.declared.schema.Table.{Table}
 use Rattle.sqlite.specs.Effect.{IsDatabase}
 use Rattle.sqlite.specs.State.{State, HasCleanDisk}
-use Rattle.dq_dataset.specs.Grammar.{AreOctets}
 use Rattle.dq_tables.specs.declared.row.Row.{Row}
-use Rattle.dq_tables.specs.Rows.{number_of, IsRising}
+use Rattle.dq_tables.specs.Rows.{number_of_kind, IsRising}
 use Rattle.dq_tables.specs.Finding.{row_at}
-use Rattle.dq_tables.specs.Sound.{is_own, HeldEach, IsSound}
+use Rattle.dq_tables.specs.Sound.{is_own_row, HeldEach, IsSound}
 use Rattle.dq_sql.specs.declared.fault.StoreFault.{StoreFault}
 use Rattle.dq_sql.specs.declared.fault.StoreFault.TheVariants.{WrongVersion, BadRows}
+use Rattle.dq_sql.specs.declared.judgement.Judgement.{Judgement}
 use Rattle.dq_sql.specs.declared.version.Version.{Version}
-use Rattle.dq_sql.specs.Cells.{patient_of, day_of, flag}
+use Rattle.dq_sql.specs.Cells.{patient_cell, day_cell, flag}
 use Rattle.dq_sql.specs.Schema.{version_number, version_table, schema_of}
-use Rattle.dq_sql.specs.Tie.{IsKept, kept_of, same_id, IsOfVersion, HasRowsOf, IsAtRest, Stays}
+use Rattle.dq_sql.specs.Tie.{IsKeptRow, row_of_cells, same_id, IsOfVersion, HasRowsOf, IsAtRest, Stays}
 
 -- The columns hold the row, but for what they say of its patient and its day.
 pub record HoldsRecord (row : Row) (r : Values) : Type 0 where
-  pub kind : column r 1 ≡ Int (pos (number_of row.kind))
+  pub kind : column r 1 ≡ Int (pos (number_of_kind row.kind))
   pub inst : column r 2 ≡ Text row.inst
   pub key : column r 3 ≡ Blob row.key
   pub above : column r 4 ≡ Blob row.above
@@ -33,35 +34,55 @@ pub record HoldsRecord (row : Row) (r : Values) : Type 0 where
 
 -- the columns say the row's patient and its day
 pub record HasCells (row : Row) (r : Values) : Type 0 where
-  pub patient : column r 5 ≡ patient_of row
-  pub day : column r 6 ≡ day_of row
+  pub patient : column r 5 ≡ patient_cell row
+  pub day : column r 6 ≡ day_cell row
 
 -- The columns hold a row that is its record's own.
 pub record IsGood (r : Values) : Type 0 where
-  pub kept : IsKept r
-  pub own : is_own (kept_of r) ≡ true
+  pub kept : IsKeptRow r
+  pub own : is_own_row (row_of_cells r) ≡ true
 
 -- a row of the same place is there
-abbrev pub IsTaken : List Row → Row → Type 0
-IsTaken rows row = is_some (row_at row.kind row.inst row.key rows) ≡ true
+abbrev pub IsPlaceTaken : List Row → Row → Type 0
+IsPlaceTaken rows row = is_some (row_at row.kind row.inst row.key rows) ≡ true
 
 -- All are good, and no two are of one place.
 pub record AreGood (found : List Values) (rows : List Row) : Type 0 where
   pub each : AllByRecursion IsGood found
-  pub same : IsPermutation (map kept_of found) rows
+  pub same : IsPermutation (map row_of_cells found) rows
   pub rising : IsRising rows
 
 -- the rowid is a whole number
-abbrev pub IsNumbered : Values → Type 0
-IsNumbered r = IsTrue (is_int (rowid r))
+abbrev pub HasWholeRowid : Values → Type 0
+HasWholeRowid r = IsTrue (is_int (rowid r))
 
-abbrev pub id_of : Values → ℤ
-id_of r = id_in (rowid r)
+abbrev pub rowid_of : Values → ℤ
+rowid_of r = id_in (rowid r)
 
 -- The rowids are whole numbers, no two alike.
 pub record AreApart (found : List Values) : Type 0 where
-  pub whole : AllByRecursion IsNumbered found
+  pub whole : AllByRecursion HasWholeRowid found
   pub apart : IsDistinct same_id found
+
+-- each row holds octets, numbers below 256
+abbrev pub HoldOctets : List Row → Type 0
+HoldOctets rows = AllByRecursion (λ (row : Row). AreOctets row.octets) rows
+
+-- the rowids of found rows, where all are whole numbers
+abbrev pub AreIds : {A : Type 0} → List Values → Option (Vec ℤ A) → Type 0
+AreIds found ids = MatchOption ids (¬ AllByRecursion HasWholeRowid found)
+    (λ ids. AllByRecursion HasWholeRowid found × (ids.items ≡ map rowid_of found))
+
+-- the rows of found ones, where all are good and no two of one place; else no more make them so
+abbrev pub AreRows : {A : Type 0} → List Values → Option (Vec Row A) → Type 0
+AreRows found rows =
+    MatchOption rows ((more : List Values) (rows : List Row) → ¬ AreGood (found ++ more) rows)
+    (λ rows. AreGood found rows.items × HoldOctets rows.items)
+
+-- What is kept of found rows that were judged.
+pub record IsJudged (found : List Values) (judgement : Judgement) : Type 0 where
+  pub ids : AreIds found judgement.ids
+  pub rows : AreRows found judgement.rows
 
 -- what the query of the version shows: one number, and that is the version's
 abbrev pub SaysNumber : Version → List Values → Type 0
@@ -70,10 +91,6 @@ SaysNumber version found = map (λ r. column r 0) found ≡ Int (pos (version_nu
 -- the store has the table `version`, in whatever tree
 abbrev pub HasVersion : Schema → Type 0
 HasVersion schema = Any (λ (t : Table). t ≡ record version_table { tree = t.tree }) schema.tables
-
--- each row holds octets, numbers below 256
-abbrev pub HoldOctets : List Row → Type 0
-HoldOctets rows = AllByRecursion (λ (row : Row). AreOctets row.octets) rows
 
 -- the schema of no store of rows
 abbrev pub IsOther : Schema → Type 0

@@ -14,6 +14,6 @@ abbrev pub AreRight : List Row → Counts → Type 0
 AreRight rows counts = All (IsRight rows) counts.known.items
 
 -- the rows with one more, if there is one
-abbrev pub added : Option Row → List Row → List Row
-added None rows = rows
-added (Some row) rows = row ∷ rows
+abbrev pub with_one_more : Option Row → List Row → List Row
+with_one_more None rows = rows
+with_one_more (Some row) rows = row ∷ rows

@@ -4,7 +4,7 @@ use Rattle.sqlite_trees.specs.Tree.{Trees}
 use Rattle.sqlite.specs.Effect.{Database}
 use Rattle.sqlite.specs.State.{State, HasCleanDisk, Survives}
 use Rattle.dq_tables.specs.declared.row.Row.{Row}
-use Rattle.dq_sql.specs.Making.{no_schema, GoesOn}
+use Rattle.dq_sql.specs.Making.{no_schema, StoreGoesOn}
 use Rattle.dq_sql.specs.Keeping.{under_schema}
 use Rattle.dq_sql.specs.Tie.{HasRows, IsAtRest, IsSame}
 
@@ -15,7 +15,7 @@ pub record IsNothingYet (s : State) : Type 0 where
 
 -- The transaction goes on, and a store without rows has these.
 pub record AddsRows (old new : State) (rows : List Row) : Type 0 where
-  pub on : GoesOn old new
+  pub on : StoreGoesOn old new
   pub added : HasRows old.now [] → HasRows new.now rows
 
 -- A store that had nothing has these rows.

@@ -27,7 +27,7 @@ pub record HasSound (trees : Trees) : Type 0 where
 
 -- The rows are sound. While the store is open it has them, and has committed them. Whatever a crash
 -- leaves is a store of sound rows.
-pub record Keeps (s : Connected) (rows : List Row) : Type 0 where
+pub record KeepsSoundRows (s : Connected) (rows : List Row) : Type 0 where
   pub sound : IsSound rows
   pub has : IsTrue s.is_open → HasRows s.now rows
   pub settled : IsTrue s.is_open → s.now ≡ s.committed

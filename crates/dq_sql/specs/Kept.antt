@@ -8,7 +8,7 @@ use Rattle.dq_tables.specs.declared.row.Row.{Row}
 use Rattle.dq_tables.specs.Sound.{IsSound, IsRising-prop, OwnEach-prop, HeldEach-prop}
 use Rattle.dq_tables.proofs.OneOrder.{one_order}
 use Rattle.dq_sql.specs.Tie.{HasRows}
-use Rattle.dq_sql.specs.Keeping.{Keeps, MayLeave}
+use Rattle.dq_sql.specs.Keeping.{KeepsSoundRows, MayLeave}
 
 IsSound-prop : (rows : List Row) → IsProp (IsSound rows)
 IsSound-prop rows = hlevel (IsRising-prop rows, OwnEach-prop rows, HeldEach-prop rows rows)
@@ -19,7 +19,7 @@ one_list d xs ys p q =
     one_order xs ys p.table.rising q.table.rising
     (IsPermutation-trans _ _ _ (IsPermutation-sym _ _ p.table.same) q.table.same)
 
-module _ (s : State) (rows : List Row) (keeps : ∥ (HasCleanDisk s → Keeps s rows) ∥₁) where
+module _ (s : State) (rows : List Row) (keeps : ∥ (HasCleanDisk s → KeepsSoundRows s rows) ∥₁) where
   pub kept_sound : HasCleanDisk s → IsSound rows
   kept_sound clean = ∥∥₁_elim keeps (IsSound-prop rows) (λ k. (k clean).sound)
 

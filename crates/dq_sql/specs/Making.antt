@@ -49,7 +49,7 @@ SaysVersion old new = old.schema ≡ kept_schema
     → (new.trees 0 ≡ old.trees 0) × (old.trees 2 ≡ [] → IsOfVersion Two new × IsDatabase new)
 
 -- The transaction goes on: the store is open, and what is committed is as it was.
-pub record GoesOn (old new : State) : Type 0 where
+pub record StoreGoesOn (old new : State) : Type 0 where
   pub was_open : IsTrue old.is_open
   pub is_open : IsTrue new.is_open
   pub committed : new.committed ≡ old.committed

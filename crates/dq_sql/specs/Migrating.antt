@@ -4,7 +4,7 @@ use Rattle.std.specs.List.{list_any}
 use Rattle.dq_tables.specs.declared.row.Kind.TheVariants.{Entry, Step}
 use Rattle.dq_tables.specs.declared.row.Row.{Row}
 use Rattle.dq_tables.specs.Rows.{Operation, Start, by, after_all, same_kind}
-use Rattle.dq_tables.specs.Finding.{is_of}
+use Rattle.dq_tables.specs.Finding.{is_of_kind}
 use Rattle.dq_tables.specs.Records.{data_set_of}
 use Rattle.dq_tables.specs.Starting.{ids_named, names}
 use Rattle.dq_sql.specs.declared.kept_steps.NamedEntries.{NamedEntries}
@@ -17,19 +17,19 @@ abbrev pub steps_among : List Row → List Row
 steps_among rows = filter (λ (row : Row). same_kind row.kind Step) rows
 
 -- the rows after each kept step has started what it names
-unfoldable pub migrated : List Row → List Row
-migrated rows = after_all (map starts_of (steps_among rows)) rows
+unfoldable pub migrated_rows : List Row → List Row
+migrated_rows rows = after_all (map starts_of (steps_among rows)) rows
 
 -- what a step was found to start
-abbrev pub started_by : NamedEntries → Operation
-started_by entries = by entries.inst (map Start entries.ids)
+abbrev pub starting_operation : NamedEntries → Operation
+starting_operation entries = by entries.inst (map Start entries.ids)
 
 -- the row is an entry that a kept step of its institution names
-abbrev pub is_named : List Row → Row → Bool
-is_named rows row =
+abbrev pub is_entry_named : List Row → Row → Bool
+is_entry_named rows row =
     list_any (λ (step : Row).
     same_kind step.kind Step
-    && (is_of Entry step.inst row && names (data_set_of step.octets) row.key)) rows
+    && (is_of_kind Entry step.inst row && names (data_set_of step.octets) row.key)) rows
 
 abbrev pub with_start : List Row → Row → Row
-with_start rows row = if is_named rows row then record row { started = true } else row
+with_start rows row = if is_entry_named rows row then record row { started = true } else row

@@ -12,26 +12,26 @@ use Rattle.dq_sql.specs.declared.version.Version.TheVariants.{One}
 use Rattle.dq_sql.specs.Tie.{IsOfVersion, HasRowsOf, HasRows, IsAtRest, IsSame, Stays}
 use Rattle.dq_sql.specs.Keeping.{under_schema}
 use Rattle.dq_sql.specs.Adopting.{IsFound}
-use Rattle.dq_sql.specs.Migrating.{migrated}
+use Rattle.dq_sql.specs.Migrating.{migrated_rows}
 
-abbrev pub fault_number : MigrateFault → ℕ
-fault_number NoMemory = 1
-fault_number Store = 2
-fault_number WrongVersion = 3
-fault_number BadRows = 4
+abbrev pub migrate_fault_number : MigrateFault → ℕ
+migrate_fault_number NoMemory = 1
+migrate_fault_number Store = 2
+migrate_fault_number WrongVersion = 3
+migrate_fault_number BadRows = 4
 
 -- a fault of one store as one of the migration
-abbrev pub fault_of : StoreFault → MigrateFault
-fault_of store.NoMemory = NoMemory
-fault_of store.Store = Store
-fault_of store.WrongVersion = WrongVersion
-fault_of store.BadRows = BadRows
+abbrev pub fault_of_migration : StoreFault → MigrateFault
+fault_of_migration store.NoMemory = NoMemory
+fault_of_migration store.Store = Store
+fault_of_migration store.WrongVersion = WrongVersion
+fault_of_migration store.BadRows = BadRows
 
 -- The rows are those that were found in a store of version 1, migrated.
 pub record IsMigrated (s : State) (rows : List Row) : Type 0 where
   pub kept : List Row
   pub found : IsFound One s kept
-  pub is : rows ≡ migrated kept
+  pub is : rows ≡ migrated_rows kept
 
 -- The old store stays as it is. As far as its disk returned what was written, the rows are its own,
 -- migrated.

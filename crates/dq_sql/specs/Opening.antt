@@ -8,16 +8,16 @@ use Rattle.dq_tables.specs.declared.fault.TableFault.TheVariants as tables
 use Rattle.dq_sql.specs.declared.fault.StoreFault.{StoreFault}
 use Rattle.dq_sql.specs.declared.fault.StoreFault.TheVariants.{NoMemory, Store, WrongVersion, BadRows}
 
-abbrev pub fault_number : StoreFault → ℕ
-fault_number NoMemory = 1
-fault_number Store = 2
-fault_number WrongVersion = 3
-fault_number BadRows = 4
+abbrev pub store_fault_number : StoreFault → ℕ
+store_fault_number NoMemory = 1
+store_fault_number Store = 2
+store_fault_number WrongVersion = 3
+store_fault_number BadRows = 4
 
 -- want of memory, or else that the store failed
-abbrev pub fault_of : Error → StoreFault
-fault_of (SqliteFailure OutOfMemory) = NoMemory
-fault_of _ = Store
+abbrev pub store_fault : Error → StoreFault
+store_fault (SqliteFailure OutOfMemory) = NoMemory
+store_fault _ = Store
 
 -- the same of a call of tables
 abbrev pub of_tables : TableFault → StoreFault

@@ -27,8 +27,8 @@ pub record ShowsSame (old new : State) : Type 0 where
   pub now : new.now ≡ old.now
 
 -- The rowid and the columns of a row of the table `kept`.
-abbrev pub columns : Values → Values
-columns r =
+abbrev pub selected_columns : Values → Values
+selected_columns r =
     column r 0 ∷ column r 1 ∷ column r 2 ∷ column r 3 ∷ column r 4 ∷ column r 5 ∷ column r 6
     ∷ column r 7 ∷ column r 8 ∷ []
 
@@ -41,7 +41,7 @@ pub record Shows (version : Version) (s : State) (shown : Database → List Valu
 
 -- the rows of the table `kept`
 abbrev pub kept_shown : Version → Database → List Values
-kept_shown version d = map columns (kept_in version d)
+kept_shown version d = map selected_columns (kept_in version d)
 
 -- those of the table `version`, without their rowids
 abbrev pub numbers_shown : Database → List Values

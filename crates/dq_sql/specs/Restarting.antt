@@ -10,7 +10,7 @@ use Rattle.dq_sql.specs.Keeping.{under_schema}
 use Rattle.dq_sql.specs.Tie.{HasRows}
 
 -- The two files hold a database that has the rows.
-pub record HoldsRows (image : Image) (rows : List Row) : Type 0 where
+pub record ImageHoldsRows (image : Image) (rows : List Row) : Type 0 where
   pub trees : Trees
   pub holds : HoldsDatabase image trees
   pub has : HasRows (under_schema trees) rows
@@ -23,5 +23,5 @@ pub record IsReopened (s : State) (rows : List Row) : Type 0 where
 
 -- The two files hold the rows, and so does the database file without its log.
 pub record HoldsAlone (image : Image) (rows : List Row) : Type 0 where
-  pub both : HoldsRows image rows
-  pub alone : HoldsRows (record image { log = [] }) rows
+  pub both : ImageHoldsRows image rows
+  pub alone : ImageHoldsRows (record image { log = [] }) rows

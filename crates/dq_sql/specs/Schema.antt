@@ -31,26 +31,26 @@ optional name kind = record {
   collation = Binary;
 }
 
-abbrev pub required : List ℕ → Kind → Column
-required name kind = record (optional name kind) { not_null = true }
+abbrev pub required_column : List ℕ → Kind → Column
+required_column name kind = record (optional name kind) { not_null = true }
 
 -- the columns of a record, its place and what it says of a study
 abbrev pub record_columns : List Column
 record_columns =
-    required (codes "kind") Integer ∷ required (codes "inst") Text ∷ required (codes "id") Blob
-    ∷ required (codes "above") Blob ∷ optional (codes "patient") Blob ∷ optional (codes "day") Integer
-    ∷ required (codes "octets") Blob ∷ []
+    required_column (codes "kind") Integer ∷ required_column (codes "inst") Text ∷ required_column (codes "id") Blob
+    ∷ required_column (codes "above") Blob ∷ optional (codes "patient") Blob ∷ optional (codes "day") Integer
+    ∷ required_column (codes "octets") Blob ∷ []
 
 -- Version 2 says also whether the entry is started.
 abbrev pub further_columns : Version → List Column
 further_columns One = []
-further_columns Two = required (codes "started") Integer ∷ []
+further_columns Two = required_column (codes "started") Integer ∷ []
 
 abbrev pub kept_columns : Version → List Column
 kept_columns version = record_columns ++ further_columns version
 
 abbrev pub version_columns : List Column
-version_columns = required (codes "number") Integer ∷ []
+version_columns = required_column (codes "number") Integer ∷ []
 
 -- a kind is 1 to 5
 abbrev pub kind_checks : List Term

@@ -33,7 +33,7 @@ pub record HasNoRules (table : Table) : Type 0 where
   pub checks : table.checks ≡ []
 
 -- the table `kept`, but for its columns
-pub record IsKept (table : Table) : Type 0 where
+pub record IsKeptTable (table : Table) : Type 0 where
   pub name : table.name ≡ codes "kept"
   pub tree : table.tree ≡ 0
   pub key : HasKey table

@@ -12,10 +12,10 @@ use Rattle.sqlite.specs.State.{State, HasCleanDisk, Survives}
 use Rattle.dq_tables.specs.declared.row.Kind.{Kind}
 use Rattle.dq_tables.specs.declared.row.Kind.TheVariants.{Study, Series, Image, Entry, Step}
 use Rattle.dq_tables.specs.declared.row.Row.{Row}
-use Rattle.dq_tables.specs.Rows.{number_of, IsRising}
+use Rattle.dq_tables.specs.Rows.{number_of_kind, IsRising}
 use Rattle.dq_sql.specs.declared.version.Version.{Version}
 use Rattle.dq_sql.specs.declared.version.Version.TheVariants.{One, Two}
-use Rattle.dq_sql.specs.Cells.{patient_of, day_of, flag}
+use Rattle.dq_sql.specs.Cells.{patient_cell, day_cell, flag}
 use Rattle.dq_sql.specs.Schema.{version_number, schema_of}
 
 -- the kind with a number from 1 to 5
@@ -34,8 +34,8 @@ is_set (Int n) = not (int_eq n (pos 0))
 is_set _ = false
 
 -- A row of the table `kept` is its rowid and then its columns.
-abbrev pub kept_of : Values → Row
-kept_of r = record {
+abbrev pub row_of_cells : Values → Row
+row_of_cells r = record {
   kind = kind_in (column r 1);
   inst = bytes (column r 2);
   key = bytes (column r 3);
@@ -46,38 +46,38 @@ kept_of r = record {
 
 -- the columns of the table hold a row
 pub record Holds (row : Row) (r : Values) : Type 0 where
-  pub kind : column r 1 ≡ Int (pos (number_of row.kind))
+  pub kind : column r 1 ≡ Int (pos (number_of_kind row.kind))
   pub inst : column r 2 ≡ Text row.inst
   pub key : column r 3 ≡ Blob row.key
   pub above : column r 4 ≡ Blob row.above
-  pub patient : column r 5 ≡ patient_of row
-  pub day : column r 6 ≡ day_of row
+  pub patient : column r 5 ≡ patient_cell row
+  pub day : column r 6 ≡ day_cell row
   pub octets : column r 7 ≡ Blob row.octets
   pub started : column r 8 ≡ flag row.started
 
-abbrev pub IsKept : Values → Type 0
-IsKept r = Holds (kept_of r) r
+abbrev pub IsKeptRow : Values → Type 0
+IsKeptRow r = Holds (row_of_cells r) r
 
 abbrev pub same_id : Values → Values → Bool
 same_id a b = is_eq (value_cmp (rowid a) (rowid b))
 
 -- A table holds the rows, each once and in any order.
-pub record HoldsRows (table : List Values) (rows : List Row) : Type 0 where
+pub record TableHoldsRows (table : List Values) (rows : List Row) : Type 0 where
   pub apart : IsDistinct same_id table
   pub ids : AllByRecursion (λ r. IsTrue (is_int (rowid r))) table
-  pub kept : AllByRecursion IsKept table
-  pub same : IsPermutation (map kept_of table) rows
+  pub kept : AllByRecursion IsKeptRow table
+  pub same : IsPermutation (map row_of_cells table) rows
   pub rising : IsRising rows
 
 -- a row of version 1, which has no last column, as that of what is not started
-abbrev pub unstarted : Values → Values
-unstarted r =
+abbrev pub as_unstarted : Values → Values
+as_unstarted r =
     column r 0 ∷ column r 1 ∷ column r 2 ∷ column r 3 ∷ column r 4 ∷ column r 5 ∷ column r 6
     ∷ column r 7 ∷ flag false ∷ []
 
 -- the table `kept`
 abbrev pub kept_in : Version → Database → List Values
-kept_in One d = map unstarted (d.trees 0)
+kept_in One d = map as_unstarted (d.trees 0)
 kept_in Two d = d.trees 0
 
 -- The database has the tables of a version, and the table `version` says so.
@@ -89,7 +89,7 @@ pub record IsOfVersion (version : Version) (d : Database) : Type 0 where
 pub record HasRowsOf (version : Version) (d : Database) (rows : List Row) : Type 0 where
   pub version_is : IsOfVersion version d
   pub database : IsDatabase d
-  pub table : HoldsRows (kept_in version d) rows
+  pub table : TableHoldsRows (kept_in version d) rows
 
 -- Rows are kept in a store of version 2.
 abbrev pub HasRows : Database → List Row → Type 0

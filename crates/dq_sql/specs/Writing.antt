@@ -10,18 +10,18 @@ use Rattle.dq_tables.specs.declared.change.Change.{Change}
 use Rattle.dq_tables.specs.Rows.{after as after_operation, operation_of}
 use Rattle.dq_tables.specs.Rows.{after_edit, after_edits, Put, Remove, Start, record_of}
 use Rattle.dq_tables.specs.Finding.{row_at}
-use Rattle.dq_tables.specs.Sound.{Fits}
+use Rattle.dq_tables.specs.Sound.{ChangeFits}
 use Rattle.dq_sql.specs.Tie.{HasRows}
 
 -- a row is added at a place that was free
-abbrev pub Adds : Database → Database → Row → Type 0
-Adds d e row =
+abbrev pub AddsRow : Database → Database → Row → Type 0
+AddsRow d e row =
     (rows : List Row) → HasRows d rows → row_at row.kind row.inst row.key rows ≡ None
     → HasRows e (after_edit row.inst (Put (record_of row)) rows)
 
 abbrev pub AddsIf : Database → Database → Option Row → Type 0
 AddsIf d e None = e ≡ d
-AddsIf d e (Some row) = Adds d e row
+AddsIf d e (Some row) = AddsRow d e row
 
 -- a row takes the place of the one that was there
 abbrev pub Replaces : Database → Database → Row → Type 0
@@ -46,13 +46,13 @@ StartsEach d e institution keys =
     → HasRows e (after_edits institution (map Start keys) rows)
 
 -- a change that fits the rows is made
-abbrev pub Makes : Database → Database → Change → Type 0
-Makes d e change =
-    (rows : List Row) → HasRows d rows → Fits rows change
+abbrev pub MakesChange : Database → Database → Change → Type 0
+MakesChange d e change =
+    (rows : List Row) → HasRows d rows → ChangeFits rows change
     → HasRows e (after_operation (operation_of change) rows)
 
 -- The transaction goes on: nothing is committed.
-pub record GoesOn (old new : State) : Type 0 where
+pub record TransactionGoesOn (old new : State) : Type 0 where
   pub was_open : IsTrue new.is_open → IsTrue old.is_open
   pub committed : new.committed ≡ old.committed
   pub inside : IsTrue new.in_transaction
@@ -60,13 +60,13 @@ pub record GoesOn (old new : State) : Type 0 where
 -- A statement was run in it.
 pub record Went (old new : State) : Type 0 where
   pub is_open : IsTrue new.is_open
-  pub on : GoesOn old new
+  pub on : TransactionGoesOn old new
 
 -- A change was made and committed.
 pub record IsMade (old new : State) (change : Change) : Type 0 where
   pub was_open : IsTrue old.is_open
   pub is_open : IsTrue new.is_open
-  pub made : Makes old.now new.now change
+  pub made : MakesChange old.now new.now change
   pub committed : new.committed ≡ new.now
 
 -- Nothing was committed, and no change is seen.
@@ -79,5 +79,5 @@ pub record IsUndone (old new : State) : Type 0 where
 pub record Commits (old : State) (change : Change) (trees : Trees) : Type 0 where
   pub was_open : IsTrue old.is_open
   pub after : Database
-  pub made : Makes old.now after change
+  pub made : MakesChange old.now after change
   pub is : trees ≡ after.trees

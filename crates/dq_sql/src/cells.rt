@@ -2,7 +2,7 @@
 ghost use Rattle.std.specs.Prelude.{◌≡◌, IfOk};
 ghost use Rattle.sqlite_value.specs.declared.value.Value.TheVariants.{Int, Blob};
 ghost use Rattle.sqlite.specs.Values.{or_null};
-ghost use Rattle.dq_sql.specs.Cells.{patient_of, day_of};
+ghost use Rattle.dq_sql.specs.Cells.{patient_cell, day_cell};
 
 use dq_tables::{Labels, Row};
 use std::alloc::{AllocError, Global};
@@ -16,11 +16,11 @@ pub(crate) struct Cells {
 
 impl Cells {
     /// The cells of a row.
-    #[tactic(auto, unfolding(crate::specs::Cells::patient_of, crate::specs::Cells::day_of))]
+    #[tactic(auto, unfolding(crate::specs::Cells::patient_cell, crate::specs::Cells::day_cell))]
     pub(crate) fn of(alloc: Global, row: &Row) -> Result<Cells, AllocError>
         ensures patient { IfOk result
-            (λ cells. or_null (λ octets. Blob octets.items) cells.patient ≡ patient_of row.now) }
-        ensures day { IfOk result (λ cells. or_null Int cells.day ≡ day_of row.now) }
+            (λ cells. or_null (λ octets. Blob octets.items) cells.patient ≡ patient_cell row.now) }
+        ensures day { IfOk result (λ cells. or_null Int cells.day ≡ day_cell row.now) }
     {
         let Labels { patient, day } = row.labels(alloc)?;
         let patient = patient.map(|octets| octets.into_inner());

@@ -3,8 +3,8 @@ ghost use Rattle.std.specs.Prelude.{◌≡◌, List, ◌∷◌, length, IfSome, 
 ghost use Rattle.dq_tables.specs.declared.row.Row.{Row};
 ghost use Rattle.dq_tables.specs.Rows.{IsRising, after, operation_of};
 ghost use Rattle.dq_tables.specs.Finding.{rows_of};
-ghost use Rattle.dq_tables.specs.Sound.{Fits};
-ghost use Rattle.dq_sql.specs.Counts.{IsRight, AreRight, added};
+ghost use Rattle.dq_tables.specs.Sound.{ChangeFits};
+ghost use Rattle.dq_sql.specs.Counts.{IsRight, AreRight, with_one_more};
 
 use dq_list::Listed;
 use dq_tables::{Change, Kind, Row};
@@ -118,7 +118,7 @@ impl Counts {
     /// There is this row more, if there is one.
     fn add_if(&mut self, row: &Option<Row>)
         ensures { (rows : List Row) → AreRight rows self.old
-            → AreRight (added row.now rows) self.new }
+            → AreRight (with_one_more row.now rows) self.new }
     {
         if let Some(row) = row {
             self.add(row);
@@ -127,7 +127,7 @@ impl Counts {
 
     /// A change was made.
     pub(crate) fn follow(&mut self, change: &Change)
-        ensures { (rows : List Row) → IsRising rows → Fits rows change.now → AreRight rows self.old
+        ensures { (rows : List Row) → IsRising rows → ChangeFits rows change.now → AreRight rows self.old
             → AreRight (after (operation_of change.now) rows) self.new }
     {
         match change {

@@ -25,20 +25,20 @@ pub enum StoreFault {
 }
 
 impl StoreFault {
-    ghost use Rattle.dq_sql.specs.Opening.{fault_number};
+    ghost use Rattle.dq_sql.specs.Opening.{store_fault_number};
 
     /// 1 to 4, in the order in which the faults are declared.
     pub fn number(self) -> u8
-        ensures { result ≡ fault_number self }
+        ensures { result ≡ store_fault_number self }
     {
         self as u8
     }
 }
 
 impl From<Error> for StoreFault {
-    ghost use Rattle.dq_sql.specs.Opening.{fault_of};
+    ghost use Rattle.dq_sql.specs.Opening.{store_fault};
 
-    ghost from_gives = { λ e f. f ≡ fault_of e };
+    ghost from_gives = { λ e f. f ≡ store_fault e };
 
     fn from(error: Error) -> StoreFault {
         match error {

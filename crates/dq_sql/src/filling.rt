@@ -4,12 +4,12 @@ ghost use Rattle.sqlite.specs.State.{HasCleanDisk, Survives, KeepsCommit};
 ghost use Rattle.sqlite.specs.Held.{state};
 ghost use Rattle.dq_tables.specs.Rows.{IsRising};
 ghost use Rattle.dq_sql.specs.declared.fault.StoreFault.TheVariants.{NoMemory, Store};
-ghost use Rattle.dq_sql.specs.Making.{GoesOn};
+ghost use Rattle.dq_sql.specs.Making.{StoreGoesOn};
 ghost use Rattle.dq_sql.specs.Filling.{AddsRows, MakesStore, HasThese, IsNothingYet, IsFilled};
 ghost use Rattle.dq_sql.specs.Tie.{IsAtRest, IsSame};
 
 use crate::fault::StoreFault;
-use crate::open::{is_empty, make_tables};
+use crate::schema::{is_empty, make_tables};
 use crate::writing::put;
 use dq_tables::{Row, TableFault};
 use sqlite::{Alter, Connection, Transaction};
@@ -50,7 +50,7 @@ fn make_and_put<S: Alter>(
     ensures same_reference { tx.new.conn.ghost_name ≡ tx.old.conn.ghost_name }
     ensures fault { IfErr result (λ e. (e ≡ NoMemory) ⊎ (e ≡ Store)) }
     ensures goes_on { HasCleanDisk (state S.Store tx.new.conn.now)
-        → OnOk result (GoesOn (state S.Store tx.old.conn.now) (state S.Store tx.new.conn.now)) }
+        → OnOk result (StoreGoesOn (state S.Store tx.old.conn.now) (state S.Store tx.new.conn.now)) }
     ensures makes { HasCleanDisk (state S.Store tx.new.conn.now)
         → OnOk result (MakesStore (state S.Store tx.old.conn.now).now
         (state S.Store tx.new.conn.now).now rows.now) }

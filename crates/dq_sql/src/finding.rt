@@ -1,20 +1,22 @@
 //! The rows of a store that is found.
-ghost use Rattle.std.specs.Prelude.{◌≡◌, ◌≢◌, ◌⊎◌, pos, Err, IfSome, IfOk, IfErr, IsErr, IsTrue, OnOk, MatchBool, false};
+ghost use Rattle.std.specs.Prelude.{◌≡◌, ◌≢◌, ◌⊎◌, List, pos, Err, IfSome, IfOk, IfErr, IsErr, IsTrue, OnOk, MatchBool, false};
 ghost use Rattle.sqlite_value.specs.declared.value.Value.TheVariants.{Int};
-ghost use Rattle.sqlite_value.specs.Order.{column};
+ghost use Rattle.sqlite_value.specs.Order.{Row as Values, column};
 ghost use Rattle.sqlite.specs.State.{HasCleanDisk, IsLive};
 ghost use Rattle.sqlite.specs.Held.{state};
+ghost use Rattle.dq_tables.specs.Rows.{IsRising};
 ghost use Rattle.dq_tables.specs.Sound.{IsSound};
 ghost use Rattle.dq_sql.specs.declared.fault.StoreFault.TheVariants.{NoMemory, Store, WrongVersion, BadRows};
 ghost use Rattle.dq_sql.specs.Schema.{version_number, schema_of};
 ghost use Rattle.dq_sql.specs.Tie.{IsOfVersion, HasRowsOf, Stays};
-ghost use Rattle.dq_sql.specs.Adopting.{SaysNumber, HasVersion, HoldOctets, IsOther, IsShaped, AreSound, IsFound};
+ghost use Rattle.dq_sql.specs.Adopting.{SaysNumber, HasVersion, HoldOctets, IsOther, IsShaped, IsJudged, AreSound, IsFound};
 
 use crate::fault::StoreFault;
-use crate::ids::ids_apart;
+use crate::ids::are_apart;
+use crate::judgement::Judgement;
 use crate::judging::value_at;
-use crate::placing::{are_held, rows_found};
-use crate::reading::{rows_read, versions_read};
+use crate::placing::are_held;
+use crate::reading::{rows_judged, versions_read};
 use crate::schema_test::{has_version, version_shaped};
 use crate::version::Version;
 use dq_tables::Row;
@@ -77,19 +79,21 @@ fn is_of_version<S: Alter>(conn: &mut Connection<S>, version: Version) -> Result
     Ok(says_number(found.as_slice(), version))
 }
 
-/// The rows that are found, where they are those of a store with sound rows.
+/// The rows of found ones, where they are those of a store with sound rows.
 #[tactic(auto, using(crate::proofs::Sounding::one_good))]
-fn sound_rows(alloc: Global, found: Vec<sqlite::Row>) -> Result<Vec<Row>, StoreFault>
-    ensures sound { IfOk result (λ rows. AreSound found.items rows.items) }
-    ensures octets { IfOk result (λ rows. HoldOctets rows.items) }
-    ensures bad { result ≡ Err BadRows → (rows : _) → ¬ AreSound found.items rows }
+fn sound_rows(judgement: Judgement) -> Result<Vec<Row>, StoreFault>
+    requires { IfSome judgement.rows (λ rows. IsRising rows.items) }
+    ensures sound { IfOk result (λ rows. (found : List Values) → IsJudged found judgement
+        → AreSound found rows.items × HoldOctets rows.items) }
+    ensures bad { result ≡ Err BadRows → (found : List Values) → IsJudged found judgement
+        → (rows : _) → ¬ AreSound found rows }
     ensures version { result ≢ Err WrongVersion }
 {
-    if !ids_apart(alloc, found.as_slice())? {
+    let Judgement { ids, rows } = judgement;
+    let Some(rows) = rows else {
         return Err(StoreFault::BadRows);
-    }
-    let rows = rows_found(alloc, found)?;
-    if are_held(rows.as_slice()) {
+    };
+    if are_apart(ids)? && are_held(rows.as_slice()) {
         Ok(rows)
     } else {
         Err(StoreFault::BadRows)
@@ -137,6 +141,6 @@ pub fn kept_rows<S: Alter>(
     if shaped != version {
         return Err(StoreFault::Store);
     }
-    let found = rows_read(conn, alloc, version)?;
-    sound_rows(alloc, found)
+    let judgement = rows_judged(conn, alloc, version)?;
+    sound_rows(judgement)
 }

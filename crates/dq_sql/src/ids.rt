@@ -1,24 +1,41 @@
 //! The rowids of a found table.
-ghost use Rattle.std.specs.Prelude.{◌≡◌, IfOk, MatchBool, MatchOption, map};
-ghost use Rattle.std.specs.List.{AllByRecursion, IsAllAdjacentAnswer};
+ghost use Rattle.std.specs.Prelude.{◌≡◌, [], ◌∷◌, ◌++◌, List, IfOk, MatchBool, MatchOption};
+ghost use Rattle.std.specs.List.{IsAllAdjacentAnswer};
 ghost use Rattle.std.specs.Ordering.{int_cmp, is_lt};
-ghost use Rattle.dq_sql.specs.Adopting.{AreApart, IsNumbered, id_of};
+ghost use Rattle.sqlite_value.specs.Order.{Row as Values};
+ghost use Rattle.dq_sql.specs.Adopting.{AreApart, AreIds, HasWholeRowid, rowid_of};
 
+use crate::judging::value_at;
 use sqlite::types::ValueRef;
-use std::alloc::{AllocError, Global};
+use std::alloc::AllocError;
 
-/// The rowids, where all are whole numbers.
-fn ids_of(alloc: Global, found: &[sqlite::Row]) -> Result<Option<Vec<i64>>, AllocError>
-    ensures { IfOk result (λ ids. MatchOption ids (¬ AllByRecursion IsNumbered found.now)
-        (λ ids. AllByRecursion IsNumbered found.now × (ids.items ≡ map id_of found.now))) }
+/// The rowid, where it is a whole number.
+fn id_in(found: &sqlite::Row) -> Option<i64>
+    ensures { MatchOption result (¬ HasWholeRowid found.now)
+        (λ id. HasWholeRowid found.now × (rowid_of found.now ≡ id)) }
 {
-    let mut ids = Vec::new(alloc);
-    for values in found {
-        match values.get_ref(0) {
-            Ok(ValueRef::Int(id)) => ids.push(id)?,
-            _ => return Ok(None),
-        }
+    match value_at(found, 0) {
+        ValueRef::Int(id) => Some(id),
+        _ => None,
     }
+}
+
+/// The rowids of found rows and of one more, while all are whole numbers.
+#[tactic(auto, using(crate::proofs::Judgements::id_more, crate::proofs::Judgements::id_none, crate::proofs::Judgements::id_bad))]
+pub(crate) fn ids_then(
+    ids: Option<Vec<i64>>,
+    found: &sqlite::Row,
+) -> Result<Option<Vec<i64>>, AllocError>
+    ensures { IfOk result (λ new. (seen : List Values) → AreIds seen ids
+        → AreIds (seen ++ found.now ∷ []) new) }
+{
+    let Some(mut ids) = ids else {
+        return Ok(None);
+    };
+    let Some(id) = id_in(found) else {
+        return Ok(None);
+    };
+    ids.push(id)?;
     Ok(Some(ids))
 }
 
@@ -34,12 +51,12 @@ fn all_rise(ids: &[i64]) -> bool
     true
 }
 
-/// Whether the rowids are whole numbers, no two alike.
-pub(crate) fn ids_apart(alloc: Global, found: &[sqlite::Row]) -> Result<bool, AllocError>
-    ensures { IfOk result (λ apart.
-        MatchBool apart (AreApart found.now) (¬ AreApart found.now)) }
+/// Whether the rowids of found rows are whole numbers, no two alike.
+pub(crate) fn are_apart(ids: Option<Vec<i64>>) -> Result<bool, AllocError>
+    ensures { IfOk result (λ apart. (found : List Values) → AreIds found ids
+        → MatchBool apart (AreApart found) (¬ AreApart found)) }
 {
-    let Some(mut ids) = ids_of(alloc, found)? else {
+    let Some(mut ids) = ids else {
         return Ok(false);
     };
     ids.sort()?;

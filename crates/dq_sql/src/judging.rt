@@ -1,15 +1,15 @@
 //! What the columns of a found row hold.
 ghost use Rattle.std.specs.Prelude.{◌≡◌, ◌≢◌, ℕ, Bool, List, pos, Err, IfOk, MatchOption, MatchBool};
+ghost use Rattle.dq_list.specs.Octets.{AreOctets};
 ghost use Rattle.sqlite_value.specs.declared.value.Value.TheVariants.{Int, Text, Blob};
 ghost use Rattle.sqlite_value.specs.Value.{owned};
 ghost use Rattle.sqlite_value.specs.Order.{column};
 ghost use Rattle.sqlite.specs.Values.{or_null};
-ghost use Rattle.dq_dataset.specs.Grammar.{AreOctets};
 ghost use Rattle.dq_tables.specs.declared.row.Kind.{Kind};
 ghost use Rattle.dq_tables.specs.declared.row.Row.{Row};
-ghost use Rattle.dq_tables.specs.Rows.{number_of};
+ghost use Rattle.dq_tables.specs.Rows.{number_of_kind};
 ghost use Rattle.dq_sql.specs.Cells.{flag};
-ghost use Rattle.dq_sql.specs.Tie.{kept_of};
+ghost use Rattle.dq_sql.specs.Tie.{row_of_cells};
 ghost use Rattle.dq_sql.specs.declared.fault.StoreFault.TheVariants.{WrongVersion, BadRows};
 ghost use Rattle.dq_sql.specs.Adopting.{HoldsRecord, HasCells, IsGood};
 
@@ -25,8 +25,8 @@ const TOO_LONG: usize = 0x8000_0000;
 
 /// The kind whose number a value is.
 fn kind_in(value: ValueRef<'_>) -> Option<Kind>
-    ensures { MatchOption result ((kind : Kind) → owned value.entry ≢ Int (pos (number_of kind)))
-        (λ kind. owned value.entry ≡ Int (pos (number_of kind))) }
+    ensures { MatchOption result ((kind : Kind) → owned value.entry ≢ Int (pos (number_of_kind kind)))
+        (λ kind. owned value.entry ≡ Int (pos (number_of_kind kind))) }
 {
     match value {
         ValueRef::Int(number) => Kind::from_number(u8::try_from(number).ok()?),
@@ -172,7 +172,7 @@ fn are_octets(_octets: &[u8])
 #[tactic(auto, using(crate::proofs::Judged::good_from, crate::proofs::Judged::cells_of_good, crate::proofs::Judged::own_of_good, crate::proofs::Judged::record_kept))]
 fn own_row(alloc: Global, row: Row, found: &sqlite::Row) -> Result<Row, StoreFault>
     requires { HoldsRecord row found.now }
-    ensures good { IfOk result (λ own. (own ≡ kept_of found.now) × IsGood found.now) }
+    ensures good { IfOk result (λ own. (own ≡ row_of_cells found.now) × IsGood found.now) }
     ensures octets { IfOk result (λ own. AreOctets own.octets) }
     ensures bad { result ≡ Err BadRows → ¬ IsGood found.now }
     ensures version { result ≢ Err WrongVersion }
@@ -192,7 +192,7 @@ fn own_row(alloc: Global, row: Row, found: &sqlite::Row) -> Result<Row, StoreFau
 /// The row that the columns hold, where it is its record's own.
 #[tactic(auto, using(crate::proofs::Judged::none_good))]
 pub(crate) fn good_row(alloc: Global, found: &sqlite::Row) -> Result<Row, StoreFault>
-    ensures good { IfOk result (λ row. (row ≡ kept_of found.now) × IsGood found.now) }
+    ensures good { IfOk result (λ row. (row ≡ row_of_cells found.now) × IsGood found.now) }
     ensures octets { IfOk result (λ row. AreOctets row.octets) }
     ensures bad { result ≡ Err BadRows → ¬ IsGood found.now }
     ensures version { result ≢ Err WrongVersion }

@@ -2,7 +2,7 @@
 ghost use Rattle.std.specs.Prelude.{◌≡◌, map, IfOk, OnOk};
 ghost use Rattle.dq_tables.specs.Rows.{IsRising, after};
 ghost use Rattle.dq_tables.specs.Sound.{IsSound};
-ghost use Rattle.dq_sql.specs.Migrating.{starts_of, steps_among, migrated, started_by};
+ghost use Rattle.dq_sql.specs.Migrating.{starts_of, steps_among, migrated_rows, starting_operation};
 
 use dq_list::Listed;
 use dq_tables::{Kind, Row, ids_named, start_row};
@@ -18,7 +18,7 @@ struct NamedEntries {
 impl NamedEntries {
     /// What a step names.
     fn of(alloc: Global, step: &Row) -> Result<NamedEntries, AllocError>
-        ensures { IfOk result (λ entries. started_by entries ≡ starts_of step.now) }
+        ensures { IfOk result (λ entries. starting_operation entries ≡ starts_of step.now) }
     {
         let data_set = step.data_set(alloc)?;
         Ok(NamedEntries {
@@ -30,7 +30,7 @@ impl NamedEntries {
     /// Starts those entries that are among the rows.
     fn start(&self, rows: &mut Vec<Row>)
         requires { IsRising rows.old.items }
-        ensures done { rows.new.items ≡ after (started_by self.now) rows.old.items }
+        ensures done { rows.new.items ≡ after (starting_operation self.now) rows.old.items }
         ensures rising { IsRising rows.new.items }
     {
         for id in self.ids.as_slice() {
@@ -41,7 +41,7 @@ impl NamedEntries {
 
 /// What each step among the rows names.
 fn named_by_steps(alloc: Global, rows: &[Row]) -> Result<Vec<NamedEntries>, AllocError>
-    ensures { IfOk result (λ all. map started_by all.items ≡ map starts_of (steps_among rows.now)) }
+    ensures { IfOk result (λ all. map starting_operation all.items ≡ map starts_of (steps_among rows.now)) }
 {
     let mut all = Vec::new(alloc);
     for row in rows {
@@ -55,7 +55,7 @@ fn named_by_steps(alloc: Global, rows: &[Row]) -> Result<Vec<NamedEntries>, Allo
 /// Starts the entries that the steps among the rows name.
 pub(crate) fn start_named(alloc: Global, rows: &mut Vec<Row>) -> Result<(), AllocError>
     requires { IsSound rows.old.items }
-    ensures done { OnOk result (rows.new.items ≡ migrated rows.old.items) }
+    ensures done { OnOk result (rows.new.items ≡ migrated_rows rows.old.items) }
     ensures sound { OnOk result (IsSound rows.new.items) }
 {
     let all = named_by_steps(alloc, rows.as_slice())?;

@@ -10,7 +10,7 @@ ghost use Rattle.dq_tables.specs.declared.row.Row.{Row};
 ghost use Rattle.dq_tables.specs.Keeping.{IsSettled};
 ghost use Rattle.dq_tables.specs.Rows.{IsRising};
 ghost use Rattle.dq_sql.specs.declared.fault.StoreFault.TheVariants.{WrongVersion, BadRows};
-ghost use Rattle.dq_sql.specs.Migrating.{migrated, with_start};
+ghost use Rattle.dq_sql.specs.Migrating.{migrated_rows, with_start};
 
 use crate::fault::StoreFault;
 use crate::memory_files::MemoryFile;
@@ -29,7 +29,7 @@ pub fn tables_in_memory_are_honest(_tables: &SqlTables<FileStore<MemoryFile>>)
 /// step of its institution names. No row is added.
 #[tactic(auto, using(crate::proofs::Started::migrated_is))]
 pub fn migrated_rows_are_the_rows_with_started_entries()
-    ensures { (rows : List Row) → IsRising rows → migrated rows ≡ map (with_start rows) rows }
+    ensures { (rows : List Row) → IsRising rows → migrated_rows rows ≡ map (with_start rows) rows }
 {}
 
 /// What a crash leaves of tables is adopted. Let a connection be opened over files that hold what a

@@ -146,6 +146,10 @@ impl Disk for MemoryFile {
 /// there is no next.
 const SEED: u64 = 0;
 
+/// How many pages are held beside the files. A page that is not held is copied from memory, so that
+/// more would save little, and each is made as the tables are.
+const HELD_PAGES: usize = 256;
+
 impl SqlTables<FileStore<MemoryFile>> {
     /// Tables without rows, over files in memory. A refusal means that memory ran out, since nothing
     /// else can fail there.
@@ -162,7 +166,9 @@ impl SqlTables<FileStore<MemoryFile>> {
             log: MemoryFile::new(alloc),
             db: MemoryFile::new(alloc),
         };
-        let Ok(conn) = Connection::open_files(alloc, files, Options::new(SEED)) else {
+        let mut options = Options::new(SEED);
+        options.cache_pages = HELD_PAGES;
+        let Ok(conn) = Connection::open_files(alloc, files, options) else {
             return Err(AllocError);
         };
         match SqlTables::open(alloc, conn) {

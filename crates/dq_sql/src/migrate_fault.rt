@@ -23,20 +23,20 @@ pub enum MigrateFault {
 }
 
 impl MigrateFault {
-    ghost use Rattle.dq_sql.specs.Migration.{fault_number};
+    ghost use Rattle.dq_sql.specs.Migration.{migrate_fault_number};
 
     /// 1 to 4, in the order in which the faults are declared.
     pub fn number(self) -> u8
-        ensures { result ≡ fault_number self }
+        ensures { result ≡ migrate_fault_number self }
     {
         self as u8
     }
 }
 
 impl From<StoreFault> for MigrateFault {
-    ghost use Rattle.dq_sql.specs.Migration.{fault_of};
+    ghost use Rattle.dq_sql.specs.Migration.{fault_of_migration};
 
-    ghost from_gives = { λ e f. f ≡ fault_of e };
+    ghost from_gives = { λ e f. f ≡ fault_of_migration e };
 
     fn from(fault: StoreFault) -> MigrateFault {
         match fault {

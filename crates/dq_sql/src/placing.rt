@@ -1,15 +1,17 @@
 //! Found rows, put in order.
-ghost use Rattle.std.specs.Prelude.{◌≡◌, ◌≢◌, ◌∷◌, Err, IfOk, OnOk, MatchBool, is_some, IsPermutation};
+ghost use Rattle.std.specs.Prelude.{◌≡◌, ◌≢◌, [], ◌∷◌, ◌++◌, List, Err, IfSome, IfOk, OnOk, MatchBool, is_some, IsPermutation};
+ghost use Rattle.sqlite_value.specs.Order.{Row as Values};
 ghost use Rattle.dq_tables.specs.Rows.{IsRising};
 ghost use Rattle.dq_tables.specs.Finding.{row_at};
 ghost use Rattle.dq_tables.specs.Sound.{is_held, HeldEach};
 ghost use Rattle.dq_sql.specs.declared.fault.StoreFault.TheVariants.{WrongVersion, BadRows};
-ghost use Rattle.dq_sql.specs.Tie.{kept_of};
-ghost use Rattle.dq_sql.specs.Adopting.{HoldOctets, IsGood, IsTaken, AreGood};
+ghost use Rattle.dq_sql.specs.Tie.{row_of_cells};
+ghost use Rattle.dq_sql.specs.Adopting.{HoldOctets, IsGood, IsPlaceTaken, AreRows};
 
 use crate::fault::StoreFault;
 use crate::judging::good_row;
 use dq_tables::{Kind, Row, put_row, search_rows};
+use sqlite::{Error, ErrorCode};
 use std::alloc::Global;
 
 /// Whether a row of the kind, the institution and the key is among rows in order.
@@ -26,11 +28,11 @@ fn is_there(rows: &[Row], kind: Kind, institution: &[u8], key: &[u8]) -> bool
 fn put_found(alloc: Global, rows: &mut Vec<Row>, found: &sqlite::Row) -> Result<(), StoreFault>
     requires { IsRising rows.old.items }
     ensures good { OnOk result (IsGood found.now) }
-    ensures added { OnOk result (IsPermutation (kept_of found.now ∷ rows.old.items) rows.new.items) }
+    ensures added { OnOk result (IsPermutation (row_of_cells found.now ∷ rows.old.items) rows.new.items) }
     ensures rising { OnOk result (IsRising rows.new.items) }
     ensures octets { HoldOctets rows.old.items → OnOk result (HoldOctets rows.new.items) }
     ensures bad { result ≡ Err BadRows → IsGood found.now
-        → IsTaken rows.old.items (kept_of found.now) }
+        → IsPlaceTaken rows.old.items (row_of_cells found.now) }
     ensures version { result ≢ Err WrongVersion }
 {
     let row = good_row(alloc, found)?;
@@ -42,20 +44,25 @@ fn put_found(alloc: Global, rows: &mut Vec<Row>, found: &sqlite::Row) -> Result<
     Ok(())
 }
 
-/// The rows that are found in a store, in order. Each found row is freed as it is
-/// judged, so that the octets of a large store are held once.
-#[tactic(auto, using(crate::proofs::Ordered::none_good))]
-pub(crate) fn rows_found(alloc: Global, found: Vec<sqlite::Row>) -> Result<Vec<Row>, StoreFault>
-    ensures good { IfOk result (λ rows. AreGood found.items rows.items) }
-    ensures octets { IfOk result (λ rows. HoldOctets rows.items) }
-    ensures bad { result ≡ Err BadRows → (rows : _) → ¬ AreGood found.items rows }
-    ensures version { result ≢ Err WrongVersion }
+/// The rows of found ones and of one more, in order, while all are good and no two of one place.
+pub(crate) fn rows_then(
+    alloc: Global,
+    rows: Option<Vec<Row>>,
+    found: &sqlite::Row,
+) -> Result<Option<Vec<Row>>, Error>
+    requires { IfSome rows (λ rows. IsRising rows.items) }
+    ensures { IfOk result (λ new. (seen : List Values) → AreRows seen rows
+        → AreRows (seen ++ found.now ∷ []) new) }
 {
-    let mut rows = Vec::new(alloc);
-    for row in found {
-        put_found(alloc, &mut rows, &row)?;
+    let Some(mut rows) = rows else {
+        return Ok(None);
+    };
+    match put_found(alloc, &mut rows, found) {
+        Ok(()) => Ok(Some(rows)),
+        Err(StoreFault::BadRows) => Ok(None),
+        Err(StoreFault::NoMemory) => Err(Error::SqliteFailure(ErrorCode::OutOfMemory)),
+        Err(_) => Err(Error::SqliteFailure(ErrorCode::TooBig)),
     }
-    Ok(rows)
 }
 
 /// Whether the row above one is there.

@@ -1,14 +1,16 @@
 //! What the tables of a connection hold, read.
-ghost use Rattle.std.specs.Prelude.{◌≡◌, [], None, Some, IfOk, OnOk, map, length, slice_get};
-ghost use Rattle.sqlite_value.specs.Order.{column, bytes};
+ghost use Rattle.std.specs.Prelude.{◌≡◌, [], None, Some, List, IfOk, OnOk, map, length, slice_get};
+ghost use Rattle.sqlite_value.specs.Order.{Row as Values, column, bytes};
 ghost use Rattle.sqlite_value.specs.declared.value.Value.TheVariants.{Blob};
 ghost use Rattle.sqlite.specs.Values.{bound};
 ghost use Rattle.sqlite.specs.State.{HasCleanDisk, Shown};
 ghost use Rattle.sqlite.specs.Held.{state};
-ghost use Rattle.dq_tables.specs.Finding.{row_at, rows_of, rows_above, waiting};
+ghost use Rattle.dq_tables.specs.Finding.{row_at, rows_of, rows_above, waiting_entries};
 ghost use Rattle.dq_sql.specs.Tie.{is_set, Stays};
+ghost use Rattle.dq_sql.specs.Adopting.{IsJudged};
 ghost use Rattle.dq_sql.specs.Reading.{ShowsNoWrite, ShowsSame, HoldsOf, Shows, kept_shown, numbers_shown, IsCount, row_shown};
 
+use crate::judgement::Judgement;
 use crate::version::Version;
 use dq_list::Listed;
 use dq_tables::{Kind, Row, TableFault};
@@ -198,7 +200,7 @@ pub(crate) fn waiting<S: Alter>(
     institution: &[u8],
 ) -> Result<Listed<Row>, TableFault>
     ensures found { HasCleanDisk (state S.Store conn.new) → IfOk result (λ list.
-        HoldsOf (state S.Store conn.old) (λ rows. list ≡ waiting institution.now rows)) }
+        HoldsOf (state S.Store conn.old) (λ rows. list ≡ waiting_entries institution.now rows)) }
     ensures stays { Stays (state S.Store conn.old) (state S.Store conn.new) }
 {
     let answer = answered(
@@ -275,66 +277,89 @@ pub(crate) fn count_above<S: Alter>(
     count_shown(answer.as_slice())
 }
 
-/// The rows that a query answers, read and copied one at a time, so that each is held once.
+/// The judgement of the rows that a query answers, each of which is judged as it is read. There is
+/// room for so many at once.
 fn in_turn<S: Alter>(
     conn: &mut Connection<S>,
     alloc: Global,
+    room: usize,
     query: &str,
-) -> Result<Vec<sqlite::Row>, Error>
+) -> Result<Judgement, Error>
     requires { ShowsNoWrite query.now }
-    ensures shown { HasCleanDisk (state S.Store conn.new) → IfOk result (λ rows.
-        Shown query.now [] (state S.Store conn.old) (state S.Store conn.new) rows.items) }
+    ensures judged { IfOk result (λ judgement. (found : List Values) × IsJudged found judgement
+        × (HasCleanDisk (state S.Store conn.new)
+        → Shown query.now [] (state S.Store conn.old) (state S.Store conn.new) found)) }
     ensures stays { Stays (state S.Store conn.old) (state S.Store conn.new) }
 {
-    let mut all = Vec::new(alloc);
+    let mut judgement = Judgement::new(alloc, room);
     let mut rows = conn.query(query, &[])?;
     'rows: for _ in 0..u64::MAX {
         let Some(row) = rows.next()? else {
-            return Ok(all);
+            return Ok(judgement);
         };
-        all.push(row.copy()?)?;
+        judgement.judge(alloc, row)?;
     }
     Err(Error::SqliteFailure(ErrorCode::OutOfMemory))
 }
 
 /// `in_turn`, whose error is a fault.
-fn answered_in_turn<S: Alter>(
+fn judged_in_turn<S: Alter>(
     conn: &mut Connection<S>,
     alloc: Global,
+    room: usize,
     query: &str,
-) -> Result<Vec<sqlite::Row>, TableFault>
+) -> Result<Judgement, TableFault>
     requires { ShowsNoWrite query.now }
-    ensures shown { HasCleanDisk (state S.Store conn.new) → IfOk result (λ rows.
-        Shown query.now [] (state S.Store conn.old) (state S.Store conn.new) rows.items) }
+    ensures judged { IfOk result (λ judgement. (found : List Values) × IsJudged found judgement
+        × (HasCleanDisk (state S.Store conn.new)
+        → Shown query.now [] (state S.Store conn.old) (state S.Store conn.new) found)) }
     ensures stays { Stays (state S.Store conn.old) (state S.Store conn.new) }
 {
-    match in_turn(conn, alloc, query) {
-        Ok(rows) => Ok(rows),
+    match in_turn(conn, alloc, room, query) {
+        Ok(judgement) => Ok(judgement),
         Err(error) => Err(fault_of(&error)),
     }
 }
 
-/// The rows of the table `kept` of a version, each with its rowid, in the order of kind, institution
-/// and id.
+/// How many rows the table `kept` has, as its store tells: a hint of the room that they take.
+#[tactic(auto, using(crate::proofs::Silent::told_silent))]
+fn rows_told<S: Alter>(conn: &mut Connection<S>) -> Result<usize, TableFault>
+    ensures same { HasCleanDisk (state S.Store conn.new) → OnOk result
+        (ShowsSame (state S.Store conn.old) (state S.Store conn.new)) }
+    ensures stays { Stays (state S.Store conn.old) (state S.Store conn.new) }
+{
+    let answer = answered(conn, "SELECT count(*) FROM kept", &[])?;
+    match usize::try_from(count_shown(answer.as_slice())?) {
+        Ok(number) => Ok(number),
+        Err(_) => Ok(0),
+    }
+}
+
+/// The judgement of the rows of the table `kept` of a version. They are read in the order of kind,
+/// institution and id.
 #[tactic(auto, using(crate::proofs::Silent::all_one_silent, crate::proofs::Silent::all_two_silent))]
-pub(crate) fn rows_read<S: Alter>(
+pub(crate) fn rows_judged<S: Alter>(
     conn: &mut Connection<S>,
     alloc: Global,
     version: Version,
-) -> Result<Vec<sqlite::Row>, TableFault>
-    ensures found { HasCleanDisk (state S.Store conn.new) → IfOk result (λ answer.
-        Shows version (state S.Store conn.old) (kept_shown version) answer.items) }
+) -> Result<Judgement, TableFault>
+    ensures judged { IfOk result (λ judgement. (found : List Values) × IsJudged found judgement
+        × (HasCleanDisk (state S.Store conn.new)
+        → Shows version (state S.Store conn.old) (kept_shown version) found)) }
     ensures stays { Stays (state S.Store conn.old) (state S.Store conn.new) }
 {
+    let room = rows_told(conn)?;
     match version {
-        Version::One => answered_in_turn(
+        Version::One => judged_in_turn(
             conn,
             alloc,
+            room,
             "SELECT rowid, kind, inst, id, above, patient, day, octets, 0 FROM kept ORDER BY kind, inst, id",
         ),
-        Version::Two => answered_in_turn(
+        Version::Two => judged_in_turn(
             conn,
             alloc,
+            room,
             "SELECT rowid, kind, inst, id, above, patient, day, octets, started FROM kept ORDER BY kind, inst, id",
         ),
     }

@@ -8,7 +8,7 @@ ghost use Rattle.sqlite_schema.specs.Code.{terms_in};
 ghost use Rattle.dq_sql.specs.Schema.{optional, record_columns, further_columns, kept_columns, version_columns, kind_checks, kept_table, version_table, kept_index, key_index, above_index, patient_index, day_index, started_index, further_indexes, schema_of};
 ghost use Rattle.dq_sql.specs.declared.version.Version.TheVariants.{Two};
 ghost use Rattle.dq_sql.specs.Adopting.{HasVersion};
-ghost use Rattle.dq_sql.specs.SchemaTest.{HasNoMore, HasNoRules, HasKey, BoundsKind, IsKept, HasOthers};
+ghost use Rattle.dq_sql.specs.SchemaTest.{HasNoMore, HasNoRules, HasKey, BoundsKind, IsKeptTable, HasOthers};
 
 use crate::version::Version;
 use sqlite_schema::code::{Op, Terms};
@@ -180,7 +180,7 @@ fn has_key(table: &Table) -> bool
 
 /// Whether a table is `kept`, but for its columns.
 fn is_kept(table: &Table) -> bool
-    ensures { IsTrue result → IsKept table.now }
+    ensures { IsTrue result → IsKeptTable table.now }
 {
     table.name.as_slice() == b"kept".as_slice()
         && table.tree == 0

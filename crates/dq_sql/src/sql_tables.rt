@@ -5,10 +5,10 @@ ghost use Rattle.sqlite.specs.State.{HasCleanDisk};
 ghost use Rattle.sqlite.specs.Held.{state};
 ghost use Rattle.dq_tables.specs.declared.fault.TableFault.TheVariants.{Store};
 ghost use Rattle.dq_tables.specs.declared.row.Row.{Row};
-ghost use Rattle.dq_sql.specs.Keeping.{Keeps, under_schema};
+ghost use Rattle.dq_sql.specs.Keeping.{KeepsSoundRows, under_schema};
 ghost use Rattle.dq_sql.specs.Tie.{HasRows};
 ghost use Rattle.dq_sql.specs.Counts.{AreRight};
-ghost use Rattle.dq_sql.specs.Restarting.{HoldsRows, HoldsAlone};
+ghost use Rattle.dq_sql.specs.Restarting.{ImageHoldsRows, HoldsAlone};
 ghost use Rattle.sqlite_wal.specs.Files.{outcomes};
 ghost use Rattle.sqlite_wal.specs.Reads.{AreClean};
 ghost use Rattle.sqlite_wal.specs.Recovery.{Image};
@@ -35,7 +35,7 @@ pub struct SqlTables<S: Alter> {
     silents: Silents,
     ghost alone: { conn.in_transaction ≡ false },
     ghost keeps: { ∥ (HasCleanDisk (state S.Store conn)
-        → Keeps (state S.Store conn) history.rows) ∥₁ },
+        → KeepsSoundRows (state S.Store conn) history.rows) ∥₁ },
     ghost counted: { ∥ (HasCleanDisk (state S.Store conn) → AreRight history.rows counts) ∥₁ },
 }
 
@@ -57,7 +57,7 @@ impl<S: Alter> SqlTables<S> {
     pub(crate) fn over(alloc: Global, conn: Connection<S>, rows: &Listed<Row>) -> SqlTables<S>
         requires alone { conn.in_transaction ≡ false }
         requires keeps { HasCleanDisk (state S.Store conn)
-            → Keeps (state S.Store conn) rows.now }
+            → KeepsSoundRows (state S.Store conn) rows.now }
         ensures conn { result.conn ≡ conn }
         ensures rows { result.history.rows ≡ rows.now }
         ensures failed { result.failed ≡ false }
@@ -106,7 +106,7 @@ impl<D: Disk + Drop> SqlTables<FileStore<D>> {
             → outcomes D.Disk result.log result.db image
             → ∥ ((rows : List Row)
             × (⟦<SqlTables<FileStore<D>> as Tables>⟧.state self).may_leave rows
-            × HoldsRows image rows) ∥₁ }
+            × ImageHoldsRows image rows) ∥₁ }
     {
         self.into_connection().into_store().close()
     }

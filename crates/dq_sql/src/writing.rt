@@ -4,9 +4,9 @@ ghost use Rattle.sqlite.specs.State.{HasCleanDisk, KeepsCommit, Survives, Execut
 ghost use Rattle.sqlite.specs.Held.{state};
 ghost use Rattle.sqlite.specs.Values.{or_null};
 ghost use Rattle.sqlite_value.specs.declared.value.Value.TheVariants.{Int, Blob};
-ghost use Rattle.dq_sql.specs.Cells.{patient_of, day_of, columns_of};
-ghost use Rattle.dq_sql.specs.Writing.{Adds, AddsIf, Replaces, Removes, Starts, StartsEach, Makes};
-ghost use Rattle.dq_sql.specs.Writing.{GoesOn, Went, IsMade, IsUndone, Commits};
+ghost use Rattle.dq_sql.specs.Cells.{patient_cell, day_cell, columns_of};
+ghost use Rattle.dq_sql.specs.Writing.{AddsRow, AddsIf, Replaces, Removes, Starts, StartsEach, MakesChange};
+ghost use Rattle.dq_sql.specs.Writing.{TransactionGoesOn, Went, IsMade, IsUndone, Commits};
 ghost use Rattle.dq_tables.specs.declared.change.Change.TheVariants.{Stored, StepAdded};
 
 use crate::cells::Cells;
@@ -24,8 +24,8 @@ fn run<'a, S: Alter>(
     row: &'a Row,
     cells: &'a Cells,
 ) -> Result<(), TableFault>
-    requires patient { or_null (λ v. Blob v.items) cells.now.patient ≡ patient_of row.now }
-    requires day { or_null Int cells.now.day ≡ day_of row.now }
+    requires patient { or_null (λ v. Blob v.items) cells.now.patient ≡ patient_cell row.now }
+    requires day { or_null Int cells.now.day ≡ day_cell row.now }
     ensures same_reference { tx.new.conn.ghost_name ≡ tx.old.conn.ghost_name }
     ensures runs { HasCleanDisk (state S.Store tx.new.conn.now)
         → IsTrue (state S.Store tx.old.conn.now).in_transaction
@@ -66,7 +66,7 @@ pub(crate) fn put<S: Alter>(
     ensures done { HasCleanDisk (state S.Store tx.new.conn.now)
         → IsTrue (state S.Store tx.old.conn.now).in_transaction
         → OnOk result (Went (state S.Store tx.old.conn.now) (state S.Store tx.new.conn.now)
-        × Adds (state S.Store tx.old.conn.now).now (state S.Store tx.new.conn.now).now row.now) }
+        × AddsRow (state S.Store tx.old.conn.now).now (state S.Store tx.new.conn.now).now row.now) }
     ensures kept { HasCleanDisk (state S.Store tx.new.conn.now)
         → IsTrue (state S.Store tx.old.conn.now).in_transaction
         → KeepsCommit (state S.Store tx.old.conn.now) (state S.Store tx.new.conn.now) }
@@ -210,7 +210,7 @@ fn put_step<S: Alter>(
     ensures done { HasCleanDisk (state S.Store tx.new.conn.now)
         → IsTrue (state S.Store tx.old.conn.now).in_transaction
         → OnOk result (Went (state S.Store tx.old.conn.now) (state S.Store tx.new.conn.now)
-        × Makes (state S.Store tx.old.conn.now).now (state S.Store tx.new.conn.now).now
+        × MakesChange (state S.Store tx.old.conn.now).now (state S.Store tx.new.conn.now).now
         (StepAdded step.now keys.now)) }
     ensures kept { HasCleanDisk (state S.Store tx.new.conn.now)
         → IsTrue (state S.Store tx.old.conn.now).in_transaction
@@ -231,7 +231,7 @@ fn put_if<S: Alter>(
     ensures same_reference { tx.new.conn.ghost_name ≡ tx.old.conn.ghost_name }
     ensures done { HasCleanDisk (state S.Store tx.new.conn.now)
         → IsTrue (state S.Store tx.old.conn.now).in_transaction
-        → OnOk result (GoesOn (state S.Store tx.old.conn.now) (state S.Store tx.new.conn.now)
+        → OnOk result (TransactionGoesOn (state S.Store tx.old.conn.now) (state S.Store tx.new.conn.now)
         × AddsIf (state S.Store tx.old.conn.now).now (state S.Store tx.new.conn.now).now
         row.now) }
     ensures kept { HasCleanDisk (state S.Store tx.new.conn.now)
@@ -258,7 +258,7 @@ fn put_stored<S: Alter>(
     ensures done { HasCleanDisk (state S.Store tx.new.conn.now)
         → IsTrue (state S.Store tx.old.conn.now).in_transaction
         → OnOk result (Went (state S.Store tx.old.conn.now) (state S.Store tx.new.conn.now)
-        × Makes (state S.Store tx.old.conn.now).now (state S.Store tx.new.conn.now).now
+        × MakesChange (state S.Store tx.old.conn.now).now (state S.Store tx.new.conn.now).now
         (Stored study.now series.now image.now)) }
     ensures kept { HasCleanDisk (state S.Store tx.new.conn.now)
         → IsTrue (state S.Store tx.old.conn.now).in_transaction
@@ -281,7 +281,7 @@ fn make<S: Alter>(
     ensures done { HasCleanDisk (state S.Store tx.new.conn.now)
         → IsTrue (state S.Store tx.old.conn.now).in_transaction
         → OnOk result (Went (state S.Store tx.old.conn.now) (state S.Store tx.new.conn.now)
-        × Makes (state S.Store tx.old.conn.now).now (state S.Store tx.new.conn.now).now
+        × MakesChange (state S.Store tx.old.conn.now).now (state S.Store tx.new.conn.now).now
         change.now) }
     ensures kept { HasCleanDisk (state S.Store tx.new.conn.now)
         → IsTrue (state S.Store tx.old.conn.now).in_transaction

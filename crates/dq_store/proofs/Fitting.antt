@@ -1,5 +1,5 @@
 -- A change that keeps an instance which is new fits the rows.
-use Rattle.std.proofs.Common.{◌≡◌, ℕ, zero, suc, Bool, true, false, ◌||◌, List, [], ◌∷◌, ◌++◌, drop, Option, Some, None, is_some, find, filter, Ok, refl, sym, ◌∙◌, ap, if◌then◌else◌}
+use Rattle.std.proofs.Common.{◌≡◌, ◌==◌, ◌&&◌, ℕ, Bool, true, false, List, [], ◌∷◌, ◌++◌, Option, Some, None, is_some, find, filter, Ok, refl, sym, ◌∙◌, ap, if◌then◌else◌, arith}
 use Rattle.std.specs.List.{list_any}
 use Rattle.std.specs.Option.{option_map, option_or}
 use Rattle.std.proofs.lemmas.List.Folds.{find-append}
@@ -9,6 +9,8 @@ use Rattle.std.specs.declared.cmp.Ordering.{Ordering}
 use Rattle.std.specs.declared.cmp.Ordering.TheVariants.{Less, Equal, Greater}
 use Rattle.std.specs.Ordering.{is_eq}
 use Rattle.std.proofs.lemmas.Slice.Eq.{bytes_eq-Decides}
+use Rattle.std.proofs.lemmas.Bool.{and_parts}
+use Rattle.std.proofs.lemmas.Bool.Decides.{nat_tests}
 use Rattle.std.proofs.lemmas.Cmp.{tied_itself}
 use Rattle.dq_vr.specs.declared.Tag.{Tag}
 use Rattle.dq_vr.specs.Tags.{sop_instance_uid, study_instance_uid, series_instance_uid}
@@ -24,10 +26,10 @@ use Rattle.dq_dataset.proofs.Views.{elements_of-as_elements}
 use Rattle.dq_tables.specs.declared.row.Kind.{Kind}
 use Rattle.dq_tables.specs.declared.row.Kind.TheVariants.{Study, Series, Image}
 use Rattle.dq_tables.specs.declared.row.Row.{Row}
-use Rattle.dq_tables.specs.Rows.{Record, RowPlace, Put, IsRising, IsOf, of, row_of, place_of, place, within, row_place_of, row_place_order, rows_before, rows_past, after_edit, after_edits, put_if, edits_of}
+use Rattle.dq_tables.specs.Rows.{Record, RowPlace, Put, IsRising, IsOf, of, row_of, record_place, place, within, row_place_of, row_place_order, rows_before, rows_past, after_edit, after_edits, put_if, edits_of}
 use Rattle.dq_tables.specs.Finding.{row_at}
 use Rattle.dq_tables.specs.Keys.{uid_at}
-use Rattle.dq_tables.specs.Sound.{is_own, is_held, is_value, has_key, has_above, is_within, IsNew, IsNewIf, FitsStored}
+use Rattle.dq_tables.specs.Sound.{is_own_row, is_held, is_value, has_key, has_above, is_within_limits, IsNew, IsNewIf, FitsStored}
 use Rattle.dq_tables.proofs.Order.{rows_total, is_at, IsRising-split}
 use Rattle.dq_tables.proofs.InOrder.{row_at_is}
 use Rattle.dq_tables.proofs.Lens.{rising_edit}
@@ -56,11 +58,11 @@ module _ (p q : RowPlace) (less : row_place_order p q ≡ Less) where
   none_there [] = refl
   none_there (row ∷ rows) = there_step row rows (row_place_order (row_place_of row) p) refl (none_there rows)
 
-put_elsewhere : (h : List ℕ) (r : Record) (q : RowPlace) (rows : List Row) → IsRising rows → row_place_order (within h (place_of r)) q ≡ Less
+put_elsewhere : (h : List ℕ) (r : Record) (q : RowPlace) (rows : List Row) → IsRising rows → row_place_order (within h (record_place r)) q ≡ Less
     → row_at q.kind q.institution q.key (after_edit h (Put r) rows) ≡ row_at q.kind q.institution q.key rows
 unfolding after_edit
 put_elsewhere h r q rows rising less =
-    let p = within h (place_of r) in
+    let p = within h (record_place r) in
     let new : find (is_at q) (row_of h r ∷ []) ≡ None = rw less refl in
     row_at_is q (after_edit h (Put r) rows)
     ∙ none_between (is_at q) (rows_before p rows) (row_of h r ∷ []) (rows_past p rows) new
@@ -79,21 +81,11 @@ found_between t (x ∷ xs) y ys here = found_step t x (xs ++ (y ∷ [])) ys (t x
 put_there : (h : List ℕ) (r : Record) (rows : List Row) → is_some (row_at r.kind h r.key (after_edit h (Put r) rows)) ≡ true
 unfolding after_edit
 put_there h r rows =
-    let p = within h (place_of r) in
+    let p = within h (record_place r) in
     rw (row_at_is p (after_edit h (Put r) rows)) (found_between (is_at p) (rows_before p rows) (row_of h r) (rows_past p rows)
     (ap is_eq (tied_itself rows_total p)))
 
 -- ---- what is kept of a data set is a record of its own
-
-any_step : (a b : Bool) → b ≡ true → (a || b) ≡ true
-any_step true b h = refl
-any_step false b h = h
-
-any_later : {X : Type 0} (f : X → Bool) (n : ℕ) (xs : List X) → list_any f (drop n xs) ≡ true → list_any f xs ≡ true
-any_later f zero [] h = h
-any_later f (suc n) [] h = h
-any_later f zero (x ∷ xs) h = h
-any_later f (suc n) (x ∷ xs) h = any_step (f x) (list_any f xs) (any_later f n xs h)
 
 pub uid_of_cut : (tag : Tag) (tags : List Tag) (d : ElementList) → ((e : Element) → has_tag tag e ≡ true → is_listed tags e ≡ true)
     → uid_at tag (cut_out tags d) ≡ uid_at tag d
@@ -101,9 +93,17 @@ unfolding uid_at sole_at
 uid_of_cut tag tags d listed =
     rw (elements_of-as_elements (filter (is_listed tags) (elements_of d)), found_filtered (has_tag tag) (is_listed tags) listed (elements_of d)) refl
 
-pub listed_at : (n : ℕ) (tags : List Tag) (tag : Tag) → drop n tags ≡ tag ∷ drop (suc n) tags → (e : Element) → has_tag tag e ≡ true → is_listed tags e ≡ true
-listed_at n tags tag at e here =
-    any_later (λ (t : Tag). has_tag t e) n tags (rw at (ap (λ (b : Bool). b || list_any (λ (t : Tag). has_tag t e) (drop (suc n) tags)) here))
+-- whether a tag is one of some tags
+abbrev pub is_tag_listed : List Tag → Tag → Bool
+is_tag_listed tags tag = list_any (λ (t : Tag). (tag.group == t.group) && (tag.element == t.element)) tags
+
+-- an element with a tag of the list is listed
+pub listed_by_tag : (tags : List Tag) (tag : Tag) → is_tag_listed tags tag ≡ true → (e : Element) → has_tag tag e ≡ true → is_listed tags e ≡ true
+listed_by_tag tags tag listed e here =
+    let parts = and_parts (e.tag.group == tag.group) (e.tag.element == tag.element) here in
+    let group : e.tag.group ≡ tag.group = grind (arith, nat_tests, parts.0) in
+    let element : e.tag.element ≡ tag.element = grind (arith, nat_tests, parts.1) in
+    rw (group, element) listed
 
 same_bytes : (o : List ℕ) → bytes_eq o o ≡ true
 same_bytes o = (bytes_eq-Decides o o).1 refl
@@ -113,9 +113,9 @@ value_is o v e = rw e (same_bytes v)
 
 own_cut : (h : List ℕ) (kind : Kind) (key above : List ℕ) (tags : List Tag) (d : ElementList)
     → reading Explicit (canonical Explicit (cut_out tags d)) ≡ Ok (cut_out tags d) → has_key kind key (cut_out tags d) ≡ true
-    → has_above kind above (cut_out tags d) ≡ true → is_within kind (canonical Explicit (cut_out tags d)) ≡ true
-    → is_own (row_of h (cut_record kind key above tags d)) ≡ true
-unfolding is_own
+    → has_above kind above (cut_out tags d) ≡ true → is_within_limits kind (canonical Explicit (cut_out tags d)) ≡ true
+    → is_own_row (row_of h (cut_record kind key above tags d)) ≡ true
+unfolding is_own_row
 own_cut h kind key above tags d back has_its_key has_its_above short =
     rw (back, same_bytes (canonical Explicit (cut_out tags d)), has_its_key, has_its_above, short) refl
 
@@ -137,32 +137,32 @@ module _ (h : List ℕ) (sent : Instance)
   abbrev i : List ℕ
   i = sent.image
 
-  study_own : is_own (row_of h (study_record sent)) ≡ true
-  unfolding has_key has_above is_within
+  study_own : is_own_row (row_of h (study_record sent)) ≡ true
+  unfolding has_key has_above is_within_limits
   study_own =
       own_cut h Study s [] study_attributes d (back study_attributes)
       (value_is (uid_at study_instance_uid (cut_out study_attributes d)) s
-      (uid_of_cut study_instance_uid study_attributes d (listed_at 11 study_attributes study_instance_uid refl) ∙ study_is))
+      (uid_of_cut study_instance_uid study_attributes d (listed_by_tag study_attributes study_instance_uid refl) ∙ study_is))
       refl refl
 
-  series_own : is_own (row_of h (series_record sent)) ≡ true
-  unfolding has_key has_above is_within
+  series_own : is_own_row (row_of h (series_record sent)) ≡ true
+  unfolding has_key has_above is_within_limits
   series_own =
       own_cut h Series r s series_attributes d (back series_attributes)
       (value_is (uid_at series_instance_uid (cut_out series_attributes d)) r
-      (uid_of_cut series_instance_uid series_attributes d (listed_at 7 series_attributes series_instance_uid refl) ∙ series_is))
+      (uid_of_cut series_instance_uid series_attributes d (listed_by_tag series_attributes series_instance_uid refl) ∙ series_is))
       (value_is (uid_at study_instance_uid (cut_out series_attributes d)) s
-      (uid_of_cut study_instance_uid series_attributes d (listed_at 6 series_attributes study_instance_uid refl) ∙ study_is))
+      (uid_of_cut study_instance_uid series_attributes d (listed_by_tag series_attributes study_instance_uid refl) ∙ study_is))
       refl
 
-  image_own : is_own (row_of h (image_record sent)) ≡ true
-  unfolding has_key has_above is_within
+  image_own : is_own_row (row_of h (image_record sent)) ≡ true
+  unfolding has_key has_above is_within_limits
   image_own =
       own_cut h Image i r image_attributes d (back image_attributes)
       (value_is (uid_at sop_instance_uid (cut_out image_attributes d)) i
-      (uid_of_cut sop_instance_uid image_attributes d (listed_at 3 image_attributes sop_instance_uid refl) ∙ image_is))
+      (uid_of_cut sop_instance_uid image_attributes d (listed_by_tag image_attributes sop_instance_uid refl) ∙ image_is))
       (value_is (uid_at series_instance_uid (cut_out image_attributes d)) r
-      (uid_of_cut series_instance_uid image_attributes d (listed_at 7 image_attributes series_instance_uid refl) ∙ series_is))
+      (uid_of_cut series_instance_uid image_attributes d (listed_by_tag image_attributes series_instance_uid refl) ∙ series_is))
       refl
 
   is_of_its_own : (k : Option Record) (new : Record) → IsOf h (new_if h k new)
@@ -173,7 +173,7 @@ module _ (h : List ℕ) (sent : Instance)
   still_rising None new rows rising = rising_edit h (Put new) rows rising
   still_rising (Some k) new rows rising = rising
 
-  stays : (k : Option Record) (new : Record) (q : RowPlace) (rows : List Row) → IsRising rows → row_place_order (within h (place_of new)) q ≡ Less
+  stays : (k : Option Record) (new : Record) (q : RowPlace) (rows : List Row) → IsRising rows → row_place_order (within h (record_place new)) q ≡ Less
       → row_at q.kind q.institution q.key (after_edits h (put_if (new_if h k new)) rows) ≡ row_at q.kind q.institution q.key rows
   stays None new q rows rising less = put_elsewhere h new q rows rising less
   stays (Some k) new q rows rising less = refl

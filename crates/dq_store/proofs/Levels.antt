@@ -3,7 +3,6 @@ use Rattle.std.proofs.Common.{◌≡◌, Bool, true, false, ◌||◌, List, [], 
 use Rattle.std.specs.List.{list_all, list_any}
 use Rattle.std.proofs.lemmas.Bool.{and_parts}
 use Rattle.dq_vr.specs.declared.Tag.{Tag}
-use Rattle.dq_vr.specs.Tags.{specific_character_set, image_type, sop_class_uid, sop_instance_uid, study_date, series_date, content_date, study_time, series_time, content_time, accession_number, modality, referring_physician_name, study_description, series_description, patient_name, patient_id, issuer_of_patient_id, patient_birth_date, patient_sex, body_part_examined, study_instance_uid, series_instance_uid, study_id, series_number, instance_number, rows, columns}
 use Rattle.dq_dataset.specs.declared.data_set.Element.{Element}
 use Rattle.dq_dataset.specs.Tree.{ElementList}
 use Rattle.dq_dataset.specs.View.{as_elements, elements_of, has_tag}
@@ -12,7 +11,6 @@ use Rattle.dq_dataset.proofs.Views.{as_elements-elements_of, elements_of-as_elem
 use Rattle.dq_dimse.specs.Attributes.{kept_attributes}
 use Rattle.dq_store.specs.Attributes.{study_attributes, series_attributes, image_attributes}
 use Rattle.dq_store.specs.Levels.{has_only}
-use Rattle.dq_store.proofs.Fitting.{listed_at}
 use Rattle.dq_store.proofs.Sieved.{AllListed, listed_too, study_kept, series_kept, image_kept}
 
 -- ---- what is cut out
@@ -45,7 +43,7 @@ abbrev of_levels : List Tag
 of_levels = study_attributes ++ (series_attributes ++ image_attributes)
 
 kept_of_levels : AllListed kept_attributes of_levels
-kept_of_levels = (listed_at 0 of_levels specific_character_set refl, (listed_at 23 of_levels image_type refl, (listed_at 24 of_levels sop_class_uid refl, (listed_at 25 of_levels sop_instance_uid refl, (listed_at 1 of_levels study_date refl, (listed_at 14 of_levels series_date refl, (listed_at 26 of_levels content_date refl, (listed_at 2 of_levels study_time refl, (listed_at 15 of_levels series_time refl, (listed_at 27 of_levels content_time refl, (listed_at 3 of_levels accession_number refl, (listed_at 16 of_levels modality refl, (listed_at 4 of_levels referring_physician_name refl, (listed_at 5 of_levels study_description refl, (listed_at 17 of_levels series_description refl, (listed_at 6 of_levels patient_name refl, (listed_at 7 of_levels patient_id refl, (listed_at 8 of_levels issuer_of_patient_id refl, (listed_at 9 of_levels patient_birth_date refl, (listed_at 10 of_levels patient_sex refl, (listed_at 18 of_levels body_part_examined refl, (listed_at 11 of_levels study_instance_uid refl, (listed_at 20 of_levels series_instance_uid refl, (listed_at 12 of_levels study_id refl, (listed_at 21 of_levels series_number refl, (listed_at 30 of_levels instance_number refl, (listed_at 31 of_levels rows refl, (listed_at 32 of_levels columns refl, tt))))))))))))))))))))))))))))
+kept_of_levels = refl
 
 or_again : (a b c : Bool) → (a || (b || c)) ≡ ((a || b) || c)
 or_again true b c = refl

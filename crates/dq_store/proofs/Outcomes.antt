@@ -1,7 +1,7 @@
 -- What is answered of an instance, by what is kept of it.
 use Rattle.std.proofs.Common.{◌≡◌, ℕ, Bool, true, false, List, [], Option, Some, None, Result, Ok, Err, refl, sym, ◌∙◌, ap, if◌then◌else◌, ◌⊎◌, inl, inr}
 use Rattle.std.specs.Result.{result_ok, result_unwrap_or}
-use Rattle.dq_list.specs.Readers.{provided}
+use Rattle.dq_list.specs.Readers.{only_if}
 use Rattle.dq_dataset.specs.declared.fault.ReadFault.{ReadFault}
 use Rattle.dq_dataset.specs.declared.header.Syntax.{Syntax}
 use Rattle.dq_dataset.specs.Tree.{ElementList, no_elements}
@@ -11,11 +11,11 @@ use Rattle.dq_dimse.specs.Receiving.{is_over}
 use Rattle.dq_dimse.specs.Statuses.{out_of_resources, does_not_match_sop_class, cannot_understand, success, elements_discarded}
 use Rattle.dq_config.specs.Limits.{Limits}
 use Rattle.dq_tables.specs.Rows.{Record, Edit}
-use Rattle.dq_tables.specs.Serving.{first_refusal, outcome}
+use Rattle.dq_tables.specs.Serving.{first_refusal, refusal_or}
 use Rattle.dq_dimse.specs.Limits.{store_limit}
 use Rattle.dq_store.specs.declared.keeping.KeptRows.{KeptRows}
-use Rattle.dq_store.specs.Storing.{Instance, Kept, kept_among, instance_in, is_named, keeps_too_much, instance_refusals, storage_refusals, stored_status, stored_edits, stored}
-use Rattle.dq_store.specs.Views.{rows_among, unless_refused, kept_of, instance_stored, kept_status}
+use Rattle.dq_store.specs.Storing.{Instance, Kept, kept_among, instance_in, names_instance, keeps_too_much, instance_refusals, storage_refusals, stored_status, stored_edits, store_outcome}
+use Rattle.dq_store.specs.Views.{rows_among, unless_refused, records_kept, instance_stored, kept_status}
 use Rattle.dq_store.proofs.Records.{kept_is}
 
 abbrev kept_by : Bool → Kept → Instance → ℕ × List Edit
@@ -36,53 +36,53 @@ module _ (limits : Limits) (records : List Record) (other : Bool) (sent : Instan
   pub refused_instance : (status : ℕ) → Err status ≡ found → instance_stored limits records other sent ≡ (status, [])
   unfolding instance_stored
   refused_instance status is =
-      ap (λ (o : Option ℕ). outcome o (kept_by other (kept_among records sent) sent)) (refused_by _ (rows_among name records sent) status is)
+      ap (λ (o : Option ℕ). refusal_or o (kept_by other (kept_among records sent) sent)) (refused_by _ (rows_among name records sent) status is)
 
-  pub kept_instance : (kept : KeptRows) → Ok kept ≡ found → instance_stored limits records other sent ≡ kept_by other (kept_of kept) sent
+  pub kept_instance : (kept : KeptRows) → Ok kept ≡ found → instance_stored limits records other sent ≡ kept_by other (records_kept kept) sent
   unfolding instance_stored
   kept_instance kept is =
       let both = not_refused _ (rows_among name records sent) kept is in
-      ap (λ (o : Option ℕ). outcome o (kept_by other (kept_among records sent) sent)) both.0
+      ap (λ (o : Option ℕ). refusal_or o (kept_by other (kept_among records sent) sent)) both.0
       ∙ sym (ap (λ (k : Kept). kept_by other k sent) (kept_is name records sent kept both.1))
 
-  pub kept_records : (kept : KeptRows) → Ok kept ≡ found → kept_of kept ≡ kept_among records sent
+  pub kept_records : (kept : KeptRows) → Ok kept ≡ found → records_kept kept ≡ kept_among records sent
   kept_records kept is = kept_is name records sent kept (not_refused _ (rows_among name records sent) kept is).1
 
 -- ---- what is answered before what is kept is asked
 
-pub not_provided : {A : Type 0} (b : Bool) (x : A) → None ≡ provided b x → b ≡ false
+pub not_provided : {A : Type 0} (b : Bool) (x : A) → None ≡ only_if b x → b ≡ false
 not_provided true x none = cc
 not_provided false x none = refl
 
 not_read : (limits : Limits) (records : List Record) (message : Message) (syntax : Syntax) (r : Result ElementList ReadFault)
     → is_over store_limit message ≡ false → reading syntax message.octets ≡ r → result_ok r ≡ None
-    → stored limits records message syntax ≡ (cannot_understand, [])
-unfolding stored
+    → store_outcome limits records message syntax ≡ (cannot_understand, [])
+unfolding store_outcome
 not_read limits records message syntax (Ok d) h same none = cc
 not_read limits records message syntax (Err fault) h same none = rw (h, same) refl
 
 module _ (limits : Limits) (records : List Record) (message : Message) (syntax : Syntax) where
-  pub over : is_over store_limit message ≡ true → stored limits records message syntax ≡ (out_of_resources, [])
-  unfolding stored
+  pub over : is_over store_limit message ≡ true → store_outcome limits records message syntax ≡ (out_of_resources, [])
+  unfolding store_outcome
   over h = rw h refl
 
   pub unread : is_over store_limit message ≡ false → result_ok (reading syntax message.octets) ≡ None
-      → stored limits records message syntax ≡ (cannot_understand, [])
+      → store_outcome limits records message syntax ≡ (cannot_understand, [])
   unread h none = not_read limits records message syntax (reading syntax message.octets) h refl none
 
   pub too_much : (d : ElementList) → is_over store_limit message ≡ false → reading syntax message.octets ≡ Ok d → keeps_too_much d ≡ true
-      → stored limits records message syntax ≡ (out_of_resources, [])
-  unfolding stored
+      → store_outcome limits records message syntax ≡ (out_of_resources, [])
+  unfolding store_outcome
   too_much d h read large = rw (h, read, large) refl
 
   module _ (d : ElementList) (h : is_over store_limit message ≡ false) (read : reading syntax message.octets ≡ Ok d)
       (small : keeps_too_much d ≡ false) where
-    pub unnamed : is_named message.command d ≡ false → stored limits records message syntax ≡ (does_not_match_sop_class, [])
-    unfolding stored
+    pub unnamed : names_instance message.command d ≡ false → store_outcome limits records message syntax ≡ (does_not_match_sop_class, [])
+    unfolding store_outcome
     unnamed none = rw (h, read, small, none) refl
 
-    pub handed_on : is_named message.command d ≡ true → stored limits records message syntax ≡ instance_stored limits records false (instance_in d)
-    unfolding stored instance_stored
+    pub handed_on : names_instance message.command d ≡ true → store_outcome limits records message syntax ≡ instance_stored limits records false (instance_in d)
+    unfolding store_outcome instance_stored
     handed_on named = rw (h, read, small, named) refl
 
 -- ---- what is refused
@@ -96,15 +96,15 @@ unfolding stored_status
 status_kept kept sent = whole_or_not _
 
 outcome_refused : (refusal : Option ℕ) (kept : Kept) (sent : Instance)
-    → ((outcome refusal (kept_by false kept sent)).1 ≡ [])
-    ⊎ (((outcome refusal (kept_by false kept sent)).0 ≡ success) ⊎ ((outcome refusal (kept_by false kept sent)).0 ≡ elements_discarded))
+    → ((refusal_or refusal (kept_by false kept sent)).1 ≡ [])
+    ⊎ (((refusal_or refusal (kept_by false kept sent)).0 ≡ success) ⊎ ((refusal_or refusal (kept_by false kept sent)).0 ≡ elements_discarded))
 outcome_refused (Some status) kept sent = inl refl
 outcome_refused None kept sent = inr (status_kept kept sent)
 
 pub refused_changes_nothing : (limits : Limits) (records : List Record) (message : Message) (syntax : Syntax)
-    → ((stored limits records message syntax).1 ≡ [])
-    ⊎ (((stored limits records message syntax).0 ≡ success) ⊎ ((stored limits records message syntax).0 ≡ elements_discarded))
-unfolding stored
+    → ((store_outcome limits records message syntax).1 ≡ [])
+    ⊎ (((store_outcome limits records message syntax).0 ≡ success) ⊎ ((store_outcome limits records message syntax).0 ≡ elements_discarded))
+unfolding store_outcome
 refused_changes_nothing limits records message syntax =
     let data_set = reading syntax message.octets in
     let sent = instance_in (result_unwrap_or data_set no_elements) in

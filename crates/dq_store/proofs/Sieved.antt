@@ -1,9 +1,9 @@
 -- What is kept of a data set decides as the whole data set does.
 use Rattle.std.proofs.Common.{◌≡◌, ℕ, Bool, true, false, ◌||◌, ◌&&◌, not, List, [], ◌∷◌, Option, Some, None, filter, refl, sym, ap, subst, ◌∙◌, if◌then◌else◌}
 use Rattle.std.specs.List.{list_all, list_any}
-use Rattle.std.proofs.lemmas.Bool.{false≢true}
+use Rattle.std.proofs.lemmas.Bool.{and_parts, false≢true}
 use Rattle.dq_vr.specs.declared.Tag.{Tag}
-use Rattle.dq_vr.specs.Tags.{specific_character_set, image_type, sop_class_uid, sop_instance_uid, study_date, series_date, content_date, study_time, series_time, content_time, accession_number, modality, referring_physician_name, study_description, series_description, patient_name, patient_id, issuer_of_patient_id, patient_birth_date, patient_sex, body_part_examined, study_instance_uid, series_instance_uid, study_id, series_number, instance_number, rows, columns}
+use Rattle.dq_vr.specs.Tags.{sop_class_uid, sop_instance_uid, study_instance_uid, series_instance_uid}
 use Rattle.dq_dataset.specs.declared.data_set.Element.{Element}
 use Rattle.dq_dataset.specs.Tree.{ElementList}
 use Rattle.dq_dataset.specs.View.{as_elements, elements_of, has_tag}
@@ -18,17 +18,17 @@ use Rattle.dq_dimse.specs.Statuses.{success, elements_discarded}
 use Rattle.dq_config.specs.Limits.{Limits}
 use Rattle.dq_tables.specs.Rows.{Record, Edit}
 use Rattle.dq_tables.specs.Keys.{uid_at}
-use Rattle.dq_tables.specs.Serving.{first_refusal, outcome}
+use Rattle.dq_tables.specs.Serving.{first_refusal, refusal_or}
 use Rattle.dq_store.specs.Attributes.{study_attributes, series_attributes, image_attributes}
-use Rattle.dq_store.specs.Storing.{Instance, Kept, kept_among, instance_in, is_named, standing, is_kept_whole, stored_status, stored_edits, instance_refusals, is_kept_elsewhere, has_series_elsewhere}
+use Rattle.dq_store.specs.Storing.{Instance, Kept, kept_among, instance_in, names_instance, standing_attributes, is_kept_whole, stored_status, stored_edits, instance_refusals, is_kept_elsewhere, has_series_elsewhere}
 use Rattle.dq_store.specs.Views.{kept_status, instance_stored}
-use Rattle.dq_store.proofs.Fitting.{listed_at, uid_of_cut}
+use Rattle.dq_store.proofs.Fitting.{is_tag_listed, listed_by_tag, uid_of_cut}
 
 -- ---- the attributes of each level are kept
 
+-- each of some tags is one of all
 abbrev pub AllListed : List Tag → List Tag → Type 0
-AllListed [] all = Unit {0}
-AllListed (tag ∷ tags) all = ((e : Element) → has_tag tag e ≡ true → is_listed all e ≡ true) × AllListed tags all
+AllListed tags all = list_all (is_tag_listed all) tags ≡ true
 
 either : (a b c : Bool) → (a ≡ true → c ≡ true) → (b ≡ true → c ≡ true) → (a || b) ≡ true → c ≡ true
 either true b c f g h = f refl
@@ -36,115 +36,18 @@ either false b c f g h = g h
 
 pub listed_too : (tags all : List Tag) → AllListed tags all → (e : Element) → is_listed tags e ≡ true → is_listed all e ≡ true
 listed_too [] all h e l = absurd (false≢true l)
-listed_too (tag ∷ tags) all h e l = either (has_tag tag e) (is_listed tags e) (is_listed all e) (h.0 e) (listed_too tags all h.1 e) l
+listed_too (tag ∷ tags) all h e l =
+    let parts = and_parts (is_tag_listed all tag) (list_all (is_tag_listed all) tags) h in
+    either (has_tag tag e) (is_listed tags e) (is_listed all e) (listed_by_tag all tag parts.0 e) (listed_too tags all parts.1 e) l
 
 pub study_kept : AllListed study_attributes kept_attributes
-study_kept = (
-  listed_at 0 kept_attributes specific_character_set refl,
-  (
-    listed_at 4 kept_attributes study_date refl,
-    (
-      listed_at 7 kept_attributes study_time refl,
-      (
-        listed_at 10 kept_attributes accession_number refl,
-        (
-          listed_at 12 kept_attributes referring_physician_name refl,
-          (
-            listed_at 13 kept_attributes study_description refl,
-            (
-              listed_at 15 kept_attributes patient_name refl,
-              (
-                listed_at 16 kept_attributes patient_id refl,
-                (
-                  listed_at 17 kept_attributes issuer_of_patient_id refl,
-                  (
-                    listed_at 18 kept_attributes patient_birth_date refl,
-                    (
-                      listed_at 19 kept_attributes patient_sex refl,
-                      (
-                        listed_at 21 kept_attributes study_instance_uid refl,
-                        (
-                          listed_at 23 kept_attributes study_id refl,
-                          tt,
-                        ),
-                      ),
-                    ),
-                  ),
-                ),
-              ),
-            ),
-          ),
-        ),
-      ),
-    ),
-  ),
-)
+study_kept = refl
 
 pub series_kept : AllListed series_attributes kept_attributes
-series_kept = (
-  listed_at 0 kept_attributes specific_character_set refl,
-  (
-    listed_at 5 kept_attributes series_date refl,
-    (
-      listed_at 8 kept_attributes series_time refl,
-      (
-        listed_at 11 kept_attributes modality refl,
-        (
-          listed_at 14 kept_attributes series_description refl,
-          (
-            listed_at 20 kept_attributes body_part_examined refl,
-            (
-              listed_at 21 kept_attributes study_instance_uid refl,
-              (
-                listed_at 22 kept_attributes series_instance_uid refl,
-                (
-                  listed_at 24 kept_attributes series_number refl,
-                  tt,
-                ),
-              ),
-            ),
-          ),
-        ),
-      ),
-    ),
-  ),
-)
+series_kept = refl
 
 pub image_kept : AllListed image_attributes kept_attributes
-image_kept = (
-  listed_at 0 kept_attributes specific_character_set refl,
-  (
-    listed_at 1 kept_attributes image_type refl,
-    (
-      listed_at 2 kept_attributes sop_class_uid refl,
-      (
-        listed_at 3 kept_attributes sop_instance_uid refl,
-        (
-          listed_at 6 kept_attributes content_date refl,
-          (
-            listed_at 9 kept_attributes content_time refl,
-            (
-              listed_at 21 kept_attributes study_instance_uid refl,
-              (
-                listed_at 22 kept_attributes series_instance_uid refl,
-                (
-                  listed_at 25 kept_attributes instance_number refl,
-                  (
-                    listed_at 26 kept_attributes rows refl,
-                    (
-                      listed_at 27 kept_attributes columns refl,
-                      tt,
-                    ),
-                  ),
-                ),
-              ),
-            ),
-          ),
-        ),
-      ),
-    ),
-  ),
-)
+image_kept = refl
 
 -- ---- what is cut out of what is kept
 
@@ -190,7 +93,7 @@ has_none tags d e listed unlisted =
     (λ held there. no_other tags held e (same_element held e) refl listed unlisted there) (elements_of d)
 
 stands_none : (o : Option Record) (tags : List Tag) (d : ElementList) (e : Element) → AllListed tags kept_attributes → is_listed kept_attributes e ≡ false
-    → has_element (standing o tags d) e ≡ false
+    → has_element (standing_attributes o tags d) e ≡ false
 stands_none (Some kept) tags d e listed unlisted = has_none tags _ e listed unlisted
 stands_none None tags d e listed unlisted = has_none tags d e listed unlisted
 
@@ -213,18 +116,18 @@ whole_split f q none [] = refl
 whole_split f q none (x ∷ xs) = whole_step f q x xs (q x) refl (none x) (whole_split f q none xs)
 
 standing_kept : (o : Option Record) (tags : List Tag) (d : ElementList) → AllListed tags kept_attributes
-    → standing o tags (cut_out kept_attributes d) ≡ standing o tags d
+    → standing_attributes o tags (cut_out kept_attributes d) ≡ standing_attributes o tags d
 standing_kept (Some kept) tags d listed = refl
 standing_kept None tags d listed = cut_twice tags d listed
 
 whole_kept : (study series image : Option Record) (d : ElementList) → let k = cut_out kept_attributes d in
-    is_kept_whole (standing study study_attributes d) (standing series series_attributes d) (standing image image_attributes d) d
+    is_kept_whole (standing_attributes study study_attributes d) (standing_attributes series series_attributes d) (standing_attributes image image_attributes d) d
     ≡ (not (has_other kept_attributes d)
-    && is_kept_whole (standing study study_attributes k) (standing series series_attributes k) (standing image image_attributes k) k)
+    && is_kept_whole (standing_attributes study study_attributes k) (standing_attributes series series_attributes k) (standing_attributes image image_attributes k) k)
 unfolding is_kept_whole
 whole_kept study series image d =
-    let stands = λ (e : Element). has_element (standing study study_attributes d) e
-    || (has_element (standing series series_attributes d) e || has_element (standing image image_attributes d) e) in
+    let stands = λ (e : Element). has_element (standing_attributes study study_attributes d) e
+    || (has_element (standing_attributes series series_attributes d) e || has_element (standing_attributes image image_attributes d) e) in
     whole_split stands (is_listed kept_attributes)
     (λ e unlisted. rw (
       stands_none study study_attributes d e study_kept unlisted,
@@ -267,28 +170,28 @@ unfolding instance_stored is_kept_elsewhere has_series_elsewhere
 parts_kept limits records d study series image =
     let sent = of_parts d study series image in
     let kept = kept_among records sent in
-    ap (λ (status : ℕ). outcome (first_refusal (instance_refusals limits records sent)) (status, stored_edits kept sent))
+    ap (λ (status : ℕ). refusal_or (first_refusal (instance_refusals limits records sent)) (status, stored_edits kept sent))
     (status_kept kept d study series image)
-    ∙ ap (λ (edits : List Edit). outcome (first_refusal (instance_refusals limits records sent))
+    ∙ ap (λ (edits : List Edit). refusal_or (first_refusal (instance_refusals limits records sent))
     (kept_status (has_other kept_attributes d) kept (of_parts (cut_out kept_attributes d) study series image), edits))
     (edits_kept kept d study series image)
 
 -- ---- the UIDs
 
 class_kept : (d : ElementList) → uid_at sop_class_uid (cut_out kept_attributes d) ≡ uid_at sop_class_uid d
-class_kept d = uid_of_cut sop_class_uid kept_attributes d (listed_at 2 kept_attributes sop_class_uid refl)
+class_kept d = uid_of_cut sop_class_uid kept_attributes d (listed_by_tag kept_attributes sop_class_uid refl)
 
 image_uid_kept : (d : ElementList) → uid_at sop_instance_uid (cut_out kept_attributes d) ≡ uid_at sop_instance_uid d
-image_uid_kept d = uid_of_cut sop_instance_uid kept_attributes d (listed_at 3 kept_attributes sop_instance_uid refl)
+image_uid_kept d = uid_of_cut sop_instance_uid kept_attributes d (listed_by_tag kept_attributes sop_instance_uid refl)
 
 study_uid_kept : (d : ElementList) → uid_at study_instance_uid (cut_out kept_attributes d) ≡ uid_at study_instance_uid d
-study_uid_kept d = uid_of_cut study_instance_uid kept_attributes d (listed_at 21 kept_attributes study_instance_uid refl)
+study_uid_kept d = uid_of_cut study_instance_uid kept_attributes d (listed_by_tag kept_attributes study_instance_uid refl)
 
 series_uid_kept : (d : ElementList) → uid_at series_instance_uid (cut_out kept_attributes d) ≡ uid_at series_instance_uid d
-series_uid_kept d = uid_of_cut series_instance_uid kept_attributes d (listed_at 22 kept_attributes series_instance_uid refl)
+series_uid_kept d = uid_of_cut series_instance_uid kept_attributes d (listed_by_tag kept_attributes series_instance_uid refl)
 
-pub named_kept : (command : Command) (d : ElementList) → is_named command (cut_out kept_attributes d) ≡ is_named command d
-unfolding is_named
+pub named_kept : (command : Command) (d : ElementList) → names_instance command (cut_out kept_attributes d) ≡ names_instance command d
+unfolding names_instance
 named_kept command d = rw (class_kept d, image_uid_kept d, study_uid_kept d, series_uid_kept d) refl
 
 parts_are : (d : ElementList) → instance_in (cut_out kept_attributes d)

@@ -3,7 +3,7 @@ use Rattle.std.proofs.Common.{◌≡◌, ◌≤◌, ℕ, Bool, true, false, ◌|
 use Rattle.std.specs.Prelude.{nat_lt}
 use Rattle.std.specs.Result.{result_ok}
 use Rattle.std.proofs.lemmas.Bool.{le-ltb}
-use Rattle.dq_list.specs.Readers.{provided}
+use Rattle.dq_list.specs.Readers.{only_if}
 use Rattle.dq_list.proofs.Readers.{provided_some}
 use Rattle.dq_dataset.specs.declared.fault.ReadFault.{ReadFault}
 use Rattle.dq_dataset.specs.declared.header.Syntax.{Syntax}
@@ -27,7 +27,7 @@ use Rattle.dq_dimse.specs.Received.{Message}
 use Rattle.dq_dimse.specs.Receiving.{is_over}
 use Rattle.dq_config.specs.Limits.{Limits}
 use Rattle.dq_tables.specs.Rows.{Record}
-use Rattle.dq_store.specs.Storing.{Instance, instance_in, is_named, keeps_too_much, stored}
+use Rattle.dq_store.specs.Storing.{Instance, instance_in, names_instance, keeps_too_much, store_outcome}
 use Rattle.dq_store.specs.Views.{instance_stored}
 use Rattle.dq_store.proofs.Outcomes.{unread, too_much, not_provided, unnamed, handed_on}
 use Rattle.dq_store.proofs.Sieved.{named_kept, kept_decides}
@@ -103,14 +103,14 @@ kept_in syntax octets kept other (inr x) = (let no = x.2 in absurd cc)
 module _ (limits : Limits) (records : List Record) (syntax : Syntax) (held : HeldMessage) (m : Message) (h : StandsFor syntax held m) where
   pub stored_unread : (answer : Answer) (fault : ReadFault) → held.body ≡ Sifted answer → answer ≡ Fault fault
       → ((first : ReadFault) → IsFaulty syntax m.octets first → reading syntax m.octets ≡ Err first)
-      → stored limits records m syntax ≡ (0xC000, [])
+      → store_outcome limits records m syntax ≡ (0xC000, [])
   stored_unread answer fault is e law =
       let faulty = faulty_in syntax m.octets fault (subst (IsSifted syntax kept_attributes m.octets) e (is_answer syntax held m h answer is)) in
       unread limits records m syntax (not_over syntax held m h answer is) (ap result_ok (law faulty.0 faulty.1))
 
   pub stored_large : (answer : Answer) → held.body ≡ Sifted answer → answer ≡ Large
       → ((d : ElementList) → IsSpelled syntax m.octets d → reading syntax m.octets ≡ Ok d)
-      → stored limits records m syntax ≡ (0xA700, [])
+      → store_outcome limits records m syntax ≡ (0xA700, [])
   stored_large answer is e law =
       let large = large_in syntax m.octets (subst (IsSifted syntax kept_attributes m.octets) e (is_answer syntax held m h answer is)) in
       too_much limits records m syntax large.0 (not_over syntax held m h answer is) (law large.0 large.1) large.2
@@ -122,22 +122,22 @@ module _ (limits : Limits) (records : List Record) (syntax : Syntax) (held : Hel
 
   module _ (answer : Answer) (kept : ElementList) (other : Bool) (is : held.body ≡ Sifted answer) (e : answer ≡ Kept kept other)
       (law : (d : ElementList) → IsSpelled syntax m.octets d → reading syntax m.octets ≡ Ok d) where
-    named_is : let w = kept_of_it answer kept other is e in is_named held.command kept ≡ is_named m.command w.whole
+    named_is : let w = kept_of_it answer kept other is e in names_instance held.command kept ≡ names_instance m.command w.whole
     named_is =
         let w = kept_of_it answer kept other is e in
-        ap (is_named held.command) w.kept_is ∙ named_kept held.command w.whole ∙ ap (λ (c : Command). is_named c w.whole) h.command
+        ap (names_instance held.command) w.kept_is ∙ named_kept held.command w.whole ∙ ap (λ (c : Command). names_instance c w.whole) h.command
 
-    pub stored_unnamed : None ≡ provided (is_named held.command kept) (instance_in kept) → stored limits records m syntax ≡ (0xA900, [])
+    pub stored_unnamed : None ≡ only_if (names_instance held.command kept) (instance_in kept) → store_outcome limits records m syntax ≡ (0xA900, [])
     stored_unnamed none =
         let w = kept_of_it answer kept other is e in
         unnamed limits records m syntax w.whole (not_over syntax held m h answer is) (law w.whole w.spelled) w.small
-        (sym named_is ∙ not_provided (is_named held.command kept) (instance_in kept) none)
+        (sym named_is ∙ not_provided (names_instance held.command kept) (instance_in kept) none)
 
-    pub stored_kept : (sent : Instance) → Some sent ≡ provided (is_named held.command kept) (instance_in kept)
-        → instance_stored limits records other sent ≡ stored limits records m syntax
+    pub stored_kept : (sent : Instance) → Some sent ≡ only_if (names_instance held.command kept) (instance_in kept)
+        → instance_stored limits records other sent ≡ store_outcome limits records m syntax
     stored_kept sent some =
         let w = kept_of_it answer kept other is e in
-        let named = provided_some (is_named held.command kept) (instance_in kept) sent (sym some) in
+        let named = provided_some (names_instance held.command kept) (instance_in kept) sent (sym some) in
         ap (instance_stored limits records other) (sym named.1)
         ∙ ap (λ (k : ElementList). instance_stored limits records other (instance_in k)) w.kept_is
         ∙ ap (λ (b : Bool). instance_stored limits records b (instance_in (cut_out kept_attributes w.whole))) w.other_is

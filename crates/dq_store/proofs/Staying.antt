@@ -15,29 +15,29 @@ use Rattle.dq_dimse.specs.Received.{Message}
 use Rattle.dq_config.specs.Limits.{Limits}
 use Rattle.dq_tables.specs.declared.row.Kind.{Kind}
 use Rattle.dq_tables.specs.declared.row.Kind.TheVariants.{Study, Series, Image}
-use Rattle.dq_tables.specs.Rows.{Record, Place, Edit, Put, place_of, place_order, kind_order, octet_order, number_of, records_before, records_past, edited_by, edited, of, by, after, IsRising}
+use Rattle.dq_tables.specs.Rows.{Record, Place, Edit, Put, record_place, place_order, kind_order, octet_order, number_of_kind, records_before, records_past, edited_by, records_after_edits, of, by, after, IsRising}
 use Rattle.dq_tables.specs.Finding.{record_at, same_kind}
 use Rattle.dq_tables.specs.declared.row.Row.{Row}
 use Rattle.dq_tables.proofs.Lens.{others}
 use Rattle.dq_tables.proofs.InOrder.{is_eq_then, is_eq_nat}
-use Rattle.dq_tables.specs.Serving.{first_refusal, outcome}
-use Rattle.dq_store.specs.Storing.{Instance, Kept, kept_among, instance_in, storage_refusals, study_record, series_record, image_record, put_new, stored_status, stored_edits, stored}
+use Rattle.dq_tables.specs.Serving.{first_refusal, refusal_or}
+use Rattle.dq_store.specs.Storing.{Instance, Kept, kept_among, instance_in, storage_refusals, study_record, series_record, image_record, put_new, stored_status, stored_edits, store_outcome}
 use Rattle.std.specs.Option.{option_or}
 use Rattle.std.proofs.lemmas.List.Folds.{find-append}
 use Rattle.dq_list.proofs.Finding.{found_filtered, none_filtered}
 use Rattle.dq_store.proofs.Fitting.{none_in_front}
 
 places_total : IsTotalOrder place_order
-places_total = then_total (on_total (λ (p : Place). number_of p.kind) nat_cmp_total) (on_total (λ (p : Place). p.key) nat_list_cmp_total)
+places_total = then_total (on_total (λ (p : Place). number_of_kind p.kind) nat_cmp_total) (on_total (λ (p : Place). p.key) nat_list_cmp_total)
 
 abbrev stands_at : Place → Record → Bool
-stands_at q r = is_eq (place_order (place_of r) q)
+stands_at q r = is_eq (place_order (record_place r) q)
 
 found_there : (q : Place) (r : Record) → (same_kind r.kind q.kind && bytes_eq r.key q.key) ≡ stands_at q r
 found_there q r =
     sym (is_eq_then (kind_order r.kind q.kind) (octet_order r.key q.key)
     ∙ ap (λ (b : Bool). is_eq (kind_order r.kind q.kind) && b) (is_eq-slice_cmp r.key q.key)
-    ∙ ap (λ (b : Bool). b && bytes_eq r.key q.key) (is_eq_nat (number_of r.kind) (number_of q.kind)))
+    ∙ ap (λ (b : Bool). b && bytes_eq r.key q.key) (is_eq_nat (number_of_kind r.kind) (number_of_kind q.kind)))
 
 record_at_is : (q : Place) (records : List Record) → record_at q.kind q.key records ≡ find (stands_at q) records
 unfolding record_at
@@ -78,25 +78,25 @@ one_alone q new other = rw other refl
 
 module _ (new : Record) where
   abbrev at_new : Place
-  at_new = place_of new
+  at_new = record_place new
 
-  order_of : (q : Place) (r : Record) → stands_at q r ≡ true → place_order (place_of r) at_new ≡ place_order q at_new
-  order_of q r here = places_total.congr (place_of r) q at_new (is_equal (place_order (place_of r) q) here)
+  order_of : (q : Place) (r : Record) → stands_at q r ≡ true → place_order (record_place r) at_new ≡ place_order q at_new
+  order_of q r here = places_total.congr (record_place r) q at_new (is_equal (place_order (record_place r) q) here)
 
   stays_by : (q : Place) (records : List Record) (o : Ordering) → place_order q at_new ≡ o → is_eq o ≡ false → stands_at q new ≡ false
       → find (stands_at q) (records_before at_new records ++ (new ∷ []) ++ records_past at_new records) ≡ find (stands_at q) records
   stays_by q records Less e other apart =
-      let past = none_filtered (stands_at q) (λ (r : Record). is_gt (place_order (place_of r) at_new))
+      let past = none_filtered (stands_at q) (λ (r : Record). is_gt (place_order (record_place r) at_new))
       (λ (r : Record) here. ap is_gt (order_of q r here ∙ e)) records in
-      let before = found_filtered (stands_at q) (λ (r : Record). is_lt (place_order (place_of r) at_new))
+      let before = found_filtered (stands_at q) (λ (r : Record). is_lt (place_order (record_place r) at_new))
       (λ (r : Record) here. ap is_lt (order_of q r here ∙ e)) records in
       none_behind (stands_at q) (records_before at_new records ++ (new ∷ [])) (records_past at_new records) past
       ∙ none_behind (stands_at q) (records_before at_new records) (new ∷ []) (one_alone q new apart) ∙ before
   stays_by q records Equal e other apart = cc
   stays_by q records Greater e other apart =
-      let past = found_filtered (stands_at q) (λ (r : Record). is_gt (place_order (place_of r) at_new))
+      let past = found_filtered (stands_at q) (λ (r : Record). is_gt (place_order (record_place r) at_new))
       (λ (r : Record) here. ap is_gt (order_of q r here ∙ e)) records in
-      let before = none_filtered (stands_at q) (λ (r : Record). is_lt (place_order (place_of r) at_new))
+      let before = none_filtered (stands_at q) (λ (r : Record). is_lt (place_order (record_place r) at_new))
       (λ (r : Record) here. ap is_lt (order_of q r here ∙ e)) records in
       let front = none_behind (stands_at q) (records_before at_new records) (new ∷ []) (one_alone q new apart) ∙ before in
       none_in_front (stands_at q) (records_before at_new records ++ (new ∷ [])) (records_past at_new records) front ∙ past
@@ -115,7 +115,7 @@ module _ (new : Record) where
       → record_at q.kind q.key records ≡ Some r → record_at q.kind q.key (edited_by (Put new) records) ≡ Some r
   kept_by q r records true e free kept =
       let same : place_order at_new q ≡ Equal = is_equal (place_order at_new q) e in
-      let tests : (x : Record) → stands_at at_new x ≡ stands_at q x = λ x. ap is_eq (alike_right places_total at_new q (place_of x) same) in
+      let tests : (x : Record) → stands_at at_new x ≡ stands_at q x = λ x. ap is_eq (alike_right places_total at_new q (record_place x) same) in
       let found : record_at q.kind q.key records ≡ None = record_at_is q records ∙ sym (find_agree (stands_at at_new) (stands_at q) tests records)
       ∙ sym (record_at_is at_new records) ∙ free in
       let clash : None ≡ Some r = sym found ∙ kept in
@@ -127,16 +127,16 @@ module _ (new : Record) where
   unfolding edited_by
   put_here records =
       let same : place_order at_new at_new ≡ Equal = tied_itself places_total at_new in
-      let before = none_filtered (stands_at at_new) (λ (r : Record). is_lt (place_order (place_of r) at_new))
+      let before = none_filtered (stands_at at_new) (λ (r : Record). is_lt (place_order (record_place r) at_new))
       (λ (r : Record) here. ap is_lt (order_of at_new r here ∙ same)) records in
-      let past = none_filtered (stands_at at_new) (λ (r : Record). is_gt (place_order (place_of r) at_new))
+      let past = none_filtered (stands_at at_new) (λ (r : Record). is_gt (place_order (record_place r) at_new))
       (λ (r : Record) here. ap is_gt (order_of at_new r here ∙ same)) records in
       let alone : find (stands_at at_new) (new ∷ []) ≡ Some new = rw same refl in
       record_at_is at_new (edited_by (Put new) records)
       ∙ none_behind (stands_at at_new) (records_before at_new records ++ (new ∷ [])) (records_past at_new records) past
       ∙ none_in_front (stands_at at_new) (records_before at_new records) (new ∷ []) before ∙ alone
 
-edited_append : (es fs : List Edit) (records : List Record) → edited (es ++ fs) records ≡ edited fs (edited es records)
+edited_append : (es fs : List Edit) (records : List Record) → records_after_edits (es ++ fs) records ≡ records_after_edits fs (records_after_edits es records)
 edited_append [] fs records = refl
 edited_append (e ∷ es) fs records = edited_append es fs (edited_by e records)
 
@@ -146,14 +146,14 @@ KeptStays : List Record → List Record → Type 0
 KeptStays records more = (kind : Kind) (key : List ℕ) (r : Record) → record_at kind key records ≡ Some r → record_at kind key more ≡ Some r
 
 new_stays : (k : Option Record) (new : Record) (records : List Record) → record_at new.kind new.key records ≡ k
-    → KeptStays records (edited (put_new k new) records)
+    → KeptStays records (records_after_edits (put_new k new) records)
 unfolding KeptStays
 new_stays None new records free = λ kind key r kept.
     (let q : Place = record { kind = kind; key = key } in kept_by new q r records (stands_at q new) refl free kept)
 new_stays (Some k) new records there = λ kind key r kept. kept
 
-elsewhere : (k : Option Record) (new : Record) (q : Place) (records : List Record) → stands_at q new ≡ false → is_eq (place_order q (place_of new)) ≡ false
-    → record_at q.kind q.key (edited (put_new k new) records) ≡ record_at q.kind q.key records
+elsewhere : (k : Option Record) (new : Record) (q : Place) (records : List Record) → stands_at q new ≡ false → is_eq (place_order q (record_place new)) ≡ false
+    → record_at q.kind q.key (records_after_edits (put_new k new) records) ≡ record_at q.kind q.key records
 elsewhere None new q records apart other = elsewhere_stays new q records apart other
 elsewhere (Some k) new q records apart other = refl
 
@@ -166,11 +166,11 @@ module _ (records : List Record) (sending : Instance) where
 
   all_new : (ks kr : Option Record) → record_at Study sending.study records ≡ ks → record_at Series sending.series records ≡ kr
       → record_at Image sending.image records ≡ None
-      → KeptStays records (edited (put_new ks (study_record sending) ++ (put_new kr (series_record sending) ++ Put (image_record sending) ∷ [])) records)
+      → KeptStays records (records_after_edits (put_new ks (study_record sending) ++ (put_new kr (series_record sending) ++ Put (image_record sending) ∷ [])) records)
   unfolding KeptStays
   all_new ks kr study series image = λ kind key x kept.
-      let first = edited (put_new ks (study_record sending)) records in
-      let second = edited (put_new kr (series_record sending)) first in
+      let first = records_after_edits (put_new ks (study_record sending)) records in
+      let second = records_after_edits (put_new kr (series_record sending)) first in
       let parts = edited_append (put_new ks (study_record sending)) (put_new kr (series_record sending) ++ Put (image_record sending) ∷ []) records
       ∙ edited_append (put_new kr (series_record sending)) (Put (image_record sending) ∷ []) first in
       let series_first = elsewhere ks (study_record sending) at_series records refl refl ∙ series in
@@ -179,16 +179,16 @@ module _ (records : List Record) (sending : Instance) where
       (new_stays ks (study_record sending) records study kind key x kept)))
 
   abbrev pub all_put : Option Record → Option Record → List Record
-  all_put ks kr = edited (put_new ks (study_record sending) ++ (put_new kr (series_record sending) ++ Put (image_record sending) ∷ [])) records
+  all_put ks kr = records_after_edits (put_new ks (study_record sending) ++ (put_new kr (series_record sending) ++ Put (image_record sending) ∷ [])) records
 
   -- what is put of an instance that is new is found
   module _ (ks kr : Option Record) (study : record_at Study sending.study records ≡ ks) (series : record_at Series sending.series records ≡ kr)
       (image : record_at Image sending.image records ≡ None) where
     abbrev with_study : List Record
-    with_study = edited (put_new ks (study_record sending)) records
+    with_study = records_after_edits (put_new ks (study_record sending)) records
 
     abbrev with_series : List Record
-    with_series = edited (put_new kr (series_record sending)) with_study
+    with_series = records_after_edits (put_new kr (series_record sending)) with_study
 
     in_parts : all_put ks kr ≡ edited_by (Put (image_record sending)) with_series
     in_parts =
@@ -202,7 +202,7 @@ module _ (records : List Record) (sending : Instance) where
     image_free =
         elsewhere kr (series_record sending) at_image with_study refl refl ∙ elsewhere ks (study_record sending) at_image records refl refl ∙ image
 
-    stays_in_image : KeptStays with_series (edited (put_new None (image_record sending)) with_series)
+    stays_in_image : KeptStays with_series (records_after_edits (put_new None (image_record sending)) with_series)
     stays_in_image = new_stays None (image_record sending) with_series image_free
 
     pub image_put : record_at Image sending.image (all_put ks kr) ≡ Some (image_record sending)
@@ -211,21 +211,21 @@ module _ (records : List Record) (sending : Instance) where
     pub series_put : kr ≡ None → record_at Series sending.series (all_put ks kr) ≡ Some (series_record sending)
     unfolding KeptStays
     series_put none =
-        let put = ap (λ (k : Option Record). record_at Series sending.series (edited (put_new k (series_record sending)) with_study)) none
+        let put = ap (λ (k : Option Record). record_at Series sending.series (records_after_edits (put_new k (series_record sending)) with_study)) none
         ∙ put_here (series_record sending) with_study in
         ap (record_at Series sending.series) in_parts ∙ stays_in_image Series sending.series (series_record sending) put
 
     pub study_put : ks ≡ None → record_at Study sending.study (all_put ks kr) ≡ Some (study_record sending)
     unfolding KeptStays
     study_put none =
-        let put = ap (λ (k : Option Record). record_at Study sending.study (edited (put_new k (study_record sending)) records)) none
+        let put = ap (λ (k : Option Record). record_at Study sending.study (records_after_edits (put_new k (study_record sending)) records)) none
         ∙ put_here (study_record sending) records in
         ap (record_at Study sending.study) in_parts
         ∙ stays_in_image Study sending.study (study_record sending)
         (new_stays kr (series_record sending) with_study series_free Study sending.study (study_record sending) put)
 
   stays_by_kept : (kept : Kept) → kept ≡ kept_among records sending → (b : Bool) → is_some kept.image ≡ b
-      → KeptStays records (edited (stored_edits kept sending) records)
+      → KeptStays records (records_after_edits (stored_edits kept sending) records)
   unfolding KeptStays stored_edits
   stays_by_kept kept found true there = λ kind key x k. rw there k
   stays_by_kept kept found false new = λ kind key x k.
@@ -234,20 +234,20 @@ module _ (records : List Record) (sending : Instance) where
 
 -- what is kept stays where an instance is stored
 pub kept_stays_by : (records : List Record) (sent : Instance) (kind : Kind) (key : List ℕ) (r : Record) → record_at kind key records ≡ Some r
-    → record_at kind key (edited (stored_edits (kept_among records sent) sent) records) ≡ Some r
+    → record_at kind key (records_after_edits (stored_edits (kept_among records sent) sent) records) ≡ Some r
 unfolding KeptStays
 kept_stays_by records sent = stays_by_kept records sent (kept_among records sent) refl _ refl
 
 outcome_stays : (records : List Record) (refusal : Option ℕ) (sent : Instance)
-    → KeptStays records (edited (outcome refusal (stored_status (kept_among records sent) sent, stored_edits (kept_among records sent) sent)).1 records)
+    → KeptStays records (records_after_edits (refusal_or refusal (stored_status (kept_among records sent) sent, stored_edits (kept_among records sent) sent)).1 records)
 unfolding KeptStays
 outcome_stays records (Some status) sent = λ kind key x k. k
 outcome_stays records None sent = stays_by_kept records sent (kept_among records sent) refl _ refl
 
 -- A record that is kept is kept afterwards, as it was.
 pub kept_stays : (limits : Limits) (records : List Record) (message : Message) (syntax : Syntax) (kind : Kind) (key : List ℕ) (r : Record)
-    → record_at kind key records ≡ Some r → record_at kind key (edited (stored limits records message syntax).1 records) ≡ Some r
-unfolding KeptStays stored
+    → record_at kind key records ≡ Some r → record_at kind key (records_after_edits (store_outcome limits records message syntax).1 records) ≡ Some r
+unfolding KeptStays store_outcome
 kept_stays limits records message syntax =
     let data_set = reading syntax message.octets in
     outcome_stays records (first_refusal (storage_refusals limits records message data_set)) (instance_in (result_unwrap_or data_set no_elements))
@@ -256,10 +256,10 @@ kept_stays limits records message syntax =
 
 -- The records of every other institution stay.
 pub others_stay : (g h : List ℕ) → h ≢ g → (limits : Limits) (rows : List Row) (message : Message) (syntax : Syntax) → IsRising rows
-    → of g (after (by h (stored limits (of h rows) message syntax).1) rows) ≡ of g rows
-others_stay g h apart limits rows message syntax rising = others g h apart (stored limits (of h rows) message syntax).1 rows rising
+    → of g (after (by h (store_outcome limits (of h rows) message syntax).1) rows) ≡ of g rows
+others_stay g h apart limits rows message syntax rising = others g h apart (store_outcome limits (of h rows) message syntax).1 rows rising
 
 -- What another institution keeps does not enter.
 pub own_records_decide : (g h : List ℕ) → g ≢ h → (es : List Edit) (limits : Limits) (rows : List Row) (message : Message) (syntax : Syntax) → IsRising rows
-    → stored limits (of h (after (by g es) rows)) message syntax ≡ stored limits (of h rows) message syntax
-own_records_decide g h apart es limits rows message syntax rising = ap (λ records. stored limits records message syntax) (others h g apart es rows rising)
+    → store_outcome limits (of h (after (by g es) rows)) message syntax ≡ store_outcome limits (of h rows) message syntax
+own_records_decide g h apart es limits rows message syntax rising = ap (λ records. store_outcome limits records message syntax) (others h g apart es rows rising)

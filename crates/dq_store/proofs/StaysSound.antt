@@ -19,14 +19,14 @@ use Rattle.dq_dimse.specs.Received.{Message}
 use Rattle.dq_dimse.specs.Receiving.{is_over}
 use Rattle.dq_config.specs.Limits.{Limits}
 use Rattle.dq_tables.specs.declared.row.Row.{Row}
-use Rattle.dq_tables.specs.Rows.{Record, Edit, Put, Remove, Start, of, by, after, after_edit, after_edits, place_of, row_of, rows_before, rows_past, within}
+use Rattle.dq_tables.specs.Rows.{Record, Edit, Put, Remove, Start, of, by, after, after_edit, after_edits, record_place, row_of, rows_before, rows_past, within}
 use Rattle.dq_tables.specs.Keys.{uid_at}
-use Rattle.dq_tables.specs.Serving.{first_refusal, outcome}
+use Rattle.dq_tables.specs.Serving.{first_refusal, refusal_or}
 use Rattle.dq_tables.specs.Sound.{IsSound, is_value}
 use Rattle.dq_tables.proofs.Order.{each_appended, each_filtered, is_before, is_past}
 use Rattle.dq_tables.proofs.Soundness.{change_sound}
 use Rattle.dq_dimse.specs.Limits.{store_limit}
-use Rattle.dq_store.specs.Storing.{Instance, Kept, kept_among, instance_in, is_named, keeps_too_much, instance_refusals, study_record, series_record, image_record, put_new, stored_edits, stored}
+use Rattle.dq_store.specs.Storing.{Instance, Kept, kept_among, instance_in, names_instance, keeps_too_much, instance_refusals, study_record, series_record, image_record, put_new, stored_edits, store_outcome}
 use Rattle.dq_store.specs.Views.{instance_stored, kept_status, new_rows}
 use Rattle.dq_store.proofs.Fitting.{new_fits, edits_are}
 use Rattle.dq_store.proofs.Outcomes.{over, unread, too_much, unnamed, handed_on}
@@ -47,8 +47,8 @@ pub record HasOwnUids (d : ElementList) : Type 0 where
   pub series : uid_at series_instance_uid d ≡ Some (instance_in d).series
   pub image : uid_at sop_instance_uid d ≡ Some (instance_in d).image
 
-named_uids : (command : Command) (d : ElementList) → is_named command d ≡ true → HasOwnUids d
-unfolding is_named
+named_uids : (command : Command) (d : ElementList) → names_instance command d ≡ true → HasOwnUids d
+unfolding names_instance
 named_uids command d named =
     let class = is_value (uid_at sop_class_uid d) command.sop_class in
     let image = is_value (uid_at sop_instance_uid d) command.sop_instance in
@@ -70,7 +70,7 @@ module _ (P : List Row → Type 0) (h : List ℕ) (rows : List Row) (holds : P r
     (keeps : (d : ElementList) → reading syntax message.octets ≡ Ok d → keeps_too_much d ≡ false → let k = cut_out kept_attributes d in
     HasOwnUids k → P (after (by h (stored_edits (kept_among (of h rows) (instance_in k)) (instance_in k))) rows)) where
   abbrev made : ℕ × List Edit
-  made = stored limits (of h rows) message syntax
+  made = store_outcome limits (of h rows) message syntax
 
   abbrev Stays : ℕ × List Edit → Type 0
   Stays done = P (after (by h done.1) rows)
@@ -78,7 +78,7 @@ module _ (P : List Row → Type 0) (h : List ℕ) (rows : List Row) (holds : P r
   refused_stays : (status : ℕ) → made ≡ (status, []) → Stays made
   refused_stays status e = subst Stays (sym e) holds
 
-  unless_refused : (refusal : Option ℕ) (done : ℕ × List Edit) → Stays done → Stays (outcome refusal done)
+  unless_refused : (refusal : Option ℕ) (done : ℕ × List Edit) → Stays done → Stays (refusal_or refusal done)
   unless_refused (Some status) done kept = holds
   unless_refused None done kept = kept
 
@@ -90,7 +90,7 @@ module _ (P : List Row → Type 0) (h : List ℕ) (rows : List Row) (holds : P r
       (kept_status other (kept_among (of h rows) sent) sent, stored_edits (kept_among (of h rows) sent) sent) kept
 
   named_stays : (d : ElementList) → is_over store_limit message ≡ false → reading syntax message.octets ≡ Ok d → keeps_too_much d ≡ false
-      → (named : Bool) → is_named message.command d ≡ named → Stays made
+      → (named : Bool) → names_instance message.command d ≡ named → Stays made
   named_stays d short read small false other = refused_stays _ (unnamed limits (of h rows) message syntax d short read small other)
   named_stays d short read small true named =
       let k = cut_out kept_attributes d in
@@ -101,7 +101,7 @@ module _ (P : List Row → Type 0) (h : List ℕ) (rows : List Row) (holds : P r
   small_stays : (d : ElementList) → is_over store_limit message ≡ false → reading syntax message.octets ≡ Ok d
       → (large : Bool) → keeps_too_much d ≡ large → Stays made
   small_stays d short read true large = refused_stays _ (too_much limits (of h rows) message syntax d short read large)
-  small_stays d short read false small = named_stays d short read small (is_named message.command d) refl
+  small_stays d short read false small = named_stays d short read small (names_instance message.command d) refl
 
   read_stays : (r : Result ElementList ReadFault) → is_over store_limit message ≡ false → reading syntax message.octets ≡ r → Stays made
   read_stays (Ok d) short read = small_stays d short read (keeps_too_much d) refl
@@ -111,7 +111,7 @@ module _ (P : List Row → Type 0) (h : List ℕ) (rows : List Row) (holds : P r
   short_stays true long = refused_stays _ (over limits (of h rows) message syntax long)
   short_stays false short = read_stays (reading syntax message.octets) short refl
 
-  pub stored_stays : P (after (by h (stored limits (of h rows) message syntax).1) rows)
+  pub stored_stays : P (after (by h (store_outcome limits (of h rows) message syntax).1) rows)
   stored_stays = short_stays (is_over store_limit message) refl
 
 -- ---- that they are sound
@@ -146,7 +146,7 @@ module _ (Each : Row → Type 0) (h : List ℕ) where
   unfolding after_edit
   each_put [] rows all puts = all
   each_put (Put r ∷ es) rows all puts =
-      let p = within h (place_of r) in
+      let p = within h (record_place r) in
       each_put es (after_edit h (Put r) rows)
       (each_appended Each (rows_before p rows ++ row_of h r ∷ []) (rows_past p rows)
       (each_appended Each (rows_before p rows) (row_of h r ∷ []) (each_filtered Each (is_before p) rows all) (puts.0, tt))

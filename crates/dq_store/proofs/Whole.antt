@@ -21,10 +21,10 @@ use Rattle.dq_config.specs.Limits.{Limits}
 use Rattle.dq_tables.specs.declared.row.Kind.{Kind}
 use Rattle.dq_tables.specs.declared.row.Kind.TheVariants.{Study, Series, Image}
 use Rattle.dq_tables.specs.declared.row.Row.{Row}
-use Rattle.dq_tables.specs.Rows.{Record, Edit, Put, of, by, after, edited, row_of}
-use Rattle.dq_tables.specs.Finding.{record_at, row_at, same_kind, is_of}
+use Rattle.dq_tables.specs.Rows.{Record, Edit, Put, of, by, after, records_after_edits, row_of}
+use Rattle.dq_tables.specs.Finding.{record_at, row_at, same_kind, is_of_kind}
 use Rattle.dq_tables.specs.Records.{data_set_of}
-use Rattle.dq_tables.specs.Serving.{first_refusal, outcome}
+use Rattle.dq_tables.specs.Serving.{first_refusal, refusal_or}
 use Rattle.dq_tables.specs.Sound.{IsSound, is_held}
 use Rattle.dq_tables.proofs.Lens.{lens}
 use Rattle.dq_tables.proofs.Listing.{one_kind}
@@ -33,20 +33,20 @@ use Rattle.dq_tables.proofs.Members.{find_among}
 use Rattle.dq_tables.proofs.Seen.{found_own}
 use Rattle.dq_store.specs.Attributes.{study_attributes, series_attributes, image_attributes}
 use Rattle.dq_store.specs.Levels.{keeps_to_its_level, is_of_its_level, data_set_in, stands_whole}
-use Rattle.dq_store.specs.Storing.{Instance, Kept, kept_among, instance_in, keeps_too_much, is_under_another, is_kept_elsewhere, standing, storage_refusals, study_record, series_record, image_record, put_new, stored_status, stored_edits, stored}
+use Rattle.dq_store.specs.Storing.{Instance, Kept, kept_among, instance_in, keeps_too_much, is_under_another, is_kept_elsewhere, standing_attributes, storage_refusals, study_record, series_record, image_record, put_new, stored_status, stored_edits, store_outcome}
 use Rattle.dq_store.proofs.Levels.{cut_is_whole}
 use Rattle.dq_store.proofs.Staying.{kept_stays_by, all_put, image_put, series_put, study_put}
 
 -- ---- what is answered without a refusal
 
 cleared_step : (b : Bool) (status answer : ℕ) (o : Option ℕ) (done : ℕ × List Edit) → status ≢ answer
-    → (outcome (if b then Some status else o) done).0 ≡ answer → (b ≡ false) × ((outcome o done).0 ≡ answer)
+    → (refusal_or (if b then Some status else o) done).0 ≡ answer → (b ≡ false) × ((refusal_or o done).0 ≡ answer)
 cleared_step true status answer o done failure is = absurd (failure is)
 cleared_step false status answer o done failure is = (refl, is)
 
 -- no refusal holds where another status than theirs is answered
 cleared : (refusals : List (Bool × ℕ)) (answer : ℕ) (done : ℕ × List Edit) → AllByRecursion (λ (r : Bool × ℕ). r.1 ≢ answer) refusals
-    → (outcome (first_refusal refusals) done).0 ≡ answer → AllByRecursion (λ (r : Bool × ℕ). r.0 ≡ false) refusals
+    → (refusal_or (first_refusal refusals) done).0 ≡ answer → AllByRecursion (λ (r : Bool × ℕ). r.0 ≡ false) refusals
 cleared [] answer done failures is = tt
 cleared (r ∷ refusals) answer done failures is =
     let both = cleared_step r.0 r.1 answer (first_refusal refusals) done failures.0 is in
@@ -84,7 +84,7 @@ module _ (h : List ℕ) (rows : List Row) (sound : IsSound rows) (levels : AllBy
     its_row =
         let row = row_of h r in
         let found = find_among _ row rows (found_own kind h key rows ∙ ap (option_map (row_of h)) there) in
-        let of_kind = (and_parts (is_of kind h row) (bytes_eq row.key key) found.1).0 in (
+        let of_kind = (and_parts (is_of_kind kind h row) (bytes_eq row.key key) found.1).0 in (
           one_kind row.kind kind (and_parts (same_kind row.kind kind) (bytes_eq row.inst h) of_kind).0,
           each_among (λ (x : Row). is_held rows x.kind x.inst x.above ≡ true) row rows sound.held found.0,
           each_among (λ (x : Row). is_of_its_level x ≡ true) row rows levels found.0,
@@ -111,7 +111,7 @@ module _ (h : List ℕ) (rows : List Row) (sound : IsSound rows) (levels : AllBy
     kept = kept_among records sent
 
     abbrev afterwards : List Record
-    afterwards = edited (stored_edits kept sent) records
+    afterwards = records_after_edits (stored_edits kept sent) records
 
     -- the series and the study of an image that is kept are kept
     above_image : (r : Record) → kept.image ≡ Some r → (is_some kept.series ≡ true) × (is_under_another kept.series sent.study ≡ false)
@@ -144,9 +144,9 @@ module _ (h : List ℕ) (rows : List Row) (sound : IsSound rows) (levels : AllBy
     unfolding stored_edits
     new_edits none =
         let new = put_new kept.study (study_record sent) ++ (put_new kept.series (series_record sent) ++ Put (image_record sent) ∷ []) in
-        ap (λ (o : Option Record). edited (if is_some o then [] else new) records) none
+        ap (λ (o : Option Record). records_after_edits (if is_some o then [] else new) records) none
 
-    study_by : (o : Option Record) → kept.study ≡ o → data_set_in (record_at Study sent.study afterwards) ≡ standing o study_attributes sent.elements
+    study_by : (o : Option Record) → kept.study ≡ o → data_set_in (record_at Study sent.study afterwards) ≡ standing_attributes o study_attributes sent.elements
     unfolding keeps_to_its_level
     study_by (Some r) there =
         ap data_set_in (stays Study sent.study r there)
@@ -158,7 +158,7 @@ module _ (h : List ℕ) (rows : List Row) (sound : IsSound rows) (levels : AllBy
         by (Some r) there = absurd (none_of kept.study (study_of_image r there) none)
         by None new = ap data_set_in (ap (record_at Study sent.study) (new_edits new) ∙ study_put records sent kept.study kept.series refl refl new none) ∙ back_study
 
-    series_by : (o : Option Record) → kept.series ≡ o → data_set_in (record_at Series sent.series afterwards) ≡ standing o series_attributes sent.elements
+    series_by : (o : Option Record) → kept.series ≡ o → data_set_in (record_at Series sent.series afterwards) ≡ standing_attributes o series_attributes sent.elements
     unfolding keeps_to_its_level
     series_by (Some r) there =
         ap data_set_in (stays Series sent.series r there)
@@ -170,7 +170,7 @@ module _ (h : List ℕ) (rows : List Row) (sound : IsSound rows) (levels : AllBy
         by (Some r) there = absurd (none_of kept.series (above_image r there).0 none)
         by None new = ap data_set_in (ap (record_at Series sent.series) (new_edits new) ∙ series_put records sent kept.study kept.series refl refl new none) ∙ back_series
 
-    image_by : (o : Option Record) → kept.image ≡ o → data_set_in (record_at Image sent.image afterwards) ≡ standing o image_attributes sent.elements
+    image_by : (o : Option Record) → kept.image ≡ o → data_set_in (record_at Image sent.image afterwards) ≡ standing_attributes o image_attributes sent.elements
     unfolding keeps_to_its_level
     image_by (Some r) there =
         ap data_set_in (stays Image sent.image r there)
@@ -204,7 +204,7 @@ module _ (h : List ℕ) (rows : List Row) (sound : IsSound rows) (levels : AllBy
   sent_in = instance_in (result_unwrap_or data_set no_elements)
 
   abbrev made : ℕ × List Edit
-  made = stored limits (of h rows) message syntax
+  made = store_outcome limits (of h rows) message syntax
 
   abbrev pub Back : List Tag → Type 0
   Back tags = data_set_of (canonical Explicit (cut_out tags sent_in.elements)) ≡ cut_out tags sent_in.elements
@@ -219,11 +219,11 @@ module _ (h : List ℕ) (rows : List Row) (sound : IsSound rows) (levels : AllBy
   answered_by : ((d : ElementList) → data_set ≡ Ok d → keeps_too_much d ≡ false → Back study_attributes × Back series_attributes × Back image_attributes)
       → AllByRecursion (λ (r : Bool × ℕ). r.0 ≡ false) refusals
       → made.0 ≡ (if stands_whole (of h (after (by h made.1) rows)) sent_in then success else elements_discarded)
-  unfolding stored
+  unfolding store_outcome
   answered_by back clear =
       let kept = kept_among (of h rows) sent_in in
       let done : ℕ × List Edit = (stored_status kept sent_in, stored_edits kept sent_in) in
-      let is_done : outcome (first_refusal refusals) done ≡ done = ap (λ (o : Option ℕ). outcome o done) (none_first refusals clear) in
+      let is_done : refusal_or (first_refusal refusals) done ≡ done = ap (λ (o : Option ℕ). refusal_or o done) (none_first refusals clear) in
       let backs = back sent_in.elements (read data_set refl clear.1.0) clear.1.1.0 in
       let says = status_says h rows sound levels sent_in clear.1.1.1.1.0 backs.0 backs.1 backs.2 in
       subst (λ (m : ℕ × List Edit). m.0 ≡ (if stands_whole (of h (after (by h m.1) rows)) sent_in then success else elements_discarded)) (sym is_done)
@@ -233,7 +233,7 @@ module _ (h : List ℕ) (rows : List Row) (sound : IsSound rows) (levels : AllBy
   module _ (back : (d : ElementList) → data_set ≡ Ok d → keeps_too_much d ≡ false
       → Back study_attributes × Back series_attributes × Back image_attributes) where
     pub whole : made.0 ≡ success → stands_whole (of h (after (by h made.1) rows)) sent_in ≡ true
-    unfolding stored
+    unfolding store_outcome
     whole is =
         let kept = kept_among (of h rows) sent_in in
         let clear = cleared refusals success (stored_status kept sent_in, stored_edits kept sent_in)
@@ -241,7 +241,7 @@ module _ (h : List ℕ) (rows : List Row) (sound : IsSound rows) (levels : AllBy
         says_whole _ (sym (answered_by back clear) ∙ is)
 
     pub discarded : made.0 ≡ elements_discarded → stands_whole (of h (after (by h made.1) rows)) sent_in ≡ false
-    unfolding stored
+    unfolding store_outcome
     discarded is =
         let kept = kept_among (of h rows) sent_in in
         let clear = cleared refusals elements_discarded (stored_status kept sent_in, stored_edits kept sent_in)

@@ -29,7 +29,7 @@ use Rattle.dq_tables.specs.Rows.{Record, Edit, Put}
 use Rattle.dq_tables.specs.Finding.{record_at, records_of}
 use Rattle.dq_tables.specs.Keys.{uid_at}
 use Rattle.dq_tables.specs.Records.{data_set_of}
-use Rattle.dq_tables.specs.Serving.{first_refusal, outcome}
+use Rattle.dq_tables.specs.Serving.{first_refusal, refusal_or}
 use Rattle.dq_tables.specs.Sound.{is_value}
 use Rattle.dq_store.specs.Attributes.{study_attributes, series_attributes, image_attributes}
 
@@ -54,8 +54,8 @@ instance_in d = record {
 }
 
 -- Each UID is there exactly once, and class and instance are those of the command.
-unfoldable pub is_named : Command → ElementList → Bool
-is_named command d =
+unfoldable pub names_instance : Command → ElementList → Bool
+names_instance command d =
     (is_value (uid_at sop_class_uid d) command.sop_class
     && is_value (uid_at sop_instance_uid d) command.sop_instance)
     && (is_some (uid_at study_instance_uid d) && is_some (uid_at series_instance_uid d))
@@ -129,7 +129,7 @@ storage_refusals limits records message data_set =
     (is_over store_limit message, out_of_resources)
     ∷ (is_err data_set, cannot_understand)
     ∷ (keeps_too_much sent, out_of_resources)
-    ∷ (not (is_named message.command sent), does_not_match_sop_class)
+    ∷ (not (names_instance message.command sent), does_not_match_sop_class)
     ∷ instance_refusals limits records (instance_in sent)
 
 -- ---- what is kept
@@ -168,9 +168,9 @@ stored_edits kept sent =
 
 -- the attributes of a level in the record that is there afterwards: in the kept one, or in what was
 -- sent
-abbrev pub standing : Option Record → List Tag → ElementList → ElementList
-standing (Some kept) tags sent = cut_out tags (data_set_of kept.octets)
-standing None tags sent = cut_out tags sent
+abbrev pub standing_attributes : Option Record → List Tag → ElementList → ElementList
+standing_attributes (Some kept) tags sent = cut_out tags (data_set_of kept.octets)
+standing_attributes None tags sent = cut_out tags sent
 
 -- Each element that was sent is one of the attributes that are kept of a study, a series or an
 -- image, and stands there with equal octets.
@@ -181,16 +181,16 @@ is_kept_whole study series image sent =
 
 unfoldable pub stored_status : Kept → Instance → ℕ
 stored_status kept sent =
-    let study = standing kept.study study_attributes sent.elements in
-    let series = standing kept.series series_attributes sent.elements in
-    let image = standing kept.image image_attributes sent.elements in
+    let study = standing_attributes kept.study study_attributes sent.elements in
+    let series = standing_attributes kept.series series_attributes sent.elements in
+    let image = standing_attributes kept.image image_attributes sent.elements in
     if is_kept_whole study series image sent.elements then success else elements_discarded
 
 -- An instance that is not refused is kept, and the status tells whether it is kept whole.
-unfoldable pub stored : Limits → List Record → Message → Syntax → ℕ × List Edit
-stored limits records message syntax =
+unfoldable pub store_outcome : Limits → List Record → Message → Syntax → ℕ × List Edit
+store_outcome limits records message syntax =
     let data_set = reading syntax message.octets in
     let sent = instance_in (result_unwrap_or data_set no_elements) in
     let kept = kept_among records sent in
-    outcome (first_refusal (storage_refusals limits records message data_set))
+    refusal_or (first_refusal (storage_refusals limits records message data_set))
     (stored_status kept sent, stored_edits kept sent)

@@ -8,7 +8,7 @@ use Rattle.dq_tables.specs.declared.change.Change.TheVariants.{Stored}
 use Rattle.dq_tables.specs.declared.row.Row.{Row}
 use Rattle.dq_tables.specs.Rows.{Record, Edit, record_of, row_of}
 use Rattle.dq_tables.specs.Keys.{uid_at}
-use Rattle.dq_tables.specs.Serving.{first_refusal, outcome}
+use Rattle.dq_tables.specs.Serving.{first_refusal, refusal_or}
 use Rattle.dq_store.specs.declared.instance.Instance.{Instance as SentInstance}
 use Rattle.dq_store.specs.declared.keeping.KeptRows.{KeptRows}
 use Rattle.dq_store.specs.Storing.{Instance, Kept, kept_among, instance_refusals, study_record, series_record, image_record, stored_status, stored_edits}
@@ -21,8 +21,8 @@ instance_of sent = record {
   image = sent.image.now;
 }
 
-abbrev pub kept_of : KeptRows → Kept
-kept_of rows = record {
+abbrev pub records_kept : KeptRows → Kept
+records_kept rows = record {
   study = option_map record_of rows.study;
   series = option_map record_of rows.series;
   image = option_map record_of rows.image;
@@ -54,7 +54,7 @@ kept_status other kept sent = if other then elements_discarded else stored_statu
 -- what is left to answer of what is kept of an instance
 unfoldable pub instance_stored : Limits → List Record → Bool → Instance → ℕ × List Edit
 instance_stored limits records other sent =
-    outcome (first_refusal (instance_refusals limits records sent))
+    refusal_or (first_refusal (instance_refusals limits records sent))
     (kept_status other (kept_among records sent) sent, stored_edits (kept_among records sent) sent)
 
 -- a row of its own where none is kept

@@ -9,7 +9,7 @@ ghost use Rattle.dq_dataset.specs.Same.{has_element};
 ghost use Rattle.dq_tables.specs.Records.{data_set_of};
 ghost use Rattle.dq_store.specs.Attributes.{study_attributes, series_attributes, image_attributes};
 ghost use Rattle.dq_store.specs.Storing.{is_under_another, kept_refusals, finds_no_room, count_of, limit_refusals, instance_refusals, is_kept_whole};
-ghost use Rattle.dq_store.specs.Views.{instance_of, rows_among, unless_refused, kept_of, kept_status};
+ghost use Rattle.dq_store.specs.Views.{instance_of, rows_among, unless_refused, records_kept, kept_status};
 
 use crate::attributes;
 use crate::instance::Instance;
@@ -53,7 +53,7 @@ fn is_under_another(row: &Option<Row>, above: &[u8]) -> bool
 /// B.2.3).
 #[tactic(auto, unfolding(crate::specs::Storing::is_kept_elsewhere, crate::specs::Storing::has_series_elsewhere), using(crate::proofs::Records::is_some_record, crate::proofs::Records::is_none_record))]
 fn kept_refusal(kept: &KeptRows, sent: &Instance<'_>) -> Option<u16>
-    ensures { result ≡ first_refusal (kept_refusals (kept_of kept.now) (instance_of sent.now)) }
+    ensures { result ≡ first_refusal (kept_refusals (records_kept kept.now) (instance_of sent.now)) }
 {
     let is_kept = kept.image.is_some();
     let is_series_elsewhere = is_under_another(&kept.series, sent.study);
@@ -88,7 +88,7 @@ fn limit_refusal<T: Tables>(
     kept: &KeptRows,
 ) -> Result<Option<u16>, TableFault>
     ensures { Looks T.state archive.old archive.new (λ records. first_refusal (limit_refusals
-        (limits_of archive.old.institution.now) records (kept_of kept.now))) result }
+        (limits_of archive.old.institution.now) records (records_kept kept.now))) result }
 {
     let institution = archive.institution;
     let studies = Level {
@@ -117,8 +117,8 @@ fn first_refusal<T: Tables>(
     sent: &Instance<'_>,
 ) -> Result<Option<u16>, TableFault>
     ensures { Looks T.state archive.old archive.new (λ records. first_refusal
-        (kept_refusals (kept_of kept.now) (instance_of sent.now)
-        ++ limit_refusals (limits_of archive.old.institution.now) records (kept_of kept.now))) result }
+        (kept_refusals (records_kept kept.now) (instance_of sent.now)
+        ++ limit_refusals (limits_of archive.old.institution.now) records (records_kept kept.now))) result }
 {
     if let Some(status) = kept_refusal(kept, sent) {
         return Ok(Some(status));
@@ -199,7 +199,7 @@ pub(crate) fn stored_status(
     sent: &Instance<'_>,
 ) -> Result<u16, AllocError>
     ensures { IfOk result (λ status.
-        status ≡ kept_status sent.now.other (kept_of kept.now) (instance_of sent.now)) }
+        status ≡ kept_status sent.now.other (records_kept kept.now) (instance_of sent.now)) }
 {
     if sent.other {
         return Ok(status::ELEMENTS_DISCARDED);

@@ -2,12 +2,12 @@
 ghost use Rattle.std.specs.Prelude.{◌≡◌, ◌≢◌, ◌⊎◌, ◌||◌, ℕ, Bool, true, false, List, [], Some};
 ghost use Rattle.std.specs.List.{AllByRecursion};
 ghost use Rattle.std.specs.Result.{result_unwrap_or};
+ghost use Rattle.dq_list.specs.Octets.{AreOctets};
 ghost use Rattle.dq_dataset.specs.declared.header.Syntax.{Syntax};
 ghost use Rattle.dq_dataset.specs.declared.data_set.Element.{Element};
 ghost use Rattle.dq_dataset.specs.Tree.{no_elements};
 ghost use Rattle.dq_dataset.specs.Reading.{reading};
 ghost use Rattle.dq_dataset.specs.Editing.{is_listed};
-ghost use Rattle.dq_dataset.specs.Grammar.{AreOctets};
 ghost use Rattle.dq_dataset.specs.Facts.{IsDataSet};
 ghost use Rattle.dq_dimse.specs.Attributes.{kept_attributes};
 ghost use Rattle.dq_dimse.specs.Received.{Message};
@@ -16,13 +16,13 @@ ghost use Rattle.dq_config.specs.Limits.{Limits};
 ghost use Rattle.dq_tables.specs.declared.row.Kind.{Kind};
 ghost use Rattle.dq_tables.specs.declared.row.Kind.TheVariants.{Study, Series, Image};
 ghost use Rattle.dq_tables.specs.declared.row.Row.{Row};
-ghost use Rattle.dq_tables.specs.Rows.{Record, Edit, IsRising, of, by, after, edited};
+ghost use Rattle.dq_tables.specs.Rows.{Record, Edit, IsRising, of, by, after, records_after_edits};
 ghost use Rattle.dq_tables.specs.Finding.{record_at};
 ghost use Rattle.dq_tables.specs.Records.{data_set_of};
 ghost use Rattle.dq_tables.specs.Sound.{IsSound};
 ghost use Rattle.dq_store.specs.Attributes.{study_attributes, series_attributes, image_attributes};
 ghost use Rattle.dq_store.specs.Levels.{is_of_its_level, stands_whole};
-ghost use Rattle.dq_store.specs.Storing.{instance_in, stored};
+ghost use Rattle.dq_store.specs.Storing.{instance_in, store_outcome};
 
 use dq_dataset::laws::{editing_law, spelling_law, written_law};
 
@@ -32,16 +32,16 @@ use dq_dataset::laws::{editing_law, spelling_law, written_law};
 pub fn kept_records_stay()
     ensures { (limits : Limits) (records : List Record) (message : Message) (syntax : Syntax)
         → (kind : Kind) (key : List ℕ) (r : Record) → record_at kind key records ≡ Some r
-        → record_at kind key (edited (stored limits records message syntax).1 records) ≡ Some r }
+        → record_at kind key (records_after_edits (store_outcome limits records message syntax).1 records) ≡ Some r }
 {}
 
 /// A status other than 0000 and B006 refuses, and changes nothing.
 #[tactic(auto, using(crate::proofs::Outcomes::refused_changes_nothing))]
 pub fn refusals_change_nothing()
     ensures { (limits : Limits) (records : List Record) (message : Message) (syntax : Syntax)
-        → ((stored limits records message syntax).1 ≡ [])
-        ⊎ (((stored limits records message syntax).0 ≡ success)
-        ⊎ ((stored limits records message syntax).0 ≡ elements_discarded)) }
+        → ((store_outcome limits records message syntax).1 ≡ [])
+        ⊎ (((store_outcome limits records message syntax).0 ≡ success)
+        ⊎ ((store_outcome limits records message syntax).0 ≡ elements_discarded)) }
 {}
 
 /// What one institution stores leaves the records of every other, and another's records do not
@@ -50,19 +50,19 @@ pub fn refusals_change_nothing()
 pub fn institutions_are_apart()
     ensures others { (g h : List ℕ) → h ≢ g
         → (limits : Limits) (rows : List Row) (message : Message) (syntax : Syntax) → IsRising rows
-        → of g (after (by h (stored limits (of h rows) message syntax).1) rows) ≡ of g rows }
+        → of g (after (by h (store_outcome limits (of h rows) message syntax).1) rows) ≡ of g rows }
     ensures own { (g h : List ℕ) → g ≢ h
         → (es : List Edit) (limits : Limits) (rows : List Row) (message : Message) (syntax : Syntax)
         → IsRising rows
-        → stored limits (of h (after (by g es) rows)) message syntax
-        ≡ stored limits (of h rows) message syntax }
+        → store_outcome limits (of h (after (by g es) rows)) message syntax
+        ≡ store_outcome limits (of h rows) message syntax }
 {}
 
 /// Sound rows stay sound, whatever octets are stored.
 pub fn sound_rows_stay_sound()
     ensures { (h : List ℕ) (limits : Limits) (rows : List Row) (message : Message) (syntax : Syntax)
         → AreOctets message.octets → IsSound rows
-        → IsSound (after (by h (stored limits (of h rows) message syntax).1) rows) }
+        → IsSound (after (by h (store_outcome limits (of h rows) message syntax).1) rows) }
 {
     spelling_law();
     editing_law();
@@ -75,7 +75,7 @@ pub fn rows_hold_data_sets()
         → AreOctets message.octets
         → AllByRecursion (λ (row : Row). IsDataSet (data_set_of row.octets)) rows
         → AllByRecursion (λ (row : Row). IsDataSet (data_set_of row.octets))
-        (after (by h (stored limits (of h rows) message syntax).1) rows) }
+        (after (by h (store_outcome limits (of h rows) message syntax).1) rows) }
 {
     spelling_law();
     editing_law();
@@ -95,7 +95,7 @@ pub fn records_keep_to_their_levels()
     ensures { (h : List ℕ) (limits : Limits) (rows : List Row) (message : Message) (syntax : Syntax)
         → AreOctets message.octets → AllByRecursion (λ (row : Row). is_of_its_level row ≡ true) rows
         → AllByRecursion (λ (row : Row). is_of_its_level row ≡ true)
-        (after (by h (stored limits (of h rows) message syntax).1) rows) }
+        (after (by h (store_outcome limits (of h rows) message syntax).1) rows) }
 {
     spelling_law();
     editing_law();
@@ -109,14 +109,14 @@ pub fn the_status_says_what_stands()
     ensures whole { (h : List ℕ) (limits : Limits) (rows : List Row) (message : Message)
         (syntax : Syntax) → AreOctets message.octets → IsSound rows
         → AllByRecursion (λ (row : Row). is_of_its_level row ≡ true) rows
-        → (stored limits (of h rows) message syntax).0 ≡ success
-        → stands_whole (of h (after (by h (stored limits (of h rows) message syntax).1) rows))
+        → (store_outcome limits (of h rows) message syntax).0 ≡ success
+        → stands_whole (of h (after (by h (store_outcome limits (of h rows) message syntax).1) rows))
         (instance_in (result_unwrap_or (reading syntax message.octets) no_elements)) ≡ true }
     ensures discarded { (h : List ℕ) (limits : Limits) (rows : List Row) (message : Message)
         (syntax : Syntax) → AreOctets message.octets → IsSound rows
         → AllByRecursion (λ (row : Row). is_of_its_level row ≡ true) rows
-        → (stored limits (of h rows) message syntax).0 ≡ elements_discarded
-        → stands_whole (of h (after (by h (stored limits (of h rows) message syntax).1) rows))
+        → (store_outcome limits (of h rows) message syntax).0 ≡ elements_discarded
+        → stands_whole (of h (after (by h (store_outcome limits (of h rows) message syntax).1) rows))
         (instance_in (result_unwrap_or (reading syntax message.octets) no_elements)) ≡ false }
 {
     spelling_law();
@@ -133,5 +133,5 @@ pub fn rows_of_other_kinds_stay()
         → (h : List ℕ) (limits : Limits) (rows : List Row) (message : Message) (syntax : Syntax)
         → AllByRecursion (λ (row : Row). holds row ≡ true) rows
         → AllByRecursion (λ (row : Row). holds row ≡ true)
-        (after (by h (stored limits (of h rows) message syntax).1) rows) }
+        (after (by h (store_outcome limits (of h rows) message syntax).1) rows) }
 {}

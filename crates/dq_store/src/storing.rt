@@ -10,10 +10,10 @@ ghost use Rattle.dq_tables.specs.Rows.{IsRising, of};
 ghost use Rattle.dq_tables.specs.Keeping.{Goes, IsSettled};
 ghost use Rattle.dq_tables.specs.Serving.{Serves};
 ghost use Rattle.dq_archive.specs.Archives.{Decides};
-ghost use Rattle.dq_archive.specs.Deciding.{edits_in, outcome_of, FitsIf, IsOwn};
-ghost use Rattle.dq_store.specs.Storing.{stored, stored_edits, kept_among};
+ghost use Rattle.dq_archive.specs.Deciding.{edits_in, answer_and_edits, FitsIf, IsOwn};
+ghost use Rattle.dq_store.specs.Storing.{store_outcome, stored_edits, kept_among};
 ghost use Rattle.dq_store.specs.Storing.{study_record, series_record};
-ghost use Rattle.dq_store.specs.Views.{instance_of, instance_stored, kept_of, kept_status, HasUids, new_if, new_rows};
+ghost use Rattle.dq_store.specs.Views.{instance_of, instance_stored, records_kept, kept_status, HasUids, new_if, new_rows};
 
 use crate::instance::Instance;
 use crate::keeping::KeptRows;
@@ -40,7 +40,7 @@ pub fn store<T: Tables>(
     // Whatever message this one stands for.
     ensures serves { (sent : Received) → StandsFor syntax message.now sent →
         Serves (T.state tables.old) (T.state tables.new) institution.now.name
-        (λ records. stored (limits_of institution.now) records sent syntax) result }
+        (λ records. store_outcome (limits_of institution.now) records sent syntax) result }
     ensures goes { Goes (T.state tables.old) (T.state tables.new) result }
     ensures settles { (T.state tables.new).honest →
         OnOk result (IsSettled (T.state tables.old) → IsSettled (T.state tables.new)) }
@@ -111,13 +111,13 @@ fn kept_decision(
 ) -> Result<Decision<u16>, AllocError>
     requires lengths { HasLengths Explicit sent.now.data_set.now }
     requires own { HasUids sent.now }
-    ensures made { IfOk result (λ decision. outcome_of decision ≡ (
-      kept_status sent.now.other (kept_of kept.now) (instance_of sent.now),
-      stored_edits (kept_of kept.now) (instance_of sent.now),
+    ensures made { IfOk result (λ decision. answer_and_edits decision ≡ (
+      kept_status sent.now.other (records_kept kept.now) (instance_of sent.now),
+      stored_edits (records_kept kept.now) (instance_of sent.now),
     )) }
     ensures own { IfOk result (λ decision. IsOwn name.now decision.change) }
     ensures fits { IfOk result (λ decision. (rows : List TheRow) → IsRising rows
-        → kept_of kept.now ≡ kept_among (of name.now rows) (instance_of sent.now)
+        → records_kept kept.now ≡ kept_among (of name.now rows) (instance_of sent.now)
         → FitsIf rows decision.change) }
 {
     let answer = stored_status(alloc, kept, sent)?;
@@ -135,10 +135,10 @@ fn new_change(
     requires lengths { HasLengths Explicit sent.now.data_set.now }
     requires own { HasUids sent.now }
     ensures edits { IfOk result (λ change.
-        edits_in change ≡ stored_edits (kept_of kept.now) (instance_of sent.now)) }
+        edits_in change ≡ stored_edits (records_kept kept.now) (instance_of sent.now)) }
     ensures own { IfOk result (λ change. IsOwn name.now change) }
     ensures fits { IfOk result (λ change. (rows : List TheRow) → IsRising rows
-        → kept_of kept.now ≡ kept_among (of name.now rows) (instance_of sent.now)
+        → records_kept kept.now ≡ kept_among (of name.now rows) (instance_of sent.now)
         → FitsIf rows change) }
 {
     written_law();
@@ -159,7 +159,7 @@ fn new_study(
     sent: &Instance<'_>,
 ) -> Result<Option<Row>, AllocError>
     requires { HasLengths Explicit sent.now.data_set.now }
-    ensures { IfOk result (λ row. row ≡ new_if name.now (kept_of kept.now).study
+    ensures { IfOk result (λ row. row ≡ new_if name.now (records_kept kept.now).study
         (study_record (instance_of sent.now))) }
 {
     match &kept.study {
@@ -176,7 +176,7 @@ fn new_series(
     sent: &Instance<'_>,
 ) -> Result<Option<Row>, AllocError>
     requires { HasLengths Explicit sent.now.data_set.now }
-    ensures { IfOk result (λ row. row ≡ new_if name.now (kept_of kept.now).series
+    ensures { IfOk result (λ row. row ≡ new_if name.now (records_kept kept.now).series
         (series_record (instance_of sent.now))) }
 {
     match &kept.series {
@@ -195,7 +195,7 @@ fn new_rows(
 ) -> Result<Change, AllocError>
     requires { HasLengths Explicit sent.now.data_set.now }
     ensures { IfOk result (λ change.
-        change ≡ new_rows name.now (kept_of kept.now) (instance_of sent.now)) }
+        change ≡ new_rows name.now (records_kept kept.now) (instance_of sent.now)) }
 {
     let study = new_study(alloc, name, kept, sent)?;
     let series = new_series(alloc, name, kept, sent)?;

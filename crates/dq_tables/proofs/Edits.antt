@@ -6,7 +6,7 @@ use Rattle.std.proofs.lemmas.List.Elements.{filter_map-append}
 use Rattle.dq_tables.specs.declared.row.Kind.{Kind}
 use Rattle.dq_tables.specs.declared.row.Row.{Row}
 use Rattle.dq_tables.specs.Rows.{Put, Remove, record_of, after_edit, place}
-use Rattle.dq_tables.specs.Finding.{IsThere, IsFree}
+use Rattle.dq_tables.specs.Finding.{IsAtIndex, IsFree}
 
 set_at : {X : Type 0} (xs : List X) (i : ℕ) (y : X) → i < length xs → set xs i y ≡ (take i xs ++ y ∷ []) ++ drop (suc i) xs
 set_at [] i y l = absurd (omega arith)
@@ -22,7 +22,7 @@ insert_is xs i y l = sym (append_assoc (take i xs) (y ∷ []) (drop i xs))
 remove_is : {X : Type 0} (xs : List X) (i : ℕ) → remove xs i ≡ take i xs ++ drop (i + 1) xs
 remove_is xs i = rw add-one refl
 
-pub replaces : (rows : List Row) (row : Row) (at : ℕ) → IsThere (place row.kind row.inst row.key) rows at
+pub replaces : (rows : List Row) (row : Row) (at : ℕ) → IsAtIndex (place row.kind row.inst row.key) rows at
     → set rows at row ≡ after_edit row.inst (Put (record_of row)) rows
 unfolding after_edit
 replaces rows row at there = rw (set_is rows at row there.within, there.before, there.past) refl
@@ -32,7 +32,7 @@ pub inserts : (rows : List Row) (row : Row) (at : ℕ) → IsFree (place row.kin
 unfolding after_edit
 inserts rows row at free = rw (insert_is rows at row free.within, free.before, free.past) refl
 
-pub removes : (rows : List Row) (kind : Kind) (institution key : List ℕ) (at : ℕ) → IsThere (place kind institution key) rows at
+pub removes : (rows : List Row) (kind : Kind) (institution key : List ℕ) (at : ℕ) → IsAtIndex (place kind institution key) rows at
     → remove rows at ≡ after_edit institution (Remove kind key) rows
 unfolding after_edit
 removes rows kind institution key at there = rw (remove_is rows at, there.before, there.past, append-nil) refl

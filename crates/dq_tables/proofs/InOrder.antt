@@ -12,7 +12,7 @@ use Rattle.std.proofs.lemmas.Cmp.{alike_right}
 use Rattle.std.proofs.lemmas.Map.Text.{is_eq-slice_cmp}
 use Rattle.dq_tables.specs.declared.row.Row.{Row}
 use Rattle.dq_tables.specs.Rows.{RowPlace, row_place_order, row_place_of, IsRising}
-use Rattle.dq_tables.specs.Finding.{IsThere, IsFree, row_at, is_of}
+use Rattle.dq_tables.specs.Finding.{IsAtIndex, IsFree, row_at, is_of_kind}
 use Rattle.dq_tables.proofs.Order.{rows_total, greater_from, less_from, is_before, is_past, is_at}
 
 pub filter_front : {X : Type 0} (p : X → Bool) (xs : List X) (i : ℕ) → ((k : ℕ) (d : X) → k < i → k < length xs → p (get_or xs k d) ≡ true)
@@ -67,7 +67,7 @@ pub is_eq_nat : (a b : ℕ) → is_eq (nat_cmp a b) ≡ nat_eq a b
 is_eq_nat a b = grind (arith, nat_tests)
 
 -- a row is found at a place where it stands there in the order
-pub at_is_found : (p : RowPlace) (row : Row) → (is_of p.kind p.institution row && bytes_eq row.key p.key) ≡ is_at p row
+pub at_is_found : (p : RowPlace) (row : Row) → (is_of_kind p.kind p.institution row && bytes_eq row.key p.key) ≡ is_at p row
 at_is_found p row = grind (arith, nat_tests, is_eq_then, is_eq-slice_cmp, is_eq_nat)
 
 pub row_at_is : (p : RowPlace) (rows : List Row) → row_at p.kind p.institution p.key rows ≡ find (is_at p) rows
@@ -126,7 +126,7 @@ module _ (p : RowPlace) (rows : List Row) (rising : IsRising rows) where
       → (k : ℕ) (d : Row) → k < length rows → is_at p (get_or rows k d) ≡ false
   elsewhere i less greater k d within = grind (arith, nat_tests, cases_lt)
 
-  pub located_there : (i : ℕ) → i < length rows → ((d : Row) → row_place_order (row_place_of (get_or rows i d)) p ≡ Equal) → IsThere p rows i
+  pub located_there : (i : ℕ) → i < length rows → ((d : Row) → row_place_order (row_place_of (get_or rows i d)) p ≡ Equal) → IsAtIndex p rows i
   located_there i within here = record {
     within = within;
     before = filter_front (is_before p) rows i (λ k d l w. ap is_lt (less_before i k d within (here d) l)) (λ k d l w. not_less_from i k d w (here d) l);
@@ -141,7 +141,7 @@ module _ (p : RowPlace) (rows : List Row) (rising : IsRising rows) where
       grind (arith, nat_tests, filter_front, is_before, filter_back, is_past, row_at_is, find_none, is_at, elsewhere)
 
   pub located : (r : Result ℕ ℕ) → IsSearchInRange r (length rows) → IsBinarySearchResult (λ (row : Row). row_place_order (row_place_of row) p) rows r
-      → MatchResult r (IsThere p rows) (IsFree p rows)
+      → MatchResult r (IsAtIndex p rows) (IsFree p rows)
   located (Ok i) within here = located_there i within here
   located (Err i) within parted =
       let halves = parted answers_rise in

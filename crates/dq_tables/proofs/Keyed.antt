@@ -7,7 +7,7 @@ use Rattle.dq_tables.specs.declared.row.Kind.{Kind}
 use Rattle.dq_tables.specs.declared.row.Kind.TheVariants.{Study}
 use Rattle.dq_tables.specs.declared.row.Row.{Row}
 use Rattle.dq_tables.specs.Rows.{IsRising, RowPlace, place, record_of}
-use Rattle.dq_tables.specs.Finding.{row_at, rows_of, is_of}
+use Rattle.dq_tables.specs.Finding.{row_at, rows_of, is_of_kind}
 use Rattle.dq_tables.specs.Choosing.{is_none_or, has_asked_key, is_chosen, studies_in}
 use Rattle.dq_tables.proofs.Order.{is_at, both_tests}
 use Rattle.dq_tables.proofs.InOrder.{row_at_is, at_is_found}
@@ -38,8 +38,8 @@ module _ (kind : Kind) (institution uid : List ℕ) (rows : List Row) (rising : 
   keyed_is : filter keyed (rows_of kind institution rows) ≡ option_to_list (row_at kind institution uid rows)
   unfolding rows_of
   keyed_is =
-      both_tests (is_of kind institution) keyed rows
-      ∙ filter_agree (λ (row : Row). is_of kind institution row && keyed row) (is_at here) (at_is_found here) rows
+      both_tests (is_of_kind kind institution) keyed rows
+      ∙ filter_agree (λ (row : Row). is_of_kind kind institution row && keyed row) (is_at here) (at_is_found here) rows
       ∙ alone here rows (row_at kind institution uid rows) rising refl
 
 twice : (a b : Bool) → (a && (a && b)) ≡ (a && b)

@@ -12,7 +12,7 @@ use Rattle.std.proofs.lemmas.List.{map-append}
 use Rattle.std.proofs.lemmas.Map.Text.{is_eq-slice_cmp}
 use Rattle.std.proofs.lemmas.Bool.{false_from_ne_true, both_ways}
 use Rattle.dq_tables.specs.declared.row.Row.{Row}
-use Rattle.dq_tables.specs.Rows.{Record, Place, place_of, place_order, records_before, records_past, Edit, Put, Remove, Start, edit_place, left_there, left_by, record_at, edited_by, edited, row_of, record_of, of, RowPlace, row_place_of, within, row_place_order, IsRising, rows_before, rows_past, after_edit, after_edits, Operation, by, after, after_all, edited_all, own_edits}
+use Rattle.dq_tables.specs.Rows.{Record, Place, record_place, place_order, records_before, records_past, Edit, Put, Remove, Start, edit_place, left_there, records_after_edit, record_at, edited_by, records_after_edits, row_of, record_of, of, RowPlace, row_place_of, within, row_place_order, IsRising, rows_before, rows_past, after_edit, after_edits, Operation, by, after, after_all, edited_all, own_edits}
 use Rattle.dq_tables.proofs.There.{StandsAt, stands_there}
 use Rattle.dq_tables.proofs.Order.{rows_total, less_from, each_weaker, each_passed, each_appended, IsRising-split, IsRising-filter, IsRising-append, is_at, is_before, is_past, filter_none}
 
@@ -21,7 +21,7 @@ then_equal Less = refl
 then_equal Equal = refl
 then_equal Greater = refl
 
-same_place : (h : List ℕ) (row : Row) (p : Place) → row.inst ≡ h → row_place_order (row_place_of row) (within h p) ≡ place_order (place_of (record_of row)) p
+same_place : (h : List ℕ) (row : Row) (p : Place) → row.inst ≡ h → row_place_order (row_place_of row) (within h p) ≡ place_order (record_place (record_of row)) p
 same_place h row p e = grind (arith, tied_itself, nat_list_cmp_total, then_equal)
 
 -- a test of rows that agrees with one of records at an institution's rows
@@ -59,14 +59,14 @@ unfolding after_edit edited_by
 lens_edit h e rows =
     let p = edit_place e in
     let before : of h (rows_before (within h p) rows) ≡ records_before p (of h rows) =
-    of-filter h _ (λ (r : Record). is_lt (place_order (place_of r) p)) (λ (row : Row) same. ap is_lt (same_place h row p same)) rows in
+    of-filter h _ (λ (r : Record). is_lt (place_order (record_place r) p)) (λ (row : Row) same. ap is_lt (same_place h row p same)) rows in
     let past : of h (rows_past (within h p) rows) ≡ records_past p (of h rows) =
-    of-filter h _ (λ (r : Record). is_gt (place_order (place_of r) p)) (λ (row : Row) same. ap is_gt (same_place h row p same)) rows in
+    of-filter h _ (λ (r : Record). is_gt (place_order (record_place r) p)) (λ (row : Row) same. ap is_gt (same_place h row p same)) rows in
     rw (of-append, of-append, before, past, of_own) refl
 
-pub lens : (h : List ℕ) (es : List Edit) (rows : List Row) → of h (after (by h es) rows) ≡ edited es (of h rows)
+pub lens : (h : List ℕ) (es : List Edit) (rows : List Row) → of h (after (by h es) rows) ≡ records_after_edits es (of h rows)
 lens h [] rows = refl
-lens h (e ∷ es) rows = lens h es (after_edit h e rows) ∙ ap (edited es) (lens_edit h e rows)
+lens h (e ∷ es) rows = lens h es (after_edit h e rows) ∙ ap (records_after_edits es) (lens_edit h e rows)
 
 is_eq_parts : (a b : Ordering) → is_eq (ordering_then a b) ≡ true → (is_eq a ≡ true) × (is_eq b ≡ true)
 is_eq_parts Less b e = cc
@@ -89,7 +89,7 @@ unfolding after_edit
 others_edit g h other e rows rising =
     let p = within h (edit_place e) in
     let split = IsRising-split p rows rising in
-    let left = left_by e (of h rows) in
+    let left = records_after_edit e (of h rows) in
     of-append g (rows_before p rows ++ map (row_of h) left) (rows_past p rows)
     ∙ ap (λ (rs : List Record). rs ++ of g (rows_past p rows)) (of-append g (rows_before p rows) (map (row_of h) left))
     ∙ ap (λ (rs : List Record). of g (rows_before p rows) ++ rs ++ of g (rows_past p rows)) (of_other g h other left
@@ -140,7 +140,7 @@ left_past h (Start key) (Some r) stands x less =
 left_before : (h : List ℕ) (e : Edit) (there : Option Record) → StandsAt (edit_place e) there → (rows : List Row)
     → AllByRecursion (λ (x : Row). AllByRecursion (λ (y : Row). row_place_order (row_place_of x) (row_place_of y) ≡ Less)
     (rows_past (within h (edit_place e)) rows)) (map (row_of h) (left_there e there))
-left_before h (Put r) there stands rows = (past_is (within h (place_of r)) rows, tt)
+left_before h (Put r) there stands rows = (past_is (within h (record_place r)) rows, tt)
 left_before h (Remove kind key) there stands rows = tt
 left_before h (Start key) None stands rows = tt
 left_before h (Start key) (Some r) stands rows = (

@@ -13,8 +13,8 @@ use Rattle.dq_list.proofs.Among.{among_filter, filtered_from}
 use Rattle.dq_tables.specs.declared.row.Kind.{Kind}
 use Rattle.dq_tables.specs.declared.row.Kind.TheVariants.{Study, Series, Image, Entry, Step}
 use Rattle.dq_tables.specs.declared.row.Row.{Row}
-use Rattle.dq_tables.specs.Rows.{Record, IsRising, octet_order, kind_order, number_of, record_of, row_of, row_place_of, row_place_order, of}
-use Rattle.dq_tables.specs.Finding.{same_kind, is_of, rows_of, rows_above, records_of, records_above}
+use Rattle.dq_tables.specs.Rows.{Record, IsRising, octet_order, kind_order, number_of_kind, record_of, row_of, row_place_of, row_place_order, of}
+use Rattle.dq_tables.specs.Finding.{same_kind, is_of_kind, rows_of, rows_above, records_of, records_above}
 use Rattle.dq_tables.specs.Records.{AreInOrder}
 use Rattle.dq_tables.proofs.Order.{each_passed, each_filtered, IsRising-filter}
 use Rattle.dq_tables.proofs.Seen.{listed_own, above_own}
@@ -24,7 +24,7 @@ use Rattle.dq_tables.proofs.Seen.{listed_own, above_own}
 abbrev kind_at : ℕ → Kind
 kind_at n = if nat_eq n 1 then Study else (if nat_eq n 2 then Series else (if nat_eq n 3 then Image else (if nat_eq n 4 then Entry else Step)))
 
-kind_back : (k : Kind) → kind_at (number_of k) ≡ k
+kind_back : (k : Kind) → kind_at (number_of_kind k) ≡ k
 kind_back Study = refl
 kind_back Series = refl
 kind_back Image = refl
@@ -35,7 +35,7 @@ pub one_kind : (a b : Kind) → same_kind a b ≡ true → a ≡ b
 one_kind a b h = grind (arith, nat_tests, kind_back)
 
 pub its_kind : (a b : Kind) → a ≡ b → same_kind a b ≡ true
-its_kind a b e = let numbers : number_of a ≡ number_of b = ap number_of e in grind (arith, nat_tests)
+its_kind a b e = let numbers : number_of_kind a ≡ number_of_kind b = ap number_of_kind e in grind (arith, nat_tests)
 
 pub of_kind_from : (k : Kind) (r : Record) (records : List Record) → IsAmong r (records_of k records) → IsAmong r records × (r.kind ≡ k)
 unfolding records_of
@@ -65,7 +65,7 @@ IsAt k institution row = (row.kind ≡ k) × (row.inst ≡ institution)
 by_key : (k : Kind) (institution : List ℕ) (a b : Row) → IsAt k institution a → IsAt k institution b → row_place_order (row_place_of a) (row_place_of b) ≡ Less
     → octet_order a.key b.key ≡ Less
 by_key k institution a b at_a at_b less =
-    let kinds = (λ i. kind_order (at_a.0 i) (at_b.0 i)) ∙ tied_itself nat_cmp_total (number_of k) in
+    let kinds = (λ i. kind_order (at_a.0 i) (at_b.0 i)) ∙ tied_itself nat_cmp_total (number_of_kind k) in
     let names = (λ i. octet_order (at_a.1 i) (at_b.1 i)) ∙ tied_itself nat_list_cmp_total institution in
     sym (λ i. ordering_then (ordering_then (kinds i) (names i)) (octet_order a.key b.key)) ∙ less
 
@@ -83,7 +83,7 @@ by_keys k institution (row ∷ rows) all rising = (past_key k institution row ro
 listed_at : (k : Kind) (institution : List ℕ) (rows : List Row) → AllByRecursion (IsAt k institution) (rows_of k institution rows)
 unfolding rows_of
 listed_at k institution rows =
-    each_passed (IsAt k institution) (is_of k institution)
+    each_passed (IsAt k institution) (is_of_kind k institution)
     (λ row h. let parts = and_parts (same_kind row.kind k) (bytes_eq row.inst institution) h in
     (one_kind row.kind k parts.0, (bytes_eq-Decides row.inst institution).0 parts.1)) rows
 
@@ -91,7 +91,7 @@ pub listed_in_order : (k : Kind) (institution : List ℕ) (rows : List Row) → 
 unfolding rows_of
 listed_in_order k institution rows rising =
     subst AreInOrder (ap (map record_of) (listed_own k institution rows) ∙ own_records institution (records_of k (of institution rows)))
-    (by_keys k institution (rows_of k institution rows) (listed_at k institution rows) (IsRising-filter (is_of k institution) rows rising))
+    (by_keys k institution (rows_of k institution rows) (listed_at k institution rows) (IsRising-filter (is_of_kind k institution) rows rising))
 
 pub above_in_order : (k : Kind) (institution above : List ℕ) (rows : List Row) → IsRising rows → AreInOrder (records_above k above (of institution rows))
 unfolding rows_of rows_above
@@ -100,7 +100,7 @@ above_in_order k institution above rows rising =
     subst AreInOrder (found_above k institution above rows (rows_above k institution above rows) refl)
     (by_keys k institution (rows_above k institution above rows)
     (each_filtered (IsAt k institution) under (rows_of k institution rows) (listed_at k institution rows))
-    (IsRising-filter under (rows_of k institution rows) (IsRising-filter (is_of k institution) rows rising)))
+    (IsRising-filter under (rows_of k institution rows) (IsRising-filter (is_of_kind k institution) rows rising)))
 
 -- records that a filter keeps stay in order
 in_order_by : (r : Record) (kept : List Record) (b : Bool) → AllByRecursion (λ (s : Record). octet_order r.key s.key ≡ Less) kept → AreInOrder kept

@@ -7,11 +7,11 @@ use Rattle.std.specs.Cmp.{IsTotalOrder}
 use Rattle.std.specs.List.{filter, AllByRecursion}
 use Rattle.std.proofs.lemmas.Cmp.{nat_cmp_total, nat_list_cmp_total, on_total, then_total}
 use Rattle.dq_tables.specs.declared.row.Row.{Row}
-use Rattle.dq_tables.specs.Rows.{RowPlace, row_place_order, row_place_of, number_of, IsRising, rows_before, rows_past}
+use Rattle.dq_tables.specs.Rows.{RowPlace, row_place_order, row_place_of, number_of_kind, IsRising, rows_before, rows_past}
 
 pub rows_total : IsTotalOrder row_place_order
 rows_total =
-    then_total (then_total (on_total (λ (p : RowPlace). number_of p.kind) nat_cmp_total) (on_total (λ (p : RowPlace). p.institution) nat_list_cmp_total))
+    then_total (then_total (on_total (λ (p : RowPlace). number_of_kind p.kind) nat_cmp_total) (on_total (λ (p : RowPlace). p.institution) nat_list_cmp_total))
     (on_total (λ (p : RowPlace). p.key) nat_list_cmp_total)
 
 pub greater_from : (p q : RowPlace) → row_place_order p q ≡ Less → row_place_order q p ≡ Greater

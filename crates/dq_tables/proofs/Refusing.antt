@@ -1,7 +1,7 @@
 -- Refusals in their order, and what they leave.
 use Rattle.std.proofs.Common.{◌≡◌, Bool, true, false, List, [], ◌∷◌, ◌++◌, Option, Some, None, refl, if◌then◌else◌}
 use Rattle.dq_tables.specs.Rows.{Edit}
-use Rattle.dq_tables.specs.Serving.{first_refusal, outcome}
+use Rattle.dq_tables.specs.Serving.{first_refusal, refusal_or}
 
 module _ {Refusal : Type 0} where
   first_step : (b : Bool) (x r : Refusal) (o p : Option Refusal) → (o ≡ Some r → p ≡ Some r) → (if b then Some x else o) ≡ Some r
@@ -24,11 +24,11 @@ module _ {Refusal : Type 0} where
   first_past (x ∷ xs) others h = past_step x.0 x.1 (first_refusal xs) (first_refusal (xs ++ others)) (first_refusal others) (first_past xs others) h
 
 module _ {Answer : Type 0} (done : Answer × List Edit) where
-  stopped_step : (b : Bool) (x : Answer) (o : Option Answer) → (outcome o done).1 ≡ [] → (outcome (if b then Some x else o) done).1 ≡ []
+  stopped_step : (b : Bool) (x : Answer) (o : Option Answer) → (refusal_or o done).1 ≡ [] → (refusal_or (if b then Some x else o) done).1 ≡ []
   stopped_step true x o h = refl
   stopped_step false x o h = h
 
   -- where a refusal of the list holds, nothing is edited
-  pub stopped : (before others : List (Bool × Answer)) (r : Answer) → (outcome (first_refusal (before ++ (true, r) ∷ others)) done).1 ≡ []
+  pub stopped : (before others : List (Bool × Answer)) (r : Answer) → (refusal_or (first_refusal (before ++ (true, r) ∷ others)) done).1 ≡ []
   stopped [] others r = refl
   stopped (x ∷ before) others r = stopped_step x.0 x.1 (first_refusal (before ++ (true, r) ∷ others)) (stopped before others r)

@@ -11,7 +11,7 @@ use Rattle.dq_tables.specs.declared.row.Kind.TheVariants.{Study, Entry}
 use Rattle.dq_tables.specs.declared.row.Row.{Row}
 use Rattle.dq_tables.specs.Rows.{Record, of, row_of, record_of}
 use Rattle.dq_tables.specs.Choosing.{is_chosen, studies_in, studies_among}
-use Rattle.dq_tables.specs.Finding.{record_at, records_of, records_above, waiting_among, row_at, rows_of, rows_above, waiting, same_kind}
+use Rattle.dq_tables.specs.Finding.{record_at, records_of, records_above, waiting_among, row_at, rows_of, rows_above, waiting_entries, same_kind}
 
 own_row : (h : List ℕ) (row : Row) → bytes_eq row.inst h ≡ true → row ≡ row_of h (record_of row)
 own_row h row same = ap (λ (i : List ℕ). row_of i (record_of row)) ((bytes_eq-Decides row.inst h).0 same)
@@ -72,7 +72,7 @@ unfolding studies_in studies_among
 chosen_own choice h rows = ap (filter (λ (row : Row). is_chosen choice (record_of row))) (listed_own Study h rows)
     ∙ filter_map_row h (λ (row : Row). is_chosen choice (record_of row)) (records_of Study (of h rows))
 
-pub waiting_own : (h : List ℕ) (rows : List Row) → waiting h rows ≡ map (row_of h) (waiting_among (of h rows))
+pub waiting_own : (h : List ℕ) (rows : List Row) → waiting_entries h rows ≡ map (row_of h) (waiting_among (of h rows))
 waiting_own h rows = ap (filter (λ (row : Row). not row.started)) (listed_own Entry h rows)
     ∙ filter_map_row h (λ (row : Row). not row.started) (records_of Entry (of h rows))
 

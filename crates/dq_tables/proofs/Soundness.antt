@@ -10,9 +10,9 @@ use Rattle.dq_tables.specs.declared.row.Kind.TheVariants.{Study, Series, Image, 
 use Rattle.dq_tables.specs.declared.row.Row.{Row}
 use Rattle.dq_tables.specs.declared.change.Change.{Change}
 use Rattle.dq_tables.specs.declared.change.Change.TheVariants.{Stored, EntryAdded, EntryRemoved, StepAdded, StepChanged}
-use Rattle.dq_tables.specs.Rows.{RowPlace, row_place_of, row_place_order, place, rows_before, rows_past, Edit, Put, Remove, Start, record_of, row_of, after_edit, after_edits, after, operation_of, put_if, IsOf, left_by, of, within}
+use Rattle.dq_tables.specs.Rows.{RowPlace, row_place_of, row_place_order, place, rows_before, rows_past, Edit, Put, Remove, Start, record_of, row_of, after_edit, after_edits, after, operation_of, put_if, IsOf, records_after_edit, of, within}
 use Rattle.dq_tables.specs.Finding.{row_at}
-use Rattle.dq_tables.specs.Sound.{IsSound, HeldEach, is_own, is_held, IsNew, IsNewIf, IsChanged, Fits, FitsStored}
+use Rattle.dq_tables.specs.Sound.{IsSound, HeldEach, is_own_row, is_held, IsNew, IsNewIf, MayReplace, ChangeFits, FitsStored}
 use Rattle.dq_tables.proofs.Order.{rows_total, is_at, is_before, is_past, each_filtered, each_appended, each_weaker}
 use Rattle.dq_tables.proofs.InOrder.{row_at_is}
 use Rattle.dq_tables.proofs.Lens.{rising_edit}
@@ -147,19 +147,19 @@ remove_grows h key rows kind g key' other some =
 held_each : (rows more : List Row) → Grows rows more → (some : List Row) → HeldEach rows some → HeldEach more some
 held_each rows more grows some held = grind (arith, each_weaker, held_more)
 
-each_edited : (P : Row → Type 0) (h : List ℕ) (e : Edit) (rows : List Row) → AllByRecursion P rows → AllByRecursion P (map (row_of h) (left_by e (of h rows)))
+each_edited : (P : Row → Type 0) (h : List ℕ) (e : Edit) (rows : List Row) → AllByRecursion P rows → AllByRecursion P (map (row_of h) (records_after_edit e (of h rows)))
     → AllByRecursion P (after_edit h e rows)
 unfolding after_edit
 each_edited P h e rows all put = grind (arith, each_appended, each_filtered, is_before, is_past)
 
-pub put_sound : (rows : List Row) (row : Row) → IsSound rows → is_own row ≡ true → is_held rows row.kind row.inst row.above ≡ true
+pub put_sound : (rows : List Row) (row : Row) → IsSound rows → is_own_row row ≡ true → is_held rows row.kind row.inst row.above ≡ true
     → IsSound (after_edit row.inst (Put (record_of row)) rows)
 put_sound rows row sound own held =
     let more = after_edit row.inst (Put (record_of row)) rows in
     let grows = put_grows row rows in
     record {
       rising = rising_edit row.inst (Put (record_of row)) rows sound.rising;
-      own = each_edited (λ (r : Row). is_own r ≡ true) row.inst (Put (record_of row)) rows sound.own (own, tt);
+      own = each_edited (λ (r : Row). is_own_row r ≡ true) row.inst (Put (record_of row)) rows sound.own (own, tt);
       held = each_edited (λ (r : Row). is_held more r.kind r.inst r.above ≡ true) row.inst (Put (record_of row)) rows
           (held_each rows more grows rows sound.held)
           (held_more rows more grows row.kind row.inst row.above held, tt);
@@ -170,7 +170,7 @@ remove_sound rows h key sound =
     let more = after_edit h (Remove Entry key) rows in
     record {
       rising = rising_edit h (Remove Entry key) rows sound.rising;
-      own = each_edited (λ (r : Row). is_own r ≡ true) h (Remove Entry key) rows sound.own tt;
+      own = each_edited (λ (r : Row). is_own_row r ≡ true) h (Remove Entry key) rows sound.own tt;
       held = each_edited (λ (r : Row). is_held more r.kind r.inst r.above ≡ true) h (Remove Entry key) rows
           (held_each rows more (remove_grows h key rows) rows sound.held) tt;
     }
@@ -209,7 +209,7 @@ pub stored_sound : (rows : List Row) (study series : Option Row) (image : Row) �
     → IsSound (after_edit image.inst (Put (record_of image)) (after_edits image.inst (put_if series) (after_edits image.inst (put_if study) rows)))
 stored_sound rows study series image sound fits = grind (arith, put_if_sound, new_sound)
 
-changed_sound : (rows : List Row) (row : Row) → IsSound rows → IsChanged rows Step row → IsSound (after_edit row.inst (Put (record_of row)) rows)
+changed_sound : (rows : List Row) (row : Row) → IsSound rows → MayReplace rows Step row → IsSound (after_edit row.inst (Put (record_of row)) rows)
 unfolding is_held
 changed_sound rows row sound fits =
     put_sound rows row sound fits.own (subst (λ (k : Kind). is_held rows k row.inst row.above ≡ true) (sym fits.kind_is) refl)
@@ -217,14 +217,14 @@ changed_sound rows row sound fits =
 pub start_sound : (h key : List ℕ) (rows : List Row) → IsSound rows → IsSound (after_edit h (Start key) rows)
 start_sound h key rows sound =
     start_keeps IsSound h key rows sound.rising sound
-    (λ row kind among. put_sound rows (started row) sound (started_own row kind (each_among (λ (r : Row). is_own r ≡ true) row rows sound.own among))
+    (λ row kind among. put_sound rows (started row) sound (started_own row kind (each_among (λ (r : Row). is_own_row r ≡ true) row rows sound.own among))
     (entry_held rows row.kind row.inst row.above kind))
 
 pub starts_sound : (h : List ℕ) (keys : List (List ℕ)) (rows : List Row) → IsSound rows → IsSound (after_edits h (map Start keys) rows)
 starts_sound h [] rows sound = sound
 starts_sound h (key ∷ keys) rows sound = starts_sound h keys (after_edit h (Start key) rows) (start_sound h key rows sound)
 
-pub change_sound : (rows : List Row) (change : Change) → IsSound rows → Fits rows change → IsSound (after (operation_of change) rows)
+pub change_sound : (rows : List Row) (change : Change) → IsSound rows → ChangeFits rows change → IsSound (after (operation_of change) rows)
 change_sound rows (Stored study series image) sound fits = rw (stored_is rows study series image) (stored_sound rows study series image sound fits)
 change_sound rows (EntryAdded row) sound fits = new_sound rows Entry row sound fits
 change_sound rows (EntryRemoved h key) sound fits = remove_sound rows h key sound
@@ -233,7 +233,7 @@ change_sound rows (StepAdded row keys) sound fits =
 change_sound rows (StepChanged row) sound fits = changed_sound rows row sound fits
 
 -- the same of rows and copies that are known to be equal
-pub kept_sound : (rows mid new : List Row) (row copy : Row) → IsSound rows → is_own row ≡ true → is_held rows row.kind row.inst row.above ≡ true
+pub kept_sound : (rows mid new : List Row) (row copy : Row) → IsSound rows → is_own_row row ≡ true → is_held rows row.kind row.inst row.above ≡ true
     → copy ≡ row → mid ≡ rows → new ≡ after_edit copy.inst (Put (record_of copy)) mid → IsSound new
 kept_sound rows mid new row copy sound own held same start done =
     subst IsSound (sym (done ∙ ap (after_edit copy.inst (Put (record_of copy))) start ∙ ap (λ (r : Row). after_edit r.inst (Put (record_of r)) rows) same))
@@ -252,6 +252,6 @@ pub stored_done : (rows start first second new : List Row) (study series study' 
 stored_done rows start first second new study series study' series' image image' same_study same_series same_image fits begin one two three =
     grind arith
 
-pub changed_held : (rows : List Row) (row : Row) → IsChanged rows Step row → is_held rows row.kind row.inst row.above ≡ true
+pub changed_held : (rows : List Row) (row : Row) → MayReplace rows Step row → is_held rows row.kind row.inst row.above ≡ true
 unfolding is_held
 changed_held rows row fits = subst (λ (k : Kind). is_held rows k row.inst row.above ≡ true) (sym fits.kind_is) refl

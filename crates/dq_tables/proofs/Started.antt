@@ -10,8 +10,8 @@ use Rattle.dq_tables.specs.declared.row.Kind.{Kind}
 use Rattle.dq_tables.specs.declared.row.Kind.TheVariants.{Entry}
 use Rattle.dq_tables.specs.declared.row.Row.{Row}
 use Rattle.dq_tables.specs.Rows.{Record, Place, Put, Start, place, row_place_of, record_of, row_of, record_at, of, rows_before, rows_past, rows_elsewhere, after_edit, IsRising}
-use Rattle.dq_tables.specs.Finding.{row_at, IsThere}
-use Rattle.dq_tables.specs.Sound.{is_own, is_record_of, is_held}
+use Rattle.dq_tables.specs.Finding.{row_at, IsAtIndex}
+use Rattle.dq_tables.specs.Sound.{is_own_row, is_record_of, is_held}
 use Rattle.dq_tables.proofs.Edits.{set_is}
 use Rattle.dq_tables.proofs.Listing.{its_kind}
 use Rattle.dq_tables.proofs.Members.{apart_is, free_is, one_inside, put_has, find_among}
@@ -79,7 +79,7 @@ unfolding after_edit
 start_of_none h key rows rising free = grind (arith, none_found, found_own, append-nil, apart_is, free_is)
 
 -- by its index
-pub starts_at : (h key : List ℕ) (rows : List Row) (at : ℕ) (row : Row) → IsThere (place Entry h key) rows at → slice_get rows at ≡ Some row
+pub starts_at : (h key : List ℕ) (rows : List Row) (at : ℕ) (row : Row) → IsAtIndex (place Entry h key) rows at → slice_get rows at ≡ Some row
     → set rows at (started row) ≡ after_edit h (Start key) rows
 starts_at h key rows at row there here =
     set_is rows at (started row) there.within ∙ rw (there.before, there.past) (sym (start_leaves h key rows row (is_found h key rows row (there.found ∙ here))))
@@ -90,8 +90,8 @@ started_record : (r : Result ElementList ReadFault) (row : Row) → is_record_of
 started_record (Ok d) row = refl
 started_record (Err fault) row = refl
 
-pub started_own : (row : Row) → row.kind ≡ Entry → is_own row ≡ true → is_own (started row) ≡ true
-unfolding is_own
+pub started_own : (row : Row) → row.kind ≡ Entry → is_own_row row ≡ true → is_own_row (started row) ≡ true
+unfolding is_own_row
 started_own row kind own = grind (arith, its_kind, started_record, and_parts)
 
 pub entry_held : (rows : List Row) (kind : Kind) (h above : List ℕ) → kind ≡ Entry → is_held rows kind h above ≡ true

@@ -3,7 +3,7 @@ use Rattle.std.proofs.Common.{◌≡◌, ℕ, ℤ, pos, ◌≤◌, ◌≤ℤ◌,
 use Rattle.std.specs.Str.{bytes_eq}
 use Rattle.std.proofs.lemmas.Int.{ints}
 use Rattle.dq_value.specs.Day.{Ymd, date_in, day_number, day}
-use Rattle.dq_tables.specs.Keys.{passing}
+use Rattle.dq_tables.specs.Keys.{value_passing}
 use Rattle.dq_tables.specs.Labels.{date_number, day_named}
 use Rattle.dq_tables.specs.Choosing.{is_open_or}
 use Rattle.dq_tables.specs.Asked.{ends_asked, days_asked}
@@ -24,7 +24,7 @@ patient_by test key (Some value) true is same = same value refl is
 
 pub patient_taken : (test : List ℕ → Bool) (asked said : Option (List ℕ))
     → ((key value : List ℕ) → asked ≡ Some key → said ≡ Some value → test key ≡ true → bytes_eq key value ≡ true)
-    → is_open_or bytes_eq (passing test asked) said ≡ true
+    → is_open_or bytes_eq (value_passing test asked) said ≡ true
 patient_taken test None said same = refl
 patient_taken test (Some key) said same = patient_by test key said (test key) refl (λ value. same key value refl)
 

@@ -3,13 +3,13 @@ use Rattle.std.proofs.Common.{◌≡◌, Bool, true, false, ◌&&◌, List, [], 
 use Rattle.std.specs.Str.{bytes_eq}
 use Rattle.std.proofs.lemmas.Bool.{and_parts}
 use Rattle.std.proofs.lemmas.Slice.Eq.{bytes_eq-Decides}
-use Rattle.dq_tables.specs.Rows.{Record, Place, place_of, record_at, same_kind}
+use Rattle.dq_tables.specs.Rows.{Record, Place, record_place, record_at, same_kind}
 use Rattle.dq_tables.proofs.Listing.{one_kind}
 
 -- a record, if there is one, stands at a place
 abbrev pub StandsAt : Place → Option Record → Type 0
 StandsAt p None = Unit {0}
-StandsAt p (Some r) = place_of r ≡ p
+StandsAt p (Some r) = record_place r ≡ p
 
 stands_step : (p : Place) (r : Record) (records : List Record) (b : Bool) → (same_kind r.kind p.kind && bytes_eq r.key p.key) ≡ b
     → StandsAt p (record_at p.kind p.key records) → StandsAt p (record_at p.kind p.key (r ∷ records))

@@ -1,12 +1,12 @@
 -- What a query asks of the key, the patient and the day of studies.
 use Rattle.std.specs.Prelude.{ℕ, List, Option, Some, None, unwrap_or, option_and_then}
-use Rattle.dq_value.specs.Range.{Ends, ends}
+use Rattle.dq_value.specs.Range.{Ends, range_ends}
 use Rattle.dq_tables.specs.declared.choice.Choice.{Choice}
 use Rattle.dq_tables.specs.Labels.{day_named}
 
 -- the ends of a range of dates, and of one date the date (PS3.4 section C.2.2.2.5)
 abbrev pub ends_asked : List ℕ → Ends
-ends_asked date = unwrap_or (ends date) (Some date, Some date)
+ends_asked date = unwrap_or (range_ends date) (Some date, Some date)
 
 -- the first and the last day that a value of a date key asks for
 abbrev pub days_asked : Option (List ℕ) → Option ℕ × Option ℕ

@@ -4,9 +4,9 @@ use Rattle.dq_tables.specs.declared.fault.TableFault.{TableFault}
 use Rattle.dq_tables.specs.declared.fault.TableFault.TheVariants.{NoMemory, Store}
 use Rattle.dq_tables.specs.declared.fuse.Fuse.{Fuse}
 
-abbrev pub number_of_fault : TableFault → ℕ
-number_of_fault NoMemory = 1
-number_of_fault Store = 2
+abbrev pub table_fault_number : TableFault → ℕ
+table_fault_number NoMemory = 1
+table_fault_number Store = 2
 
 -- A change burns one off what is left. Where none is left the fuse blows, and it stays blown.
 abbrev pub burnt : Fuse → Fuse

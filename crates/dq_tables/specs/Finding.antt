@@ -20,26 +20,26 @@ records_above kind above records =
 abbrev pub waiting_among : List Record → List Record
 waiting_among records = filter (λ (r : Record). not r.started) (records_of Entry records)
 
-abbrev pub is_of : Kind → List ℕ → Row → Bool
-is_of kind institution row = same_kind row.kind kind && bytes_eq row.inst institution
+abbrev pub is_of_kind : Kind → List ℕ → Row → Bool
+is_of_kind kind institution row = same_kind row.kind kind && bytes_eq row.inst institution
 
 -- the same of an institution's rows
 unfoldable pub row_at : Kind → List ℕ → List ℕ → List Row → Option Row
 row_at kind institution key rows =
-    find (λ (row : Row). is_of kind institution row && bytes_eq row.key key) rows
+    find (λ (row : Row). is_of_kind kind institution row && bytes_eq row.key key) rows
 
 unfoldable pub rows_of : Kind → List ℕ → List Row → List Row
-rows_of kind institution rows = filter (is_of kind institution) rows
+rows_of kind institution rows = filter (is_of_kind kind institution) rows
 
 unfoldable pub rows_above : Kind → List ℕ → List ℕ → List Row → List Row
 rows_above kind institution above rows =
     filter (λ (row : Row). bytes_eq row.above above) (rows_of kind institution rows)
 
-abbrev pub waiting : List ℕ → List Row → List Row
-waiting institution rows = filter (λ (row : Row). not row.started) (rows_of Entry institution rows)
+abbrev pub waiting_entries : List ℕ → List Row → List Row
+waiting_entries institution rows = filter (λ (row : Row). not row.started) (rows_of Entry institution rows)
 
 -- Among rows in order, the one at an index stands at a place.
-pub record IsThere (p : RowPlace) (rows : List Row) (at : ℕ) : Type 0 where
+pub record IsAtIndex (p : RowPlace) (rows : List Row) (at : ℕ) : Type 0 where
   pub within : at < length rows
   pub before : take at rows ≡ rows_before p rows
   pub past : drop (at + 1) rows ≡ rows_past p rows

@@ -9,13 +9,13 @@ use Rattle.dq_dataset.specs.declared.data_set.Value.TheVariants.{Octets, Items}
 use Rattle.dq_dataset.specs.Tree.{ElementList}
 use Rattle.dq_dataset.specs.Values.{element_at, sole_at}
 
-abbrev pub passing : (List ℕ → Bool) → Option (List ℕ) → Option (List ℕ)
-passing test None = None
-passing test (Some value) = if test value then Some value else None
+abbrev pub value_passing : (List ℕ → Bool) → Option (List ℕ) → Option (List ℕ)
+value_passing test None = None
+value_passing test (Some value) = if test value then Some value else None
 
 -- the value of an element that is exactly one UID (PS3.5 section 9.1)
 unfoldable pub uid_at : Tag → ElementList → Option (List ℕ)
-uid_at tag d = passing is_uid (sole_at tag d)
+uid_at tag d = value_passing is_uid (sole_at tag d)
 
 -- the only item of a sequence
 unfoldable pub sole_item_of : Option Element → Option ElementList
@@ -31,7 +31,7 @@ is_id value = nat_le 1 (length value) && nat_le (length value) 16
 
 -- the only value of Scheduled Procedure Step ID (0040,0009), where it is an id
 unfoldable pub id_of : ElementList → Option (List ℕ)
-id_of item = passing is_id (sole_at scheduled_procedure_step_id item)
+id_of item = value_passing is_id (sole_at scheduled_procedure_step_id item)
 
 abbrev pub id_in : Option ElementList → Option (List ℕ)
 id_in None = None

@@ -12,12 +12,12 @@ use Rattle.dq_tables.specs.declared.row.Row.{Row}
 use Rattle.dq_tables.specs.declared.change.Change.{Change}
 use Rattle.dq_tables.specs.declared.change.Change.TheVariants.{Stored, EntryAdded, EntryRemoved, StepAdded, StepChanged}
 
-abbrev pub number_of : Kind → ℕ
-number_of Study = 1
-number_of Series = 2
-number_of Image = 3
-number_of Entry = 4
-number_of Step = 5
+abbrev pub number_of_kind : Kind → ℕ
+number_of_kind Study = 1
+number_of_kind Series = 2
+number_of_kind Image = 3
+number_of_kind Entry = 4
+number_of_kind Step = 5
 
 -- A record: the data set in Explicit, its key, the key of the record above it, of which there is
 -- none but for series and images, and whether a performed procedure step has started it, as may be
@@ -34,28 +34,28 @@ pub record Place : Type 0 where
   pub kind : Kind
   pub key : List ℕ
 
-abbrev pub place_of : Record → Place
-place_of r = record { kind = r.kind; key = r.key }
+abbrev pub record_place : Record → Place
+record_place r = record { kind = r.kind; key = r.key }
 
 -- octet by octet
 abbrev pub octet_order : List ℕ → List ℕ → Ordering
 octet_order = slice_cmp nat_cmp
 
 abbrev pub kind_order : Kind → Kind → Ordering
-kind_order a b = nat_cmp (number_of a) (number_of b)
+kind_order a b = nat_cmp (number_of_kind a) (number_of_kind b)
 
 -- by kind, then by key
 abbrev pub place_order : Place → Place → Ordering
 place_order p q = ordering_then (kind_order p.kind q.kind) (octet_order p.key q.key)
 
 abbrev pub records_before : Place → List Record → List Record
-records_before p records = filter (λ (r : Record). is_lt (place_order (place_of r) p)) records
+records_before p records = filter (λ (r : Record). is_lt (place_order (record_place r) p)) records
 
 abbrev pub records_past : Place → List Record → List Record
-records_past p records = filter (λ (r : Record). is_gt (place_order (place_of r) p)) records
+records_past p records = filter (λ (r : Record). is_gt (place_order (record_place r) p)) records
 
 abbrev pub same_kind : Kind → Kind → Bool
-same_kind a b = number_of a == number_of b
+same_kind a b = number_of_kind a == number_of_kind b
 
 -- the record of a kind with a key
 unfoldable pub record_at : Kind → List ℕ → List Record → Option Record
@@ -73,7 +73,7 @@ pub data Edit : Type 0 where
   Start : List ℕ → Edit
 
 abbrev pub edit_place : Edit → Place
-edit_place (Put r) = place_of r
+edit_place (Put r) = record_place r
 edit_place (Remove kind key) = record { kind = kind; key = key }
 edit_place (Start key) = record { kind = Entry; key = key }
 
@@ -84,24 +84,24 @@ left_there (Remove kind key) there = []
 left_there (Start key) None = []
 left_there (Start key) (Some r) = as_started r ∷ []
 
-abbrev pub left_by : Edit → List Record → List Record
-left_by e records =
+abbrev pub records_after_edit : Edit → List Record → List Record
+records_after_edit e records =
     left_there e (record_at (edit_place e).kind (edit_place e).key records)
 
 unfoldable pub edited_by : Edit → List Record → List Record
 edited_by e records =
-    records_before (edit_place e) records ++ left_by e records
+    records_before (edit_place e) records ++ records_after_edit e records
     ++ records_past (edit_place e) records
 
 -- the records after some edits in turn
-abbrev pub edited : List Edit → List Record → List Record
-edited [] records = records
-edited (e ∷ es) records = edited es (edited_by e records)
+abbrev pub records_after_edits : List Edit → List Record → List Record
+records_after_edits [] records = records
+records_after_edits (e ∷ es) records = records_after_edits es (edited_by e records)
 
 -- the records after some lists of edits in turn
 abbrev pub edited_all : List (List Edit) → List Record → List Record
 edited_all [] records = records
-edited_all (es ∷ more) records = edited_all more (edited es records)
+edited_all (es ∷ more) records = edited_all more (records_after_edits es records)
 
 -- A row is a record under an institution's name.
 abbrev pub row_of : List ℕ → Record → Row
@@ -174,7 +174,7 @@ rows_elsewhere p rows =
 unfoldable pub after_edit : List ℕ → Edit → List Row → List Row
 after_edit institution e rows =
     rows_before (within institution (edit_place e)) rows
-    ++ map (row_of institution) (left_by e (of institution rows))
+    ++ map (row_of institution) (records_after_edit e (of institution rows))
     ++ rows_past (within institution (edit_place e)) rows
 
 abbrev pub after_edits : List ℕ → List Edit → List Row → List Row

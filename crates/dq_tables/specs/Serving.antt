@@ -28,6 +28,6 @@ first_refusal [] = None
 first_refusal (refusal ∷ others) = if refusal.0 then Some refusal.1 else first_refusal others
 
 -- A refusal is the answer, and edits nothing. Where there is none, this is answered and edited.
-abbrev pub outcome : {Answer : Type 0} → Option Answer → Answer × List Edit → Answer × List Edit
-outcome (Some refusal) done = (refusal, [])
-outcome None done = done
+abbrev pub refusal_or : {Answer : Type 0} → Option Answer → Answer × List Edit → Answer × List Edit
+refusal_or (Some refusal) done = (refusal, [])
+refusal_or None done = done

@@ -43,9 +43,9 @@ has_above kind above d = bytes_eq above []
 abbrev pub entry_limit : ℕ
 entry_limit = 0x1000000
 
-unfoldable pub is_within : Kind → List ℕ → Bool
-is_within Entry octets = nat_le (length octets) entry_limit
-is_within kind octets = true
+unfoldable pub is_within_limits : Kind → List ℕ → Bool
+is_within_limits Entry octets = nat_le (length octets) entry_limit
+is_within_limits kind octets = true
 
 -- An entry alone may be started.
 abbrev pub may_be_started : Kind → Bool → Bool
@@ -56,12 +56,12 @@ is_record_of (Err fault) row = false
 is_record_of (Ok d) row =
     bytes_eq (canonical Explicit d) row.octets
     && (has_key row.kind row.key d
-    && (has_above row.kind row.above d && is_within row.kind row.octets))
+    && (has_above row.kind row.above d && is_within_limits row.kind row.octets))
 
 -- The octets are the one Explicit spelling of a data set, the keys are its own, and the row is
 -- started only where it may be.
-unfoldable pub is_own : Row → Bool
-is_own row =
+unfoldable pub is_own_row : Row → Bool
+is_own_row row =
     may_be_started row.kind row.started && is_record_of (reading Explicit row.octets) row
 
 -- the row above is there
@@ -71,7 +71,7 @@ is_held rows Image institution above = is_some (row_at Series institution above 
 is_held rows kind institution above = true
 
 abbrev pub OwnEach : List Row → Type 0
-OwnEach rows = AllByRecursion (λ (row : Row). is_own row ≡ true) rows
+OwnEach rows = AllByRecursion (λ (row : Row). is_own_row row ≡ true) rows
 
 abbrev pub HeldEach : List Row → List Row → Type 0
 HeldEach all rows =
@@ -99,7 +99,7 @@ pub record IsSound (rows : List Row) : Type 0 where
 pub record IsNew (rows : List Row) (kind : Kind) (row : Row) : Type 0 where
   pub kind_is : row.kind ≡ kind
   pub free : row_at kind row.inst row.key rows ≡ None
-  pub own : is_own row ≡ true
+  pub own : is_own_row row ≡ true
   pub held : is_held rows kind row.inst row.above ≡ true
 
 abbrev pub IsNewIf : List Row → Kind → Option Row → Type 0
@@ -107,10 +107,10 @@ IsNewIf rows kind None = Unit {0}
 IsNewIf rows kind (Some row) = IsNew rows kind row
 
 -- a row that may take the place of another
-pub record IsChanged (rows : List Row) (kind : Kind) (row : Row) : Type 0 where
+pub record MayReplace (rows : List Row) (kind : Kind) (row : Row) : Type 0 where
   pub kind_is : row.kind ≡ kind
   pub there : is_some (row_at kind row.inst row.key rows) ≡ true
-  pub own : is_own row ≡ true
+  pub own : is_own_row row ≡ true
 
 -- A new step, with the keys of entries that are there.
 pub record FitsStep (rows : List Row) (row : Row) (keys : List (List ℕ)) : Type 0 where
@@ -130,9 +130,9 @@ pub record FitsStored (rows : List Row) (study series : Option Row) (image : Row
 
 -- What a change asks: added places are free, changed, removed and started rows are there, rows above
 -- are there or added with it, and rows are their records' own.
-abbrev pub Fits : List Row → Change → Type 0
-Fits rows (Stored study series image) = FitsStored rows study series image
-Fits rows (EntryAdded row) = IsNew rows Entry row
-Fits rows (EntryRemoved institution key) = is_some (row_at Entry institution key rows) ≡ true
-Fits rows (StepAdded row keys) = FitsStep rows row keys
-Fits rows (StepChanged row) = IsChanged rows Step row
+abbrev pub ChangeFits : List Row → Change → Type 0
+ChangeFits rows (Stored study series image) = FitsStored rows study series image
+ChangeFits rows (EntryAdded row) = IsNew rows Entry row
+ChangeFits rows (EntryRemoved institution key) = is_some (row_at Entry institution key rows) ≡ true
+ChangeFits rows (StepAdded row keys) = FitsStep rows row keys
+ChangeFits rows (StepChanged row) = MayReplace rows Step row

@@ -14,12 +14,12 @@ use Rattle.dq_tables.specs.Finding.{records_of}
 use Rattle.dq_tables.specs.Keys.{id_of}
 
 -- the items of a sequence
-unfoldable pub items_of : Option Element → List ElementList
-items_of None = []
-items_of (Some e) = elim e.value [ Octets octets ↦ [] | Items items ↦ items ]
+unfoldable pub sequence_items : Option Element → List ElementList
+sequence_items None = []
+sequence_items (Some e) = elim e.value [ Octets octets ↦ [] | Items items ↦ items ]
 
 unfoldable pub items_at : Tag → ElementList → List ElementList
-items_at tag d = items_of (element_at tag d)
+items_at tag d = sequence_items (element_at tag d)
 
 -- A performed procedure step names the scheduled steps that it performs by their ids, each in an
 -- item of its Scheduled Step Attributes Sequence (0040,0270) (PS3.4 table F.7.2-1).

@@ -17,11 +17,11 @@ pub enum TableFault {
 }
 
 impl TableFault {
-    ghost use Rattle.dq_tables.specs.Faults.{number_of_fault};
+    ghost use Rattle.dq_tables.specs.Faults.{table_fault_number};
 
     /// 1 and 2, in the order in which the faults are declared.
     pub fn number(self) -> u8
-        ensures { result ≡ number_of_fault self }
+        ensures { result ≡ table_fault_number self }
     {
         self as u8
     }

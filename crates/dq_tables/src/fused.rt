@@ -3,9 +3,9 @@ ghost use Rattle.std.specs.Prelude.{◌≡◌, ◌||◌, false, true, length, On
 ghost use Rattle.dq_tables.specs.declared.fault.TableFault.TheVariants.{Store};
 ghost use Rattle.dq_tables.specs.declared.row.Row.{Row};
 ghost use Rattle.dq_tables.specs.Rows.{after, operation_of};
-ghost use Rattle.dq_tables.specs.Finding.{row_at, rows_of, rows_above, waiting};
+ghost use Rattle.dq_tables.specs.Finding.{row_at, rows_of, rows_above, waiting_entries};
 ghost use Rattle.dq_tables.specs.Choosing.{studies_in};
-ghost use Rattle.dq_tables.specs.Sound.{Fits};
+ghost use Rattle.dq_tables.specs.Sound.{ChangeFits};
 ghost use Rattle.dq_tables.specs.Keeping.{Reads, Writes};
 ghost use Rattle.dq_tables.specs.Faults.{burnt};
 
@@ -152,7 +152,7 @@ impl<T: Tables> Tables for Fused<T> {
     fn waiting(&mut self, alloc: Global, institution: &[u8]) -> Result<Listed<Row>, TableFault>
         ensures found { (⟦<Fused<T> as Tables>⟧.state self.new).honest → IfOk result
             (λ found. found
-            ≡ waiting institution.now (⟦<Fused<T> as Tables>⟧.state self.old).rows) }
+            ≡ waiting_entries institution.now (⟦<Fused<T> as Tables>⟧.state self.old).rows) }
         ensures reads { Reads (⟦<Fused<T> as Tables>⟧.state self.old)
             (⟦<Fused<T> as Tables>⟧.state self.new) result }
         ensures fuse { self.new.fuse ≡ self.old.fuse }
@@ -201,7 +201,7 @@ impl<T: Tables> Tables for Fused<T> {
 
     fn apply(&mut self, alloc: Global, change: &Change) -> Result<(), TableFault>
         requires { (⟦<Fused<T> as Tables>⟧.state self.old).honest
-            → Fits (⟦<Fused<T> as Tables>⟧.state self.old).rows change.now }
+            → ChangeFits (⟦<Fused<T> as Tables>⟧.state self.old).rows change.now }
         ensures writes { Writes (⟦<Fused<T> as Tables>⟧.state self.old)
             (⟦<Fused<T> as Tables>⟧.state self.new)
             (after (operation_of change.now) (⟦<Fused<T> as Tables>⟧.state self.old).rows) result }

@@ -8,12 +8,12 @@ ghost use Rattle.dq_tables.specs.declared.row.Kind.{Kind};
 ghost use Rattle.dq_tables.specs.declared.row.Kind.TheVariants.{Entry};
 ghost use Rattle.dq_tables.specs.declared.row.Row.{Row};
 ghost use Rattle.dq_tables.specs.declared.change.Change.{Change};
-ghost use Rattle.dq_tables.specs.Rows.{Edit, Put, Remove, Start, record_of, row_place_of, place, rows_elsewhere, after_edit, edited, edited_all, of, IsRising, Operation, by, after, after_all, own_edits, operation_of, row_of};
-ghost use Rattle.dq_tables.specs.Finding.{row_at, rows_of, rows_above, waiting, record_at, records_of, records_above, waiting_among};
+ghost use Rattle.dq_tables.specs.Rows.{Edit, Put, Remove, Start, record_of, row_place_of, place, rows_elsewhere, after_edit, records_after_edits, edited_all, of, IsRising, Operation, by, after, after_all, own_edits, operation_of, row_of};
+ghost use Rattle.dq_tables.specs.Finding.{row_at, rows_of, rows_above, waiting_entries, record_at, records_of, records_above, waiting_among};
 ghost use Rattle.dq_tables.specs.Choosing.{studies_in, studies_among};
 ghost use Rattle.dq_tables.specs.Labels.{date_number, day_named, day_of};
 ghost use Rattle.dq_tables.specs.Records.{AreInOrder};
-ghost use Rattle.dq_tables.specs.Sound.{IsSound, Fits};
+ghost use Rattle.dq_tables.specs.Sound.{IsSound, ChangeFits};
 
 use crate::plain::PlainTables;
 use crate::tables::Tables;
@@ -24,7 +24,7 @@ use dq_value::date_law;
 #[tactic(auto, using(crate::proofs::Lens::lens, crate::proofs::Lens::lens_all))]
 pub fn own_records_are_edited()
     ensures one { (h : List ℕ) (es : List Edit) (rows : List Row)
-        → of h (after (by h es) rows) ≡ edited es (of h rows) }
+        → of h (after (by h es) rows) ≡ records_after_edits es (of h rows) }
     ensures all { (h : List ℕ) (changes : List (List Edit)) (rows : List Row)
         → of h (after_all (map (by h) changes) rows) ≡ edited_all changes (of h rows) }
 {}
@@ -57,7 +57,7 @@ pub fn rows_stay_in_order()
 /// Sound rows stay sound by a change that fits them.
 #[tactic(auto, using(crate::proofs::Soundness::change_sound))]
 pub fn sound_rows_stay_sound()
-    ensures { (rows : List Row) (change : Change) → IsSound rows → Fits rows change
+    ensures { (rows : List Row) (change : Change) → IsSound rows → ChangeFits rows change
         → IsSound (after (operation_of change) rows) }
 {}
 
@@ -73,7 +73,7 @@ pub fn rows_are_found_among_records()
     ensures chosen { (choice : Choice) (h : List ℕ) (rows : List Row)
         → studies_in choice h rows ≡ map (row_of h) (studies_among choice (of h rows)) }
     ensures waiting { (h : List ℕ) (rows : List Row)
-        → waiting h rows ≡ map (row_of h) (waiting_among (of h rows)) }
+        → waiting_entries h rows ≡ map (row_of h) (waiting_among (of h rows)) }
     ensures counted { (kind : Kind) (h : List ℕ) (rows : List Row)
         → length (rows_of kind h rows) ≡ length (records_of kind (of h rows)) }
 {}

@@ -1,6 +1,6 @@
 //! A change that is made and let go.
 ghost use Rattle.dq_tables.specs.Rows.{after, operation_of};
-ghost use Rattle.dq_tables.specs.Sound.{Fits};
+ghost use Rattle.dq_tables.specs.Sound.{ChangeFits};
 ghost use Rattle.dq_tables.specs.Keeping.{Writes};
 
 use crate::change::Change;
@@ -14,7 +14,7 @@ pub fn make_change<T: Tables>(
     tables: &mut T,
     change: Change,
 ) -> Result<(), TableFault>
-    requires { (T.state tables.old).honest → Fits (T.state tables.old).rows change }
+    requires { (T.state tables.old).honest → ChangeFits (T.state tables.old).rows change }
     ensures { Writes (T.state tables.old) (T.state tables.new)
         (after (operation_of change) (T.state tables.old).rows) result }
 {

@@ -1,7 +1,7 @@
 //! Rows that are their records' own.
 ghost use Rattle.std.specs.Prelude.{◌≡◌, ◌<◌, ◌^◌, length, IfOk};
 ghost use Rattle.std.specs.Option.{option_copied};
-ghost use Rattle.dq_tables.specs.Sound.{is_value, has_key, has_above, is_within, may_be_started, is_own};
+ghost use Rattle.dq_tables.specs.Sound.{is_value, has_key, has_above, is_within_limits, may_be_started, is_own_row};
 
 use crate::keys::{entry_id, uid_at};
 use crate::row::{Kind, Row};
@@ -49,9 +49,9 @@ fn has_above(kind: Kind, above: &[u8], data_set: &DataSet) -> bool
     }
 }
 
-#[tactic(auto, unfolding(crate::specs::Sound::is_within))]
+#[tactic(auto, unfolding(crate::specs::Sound::is_within_limits))]
 fn is_within(kind: Kind, octets: &[u8]) -> bool
-    ensures { result ≡ is_within kind octets.now }
+    ensures { result ≡ is_within_limits kind octets.now }
 {
     match kind {
         Kind::Entry => octets.len() <= ENTRY_LIMIT,
@@ -69,10 +69,10 @@ fn may_be_started(kind: Kind, started: bool) -> bool
 impl Row {
     /// Whether the octets are the one Explicit spelling of a data set, the keys are its own, and
     /// the row is started only where it may be.
-    #[tactic(auto, unfolding(crate::specs::Sound::is_own))]
+    #[tactic(auto, unfolding(crate::specs::Sound::is_own_row))]
     pub fn is_own(&self, alloc: Global) -> Result<bool, AllocError>
         requires { length self.now.octets < 2 ^ 31 }
-        ensures { IfOk result (λ own. own ≡ is_own self.now) }
+        ensures { IfOk result (λ own. own ≡ is_own_row self.now) }
     {
         spelling_law();
         let octets = self.octets.as_slice();

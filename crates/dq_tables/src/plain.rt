@@ -3,7 +3,7 @@ ghost use Rattle.std.specs.Prelude.{◌≡◌, [], map, true, false, OnOk, OnErr
 ghost use Rattle.dq_tables.specs.declared.change.Change.TheVariants.{Stored, StepAdded};
 ghost use Rattle.dq_tables.specs.declared.row.Kind.TheVariants.{Entry};
 ghost use Rattle.dq_tables.specs.Rows.{IsRising, Put, Remove, Start, record_of, after_edit, after_edits, after, operation_of};
-ghost use Rattle.dq_tables.specs.Sound.{is_own, is_held, FitsStored, FitsStep, OwnEach, HeldEach, IsRising-prop, OwnEach-prop, HeldEach-prop};
+ghost use Rattle.dq_tables.specs.Sound.{is_own_row, is_held, FitsStored, FitsStep, OwnEach, HeldEach, IsRising-prop, OwnEach-prop, HeldEach-prop};
 
 use crate::put::{put, put_if, remove, start};
 use crate::row::{Kind, Row};
@@ -41,7 +41,7 @@ impl PlainTables {
 
     /// Puts a copy of a row in its place. Want of memory changes nothing.
     pub(crate) fn keep(&mut self, alloc: Global, row: &Row) -> Result<(), AllocError>
-        requires own { is_own row.now ≡ true }
+        requires own { is_own_row row.now ≡ true }
         requires held { is_held self.old.kept.items row.now.kind row.now.inst row.now.above ≡ true }
         ensures ok { OnOk result (self.new.kept.items
             ≡ after_edit row.now.inst (Put (record_of row.now)) self.old.kept.items) }

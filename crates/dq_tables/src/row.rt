@@ -28,18 +28,18 @@ pub enum Kind {
 impl Kind {
     ghost use Rattle.std.specs.Prelude.{◌↔◌};
     ghost use Rattle.dq_tables.specs.declared.row.Kind.{Kind};
-    ghost use Rattle.dq_tables.specs.Rows.{number_of};
+    ghost use Rattle.dq_tables.specs.Rows.{number_of_kind};
 
     /// 1 to 5, in the order in which the kinds are declared.
     pub fn number(self) -> u8
-        ensures { result ≡ number_of self }
+        ensures { result ≡ number_of_kind self }
     {
         self as u8
     }
 
     /// The kind of a number.
     pub fn from_number(number: u8) -> Option<Kind>
-        ensures { (kind : Kind) → (result ≡ Some kind) ↔ (number_of kind ≡ number) }
+        ensures { (kind : Kind) → (result ≡ Some kind) ↔ (number_of_kind kind ≡ number) }
     {
         match number {
             1 => Some(Kind::Study),

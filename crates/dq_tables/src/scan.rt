@@ -1,7 +1,7 @@
 //! Rows, scanned.
 ghost use Rattle.std.specs.Prelude.{◌≡◌, ◌&&◌, IfOk, length, option_copied};
 ghost use Rattle.std.specs.Str.{bytes_eq};
-ghost use Rattle.dq_tables.specs.Finding.{is_of, row_at, rows_of, rows_above, waiting};
+ghost use Rattle.dq_tables.specs.Finding.{is_of_kind, row_at, rows_of, rows_above, waiting_entries};
 ghost use Rattle.dq_tables.specs.Choosing.{studies_in};
 
 use crate::choice::Choice;
@@ -11,14 +11,14 @@ use std::alloc::{AllocError, Global};
 
 /// Whether a row is the institution's and of a kind.
 fn is_of(row: &Row, kind: Kind, institution: &[u8]) -> bool
-    ensures { result ≡ is_of kind institution.now row.now }
+    ensures { result ≡ is_of_kind kind institution.now row.now }
 {
     row.kind.number() == kind.number() && row.inst.as_slice() == institution
 }
 
 /// Whether a row is the institution's, of a kind, and has the key.
 fn has_key(row: &Row, kind: Kind, institution: &[u8], key: &[u8]) -> bool
-    ensures { result ≡ (is_of kind institution.now row.now && bytes_eq row.now.key key.now) }
+    ensures { result ≡ (is_of_kind kind institution.now row.now && bytes_eq row.now.key key.now) }
 {
     is_of(row, kind, institution) && row.key.as_slice() == key
 }
@@ -128,13 +128,13 @@ pub(crate) fn studies_in(
 }
 
 /// Copies of the institution's worklist entries that no performed procedure step has started.
-#[tactic(auto, unfolding(crate::specs::Finding::rows_of, crate::specs::Finding::waiting))]
+#[tactic(auto, unfolding(crate::specs::Finding::rows_of, crate::specs::Finding::waiting_entries))]
 pub(crate) fn waiting(
     alloc: Global,
     rows: &[Row],
     institution: &[u8],
 ) -> Result<Listed<Row>, AllocError>
-    ensures { IfOk result (λ copies. copies ≡ waiting institution.now rows.now) }
+    ensures { IfOk result (λ copies. copies ≡ waiting_entries institution.now rows.now) }
 {
     let mut copies = Listed::empty(alloc);
     for row in rows {

@@ -1,7 +1,7 @@
 //! Rows in order, searched.
 ghost use Rattle.std.specs.Prelude.{◌≡◌, MatchResult};
 ghost use Rattle.dq_tables.specs.Rows.{IsRising, row_place_of, row_place_order, place, group_order};
-ghost use Rattle.dq_tables.specs.Finding.{IsThere, IsFree};
+ghost use Rattle.dq_tables.specs.Finding.{IsAtIndex, IsFree};
 
 use crate::row::{Kind, Row};
 use std::cmp::Ordering;
@@ -9,7 +9,7 @@ use std::cmp::Ordering;
 /// The index of the row at a place, or that where it would stand.
 pub fn search(rows: &[Row], kind: Kind, institution: &[u8], key: &[u8]) -> Result<usize, usize>
     requires { IsRising rows.now }
-    ensures { MatchResult result (IsThere (place kind institution.now key.now) rows.now)
+    ensures { MatchResult result (IsAtIndex (place kind institution.now key.now) rows.now)
         (IsFree (place kind institution.now key.now) rows.now) }
 {
     rows.binary_search_by(|row| place_order(row, kind, institution, key))

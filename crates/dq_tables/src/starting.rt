@@ -35,7 +35,7 @@ fn add_id(alloc: Global, ids: &mut Listed<Listed<u8>>, item: &DataSet) -> Result
 }
 
 /// The items of the sequence with the tag; none where there is no such sequence.
-#[tactic(auto, unfolding(crate::specs::Starting::items_at, crate::specs::Starting::items_of))]
+#[tactic(auto, unfolding(crate::specs::Starting::items_at, crate::specs::Starting::sequence_items))]
 fn items_at(data_set: &DataSet, tag: Tag) -> &[DataSet]
     ensures { result.now ≡ items_at tag data_set.now }
 {

@@ -3,9 +3,9 @@ ghost use Rattle.std.specs.Prelude.{◌≡◌, List, length, IfOk};
 ghost use Rattle.dq_tables.specs.declared.row.Kind.TheVariants.{Study, Series, Image, Entry, Step};
 ghost use Rattle.dq_tables.specs.declared.row.Row.{Row};
 ghost use Rattle.dq_tables.specs.Rows.{after, operation_of};
-ghost use Rattle.dq_tables.specs.Finding.{row_at, rows_of, rows_above, waiting};
+ghost use Rattle.dq_tables.specs.Finding.{row_at, rows_of, rows_above, waiting_entries};
 ghost use Rattle.dq_tables.specs.Choosing.{studies_in};
-ghost use Rattle.dq_tables.specs.Sound.{IsSound, Fits};
+ghost use Rattle.dq_tables.specs.Sound.{IsSound, ChangeFits};
 ghost use Rattle.dq_tables.specs.Keeping.{State, Reads, Writes};
 
 use crate::change::Change;
@@ -73,7 +73,7 @@ pub trait Tables {
     /// section K.6.1.2).
     fn waiting(&mut self, alloc: Global, institution: &[u8]) -> Result<Listed<Row>, TableFault>
         ensures found { (state self.new).honest → IfOk result
-            (λ list. list ≡ waiting institution.now (state self.old).rows) }
+            (λ list. list ≡ waiting_entries institution.now (state self.old).rows) }
         ensures reads { Reads (state self.old) (state self.new) result };
 
     /// How many rows of a kind the institution has.
@@ -101,7 +101,7 @@ pub trait Tables {
 
     /// Makes one change, whole or not at all.
     fn apply(&mut self, alloc: Global, change: &Change) -> Result<(), TableFault>
-        requires { (state self.old).honest → Fits (state self.old).rows change.now }
+        requires { (state self.old).honest → ChangeFits (state self.old).rows change.now }
         ensures { Writes (state self.old) (state self.new)
             (after (operation_of change.now) (state self.old).rows) result };
 

@@ -1,7 +1,7 @@
 //! Trials: octets that are read as a data set, and the canonical spellings of what was read.
 ghost use Rattle.std.specs.Prelude.{◌≡◌, ◌<◌, ◌^◌, length, string_bytes, IfOk};
 ghost use Rattle.dq_dataset.specs.Reading.{reading};
-ghost use Rattle.dq_trials.specs.Answers.{answer_of, octets_text, answer_text};
+ghost use Rattle.dq_trials.specs.Answers.{reading_answer, spelled_octets, answer_text};
 
 use crate::sift::{Sifting, sifted_text, tags_of};
 use crate::stop::Stop;
@@ -22,7 +22,7 @@ pub(crate) enum Answer {
 }
 
 pub(crate) fn octets_text(alloc: Global, octets: &[u8]) -> Result<String, AllocError>
-    ensures { IfOk result (λ text. string_bytes text ≡ octets_text octets.now) }
+    ensures { IfOk result (λ text. string_bytes text ≡ spelled_octets octets.now) }
 {
     if octets.is_empty() {
         String::from_str(alloc, "-")
@@ -46,7 +46,7 @@ fn answer_text(alloc: Global, answer: &Answer) -> Result<String, AllocError>
 
 fn answer_to(alloc: Global, octets: &[u8], syntax: Syntax) -> Result<Answer, AllocError>
     requires { length octets.now < 2 ^ 31 }
-    ensures { IfOk result (λ found. found ≡ answer_of (reading syntax octets.now)) }
+    ensures { IfOk result (λ found. found ≡ reading_answer (reading syntax octets.now)) }
 {
     laws::spelling_law();
     match read(alloc, octets, syntax) {
@@ -66,7 +66,7 @@ fn answer_to(alloc: Global, octets: &[u8], syntax: Syntax) -> Result<Answer, All
 pub(crate) fn answered(alloc: Global, octets: &[u8], syntax: Syntax) -> Result<String, AllocError>
     requires { length octets.now < 2 ^ 31 }
     ensures { IfOk result
-        (λ text. string_bytes text ≡ answer_text (answer_of (reading syntax octets.now))) }
+        (λ text. string_bytes text ≡ answer_text (reading_answer (reading syntax octets.now))) }
 {
     let found = answer_to(alloc, octets, syntax)?;
     answer_text(alloc, &found)

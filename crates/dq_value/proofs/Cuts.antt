@@ -3,14 +3,14 @@ use Rattle.std.proofs.Common.{◌≡◌, ℕ, ◌<◌, Bool, true, false, cond, 
 use Rattle.std.specs.List.{list_any, join_with_byte}
 use Rattle.std.proofs.lemmas.Bool.{or_parts}
 use Rattle.std.proofs.lemmas.Bool.Decides.{nat_tests}
-use Rattle.dq_value.specs.Parts.{pieces, joined, IsParting}
-use Rattle.dq_value.specs.Range.{halves, behind, ends, ends_of_halves, end_of, is_empty, is_hyphen, Ends, IsRange}
+use Rattle.dq_value.specs.Parts.{pieces, onto_first, IsParting}
+use Rattle.dq_value.specs.Range.{halves, behind, range_ends, ends_of_halves, end_of, has_no_octets, is_hyphen, Ends, IsRange}
 
 abbrev holds : ℕ → List ℕ → Bool
 holds separator octets = list_any (λ octet. nat_eq octet separator) octets
 
-join-joined : (separator x : ℕ) (ps : List (List ℕ)) → join_with_byte separator (joined x ps) ≡ x ∷ join_with_byte separator ps
-unfolding joined
+join-joined : (separator x : ℕ) (ps : List (List ℕ)) → join_with_byte separator (onto_first x ps) ≡ x ∷ join_with_byte separator ps
+unfolding onto_first
 join-joined separator x [] = refl
 join-joined separator x (p ∷ []) = refl
 join-joined separator x (p ∷ (q ∷ ps)) = refl
@@ -19,8 +19,8 @@ join-empty : (separator : ℕ) (ps : List (List ℕ)) → 0 < length ps → join
 join-empty separator [] h = absurd (omega arith)
 join-empty separator (p ∷ ps) h = refl
 
-some-case : (b : Bool) (x : ℕ) (ps : List (List ℕ)) → 0 < length (cond b ([] ∷ ps) (joined x ps))
-unfolding joined
+some-case : (b : Bool) (x : ℕ) (ps : List (List ℕ)) → 0 < length (cond b ([] ∷ ps) (onto_first x ps))
+unfolding onto_first
 some-case true x ps = omega arith
 some-case false x [] = omega arith
 some-case false x (p ∷ ps) = omega arith
@@ -31,7 +31,7 @@ pieces_some separator [] = omega arith
 pieces_some separator (x ∷ xs) = some-case (nat_eq x separator) x (pieces separator xs)
 
 whole-case : (b : Bool) (separator x : ℕ) (ps : List (List ℕ)) → b ≡ nat_eq x separator → 0 < length ps
-    → join_with_byte separator (cond b ([] ∷ ps) (joined x ps)) ≡ x ∷ join_with_byte separator ps
+    → join_with_byte separator (cond b ([] ∷ ps) (onto_first x ps)) ≡ x ∷ join_with_byte separator ps
 whole-case true separator x ps same some = grind (arith, nat_tests, join-empty)
 whole-case false separator x ps same some = join-joined separator x ps
 
@@ -41,8 +41,8 @@ pieces_whole separator [] = refl
 pieces_whole separator (x ∷ xs) = grind (arith, nat_tests, whole-case, pieces_some, pieces_whole separator xs)
 
 free-case : (b : Bool) (separator x : ℕ) (ps : List (List ℕ)) → nat_eq x separator ≡ b → list_any (holds separator) ps ≡ false
-    → list_any (holds separator) (cond b ([] ∷ ps) (joined x ps)) ≡ false
-unfolding joined
+    → list_any (holds separator) (cond b ([] ∷ ps) (onto_first x ps)) ≡ false
+unfolding onto_first
 free-case true separator x ps same free = free
 free-case false separator x [] apart free = rw apart refl
 free-case false separator x (p ∷ ps) apart free = rw apart free
@@ -53,14 +53,14 @@ pieces_free separator [] = refl
 pieces_free separator (x ∷ xs) = free-case (nat_eq x separator) separator x (pieces separator xs) refl (pieces_free separator xs)
 
 pieces-free : (separator : ℕ) (xs : List ℕ) → holds separator xs ≡ false → pieces separator xs ≡ xs ∷ []
-unfolding pieces joined
+unfolding pieces onto_first
 pieces-free separator [] h = refl
 pieces-free separator (x ∷ xs) h =
     let parts = or_parts (nat_eq x separator) (holds separator xs) h in
     rw (parts.0, pieces-free separator xs parts.1) refl
 
 pieces-append : (separator : ℕ) (xs ys : List ℕ) → holds separator xs ≡ false → pieces separator (xs ++ separator ∷ ys) ≡ xs ∷ pieces separator ys
-unfolding pieces joined
+unfolding pieces onto_first
 pieces-append separator [] ys h = grind (arith, nat_tests)
 pieces-append separator (x ∷ xs) ys h =
     let parts = or_parts (nat_eq x separator) (holds separator xs) h in
@@ -86,8 +86,8 @@ halves-append separator (x ∷ xs) ys h =
     let parts = or_parts (nat_eq x separator) (holds separator xs) h in
     rw (parts.0, halves-append separator xs ys parts.1) refl
 
-pub range_read : (octets from to : List ℕ) → IsRange octets from to → ends octets ≡ Some (end_of from, end_of to)
-unfolding ends ends_of_halves
+pub range_read : (octets from to : List ℕ) → IsRange octets from to → range_ends octets ≡ Some (end_of from, end_of to)
+unfolding range_ends ends_of_halves
 range_read octets from to range = grind (arith, nat_tests, halves-append)
 
 abbrev AreHalves : ℕ → List ℕ → List ℕ × List ℕ → Type 0
@@ -116,11 +116,11 @@ only-case : (octets : List ℕ) (o : Option (List ℕ × List ℕ)) (found : End
 unfolding ends_of_halves
 only-case octets None found same e = absurd (cc)
 only-case octets (Some h) found same e =
-    let test = test-case (list_any is_hyphen h.1 || (is_empty h.0 && is_empty h.1)) (end_of h.0, end_of h.1) found e in
-    let free = or_parts (list_any is_hyphen h.1) (is_empty h.0 && is_empty h.1) test.0 in
+    let test = test-case (list_any is_hyphen h.1 || (has_no_octets h.0 && has_no_octets h.1)) (end_of h.0, end_of h.1) found e in
+    let free = or_parts (list_any is_hyphen h.1) (has_no_octets h.0 && has_no_octets h.1) test.0 in
     let cut = are_halves 0x2d octets h same in
     (h.0, h.1, record { whole = cut.0; before = cut.1; after = free.0; closed = free.1 }, test.1)
 
-pub range_only : (octets : List ℕ) (found : Ends) → ends octets ≡ Some found → HasEnds octets found
-unfolding ends
+pub range_only : (octets : List ℕ) (found : Ends) → range_ends octets ≡ Some found → HasEnds octets found
+unfolding range_ends
 range_only octets found e = only-case octets (halves 0x2d octets) found refl e

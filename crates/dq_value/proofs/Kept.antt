@@ -2,7 +2,7 @@
 use Rattle.std.proofs.Common.{◌≡◌, ℕ, Bool, true, false, cond, List, [], ◌∷◌, ◌++◌, ◌&&◌, append_assoc, append-nil, refl, sym, ap, ◌∙◌}
 use Rattle.std.specs.List.{list_all}
 use Rattle.dq_vr.specs.declared.Vr.{Vr}
-use Rattle.dq_value.specs.Trimming.{is_padded, ignores_leading_spaces, is_space, is_pad, without_leading, kept_before, without_trailing, unpadded, trimmed, first_is, last_is, IsTrimming}
+use Rattle.dq_value.specs.Trimming.{is_padded, ignores_leading_spaces, is_space, is_pad, without_leading, kept_before, without_trailing, without_padding, trimmed_value, first_is, last_is, IsTrimming}
 
 -- some octets before and behind are taken, which pass their tests
 pub record Leads (test : ℕ → Bool) (octets kept : List ℕ) : Type 0 where
@@ -129,12 +129,12 @@ clean false true kept first last = trailing_same is_pad kept last
 clean true false kept first last = leading_same is_space kept first
 clean true true kept first last = ap (without_leading is_space) (trailing_same is_pad kept last) ∙ leading_same is_space kept first
 
-pub trimmed_is : (vr : Vr) (octets : List ℕ) → IsTrimming (ignores_leading_spaces vr) (is_padded vr) octets (trimmed vr octets)
-unfolding trimmed unpadded
+pub trimmed_is : (vr : Vr) (octets : List ℕ) → IsTrimming (ignores_leading_spaces vr) (is_padded vr) octets (trimmed_value vr octets)
+unfolding trimmed_value without_padding
 trimmed_is vr octets = trims (ignores_leading_spaces vr) (is_padded vr) octets
 
-pub trimmed_again : (vr : Vr) (octets : List ℕ) → trimmed vr (trimmed vr octets) ≡ trimmed vr octets
-unfolding trimmed unpadded
+pub trimmed_again : (vr : Vr) (octets : List ℕ) → trimmed_value vr (trimmed_value vr octets) ≡ trimmed_value vr octets
+unfolding trimmed_value without_padding
 trimmed_again vr octets =
     let once = trims (ignores_leading_spaces vr) (is_padded vr) octets in
     clean (ignores_leading_spaces vr) (is_padded vr) (trim (ignores_leading_spaces vr) (is_padded vr) octets) once.no_space once.no_pad

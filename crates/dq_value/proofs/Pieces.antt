@@ -4,7 +4,7 @@ use Rattle.std.proofs.lemmas.Bool.Decides.{nat_tests}
 use Rattle.std.specs.List.{position_or_len}
 use Rattle.dq_vr.specs.declared.Vr.{Vr}
 use Rattle.dq_value.specs.Range.{halves, behind}
-use Rattle.dq_value.specs.Parts.{pieces, joined, has_separator, pieces_of, pieces_left}
+use Rattle.dq_value.specs.Parts.{pieces, onto_first, has_separator, value_pieces, pieces_left}
 
 position-case : (b : Bool) (n len : ℕ)
     → cond (nat_lt (cond (not b) (1 + n) 0) (suc len)) (Some (cond (not b) (1 + n) 0)) None
@@ -50,8 +50,8 @@ pieces_at separator xs None = xs ∷ []
 pieces_at separator xs (Some h) = h.0 ∷ pieces separator h.1
 
 pieces-case : (b : Bool) (separator x : ℕ) (xs : List ℕ) (h : Option (List ℕ × List ℕ))
-    → cond b ([] ∷ pieces separator xs) (joined x (pieces_at separator xs h)) ≡ pieces_at separator (x ∷ xs) (cond b (Some ([], xs)) (behind x h))
-unfolding joined behind
+    → cond b ([] ∷ pieces separator xs) (onto_first x (pieces_at separator xs h)) ≡ pieces_at separator (x ∷ xs) (cond b (Some ([], xs)) (behind x h))
+unfolding onto_first behind
 pieces-case true separator x xs h = refl
 pieces-case false separator x xs None = refl
 pieces-case false separator x xs (Some h) = refl
@@ -62,15 +62,15 @@ pieces-halves separator [] = refl
 pieces-halves separator (x ∷ xs) = grind (arith, nat_tests, pieces-case, pieces-halves separator xs)
 
 -- the values as they stand, by the first and what is left
-pub sole_piece : (vr : Vr) (octets : List ℕ) → has_separator vr ≡ false → pieces_of vr octets ≡ octets ∷ pieces_left vr None
-unfolding pieces_of pieces_left
+pub sole_piece : (vr : Vr) (octets : List ℕ) → has_separator vr ≡ false → value_pieces vr octets ≡ octets ∷ pieces_left vr None
+unfolding value_pieces pieces_left
 sole_piece vr octets apart = rw apart refl
 
-pub last_piece : (vr : Vr) (octets : List ℕ) → has_separator vr ≡ true → None ≡ halves 0x5c octets → pieces_of vr octets ≡ octets ∷ pieces_left vr None
-unfolding pieces_of pieces_left
+pub last_piece : (vr : Vr) (octets : List ℕ) → has_separator vr ≡ true → None ≡ halves 0x5c octets → value_pieces vr octets ≡ octets ∷ pieces_left vr None
+unfolding value_pieces pieces_left
 last_piece vr octets splits none = rw splits (pieces-halves 0x5c octets ∙ ap (pieces_at 0x5c octets) (sym none))
 
 pub next_piece : (vr : Vr) (octets piece others : List ℕ) → has_separator vr ≡ true → Some (piece, others) ≡ halves 0x5c octets
-    → pieces_of vr octets ≡ piece ∷ pieces_left vr (Some others)
-unfolding pieces_of pieces_left
+    → value_pieces vr octets ≡ piece ∷ pieces_left vr (Some others)
+unfolding value_pieces pieces_left
 next_piece vr octets piece others splits some = rw splits (pieces-halves 0x5c octets ∙ ap (pieces_at 0x5c octets) (sym some))

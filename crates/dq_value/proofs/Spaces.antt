@@ -3,11 +3,11 @@ use Rattle.std.proofs.Common.{◌≡◌, ℕ, true, false, List, [], ◌∷◌, 
 use Rattle.std.proofs.lemmas.Bool.{and_parts}
 use Rattle.std.specs.List.{list_all}
 use Rattle.dq_value.specs.Trimming.{is_space, without_leading, without_trailing, kept_before, first_is, last_is}
-use Rattle.dq_value.specs.Title.{IsStripped, stripped}
+use Rattle.dq_value.specs.Title.{IsStripped, without_spaces}
 use Rattle.dq_value.proofs.Kept.{leads, trails, first_kept, last_stays, last_kept, leading_same, trailing_same}
 
-pub strips : (title : List ℕ) → IsStripped title (stripped title)
-unfolding stripped
+pub strips : (title : List ℕ) → IsStripped title (without_spaces title)
+unfolding without_spaces
 strips title =
     let behind = trails is_space title in
     let front = leads is_space (without_trailing is_space title) in
@@ -54,16 +54,16 @@ unfolding without_leading
 cleared before [] spaces first last = search (append-nil, all_taken)
 cleared before (x ∷ kept) spaces first last = search (trailing_same, last_after, leading_taken, leading_same)
 
-pub alone : (title kept : List ℕ) → IsStripped title kept → kept ≡ stripped title
-unfolding stripped
+pub alone : (title kept : List ℕ) → IsStripped title kept → kept ≡ without_spaces title
+unfolding without_spaces
 alone title kept given =
     sym (
     ap (λ ys. without_leading is_space (without_trailing is_space ys)) (given.whole ∙ sym (append_assoc given.before kept given.after))
     ∙ ap (without_leading is_space) (trailing_taken (given.before ++ kept) given.after given.spaces_after)
     ∙ cleared given.before kept given.spaces_before given.no_space_first given.no_space_last)
 
-pub again : (title : List ℕ) → stripped (stripped title) ≡ stripped title
-unfolding stripped
+pub again : (title : List ℕ) → without_spaces (without_spaces title) ≡ without_spaces title
+unfolding without_spaces
 again title =
     let once = strips title in
     ap (without_leading is_space) (trailing_same is_space (without_leading is_space (without_trailing is_space title)) once.no_space_last)

@@ -2,7 +2,7 @@
 use Rattle.std.specs.Prelude.{◌≡◌, ◌<◌, ◌++◌, ℕ, Bool, true, List, length, take, drop, Option, None, option_map, nat_eq, nat_le, ◌&&◌, if◌then◌else◌, ℤ, pos}
 use Rattle.jiff_core.specs.Calendar.{days_in_month, days_from_civil}
 use Rattle.jiff_core.specs.declared.civil.date.Date.{Date}
-use Rattle.dq_list.specs.Readers.{◌>>=◌, provided}
+use Rattle.dq_list.specs.Readers.{◌>>=◌, only_if}
 use Rattle.dq_value.specs.Digits.{number, digits}
 
 -- year, month and day of the month
@@ -24,7 +24,7 @@ digits_of_date octets = do
   year ← number (take 4 octets)
   month ← number (take 2 (drop 4 octets))
   day ← number (drop 6 octets)
-  provided (is_in_calendar (pos year, month, day)) (pos year, month, day)
+  only_if (is_in_calendar (pos year, month, day)) (pos year, month, day)
 
 -- eight digits that name a day of the calendar
 unfoldable pub date_in : List ℕ → Option Ymd

@@ -17,8 +17,8 @@ halves separator [] = None
 halves separator (octet ∷ others) =
     if nat_eq octet separator then Some ([], others) else behind octet (halves separator others)
 
-abbrev pub is_empty : List ℕ → Bool
-is_empty octets = nat_eq (length octets) 0
+abbrev pub has_no_octets : List ℕ → Bool
+has_no_octets octets = nat_eq (length octets) 0
 
 -- an end of a range, where it is not left open
 unfoldable pub end_of : List ℕ → Option (List ℕ)
@@ -32,12 +32,12 @@ Ends = Option (List ℕ) × Option (List ℕ)
 unfoldable pub ends_of_halves : Option (List ℕ × List ℕ) → Option Ends
 ends_of_halves None = None
 ends_of_halves (Some h) =
-    if list_any is_hyphen h.1 || (is_empty h.0 && is_empty h.1) then None
+    if list_any is_hyphen h.1 || (has_no_octets h.0 && has_no_octets h.1) then None
     else Some (end_of h.0, end_of h.1)
 
 -- the ends round the only hyphen
-unfoldable pub ends : List ℕ → Option Ends
-ends octets = ends_of_halves (halves 0x2d octets)
+unfoldable pub range_ends : List ℕ → Option Ends
+range_ends octets = ends_of_halves (halves 0x2d octets)
 
 -- a text is a range from one text to another: a hyphen between them, none in them, and not both
 -- empty
@@ -45,4 +45,4 @@ pub record IsRange (octets from to : List ℕ) : Type 0 where
   pub whole : octets ≡ from ++ 0x2d ∷ to
   pub before : list_any is_hyphen from ≡ false
   pub after : list_any is_hyphen to ≡ false
-  pub closed : (is_empty from && is_empty to) ≡ false
+  pub closed : (has_no_octets from && has_no_octets to) ≡ false

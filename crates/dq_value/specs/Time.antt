@@ -1,7 +1,7 @@
 -- A time, VR TM: HH, HHMM, HHMMSS or HHMMSS.F with one to six digits F (PS3.5 table 6.2-1). What is
 -- left out at the end may be anything, so that a time is a span of microseconds of the day.
 use Rattle.std.specs.Prelude.{◌≡◌, ◌≤◌, ◌<◌, ◌++◌, ◌∷◌, ℕ, ◌+◌, ◌-◌, ◌*◌, ◌^◌, Bool, List, length, take, drop, slice_index, Option, Some, None, nat_eq, nat_le, ◌&&◌, if◌then◌else◌}
-use Rattle.dq_list.specs.Readers.{◌>>=◌, provided}
+use Rattle.dq_list.specs.Readers.{◌>>=◌, only_if}
 use Rattle.dq_value.specs.Digits.{number, digits}
 
 -- the first and the last microsecond
@@ -15,7 +15,7 @@ span_from first length = Some (first, first + length - 1)
 unfoldable pub field : ℕ → ℕ → List ℕ → Option ℕ
 field place greatest octets = do
   n ← number (take 2 (drop place octets))
-  provided (nat_le n greatest) n
+  only_if (nat_le n greatest) n
 
 -- the microsecond at which the hour, the minute or the second begins; second 60 is a leap second
 unfoldable pub hour_start : List ℕ → Option ℕ

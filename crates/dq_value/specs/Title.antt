@@ -14,5 +14,5 @@ pub record IsStripped (title kept : List ℕ) : Type 0 where
   pub no_space_first : first_is is_space kept ≡ false
   pub no_space_last : last_is is_space kept ≡ false
 
-unfoldable pub stripped : List ℕ → List ℕ
-stripped title = without_leading is_space (without_trailing is_space title)
+unfoldable pub without_spaces : List ℕ → List ℕ
+without_spaces title = without_leading is_space (without_trailing is_space title)

@@ -51,14 +51,14 @@ without_trailing test [] = []
 without_trailing test (octet ∷ others) = kept_before test octet (without_trailing test others)
 
 -- a value without the padding at its end
-unfoldable pub unpadded : Vr → List ℕ → List ℕ
-unpadded vr octets = if is_padded vr then without_trailing is_pad octets else octets
+unfoldable pub without_padding : Vr → List ℕ → List ℕ
+without_padding vr octets = if is_padded vr then without_trailing is_pad octets else octets
 
 -- a value without padding at its end, and without leading spaces where they are not significant
-unfoldable pub trimmed : Vr → List ℕ → List ℕ
-trimmed vr octets =
-    if ignores_leading_spaces vr then without_leading is_space (unpadded vr octets)
-    else unpadded vr octets
+unfoldable pub trimmed_value : Vr → List ℕ → List ℕ
+trimmed_value vr octets =
+    if ignores_leading_spaces vr then without_leading is_space (without_padding vr octets)
+    else without_padding vr octets
 
 -- the first octet, or the last, passes the test
 abbrev pub first_is : (ℕ → Bool) → List ℕ → Bool

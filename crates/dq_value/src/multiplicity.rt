@@ -2,7 +2,7 @@
 ghost use Rattle.std.specs.Prelude.{◌≡◌, ◌↔◌, List, ℕ, ◌∷◌};
 ghost use Rattle.std.specs.Iterator.{YieldsFirstBy, item_count};
 ghost use Rattle.std.specs.Option.{option_copied};
-ghost use Rattle.dq_value.specs.Parts.{has_separator, pieces_of, pieces, pieces_left, parts_left, parts, sole, IsParting};
+ghost use Rattle.dq_value.specs.Parts.{has_separator, value_pieces, pieces, pieces_left, parts_left, element_values, sole, IsParting};
 
 use crate::padding::trimmed;
 use crate::ranges::halves;
@@ -25,9 +25,9 @@ impl<'a> Model for Parts<'a> {
 /// The values that the octets of an element hold (PS3.5 section 6.4): none where nothing but
 /// padding is there, else the pieces between backslashes where the VR has several values, each
 /// trimmed.
-#[tactic(auto, unfolding(crate::specs::Parts::parts, crate::specs::Parts::parts_left, crate::specs::Parts::pieces_left))]
+#[tactic(auto, unfolding(crate::specs::Parts::element_values, crate::specs::Parts::parts_left, crate::specs::Parts::pieces_left))]
 pub fn values(vr: Vr, octets: &[u8]) -> Parts<'_>
-    ensures { result ≡ parts vr octets.now }
+    ensures { result ≡ element_values vr octets.now }
 {
     let rest = if trimmed(vr, octets).is_empty() {
         None
@@ -39,7 +39,7 @@ pub fn values(vr: Vr, octets: &[u8]) -> Parts<'_>
 
 /// The value of an element that has exactly one.
 pub fn sole_value(vr: Vr, octets: &[u8]) -> Option<&[u8]>
-    ensures { option_copied result ≡ sole (parts vr octets.now) }
+    ensures { option_copied result ≡ sole (element_values vr octets.now) }
 {
     let mut parts = values(vr, octets);
     let first = parts.next()?;
@@ -73,7 +73,7 @@ impl<'a> Iterator for Parts<'a> {
 
 /// The first value as it stands, and what is behind the separator after it.
 fn first_piece(vr: Vr, octets: &[u8]) -> (&[u8], Option<&[u8]>)
-    ensures { pieces_of vr octets.now ≡ result.0.now ∷ pieces_left vr (option_copied result.1) }
+    ensures { value_pieces vr octets.now ≡ result.0.now ∷ pieces_left vr (option_copied result.1) }
 {
     if !has_separator(vr) {
         return (octets, None);

@@ -1,7 +1,7 @@
 //! Padding at the ends of values (PS3.5 section 6.2).
 ghost use Rattle.std.specs.Prelude.{◌≡◌, ℕ, List};
 ghost use Rattle.dq_vr.specs.declared.Vr.{Vr};
-ghost use Rattle.dq_value.specs.Trimming.{is_padded, ignores_leading_spaces, is_space, is_padding, without_leading, without_trailing, unpadded, trimmed, IsTrimming};
+ghost use Rattle.dq_value.specs.Trimming.{is_padded, ignores_leading_spaces, is_space, is_padding, without_leading, without_trailing, without_padding, trimmed_value, IsTrimming};
 
 use dq_vr::Vr;
 
@@ -17,9 +17,9 @@ pub(crate) enum Padding {
 /// A value without the padding at its end, spaces and 00H, and without its leading spaces where the
 /// VR gives them no meaning (PS3.5 section 6.2). Values of other VRs than the character strings and
 /// UI stay as they are.
-#[tactic(auto, unfolding(crate::specs::Trimming::trimmed, crate::specs::Trimming::unpadded))]
+#[tactic(auto, unfolding(crate::specs::Trimming::trimmed_value, crate::specs::Trimming::without_padding))]
 pub fn trimmed(vr: Vr, octets: &[u8]) -> &[u8]
-    ensures { result.now ≡ trimmed vr octets.now }
+    ensures { result.now ≡ trimmed_value vr octets.now }
 {
     let octets = if is_padded(vr) {
         without_trailing(octets, Padding::SpacesAndZeros)
@@ -36,9 +36,9 @@ pub fn trimmed(vr: Vr, octets: &[u8]) -> &[u8]
 /// Trimming takes the padding and nothing else, and all of it.
 pub fn trimming_law()
     ensures trims { (vr : Vr) (octets : List ℕ)
-        → IsTrimming (ignores_leading_spaces vr) (is_padded vr) octets (trimmed vr octets) }
+        → IsTrimming (ignores_leading_spaces vr) (is_padded vr) octets (trimmed_value vr octets) }
     ensures again { (vr : Vr) (octets : List ℕ)
-        → trimmed vr (trimmed vr octets) ≡ trimmed vr octets }
+        → trimmed_value vr (trimmed_value vr octets) ≡ trimmed_value vr octets }
 {}
 
 #[tactic(auto, unfolding(crate::specs::Trimming::is_padded))]

@@ -1,14 +1,14 @@
 //! Ranges of values (PS3.4 section C.2.2.2.5).
 ghost use Rattle.std.specs.Prelude.{◌≡◌, ◌==◌, ℕ, List, Some, option_map, position};
 ghost use Rattle.std.specs.Option.{option_copied};
-ghost use Rattle.dq_value.specs.Range.{Ends, IsRange, halves, ends, end_of};
+ghost use Rattle.dq_value.specs.Range.{Ends, IsRange, halves, range_ends, end_of};
 
 /// The ends of a range of dates or times, A-B, A- or -B (PS3.4 section C.2.2.2.5): what stands
 /// before and behind the only hyphen, `None` for an end that is left open. A text with no hyphen or
 /// several, and a hyphen alone, is no range. Whether the ends are dates or times is not looked at.
-#[tactic(auto, unfolding(crate::specs::Range::ends, crate::specs::Range::ends_of_halves))]
+#[tactic(auto, unfolding(crate::specs::Range::range_ends, crate::specs::Range::ends_of_halves))]
 pub fn range_of(octets: &[u8]) -> Option<(Option<&[u8]>, Option<&[u8]>)>
-    ensures { option_map (λ r. (option_copied r.0, option_copied r.1)) result ≡ ends octets.now }
+    ensures { option_map (λ r. (option_copied r.0, option_copied r.1)) result ≡ range_ends octets.now }
 {
     let (from, to) = halves(octets, b'-')?;
     if to.contains(&b'-') || (from.is_empty() && to.is_empty()) {
@@ -20,8 +20,8 @@ pub fn range_of(octets: &[u8]) -> Option<(Option<&[u8]>, Option<&[u8]>)>
 /// A range is read as its two ends, and nothing else is read as one.
 pub fn range_law()
     ensures read { (octets from to : List ℕ) → IsRange octets from to
-        → ends octets ≡ Some (end_of from, end_of to) }
-    ensures only { (octets : List ℕ) (found : Ends) → ends octets ≡ Some found
+        → range_ends octets ≡ Some (end_of from, end_of to) }
+    ensures only { (octets : List ℕ) (found : Ends) → range_ends octets ≡ Some found
         → (from : List ℕ) × (to : List ℕ) × IsRange octets from to
         × (found ≡ (end_of from, end_of to)) }
 {}

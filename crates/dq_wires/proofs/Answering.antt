@@ -9,13 +9,13 @@ use Rattle.dq_core.specs.declared.event.Event.TheVariants.{Open, Piece, End, Pul
 use Rattle.dq_core.specs.declared.event.Reply.{Reply}
 use Rattle.dq_core.specs.Own.{is_on_connection, replies_at}
 use Rattle.dq_core.specs.Shared.{World, turn, world_after_turn, replies_from}
-use Rattle.dq_wires.specs.Held.{Held, octets_in}
+use Rattle.dq_wires.specs.Held.{HeldWire, reply_octets}
 use Rattle.dq_wires.specs.Steps.{Step, events_of, replies_of}
 use Rattle.dq_wires.specs.Steps.Step.{Answered, Asked}
 use Rattle.dq_wires.specs.Deeds.{Deed, deed_steps, Break}
 use Rattle.dq_wires.specs.Deeds.Deed.{Sent, Broke, Lost, Closed, Heard, Silent, Pulled, Left}
-use Rattle.dq_wires.specs.Turns.{Done, wire_of, steps_of, kept_of, Hold, Taking, taking_steps, with_taken, Turn, IsTurn, turn_steps, after_turn, Cut, IsMidway, IsCut, cut_steps}
-use Rattle.dq_wires.specs.Turns.Taking.{Full, Nobody, Came}
+use Rattle.dq_wires.specs.Turns.{Done, wire_of, done_steps, wires_kept, Hold, Taking, taking_steps, with_taken, Turn, IsTurn, turn_steps, after_turn, Cut, IsMidway, IsCut, cut_steps}
+use Rattle.dq_wires.specs.Turns.Taking.{Full, Nobody, ReadOutcome}
 use Rattle.dq_wires.specs.Turns.Cut.{NoRoom, Unaccepted, Unopened, Midway}
 use Rattle.dq_wires.specs.Octets.{answered_in, written_in, lost_in, on, held_on, done_on, RisesTo, IsNumbered}
 use Rattle.dq_wires.specs.Turners.{IsOrder}
@@ -26,23 +26,23 @@ use Rattle.dq_wires.proofs.Numbered.{IsAbsent, IsGone, nothing-on, absent-done, 
 
 -- the octets that steps answer on a connection
 abbrev pub answer_at : ℕ → Step → List ℕ
-answer_at n (Answered event reply) = if is_on_connection n event then octets_in reply else []
+answer_at n (Answered event reply) = if is_on_connection n event then reply_octets reply else []
 answer_at n (Asked number pending) = []
 
 abbrev pub answers : ℕ → List Step → List ℕ
 answers n steps = flat_map (answer_at n) steps
 
 pub octets-chosen : (b : Bool) (r : Reply) (rs : List Reply)
-    → flat_map octets_in (if b then r ∷ rs else rs) ≡ (if b then octets_in r else []) ++ flat_map octets_in rs
+    → flat_map reply_octets (if b then r ∷ rs else rs) ≡ (if b then reply_octets r else []) ++ flat_map reply_octets rs
 octets-chosen true r rs = refl
 octets-chosen false r rs = refl
 
 pub answers-at : (n : ℕ) (steps : List Step)
-    → flat_map octets_in (replies_at (is_on_connection n) (events_of steps) (replies_of steps)) ≡ answers n steps
+    → flat_map reply_octets (replies_at (is_on_connection n) (events_of steps) (replies_of steps)) ≡ answers n steps
 answers-at n [] = refl
 answers-at n (Answered event reply ∷ steps) =
     octets-chosen (is_on_connection n event) reply (replies_at (is_on_connection n) (events_of steps) (replies_of steps))
-    ∙ ap (λ x. (if is_on_connection n event then octets_in reply else []) ++ x) (answers-at n steps)
+    ∙ ap (λ x. (if is_on_connection n event then reply_octets reply else []) ++ x) (answers-at n steps)
 answers-at n (Asked number pending ∷ steps) = answers-at n steps
 
 answers-append : (n : ℕ) (first later : List Step) → answers n (first ++ later) ≡ answers n first ++ answers n later
@@ -50,7 +50,7 @@ answers-append n first later = flat_map-append (answer_at n) first later
 
 -- An opening is answered with no octets.
 abbrev pub IsQuietAt : Event → Reply → Type 0
-IsQuietAt (Open number) reply = octets_in reply ≡ []
+IsQuietAt (Open number) reply = reply_octets reply ≡ []
 IsQuietAt (Piece number octets) reply = Unit {0}
 IsQuietAt (End number) reply = Unit {0}
 IsQuietAt (Pull number) reply = Unit {0}
@@ -98,50 +98,50 @@ one-answer : (b : Bool) (octets : List ℕ)
 one-answer true octets = refl
 one-answer false octets = refl
 
-deed-answers : (n : ℕ) (wire : Held) (deed : Deed)
-    → answers n (deed_steps wire deed) ≡ on n wire.number (flat_map octets_in (replies_of (deed_steps wire deed)))
+deed-answers : (n : ℕ) (wire : HeldWire) (deed : Deed)
+    → answers n (deed_steps wire deed) ≡ on n wire.number (flat_map reply_octets (replies_of (deed_steps wire deed)))
 deed-answers n wire (Sent count) = sym (nothing-on (wire.number == n))
-deed-answers n wire (Broke reply shut) = one-answer (wire.number == n) (octets_in reply)
+deed-answers n wire (Broke reply shut) = one-answer (wire.number == n) (reply_octets reply)
 deed-answers n wire (Lost shut) = sym (nothing-on (wire.number == n))
 deed-answers n wire (Closed shut) = sym (nothing-on (wire.number == n))
-deed-answers n wire (Heard octets reply) = one-answer (wire.number == n) (octets_in reply)
+deed-answers n wire (Heard octets reply) = one-answer (wire.number == n) (reply_octets reply)
 deed-answers n wire Silent = sym (nothing-on (wire.number == n))
-deed-answers n wire (Pulled reply) = one-answer (wire.number == n) (octets_in reply)
-deed-answers n wire (Left came reply shut) = one-answer (wire.number == n) (octets_in reply)
+deed-answers n wire (Pulled reply) = one-answer (wire.number == n) (reply_octets reply)
+deed-answers n wire (Left came reply shut) = one-answer (wire.number == n) (reply_octets reply)
 
-round-answers : (n : ℕ) (done : List Done) → answers n (flat_map steps_of done) ≡ done_on n answered_in done
+round-answers : (n : ℕ) (done : List Done) → answers n (flat_map done_steps done) ≡ done_on n answered_in done
 round-answers n [] = refl
 round-answers n (d ∷ done) =
-    answers-append n (steps_of d) (flat_map steps_of done)
-    ∙ ap (λ x. x ++ answers n (flat_map steps_of done)) (deed-answers n d.wire d.deed)
+    answers-append n (done_steps d) (flat_map done_steps done)
+    ∙ ap (λ x. x ++ answers n (flat_map done_steps done)) (deed-answers n d.wire d.deed)
     ∙ ap (λ x. on n d.wire.number (answered_in d) ++ x) (round-answers n done)
 
 taking-answers : (n : ℕ) (taking : Taking) → IsQuiet (taking_steps taking) → answers n (taking_steps taking) ≡ []
 taking-answers n Full q = refl
 taking-answers n Nobody q = refl
-taking-answers n (Came place number reply) q = rw (q.0, nothing-on (number == n)) refl
+taking-answers n (ReadOutcome place number reply) q = rw (q.0, nothing-on (number == n)) refl
 
-begun-answers : (n : ℕ) (taking : Taking) (done : List Done) → IsQuiet (taking_steps taking ++ flat_map steps_of done)
-    → answers n (taking_steps taking ++ flat_map steps_of done) ≡ done_on n answered_in done
+begun-answers : (n : ℕ) (taking : Taking) (done : List Done) → IsQuiet (taking_steps taking ++ flat_map done_steps done)
+    → answers n (taking_steps taking ++ flat_map done_steps done) ≡ done_on n answered_in done
 begun-answers n taking done q =
-    answers-append n (taking_steps taking) (flat_map steps_of done)
-    ∙ rw (taking-answers n taking (quiet-first (taking_steps taking) (flat_map steps_of done) q)) (round-answers n done)
+    answers-append n (taking_steps taking) (flat_map done_steps done)
+    ∙ rw (taking-answers n taking (quiet-first (taking_steps taking) (flat_map done_steps done) q)) (round-answers n done)
 
 -- What was unsent on a connection, and is then answered, begins with what is written.
 abbrev pub Begun : ℕ → Hold → List Step → List Done → Type 0
 Begun n h steps done = (rest : List ℕ) × (held_on n h.held ++ answers n steps ≡ done_on n written_in done ++ rest)
 
 -- the first of them have rising numbers
-rises-front : (first later : List Held) (low high : ℕ) → RisesTo low high (first ++ later)
+rises-front : (first later : List HeldWire) (low high : ℕ) → RisesTo low high (first ++ later)
     → (m : ℕ) × RisesTo low m first
 rises-front [] later low high r = (low, omega arith)
 rises-front (w ∷ first) later low high r = let p = rises-front first later w.number high r.1 in (p.0, (r.0, p.1))
 
 -- a number is absent from the first or from the others
-one-absent : (n : ℕ) (first later : List Held) (low high : ℕ) → RisesTo low high (first ++ later) → IsAbsent n first ⊎ IsAbsent n later
+one-absent : (n : ℕ) (first later : List HeldWire) (low high : ℕ) → RisesTo low high (first ++ later) → IsAbsent n first ⊎ IsAbsent n later
 one-absent n [] later low high r = inl tt
 one-absent n (w ∷ first) later low high r = by (w.number == n) refl (one-absent n first later w.number high r.1) where
-  after : (held : List Held) (from : ℕ) → n ≤ from → RisesTo from high (held ++ later) → IsAbsent n later
+  after : (held : List HeldWire) (from : ℕ) → n ≤ from → RisesTo from high (held ++ later) → IsAbsent n later
   after [] from below r' = above-absent later from high n below r'
   after (v ∷ held) from below r' = after held v.number (omega (arith, r'.0)) r'.1
 
@@ -150,27 +150,27 @@ one-absent n (w ∷ first) later low high r = by (w.number == n) refl (one-absen
   by false e (inl a) = inl (e, a)
   by false e (inr a) = inr a
 
-absent-first : (n : ℕ) (first later : List Held) → IsAbsent n (first ++ later) → IsAbsent n first
+absent-first : (n : ℕ) (first later : List HeldWire) → IsAbsent n (first ++ later) → IsAbsent n first
 absent-first n [] later a = tt
 absent-first n (w ∷ first) later a = (a.0, absent-first n first later a.1)
 
 module _ (n : ℕ) (h : Hold) where
-  midway-begun : (taking : Taking) (done : List Done) (wire : Held) (at : Break) → IsNumbered h → IsMidway h taking done wire at
-      → IsQuiet (taking_steps taking ++ flat_map steps_of done) → Begun n h (taking_steps taking ++ flat_map steps_of done) done
+  midway-begun : (taking : Taking) (done : List Done) (wire : HeldWire) (at : Break) → IsNumbered h → IsMidway h taking done wire at
+      → IsQuiet (taking_steps taking ++ flat_map done_steps done) → Begun n h (taking_steps taking ++ flat_map done_steps done) done
   midway-begun taking done wire at numbered fits q =
       let rises : RisesTo 0 (with_taken h taking).newest (map wire_of done ++ wire ∷ fits.others) =
       rw fits.each (rises-taken h taking fits.takes numbered) in
       let front = rises-front (map wire_of done) (wire ∷ fits.others) 0 (with_taken h taking).newest rises in
       let same : held_on n h.held ≡ held_on n (map wire_of done) ++ held_on n (wire ∷ fits.others) =
       sym (taken-held n h taking) ∙ ap (held_on n) (sym fits.each)
-      ∙ flat_map-append (λ (w : Held). on n w.number w.unsent) (map wire_of done) (wire ∷ fits.others) in
+      ∙ flat_map-append (λ (w : HeldWire). on n w.number w.unsent) (map wire_of done) (wire ∷ fits.others) in
       let answered = begun-answers n taking done q in
       elim (one-absent n (map wire_of done) (wire ∷ fits.others) 0 (with_taken h taking).newest rises) [
         | inl none ↦ (held_on n h.held, rw (answered, absent-done n answered_in done none, absent-done n written_in done none) (append-nil (held_on n h.held)))
         | inr none ↦
             let shorter : held_on n h.held ≡ held_on n (map wire_of done) =
             same ∙ rw (absent-held n (wire ∷ fits.others) none) (append-nil (held_on n (map wire_of done))) in
-            (done_on n lost_in done ++ held_on n (flat_map kept_of done), rw (answered, shorter) (round-conserves n done 0 front.0 front.1 fits.due))
+            (done_on n lost_in done ++ held_on n (flat_map wires_kept done), rw (answered, shorter) (round-conserves n done 0 front.0 front.1 fits.due))
       ]
 
   cut-begun : (cut : Cut) → IsNumbered h → IsCut h cut → IsQuiet (cut_steps cut) → Begun n h (cut_steps cut) (cut_done cut)

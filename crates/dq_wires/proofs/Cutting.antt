@@ -15,13 +15,13 @@ use Rattle.dq_core.specs.declared.event.Event.{Event}
 use Rattle.dq_core.specs.declared.event.Event.TheVariants as event
 use Rattle.dq_core.specs.declared.event.Reply.TheVariants as reply
 use Rattle.dq_core.specs.Pages.{next_page}
-use Rattle.dq_core.specs.Answers.{Progress, Answer, then_answer, answer_after, answer, answers, request_in, piece_answer, verdict_at, progress_of, inputs_added, after_piece}
+use Rattle.dq_core.specs.Answers.{Progress, Answer, then_answer, answer_after, input_answer, input_answers, request_in, piece_answer, verdict_at, progress_of, inputs_added, after_piece}
 use Rattle.dq_core.specs.Connections.{Connection, new_connection, with_piece, with_query, connection_in, without, with_connection}
 use Rattle.dq_core.specs.Alone.{AloneWorld, AloneTurn, alone_quiet, alone_live, alone_answer, alone_answer_turn, alone_piece, alone_end, alone_pull, alone_turn, alone_after_turn, alone_replies_from}
 use Rattle.dq_core.specs.Own.{is_on_connection, replies_at}
 use Rattle.dq_core.specs.Histories.{is_above, rises_from}
-use Rattle.dq_wires.specs.Held.{octets_in}
-use Rattle.dq_wires.specs.Cuts.{joined_to, joined}
+use Rattle.dq_wires.specs.Held.{reply_octets}
+use Rattle.dq_wires.specs.Cuts.{joined_to, joined_pieces}
 use Rattle.dq_wires.proofs.Answering.{octets-chosen}
 
 -- the laws of the crates below
@@ -181,11 +181,11 @@ then-records records first later a b = by first.close refl where
   by false e = rw e (b ∙ ap (edited_all later.changes) a ∙ sym (edited-append first.changes later.changes records))
 
 answers-records : (limits : Limits) (verdict : Verdict) (progress : Progress) (xs : List Input)
-    → (answers limits verdict progress xs).next.records ≡ edited_all (answers limits verdict progress xs).changes progress.records
+    → (input_answers limits verdict progress xs).next.records ≡ edited_all (input_answers limits verdict progress xs).changes progress.records
 answers-records limits verdict progress [] = refl
 answers-records limits verdict progress (x ∷ xs) =
-    let first = answer limits verdict progress x in
-    then-records progress.records first (answers limits verdict first.next xs) (answer-records limits verdict progress.agreement progress x)
+    let first = input_answer limits verdict progress x in
+    then-records progress.records first (input_answers limits verdict first.next xs) (answer-records limits verdict progress.agreement progress x)
     (answers-records limits verdict first.next xs)
 
 same-count : (x y : Connection) (l : List Connection) (b c : Bool) → b ≡ c → length (if b then x ∷ l else l) ≡ length (if c then y ∷ l else l)
@@ -278,7 +278,7 @@ none-before (Bad reason ∷ xs) ys e = refl
 
 -- the octets on a connection, of the replies to events from a world on
 abbrev pub octets_from : Limits → ℕ → AloneWorld → List Event → List ℕ
-octets_from limits n world events = flat_map octets_in (replies_at (is_on_connection n) events (alone_replies_from limits world events))
+octets_from limits n world events = flat_map reply_octets (replies_at (is_on_connection n) events (alone_replies_from limits world events))
 
 -- A turn, and another after it.
 module _ (joins : Joins) (of_request : OfRequest) (adds : Adds) (limits : Limits) where
@@ -295,17 +295,17 @@ module _ (joins : Joins) (of_request : OfRequest) (adds : Adds) (limits : Limits
   Two world m second whole first =
       let mid = alone_after_turn world first in
       let next = alone_turn limits mid (event.Piece m second) in
-      (octets_in whole.reply ≡ octets_in first.reply ++ octets_in next.reply) × (alone_after_turn world whole ≡ alone_after_turn mid next)
+      (reply_octets whole.reply ≡ reply_octets first.reply ++ reply_octets next.reply) × (alone_after_turn world whole ≡ alone_after_turn mid next)
 
   move : (world : AloneWorld) (m : ℕ) (second : List ℕ) {t u x y : AloneTurn} → t ≡ x → u ≡ y → Two world m second x y → Two world m second t u
   move world m second e f two = rw (e, f) two
 
   two-next : (world : AloneWorld) (m : ℕ) (second : List ℕ) (whole first next : AloneTurn)
       → alone_turn limits (alone_after_turn world first) (event.Piece m second) ≡ next
-      → octets_in whole.reply ≡ octets_in first.reply ++ octets_in next.reply
+      → reply_octets whole.reply ≡ reply_octets first.reply ++ reply_octets next.reply
       → alone_after_turn world whole ≡ alone_after_turn (alone_after_turn world first) next → Two world m second whole first
   two-next world m second whole first next e octets after = (
-    octets ∙ ap (λ (t : AloneTurn). octets_in first.reply ++ octets_in t.reply) (sym e),
+    octets ∙ ap (λ (t : AloneTurn). reply_octets first.reply ++ reply_octets t.reply) (sym e),
     after ∙ ap (alone_after_turn (alone_after_turn world first)) (sym e),
   )
 
@@ -422,7 +422,7 @@ module _ (joins : Joins) (of_request : OfRequest) (adds : Adds) (limits : Limits
 
   octets-cons : (n : ℕ) (world : AloneWorld) (e : Event) (events : List Event)
       → octets_from limits n world (e ∷ events)
-      ≡ (if is_on_connection n e then octets_in (alone_turn limits world e).reply else [])
+      ≡ (if is_on_connection n e then reply_octets (alone_turn limits world e).reply else [])
       ++ octets_from limits n (alone_after_turn world (alone_turn limits world e)) events
   octets-cons n world e events =
       octets-chosen (is_on_connection n e) (alone_turn limits world e).reply
@@ -441,8 +441,8 @@ module _ (joins : Joins) (of_request : OfRequest) (adds : Adds) (limits : Limits
       let next = alone_turn limits mid (event.Piece m b) in
       let two = two-turns world top rises m a b in
       octets-cons n world (event.Piece m (a ++ b)) events
-      ∙ rw (two.0, two.1) (in-two (m == n) (octets_in first.reply) (octets_in next.reply) (octets_from limits n (alone_after_turn mid next) events))
-      ∙ ap (λ rest. (if m == n then octets_in first.reply else []) ++ rest) (sym (octets-cons n mid (event.Piece m b) events))
+      ∙ rw (two.0, two.1) (in-two (m == n) (reply_octets first.reply) (reply_octets next.reply) (octets_from limits n (alone_after_turn mid next) events))
+      ∙ ap (λ rest. (if m == n then reply_octets first.reply else []) ++ rest) (sym (octets-cons n mid (event.Piece m b) events))
       ∙ sym (octets-cons n world (event.Piece m a) (event.Piece m b ∷ events))
 
   joined-first : (n : ℕ) (world : AloneWorld) (top : ℕ) → RisesFrom 0 world.connections top → (m : ℕ) (octets : List ℕ) (events : List Event)
@@ -477,29 +477,29 @@ module _ (joins : Joins) (of_request : OfRequest) (adds : Adds) (limits : Limits
   rises-pull world top rises (Some c) = rises-with (with_query (next_page c.query).query c) world.connections 0 top rises
 
   pub joined-octets : (n : ℕ) (world : AloneWorld) (top : ℕ) (events : List Event) → RisesFrom 0 world.connections top → Formed top events
-      → octets_from limits n world (joined events) ≡ octets_from limits n world events
+      → octets_from limits n world (joined_pieces events) ≡ octets_from limits n world events
   joined-octets n world top [] rises f = refl
   joined-octets n world top (event.Open m ∷ events) rises f =
       let next = alone_after_turn world (alone_turn limits world (event.Open m)) in
-      octets-cons n world (event.Open m) (joined events)
+      octets-cons n world (event.Open m) (joined_pieces events)
       ∙ ap (λ rest. (if m == n then [] else []) ++ rest) (joined-octets n next (m + 1) events (rises-open m world.connections 0 top f.0 rises) f.1)
       ∙ sym (octets-cons n world (event.Open m) events)
   joined-octets n world top (event.Piece m piece ∷ events) rises f =
       let t = alone_turn limits world (event.Piece m piece) in
-      joined-first n world top rises m piece (joined events) ∙ octets-cons n world (event.Piece m piece) (joined events)
-      ∙ ap (λ rest. (if m == n then octets_in t.reply else []) ++ rest)
+      joined-first n world top rises m piece (joined_pieces events) ∙ octets-cons n world (event.Piece m piece) (joined_pieces events)
+      ∙ ap (λ rest. (if m == n then reply_octets t.reply else []) ++ rest)
       (joined-octets n (alone_after_turn world t) top events (rises-piece world top rises m piece (connection_in m world.connections)) f)
       ∙ sym (octets-cons n world (event.Piece m piece) events)
   joined-octets n world top (event.End m ∷ events) rises f =
       let t = alone_turn limits world (event.End m) in
-      octets-cons n world (event.End m) (joined events)
-      ∙ ap (λ rest. (if m == n then octets_in t.reply else []) ++ rest)
+      octets-cons n world (event.End m) (joined_pieces events)
+      ∙ ap (λ rest. (if m == n then reply_octets t.reply else []) ++ rest)
       (joined-octets n (alone_after_turn world t) top events (rises-end world top rises (connection_in m world.connections)) f)
       ∙ sym (octets-cons n world (event.End m) events)
   joined-octets n world top (event.Pull m ∷ events) rises f =
       let t = alone_turn limits world (event.Pull m) in
-      octets-cons n world (event.Pull m) (joined events)
-      ∙ ap (λ rest. (if m == n then octets_in t.reply else []) ++ rest)
+      octets-cons n world (event.Pull m) (joined_pieces events)
+      ∙ ap (λ rest. (if m == n then reply_octets t.reply else []) ++ rest)
       (joined-octets n (alone_after_turn world t) top events (rises-pull world top rises (connection_in m world.connections)) f)
       ∙ sym (octets-cons n world (event.Pull m) events)
   joined-octets n world top (event.Schedule inst octets ∷ events) rises f =

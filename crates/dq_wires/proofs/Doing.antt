@@ -6,15 +6,15 @@ use Rattle.dq_core.specs.declared.event.Event.TheVariants.{Piece, End, Pull}
 use Rattle.dq_core.specs.declared.fault.Fault.{Fault}
 use Rattle.dq_wires.specs.declared.calls.Call.{Call}
 use Rattle.dq_wires.specs.declared.calls.Call.TheVariants.{Read, Write, Shut}
-use Rattle.dq_wires.specs.declared.calls.Came.{Came}
-use Rattle.dq_wires.specs.declared.calls.Came.TheVariants as came
+use Rattle.dq_wires.specs.declared.calls.ReadOutcome.{ReadOutcome}
+use Rattle.dq_wires.specs.declared.calls.ReadOutcome.TheVariants as came
 use Rattle.dq_wires.specs.declared.fault.TurnFault.{TurnFault}
 use Rattle.dq_wires.specs.Limits.{most_read}
 use Rattle.dq_wires.specs.Logs.{Logs}
-use Rattle.dq_wires.specs.Held.{Held}
-use Rattle.dq_wires.specs.Steps.{Step, Runs, Stops}
+use Rattle.dq_wires.specs.Held.{HeldWire}
+use Rattle.dq_wires.specs.Steps.{Step, Runs, StopsBy}
 use Rattle.dq_wires.specs.Steps.Step.{Answered, Asked}
-use Rattle.dq_wires.specs.Deeds.{Shutting, IsSending, IsListening, IsEnd, failed}
+use Rattle.dq_wires.specs.Deeds.{Shutting, IsSending, IsListening, TellsEnd, write_failure}
 use Rattle.dq_wires.specs.Deeds.Deed.{Sent, Broke, Lost, Closed, Heard, Silent, Pulled, Left}
 use Rattle.dq_wires.specs.Deeds.Break.{Unkept, Unanswered, Unpulled, Unended}
 use Rattle.dq_wires.specs.Going.{Ends, Hears, Waits, FailsToHear, Went, WentOff}
@@ -29,8 +29,8 @@ handed-on (Err f) {fault} P e p = let same : f ≡ fault = cc in rw same p
 run-one : {State : Type 0} (Goes : State → State → Step → Type 0) {old new : State} (s : Step) → Goes old new s → Runs Goes old new (s ∷ [])
 run-one Goes {old} {new} s goes = (new, goes, refl)
 
-module _ {State : Type 0} {Goes : State → State → Step → Type 0} {before after : Option (List Call)} {old : State} {wire : Held} where
-  pub went-sent : (next : Held) (place : ℕ) (offered : List ℕ) (count : ℕ) → place ≡ wire.place → offered ≡ wire.unsent → IsSending wire
+module _ {State : Type 0} {Goes : State → State → Step → Type 0} {before after : Option (List Call)} {old : State} {wire : HeldWire} where
+  pub went-sent : (next : HeldWire) (place : ℕ) (offered : List ℕ) (count : ℕ) → place ≡ wire.place → offered ≡ wire.unsent → IsSending wire
       → count ≤ length offered → Logs before after (Write place offered (Ok count)) → next ≡ record wire { unsent = drop count wire.unsent }
       → Went Goes before after old old wire next true
   went-sent next place offered count at all sending bound told kept = record {
@@ -38,55 +38,55 @@ module _ {State : Type 0} {Goes : State → State → Step → Type 0} {before a
     due = (sending, rw all at bound);
     calls = rw (at, all) at told;
     steps = refl;
-    kept = ap (λ (w : Held). w ∷ []) (sym kept);
+    kept = ap (λ (w : HeldWire). w ∷ []) (sym kept);
   }
 
-  pub went-lost : (mid : Option (List Call)) (next : Held) (place then_place : ℕ) (offered : List ℕ) (answer : Shutting) → place ≡ wire.place
-      → offered ≡ wire.unsent → IsSending wire → wire.closed ≡ true → Logs before mid (Write place offered failed)
+  pub went-lost : (mid : Option (List Call)) (next : HeldWire) (place then_place : ℕ) (offered : List ℕ) (answer : Shutting) → place ≡ wire.place
+      → offered ≡ wire.unsent → IsSending wire → wire.closed ≡ true → Logs before mid (Write place offered write_failure)
       → then_place ≡ wire.place → Logs mid after (Shut then_place answer) → Went Goes before after old old wire next false
   went-lost mid next place then_place offered answer at all sending closed told at' told' = record {
     deed = Lost answer;
     due = (sending, closed);
-    calls = logs-then before mid after (Write wire.place wire.unsent failed ∷ []) (Shut wire.place answer ∷ []) (rw (at, all) at told) (rw at' at told');
+    calls = logs-then before mid after (Write wire.place wire.unsent write_failure ∷ []) (Shut wire.place answer ∷ []) (rw (at, all) at told) (rw at' at told');
     steps = refl;
     kept = refl;
   }
 
-  pub went-closed : (next : Held) (place : ℕ) (answer : Shutting) → wire.unsent ≡ [] → wire.closed ≡ true → place ≡ wire.place
+  pub went-closed : (next : HeldWire) (place : ℕ) (answer : Shutting) → wire.unsent ≡ [] → wire.closed ≡ true → place ≡ wire.place
       → Logs before after (Shut place answer) → Went Goes before after old old wire next false
   went-closed next place answer sent closed at told =
       record { deed = Closed answer; due = (sent, closed); calls = rw at at told; steps = refl; kept = refl }
 
   module _ {new : State} where
-    pub went-waiting : (next : Held) (place room : ℕ) → IsListening wire → place ≡ wire.place → room ≡ most_read
+    pub went-waiting : (next : HeldWire) (place room : ℕ) → IsListening wire → place ≡ wire.place → room ≡ most_read
         → Logs before after (Read place room came.Nothing) → Waits Goes old new wire next → Went Goes before after old new wire next true
     went-waiting next place room listening at all told (inl silent) = record {
       deed = Silent;
       due = listening;
       calls = rw (at, all) at told;
       steps = run-one Goes (Asked wire.number false) silent.0;
-      kept = ap (λ (w : Held). w ∷ []) (sym silent.1);
+      kept = ap (λ (w : HeldWire). w ∷ []) (sym silent.1);
     }
     went-waiting next place room listening at all told (inr pulls) = record {
       deed = Pulled pulls.reply;
       due = listening;
       calls = rw (at, all) at told;
       steps = (pulls.mid, pulls.is_open, run-one Goes (Answered (Pull wire.number) pulls.reply) pulls.goes);
-      kept = ap (λ (w : Held). w ∷ []) (sym pulls.kept);
+      kept = ap (λ (w : HeldWire). w ∷ []) (sym pulls.kept);
     }
 
-    pub went-broke : (mid : Option (List Call)) (next : Held) (place : ℕ) (offered : List ℕ) → place ≡ wire.place → offered ≡ wire.unsent
-        → IsSending wire → wire.closed ≡ false → Logs before mid (Write place offered failed) → Ends Goes mid after old new wire
+    pub went-broke : (mid : Option (List Call)) (next : HeldWire) (place : ℕ) (offered : List ℕ) → place ≡ wire.place → offered ≡ wire.unsent
+        → IsSending wire → wire.closed ≡ false → Logs before mid (Write place offered write_failure) → Ends Goes mid after old new wire
         → Went Goes before after old new wire next false
     went-broke mid next place offered at all sending unclosed told ends = record {
       deed = Broke ends.reply ends.answer;
       due = (sending, unclosed);
-      calls = logs-then before mid after (Write wire.place wire.unsent failed ∷ []) (Shut wire.place ends.answer ∷ []) (rw (at, all) at told) ends.calls;
+      calls = logs-then before mid after (Write wire.place wire.unsent write_failure ∷ []) (Shut wire.place ends.answer ∷ []) (rw (at, all) at told) ends.calls;
       steps = run-one Goes (Answered (End wire.number) ends.reply) ends.goes;
       kept = refl;
     }
 
-    pub went-heard : (next : Held) (place room : ℕ) (octets : List ℕ) → IsListening wire → length octets ≤ most_read → place ≡ wire.place
+    pub went-heard : (next : HeldWire) (place room : ℕ) (octets : List ℕ) → IsListening wire → length octets ≤ most_read → place ≡ wire.place
         → room ≡ most_read → Logs before after (Read place room (came.Octets octets)) → Hears Goes old new wire next octets
         → Went Goes before after old new wire next true
     went-heard next place room octets listening bound at all told hears = record {
@@ -94,10 +94,10 @@ module _ {State : Type 0} {Goes : State → State → Step → Type 0} {before a
       due = (listening, bound);
       calls = rw (at, all) at told;
       steps = run-one Goes (Answered (Piece wire.number octets) hears.reply) hears.goes;
-      kept = ap (λ (w : Held). w ∷ []) (sym hears.kept);
+      kept = ap (λ (w : HeldWire). w ∷ []) (sym hears.kept);
     }
 
-    pub went-left : (mid : Option (List Call)) (next : Held) (place room : ℕ) (came : Came) → IsListening wire → IsEnd came → place ≡ wire.place
+    pub went-left : (mid : Option (List Call)) (next : HeldWire) (place room : ℕ) (came : ReadOutcome) → IsListening wire → TellsEnd came → place ≡ wire.place
         → room ≡ most_read → Logs before mid (Read place room came) → Ends Goes mid after old new wire
         → Went Goes before after old new wire next false
     went-left mid next place room came listening ended at all told ends = record {
@@ -108,7 +108,7 @@ module _ {State : Type 0} {Goes : State → State → Step → Type 0} {before a
       kept = refl;
     }
 
-module _ {State : Type 0} {Fails : State → State → Event → Fault → Type 0} {before after : Option (List Call)} {old new : State} {wire : Held} {fault : TurnFault} where
+module _ {State : Type 0} {Fails : State → State → Event → Fault → Type 0} {before after : Option (List Call)} {old new : State} {wire : HeldWire} {fault : TurnFault} where
   pub off-unheard : (place room : ℕ) (octets : List ℕ) → IsListening wire → length octets ≤ most_read → place ≡ wire.place → room ≡ most_read
       → Logs before after (Read place room (came.Octets octets)) → FailsToHear Fails old new wire octets fault
       → WentOff Fails before after old new wire fault
@@ -118,13 +118,13 @@ module _ {State : Type 0} {Fails : State → State → Event → Fault → Type 
       record { at = Unanswered octets; fits = (listening, bound); calls = rw (at, all) at told; stops = unanswered }
 
   pub off-unpulled : (place room : ℕ) → IsListening wire → place ≡ wire.place → room ≡ most_read
-      → Logs before after (Read place room came.Nothing) → Stops Fails old new (Some (Pull wire.number)) fault
+      → Logs before after (Read place room came.Nothing) → StopsBy Fails old new (Some (Pull wire.number)) fault
       → WentOff Fails before after old new wire fault
   off-unpulled place room listening at all told stops =
       record { at = Unpulled; fits = listening; calls = rw (at, all) at told; stops = stops }
 
-  pub off-unended : (place room : ℕ) (came : Came) → IsListening wire → IsEnd came → place ≡ wire.place → room ≡ most_read
-      → Logs before after (Read place room came) → Stops Fails old new (Some (End wire.number)) fault
+  pub off-unended : (place room : ℕ) (came : ReadOutcome) → IsListening wire → TellsEnd came → place ≡ wire.place → room ≡ most_read
+      → Logs before after (Read place room came) → StopsBy Fails old new (Some (End wire.number)) fault
       → WentOff Fails before after old new wire fault
   off-unended place room came listening ended at all told stops =
       record { at = Unended came; fits = (listening, ended); calls = rw (at, all) at told; stops = stops }

@@ -4,7 +4,7 @@ use Rattle.std.proofs.lemmas.List.{append-nil}
 use Rattle.dq_config.specs.declared.config.Institution.{Institution}
 use Rattle.dq_tables.specs.Keeping.{State}
 use Rattle.dq_core.specs.declared.event.Event.{Event}
-use Rattle.dq_core.specs.Shared.{World, turn, world_after_turn, world_from, opening, world_after, replies_from}
+use Rattle.dq_core.specs.Shared.{World, turn, world_after_turn, world_from, first_world, world_after, replies_from}
 use Rattle.dq_core.specs.Standing.{Standing}
 use Rattle.dq_wires.specs.Steps.{Step, Runs, events_of, replies_of}
 use Rattle.dq_wires.specs.Steps.Step.{Answered, Asked}
@@ -33,7 +33,7 @@ module _ {Tables : Type 0} (state : Tables → State) where
             let first = stepped.replied rows events stood (later.was_honest h) in
             let others : replies_of steps ≡ replies_from mid.institutions (world_after mid.institutions rows (events ++ event ∷ [])) (events_of steps) =
             later.replied rows (events ++ event ∷ []) (stepped.stands rows events stood (later.was_honest h)) h in
-            let moved = rw (stepped.institutions, world-next old.institutions (opening rows) events event) at others in
+            let moved = rw (stepped.institutions, world-next old.institutions (first_world rows) events event) at others in
             cc;
         institutions = later.institutions ∙ stepped.institutions;
         was_honest = λ h. stepped.goes.was_honest (later.was_honest h);

@@ -14,20 +14,20 @@ use Rattle.dq_core.specs.declared.event.Event.{Event}
 use Rattle.dq_core.specs.declared.event.Event.TheVariants as event
 use Rattle.dq_core.specs.declared.event.Reply.{Reply}
 use Rattle.dq_core.specs.declared.event.Reply.TheVariants as reply
-use Rattle.dq_core.specs.Shared.{World, turn, world_after_turn, replies_from, world_from, opening, replies, rows_within, world_after}
-use Rattle.dq_core.specs.Own.{owns, is_own, own, is_on_connection, replies_at}
-use Rattle.dq_core.specs.Isolation.{own_replies, IsPrefix}
+use Rattle.dq_core.specs.Shared.{World, turn, world_after_turn, replies_from, world_from, first_world, replies, rows_within, world_after}
+use Rattle.dq_core.specs.Own.{owns, is_own_event, own, is_on_connection, replies_at}
+use Rattle.dq_core.specs.Isolation.{own_among, IsPrefix}
 use Rattle.dq_core.specs.Alone.{alone_opening, alone_replies}
-use Rattle.dq_core.specs.Histories.{is_well_formed}
+use Rattle.dq_core.specs.Histories.{is_well_formed_history}
 use Rattle.dq_config.specs.Limits.{limits_of}
 use Rattle.dq_tables.specs.Rows.{of}
 use Rattle.std.specs.Prelude.{None}
-use Rattle.dq_wires.specs.Cuts.{joined}
+use Rattle.dq_wires.specs.Cuts.{joined_pieces}
 use Rattle.dq_wires.proofs.Cutting.{Joins, OfRequest, Adds, Formed, formed, formed-among, octets_from, joined-octets}
 use Rattle.dq_core.specs.Runs.{IsRun}
-use Rattle.dq_core.specs.Renumbering.{KeepsOrder, renumbered, renumbered_reply}
+use Rattle.dq_core.specs.Renumbering.{KeepsOrder, with_other_number, renumbered_reply}
 use Rattle.dq_core.specs.Standing.{Standing}
-use Rattle.dq_wires.specs.Held.{octets_in}
+use Rattle.dq_wires.specs.Held.{reply_octets}
 use Rattle.dq_wires.specs.Steps.{Step, events_of, replies_of}
 use Rattle.dq_wires.specs.Steps.Step.{Answered, Asked}
 use Rattle.dq_wires.specs.Turns.{Cut}
@@ -37,7 +37,7 @@ use Rattle.dq_wires.proofs.Looking.{comes-serve}
 use Rattle.dq_wires.proofs.Answering.{Begun, acts-begun, answers-at, quiet-steps}
 
 abbrev all_octets : List Reply → List ℕ
-all_octets given = flat_map octets_in given
+all_octets given = flat_map reply_octets given
 
 -- replies at events
 at-none : (p : Event → Bool) (events : List Event) → replies_at p events [] ≡ []
@@ -102,7 +102,7 @@ module _ (another : ℕ → ℕ) (keeps : KeepsOrder another) where
   same-at a b (inr (inl l)) = let h : another a < another b = keeps a b l in grind (arith, nat_tests)
   same-at a b (inr (inr l)) = let h : another b < another a = keeps b a l in grind (arith, nat_tests)
 
-  same-on : (n : ℕ) (e : Event) → is_on_connection (another n) (renumbered another e) ≡ is_on_connection n e
+  same-on : (n : ℕ) (e : Event) → is_on_connection (another n) (with_other_number another e) ≡ is_on_connection n e
   same-on n (event.Open m) = same-at m n (cases_order m n)
   same-on n (event.Piece m piece) = same-at m n (cases_order m n)
   same-on n (event.End m) = same-at m n (cases_order m n)
@@ -115,7 +115,7 @@ module _ (institutions : List Institution) (name : List ℕ) (events : List Even
   own-number : (m : ℕ) → (m == n) ≡ true → owns institutions name events m ≡ true
   own-number m e = let same : m ≡ n = grind (arith, nat_tests) in rw same owned
 
-  own-within : (e : Event) → is_on_connection n e ≡ true → is_own institutions name events e ≡ true
+  own-within : (e : Event) → is_on_connection n e ≡ true → is_own_event institutions name events e ≡ true
   own-within (event.Open m) h = own-number m h
   own-within (event.Piece m piece) h = own-number m h
   own-within (event.End m) h = own-number m h
@@ -126,20 +126,20 @@ module _ (institutions : List Institution) (name : List ℕ) (events : List Even
   -- the octets that are answered on it, by the own events under other numbers
   own-octets : (another : ℕ → ℕ) → KeepsOrder another → (given : List Reply)
       → all_octets (replies_at (is_on_connection n) events given)
-      ≡ all_octets (replies_at (is_on_connection (another n)) (map (renumbered another) (own institutions name events))
-      (map (renumbered_reply another) (replies_at (is_own institutions name events) events given)))
+      ≡ all_octets (replies_at (is_on_connection (another n)) (map (with_other_number another) (own institutions name events))
+      (map (renumbered_reply another) (replies_at (is_own_event institutions name events) events given)))
   own-octets another keeps given =
-      ap all_octets (sym (at-among (is_on_connection n) (is_own institutions name events) own-within events given))
-      ∙ sym (renumbered-octets another (replies_at (is_on_connection n) (own institutions name events) (replies_at (is_own institutions name events) events given)))
-      ∙ ap all_octets (sym (at-map (renumbered another) (renumbered_reply another) (is_on_connection n) (is_on_connection (another n))
-      (same-on another keeps n) (own institutions name events) (replies_at (is_own institutions name events) events given)))
+      ap all_octets (sym (at-among (is_on_connection n) (is_own_event institutions name events) own-within events given))
+      ∙ sym (renumbered-octets another (replies_at (is_on_connection n) (own institutions name events) (replies_at (is_own_event institutions name events) events given)))
+      ∙ ap all_octets (sym (at-map (with_other_number another) (renumbered_reply another) (is_on_connection n) (is_on_connection (another n))
+      (same-on another keeps n) (own institutions name events) (replies_at (is_own_event institutions name events) events given)))
 
 -- where the replies begin others, so do the octets of those at events that pass a test
 front-octets : (p : Event → Bool) (events : List Event) (some more : List Reply) → IsPrefix some more
     → IsFrontOf (all_octets (replies_at p events some)) (all_octets (replies_at p events more))
 front-octets p events some more (later, e) =
     let m = at-more p events some later in
-    (all_octets m.0, sym (flat_map-append octets_in (replies_at p events some) m.0) ∙ ap all_octets m.1 ∙ ap (λ rs. all_octets (replies_at p events rs)) e)
+    (all_octets m.0, sym (flat_map-append reply_octets (replies_at p events some) m.0) ∙ ap all_octets m.1 ∙ ap (λ rs. all_octets (replies_at p events rs)) e)
 
 -- of two fronts of one list one begins the other
 fronts : (xs ys a b : List ℕ) → xs ++ a ≡ ys ++ b → OneBegins xs ys
@@ -180,7 +180,7 @@ module _ {Tables : Type 0} (state : Tables → State) {rows : List Row} {first l
       → IsRun first.institutions rows (served_events acts cut ++ later) given
       (rows_within first.institutions rows (served_events acts cut ++ later) (length given) 0)
   served-run later = record {
-    first_replies = rw (replies-more first.institutions (opening rows) (served_events acts cut) later, ← served-replies)
+    first_replies = rw (replies-more first.institutions (first_world rows) (served_events acts cut) later, ← served-replies)
         (sym (take-append_seam given _));
     operations = 0;
     rows_then = refl;
@@ -191,7 +191,7 @@ module _ {Tables : Type 0} (state : Tables → State) {rows : List Row} {first l
   served-written number =
       let begun : Begun number nothing_held (served_steps acts cut) (served_done acts cut) =
       acts-begun number nothing_held acts cut (omega arith) served.are served.fits
-      (quiet-steps first.institutions (opening rows) (served_steps acts cut) served-replies) in
+      (quiet-steps first.institutions (first_world rows) (served_steps acts cut) served-replies) in
       (begun.0, sym begun.1 ∙ sym (answers-at number (served_steps acts cut)))
 
   -- by the own events of its owner
@@ -199,8 +199,8 @@ module _ {Tables : Type 0} (state : Tables → State) {rows : List Row} {first l
       → (anew : ℕ → ℕ) → KeepsOrder anew
       → (let events = served_events acts cut ++ later in
       IsFrontOf (written_on number acts cut)
-      (all_octets (replies_at (is_on_connection (anew number)) (map (renumbered anew) (own first.institutions name events))
-      (map (renumbered_reply anew) (replies_at (is_own first.institutions name events) events given)))))
+      (all_octets (replies_at (is_on_connection (anew number)) (map (with_other_number anew) (own first.institutions name events))
+      (map (renumbered_reply anew) (replies_at (is_own_event first.institutions name events) events given)))))
   served-own later name number owned anew keeps =
       let front = served-written number in (
         front.0,
@@ -219,36 +219,39 @@ module _ (joins : Joins) (of_request : OfRequest) (adds : Adds) {Tables : Type 0
   events = served_events acts cut ++ later
 
   abbrev own_anew : List Event
-  own_anew = map (renumbered anew) (own first.institutions i.name events)
+  own_anew = map (with_other_number anew) (own first.institutions i.name events)
 
   abbrev own_given : List Reply
-  own_given = replies_at (is_own first.institutions i.name events) events (replies_of (served_steps acts cut))
+  own_given = replies_at (is_own_event first.institutions i.name events) events (replies_of (served_steps acts cut))
 
-  own-formed : IsTrue (is_well_formed (map (renumbered anew) events))
-      → own first.institutions i.name (map (renumbered anew) events) ≡ own_anew → Formed 0 own_anew
+  abbrev own_front : List Reply
+  own_front = alone_replies (limits_of i) (of i.name rows) (own_among first.institutions i.name events (length (replies_of (served_steps acts cut))))
+
+  own-formed : IsTrue (is_well_formed_history (map (with_other_number anew) events))
+      → own first.institutions i.name (map (with_other_number anew) events) ≡ own_anew → Formed 0 own_anew
   own-formed well same =
-      let f : Formed 0 (own first.institutions i.name (map (renumbered anew) events)) =
-      formed-among (is_own first.institutions i.name (map (renumbered anew) events)) 0 (map (renumbered anew) events)
-      (formed None (map (renumbered anew) events) well) in
+      let f : Formed 0 (own first.institutions i.name (map (with_other_number anew) events)) =
+      formed-among (is_own_event first.institutions i.name (map (with_other_number anew) events)) 0 (map (with_other_number anew) events)
+      (formed None (map (with_other_number anew) events) well) in
       rw same at f
 
-  pub alone-front : IsTrue (is_well_formed (map (renumbered anew) events))
-      → own first.institutions i.name (map (renumbered anew) events) ≡ own_anew
+  pub alone-front : IsTrue (is_well_formed_history (map (with_other_number anew) events))
+      → own first.institutions i.name (map (with_other_number anew) events) ≡ own_anew
       → alone_replies (limits_of i) (of i.name rows) own_anew
       ≡ map (renumbered_reply anew) (alone_replies (limits_of i) (of i.name rows) (own first.institutions i.name events))
-      → own_given ≡ own_replies first.institutions rows events i (length (replies_of (served_steps acts cut)))
-      → IsPrefix (own_replies first.institutions rows events i (length (replies_of (served_steps acts cut))))
+      → own_given ≡ own_front
+      → IsPrefix own_front
       (alone_replies (limits_of i) (of i.name rows) (own first.institutions i.name events))
       → (number : ℕ) → IsTrue (owns first.institutions i.name events number)
       → IsFrontOf (written_on number acts cut)
-      (octets_from (limits_of i) (anew number) (alone_opening (of i.name rows)) (joined own_anew))
+      (octets_from (limits_of i) (anew number) (alone_opening (of i.name rows)) (joined_pieces own_anew))
   alone-front well same_own same_alone same_given prefix number owned =
       let limits = limits_of i in
       let records = of i.name rows in
       let begins : IsPrefix (map (renumbered_reply anew) own_given) (alone_replies limits records own_anew) = (
         map (renumbered_reply anew) prefix.0,
         ap (λ rs. map (renumbered_reply anew) rs ++ map (renumbered_reply anew) prefix.0) same_given
-            ∙ sym (map-append (renumbered_reply anew) (own_replies first.institutions rows events i (length (replies_of (served_steps acts cut)))) prefix.0)
+            ∙ sym (map-append (renumbered_reply anew) own_front prefix.0)
             ∙ ap (map (renumbered_reply anew)) prefix.1 ∙ sym same_alone,
       ) in
       let whole = octets_from limits (anew number) (alone_opening records) own_anew in

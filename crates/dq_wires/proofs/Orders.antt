@@ -10,9 +10,9 @@ use Rattle.dq_wires.specs.declared.calls.Call.TheVariants.{Accept}
 use Rattle.dq_wires.specs.declared.fault.TurnFault.{TurnFault}
 use Rattle.dq_wires.specs.declared.fault.TurnFault.TheVariants.{Network}
 use Rattle.dq_wires.specs.Logs.{LogsAll}
-use Rattle.dq_wires.specs.Steps.{Step, Stops}
+use Rattle.dq_wires.specs.Steps.{Step, StopsBy}
 use Rattle.dq_wires.specs.Deeds.{break_event}
-use Rattle.dq_wires.specs.Turns.{Hold, Cut, CutStops, refused, cut_calls, all_calls, TurnsCut}
+use Rattle.dq_wires.specs.Turns.{Hold, Cut, CutStops, accept_failure, cut_calls, all_calls, TurnsCut}
 use Rattle.dq_wires.specs.Turns.Cut.{NoRoom, Unaccepted, Unopened, Midway}
 use Rattle.dq_wires.specs.Turners.{NextOpens, IsOrder, EndsUnaccepted}
 
@@ -30,14 +30,14 @@ opens-first None h = refl
 opens-first (Some n) h = grind arith
 
 not-network : {State : Type 0} (Fails : State → State → Event → Fault → Type 0) (old new : State) (fault : TurnFault) (event : Option Event)
-    → Stops Fails old new event fault → fault ≡ Network → ⊥
+    → StopsBy Fails old new event fault → fault ≡ Network → ⊥
 not-network Fails old new fault None stops e = let memory = stops.1 in cc
 not-network Fails old new fault (Some event) stops e = let server = stops.1 in cc
 
-unaccepted-last : (before after : Option (List Call)) (calls : List Call) → LogsAll before after (calls ++ Accept refused ∷ []) → EndsUnaccepted after
+unaccepted-last : (before after : Option (List Call)) (calls : List Call) → LogsAll before after (calls ++ Accept accept_failure ∷ []) → EndsUnaccepted after
 unaccepted-last before None calls told = tt
 unaccepted-last None (Some after) calls told = absurd told
-unaccepted-last (Some before) (Some after) calls told = (before ++ calls, told ∙ sym (append_assoc before calls (Accept refused ∷ [])))
+unaccepted-last (Some before) (Some after) calls told = (before ++ calls, told ∙ sym (append_assoc before calls (Accept accept_failure ∷ [])))
 
 module _ {State : Type 0} (Fails : State → State → Event → Fault → Type 0) (mid new : State) (fault : TurnFault) where
   last-call : (before after : Option (List Call)) (calls : List Call) (cut : Cut)

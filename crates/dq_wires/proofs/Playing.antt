@@ -16,7 +16,7 @@ use Rattle.dq_wires.specs.declared.calls.Call.{Call}
 use Rattle.dq_wires.specs.declared.looping.Line.{Line}
 use Rattle.dq_wires.specs.declared.looping.Wanted.{Wanted}
 use Rattle.dq_wires.specs.declared.looping.Wanted.TheVariants as wanted
-use Rattle.dq_wires.specs.Held.{Held, wire_with}
+use Rattle.dq_wires.specs.Held.{HeldWire, wire_with}
 use Rattle.dq_wires.specs.Stepping.{Stepped, Moves}
 use Rattle.dq_wires.specs.Turns.{Hold, Turn, TurnsWent}
 use Rattle.dq_wires.specs.Turners.{Turning, IsOrder}
@@ -160,24 +160,24 @@ module _ {Tables : Type 0} {state : Tables → State} where
   }
 
 -- A line with the same number in its place changes no number, whatever came of it.
-pub numbers-kept : {A E Client : Type 0} (r : Result A E) (lines : List (Line Client)) (at : ℕ) (line was : Line Client)
+pub numbers-kept : {A E : Type 0} (r : Result A E) (lines : List Line) (at : ℕ) (line was : Line)
     → was ≡ slice_index_or lines at was → line.number ≡ was.number
     → OnOk r (map line_number (slice_set lines at line) ≡ map line_number lines ++ [])
-numbers-kept {Client = Client} (Err e) lines at line was stands same = tt
-numbers-kept {Client = Client} (Ok x) lines at line was stands same =
-    map-set_same line_number lines at line was (same ∙ ap (λ (l : Line Client). l.number) stands) ∙ sym (append-nil (map line_number lines))
+numbers-kept (Err e) lines at line was stands same = tt
+numbers-kept (Ok x) lines at line was stands same =
+    map-set_same line_number lines at line was (same ∙ ap (λ (l : Line). l.number) stands) ∙ sym (append-nil (map line_number lines))
 
-module _ {Client : Type 0} (number : ℕ) where
-  front-numbers : (lines : List (Line Client))
-      → prefix_len (λ (other : ℕ). not (other == number)) (map line_number lines) ≡ prefix_len (λ (line : Line Client). not (has_number number line)) lines
+module _ (number : ℕ) where
+  front-numbers : (lines : List Line)
+      → prefix_len (λ (other : ℕ). not (other == number)) (map line_number lines) ≡ prefix_len (λ (line : Line). not (has_number number line)) lines
   front-numbers [] = refl
   front-numbers (line ∷ lines) = ap (λ (n : ℕ). cond (not (line.number == number)) (1 + n) 0) (front-numbers lines)
 
   -- a line stands where its number does
-  line-position : (lines : List (Line Client)) → position (λ (other : ℕ). other == number) (map line_number lines) ≡ position (has_number number) lines
+  line-position : (lines : List Line) → position (λ (other : ℕ). other == number) (map line_number lines) ≡ position (has_number number) lines
   line-position lines = rw (front-numbers lines, length-map lines line_number) refl
 
-  module _ (lines : List (Line Client)) (at : Option ℕ) (stands : at ≡ position (has_number number) lines) where
+  module _ (lines : List Line) (at : Option ℕ) (stands : at ≡ position (has_number number) lines) where
     found : position (λ (other : ℕ). other == number) (map line_number lines) ≡ at
     found = line-position lines ∙ sym stands
 
@@ -196,10 +196,10 @@ module _ {Client : Type 0} (number : ℕ) where
     end-played before after i given some is gone = rw (found, some, ← is) gone
 
 -- what is waited for of a connection that ends, and of a piece
-pub come-gone : (wire : Option Held) → IsCome wanted.Gone wire → wire ≡ None
+pub come-gone : (wire : Option HeldWire) → IsCome wanted.Gone wire → wire ≡ None
 come-gone None come = refl
 come-gone (Some wire) come = absurd come
 
-pub come-heard : (octets : List ℕ) (before after : Held) (wire was : Option Held) (count : ℕ) → was ≡ Some before → wire ≡ Some after
+pub come-heard : (octets : List ℕ) (before after : HeldWire) (wire was : Option HeldWire) (count : ℕ) → was ≡ Some before → wire ≡ Some after
     → count ≡ before.heard + length octets → IsCome (wanted.Heard count) wire → IsHeard octets was wire
 come-heard octets before after wire was count e f is come = rw (e, f) (rw (f, is) at come)

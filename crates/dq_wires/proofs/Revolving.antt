@@ -5,16 +5,16 @@ use Rattle.dq_core.specs.declared.event.Event.{Event}
 use Rattle.dq_core.specs.declared.fault.Fault.{Fault}
 use Rattle.dq_wires.specs.declared.calls.Call.{Call}
 use Rattle.dq_wires.specs.declared.fault.TurnFault.{TurnFault}
-use Rattle.dq_wires.specs.Held.{Held}
+use Rattle.dq_wires.specs.Held.{HeldWire}
 use Rattle.dq_wires.specs.Steps.{Step}
 use Rattle.dq_wires.specs.Deeds.{break_calls}
-use Rattle.dq_wires.specs.Turns.{calls_of, steps_of, Hold, Turn, IsTurn, turn_calls, turn_steps, taking_calls, taking_steps, after_turn, AreTurns, after_turns, all_calls, all_steps, cut_calls, cut_steps, TurnsWent, TurnsCut}
+use Rattle.dq_wires.specs.Turns.{calls_of, done_steps, Hold, Turn, IsTurn, turn_calls, turn_steps, taking_calls, taking_steps, after_turn, AreTurns, after_turns, all_calls, all_steps, cut_calls, cut_steps, TurnsWent, TurnsCut}
 use Rattle.dq_wires.specs.Turns.Cut.{Midway}
 use Rattle.dq_wires.specs.Rounds.{RoundWent, RoundCut, TakingWent, TurnWent, TurnCut}
 use Rattle.dq_wires.proofs.Logging.{logs-then, logs-none}
 use Rattle.dq_wires.proofs.Rounding.{flat_map-more, runs-then}
 
-pub hold-of : {h k : List Held} {n m : ℕ} → h ≡ k → n ≡ m → (let one : Hold = record { held = h; newest = n } in let other : Hold = record { held = k; newest = m } in one ≡ other)
+pub hold-of : {h k : List HeldWire} {n m : ℕ} → h ≡ k → n ≡ m → (let one : Hold = record { held = h; newest = n } in let other : Hold = record { held = k; newest = m } in one ≡ other)
 hold-of a b = cc
 
 are-more : (h : Hold) (turns : List Turn) (t : Turn) → AreTurns h turns → IsTurn (after_turns h turns) t → AreTurns h (turns ++ t ∷ [])
@@ -26,15 +26,15 @@ after-more h [] t = refl
 after-more h (first ∷ turns) t = after-more (after_turn h first) turns t
 
 module _ {State : Type 0} {Goes : State → State → Step → Type 0} {before : Option (List Call)} {old : State} {from : Hold} where
-  module _ {now after : Option (List Call)} {mid new : State} {h : List Held} {n : ℕ}
+  module _ {now after : Option (List Call)} {mid new : State} {h : List HeldWire} {n : ℕ}
       (taken : TakingWent Goes before now old mid from (record { held = h; newest = n })) where
     -- a turn is its beginning and those of the connections
-    pub turn-whole : {k : List Held} → RoundWent Goes now after mid new h k → TurnWent Goes before after old new from (record { held = k; newest = n })
+    pub turn-whole : {k : List HeldWire} → RoundWent Goes now after mid new h k → TurnWent Goes before after old new from (record { held = k; newest = n })
     turn-whole {k} round = record {
       turn = record { taking = taken.taking; done = round.done };
       is = record { takes = taken.takes; each = round.each ∙ ap (λ (x : Hold). x.held) taken.leaves; due = round.due };
       calls = logs-then before now after (taking_calls taken.taking) (flat_map calls_of round.done) taken.calls round.calls;
-      steps = runs-then Goes old mid new (taking_steps taken.taking) (flat_map steps_of round.done) taken.steps round.steps;
+      steps = runs-then Goes old mid new (taking_steps taken.taking) (flat_map done_steps round.done) taken.steps round.steps;
       leaves = hold-of round.kept (ap (λ (x : Hold). x.newest) taken.leaves);
     }
 
@@ -51,7 +51,7 @@ module _ {State : Type 0} {Goes : State → State → Step → Type 0} {before :
       };
       calls = logs-then before now after (taking_calls taken.taking) (flat_map calls_of round.done ++ break_calls round.wire round.at) taken.calls round.calls;
       mid = round.mid;
-      steps = runs-then Goes old mid round.mid (taking_steps taken.taking) (flat_map steps_of round.done) taken.steps round.steps;
+      steps = runs-then Goes old mid round.mid (taking_steps taken.taking) (flat_map done_steps round.done) taken.steps round.steps;
       stops = round.stops;
     }
 

@@ -7,11 +7,11 @@ use Rattle.dq_core.specs.declared.fault.Fault.{Fault}
 use Rattle.dq_wires.specs.declared.calls.Call.{Call}
 use Rattle.dq_wires.specs.declared.fault.TurnFault.{TurnFault}
 use Rattle.dq_wires.specs.Logs.{LogsAll}
-use Rattle.dq_wires.specs.Held.{Held}
+use Rattle.dq_wires.specs.Held.{HeldWire}
 use Rattle.dq_wires.specs.Steps.{Step, Runs}
 use Rattle.dq_wires.specs.Deeds.{Deed, IsDue, deed_calls, deed_steps, deed_after, break_calls}
 use Rattle.dq_wires.specs.Going.{Went, WentOff}
-use Rattle.dq_wires.specs.Turns.{Done, wire_of, calls_of, steps_of, kept_of, AreDue}
+use Rattle.dq_wires.specs.Turns.{Done, wire_of, calls_of, done_steps, wires_kept, AreDue}
 use Rattle.dq_wires.specs.Rounds.{RoundWent, RoundCut}
 use Rattle.dq_wires.proofs.Logging.{logs-then, logs-none}
 
@@ -46,52 +46,52 @@ remove-at [] x rest = refl
 remove-at (y ∷ front) x rest = ap (λ l. y ∷ l) (remove-at front x rest)
 
 -- Some have had their turns. Where the next stands in what is held, the others come after it.
-pub record RoundSo {State : Type 0} (Goes : State → State → Step → Type 0) (before now : Option (List Call)) (old mid : State) (from held : List Held)
+pub record RoundSo {State : Type 0} (Goes : State → State → Step → Type 0) (before now : Option (List Call)) (old mid : State) (from held : List HeldWire)
     (at : ℕ) : Type 0 where
   pub done : List Done
-  pub others : List Held
+  pub others : List HeldWire
   pub each : map wire_of done ++ others ≡ from
   pub due : AreDue done
   pub calls : LogsAll before now (flat_map calls_of done)
-  pub steps : Runs Goes old mid (flat_map steps_of done)
-  pub holds : held ≡ flat_map kept_of done ++ others
-  pub place : at ≡ length (flat_map kept_of done)
+  pub steps : Runs Goes old mid (flat_map done_steps done)
+  pub holds : held ≡ flat_map wires_kept done ++ others
+  pub place : at ≡ length (flat_map wires_kept done)
 
 module _ {State : Type 0} {Goes : State → State → Step → Type 0} where
-  pub round-begins : (log : Option (List Call)) (old : State) (from : List Held) → RoundSo Goes log log old old from from 0
+  pub round-begins : (log : Option (List Call)) (old : State) (from : List HeldWire) → RoundSo Goes log log old old from from 0
   round-begins log old from =
       record { done = []; others = from; each = refl; due = tt; calls = logs-none log; steps = refl; holds = refl; place = refl }
 
-  module _ {before now : Option (List Call)} {old mid : State} {from held : List Held} {at : ℕ} (so : RoundSo Goes before now old mid from held at) where
+  module _ {before now : Option (List Call)} {old mid : State} {from held : List HeldWire} {at : ℕ} (so : RoundSo Goes before now old mid from held at) where
     -- all have had their turns
     pub round-ends : length held < at + 1 → RoundWent Goes before now old mid from held
     round-ends h = ends so.others so.each so.holds where
-      ends : (others : List Held) → map wire_of so.done ++ others ≡ from → held ≡ flat_map kept_of so.done ++ others → RoundWent Goes before now old mid from held
+      ends : (others : List HeldWire) → map wire_of so.done ++ others ≡ from → held ≡ flat_map wires_kept so.done ++ others → RoundWent Goes before now old mid from held
       ends [] each holds = record {
         done = so.done;
         each = sym (append-nil (map wire_of so.done)) ∙ each;
         due = so.due;
         calls = so.calls;
         steps = so.steps;
-        kept = holds ∙ append-nil (flat_map kept_of so.done);
+        kept = holds ∙ append-nil (flat_map wires_kept so.done);
       }
-      ends (wire ∷ others) each holds = absurd (omega (arith, so.place, h, ap length holds, length-append (flat_map kept_of so.done) (wire ∷ others)))
+      ends (wire ∷ others) each holds = absurd (omega (arith, so.place, h, ap length holds, length-append (flat_map wires_kept so.done) (wire ∷ others)))
 
-    module _ (others : List Held) (wire : Held) (each : map wire_of so.done ++ wire ∷ others ≡ from) (holds : held ≡ flat_map kept_of so.done ++ wire ∷ others)
+    module _ (others : List HeldWire) (wire : HeldWire) (each : map wire_of so.done ++ wire ∷ others ≡ from) (holds : held ≡ flat_map wires_kept so.done ++ wire ∷ others)
       where
         -- the next is at the place
-        next-is : (d : Held) → get_or held at d ≡ wire
-        next-is d = rw (holds, so.place) (get-at (flat_map kept_of so.done) wire others d)
+        next-is : (d : HeldWire) → get_or held at d ≡ wire
+        next-is d = rw (holds, so.place) (get-at (flat_map wires_kept so.done) wire others d)
 
-        after-set : (next : Held) → set held at next ≡ flat_map kept_of so.done ++ next ∷ others
-        after-set next = rw (holds, so.place) (set-at (flat_map kept_of so.done) wire others next)
+        after-set : (next : HeldWire) → set held at next ≡ flat_map wires_kept so.done ++ next ∷ others
+        after-set next = rw (holds, so.place) (set-at (flat_map wires_kept so.done) wire others next)
 
         each-more : (deed : Deed) → map wire_of (so.done ++ (record { wire = wire; deed = deed }) ∷ []) ++ others ≡ from
         each-more deed = ap (λ l. l ++ others) (map-more wire_of so.done (record { wire = wire; deed = deed })) ∙ append_assoc (map wire_of so.done) (wire ∷ []) others ∙ each
 
-        kept-more : (deed : Deed) (left : List Held) → deed_after wire deed ≡ left
-            → flat_map kept_of (so.done ++ (record { wire = wire; deed = deed }) ∷ []) ≡ flat_map kept_of so.done ++ left
-        kept-more deed left e = flat_map-more kept_of so.done (record { wire = wire; deed = deed }) ∙ ap (λ l. flat_map kept_of so.done ++ l) e
+        kept-more : (deed : Deed) (left : List HeldWire) → deed_after wire deed ≡ left
+            → flat_map wires_kept (so.done ++ (record { wire = wire; deed = deed }) ∷ []) ≡ flat_map wires_kept so.done ++ left
+        kept-more deed left e = flat_map-more wires_kept so.done (record { wire = wire; deed = deed }) ∙ ap (λ l. flat_map wires_kept so.done ++ l) e
 
         is-cut : {after : Option (List Call)} {new : State} {Fails : State → State → Event → Fault → Type 0} {fault : TurnFault} → WentOff Fails now after mid new wire fault
             → RoundCut Goes Fails before after old new from fault
@@ -109,56 +109,56 @@ module _ {State : Type 0} {Goes : State → State → Step → Type 0} where
           stops = off.stops;
         }
 
-        module _ {after : Option (List Call)} {new : State} {next : Held} where
+        module _ {after : Option (List Call)} {new : State} {next : HeldWire} where
           is-kept : Went Goes now after mid new wire next true → RoundSo Goes before after old new from (set held at next) (at + 1)
           is-kept went =
               let item : Done = record { wire = wire; deed = went.deed } in
-              let grown : flat_map kept_of (so.done ++ item ∷ []) ≡ flat_map kept_of so.done ++ next ∷ [] = kept-more went.deed (next ∷ []) went.kept in
+              let grown : flat_map wires_kept (so.done ++ item ∷ []) ≡ flat_map wires_kept so.done ++ next ∷ [] = kept-more went.deed (next ∷ []) went.kept in
               record {
                 done = so.done ++ item ∷ [];
                 others = others;
                 each = each-more went.deed;
                 due = due-more so.done item so.due went.due;
                 calls = rw (flat_map-more calls_of so.done item) (logs-then before now after (flat_map calls_of so.done) (deed_calls wire went.deed) so.calls went.calls);
-                steps = rw (flat_map-more steps_of so.done item) (runs-then Goes old mid new (flat_map steps_of so.done) (deed_steps wire went.deed) so.steps went.steps);
-                holds = after-set next ∙ sym (append_assoc (flat_map kept_of so.done) (next ∷ []) others) ∙ ap (λ l. l ++ others) (sym grown);
-                place = omega (arith, so.place, ap length grown, length-append (flat_map kept_of so.done) (next ∷ []));
+                steps = rw (flat_map-more done_steps so.done item) (runs-then Goes old mid new (flat_map done_steps so.done) (deed_steps wire went.deed) so.steps went.steps);
+                holds = after-set next ∙ sym (append_assoc (flat_map wires_kept so.done) (next ∷ []) others) ∙ ap (λ l. l ++ others) (sym grown);
+                place = omega (arith, so.place, ap length grown, length-append (flat_map wires_kept so.done) (next ∷ []));
               }
 
           is-dropped : Went Goes now after mid new wire next false → RoundSo Goes before after old new from (remove (set held at next) at) at
           is-dropped went =
               let item : Done = record { wire = wire; deed = went.deed } in
-              let grown : flat_map kept_of (so.done ++ item ∷ []) ≡ flat_map kept_of so.done = kept-more went.deed [] went.kept ∙ append-nil (flat_map kept_of so.done) in
+              let grown : flat_map wires_kept (so.done ++ item ∷ []) ≡ flat_map wires_kept so.done = kept-more went.deed [] went.kept ∙ append-nil (flat_map wires_kept so.done) in
               record {
                 done = so.done ++ item ∷ [];
                 others = others;
                 each = each-more went.deed;
                 due = due-more so.done item so.due went.due;
                 calls = rw (flat_map-more calls_of so.done item) (logs-then before now after (flat_map calls_of so.done) (deed_calls wire went.deed) so.calls went.calls);
-                steps = rw (flat_map-more steps_of so.done item) (runs-then Goes old mid new (flat_map steps_of so.done) (deed_steps wire went.deed) so.steps went.steps);
+                steps = rw (flat_map-more done_steps so.done item) (runs-then Goes old mid new (flat_map done_steps so.done) (deed_steps wire went.deed) so.steps went.steps);
                 holds = rw (after-set next, so.place, remove-at, grown) refl;
                 place = rw grown so.place;
               }
 
-    module _ {after : Option (List Call)} {new : State} {next : Held} (within : at < length held) (w : Held) (found : w ≡ get_or held at w) {b : Bool} where
+    module _ {after : Option (List Call)} {new : State} {next : HeldWire} (within : at < length held) (w : HeldWire) (found : w ≡ get_or held at w) {b : Bool} where
       pub round-kept : b ≡ true → Went Goes now after mid new w next b → RoundSo Goes before after old new from (set held at next) (at + 1)
       round-kept holds-on went = by so.others so.each so.holds where
-        by : (others : List Held) → map wire_of so.done ++ others ≡ from → held ≡ flat_map kept_of so.done ++ others
+        by : (others : List HeldWire) → map wire_of so.done ++ others ≡ from → held ≡ flat_map wires_kept so.done ++ others
             → RoundSo Goes before after old new from (set held at next) (at + 1)
-        by [] each holds = absurd (omega (arith, so.place, within, ap length holds, length-append (flat_map kept_of so.done) []))
+        by [] each holds = absurd (omega (arith, so.place, within, ap length holds, length-append (flat_map wires_kept so.done) []))
         by (wire ∷ others) each holds = is-kept others wire each holds (rw (found ∙ next-is others wire each holds w, holds-on) at went)
 
       pub round-dropped : b ≡ false → Went Goes now after mid new w next b → RoundSo Goes before after old new from (remove (set held at next) at) at
       round-dropped let-go went = by so.others so.each so.holds where
-        by : (others : List Held) → map wire_of so.done ++ others ≡ from → held ≡ flat_map kept_of so.done ++ others
+        by : (others : List HeldWire) → map wire_of so.done ++ others ≡ from → held ≡ flat_map wires_kept so.done ++ others
             → RoundSo Goes before after old new from (remove (set held at next) at) at
-        by [] each holds = absurd (omega (arith, so.place, within, ap length holds, length-append (flat_map kept_of so.done) []))
+        by [] each holds = absurd (omega (arith, so.place, within, ap length holds, length-append (flat_map wires_kept so.done) []))
         by (wire ∷ others) each holds = is-dropped others wire each holds (rw (found ∙ next-is others wire each holds w, let-go) at went)
 
-    pub round-cut : {after : Option (List Call)} {new : State} {Fails : State → State → Event → Fault → Type 0} {fault : TurnFault} → at < length held → (w : Held) → w ≡ get_or held at w → WentOff Fails now after mid new w fault
+    pub round-cut : {after : Option (List Call)} {new : State} {Fails : State → State → Event → Fault → Type 0} {fault : TurnFault} → at < length held → (w : HeldWire) → w ≡ get_or held at w → WentOff Fails now after mid new w fault
         → RoundCut Goes Fails before after old new from fault
     round-cut {after} {new} {Fails} {fault} within w found off = by so.others so.each so.holds where
-      by : (others : List Held) → map wire_of so.done ++ others ≡ from → held ≡ flat_map kept_of so.done ++ others
+      by : (others : List HeldWire) → map wire_of so.done ++ others ≡ from → held ≡ flat_map wires_kept so.done ++ others
           → RoundCut Goes Fails before after old new from fault
-      by [] each holds = absurd (omega (arith, so.place, within, ap length holds, length-append (flat_map kept_of so.done) []))
+      by [] each holds = absurd (omega (arith, so.place, within, ap length holds, length-append (flat_map wires_kept so.done) []))
       by (wire ∷ others) each holds = is-cut others wire each holds (rw (found ∙ next-is others wire each holds w) at off)

@@ -10,20 +10,20 @@ use Rattle.dq_core.specs.declared.event.Event.{Event}
 use Rattle.dq_core.specs.declared.event.Event.TheVariants.{Open, Piece, End, Pull, Schedule, Withdraw}
 use Rattle.dq_core.specs.declared.event.Reply.{Reply}
 use Rattle.dq_core.specs.declared.fault.Fault.{Fault}
-use Rattle.dq_core.specs.Histories.{is_above, rises_from, is_well_formed}
+use Rattle.dq_core.specs.Histories.{is_above, rises_from, is_well_formed_history}
 use Rattle.dq_core.specs.Standing.{Standing, StandsFor}
 use Rattle.dq_core.specs.Looking.{Looked}
 use Rattle.dq_wires.specs.declared.calls.Call.{Call}
 use Rattle.dq_wires.specs.declared.fault.TurnFault.{TurnFault}
 use Rattle.dq_wires.specs.Logs.{LogsAll}
-use Rattle.dq_wires.specs.Held.{Held}
+use Rattle.dq_wires.specs.Held.{HeldWire}
 use Rattle.dq_wires.specs.Steps.{Step, Runs, events_of}
 use Rattle.dq_wires.specs.Steps.Step.{Answered, Asked}
 use Rattle.dq_wires.specs.Stepping.{Stepped, Moves}
 use Rattle.dq_wires.specs.Deeds.{Deed, deed_steps}
 use Rattle.dq_wires.specs.Deeds.Deed.{Sent, Broke, Lost, Closed, Heard, Silent, Pulled, Left}
-use Rattle.dq_wires.specs.Turns.{Done, steps_of, Hold, Taking, IsTaking, taking_steps, with_taken, Turn, turn_calls, turn_steps, after_turn, AreTurns, after_turns, all_calls, all_steps, Cut, IsCut, cut_steps, TurnsWent, TurnsCut}
-use Rattle.dq_wires.specs.Turns.Taking.{Full, Nobody, Came}
+use Rattle.dq_wires.specs.Turns.{Done, done_steps, Hold, Taking, IsTaking, taking_steps, with_taken, Turn, turn_calls, turn_steps, after_turn, AreTurns, after_turns, all_calls, all_steps, Cut, IsCut, cut_steps, TurnsWent, TurnsCut}
+use Rattle.dq_wires.specs.Turns.Taking.{Full, Nobody, ReadOutcome}
 use Rattle.dq_wires.specs.Turns.Cut.{NoRoom, Unaccepted, Unopened, Midway}
 use Rattle.dq_wires.specs.Turners.{NextOpens, IsOrder}
 use Rattle.dq_wires.specs.Servings.{Act, act_calls, act_steps, nothing_held, AreActs, after_acts, all_turned, Serving, served_steps, served_events, Served}
@@ -128,7 +128,7 @@ module _ {Tables : Type 0} (state : Tables → State) (rows : List Row) where
       }
 
 -- numbers that are given rise: a turn opens at most one connection, under the next number
-deed-rises : (newest : Option ℕ) (wire : Held) (deed : Deed) (later : List Event)
+deed-rises : (newest : Option ℕ) (wire : HeldWire) (deed : Deed) (later : List Event)
     → rises_from newest (events_of (deed_steps wire deed) ++ later) ≡ rises_from newest later
 deed-rises newest wire (Sent count) later = refl
 deed-rises newest wire (Broke reply shut) later = refl
@@ -145,11 +145,11 @@ events-append (Answered event reply ∷ first) later = ap (λ events. event ∷ 
 events-append (Asked number pending ∷ first) later = events-append first later
 
 round-rises : (newest : Option ℕ) (done : List Done) (later : List Step)
-    → rises_from newest (events_of (flat_map steps_of done ++ later)) ≡ rises_from newest (events_of later)
+    → rises_from newest (events_of (flat_map done_steps done ++ later)) ≡ rises_from newest (events_of later)
 round-rises newest [] later = refl
 round-rises newest (d ∷ done) later =
-    rw (append_assoc (steps_of d) (flat_map steps_of done) later, events-append (steps_of d) (flat_map steps_of done ++ later))
-    (deed-rises newest d.wire d.deed (events_of (flat_map steps_of done ++ later)) ∙ round-rises newest done later)
+    rw (append_assoc (done_steps d) (flat_map done_steps done) later, events-append (done_steps d) (flat_map done_steps done ++ later))
+    (deed-rises newest d.wire d.deed (events_of (flat_map done_steps done ++ later)) ∙ round-rises newest done later)
 
 both : (a b : Bool) → a ≡ true → b ≡ true → (a && b) ≡ true
 both a b e f = rw (e, f) refl
@@ -160,7 +160,7 @@ taking-rises : (newest : Option ℕ) (h : Hold) (taking : Taking) (later : List 
     → IsTrue (rises_from newest (events_of (taking_steps taking ++ later)))
 taking-rises newest h Full later opens takes rest = rest newest opens
 taking-rises newest h Nobody later opens takes rest = rest newest opens
-taking-rises newest h (Came place number reply) later opens takes rest =
+taking-rises newest h (ReadOutcome place number reply) later opens takes rest =
     both (is_above newest number) (rises_from (Some number) (events_of later)) (rw takes.1 opens) (rest (Some number) (grind (arith, nat_tests)))
 
 cut-rises : (newest : Option ℕ) (h : Hold) (cut : Cut) → NextOpens newest h.newest → IsCut h cut → IsTrue (rises_from newest (events_of (cut_steps cut)))
@@ -168,15 +168,15 @@ cut-rises newest h NoRoom opens fits = refl
 cut-rises newest h Unaccepted opens fits = refl
 cut-rises newest h (Unopened place number) opens fits = refl
 cut-rises newest h (Midway taking done wire at) opens fits =
-    taking-rises newest h taking (flat_map steps_of done) opens fits.takes
-    (λ n o. let all : rises_from n (events_of (flat_map steps_of done)) ≡ true = rw (← append-nil (flat_map steps_of done)) (round-rises n done []) in all)
+    taking-rises newest h taking (flat_map done_steps done) opens fits.takes
+    (λ n o. let all : rises_from n (events_of (flat_map done_steps done)) ≡ true = rw (← append-nil (flat_map done_steps done)) (round-rises n done []) in all)
 
 acts-rise : (newest : Option ℕ) (h : Hold) (acts : List Act) (cut : Cut) → NextOpens newest h.newest → AreActs h acts
     → IsCut (after_acts h acts) cut → IsTrue (rises_from newest (served_events acts cut))
 acts-rise newest h [] cut opens are fits = cut-rises newest h cut opens fits
 acts-rise newest h (Turned t ∷ acts) cut opens are fits =
-    rw (append_assoc (turn_steps t) (flat_map act_steps acts) (cut_steps cut), append_assoc (taking_steps t.taking) (flat_map steps_of t.done) (served_steps acts cut))
-    (taking-rises newest h t.taking (flat_map steps_of t.done ++ served_steps acts cut) opens are.0.takes
+    rw (append_assoc (turn_steps t) (flat_map act_steps acts) (cut_steps cut), append_assoc (taking_steps t.taking) (flat_map done_steps t.done) (served_steps acts cut))
+    (taking-rises newest h t.taking (flat_map done_steps t.done ++ served_steps acts cut) opens are.0.takes
     (λ n o. rw (round-rises n t.done (served_steps acts cut)) (acts-rise n (after_turn h t) acts cut o are.1 fits)))
 acts-rise newest h (Ordered event reply ∷ acts) cut opens are fits = by event are.0 (acts-rise newest h acts cut opens are.1 fits) where
   by : (e : Event) → IsOrder e → IsTrue (rises_from newest (served_events acts cut)) → IsTrue (rises_from newest (e ∷ served_events acts cut))
@@ -188,5 +188,5 @@ acts-rise newest h (Ordered event reply ∷ acts) cut opens are fits = by event 
   by (Withdraw inst id) order rest = rest
 
 pub served-rises : {Tables : Type 0} {state : Tables → State} {rows : List Row} {first last : Standing Tables} {acts : List Act} {cut : Cut}
-    → Served state rows first last acts cut → IsTrue (is_well_formed (served_events acts cut))
+    → Served state rows first last acts cut → IsTrue (is_well_formed_history (served_events acts cut))
 served-rises {acts = acts} {cut = cut} served = acts-rise None nothing_held acts cut refl served.are served.fits

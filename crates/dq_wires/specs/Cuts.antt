@@ -7,7 +7,7 @@ use Rattle.dq_tables.specs.Rows.{of}
 use Rattle.dq_core.specs.declared.event.Event.{Event}
 use Rattle.dq_core.specs.declared.event.Event.TheVariants.{Piece}
 use Rattle.dq_core.specs.Own.{own}
-use Rattle.dq_core.specs.Renumbering.{KeepsOrder, renumbered}
+use Rattle.dq_core.specs.Renumbering.{KeepsOrder, with_other_number}
 
 -- a piece and the next one of the same connection are one piece
 abbrev pub joined_to : ℕ → List ℕ → List Event → List Event
@@ -18,10 +18,10 @@ joined_to number octets (Piece other more ∷ events) =
 joined_to number octets (event ∷ events) = Piece number octets ∷ event ∷ events
 
 -- pieces of one connection between which nothing else comes are one piece
-abbrev pub joined : List Event → List Event
-joined [] = []
-joined (Piece number octets ∷ events) = joined_to number octets (joined events)
-joined (event ∷ events) = event ∷ joined events
+abbrev pub joined_pieces : List Event → List Event
+joined_pieces [] = []
+joined_pieces (Piece number octets ∷ events) = joined_to number octets (joined_pieces events)
+joined_pieces (event ∷ events) = event ∷ joined_pieces events
 
 -- Two histories agree for an institution on its wires: its own events are the same ones, however
 -- octets are cut into pieces, once the connections of each are numbered anew, in their order.
@@ -32,5 +32,5 @@ pub record AgreeOnWires (institutions others : List Institution) (rows other_row
   pub records : of i.name rows ≡ of j.name other_rows
   pub order : KeepsOrder anew
   pub other_order : KeepsOrder other_anew
-  pub own_events : joined (map (renumbered anew) (own institutions i.name events))
-      ≡ joined (map (renumbered other_anew) (own others j.name other_events))
+  pub own_events : joined_pieces (map (with_other_number anew) (own institutions i.name events))
+      ≡ joined_pieces (map (with_other_number other_anew) (own others j.name other_events))

@@ -4,12 +4,12 @@ use Rattle.dq_core.specs.declared.event.Event.{Event}
 use Rattle.dq_core.specs.declared.event.Event.TheVariants.{Piece, End, Pull}
 use Rattle.dq_core.specs.declared.event.Reply.{Reply}
 use Rattle.dq_wires.specs.declared.calls.WireFault.{WireFault}
-use Rattle.dq_wires.specs.declared.calls.Came.{Came}
-use Rattle.dq_wires.specs.declared.calls.Came.TheVariants as came
+use Rattle.dq_wires.specs.declared.calls.ReadOutcome.{ReadOutcome}
+use Rattle.dq_wires.specs.declared.calls.ReadOutcome.TheVariants as came
 use Rattle.dq_wires.specs.declared.calls.Call.{Call}
 use Rattle.dq_wires.specs.declared.calls.Call.TheVariants.{Read, Write, Shut}
 use Rattle.dq_wires.specs.Limits.{most_read}
-use Rattle.dq_wires.specs.Held.{Held, with_heard, answered}
+use Rattle.dq_wires.specs.Held.{HeldWire, with_heard, with_reply}
 use Rattle.dq_wires.specs.Steps.{Step}
 use Rattle.dq_wires.specs.Steps.Step.{Answered, Asked}
 
@@ -34,26 +34,26 @@ pub data Deed : Type 0 where
   -- nothing came, and a C-FIND is open; the next of its answers were pulled
   Pulled : Reply → Deed
   -- the peer left; its end was stepped, and it was shut
-  Left : Came → Reply → Shutting → Deed
+  Left : ReadOutcome → Reply → Shutting → Deed
 
 -- a connection with unsent octets
-abbrev pub IsSending : Held → Type 0
+abbrev pub IsSending : HeldWire → Type 0
 IsSending wire = wire.unsent ≢ []
 
 -- one on which all was sent that was answered, and which no reply closed
-abbrev pub IsListening : Held → Type 0
+abbrev pub IsListening : HeldWire → Type 0
 IsListening wire = (wire.unsent ≡ []) × (wire.closed ≡ false)
 
 -- a read tells that no more comes
-abbrev pub IsEnd : Came → Type 0
-IsEnd (came.Octets octets) = ⊥
-IsEnd came.Nothing = ⊥
-IsEnd came.Ended = Unit {0}
-IsEnd came.Failed = Unit {0}
+abbrev pub TellsEnd : ReadOutcome → Type 0
+TellsEnd (came.Octets octets) = ⊥
+TellsEnd came.Nothing = ⊥
+TellsEnd came.Ended = Unit {0}
+TellsEnd came.Failed = Unit {0}
 
 -- Which connection a deed is for: unsent octets are written, a closed one that has none is shut,
 -- and from any other is read. Where nothing comes it is asked whether a C-FIND is open.
-abbrev pub IsDue : Held → Deed → Type 0
+abbrev pub IsDue : HeldWire → Deed → Type 0
 IsDue wire (Sent count) = IsSending wire × (count ≤ length wire.unsent)
 IsDue wire (Broke reply shut) = IsSending wire × (wire.closed ≡ false)
 IsDue wire (Lost shut) = IsSending wire × (wire.closed ≡ true)
@@ -61,18 +61,18 @@ IsDue wire (Closed shut) = (wire.unsent ≡ []) × (wire.closed ≡ true)
 IsDue wire (Heard octets reply) = IsListening wire × (length octets ≤ most_read)
 IsDue wire Silent = IsListening wire
 IsDue wire (Pulled reply) = IsListening wire
-IsDue wire (Left came reply shut) = IsListening wire × IsEnd came
+IsDue wire (Left came reply shut) = IsListening wire × TellsEnd came
 
 -- the failure of a write
-abbrev pub failed : Result ℕ WireFault
-failed = Err (record {})
+abbrev pub write_failure : Result ℕ WireFault
+write_failure = Err (record {})
 
 -- the calls of the wires for it
-abbrev pub deed_calls : Held → Deed → List Call
+abbrev pub deed_calls : HeldWire → Deed → List Call
 deed_calls wire (Sent count) = Write wire.place wire.unsent (Ok count) ∷ []
 deed_calls wire (Broke reply shut) =
-    Write wire.place wire.unsent failed ∷ Shut wire.place shut ∷ []
-deed_calls wire (Lost shut) = Write wire.place wire.unsent failed ∷ Shut wire.place shut ∷ []
+    Write wire.place wire.unsent write_failure ∷ Shut wire.place shut ∷ []
+deed_calls wire (Lost shut) = Write wire.place wire.unsent write_failure ∷ Shut wire.place shut ∷ []
 deed_calls wire (Closed shut) = Shut wire.place shut ∷ []
 deed_calls wire (Heard octets reply) = Read wire.place most_read (came.Octets octets) ∷ []
 deed_calls wire Silent = Read wire.place most_read came.Nothing ∷ []
@@ -80,29 +80,29 @@ deed_calls wire (Pulled reply) = Read wire.place most_read came.Nothing ∷ []
 deed_calls wire (Left came reply shut) =
     Read wire.place most_read came ∷ Shut wire.place shut ∷ []
 
-abbrev pub stepped : Event → Reply → List Step
-stepped event reply = Answered event reply ∷ []
+abbrev pub event_steps : Event → Reply → List Step
+event_steps event reply = Answered event reply ∷ []
 
 -- the events that are stepped, and what is asked, under its own number
-abbrev pub deed_steps : Held → Deed → List Step
+abbrev pub deed_steps : HeldWire → Deed → List Step
 deed_steps wire (Sent count) = []
-deed_steps wire (Broke reply shut) = stepped (End wire.number) reply
+deed_steps wire (Broke reply shut) = event_steps (End wire.number) reply
 deed_steps wire (Lost shut) = []
 deed_steps wire (Closed shut) = []
-deed_steps wire (Heard octets reply) = stepped (Piece wire.number octets) reply
+deed_steps wire (Heard octets reply) = event_steps (Piece wire.number octets) reply
 deed_steps wire Silent = Asked wire.number false ∷ []
-deed_steps wire (Pulled reply) = Asked wire.number true ∷ stepped (Pull wire.number) reply
-deed_steps wire (Left came reply shut) = stepped (End wire.number) reply
+deed_steps wire (Pulled reply) = Asked wire.number true ∷ event_steps (Pull wire.number) reply
+deed_steps wire (Left came reply shut) = event_steps (End wire.number) reply
 
 -- the connection afterwards, if it is still held
-abbrev pub deed_after : Held → Deed → List Held
+abbrev pub deed_after : HeldWire → Deed → List HeldWire
 deed_after wire (Sent count) = record wire { unsent = drop count wire.unsent } ∷ []
 deed_after wire (Broke reply shut) = []
 deed_after wire (Lost shut) = []
 deed_after wire (Closed shut) = []
-deed_after wire (Heard octets reply) = answered (with_heard wire octets) reply ∷ []
+deed_after wire (Heard octets reply) = with_reply (with_heard wire octets) reply ∷ []
 deed_after wire Silent = wire ∷ []
-deed_after wire (Pulled reply) = answered wire reply ∷ []
+deed_after wire (Pulled reply) = with_reply wire reply ∷ []
 deed_after wire (Left came reply shut) = []
 
 -- Where the turn of a connection is cut off by a fault.
@@ -114,27 +114,27 @@ pub data Break : Type 0 where
   -- nothing came, a C-FIND is open, and the server failed at the pull
   Unpulled : Break
   -- the peer left, and the server failed at the end
-  Unended : Came → Break
+  Unended : ReadOutcome → Break
   -- the write failed, and the server failed at the end
   Unbroken : Break
 
-abbrev pub IsBreak : Held → Break → Type 0
+abbrev pub IsBreak : HeldWire → Break → Type 0
 IsBreak wire (Unkept octets) = IsListening wire × (length octets ≤ most_read)
 IsBreak wire (Unanswered octets) = IsListening wire × (length octets ≤ most_read)
 IsBreak wire Unpulled = IsListening wire
-IsBreak wire (Unended came) = IsListening wire × IsEnd came
+IsBreak wire (Unended came) = IsListening wire × TellsEnd came
 IsBreak wire Unbroken = IsSending wire × (wire.closed ≡ false)
 
 -- its only call
-abbrev pub break_calls : Held → Break → List Call
+abbrev pub break_calls : HeldWire → Break → List Call
 break_calls wire (Unkept octets) = Read wire.place most_read (came.Octets octets) ∷ []
 break_calls wire (Unanswered octets) = Read wire.place most_read (came.Octets octets) ∷ []
 break_calls wire Unpulled = Read wire.place most_read came.Nothing ∷ []
 break_calls wire (Unended came) = Read wire.place most_read came ∷ []
-break_calls wire Unbroken = Write wire.place wire.unsent failed ∷ []
+break_calls wire Unbroken = Write wire.place wire.unsent write_failure ∷ []
 
 -- the event at which the server failed, if it did
-abbrev pub break_event : Held → Break → Option Event
+abbrev pub break_event : HeldWire → Break → Option Event
 break_event wire (Unkept octets) = None
 break_event wire (Unanswered octets) = Some (Piece wire.number octets)
 break_event wire Unpulled = Some (Pull wire.number)

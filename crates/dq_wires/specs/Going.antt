@@ -8,14 +8,14 @@ use Rattle.dq_wires.specs.declared.calls.Call.{Call}
 use Rattle.dq_wires.specs.declared.calls.Call.TheVariants.{Shut}
 use Rattle.dq_wires.specs.declared.fault.TurnFault.{TurnFault}
 use Rattle.dq_wires.specs.Logs.{Logs, LogsAll}
-use Rattle.dq_wires.specs.Held.{Held, with_heard, answered}
-use Rattle.dq_wires.specs.Steps.{Step, Runs, Stops}
+use Rattle.dq_wires.specs.Held.{HeldWire, with_heard, with_reply}
+use Rattle.dq_wires.specs.Steps.{Step, Runs, StopsBy}
 use Rattle.dq_wires.specs.Steps.Step.{Answered, Asked}
 use Rattle.dq_wires.specs.Deeds.{Shutting, Deed, IsDue, deed_calls, deed_steps, deed_after, Break, IsBreak, break_calls, break_event}
 
 -- The end of a connection was stepped, and it was shut.
 pub record Ends {State : Type 0} (Goes : State → State → Step → Type 0)
-    (before after : Option (List Call)) (old new : State) (wire : Held) : Type 0 where
+    (before after : Option (List Call)) (old new : State) (wire : HeldWire) : Type 0 where
   pub reply : Reply
   pub answer : Shutting
   pub goes : Goes old new (Answered (End wire.number) reply)
@@ -23,35 +23,35 @@ pub record Ends {State : Type 0} (Goes : State → State → Step → Type 0)
 
 -- Octets were stepped, and the connection keeps the answer.
 pub record Hears {State : Type 0} (Goes : State → State → Step → Type 0)
-    (old new : State) (wire next : Held) (octets : List ℕ) : Type 0 where
+    (old new : State) (wire next : HeldWire) (octets : List ℕ) : Type 0 where
   pub reply : Reply
   pub goes : Goes old new (Answered (Piece wire.number octets) reply)
-  pub kept : next ≡ answered (with_heard wire octets) reply
+  pub kept : next ≡ with_reply (with_heard wire octets) reply
 
 -- A C-FIND is open, and was pulled; the connection keeps the answer.
 pub record Pulls {State : Type 0} (Goes : State → State → Step → Type 0)
-    (old new : State) (wire next : Held) : Type 0 where
+    (old new : State) (wire next : HeldWire) : Type 0 where
   pub mid : State
   pub reply : Reply
   pub is_open : Goes old mid (Asked wire.number true)
   pub goes : Goes mid new (Answered (Pull wire.number) reply)
-  pub kept : next ≡ answered wire reply
+  pub kept : next ≡ with_reply wire reply
 
 -- No C-FIND is open, or it was pulled.
-abbrev pub Waits : {State : Type 0} → (State → State → Step → Type 0) → State → State → Held
-    → Held → Type 0
+abbrev pub Waits : {State : Type 0} → (State → State → Step → Type 0) → State → State → HeldWire
+    → HeldWire → Type 0
 Waits Goes old new wire next = (Goes old new (Asked wire.number false) × (next ≡ wire))
     ⊎ (Pulls Goes old new wire next)
 
 -- There was no memory for the octets, or the server failed at them.
 abbrev pub FailsToHear : {State : Type 0} → (State → State → Event → Fault → Type 0)
-    → State → State → Held → List ℕ → TurnFault → Type 0
-FailsToHear Fails old new wire octets fault = (Stops Fails old new None fault)
-    ⊎ (Stops Fails old new (Some (Piece wire.number octets)) fault)
+    → State → State → HeldWire → List ℕ → TurnFault → Type 0
+FailsToHear Fails old new wire octets fault = (StopsBy Fails old new None fault)
+    ⊎ (StopsBy Fails old new (Some (Piece wire.number octets)) fault)
 
 -- A deed was done, and the connection is still held or not.
 pub record Went {State : Type 0} (Goes : State → State → Step → Type 0)
-    (before after : Option (List Call)) (old new : State) (wire next : Held)
+    (before after : Option (List Call)) (old new : State) (wire next : HeldWire)
     (held : Bool) : Type 0 where
   pub deed : Deed
   pub due : IsDue wire deed
@@ -61,9 +61,9 @@ pub record Went {State : Type 0} (Goes : State → State → Step → Type 0)
 
 -- It was cut off by a fault.
 pub record WentOff {State : Type 0} (Fails : State → State → Event → Fault → Type 0)
-    (before after : Option (List Call)) (old new : State) (wire : Held)
+    (before after : Option (List Call)) (old new : State) (wire : HeldWire)
     (fault : TurnFault) : Type 0 where
   pub at : Break
   pub fits : IsBreak wire at
   pub calls : LogsAll before after (break_calls wire at)
-  pub stops : Stops Fails old new (break_event wire at) fault
+  pub stops : StopsBy Fails old new (break_event wire at) fault

@@ -5,7 +5,7 @@ use Rattle.dq_core.specs.declared.event.Reply.TheVariants as reply
 
 -- A connection that is held: its place among the wires, its number, how many octets were heard on
 -- it, the octets that were answered and are not yet written, and whether a reply closed it.
-pub record Held : Type 0 where
+pub record HeldWire : Type 0 where
   pub place : ℕ
   pub number : ℕ
   pub heard : ℕ
@@ -13,24 +13,24 @@ pub record Held : Type 0 where
   pub closed : Bool
 
 -- as it comes
-abbrev pub new_held : ℕ → ℕ → Held
+abbrev pub new_held : ℕ → ℕ → HeldWire
 new_held place number =
     record { place = place; number = number; heard = 0; unsent = []; closed = false }
 
 -- the connection of a number, if it is held
-unfoldable pub wire_with : ℕ → List Held → Option Held
-wire_with number held = find (λ (wire : Held). wire.number == number) held
+unfoldable pub wire_with : ℕ → List HeldWire → Option HeldWire
+wire_with number held = find (λ (wire : HeldWire). wire.number == number) held
 
 -- the connection, once more octets were heard on it
-abbrev pub with_heard : Held → List ℕ → Held
+abbrev pub with_heard : HeldWire → List ℕ → HeldWire
 with_heard wire octets = record wire { heard = wire.heard + length octets }
 
 -- the octets of a reply
-abbrev pub octets_in : Reply → List ℕ
-octets_in (reply.Octets conn octets close) = octets
-octets_in reply.Done = []
-octets_in (reply.Refused number) = []
-octets_in reply.Ignored = []
+abbrev pub reply_octets : Reply → List ℕ
+reply_octets (reply.Octets conn octets close) = octets
+reply_octets reply.Done = []
+reply_octets (reply.Refused number) = []
+reply_octets reply.Ignored = []
 
 -- whether a reply closes its connection
 abbrev pub closes : Reply → Bool
@@ -40,5 +40,5 @@ closes (reply.Refused number) = false
 closes reply.Ignored = false
 
 -- the connection with its answer
-abbrev pub answered : Held → Reply → Held
-answered wire reply = record wire { unsent = octets_in reply; closed = closes reply }
+abbrev pub with_reply : HeldWire → Reply → HeldWire
+with_reply wire reply = record wire { unsent = reply_octets reply; closed = closes reply }

@@ -21,18 +21,18 @@ has_line Ended = false
 has_line (Served service status answers sought) = is_search service
 
 -- It ends an association, if one is open.
-abbrev pub ends : Noted → Bool
-ends (Accepted institution titles contexts) = false
-ends (Rejected titles result source reason has_room) = false
-ends (Aborted party source reason) = true
-ends Released = true
-ends Ended = true
-ends (Served service status answers sought) = false
+abbrev pub ends_association : Noted → Bool
+ends_association (Accepted institution titles contexts) = false
+ends_association (Rejected titles result source reason has_room) = false
+ends_association (Aborted party source reason) = true
+ends_association Released = true
+ends_association Ended = true
+ends_association (Served service status answers sought) = false
 
 -- the association whose end is told
 abbrev pub ended_by : Noted → Option Opened → Option Opened
-ended_by noted opened = if ends noted then opened else None
+ended_by noted opened = if ends_association noted then opened else None
 
 -- the association that is open after the note
-abbrev pub left_by : Noted → Option Opened → Option Opened
-left_by noted opened = if ends noted then None else opened
+abbrev pub open_after : Noted → Option Opened → Option Opened
+open_after noted opened = if ends_association noted then None else opened

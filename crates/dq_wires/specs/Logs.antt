@@ -3,8 +3,8 @@ use Rattle.std.specs.Prelude.{◌≡◌, ℕ, List, [], ◌∷◌, ◌++◌, tak
 use Rattle.dq_wires.specs.declared.calls.WireFault.{WireFault}
 use Rattle.dq_wires.specs.declared.calls.ReadTurn.{ReadTurn}
 use Rattle.dq_wires.specs.declared.calls.ReadTurn.TheVariants as turn
-use Rattle.dq_wires.specs.declared.calls.Came.{Came}
-use Rattle.dq_wires.specs.declared.calls.Came.TheVariants as came
+use Rattle.dq_wires.specs.declared.calls.ReadOutcome.{ReadOutcome}
+use Rattle.dq_wires.specs.declared.calls.ReadOutcome.TheVariants as came
 use Rattle.dq_wires.specs.declared.calls.Call.{Call}
 
 -- A log that is still told has grown by exactly these calls. One that is not told stays so.
@@ -18,7 +18,7 @@ abbrev pub Logs : Option (List Call) → Option (List Call) → Call → Type 0
 Logs before after call = LogsAll before after (call ∷ [])
 
 -- what a read into a buffer brought
-abbrev pub what_came : Result ReadTurn WireFault → List ℕ → Came
+abbrev pub what_came : Result ReadTurn WireFault → List ℕ → ReadOutcome
 what_came (Ok (turn.Got count)) buffer = came.Octets (take count buffer)
 what_came (Ok turn.Nothing) buffer = came.Nothing
 what_came (Ok turn.Ended) buffer = came.Ended

@@ -11,7 +11,7 @@ use Rattle.dq_wires.specs.declared.looping.Sent.{Sent}
 use Rattle.dq_wires.specs.declared.looping.Wanted.{Wanted}
 use Rattle.dq_wires.specs.declared.looping.Wanted.TheVariants as wanted
 use Rattle.dq_wires.specs.Logs.{LogsAll}
-use Rattle.dq_wires.specs.Held.{Held, wire_with}
+use Rattle.dq_wires.specs.Held.{HeldWire, wire_with}
 use Rattle.dq_wires.specs.Steps.{Runs}
 use Rattle.dq_wires.specs.Stepping.{Moves}
 use Rattle.dq_wires.specs.Turns.{Hold}
@@ -36,10 +36,10 @@ ordered_in (Turned t ∷ acts) = ordered_in acts
 ordered_in (Ordered event reply ∷ acts) = event ∷ ordered_in acts
 
 -- the number of a connection in the capture
-abbrev pub line_number : {Client : Type 0} → Line Client → ℕ
+abbrev pub line_number : Line → ℕ
 line_number line = line.number
 
-abbrev pub has_number : {Client : Type 0} → ℕ → Line Client → Bool
+abbrev pub has_number : ℕ → Line → Bool
 has_number number line = line.number == number
 
 abbrev pub sent_number : Sent → ℕ
@@ -52,7 +52,7 @@ given_to number opened = option_map (λ at. at + 1) (position (λ other. other =
 
 -- A piece reached the server: so many more octets were heard on its connection, or a reply has
 -- closed it. One that the server had let go of before hears nothing.
-abbrev pub IsHeard : List ℕ → Option Held → Option Held → Type 0
+abbrev pub IsHeard : List ℕ → Option HeldWire → Option HeldWire → Type 0
 IsHeard octets None after = Unit {0}
 IsHeard octets (Some before) None = ⊥
 IsHeard octets (Some before) (Some after) =
@@ -82,7 +82,7 @@ ArePlayed earlier before (event ∷ events) acts = (own : List Act) × (later : 
     × ArePlayed (earlier ++ event ∷ []) (after_acts before own) events later
 
 -- What is waited for on a connection has come to be.
-abbrev pub IsCome : Wanted → Option Held → Type 0
+abbrev pub IsCome : Wanted → Option HeldWire → Type 0
 IsCome goal None = Unit {0}
 IsCome (wanted.Heard count) (Some wire) = (wire.heard ≡ count) ⊎ (wire.closed ≡ true)
 IsCome wanted.Gone (Some wire) = ⊥

@@ -5,37 +5,42 @@ use Rattle.dq_core.specs.declared.event.Event.{Event}
 use Rattle.dq_core.specs.declared.fault.Fault.{Fault}
 use Rattle.dq_wires.specs.declared.calls.Call.{Call}
 use Rattle.dq_wires.specs.declared.fault.TurnFault.{TurnFault}
+use Rattle.dq_wires.specs.declared.rounds.Holding.{Holding}
 use Rattle.dq_wires.specs.Logs.{LogsAll}
-use Rattle.dq_wires.specs.Held.{Held}
-use Rattle.dq_wires.specs.Steps.{Step, Runs, Stops}
+use Rattle.dq_wires.specs.Held.{HeldWire}
+use Rattle.dq_wires.specs.Steps.{Step, Runs, StopsBy}
 use Rattle.dq_wires.specs.Deeds.{Break, IsBreak, break_calls, break_event}
-use Rattle.dq_wires.specs.Turns.{Done, wire_of, calls_of, steps_of, kept_of, AreDue, Hold, Taking, IsTaking, taking_calls, taking_steps, with_taken, Turn, IsTurn, turn_calls, turn_steps, after_turn, Cut, IsCut, cut_calls, cut_steps, CutStops}
+use Rattle.dq_wires.specs.Turns.{Done, wire_of, calls_of, done_steps, wires_kept, AreDue, Hold, Taking, IsTaking, taking_calls, taking_steps, with_taken, Turn, IsTurn, turn_calls, turn_steps, after_turn, Cut, IsCut, cut_calls, cut_steps, CutStops}
+
+-- what contracts see of the connections that are held
+abbrev pub hold_in : Holding → Hold
+hold_in holding = record { held = holding.held.items; newest = holding.newest }
 
 -- each of these connections had its turn
 pub record RoundWent {State : Type 0} (Goes : State → State → Step → Type 0)
-    (before after : Option (List Call)) (old new : State) (from to : List Held) : Type 0 where
+    (before after : Option (List Call)) (old new : State) (from to : List HeldWire) : Type 0 where
   pub done : List Done
   pub each : map wire_of done ≡ from
   pub due : AreDue done
   pub calls : LogsAll before after (flat_map calls_of done)
-  pub steps : Runs Goes old new (flat_map steps_of done)
-  pub kept : to ≡ flat_map kept_of done
+  pub steps : Runs Goes old new (flat_map done_steps done)
+  pub kept : to ≡ flat_map wires_kept done
 
 -- the first had their turns, and that of the next was cut off by a fault
 pub record RoundCut {State : Type 0} (Goes : State → State → Step → Type 0)
     (Fails : State → State → Event → Fault → Type 0) (before after : Option (List Call))
-    (old new : State) (from : List Held) (fault : TurnFault) : Type 0 where
+    (old new : State) (from : List HeldWire) (fault : TurnFault) : Type 0 where
   pub done : List Done
-  pub wire : Held
-  pub others : List Held
+  pub wire : HeldWire
+  pub others : List HeldWire
   pub each : map wire_of done ++ wire ∷ others ≡ from
   pub due : AreDue done
   pub at : Break
   pub breaks : IsBreak wire at
   pub calls : LogsAll before after (flat_map calls_of done ++ break_calls wire at)
   pub mid : State
-  pub steps : Runs Goes old mid (flat_map steps_of done)
-  pub stops : Stops Fails mid new (break_event wire at) fault
+  pub steps : Runs Goes old mid (flat_map done_steps done)
+  pub stops : StopsBy Fails mid new (break_event wire at) fault
 
 -- a turn began
 pub record TakingWent {State : Type 0} (Goes : State → State → Step → Type 0)

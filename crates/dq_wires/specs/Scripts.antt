@@ -4,5 +4,5 @@ use Rattle.dq_wires.specs.declared.calls.Call.{Call}
 use Rattle.dq_wires.specs.declared.memory.MemoryWires.{MemoryWires}
 
 -- the calls so far
-abbrev pub told : MemoryWires → Option (List Call)
-told wires = option_map (λ calls. calls.items) wires.calls
+abbrev pub calls_so_far : MemoryWires → Option (List Call)
+calls_so_far wires = option_map (λ calls. calls.items) wires.calls

@@ -10,10 +10,10 @@ use Rattle.dq_core.specs.Standing.{Standing, StandsFor}
 use Rattle.dq_core.specs.Looking.{Looked}
 use Rattle.dq_wires.specs.declared.calls.Call.{Call}
 use Rattle.dq_wires.specs.Logs.{LogsAll}
-use Rattle.dq_wires.specs.Held.{octets_in}
+use Rattle.dq_wires.specs.Held.{reply_octets}
 use Rattle.dq_wires.specs.Steps.{Step, Runs, events_of, replies_of}
 use Rattle.dq_wires.specs.Stepping.{Moves}
-use Rattle.dq_wires.specs.Deeds.{stepped}
+use Rattle.dq_wires.specs.Deeds.{event_steps}
 use Rattle.dq_wires.specs.Turns.{Done, Hold, Turn, IsTurn, turn_calls, turn_steps, after_turn, Cut, IsCut, cut_steps}
 use Rattle.dq_wires.specs.Turns.Cut.{NoRoom, Unaccepted, Unopened, Midway}
 use Rattle.dq_wires.specs.Turners.{IsOrder}
@@ -30,7 +30,7 @@ act_calls (Ordered event reply) = []
 
 abbrev pub act_steps : Act → List Step
 act_steps (Turned t) = turn_steps t
-act_steps (Ordered event reply) = stepped event reply
+act_steps (Ordered event reply) = event_steps event reply
 
 abbrev pub act_done : Act → List Done
 act_done (Turned t) = t.done
@@ -108,7 +108,7 @@ written_on number acts cut = done_on number written_in (served_done acts cut)
 abbrev pub answered_on : ℕ → List Act → Cut → List ℕ
 answered_on number acts cut =
     let steps = served_steps acts cut in
-    flat_map octets_in (replies_at (is_on_connection number) (events_of steps) (replies_of steps))
+    flat_map reply_octets (replies_at (is_on_connection number) (events_of steps) (replies_of steps))
 
 -- the first of the others
 abbrev pub IsFrontOf : List ℕ → List ℕ → Type 0

@@ -9,7 +9,7 @@ use Rattle.dq_core.specs.declared.fault.Fault.TheVariants.{Store, Stopped}
 use Rattle.dq_core.specs.Connections.{is_pending}
 use Rattle.dq_core.specs.Shared.{turn, world_after}
 use Rattle.dq_core.specs.Histories.{newest_after}
-use Rattle.dq_core.specs.Stepping.{TakesNoMemory, Goes, MayLeave, IsPartOf}
+use Rattle.dq_core.specs.Stepping.{TakesNoMemory, Goes, MayLeaveAfter, IsPartOf}
 use Rattle.dq_core.specs.Standing.{Standing, IsWorking, StandsFor}
 use Rattle.dq_core.specs.Looking.{Looked}
 use Rattle.dq_wires.specs.Steps.{Step}
@@ -54,7 +54,7 @@ pub record Fails {Tables : Type 0} (state : Tables → State) (old new : Standin
       → IsPartOf
       (turn old.institutions (world_after old.institutions rows events) event).operations
       (world_after old.institutions rows events).rows (state new.tables).rows
-      (MayLeave (state old.tables) (state new.tables))
+      (MayLeaveAfter (state old.tables) (state new.tables))
   pub never : (rows : List Row) (events : List Event) → StandsFor state rows old events
       → TakesNoMemory (world_after old.institutions rows events).connections event → ⊥
   pub institutions : new.institutions ≡ old.institutions

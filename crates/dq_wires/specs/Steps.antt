@@ -31,8 +31,8 @@ Runs {State} Goes old new (s ∷ steps) =
     (mid : State) × Goes old mid s × Runs Goes mid new steps
 
 -- A fault: of an event, as `Fails` says of one, or want of memory before any event.
-abbrev pub Stops : {State : Type 0} → (State → State → Event → Fault → Type 0)
+abbrev pub StopsBy : {State : Type 0} → (State → State → Event → Fault → Type 0)
     → State → State → Option Event → TurnFault → Type 0
-Stops Fails old new None fault = (new ≡ old) × (fault ≡ NoMemory)
-Stops Fails old new (Some event) fault =
+StopsBy Fails old new None fault = (new ≡ old) × (fault ≡ NoMemory)
+StopsBy Fails old new (Some event) fault =
     (why : Fault) × (fault ≡ Server why) × Fails old new event why

@@ -7,7 +7,7 @@ use Rattle.dq_core.specs.Standing.{Standing}
 use Rattle.dq_wires.specs.declared.calls.Call.{Call}
 use Rattle.dq_wires.specs.declared.calls.Call.TheVariants.{Accept}
 use Rattle.dq_wires.specs.declared.fault.TurnFault.{TurnFault}
-use Rattle.dq_wires.specs.Turns.{Hold, refused}
+use Rattle.dq_wires.specs.Turns.{Hold, accept_failure}
 
 -- Its server, the connections that are held, and the fault that stopped it.
 pub record Turning (Tables : Type 0) : Type 0 where
@@ -36,4 +36,4 @@ first_fault (Some earlier) fault = earlier
 -- The last call that is told is an accept that failed.
 abbrev pub EndsUnaccepted : Option (List Call) → Type 0
 EndsUnaccepted log = IfSome log (λ calls.
-    (earlier : List Call) × (calls ≡ earlier ++ Accept refused ∷ []))
+    (earlier : List Call) × (calls ≡ earlier ++ Accept accept_failure ∷ []))

@@ -3,7 +3,7 @@ ghost use Rattle.std.specs.Prelude.{◌≡◌};
 ghost use Rattle.dq_wires.specs.Lines.{has_line};
 
 use crate::given_up::GivenUp;
-use crate::log_line::{LogLine, Told};
+use crate::log_line::{LineContent, LogLine};
 use crate::watched::Watched;
 use dq_assoc::Service;
 use dq_core::{Note, Noted, Notes};
@@ -84,7 +84,7 @@ impl<L: Write + Drop> AssociationLog<L> {
 
     /// A connection was closed as it came.
     pub(crate) fn turn_away(&mut self, given_up: GivenUp) {
-        self.put(None, Told::GivenUp(given_up));
+        self.put(None, LineContent::GivenUp(given_up));
     }
 
     /// A connection is gone, and was given up if that is said.
@@ -97,7 +97,7 @@ impl<L: Write + Drop> AssociationLog<L> {
             }
         }
         if let (Some(_), Some(given_up)) = (number, given_up) {
-            self.put(number, Told::GivenUp(given_up));
+            self.put(number, LineContent::GivenUp(given_up));
         }
     }
 
@@ -129,7 +129,7 @@ impl<L: Write + Drop> AssociationLog<L> {
         if is_told(noted) {
             self.put(
                 Some(*number),
-                Told::Noted {
+                LineContent::Noted {
                     noted,
                     peer,
                     milliseconds,
@@ -139,7 +139,7 @@ impl<L: Write + Drop> AssociationLog<L> {
         if let Some(opened) = ended {
             self.put(
                 Some(*number),
-                Told::Ended {
+                LineContent::Ended {
                     noted,
                     tally: opened.tally,
                     milliseconds: milliseconds_between(opened.since, time),
@@ -151,19 +151,19 @@ impl<L: Write + Drop> AssociationLog<L> {
     /// Tells notes of the console, a line each.
     pub fn note(&mut self, notes: &str) {
         for note in notes.lines() {
-            self.put(None, Told::Console(note));
+            self.put(None, LineContent::Console(note));
         }
     }
 
     /// Tells that the server stops: by a fault of a number, or for want of connections.
     pub fn stop(&mut self, fault: Option<u8>) {
-        self.put(None, Told::Stopped(fault));
+        self.put(None, LineContent::Stopped(fault));
     }
 
     // Writes a line, after one that says how many before it were lost.
-    fn put(&mut self, number: Option<u64>, told: Told) {
+    fn put(&mut self, number: Option<u64>, told: LineContent) {
         if self.lost > 0 {
-            if !self.is_put(None, Told::Lost(self.lost)) {
+            if !self.is_put(None, LineContent::Lost(self.lost)) {
                 return self.lose(1);
             }
             self.lost = 0;
@@ -174,7 +174,7 @@ impl<L: Write + Drop> AssociationLog<L> {
     }
 
     // Writes a line, and answers whether all of it was taken.
-    fn is_put(&mut self, number: Option<u64>, told: Told) -> bool {
+    fn is_put(&mut self, number: Option<u64>, told: LineContent) -> bool {
         let line = LogLine {
             time: self.time,
             number,

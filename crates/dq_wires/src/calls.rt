@@ -20,7 +20,7 @@ pub enum ReadTurn {
 
 /// What came at a read.
 #[derive(Drop)]
-pub enum Came {
+pub enum ReadOutcome {
     Octets(Listed<u8>),
     Nothing,
     /// The peer sends no more.
@@ -38,7 +38,7 @@ pub enum Call {
     Read {
         place: usize,
         room: usize,
-        came: Came,
+        came: ReadOutcome,
     },
     /// Octets were offered: how many of them were taken, from the first on.
     Write {

@@ -8,33 +8,17 @@ use mio::net::TcpStream;
 use std::io::{self, ErrorKind, Read, Write};
 use std::net::{Net, Shutdown, SocketAddr};
 
-/// The client's end of a connection. No call waits.
-pub trait Client {
-    /// Sends the first of these octets, and answers how many: 0 is not now.
-    fn send(&mut self, octets: &[u8]) -> Result<usize, WireFault>
-        ensures { IfOk result (λ count. count ≤ length octets.now) };
+/// Wires that clients in the same process can call, over the network of a machine.
+pub trait Called<M>: Wires {
+    /// A client that connects to where they listen.
+    fn connect(&self, machine: &M) -> Result<SocketClient, WireFault>;
 
-    /// The octets that came, as many as the buffer has room for.
-    fn receive(&mut self, buffer: &mut [u8]) -> Result<ReadTurn, WireFault>
-        ensures { IfGot result (λ count. count ≤ length buffer.old) };
-
-    /// Sends no more.
-    fn end(&mut self) -> Result<(), WireFault>;
+    /// Looks what there is to be done. It is no call.
+    fn look(&mut self, machine: &M) -> Result<(), WireFault>
+        ensures { Self.log self.new ≡ Self.log self.old };
 }
 
-/// Where clients come from that connect to wires.
-pub trait Clients<W: Wires> {
-    type Client: Client + Drop;
-
-    /// A client that connects to where the wires listen.
-    fn connect(&self, wires: &W) -> Result<Self::Client, WireFault>;
-
-    /// Has the wires look what there is to be done. It is no call of theirs.
-    fn look(&self, wires: &mut W) -> Result<(), WireFault>
-        ensures { W.log wires.new ≡ W.log wires.old };
-}
-
-/// The client's end of a connection over a socket.
+/// The client's end of a connection over a socket. No call waits.
 #[derive(Drop)]
 pub struct SocketClient {
     stream: TcpStream,
@@ -48,10 +32,11 @@ impl SocketClient {
         stream.set_nodelay(true)?;
         Ok(SocketClient { stream })
     }
-}
 
-impl Client for SocketClient {
-    fn send(&mut self, octets: &[u8]) -> Result<usize, WireFault> {
+    /// Sends the first of these octets, and answers how many: 0 is not now.
+    pub(crate) fn send(&mut self, octets: &[u8]) -> Result<usize, WireFault>
+        ensures { IfOk result (λ count. count ≤ length octets.now) }
+    {
         match self.stream.write(octets) {
             Ok(count) => Ok(count),
             Err(error) => match error.kind() {
@@ -61,7 +46,10 @@ impl Client for SocketClient {
         }
     }
 
-    fn receive(&mut self, buffer: &mut [u8]) -> Result<ReadTurn, WireFault> {
+    /// The octets that came, as many as the buffer has room for.
+    pub(crate) fn receive(&mut self, buffer: &mut [u8]) -> Result<ReadTurn, WireFault>
+        ensures { IfGot result (λ count. count ≤ length buffer.old) }
+    {
         match self.stream.read(buffer) {
             Ok(0) => Ok(ReadTurn::Ended),
             Ok(count) => Ok(ReadTurn::Got(count)),
@@ -72,7 +60,8 @@ impl Client for SocketClient {
         }
     }
 
-    fn end(&mut self) -> Result<(), WireFault> {
+    /// Sends no more.
+    pub(crate) fn end(&mut self) -> Result<(), WireFault> {
         self.stream.shutdown(Shutdown::Write).or(Err(WireFault))
     }
 }

@@ -22,12 +22,12 @@ pub enum TurnFault {
 }
 
 impl TurnFault {
-    ghost use Rattle.dq_wires.specs.Faults.{number_of};
+    ghost use Rattle.dq_wires.specs.Faults.{turn_fault_number};
 
     /// 1 to 3, in the order in which the faults are declared. That of the server has a number of its
     /// own.
     pub fn number(self) -> u8
-        ensures { result ≡ number_of self }
+        ensures { result ≡ turn_fault_number self }
     {
         match self {
             TurnFault::NoMemory => 1,

@@ -5,7 +5,7 @@ ghost use Rattle.dq_config.specs.declared.config.Institution.{Institution};
 ghost use Rattle.dq_tables.specs.declared.row.Row.{Row};
 ghost use Rattle.dq_core.specs.declared.event.Event.{Event};
 ghost use Rattle.dq_core.specs.declared.event.Reply.{Reply};
-ghost use Rattle.dq_core.specs.Histories.{is_well_formed};
+ghost use Rattle.dq_core.specs.Histories.{is_well_formed_history};
 ghost use Rattle.dq_core.specs.Shared.{replies, world_after};
 ghost use Rattle.dq_core.specs.Own.{owns};
 ghost use Rattle.dq_core.specs.Isolation.{Begins};
@@ -14,12 +14,12 @@ ghost use Rattle.dq_core.specs.Looking.{Looked};
 ghost use Rattle.dq_wires.specs.declared.calls.Call.{Call};
 ghost use Rattle.dq_wires.specs.declared.fault.TurnFault.{TurnFault};
 ghost use Rattle.dq_wires.specs.Limits.{most_wires};
-ghost use Rattle.dq_wires.specs.Held.{Held};
+ghost use Rattle.dq_wires.specs.Held.{HeldWire};
 ghost use Rattle.dq_wires.specs.Steps.{Step, Runs, replies_of};
 ghost use Rattle.dq_wires.specs.Deeds.{Deed, IsDue};
 ghost use Rattle.dq_wires.specs.Stepping.{Stepped, Moves, Fails};
 ghost use Rattle.dq_wires.specs.Serving.{Serves};
-ghost use Rattle.dq_wires.specs.Turns.{Done, kept_of, Hold, Turn, IsTurn, AreTurns, after_turn, after_turns, Cut, TurnsWent, TurnsCut};
+ghost use Rattle.dq_wires.specs.Turns.{Done, wires_kept, Hold, Turn, IsTurn, AreTurns, after_turn, after_turns, Cut, TurnsWent, TurnsCut};
 ghost use Rattle.dq_wires.specs.Turns.Cut.{NoRoom};
 ghost use Rattle.dq_wires.specs.Turners.{IsOrder};
 ghost use Rattle.dq_wires.specs.Octets.{answered_in, written_in, lost_in, unsent_of, held_on, done_on, turns_done, IsNumbered};
@@ -29,7 +29,7 @@ ghost use Rattle.dq_wires.specs.Cuts.{AgreeOnWires};
 
 use dq_assoc::laws::a_longer_stream_adds_inputs;
 use dq_core::laws::{
-    institutions_are_isolated, pieces_join, replies_do_not_depend_on_numbers, runs_are_isolated,
+    institutions_are_answered_by_records, pieces_join, replies_do_not_depend_on_numbers,
     verdict_is_of_the_request,
 };
 use dq_tables::Tables;
@@ -46,10 +46,10 @@ pub fn steps_are_a_history<T: Tables>()
 /// answered, is what is written, what is lost with a connection that is given up, and what is then
 /// unsent; and so over whole turns, under the number of each connection.
 pub fn octets_are_conserved()
-    ensures turn { (wire : Held) (deed : Deed) → IsDue wire deed →
+    ensures turn { (wire : HeldWire) (deed : Deed) → IsDue wire deed →
         let d : Done = record { wire = wire; deed = deed } in
         wire.unsent ++ answered_in d
-        ≡ written_in d ++ (lost_in d ++ flat_map unsent_of (kept_of d)) }
+        ≡ written_in d ++ (lost_in d ++ flat_map unsent_of (wires_kept d)) }
     ensures turns { (number : ℕ) (h : Hold) (turns : List Turn) →
         IsNumbered h → AreTurns h turns →
         let done = turns_done turns in
@@ -115,7 +115,7 @@ pub fn calls_are_a_serving<T: Tables>()
 pub fn servings_are_answered<T: Tables>()
     ensures well_formed { (rows : List Row) (first last : Standing T) (acts : List Act)
         (cut : Cut) → Served T.state rows first last acts cut →
-        IsTrue (is_well_formed (served_events acts cut)) }
+        IsTrue (is_well_formed_history (served_events acts cut)) }
     ensures replies { (rows : List Row) (first last : Standing T) (acts : List Act) (cut : Cut) →
         Served T.state rows first last acts cut → (T.state last.tables).honest →
         replies_of (served_steps acts cut)
@@ -153,8 +153,7 @@ pub fn institutions_are_isolated_on_wires<T: Tables, O: Tables>()
         IsTrue (owns other_first.institutions j.name other_events other) →
         OneBegins (written_on number acts cut) (written_on other other_acts other_cut) }
 {
-    institutions_are_isolated();
-    runs_are_isolated();
+    institutions_are_answered_by_records();
     replies_do_not_depend_on_numbers();
     pieces_join();
     verdict_is_of_the_request();

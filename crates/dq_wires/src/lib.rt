@@ -27,8 +27,8 @@ mod wire;
 mod wires;
 
 pub use association_log::AssociationLog;
-pub use calls::{Call, Came, ReadTurn, WireFault};
-pub use clients::{Client, Clients, SocketClient};
+pub use calls::{Call, ReadOutcome, ReadTurn, WireFault};
+pub use clients::{Called, SocketClient};
 pub use fault::TurnFault;
 pub use given_up::{GivenUp, GivesUp, Limits, Reason};
 pub use limits::{MOST_TURNS, MOST_WIRES, READ_MOST};

@@ -12,7 +12,7 @@ use std::net::SocketAddr;
 
 /// What a line tells.
 #[derive(Clone, Copy)]
-pub(crate) enum Told<'a> {
+pub(crate) enum LineContent<'a> {
     /// What was noted, with the peer's address, and how many milliseconds its turn took.
     Noted {
         noted: &'a Noted,
@@ -40,7 +40,7 @@ pub(crate) enum Told<'a> {
 pub(crate) struct LogLine<'a> {
     pub time: Timestamp,
     pub number: Option<u64>,
-    pub told: Told<'a>,
+    pub told: LineContent<'a>,
 }
 
 /// Octets as one word: `-` where there are none, and `?` for each that is no graphic character of
@@ -59,16 +59,6 @@ struct Pair(Titles);
 /// Tags as eight hexadecimal digits each, or `-` where there are none.
 #[derive(Clone, Copy)]
 struct Keys<'a>(&'a [Tag]);
-
-/// A rejection: its three numbers, and in words what this server means by them. One pair of them
-/// stands for titles that are nobody's, and for a maximum length without room for data.
-#[derive(Clone, Copy)]
-struct Rejection {
-    result: u8,
-    source: u8,
-    reason: u8,
-    has_room: bool,
-}
 
 impl fmt::Display for Word<'_> {
     fn fmt<W: fmt::Write>(&self, f: &mut fmt::Formatter<W>) -> fmt::Result {
@@ -118,23 +108,16 @@ impl fmt::Display for Keys<'_> {
     }
 }
 
-impl fmt::Display for Rejection {
-    fn fmt<W: fmt::Write>(&self, f: &mut fmt::Formatter<W>) -> fmt::Result {
-        let Rejection {
-            result,
-            source,
-            reason,
-            has_room,
-        } = *self;
-        let words = match (source, reason) {
-            (1, 1) if !has_room => "a maximum length below 8",
-            (1, 1) => "no institution has these titles",
-            (1, 2) => "another application context than DICOM's",
-            (2, 2) => "another protocol version",
-            (3, 2) => "the institution has as many associations as it may",
-            _ => "-",
-        };
-        write!(f, "{result} {source} {reason} {words}")
+/// What this server means by the source and the reason of a rejection. One pair of them stands for
+/// titles that are nobody's, and for a maximum length without room for data.
+fn rejection_words(source: u8, reason: u8, has_room: bool) -> &'static str {
+    match (source, reason) {
+        (1, 1) if !has_room => "a maximum length below 8",
+        (1, 1) => "no institution has these titles",
+        (1, 2) => "another application context than DICOM's",
+        (2, 2) => "another protocol version",
+        (3, 2) => "the institution has as many associations as it may",
+        _ => "-",
     }
 }
 
@@ -182,6 +165,36 @@ fn write_sought<W: fmt::Write>(f: &mut fmt::Formatter<W>, sought: Option<&Sought
     )
 }
 
+/// Writes why an association is rejected or aborted.
+fn write_refusal<W: fmt::Write>(
+    f: &mut fmt::Formatter<W>,
+    noted: &Noted,
+    peer: Address,
+) -> fmt::Result {
+    match noted {
+        Noted::Rejected {
+            titles,
+            result,
+            source,
+            reason,
+            has_room,
+        } => {
+            let pair = Pair(*titles);
+            let words = rejection_words(*source, *reason, *has_room);
+            write!(
+                f,
+                "rejected {pair} {peer} {result} {source} {reason} {words}"
+            )
+        }
+        Noted::Aborted {
+            party,
+            source,
+            reason,
+        } => write!(f, "aborted by the {} {source} {reason}", name_of(*party)),
+        _ => Ok(()),
+    }
+}
+
 /// Writes what was noted. The end of an association has a line of its own.
 fn write_noted<W: fmt::Write>(
     f: &mut fmt::Formatter<W>,
@@ -196,37 +209,14 @@ fn write_noted<W: fmt::Write>(
             contexts,
         } => {
             let name = Word(institution.as_slice());
+            let pair = Pair(*titles);
             let noun = if *contexts == 1 {
                 "context"
             } else {
                 "contexts"
             };
-            write!(
-                f,
-                "accepted {name} {} {peer} {contexts} {noun}",
-                Pair(*titles)
-            )
+            write!(f, "accepted {name} {pair} {peer} {contexts} {noun}")
         }
-        Noted::Rejected {
-            titles,
-            result,
-            source,
-            reason,
-            has_room,
-        } => {
-            let rejection = Rejection {
-                result: *result,
-                source: *source,
-                reason: *reason,
-                has_room: *has_room,
-            };
-            write!(f, "rejected {} {peer} {rejection}", Pair(*titles))
-        }
-        Noted::Aborted {
-            party,
-            source,
-            reason,
-        } => write!(f, "aborted by the {} {source} {reason}", name_of(*party)),
         Noted::Served {
             service,
             status,
@@ -240,7 +230,7 @@ fn write_noted<W: fmt::Write>(
                 " status {status:04x} answers {answers} ms {milliseconds}"
             )
         }
-        Noted::Released | Noted::Ended => Ok(()),
+        other => write_refusal(f, other, peer),
     }
 }
 
@@ -252,12 +242,12 @@ impl fmt::Display for LogLine<'_> {
             None => f.write_str("- ")?,
         }
         match self.told {
-            Told::Noted {
+            LineContent::Noted {
                 noted,
                 peer,
                 milliseconds,
             } => write_noted(f, noted, Address(peer), milliseconds),
-            Told::Ended {
+            LineContent::Ended {
                 noted,
                 tally,
                 milliseconds,
@@ -269,11 +259,11 @@ impl fmt::Display for LogLine<'_> {
                     ending_of(noted)
                 )
             }
-            Told::GivenUp(given_up) => write!(f, "{given_up}"),
-            Told::Console(note) => write!(f, "console {note}"),
-            Told::Stopped(Some(fault)) => write!(f, "stopped fault {fault}"),
-            Told::Stopped(None) => f.write_str("stopped network"),
-            Told::Lost(count) => write!(f, "{count} lines are lost"),
+            LineContent::GivenUp(given_up) => write!(f, "{given_up}"),
+            LineContent::Console(note) => write!(f, "console {note}"),
+            LineContent::Stopped(Some(fault)) => write!(f, "stopped fault {fault}"),
+            LineContent::Stopped(None) => f.write_str("stopped network"),
+            LineContent::Lost(count) => write!(f, "{count} lines are lost"),
         }
     }
 }

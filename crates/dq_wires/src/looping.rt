@@ -11,7 +11,7 @@ ghost use Rattle.dq_wires.specs.Servings.{Act, nothing_held, Serving};
 ghost use Rattle.dq_wires.specs.Looping.{orders_of, line_number, has_number, sent_number, IsHeard, IsPlayed, ArePlayed, IsCome, ActsOn, PlaysOn};
 
 use crate::calls::{ReadTurn, WireFault};
-use crate::clients::{Client, Clients};
+use crate::clients::{Called, SocketClient};
 use crate::counted::CountedWires;
 use crate::fault::TurnFault;
 use crate::limits::{MOST_TURNS, READ_MOST};
@@ -36,12 +36,12 @@ pub struct Sent {
 /// The client's side of a connection: the client, as long as the server holds the connection, and
 /// all octets that it was sent.
 #[derive(Drop)]
-struct Side<C> {
-    client: Option<C>,
+struct Side {
+    client: Option<SocketClient>,
     heard: Vec<u8>,
 }
 
-impl<C: Client> Side<C> {
+impl Side {
     /// Sends the first of these octets. The answer are the others.
     fn send<'a>(&mut self, octets: &'a [u8]) -> &'a [u8] {
         let Some(client) = &mut self.client else {
@@ -79,12 +79,12 @@ impl<C: Client> Side<C> {
 
 /// A connection of the capture: its number there.
 #[derive(Drop)]
-struct Line<C> {
+struct Line {
     number: u64,
-    side: Side<C>,
+    side: Side,
 }
 
-impl<C: Drop> Line<C> {
+impl Line {
     /// What it was sent.
     fn into_sent(self) -> Sent
         ensures { result.number ≡ self.number }
@@ -107,23 +107,23 @@ enum Wanted {
     Gone,
 }
 
-/// A server, and the clients that connect to it. It has so many turns left; the clients have taken
-/// so many octets.
-struct Loopback<'a, T, W, C> {
+/// A server, and the machine over which clients connect to it. It has so many turns left; the
+/// clients have taken so many octets.
+struct Loopback<'a, T, W, M> {
     turner: Turner<T>,
     wires: CountedWires<W>,
-    clients: &'a C,
+    machine: &'a M,
     turns: u64,
     taken: u64,
     buffer: Vec<u8>,
 }
 
-impl<T: Drop, W: Drop, C> Drop for Loopback<'_, T, W, C> {
+impl<T: Drop, W: Drop, M> Drop for Loopback<'_, T, W, M> {
     fn drop(self) {
         let Loopback {
             turner: _,
             wires: _,
-            clients: _,
+            machine: _,
             turns: _,
             taken: _,
             buffer: _,
@@ -131,7 +131,7 @@ impl<T: Drop, W: Drop, C> Drop for Loopback<'_, T, W, C> {
     }
 }
 
-impl<'a, T: Tables, W: Wires, C: Clients<W>> Loopback<'a, T, W, C> {
+impl<'a, T: Tables, W: Called<M>, M> Loopback<'a, T, W, M> {
     /// One turn, of those that are left.
     fn turn(&mut self) -> Result<(), TurnFault>
         requires { self.old.turner.fault ≡ None }
@@ -144,7 +144,7 @@ impl<'a, T: Tables, W: Wires, C: Clients<W>> Loopback<'a, T, W, C> {
         }
         self.turns -= 1;
         turn_all(&mut self.turner, &mut self.wires, 1)?;
-        self.clients.look(&mut self.wires.wires)?;
+        self.wires.wires.look(self.machine)?;
         Ok(())
     }
 
@@ -175,7 +175,7 @@ impl<'a, T: Tables, W: Wires, C: Clients<W>> Loopback<'a, T, W, C> {
     /// Turns, while the client sends octets and takes what is written, until all is over.
     fn exchange(
         &mut self,
-        line: &mut Line<C::Client>,
+        line: &mut Line,
         given: u64,
         octets: &[u8],
         wanted: Wanted,
@@ -206,12 +206,7 @@ impl<'a, T: Tables, W: Wires, C: Clients<W>> Loopback<'a, T, W, C> {
     }
 
     /// A client connects, and is accepted.
-    fn open(
-        &mut self,
-        lines: &mut Vec<Line<C::Client>>,
-        alloc: Global,
-        number: u64,
-    ) -> Result<(), TurnFault>
+    fn open(&mut self, lines: &mut Vec<Line>, alloc: Global, number: u64) -> Result<(), TurnFault>
         requires { self.old.turner.fault ≡ None }
         ensures acts { OnOk result (ActsOn T.state (W.log self.old.wires.wires)
             (W.log self.new.wires.wires) self.old.turner self.new.turner []) }
@@ -225,7 +220,7 @@ impl<'a, T: Tables, W: Wires, C: Clients<W>> Loopback<'a, T, W, C> {
         if self.turner.newest() != lines.len() as u64 {
             return Err(TurnFault::Network);
         }
-        let client = self.clients.connect(&self.wires.wires)?;
+        let client = self.wires.wires.connect(self.machine)?;
         'turns: while self.turner.newest() < given {
             self.turn()?;
         }
@@ -246,12 +241,7 @@ impl<'a, T: Tables, W: Wires, C: Clients<W>> Loopback<'a, T, W, C> {
     }
 
     /// The client sends octets, until the server has stepped them all.
-    fn send(
-        &mut self,
-        line: &mut Line<C::Client>,
-        given: u64,
-        octets: &[u8],
-    ) -> Result<(), TurnFault>
+    fn send(&mut self, line: &mut Line, given: u64, octets: &[u8]) -> Result<(), TurnFault>
         requires { self.old.turner.fault ≡ None }
         ensures acts { OnOk result (ActsOn T.state (W.log self.old.wires.wires)
             (W.log self.new.wires.wires) self.old.turner self.new.turner []) }
@@ -274,7 +264,7 @@ impl<'a, T: Tables, W: Wires, C: Clients<W>> Loopback<'a, T, W, C> {
     }
 
     /// The client sends no more, until the server has let go of the connection.
-    fn end(&mut self, line: &mut Line<C::Client>, given: u64) -> Result<(), TurnFault>
+    fn end(&mut self, line: &mut Line, given: u64) -> Result<(), TurnFault>
         requires { self.old.turner.fault ≡ None }
         ensures acts { OnOk result (ActsOn T.state (W.log self.old.wires.wires)
             (W.log self.new.wires.wires) self.old.turner self.new.turner []) }
@@ -298,12 +288,7 @@ impl<'a, T: Tables, W: Wires, C: Clients<W>> Loopback<'a, T, W, C> {
 
     /// Has an event come about. One of a connection that was not opened is passed over, and so is a
     /// pull: turns pull by themselves.
-    fn play(
-        &mut self,
-        lines: &mut Vec<Line<C::Client>>,
-        alloc: Global,
-        event: Event,
-    ) -> Result<(), TurnFault>
+    fn play(&mut self, lines: &mut Vec<Line>, alloc: Global, event: Event) -> Result<(), TurnFault>
         requires { self.old.turner.fault ≡ None }
         ensures acts { OnOk result (ActsOn T.state (W.log self.old.wires.wires)
             (W.log self.new.wires.wires) self.old.turner self.new.turner
@@ -338,7 +323,7 @@ impl<'a, T: Tables, W: Wires, C: Clients<W>> Loopback<'a, T, W, C> {
     /// Has events come about, each before the next.
     fn play_all(
         &mut self,
-        lines: &mut Vec<Line<C::Client>>,
+        lines: &mut Vec<Line>,
         alloc: Global,
         events: Vec<Event>,
     ) -> Result<(), TurnFault>
@@ -357,8 +342,8 @@ impl<'a, T: Tables, W: Wires, C: Clients<W>> Loopback<'a, T, W, C> {
 }
 
 /// The client takes what was written.
-fn hear<C: Client>(
-    side: &mut Side<C>,
+fn hear(
+    side: &mut Side,
     written: u64,
     taken: &mut u64,
     buffer: &mut [u8],
@@ -374,7 +359,7 @@ fn hear<C: Client>(
 }
 
 /// Where the connection of a number stands, if one was opened.
-fn line_with<C>(lines: &[Line<C>], number: u64) -> Option<usize>
+fn line_with(lines: &[Line], number: u64) -> Option<usize>
     ensures at { result ≡ position (has_number number) lines.now }
     ensures within { IfSome result (λ at. at < length lines.now) }
 {
@@ -389,7 +374,7 @@ fn given_at(at: usize) -> Result<u64, TurnFault>
 }
 
 /// What each connection was sent.
-fn sent_on<C: Drop>(alloc: Global, lines: Vec<Line<C>>) -> Result<Vec<Sent>, AllocError>
+fn sent_on(alloc: Global, lines: Vec<Line>) -> Result<Vec<Sent>, AllocError>
     ensures { IfOk result (λ sent. map sent_number sent.items ≡ map line_number lines.items) }
 {
     let mut all = Vec::with_capacity(alloc, lines.len())?;
@@ -405,11 +390,11 @@ fn sent_on<C: Drop>(alloc: Global, lines: Vec<Line<C>>) -> Result<Vec<Sent>, All
 /// answer is what each connection was sent, in the order in which they were opened. `Network` also
 /// tells that a client failed, that the server lost a connection, or that there were more than
 /// `MOST_TURNS` turns.
-pub fn loop_back<T: Tables + Drop, W: Wires + Drop, C: Clients<W>>(
+pub fn loop_back<T: Tables + Drop, W: Called<M> + Drop, M>(
     alloc: Global,
     server: Server<T>,
     wires: W,
-    clients: &C,
+    machine: &M,
     events: Vec<Event>,
 ) -> Result<Vec<Sent>, TurnFault>
     requires { IsTrue (is_above server.newest 0) }
@@ -427,7 +412,7 @@ pub fn loop_back<T: Tables + Drop, W: Wires + Drop, C: Clients<W>>(
     let mut loopback = Loopback {
         turner: Turner::new(alloc, server),
         wires: CountedWires::new(wires),
-        clients,
+        machine,
         turns: MOST_TURNS,
         taken: 0,
         buffer,

@@ -2,7 +2,7 @@
 ghost use Rattle.std.specs.Prelude.{◌≡◌, ◌≤◌, [], length, Some, IfOk, option_copied};
 ghost use Rattle.dq_wires.specs.Logs.{Logs, IfGot, what_came};
 
-use crate::calls::{Call, Came, ReadTurn, WireFault};
+use crate::calls::{Call, ReadOutcome, ReadTurn, WireFault};
 use crate::given_up::GivesUp;
 use crate::wires::Wires;
 use dq_list::Listed;
@@ -16,7 +16,7 @@ pub struct Script {
     pub accepts: VecDeque<Result<Option<usize>, WireFault>>,
     /// What comes, each with the place at which it is read. Octets for which the buffer has no room
     /// are lost.
-    pub reads: Vec<(usize, Came)>,
+    pub reads: Vec<(usize, ReadOutcome)>,
     /// How many octets are taken, if so many are offered.
     pub writes: VecDeque<Result<usize, WireFault>>,
     pub shuts: VecDeque<Result<(), WireFault>>,
@@ -39,9 +39,9 @@ impl Script {
     }
 
     // What comes next at a place.
-    fn take_read(&mut self, place: usize) -> Came {
+    fn take_read(&mut self, place: usize) -> ReadOutcome {
         match self.reads.iter().position(|read| read.0 == place) {
-            None => Came::Nothing,
+            None => ReadOutcome::Nothing,
             Some(at) => {
                 let (_, came) = self.reads.remove(at);
                 came
@@ -59,11 +59,11 @@ pub struct MemoryWires {
 }
 
 impl MemoryWires {
-    ghost use Rattle.dq_wires.specs.Scripts.{told};
+    ghost use Rattle.dq_wires.specs.Scripts.{calls_so_far};
 
     /// Wires that were not called, and that play the script.
     pub fn new(alloc: Global, script: Script) -> Self
-        ensures uncalled { told result ≡ Some [] }
+        ensures uncalled { calls_so_far result ≡ Some [] }
         ensures plays { result.script ≡ script }
     {
         MemoryWires {
@@ -75,7 +75,7 @@ impl MemoryWires {
 
     /// The calls so far, unless memory ran out for one.
     pub fn calls(&self) -> Option<&[Call]>
-        ensures { option_copied result ≡ told self.now }
+        ensures { option_copied result ≡ calls_so_far self.now }
     {
         match &self.calls {
             None => None,
@@ -85,7 +85,7 @@ impl MemoryWires {
 
     fn tell(&mut self, call: Result<Call, AllocError>)
         ensures told { (it : Call) → IfOk call (λ call. call ≡ it) →
-            Logs (told self.old) (told self.new) it }
+            Logs (calls_so_far self.old) (calls_so_far self.new) it }
     {
         let is_told = match (&mut self.calls, call) {
             (Some(calls), Ok(call)) => calls.push(call).is_ok(),
@@ -108,32 +108,32 @@ fn fill(octets: &[u8], buffer: &mut [u8]) -> usize
     count
 }
 
-fn copied(alloc: Global, octets: &[u8]) -> Result<Came, AllocError>
-    ensures { IfOk result (λ came. came ≡ Came.Octets octets.now) }
+fn copied(alloc: Global, octets: &[u8]) -> Result<ReadOutcome, AllocError>
+    ensures { IfOk result (λ came. came ≡ ReadOutcome.Octets octets.now) }
 {
-    Ok(Came::Octets(Listed::copy_of(alloc, octets)?))
+    Ok(ReadOutcome::Octets(Listed::copy_of(alloc, octets)?))
 }
 
 fn came_of(
     alloc: Global,
     answer: &Result<ReadTurn, WireFault>,
     buffer: &[u8],
-) -> Result<Came, AllocError>
+) -> Result<ReadOutcome, AllocError>
     requires { IfGot answer.now (λ count. count ≤ length buffer.now) }
     ensures { IfOk result (λ came. came ≡ what_came answer.now buffer.now) }
 {
     match answer {
         Ok(ReadTurn::Got(count)) => copied(alloc, &buffer[..*count]),
-        Ok(ReadTurn::Nothing) => Ok(Came::Nothing),
-        Ok(ReadTurn::Ended) => Ok(Came::Ended),
-        Err(WireFault) => Ok(Came::Failed),
+        Ok(ReadTurn::Nothing) => Ok(ReadOutcome::Nothing),
+        Ok(ReadTurn::Ended) => Ok(ReadOutcome::Ended),
+        Err(WireFault) => Ok(ReadOutcome::Failed),
     }
 }
 
 impl Wires for MemoryWires {
-    ghost use Rattle.dq_wires.specs.Scripts.{told};
+    ghost use Rattle.dq_wires.specs.Scripts.{calls_so_far};
 
-    ghost log = { told };
+    ghost log = { calls_so_far };
 
     fn accept(&mut self) -> Result<Option<usize>, WireFault> {
         let answer = self.script.accepts.pop_front().unwrap_or(Ok(None));
@@ -143,10 +143,10 @@ impl Wires for MemoryWires {
 
     fn read(&mut self, place: usize, buffer: &mut [u8]) -> Result<ReadTurn, WireFault> {
         let answer = match self.script.take_read(place) {
-            Came::Octets(octets) => Ok(ReadTurn::Got(fill(octets.as_slice(), buffer))),
-            Came::Nothing => Ok(ReadTurn::Nothing),
-            Came::Ended => Ok(ReadTurn::Ended),
-            Came::Failed => Err(WireFault),
+            ReadOutcome::Octets(octets) => Ok(ReadTurn::Got(fill(octets.as_slice(), buffer))),
+            ReadOutcome::Nothing => Ok(ReadTurn::Nothing),
+            ReadOutcome::Ended => Ok(ReadTurn::Ended),
+            ReadOutcome::Failed => Err(WireFault),
         };
         let room = buffer.len();
         let call = match came_of(self.alloc, &answer, buffer) {

@@ -3,8 +3,8 @@ ghost use Rattle.std.specs.Prelude.{◌≡◌, ◌+◌, length, IsTrue, IfErr, O
 ghost use Rattle.dq_core.specs.Histories.{is_above};
 ghost use Rattle.dq_wires.specs.Limits.{most_read};
 ghost use Rattle.dq_wires.specs.Stepping.{Moves, Fails};
-ghost use Rattle.dq_wires.specs.Turns.{has_room, TurnsWent, TurnsCut};
-ghost use Rattle.dq_wires.specs.Rounds.{RoundWent, RoundCut, TakingWent, TurnWent, TurnCut};
+ghost use Rattle.dq_wires.specs.Turns.{has_room_for_wire, TurnsWent, TurnsCut};
+ghost use Rattle.dq_wires.specs.Rounds.{hold_in, RoundWent, RoundCut, TakingWent, TurnWent, TurnCut};
 
 use crate::calls::WireFault;
 use crate::fault::TurnFault;
@@ -46,91 +46,88 @@ fn turn_held<T: Tables, W: Wires>(
 
 /// Whether one more can come.
 fn has_room(held: &[Wire], newest: u64) -> bool
-    ensures { result ≡ has_room (record { held = held.now; newest = newest }) }
+    ensures { result ≡ has_room_for_wire (record { held = held.now; newest = newest }) }
 {
     held.len() < MOST_WIRES && newest < u64::MAX
 }
 
-/// Accepts a connection where there is room, and opens it under the next number.
-fn take_wire<T: Tables, W: Wires>(
-    alloc: Global,
-    held: &mut Vec<Wire>,
-    newest: &mut u64,
-    server: &mut Server<T>,
-    wires: &mut W,
-) -> Result<(), TurnFault>
-    requires { IsTrue (is_above server.old.newest (newest.old + 1)) }
-    ensures went { OnOk result (TakingWent (Moves T.state) (W.log wires.old)
-        (W.log wires.new) server.old server.new
-        (record { held = held.old.items; newest = newest.old })
-        (record { held = held.new.items; newest = newest.new })) }
-    ensures cut { IfErr result (TurnCut (Moves T.state)
-        (Fails T.state) (W.log wires.old) (W.log wires.new) server.old server.new
-        (record { held = held.old.items; newest = newest.old })) }
-    ensures opens { OnOk result (IsTrue (is_above server.new.newest (newest.new + 1))) }
-{
-    if !has_room(held.as_slice(), *newest) {
-        return Ok(());
-    }
-    held.reserve(1)?;
-    let place = match wires.accept() {
-        Ok(Some(place)) => place,
-        Ok(None) => return Ok(()),
-        Err(WireFault) => return Err(TurnFault::Network),
-    };
-    let number = *newest + 1;
-    step_event(server, Event::Open(number))?;
-    *newest = number;
-    held.push(Wire::new(alloc, place, number))?;
-    Ok(())
+/// The connections that are held, the number that was given last, and what turns of them need.
+#[derive(Drop)]
+pub(crate) struct Holding {
+    pub(crate) alloc: Global,
+    pub(crate) held: Vec<Wire>,
+    pub(crate) newest: u64,
+    pub(crate) buffer: Vec<u8>,
 }
 
-/// One turn of all.
-fn turn_once<T: Tables, W: Wires>(
-    alloc: Global,
-    held: &mut Vec<Wire>,
-    newest: &mut u64,
-    server: &mut Server<T>,
-    wires: &mut W,
-    buffer: &mut Vec<u8>,
-) -> Result<(), TurnFault>
-    requires { IsTrue (is_above server.old.newest (newest.old + 1)) }
-    ensures went { OnOk result (TurnWent (Moves T.state) (W.log wires.old)
-        (W.log wires.new) server.old server.new
-        (record { held = held.old.items; newest = newest.old })
-        (record { held = held.new.items; newest = newest.new })) }
-    ensures cut { IfErr result (TurnCut (Moves T.state)
-        (Fails T.state) (W.log wires.old) (W.log wires.new) server.old server.new
-        (record { held = held.old.items; newest = newest.old })) }
-    ensures opens { OnOk result (IsTrue (is_above server.new.newest (newest.new + 1))) }
-{
-    buffer.resize(READ_MOST, 0)?;
-    take_wire(alloc, held, newest, server, wires)?;
-    turn_held(alloc, held, server, wires, buffer.as_mut_slice())
-}
-
-/// So many turns, up to a fault.
-pub(crate) fn turn_times<T: Tables, W: Wires>(
-    alloc: Global,
-    held: &mut Vec<Wire>,
-    newest: &mut u64,
-    server: &mut Server<T>,
-    wires: &mut W,
-    buffer: &mut Vec<u8>,
-    turns: u64,
-) -> Result<(), TurnFault>
-    requires { IsTrue (is_above server.old.newest (newest.old + 1)) }
-    ensures went { OnOk result (TurnsWent (Moves T.state) (W.log wires.old)
-        (W.log wires.new) server.old server.new
-        (record { held = held.old.items; newest = newest.old })
-        (record { held = held.new.items; newest = newest.new }) turns) }
-    ensures cut { IfErr result (TurnsCut (Moves T.state)
-        (Fails T.state) (W.log wires.old) (W.log wires.new) server.old server.new
-        (record { held = held.old.items; newest = newest.old }) turns) }
-    ensures opens { OnOk result (IsTrue (is_above server.new.newest (newest.new + 1))) }
-{
-    for _turn in 0..turns {
-        turn_once(alloc, held, newest, server, wires, buffer)?;
+impl Holding {
+    /// Accepts a connection where there is room, and opens it under the next number.
+    fn take_wire<T: Tables, W: Wires>(
+        &mut self,
+        server: &mut Server<T>,
+        wires: &mut W,
+    ) -> Result<(), TurnFault>
+        requires { IsTrue (is_above server.old.newest (self.old.newest + 1)) }
+        ensures went { OnOk result (TakingWent (Moves T.state) (W.log wires.old)
+            (W.log wires.new) server.old server.new (hold_in self.old) (hold_in self.new)) }
+        ensures cut { IfErr result (TurnCut (Moves T.state) (Fails T.state) (W.log wires.old)
+            (W.log wires.new) server.old server.new (hold_in self.old)) }
+        ensures opens { OnOk result (IsTrue (is_above server.new.newest (self.new.newest + 1))) }
+        ensures buffer { OnOk result (self.new.buffer ≡ self.old.buffer) }
+    {
+        if !has_room(self.held.as_slice(), self.newest) {
+            return Ok(());
+        }
+        self.held.reserve(1)?;
+        let place = match wires.accept() {
+            Ok(Some(place)) => place,
+            Ok(None) => return Ok(()),
+            Err(WireFault) => return Err(TurnFault::Network),
+        };
+        let number = self.newest + 1;
+        step_event(server, Event::Open(number))?;
+        self.newest = number;
+        self.held.push(Wire::new(self.alloc, place, number))?;
+        Ok(())
     }
-    Ok(())
+
+    /// One turn of all.
+    fn turn_once<T: Tables, W: Wires>(
+        &mut self,
+        server: &mut Server<T>,
+        wires: &mut W,
+    ) -> Result<(), TurnFault>
+        requires { IsTrue (is_above server.old.newest (self.old.newest + 1)) }
+        ensures went { OnOk result (TurnWent (Moves T.state) (W.log wires.old)
+            (W.log wires.new) server.old server.new (hold_in self.old) (hold_in self.new)) }
+        ensures cut { IfErr result (TurnCut (Moves T.state) (Fails T.state) (W.log wires.old)
+            (W.log wires.new) server.old server.new (hold_in self.old)) }
+        ensures opens { OnOk result (IsTrue (is_above server.new.newest (self.new.newest + 1))) }
+    {
+        self.buffer.resize(READ_MOST, 0)?;
+        self.take_wire(server, wires)?;
+        let buffer = self.buffer.as_mut_slice();
+        turn_held(self.alloc, &mut self.held, server, wires, buffer)
+    }
+
+    /// So many turns, up to a fault.
+    pub(crate) fn turn_times<T: Tables, W: Wires>(
+        &mut self,
+        server: &mut Server<T>,
+        wires: &mut W,
+        turns: u64,
+    ) -> Result<(), TurnFault>
+        requires { IsTrue (is_above server.old.newest (self.old.newest + 1)) }
+        ensures went { OnOk result (TurnsWent (Moves T.state) (W.log wires.old)
+            (W.log wires.new) server.old server.new (hold_in self.old) (hold_in self.new)
+            turns) }
+        ensures cut { IfErr result (TurnsCut (Moves T.state) (Fails T.state) (W.log wires.old)
+            (W.log wires.new) server.old server.new (hold_in self.old) turns) }
+        ensures opens { OnOk result (IsTrue (is_above server.new.newest (self.new.newest + 1))) }
+    {
+        for _turn in 0..turns {
+            self.turn_once(server, wires)?;
+        }
+        Ok(())
+    }
 }

@@ -1,7 +1,7 @@
 //! One event, stepped.
 ghost use Rattle.std.specs.Prelude.{◌≡◌, Some, IfOk, IfErr, OnOk};
 ghost use Rattle.dq_core.specs.Stepping.{Opens};
-ghost use Rattle.dq_wires.specs.Steps.{Stops};
+ghost use Rattle.dq_wires.specs.Steps.{StopsBy};
 ghost use Rattle.dq_wires.specs.Stepping.{Stepped, Fails};
 ghost use Rattle.dq_wires.specs.Turners.{IsOrder};
 
@@ -17,7 +17,7 @@ pub(crate) fn step_event<T: Tables>(
     requires { Opens server.old.newest event }
     ensures stepped { IfOk result (Stepped T.state server.old server.new event) }
     ensures stops { IfErr result
-        (Stops (Fails T.state) server.old server.new (Some event)) }
+        (StopsBy (Fails T.state) server.old server.new (Some event)) }
 {
     match server.step(event) {
         Ok(reply) => Ok(reply),

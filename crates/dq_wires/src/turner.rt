@@ -10,7 +10,7 @@ ghost use Rattle.dq_wires.specs.Turns.{TurnsWent, TurnsCut};
 ghost use Rattle.dq_wires.specs.Turners.{IsOrder, first_fault, EndsUnaccepted};
 
 use crate::fault::TurnFault;
-use crate::rounds::turn_times;
+use crate::rounds::Holding;
 use crate::stepping::step_order;
 use crate::wire::Wire;
 use crate::wires::Wires;
@@ -22,11 +22,8 @@ use std::marker::Model;
 /// A server with the connections that it holds over wires.
 #[derive(Drop)]
 pub struct Turner<T> {
-    alloc: Global,
     server: Server<T>,
-    held: Vec<Wire>,
-    newest: u64,
-    buffer: Vec<u8>,
+    holding: Holding,
     fault: Option<TurnFault>,
 }
 
@@ -36,6 +33,7 @@ impl<T> Model for Turner<T> {
     ghost use Rattle.dq_dataset.specs.contracts.data_set.DataSet as data_set;
     ghost use Rattle.slab.specs.Slab.{slab_code};
     ghost use Rattle.std_collections.specs.Layout.BTreeMap.{btree_map_code};
+    ghost use Rattle.dq_wires.specs.Rounds.{hold_in};
     ghost use Rattle.dq_wires.specs.Turners.{Turning, NextOpens};
 
     ghost Value = { Turning T };
@@ -44,11 +42,11 @@ impl<T> Model for Turner<T> {
 
     ghost view = { λ t. record {
       server = t.server;
-      hold = record { held = t.held.items; newest = t.newest };
+      hold = hold_in t.holding;
       fault = t.fault;
     } };
 
-    ghost invariant = { λ t. t.fault ≡ None → NextOpens t.server.newest t.newest };
+    ghost invariant = { λ t. t.fault ≡ None → NextOpens t.server.newest t.holding.newest };
 }
 
 impl<T: Tables> Turner<T> {
@@ -60,11 +58,13 @@ impl<T: Tables> Turner<T> {
         ensures fault { result.fault ≡ None }
     {
         Turner {
-            alloc,
             server,
-            held: Vec::new(alloc),
-            newest: 0,
-            buffer: Vec::new(alloc),
+            holding: Holding {
+                alloc,
+                held: Vec::new(alloc),
+                newest: 0,
+                buffer: Vec::new(alloc),
+            },
             fault: None,
         }
     }
@@ -89,11 +89,8 @@ impl<T: Tables> Turner<T> {
         ensures { result ≡ self.server }
     {
         let Turner {
-            alloc: _,
             server,
-            held: _,
-            newest: _,
-            buffer: _,
+            holding: _,
             fault: _,
         } = self;
         server
@@ -104,24 +101,28 @@ impl<T: Tables> Turner<T> {
     pub(crate) fn wire(&self, number: u64) -> Option<&Wire>
         ensures { option_copied result ≡ wire_with number self.now.hold.held }
     {
-        self.held.iter().find(|wire| wire.number() == number)
+        self.holding
+            .held
+            .iter()
+            .find(|wire| wire.number() == number)
     }
 
     /// The number that was given last; 0 before the first.
     pub(crate) fn newest(&self) -> u64
         ensures { result ≡ self.now.hold.newest }
     {
-        self.newest
+        self.holding.newest
     }
 
     /// Whether octets were answered that are not yet written.
     pub(crate) fn is_sending(&self) -> bool {
-        self.held.iter().any(|wire| wire.is_sending())
+        self.holding.held.iter().any(|wire| wire.is_sending())
     }
 
     /// Whether a C-FIND is open.
     pub(crate) fn is_pending(&self) -> bool {
-        self.held
+        self.holding
+            .held
             .iter()
             .any(|wire| self.server.pending(wire.number()))
     }
@@ -129,7 +130,7 @@ impl<T: Tables> Turner<T> {
     /// Whether octets were answered that were not yet offered. The next turn then has something to
     /// do, whether or not anything comes.
     pub fn has_new_answers(&self) -> bool {
-        self.held.iter().any(|wire| wire.is_new())
+        self.holding.held.iter().any(|wire| wire.is_new())
     }
 
     /// Steps an order of the console. A fault stops the turner.
@@ -218,15 +219,7 @@ pub fn turn_all<T: Tables, W: Wires>(
     if let Some(fault) = turner.fault {
         return Err(fault);
     }
-    let turned = turn_times(
-        turner.alloc,
-        &mut turner.held,
-        &mut turner.newest,
-        &mut turner.server,
-        wires,
-        &mut turner.buffer,
-        turns,
-    );
+    let turned = turner.holding.turn_times(&mut turner.server, wires, turns);
     turner.fault = turned.err();
     turned
 }

@@ -1,7 +1,7 @@
 //! The turn of one connection.
 ghost use Rattle.std.specs.Prelude.{◌≡◌, length, Some, IfOk, IfErr, OnOk, OnErr};
 ghost use Rattle.dq_core.specs.declared.event.Event.TheVariants.{End, Pull};
-ghost use Rattle.dq_wires.specs.Steps.{Stops};
+ghost use Rattle.dq_wires.specs.Steps.{StopsBy};
 ghost use Rattle.dq_wires.specs.Deeds.{IsSending, IsListening};
 ghost use Rattle.dq_wires.specs.Limits.{most_read};
 ghost use Rattle.dq_wires.specs.Stepping.{Moves, Fails};
@@ -26,7 +26,7 @@ fn leave<T: Tables, W: Wires>(
 ) -> Result<(), TurnFault>
     ensures ends { OnOk result (Ends (Moves T.state) (W.log wires.old)
         (W.log wires.new) server.old server.new wire.now) }
-    ensures stops { IfErr result (Stops (Fails T.state) server.old server.new
+    ensures stops { IfErr result (StopsBy (Fails T.state) server.old server.new
         (Some (End wire.now.number))) }
     ensures kept { OnErr result (wires.new ≡ wires.old) }
     ensures newest { OnOk result (server.new.newest ≡ server.old.newest) }
@@ -61,7 +61,7 @@ fn hear<T: Tables>(
 fn pull<T: Tables>(wire: &mut Wire, server: &mut Server<T>) -> Result<(), TurnFault>
     requires { IsListening wire.old }
     ensures waits { OnOk result (Waits (Moves T.state) server.old server.new wire.old wire.new) }
-    ensures stops { IfErr result (Stops (Fails T.state) server.old server.new
+    ensures stops { IfErr result (StopsBy (Fails T.state) server.old server.new
         (Some (Pull wire.old.number))) }
     ensures newest { OnOk result (server.new.newest ≡ server.old.newest) }
 {

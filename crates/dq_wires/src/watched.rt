@@ -1,6 +1,6 @@
 //! A connection that is told of in a log.
 ghost use Rattle.std.specs.Prelude.{◌≡◌};
-ghost use Rattle.dq_wires.specs.Lines.{ended_by, left_by};
+ghost use Rattle.dq_wires.specs.Lines.{ended_by, open_after};
 
 use dq_assoc::Service;
 use dq_core::Noted;
@@ -77,7 +77,7 @@ impl Watched {
     /// The association that is open, where what is noted ends it.
     pub(crate) fn close(&mut self, noted: &Noted) -> Option<Opened>
         ensures ended { result ≡ ended_by noted.now self.old.opened }
-        ensures left { self.new ≡ record self.old { opened = left_by noted.now self.old.opened } }
+        ensures left { self.new ≡ record self.old { opened = open_after noted.now self.old.opened } }
     {
         match noted {
             Noted::Released | Noted::Ended | Noted::Aborted { .. } => self.opened.take(),

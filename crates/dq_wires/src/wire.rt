@@ -1,6 +1,6 @@
 //! A connection that is held over wires.
 ghost use Rattle.std.specs.Prelude.{◌≡◌, ◌≤◌, ◌+◌, [], length, drop, false, MatchBool, IfErr, OnOk};
-ghost use Rattle.dq_wires.specs.Held.{new_held, answered};
+ghost use Rattle.dq_wires.specs.Held.{new_held, with_reply};
 ghost use Rattle.dq_wires.specs.Deeds.{IsSending};
 
 use crate::fault::TurnFault;
@@ -25,9 +25,9 @@ pub(crate) struct Wire {
 
 impl Model for Wire {
     ghost use Rattle.std.specs.Prelude.{◌≤◌, length, drop};
-    ghost use Rattle.dq_wires.specs.Held.{Held};
+    ghost use Rattle.dq_wires.specs.Held.{HeldWire};
 
-    ghost Value = { Held };
+    ghost Value = { HeldWire };
 
     ghost view = { λ w. record {
       place = w.place;
@@ -129,7 +129,7 @@ impl Wire {
     pub(crate) fn answer(&mut self, reply: Reply)
         requires sent { self.old.unsent ≡ [] }
         requires open { self.old.closed ≡ false }
-        ensures { self.new ≡ answered self.old reply }
+        ensures { self.new ≡ with_reply self.old reply }
     {
         if let Reply::Octets {
             conn: _,

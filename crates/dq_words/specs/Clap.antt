@@ -80,10 +80,10 @@ abbrev pub is_given : Text → Option (Text × List Row) → Bool
 is_given name subcommand = option_map_or (bytes_eq (codes "true")) (value_in name subcommand) false
 
 -- whether the subcommand has this name
-abbrev pub is_named : Text → Option (Text × List Row) → Bool
-is_named name None = false
-is_named name (Some p) = bytes_eq name p.0
+abbrev pub is_subcommand : Text → Option (Text × List Row) → Bool
+is_subcommand name None = false
+is_subcommand name (Some p) = bytes_eq name p.0
 
 -- what is done with a capture: a replay where no report is named
 abbrev pub task_in : Option (Text × List Row) → Task
-task_in subcommand = if is_named (codes "report") subcommand then Report else Replay
+task_in subcommand = if is_subcommand (codes "report") subcommand then Report else Replay

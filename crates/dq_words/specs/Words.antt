@@ -5,7 +5,7 @@ use Rattle.std.specs.Option.{option_copied}
 use Rattle.std.specs.Str.{all_ascii_digits}
 use Rattle.std.specs.Str.Parse.{digits_value}
 use Rattle.clap.specs.Words.{Kinds, Row, Text, fault_of, subcommand_of}
-use Rattle.dq_words.specs.Clap.{command, value_in, is_given, is_named, task_in}
+use Rattle.dq_words.specs.Clap.{command, value_in, is_given, is_subcommand, task_in}
 use Rattle.dq_words.specs.declared.words.Asked.{Asked}
 use Rattle.dq_words.specs.declared.words.Job.{Job}
 use Rattle.dq_words.specs.declared.words.Job.TheVariants as job
@@ -24,16 +24,16 @@ line_of words = program_name ∷ words
 
 -- where the rows are kept: in memory, in a store that is made in a file, or in the one that a file
 -- holds
-pub data Place : Type 0 where
-  InMemory : Place
-  InNewStore : List ℕ → Place
-  InStore : List ℕ → Place
+pub data RowsPlace : Type 0 where
+  InMemory : RowsPlace
+  InNewStore : List ℕ → RowsPlace
+  InStore : List ℕ → RowsPlace
 
 -- a task over a capture, the file of the configuration if one is named, and where the rows are kept
 pub record Request : Type 0 where
   pub task : Task
   pub config : Option (List ℕ)
-  pub place : Place
+  pub place : RowsPlace
 
 -- The port and the address where connections come in; for how many seconds ARTIM runs (PS3.8 section
 -- 9.1.5), 0 for ever; after how many seconds of silence a connection counts as ended, if it does; how
@@ -51,7 +51,7 @@ pub record Serving : Type 0 where
   pub console : Option (List ℕ)
   pub turns : Option ℕ
   pub config : Option (List ℕ)
-  pub place : Place
+  pub place : RowsPlace
 
 -- the file of a store of the version before, and the one in which the new store is made
 pub record Migrating : Type 0 where
@@ -67,15 +67,15 @@ pub data Errand : Type 0 where
   Migrates : Migrating → Errand
 
 -- the place that `--new` and `--store` name, which exclude each other
-abbrev pub place_of : Option (List ℕ) → Option (List ℕ) → Option Place
-place_of None None = Some InMemory
-place_of (Some new) None = Some (InNewStore new)
-place_of None (Some store) = Some (InStore store)
-place_of (Some new) (Some store) = None
+abbrev pub place_by_options : Option (List ℕ) → Option (List ℕ) → Option RowsPlace
+place_by_options None None = Some InMemory
+place_by_options (Some new) None = Some (InNewStore new)
+place_by_options None (Some store) = Some (InStore store)
+place_by_options (Some new) (Some store) = None
 
-abbrev pub place_named : Option (Text × List Row) → Option Place
+abbrev pub place_named : Option (Text × List Row) → Option RowsPlace
 place_named subcommand =
-    place_of (value_in (codes "new") subcommand) (value_in (codes "store") subcommand)
+    place_by_options (value_in (codes "new") subcommand) (value_in (codes "store") subcommand)
 
 -- the number below a bound that a text of decimal digits tells
 abbrev pub number_below : ℕ → List ℕ → Option ℕ
@@ -120,8 +120,8 @@ abbrev pub no_peer_limit : ℕ
 no_peer_limit = 0
 
 -- what a subcommand asks for with its options
-abbrev pub request_of : Option (Text × List Row) → Option Request
-request_of subcommand = option_map (λ place. record {
+abbrev pub subcommand_request : Option (Text × List Row) → Option Request
+subcommand_request subcommand = option_map (λ place. record {
   task = task_in subcommand;
   config = value_in (codes "config") subcommand;
   place = place;
@@ -161,12 +161,12 @@ migration_of subcommand =
 
 abbrev pub errand_of : Option (Text × List Row) → Option Errand
 errand_of subcommand =
-    if is_named (codes "serve") subcommand then option_map Serves (serving_of subcommand)
-    else if is_named (codes "loopback") subcommand
+    if is_subcommand (codes "serve") subcommand then option_map Serves (serving_of subcommand)
+    else if is_subcommand (codes "loopback") subcommand
     then Some (Loops (value_in (codes "config") subcommand))
-    else if is_named (codes "migrate") subcommand
+    else if is_subcommand (codes "migrate") subcommand
     then option_map Migrates (migration_of subcommand)
-    else option_map Plays (request_of subcommand)
+    else option_map Plays (subcommand_request subcommand)
 
 abbrev pub errand_if : Kinds → Option Errand → Option Errand
 errand_if [] errand = errand
@@ -174,19 +174,19 @@ errand_if (kind ∷ kinds) errand = None
 
 -- What a list of words asks for, or None where clap does not take them, where they name both a new
 -- store and one that is there, or a number that is out of its range.
-unfoldable pub asked : List (List ℕ) → Option Errand
-asked words = errand_if (fault_of command (line_of words))
+unfoldable pub errand_asked : List (List ℕ) → Option Errand
+errand_asked words = errand_if (fault_of command (line_of words))
     (errand_of (subcommand_of command (line_of words)))
 
 -- what a command line that was read asks for
-abbrev pub place_in : Keeper → Place
-place_in keeper.Memory = InMemory
-place_in (keeper.New path) = InNewStore path.now
-place_in (keeper.Found path) = InStore path.now
+abbrev pub place_asked : Keeper → RowsPlace
+place_asked keeper.Memory = InMemory
+place_asked (keeper.New path) = InNewStore path.now
+place_asked (keeper.Found path) = InStore path.now
 
-abbrev pub request_in : Asked → Request
-request_in asked =
-    record { task = asked.task; config = option_copied asked.config; place = place_in asked.keeper }
+abbrev pub request_asked : Asked → Request
+request_asked asked =
+    record { task = asked.task; config = option_copied asked.config; place = place_asked asked.keeper }
 
 abbrev pub serving_in : Service → Serving
 serving_in service = record {
@@ -200,14 +200,14 @@ serving_in service = record {
   console = option_copied service.console;
   turns = service.turns;
   config = option_copied service.config;
-  place = place_in service.keeper;
+  place = place_asked service.keeper;
 }
 
 abbrev pub migration_in : Migration → Migrating
 migration_in files = record { from = files.from.now; to = files.to.now }
 
 abbrev pub errand_in : Job → Errand
-errand_in (job.Play asked) = Plays (request_in asked)
+errand_in (job.Play asked) = Plays (request_asked asked)
 errand_in (job.Serve service) = Serves (serving_in service)
 errand_in (job.Loop config) = Loops (option_copied config)
 errand_in (job.Migrate files) = Migrates (migration_in files)

@@ -4,8 +4,8 @@ ghost use Rattle.std.specs.Option.{option_copied};
 ghost use Rattle.std.specs.Result.{result_ok};
 ghost use Rattle.clap.specs.declared.builder.command.Command.TheViews.{out-Command as fields_of};
 ghost use Rattle.clap.specs.Words.{app_of, rule_of, kind_of, subcommand_rows_of};
-ghost use Rattle.dq_words.specs.Words.{line_of, place_named, place_in, port_told, number_told, seconds_told, told_if_given, artim_seconds, no_peer_limit, request_in, request_of, serving_in, serving_of, migration_in, migration_of, errand_in, errand_of, asked};
-ghost use Rattle.dq_words.specs.Clap.{value_rule, task_app, listening_app, limiting_app, serve_app, loopback_app, migrate_app, tasks_app, command, value_in, is_given, is_named};
+ghost use Rattle.dq_words.specs.Words.{line_of, place_named, place_asked, port_told, number_told, seconds_told, told_if_given, artim_seconds, no_peer_limit, request_asked, subcommand_request, serving_in, serving_of, migration_in, migration_of, errand_in, errand_of, errand_asked};
+ghost use Rattle.dq_words.specs.Clap.{value_rule, task_app, listening_app, limiting_app, serve_app, loopback_app, migrate_app, tasks_app, command, value_in, is_given, is_subcommand};
 
 use crate::help::{CAPTURES, STATUSES};
 use clap::error::ErrorKind;
@@ -151,7 +151,7 @@ fn is_given(matches: &ArgMatches, name: &str) -> bool
 
 /// Whether the subcommand has a name.
 fn is_named(matches: &ArgMatches, name: &str) -> bool
-    ensures { result ≡ is_named name.now (subcommand_rows_of matches.now) }
+    ensures { result ≡ is_subcommand name.now (subcommand_rows_of matches.now) }
 {
     match matches.subcommand() {
         Some((found, _)) => found == name,
@@ -161,7 +161,7 @@ fn is_named(matches: &ArgMatches, name: &str) -> bool
 
 /// Where the options say that rows are kept.
 fn keeper_in<'a>(matches: &ArgMatches<'a>) -> Result<Keeper<'a>, Misuse>
-    ensures { option_map place_in (result_ok result)
+    ensures { option_map place_asked (result_ok result)
         ≡ place_named (subcommand_rows_of matches.now) }
 {
     match (value_in(matches, "new"), value_in(matches, "store")) {
@@ -243,8 +243,8 @@ fn quiet_in(matches: &ArgMatches) -> Result<Option<u32>, Misuse>
 
 /// What is asked for of a capture.
 fn asked_in<'a>(matches: &ArgMatches<'a>) -> Result<Asked<'a>, Misuse>
-    ensures { option_map request_in (result_ok result)
-        ≡ request_of (subcommand_rows_of matches.now) }
+    ensures { option_map request_asked (result_ok result)
+        ≡ subcommand_request (subcommand_rows_of matches.now) }
 {
     let keeper = keeper_in(matches)?;
     let task = if is_named(matches, "report") {
@@ -558,10 +558,10 @@ fn misused(alloc: Global, misuse: Misuse) -> Result<clap::Error, AllocError> {
 pub fn parse<'a>(alloc: Global, line: &'a [&'a str]) -> Result<Job<'a>, clap::Error>
     ensures ok { IfOk result (λ found. (words : List (List ℕ)) →
         map (λ word. word.now) line.entry.now ≡ line_of words →
-        asked words ≡ Some (errand_in found)) }
+        errand_asked words ≡ Some (errand_in found)) }
     ensures err { IfErr result (λ error. (words : List (List ℕ)) →
         map (λ word. word.now) line.entry.now ≡ line_of words →
-        kind_of error ≢ ErrorKind.OutOfMemory → asked words ≡ None) }
+        kind_of error ≢ ErrorKind.OutOfMemory → errand_asked words ≡ None) }
 {
     let matches = match command(alloc)?.try_get_matches_from(line) {
         Ok(matches) => matches,

@@ -8,7 +8,7 @@ use Rattle.std.proofs.lemmas.Map.Text.{is_eq-slice_cmp}
 use Rattle.std.proofs.lemmas.Slice.Eq.{bytes_eq-Decides}
 use Rattle.std.proofs.lemmas.Bool.Decides.{nat_tests}
 use Rattle.dq_list.specs.Among.{IsAmong}
-use Rattle.dq_list.specs.Readers.{◌>>=◌, provided}
+use Rattle.dq_list.specs.Readers.{◌>>=◌, only_if}
 use Rattle.dq_list.proofs.Among.{among_between}
 use Rattle.dq_dataset.specs.declared.fault.ReadFault.{ReadFault}
 use Rattle.dq_dataset.specs.declared.header.Syntax.{Syntax}
@@ -19,10 +19,10 @@ use Rattle.dq_dataset.specs.Canonical.{canonical}
 use Rattle.dq_dimse.specs.Received.{Message}
 use Rattle.dq_config.specs.Limits.{Limits}
 use Rattle.dq_match.specs.Matching.{fits}
-use Rattle.dq_match.specs.Responses.{shown}
+use Rattle.dq_match.specs.Responses.{shown_data_set}
 use Rattle.dq_tables.specs.declared.row.Kind.TheVariants.{Entry}
 use Rattle.dq_tables.specs.declared.row.Row.{Row}
-use Rattle.dq_tables.specs.Rows.{Record, Place, place_of, Edit, Put, Remove, IsRising, record_of, of, by, after, number_of as kind_number, kind_order, octet_order, place_order, edited, edited_by, records_before, records_past}
+use Rattle.dq_tables.specs.Rows.{Record, Place, record_place, Edit, Put, Remove, IsRising, record_of, of, by, after, number_of_kind as kind_number, kind_order, octet_order, place_order, records_after_edits, edited_by, records_before, records_past}
 use Rattle.dq_tables.specs.Finding.{record_at, same_kind}
 use Rattle.dq_tables.specs.Keys.{entry_id}
 use Rattle.dq_tables.specs.Records.{data_set_of}
@@ -30,22 +30,22 @@ use Rattle.dq_tables.specs.Serving.{first_refusal}
 use Rattle.dq_tables.proofs.InOrder.{is_eq_then, is_eq_nat}
 use Rattle.dq_tables.proofs.Lens.{others}
 use Rattle.dq_worklist.specs.declared.refusal.Refusal.{Refusal}
-use Rattle.dq_worklist.specs.Orders.{Order, rows_named, number_of, is_complete, read_order, order_limit, has_entry, entry_of, answered, refusals, scheduled, withdrawn}
-use Rattle.dq_worklist.specs.Queries.{answers, listed}
+use Rattle.dq_worklist.specs.Orders.{Order, rows_named, refusal_number, is_complete, read_order, order_limit, has_entry, entry_of, refusal_or_entry, refusals, schedule_outcome, withdrawn}
+use Rattle.dq_worklist.specs.Queries.{answers_of_entries, worklist_outcome}
 use Rattle.dq_worklist.specs.Views.{order_of}
 use Rattle.dq_worklist.proofs.Matching.{match_shown}
 use Rattle.dq_worklist.proofs.Orders.{malformed}
 
 -- ---- refusals
 
-outcome_refused : (r : Option Refusal) (o : Option Order) (number : ℕ) (edits : List Edit) → answered r o ≡ (Some number, edits) → edits ≡ []
+outcome_refused : (r : Option Refusal) (o : Option Order) (number : ℕ) (edits : List Edit) → refusal_or_entry r o ≡ (Some number, edits) → edits ≡ []
 outcome_refused (Some refusal) o number edits e = sym (ap (λ (x : Option ℕ × List Edit). x.1) e)
 outcome_refused None None number edits e = sym (ap (λ (x : Option ℕ × List Edit). x.1) e)
 outcome_refused None (Some order) number edits e = (let no : None ≡ Some number = ap (λ (x : Option ℕ × List Edit). x.0) e in cc)
 
 pub refused_schedules_nothing : (limits : Limits) (records : List Record) (octets : List ℕ) (number : ℕ) (edits : List Edit)
-    → scheduled limits records octets ≡ (Some number, edits) → edits ≡ []
-unfolding scheduled
+    → schedule_outcome limits records octets ≡ (Some number, edits) → edits ≡ []
+unfolding schedule_outcome
 refused_schedules_nothing limits records octets number edits e =
     outcome_refused (first_refusal (refusals limits records octets (reading Explicit octets))) (read_order (reading Explicit octets)) number edits e
 
@@ -62,15 +62,15 @@ unfolding withdrawn
 refused_withdraws_nothing records id number edits e = withdrawn_by (has_entry records id) (Remove Entry id ∷ []) 5 number edits e
 
 outcome_accepted : (r : Option Refusal) (o : Option Order) (order : Order) (edits : List Edit) → o ≡ Some order
-    → answered r o ≡ (None, edits) → edits ≡ Put (entry_of order) ∷ []
-outcome_accepted (Some refusal) o order edits same e = (let no : Some (number_of refusal) ≡ None = ap (λ (x : Option ℕ × List Edit). x.0) e in cc)
+    → refusal_or_entry r o ≡ (None, edits) → edits ≡ Put (entry_of order) ∷ []
+outcome_accepted (Some refusal) o order edits same e = (let no : Some (refusal_number refusal) ≡ None = ap (λ (x : Option ℕ × List Edit). x.0) e in cc)
 outcome_accepted None None order edits same e = cc
 outcome_accepted None (Some other) order edits same e =
     sym (ap (λ (x : Option ℕ × List Edit). x.1) e) ∙ (let one : other ≡ order = cc in ap (λ (o : Order). Put (entry_of o) ∷ []) one)
 
 pub accepted_is_put : (limits : Limits) (records : List Record) (octets : List ℕ) (edits : List Edit) (order : Order)
-    → scheduled limits records octets ≡ (None, edits) → read_order (reading Explicit octets) ≡ Some order → edits ≡ Put (entry_of order) ∷ []
-unfolding scheduled
+    → schedule_outcome limits records octets ≡ (None, edits) → read_order (reading Explicit octets) ≡ Some order → edits ≡ Put (entry_of order) ∷ []
+unfolding schedule_outcome
 accepted_is_put limits records octets edits order e same =
     outcome_accepted (first_refusal (refusals limits records octets (reading Explicit octets))) (read_order (reading Explicit octets)) order edits same e
 
@@ -83,7 +83,7 @@ withdrawn_is false kept n edits e = (let no : Some n ≡ None = ap (λ (x : Opti
 abbrev stands_at : Place → Record → Bool
 stands_at p r = same_kind r.kind p.kind && bytes_eq r.key p.key
 
-stands_in_order : (p : Place) (r : Record) → stands_at p r ≡ is_eq (place_order (place_of r) p)
+stands_in_order : (p : Place) (r : Record) → stands_at p r ≡ is_eq (place_order (record_place r) p)
 stands_in_order p r =
     sym (is_eq_then (kind_order r.kind p.kind) (octet_order r.key p.key)
     ∙ ap (λ (b : Bool). is_eq (kind_order r.kind p.kind) && b) (is_eq-slice_cmp r.key p.key)
@@ -92,7 +92,7 @@ stands_in_order p r =
 abbrev first_at : Place → List Record → Option Record
 first_at p rs = find (stands_at p) rs
 
-elsewhere_step : (p : Place) (test : Ordering → Bool) → test Equal ≡ false → (r : Record) (rest : List Record) (o : Ordering) → place_order (place_of r) p ≡ o
+elsewhere_step : (p : Place) (test : Ordering → Bool) → test Equal ≡ false → (r : Record) (rest : List Record) (o : Ordering) → place_order (record_place r) p ≡ o
     → first_at p rest ≡ None → (b : Bool) → test o ≡ b → first_at p (if b then r ∷ rest else rest) ≡ None
 elsewhere_step p test apart r rest o e none false is = none
 elsewhere_step p test apart r rest Less e none true is = rw (stands_in_order p r, e) none
@@ -100,11 +100,11 @@ elsewhere_step p test apart r rest Equal e none true is = (let no : true ≡ fal
 elsewhere_step p test apart r rest Greater e none true is = rw (stands_in_order p r, e) none
 
 none_elsewhere : (p : Place) (test : Ordering → Bool) → test Equal ≡ false → (rs : List Record)
-    → first_at p (filter (λ (r : Record). test (place_order (place_of r) p)) rs) ≡ None
+    → first_at p (filter (λ (r : Record). test (place_order (record_place r) p)) rs) ≡ None
 none_elsewhere p test apart [] = refl
 none_elsewhere p test apart (r ∷ rs) =
-    elsewhere_step p test apart r (filter (λ (r : Record). test (place_order (place_of r) p)) rs) (place_order (place_of r) p) refl
-    (none_elsewhere p test apart rs) (test (place_order (place_of r) p)) refl
+    elsewhere_step p test apart r (filter (λ (r : Record). test (place_order (record_place r) p)) rs) (place_order (record_place r) p) refl
+    (none_elsewhere p test apart rs) (test (place_order (record_place r) p)) refl
 
 passed : {X : Type 0} (t : X → Bool) (x : X) (xs ys : List X) (b : Bool) → t x ≡ b → (find t xs ≡ None → find t (xs ++ ys) ≡ find t ys)
     → (if b then Some x else find t xs) ≡ None → (if b then Some x else find t (xs ++ ys)) ≡ find t ys
@@ -116,14 +116,14 @@ none_before t [] ys none = refl
 none_before t (x ∷ xs) ys none = passed t x xs ys (t x) refl (none_before t xs ys) none
 
 pub withdrawn_is_free : (records : List Record) (id : List ℕ) (edits : List Edit) → withdrawn records id ≡ (None, edits)
-    → has_entry (edited edits records) id ≡ false
+    → has_entry (records_after_edits edits records) id ≡ false
 unfolding withdrawn edited_by record_at
 withdrawn_is_free records id edits e =
     let p : Place = record { kind = Entry; key = id } in
     let gone : has_entry (edited_by (Remove Entry id) records) id ≡ false =
     ap is_some (none_before (stands_at p) (records_before p records ++ []) (records_past p records)
     (none_before (stands_at p) (records_before p records) [] (none_elsewhere p is_lt refl records)) ∙ none_elsewhere p is_gt refl records) in
-    ap (λ (es : List Edit). has_entry (edited es records) id) (withdrawn_is (has_entry records id) (Remove Entry id ∷ []) 5 edits e) ∙ gone
+    ap (λ (es : List Edit). has_entry (records_after_edits es records) id) (withdrawn_is (has_entry records id) (Remove Entry id ∷ []) 5 edits e) ∙ gone
 
 found_step : {X : Type 0} (t : X → Bool) (x : X) (xs ys : List X) (b : Bool) → is_some (find t (xs ++ ys)) ≡ true
     → is_some (if b then Some x else find t (xs ++ ys)) ≡ true
@@ -141,19 +141,19 @@ put_there order records =
     found_between (stands_at p) (records_before p records) (entry_of order) (records_past p records) ((bytes_eq-Decides order.id order.id).1 refl)
 
 pub scheduled_is_there : (limits : Limits) (records : List Record) (octets : List ℕ) (edits : List Edit) (order : Order)
-    → scheduled limits records octets ≡ (None, edits) → read_order (reading Explicit octets) ≡ Some order → has_entry (edited edits records) order.id ≡ true
+    → schedule_outcome limits records octets ≡ (None, edits) → read_order (reading Explicit octets) ≡ Some order → has_entry (records_after_edits edits records) order.id ≡ true
 scheduled_is_there limits records octets edits order e same =
-    ap (λ (es : List Edit). has_entry (edited es records) order.id) (accepted_is_put limits records octets edits order e same) ∙ put_there order records
+    ap (λ (es : List Edit). has_entry (records_after_edits es records) order.id) (accepted_is_put limits records octets edits order e same) ∙ put_there order records
 
 -- ---- answers
 
 pub listed_alike : (g h : List ℕ) → h ≢ g → (edits : List Edit) (rows : List Row) (message : Message) (syntax : Syntax) → IsRising rows
-    → listed (of g (after (by h edits) rows)) message syntax ≡ listed (of g rows) message syntax
-listed_alike g h other edits rows message syntax rising = ap (λ (records : List Record). listed records message syntax) (others g h other edits rows rising)
+    → worklist_outcome (of g (after (by h edits) rows)) message syntax ≡ worklist_outcome (of g rows) message syntax
+listed_alike g h other edits rows message syntax rising = ap (λ (records : List Record). worklist_outcome records message syntax) (others g h other edits rows rising)
 
 module _ (keys : ElementList) where
   put_answered : (order : Order) → fits keys (data_set_of (entry_of order).octets) ≡ true → (records : List Record)
-      → IsAmong (shown keys (data_set_of (entry_of order).octets)) (answers (edited_by (Put (entry_of order)) records) keys)
+      → IsAmong (shown_data_set keys (data_set_of (entry_of order).octets)) (answers_of_entries (edited_by (Put (entry_of order)) records) keys)
   unfolding edited_by
   put_answered order fit records =
       let p : Place = record { kind = Entry; key = order.id } in
@@ -161,24 +161,24 @@ module _ (keys : ElementList) where
       match_shown (edited_by (Put (entry_of order)) records) keys (entry_of order) (record { kept = among; kind = refl; waiting = refl; fit = fit })
 
   pub scheduled_is_answered : (limits : Limits) (records : List Record) (octets : List ℕ) (edits : List Edit) (order : Order)
-      → reading Explicit (canonical Explicit order.elements) ≡ Ok order.elements → scheduled limits records octets ≡ (None, edits)
+      → reading Explicit (canonical Explicit order.elements) ≡ Ok order.elements → schedule_outcome limits records octets ≡ (None, edits)
       → read_order (reading Explicit octets) ≡ Some order → fits keys order.elements ≡ true
-      → IsAmong (shown keys order.elements) (answers (edited edits records) keys)
+      → IsAmong (shown_data_set keys order.elements) (answers_of_entries (records_after_edits edits records) keys)
   unfolding data_set_of
   scheduled_is_answered limits records octets edits order back e same fit =
       let d : data_set_of (canonical Explicit order.elements) ≡ order.elements = rw back refl in
-      subst (λ (es : List Edit). IsAmong (shown keys order.elements) (answers (edited es records) keys))
+      subst (λ (es : List Edit). IsAmong (shown_data_set keys order.elements) (answers_of_entries (records_after_edits es records) keys))
       (sym (accepted_is_put limits records octets edits order e same))
-      (subst (λ (x : ElementList). IsAmong (shown keys x) (answers (edited_by (Put (entry_of order)) records) keys)) d
+      (subst (λ (x : ElementList). IsAmong (shown_data_set keys x) (answers_of_entries (edited_by (Put (entry_of order)) records) keys)) d
       (put_answered order (ap (fits keys) d ∙ fit) records))
 
 -- ---- what was read of an order
 
-order_by_test : (b : Bool) (d : ElementList) (id : List ℕ) (order : Order) → provided b (order_of d id) ≡ Some order → d ≡ order.elements
+order_by_test : (b : Bool) (d : ElementList) (id : List ℕ) (order : Order) → only_if b (order_of d id) ≡ Some order → d ≡ order.elements
 order_by_test true d id order e = (let one : order_of d id ≡ order = cc in ap (λ (o : Order). o.elements) one)
 order_by_test false d id order e = cc
 
-order_by_id : (id : Option (List ℕ)) (d : ElementList) (order : Order) → id >>= (λ i. provided (is_complete d) (order_of d i)) ≡ Some order → d ≡ order.elements
+order_by_id : (id : Option (List ℕ)) (d : ElementList) (order : Order) → id >>= (λ i. only_if (is_complete d) (order_of d i)) ≡ Some order → d ≡ order.elements
 order_by_id None d order e = cc
 order_by_id (Some id) d order e = order_by_test (is_complete d) d id order e
 
@@ -196,13 +196,13 @@ refused_or_not n edits e = absurd (some_or_none n (ap (λ (x : Option ℕ × Lis
     some_or_none n h = cc
 
 within_by : (limits : Limits) (records : List Record) (octets : List ℕ) (edits : List Edit) (long : Bool) → nat_lt order_limit (length octets) ≡ long
-    → scheduled limits records octets ≡ (None, edits) → length octets < 2 ^ 31
+    → schedule_outcome limits records octets ≡ (None, edits) → length octets < 2 ^ 31
 within_by limits records octets edits true is e =
-    let refused : scheduled limits records octets ≡ (Some 1, []) = malformed limits records octets (rw is refl) in
+    let refused : schedule_outcome limits records octets ≡ (Some 1, []) = malformed limits records octets (rw is refl) in
     refused_or_not 1 edits (sym refused ∙ e)
 within_by limits records octets edits false is e = not_past (length octets) is
 
-pub scheduled_is_short : (limits : Limits) (records : List Record) (octets : List ℕ) (edits : List Edit) → scheduled limits records octets ≡ (None, edits)
+pub scheduled_is_short : (limits : Limits) (records : List Record) (octets : List ℕ) (edits : List Edit) → schedule_outcome limits records octets ≡ (None, edits)
     → length octets < 2 ^ 31
 scheduled_is_short limits records octets edits e = within_by limits records octets edits (nat_lt order_limit (length octets)) refl e
 
@@ -213,16 +213,16 @@ unfolding of
 of_named own rows alike same = ap (map record_of) same
 
 pub scheduled_alike : (own : List ℕ) (rows alike : List Row) (limits : Limits) (octets : List ℕ) → rows_named own rows ≡ rows_named own alike
-    → scheduled limits (of own rows) octets ≡ scheduled limits (of own alike) octets
-scheduled_alike own rows alike limits octets same = ap (λ (records : List Record). scheduled limits records octets) (of_named own rows alike same)
+    → schedule_outcome limits (of own rows) octets ≡ schedule_outcome limits (of own alike) octets
+scheduled_alike own rows alike limits octets same = ap (λ (records : List Record). schedule_outcome limits records octets) (of_named own rows alike same)
 
 pub withdrawn_alike : (own : List ℕ) (rows alike : List Row) (id : List ℕ) → rows_named own rows ≡ rows_named own alike
     → withdrawn (of own rows) id ≡ withdrawn (of own alike) id
 withdrawn_alike own rows alike id same = ap (λ (records : List Record). withdrawn records id) (of_named own rows alike same)
 
 pub others_scheduled : (own other : List ℕ) → own ≢ other → (limits : Limits) (rows : List Row) (octets : List ℕ) → IsRising rows
-    → of other (after (by own (scheduled limits (of own rows) octets).1) rows) ≡ of other rows
-others_scheduled own other apart limits rows octets rising = others other own apart (scheduled limits (of own rows) octets).1 rows rising
+    → of other (after (by own (schedule_outcome limits (of own rows) octets).1) rows) ≡ of other rows
+others_scheduled own other apart limits rows octets rising = others other own apart (schedule_outcome limits (of own rows) octets).1 rows rising
 
 pub others_withdrawn : (own other : List ℕ) → own ≢ other → (rows : List Row) (id : List ℕ) → IsRising rows
     → of other (after (by own (withdrawn (of own rows) id).1) rows) ≡ of other rows

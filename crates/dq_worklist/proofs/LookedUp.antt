@@ -1,7 +1,7 @@
 -- Where a query asks for one step's id, no entry with another id matches, and the entry that is
 -- looked up gives the answers of all. Else those give them that wait.
-use Rattle.std.proofs.Common.{◌≡◌, ◌≢◌, ℕ, Bool, true, false, not, ◌&&◌, List, [], ◌∷◌, map, find, filter, Option, Some, None, option_map, Result, Ok, Err, inl, inr, refl, sym, ap, subst, ◌∙◌, cond, if◌then◌else◌}
-use Rattle.std.specs.List.{AllByRecursion, filter_map, cons_option}
+use Rattle.std.proofs.Common.{◌≡◌, ◌≢◌, ℕ, Bool, true, false, not, ◌&&◌, List, [], ◌∷◌, map, find, filter, Option, Some, None, option_map, Result, Ok, Err, inl, inr, refl, sym, ap, ◌∙◌, cond, if◌then◌else◌}
+use Rattle.std.specs.List.{filter_map, cons_option}
 use Rattle.std.specs.Option.{option_to_list}
 use Rattle.std.specs.Str.{bytes_eq}
 use Rattle.std.specs.declared.cmp.Ordering.TheVariants.{Less}
@@ -19,8 +19,8 @@ use Rattle.dq_dataset.specs.Canonical.{canonical}
 use Rattle.dq_dataset.specs.Values.{sole_at}
 use Rattle.dq_dataset.proofs.KnownVrs.{read_has_known_inside, facts_give_known_inside}
 use Rattle.dq_match.specs.Matching.{fits}
-use Rattle.dq_match.specs.Responses.{shown}
-use Rattle.dq_match.specs.Answers.{answer}
+use Rattle.dq_match.specs.Responses.{shown_data_set}
+use Rattle.dq_match.specs.Answers.{answer_to_keys}
 use Rattle.dq_match.specs.Several.{is_plain}
 use Rattle.dq_match.proofs.Answering.{given_of_each, given_skipped}
 use Rattle.dq_tables.specs.declared.row.Kind.{Kind}
@@ -29,27 +29,17 @@ use Rattle.dq_tables.specs.declared.row.Row.{Row}
 use Rattle.dq_tables.specs.Rows.{Record, octet_order, record_of, row_of, of}
 use Rattle.dq_tables.specs.Finding.{same_kind, record_at, records_of, waiting_among}
 use Rattle.dq_tables.specs.Records.{AreInOrder, data_set_of}
-use Rattle.dq_tables.specs.Keys.{passing, is_id, sole_item_at, id_of, id_in, entry_id}
-use Rattle.dq_tables.specs.Sound.{IsSound, is_own, is_record_of, may_be_started, is_value, has_key, has_above, is_within}
+use Rattle.dq_tables.specs.Keys.{is_id, sole_item_at, id_of, id_in, entry_id}
+use Rattle.dq_tables.specs.Sound.{IsSound, is_own_row, is_record_of, may_be_started, has_key, has_above, is_within_limits}
 use Rattle.dq_tables.proofs.Listing.{of_kind_from, listed_in_order}
 use Rattle.dq_tables.proofs.Rising.{each_among}
-use Rattle.dq_worklist.specs.Candidates.{id_asked_in, id_asked, entries_with, candidates, answer_of}
-use Rattle.dq_worklist.specs.Queries.{answers}
+use Rattle.dq_archive.proofs.OwnRecords.{of_each, passed, value_from}
+use Rattle.dq_worklist.specs.Candidates.{id_asked_in, id_asked, entries_with, entry_candidates, entry_answer}
+use Rattle.dq_worklist.specs.Queries.{answers_of_entries}
 use Rattle.dq_worklist.proofs.Queries.{row_answers}
 use Rattle.dq_worklist.proofs.Steps.{AllKnownInside, EachAlone, ItemsMet, HasStep, fits_alone}
 
 -- ---- what an entry's own key is
-
-passed_by : (test : List ℕ → Bool) (value id : List ℕ) (b : Bool) → test value ≡ b → (if b then Some value else None) ≡ Some id
-    → (value ≡ id) × (test id ≡ true)
-passed_by test value id true e h = (let same : value ≡ id = cc in (same, ap test (sym same) ∙ e))
-passed_by test value id false e h = absurd cc
-
-passed : (test : List ℕ → Bool) (value : Option (List ℕ)) (id : List ℕ) → passing test value ≡ Some id → (value ≡ Some id) × (test id ≡ true)
-passed test None id h = absurd cc
-passed test (Some value) id h =
-    let parts = passed_by test value id (test value) refl h in
-    (ap (λ (o : List ℕ). Some o) parts.0, parts.1)
 
 asked_by : (keys : ElementList) (id : List ℕ) (o : Option ElementList) → sole_item_at scheduled_procedure_step_sequence keys ≡ o
     → id_asked_in o ≡ Some id → HasStep scheduled_procedure_step_id keys id × (is_plain id ≡ true)
@@ -69,10 +59,6 @@ held_by d id None is h = absurd cc
 held_by d id (Some step) is h =
     record { step = step; there = is; has = (passed is_id (sole_at scheduled_procedure_step_id step) id h).0 }
 
-value_from : (value : Option (List ℕ)) (key : List ℕ) → is_value value key ≡ true → value ≡ Some key
-value_from None key h = absurd cc
-value_from (Some v) key h = ap (λ (o : List ℕ). Some o) ((bytes_eq-Decides v key).0 h)
-
 abbrev HasOwnId : Record → Type 0
 HasOwnId r = AllKnownInside (data_set_of r.octets) × (has_key r.kind r.key (data_set_of r.octets) ≡ true)
 
@@ -82,31 +68,15 @@ unfolding data_set_of
 own_by (Err fault) row is own = absurd cc
 own_by (Ok d) row is own =
     let keys = (and_parts (bytes_eq (canonical Explicit d) row.octets)
-    (has_key row.kind row.key d && (has_above row.kind row.above d && is_within row.kind row.octets)) own).1 in
-    let key = (and_parts (has_key row.kind row.key d) (has_above row.kind row.above d && is_within row.kind row.octets) keys).0 in
+    (has_key row.kind row.key d && (has_above row.kind row.above d && is_within_limits row.kind row.octets)) own).1 in
+    let key = (and_parts (has_key row.kind row.key d) (has_above row.kind row.above d && is_within_limits row.kind row.octets) keys).0 in
     rw is (read_has_known_inside Explicit row.octets d is, key)
 
-row_own : (row : Row) → is_own row ≡ true → HasOwnId (record_of row)
-unfolding is_own
+row_own : (row : Row) → is_own_row row ≡ true → HasOwnId (record_of row)
+unfolding is_own_row
 row_own row own =
     own_by (reading Explicit row.octets) row refl
     (and_parts (may_be_started row.kind row.started) (is_record_of (reading Explicit row.octets) row) own).1
-
-module _ (r : Record) where
-  own_step : (row : Row) (b : Bool) (kept : List Row) → is_own row ≡ true → (IsAmong r (map record_of kept) → HasOwnId r)
-      → IsAmong r (map record_of (if b then row ∷ kept else kept)) → HasOwnId r
-  own_step row true kept own rest (inl e) = subst HasOwnId e (row_own row own)
-  own_step row true kept own rest (inr h) = rest h
-  own_step row false kept own rest h = rest h
-
-  own_filtered : (p : Row → Bool) (rows : List Row) → AllByRecursion (λ (row : Row). is_own row ≡ true) rows
-      → IsAmong r (map record_of (filter p rows)) → HasOwnId r
-  own_filtered p [] own h = absurd h
-  own_filtered p (row ∷ rows) own h = own_step row (p row) (filter p rows) own.0 (own_filtered p rows own.1) h
-
-own_id : (institution : List ℕ) (rows : List Row) (r : Record) → IsSound rows → IsAmong r (of institution rows) → HasOwnId r
-unfolding of
-own_id institution rows r sound h = own_filtered r (λ (row : Row). bytes_eq row.inst institution) rows sound.own h
 
 entry_step : (r : Record) → r.kind ≡ Entry → has_key r.kind r.key (data_set_of r.octets) ≡ true → HasStep scheduled_procedure_step_id (data_set_of r.octets) r.key
 unfolding has_key entry_id
@@ -116,7 +86,7 @@ entry_step r is own =
 
 -- ---- the answers of the one that is looked up
 
-none_by : (keys d : ElementList) (b : Bool) → fits keys d ≡ b → (fits keys d ≡ true → ⊥) → (if b then Some (shown keys d) else None) ≡ None
+none_by : (keys d : ElementList) (b : Bool) → fits keys d ≡ b → (fits keys d ≡ true → ⊥) → (if b then Some (shown_data_set keys d) else None) ≡ None
 none_by keys d true is other = absurd (other is)
 none_by keys d false is other = refl
 
@@ -161,7 +131,7 @@ module _ (Given : Type 0) (f : Record → Option Given) (id : List ℕ) where
 -- ---- the rows of those that are looked at
 
 pub all_candidates : (institution : List ℕ) (records : List Record) (keys : ElementList) → None ≡ id_asked keys
-    → map (row_of institution) (waiting_among records) ≡ map (row_of institution) (candidates records keys)
+    → map (row_of institution) (waiting_among records) ≡ map (row_of institution) (entry_candidates records keys)
 all_candidates institution records keys none = ap (λ (o : Option (List ℕ)). map (row_of institution) (entries_with records o)) none
 
 mapped : (institution : List ℕ) (o : Option Record) → option_to_list (option_map (row_of institution) o) ≡ map (row_of institution) (option_to_list o)
@@ -170,32 +140,32 @@ mapped institution (Some r) = refl
 
 pub one_candidate : (institution : List ℕ) (records : List Record) (keys : ElementList) (id : List ℕ) (row : Option Row) (listed : List Row)
     → Some id ≡ id_asked keys → row ≡ option_map (row_of institution) (record_at Entry id records) → listed ≡ option_to_list row
-    → listed ≡ map (row_of institution) (candidates records keys)
+    → listed ≡ map (row_of institution) (entry_candidates records keys)
 one_candidate institution records keys id row listed asked found is =
     is ∙ ap option_to_list found ∙ mapped institution (record_at Entry id records)
     ∙ ap (λ (o : Option (List ℕ)). map (row_of institution) (entries_with records o)) asked
 
 -- what those give that wait
 waiting_step : (keys : ElementList) (r : Record) (left entries : List Record) (b : Bool) → r.started ≡ b
-    → filter_map (λ (s : Record). answer keys (data_set_of s.octets)) left ≡ filter_map (answer_of keys) entries
-    → filter_map (λ (s : Record). answer keys (data_set_of s.octets)) (if not b then r ∷ left else left)
-    ≡ cons_option (if b then None else answer keys (data_set_of r.octets)) (filter_map (answer_of keys) entries)
+    → filter_map (λ (s : Record). answer_to_keys keys (data_set_of s.octets)) left ≡ filter_map (entry_answer keys) entries
+    → filter_map (λ (s : Record). answer_to_keys keys (data_set_of s.octets)) (if not b then r ∷ left else left)
+    ≡ cons_option (if b then None else answer_to_keys keys (data_set_of r.octets)) (filter_map (entry_answer keys) entries)
 waiting_step keys r left entries true is rest = rest
-waiting_step keys r left entries false is rest = ap (cons_option (answer keys (data_set_of r.octets))) rest
+waiting_step keys r left entries false is rest = ap (cons_option (answer_to_keys keys (data_set_of r.octets))) rest
 
 waiting_give : (keys : ElementList) (entries : List Record)
-    → filter_map (λ (r : Record). answer keys (data_set_of r.octets)) (filter (λ (r : Record). not r.started) entries)
-    ≡ filter_map (answer_of keys) entries
+    → filter_map (λ (r : Record). answer_to_keys keys (data_set_of r.octets)) (filter (λ (r : Record). not r.started) entries)
+    ≡ filter_map (entry_answer keys) entries
 waiting_give keys [] = refl
 waiting_give keys (r ∷ entries) =
     waiting_step keys r (filter (λ (s : Record). not s.started) entries) entries r.started refl (waiting_give keys entries)
 
-none_of : (keys : ElementList) (r : Record) (b : Bool) → answer keys (data_set_of r.octets) ≡ None
-    → (if b then None else answer keys (data_set_of r.octets)) ≡ None
+none_of : (keys : ElementList) (r : Record) (b : Bool) → answer_to_keys keys (data_set_of r.octets) ≡ None
+    → (if b then None else answer_to_keys keys (data_set_of r.octets)) ≡ None
 none_of keys r true none = refl
 none_of keys r false none = none
 
-started_gives : (keys : ElementList) (r : Record) (b : Bool) → not b ≡ false → (if b then None else answer keys (data_set_of r.octets)) ≡ None
+started_gives : (keys : ElementList) (r : Record) (b : Bool) → not b ≡ false → (if b then None else answer_to_keys keys (data_set_of r.octets)) ≡ None
 started_gives keys r true is = refl
 started_gives keys r false is = absurd cc
 
@@ -205,10 +175,10 @@ module _ (each_alone : EachAlone) (items_met : ItemsMet) (institution : List ℕ
   known_keys = facts_give_known_inside 16 None keys facts
 
   other_gives_none : (id : List ℕ) → id_asked keys ≡ Some id → (r : Record) → IsAmong r (records_of Entry (of institution rows)) → r.key ≢ id
-      → answer keys (data_set_of r.octets) ≡ None
+      → answer_to_keys keys (data_set_of r.octets) ≡ None
   other_gives_none id asked r h other =
       let entry = of_kind_from Entry r (of institution rows) h in
-      let own = own_id institution rows r sound entry.0 in
+      let own = of_each HasOwnId row_own r institution rows sound entry.0 in
       let held = entry_step r entry.1 own.1 in
       let key = step_asked keys id asked in
       none_by keys (data_set_of r.octets) (fits keys (data_set_of r.octets)) refl (λ fit.
@@ -216,23 +186,23 @@ module _ (each_alone : EachAlone) (items_met : ItemsMet) (institution : List ℕ
       key.0.there held.there key.0.has held.has key.1 fit)))
 
   -- those that are started give none
-  by_waiting : filter_map (answer_of keys) (waiting_among (of institution rows)) ≡ filter_map (answer_of keys) (records_of Entry (of institution rows))
-  by_waiting = given_skipped (answer_of keys) (λ (r : Record). not r.started) (records_of Entry (of institution rows)) (λ r h is. started_gives keys r r.started is)
+  by_waiting : filter_map (entry_answer keys) (waiting_among (of institution rows)) ≡ filter_map (entry_answer keys) (records_of Entry (of institution rows))
+  by_waiting = given_skipped (entry_answer keys) (λ (r : Record). not r.started) (records_of Entry (of institution rows)) (λ r h is. started_gives keys r r.started is)
 
   by_asked : (o : Option (List ℕ)) → id_asked keys ≡ o
-      → filter_map (answer_of keys) (entries_with (of institution rows) o)
-      ≡ filter_map (answer_of keys) (records_of Entry (of institution rows))
+      → filter_map (entry_answer keys) (entries_with (of institution rows) o)
+      ≡ filter_map (entry_answer keys) (records_of Entry (of institution rows))
   by_asked None is = by_waiting
   by_asked (Some id) is =
-      one_gives_all _ (answer_of keys) id (of institution rows) (listed_in_order Entry institution rows sound.rising)
+      one_gives_all _ (entry_answer keys) id (of institution rows) (listed_in_order Entry institution rows sound.rising)
       (λ r h other. none_of keys r r.started (other_gives_none id is r h other))
 
   -- the answers of the entries that are looked at
   pub answered_of_candidates : (listed_rows : List Row) (found : List ElementList)
-      → listed_rows ≡ map (row_of institution) (candidates (of institution rows) keys) → found ≡ row_answers keys listed_rows
-      → found ≡ answers (of institution rows) keys
-  unfolding answers
+      → listed_rows ≡ map (row_of institution) (entry_candidates (of institution rows) keys) → found ≡ row_answers keys listed_rows
+      → found ≡ answers_of_entries (of institution rows) keys
+  unfolding answers_of_entries
   answered_of_candidates listed_rows found is_listed is_found =
       is_found ∙ ap (row_answers keys) is_listed
-      ∙ given_of_each (λ (row : Row). answer_of keys (record_of row)) (row_of institution) (candidates (of institution rows) keys)
+      ∙ given_of_each (λ (row : Row). entry_answer keys (record_of row)) (row_of institution) (entry_candidates (of institution rows) keys)
       ∙ by_asked (id_asked keys) refl ∙ sym (waiting_give keys (records_of Entry (of institution rows)))

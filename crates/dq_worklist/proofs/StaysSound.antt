@@ -3,7 +3,7 @@ use Rattle.std.proofs.Common.{◌≡◌, ℕ, ◌≤◌, Bool, true, false, nat_
 use Rattle.std.specs.List.{AllByRecursion}
 use Rattle.std.specs.Result.{result_ok}
 use Rattle.std.proofs.lemmas.Bool.Decides.{nat_tests}
-use Rattle.dq_list.specs.Readers.{◌>>=◌, provided}
+use Rattle.dq_list.specs.Readers.{◌>>=◌, only_if}
 use Rattle.dq_list.proofs.Readers.{provided_some}
 use Rattle.dq_dataset.specs.declared.fault.ReadFault.{ReadFault}
 use Rattle.dq_dataset.specs.declared.header.Syntax.TheVariants.{Explicit}
@@ -14,14 +14,14 @@ use Rattle.dq_config.specs.Limits.{Limits}
 use Rattle.dq_tables.specs.declared.change.Change.TheVariants.{EntryAdded, EntryRemoved}
 use Rattle.dq_tables.specs.declared.row.Kind.TheVariants.{Entry}
 use Rattle.dq_tables.specs.declared.row.Row.{Row}
-use Rattle.dq_tables.specs.Rows.{Record, Edit, Put, Remove, of, by, after, after_edit, place, place_of, row_of, rows_before, rows_past, within}
+use Rattle.dq_tables.specs.Rows.{Record, Edit, Put, Remove, of, by, after, after_edit, place, record_place, row_of, rows_before, rows_past, within}
 use Rattle.dq_tables.specs.Keys.{entry_id}
 use Rattle.dq_tables.specs.Sound.{IsSound}
 use Rattle.dq_tables.proofs.Order.{each_appended, each_filtered, is_before, is_past}
 use Rattle.dq_tables.proofs.Soundness.{change_sound}
 use Rattle.dq_archive.proofs.Looking.{there_own, free_own}
 use Rattle.dq_worklist.specs.declared.refusal.Refusal.TheVariants.{Taken, Full}
-use Rattle.dq_worklist.specs.Orders.{Order, order_in, order_limit, is_complete, has_entry, is_full, entry_of, order_outcome, scheduled, withdrawn}
+use Rattle.dq_worklist.specs.Orders.{Order, order_in, order_limit, is_complete, has_entry, is_worklist_full, entry_of, order_outcome, schedule_outcome, withdrawn}
 use Rattle.dq_worklist.specs.Views.{order_of, CanBeKept, data_set_within}
 use Rattle.dq_worklist.proofs.Orders.{taken, full, accepted, order_refused, order_kept, malformed, incomplete, complete, there, not_there}
 use Rattle.dq_worklist.proofs.Records.{new_fits}
@@ -38,7 +38,7 @@ module _ (octets : List ℕ) (d : ElementList) where
   pub read_within : data_set_within octets ≡ Some d → (length octets ≤ 0x100000) × (reading Explicit octets ≡ Ok d)
   read_within some = within_by (nat_lt order_limit (length octets)) (reading Explicit octets) refl refl some
 
-own_by : (d : ElementList) (order : Order) (id : Option (List ℕ)) → entry_id d ≡ id → id >>= (λ i. provided (is_complete d) (order_of d i)) ≡ Some order
+own_by : (d : ElementList) (order : Order) (id : Option (List ℕ)) → entry_id d ≡ id → id >>= (λ i. only_if (is_complete d) (order_of d i)) ≡ Some order
     → (own : List ℕ) × (entry_id d ≡ Some own) × (order_of d own ≡ order)
 own_by d order None e some = cc
 own_by d order (Some own) e some = (own, e, (provided_some (is_complete d) (order_of d own) order some).1)
@@ -64,7 +64,7 @@ module _ (P : List Row → Type 0) (h : List ℕ) (rows : List Row) (holds : P r
         (λ free. keeps d read own.0 own.1 free) free
 
     room_stays : (d : ElementList) → data_set_within octets ≡ Some d → (order : Order) → order_in d ≡ Some order → has_entry (of h rows) order.id ≡ false
-        → (at_limit : Bool) → is_full limits (of h rows) ≡ at_limit → Stays (order_outcome limits (of h rows) order)
+        → (at_limit : Bool) → is_worklist_full limits (of h rows) ≡ at_limit → Stays (order_outcome limits (of h rows) order)
     room_stays d read order some free true at_limit =
         refused_stays _ _ (order_refused limits (of h rows) order Full (full limits (of h rows) order.id free at_limit))
     room_stays d read order some free false room =
@@ -74,20 +74,20 @@ module _ (P : List Row → Type 0) (h : List ℕ) (rows : List Row) (holds : P r
         → (has : Bool) → has_entry (of h rows) order.id ≡ has → Stays (order_outcome limits (of h rows) order)
     order_stays d read order some true has =
         refused_stays _ _ (order_refused limits (of h rows) order Taken (taken limits (of h rows) order.id has))
-    order_stays d read order some false free = room_stays d read order some free (is_full limits (of h rows)) refl
+    order_stays d read order some false free = room_stays d read order some free (is_worklist_full limits (of h rows)) refl
 
     read_stays : (d : ElementList) → data_set_within octets ≡ Some d → (order : Option Order) → order_in d ≡ order
-        → Stays (scheduled limits (of h rows) octets)
+        → Stays (schedule_outcome limits (of h rows) octets)
     read_stays d read None none = refused_stays _ _ (incomplete limits (of h rows) octets d read none)
     read_stays d read (Some order) some =
         subst Stays (sym (complete limits (of h rows) octets d order read some))
         (order_stays d read order some (has_entry (of h rows) order.id) refl)
 
-    scheduled_by : (d : Option ElementList) → data_set_within octets ≡ d → Stays (scheduled limits (of h rows) octets)
+    scheduled_by : (d : Option ElementList) → data_set_within octets ≡ d → Stays (schedule_outcome limits (of h rows) octets)
     scheduled_by None unread = refused_stays _ _ (malformed limits (of h rows) octets unread)
     scheduled_by (Some d) read = read_stays d read (order_in d) refl
 
-    pub scheduled_stays : P (after (by h (scheduled limits (of h rows) octets).1) rows)
+    pub scheduled_stays : P (after (by h (schedule_outcome limits (of h rows) octets).1) rows)
     scheduled_stays = scheduled_by (data_set_within octets) refl
 
   module _ (id : List ℕ) (keeps : has_entry (of h rows) id ≡ true → P (after (by h (Remove Entry id ∷ [])) rows)) where
@@ -115,7 +115,7 @@ module _ (Each : Row → Type 0) (h : List ℕ) (rows : List Row) (all : AllByRe
   pub each_put : (r : Record) → Each (row_of h r) → AllByRecursion Each (after_edit h (Put r) rows)
   unfolding after_edit
   each_put r new =
-      let p = within h (place_of r) in
+      let p = within h (record_place r) in
       each_appended Each (rows_before p rows ++ row_of h r ∷ []) (rows_past p rows)
       (each_appended Each (rows_before p rows) (row_of h r ∷ []) (each_filtered Each (is_before p) rows all) (new, tt))
       (each_filtered Each (is_past p) rows all)

@@ -18,7 +18,7 @@ use Rattle.dq_dataset.proofs.KnownVrs.{HasKnownInside, HaveKnownVrs}
 use Rattle.dq_match.specs.declared.keys.Place.{Place}
 use Rattle.dq_match.specs.declared.keys.Place.TheVariants.{Outer, Inner}
 use Rattle.dq_match.specs.Keys.{items_in}
-use Rattle.dq_match.specs.Matching.{period, is_passed, items_meet, all_met, fits, meets}
+use Rattle.dq_match.specs.Matching.{period, is_matched_elsewhere, items_meet, all_met, fits, meets}
 use Rattle.dq_match.specs.Fitting.{EachIsMet, PeriodIsMet, SomeItemFits}
 use Rattle.dq_match.specs.Several.{is_plain}
 use Rattle.dq_tables.specs.Keys.{sole_item_of, sole_item_at}
@@ -100,8 +100,8 @@ module _ (each_alone : EachAlone) (items_met : ItemsMet) where
       let key = step_of keys asked in_keys in
       let one = step_of d step in_held in
       let key_tag = step_tag keys asked known_keys key in
-      let alone : is_passed Outer (is_some (period keys d)) key.element.tag ≡ false =
-      ap (is_passed Outer (is_some (period keys d))) key_tag ∙ not_passed (is_some (period keys d)) Outer scheduled_procedure_step_sequence refl refl in
+      let alone : is_matched_elsewhere Outer (is_some (period keys d)) key.element.tag ≡ false =
+      ap (is_matched_elsewhere Outer (is_some (period keys d))) key_tag ∙ not_passed (is_some (period keys d)) Outer scheduled_procedure_step_sequence refl refl in
       let at : element_at key.element.tag d ≡ Some one.element = ap (λ (t : Tag). element_at t d) key_tag ∙ one.there in
       let items : items_in (Some one.element) ≡ step ∷ [] = rw one.holds refl in
       let met : items_meet (item asked no_items) (step ∷ []) ≡ true =

@@ -12,8 +12,8 @@ use Rattle.dq_tables.specs.declared.row.Kind.TheVariants.{Entry}
 use Rattle.dq_tables.specs.Rows.{Record}
 
 -- a C-FIND request with an Identifier
-abbrev pub request : ElementList → Message
-request identifier = record {
+abbrev pub worklist_request : ElementList → Message
+worklist_request identifier = record {
   context = 1;
   command = record {
     code = 0x0020;
@@ -34,8 +34,8 @@ worklist_item name step =
     (sequence tags.scheduled_procedure_step_sequence SQ (item step no_items) no_elements)
 
 -- of the steps of a modality, the names of the patients and when they start
-abbrev pub steps_of : List ℕ → ElementList
-steps_of modality = worklist_item []
+abbrev pub asked_steps : List ℕ → ElementList
+asked_steps modality = worklist_item []
     (element tags.modality CS modality
     (element tags.scheduled_procedure_step_start_time TM [] no_elements))
 
@@ -52,11 +52,11 @@ entry = record {
   started = false;
 }
 
-abbrev pub answer : ElementList
-answer = worklist_item (codes "DOE^JANE")
+abbrev pub example_answer : ElementList
+example_answer = worklist_item (codes "DOE^JANE")
     (element tags.modality CS (codes "CT")
     (element tags.scheduled_procedure_step_start_time TM (codes "1030") no_elements))
 
 -- answers, after which status 0000 ends the operation; all keys are supported
-abbrev pub found_with : List ElementList → Found
-found_with answers = record { status = success; optional = false; answers = answers }
+abbrev pub found_entries : List ElementList → Found
+found_entries answers = record { status = success; optional = false; answers = answers }

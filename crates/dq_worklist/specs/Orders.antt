@@ -3,7 +3,7 @@
 use Rattle.std.specs.Prelude.{ℕ, Bool, false, not, ◌&&◌, ◌||◌, nat_lt, nat_le, List, [], ◌∷◌, filter, length, if◌then◌else◌, Option, Some, None, is_some, is_none, option_map, Result, Ok, Err, is_err}
 use Rattle.std.specs.Str.{bytes_eq}
 use Rattle.dq_list.specs.Lengths.{is_empty}
-use Rattle.dq_list.specs.Readers.{◌>>=◌, provided}
+use Rattle.dq_list.specs.Readers.{◌>>=◌, only_if}
 use Rattle.dq_vr.specs.declared.Tag.{Tag}
 use Rattle.dq_vr.specs.Tags.{patient_name, patient_id, requested_procedure_id, study_instance_uid, scheduled_procedure_step_sequence, modality, scheduled_station_ae_title, scheduled_procedure_step_start_date, scheduled_procedure_step_start_time}
 use Rattle.dq_value.specs.Day.{day}
@@ -20,7 +20,7 @@ use Rattle.dq_tables.specs.declared.row.Kind.TheVariants.{Entry}
 use Rattle.dq_tables.specs.declared.row.Row.{Row}
 use Rattle.dq_tables.specs.Rows.{Record, Edit, Put, Remove}
 use Rattle.dq_tables.specs.Finding.{record_at, records_of}
-use Rattle.dq_tables.specs.Serving.{first_refusal, outcome}
+use Rattle.dq_tables.specs.Serving.{first_refusal, refusal_or}
 use Rattle.dq_tables.specs.Keys.{uid_at, sole_item_at, entry_id}
 use Rattle.dq_worklist.specs.declared.refusal.Refusal.{Refusal}
 use Rattle.dq_worklist.specs.declared.refusal.Refusal.TheVariants.{Malformed, Incomplete, Taken, Full, NoSuchEntry}
@@ -29,17 +29,17 @@ use Rattle.dq_worklist.specs.declared.refusal.Refusal.TheVariants.{Malformed, In
 abbrev pub rows_named : List ℕ → List Row → List Row
 rows_named name rows = filter (λ (row : Row). bytes_eq row.inst name) rows
 
-abbrev pub number_of : Refusal → ℕ
-number_of Malformed = 1
-number_of Incomplete = 2
-number_of Taken = 3
-number_of Full = 4
-number_of NoSuchEntry = 5
+abbrev pub refusal_number : Refusal → ℕ
+refusal_number Malformed = 1
+refusal_number Incomplete = 2
+refusal_number Taken = 3
+refusal_number Full = 4
+refusal_number NoSuchEntry = 5
 
 -- ---- what is required of an order: the attributes of type 1 of table K.6-1
 
-unfoldable pub has_value : Tag → ElementList → Bool
-has_value tag d = not (is_empty (values_in (element_at tag d)))
+unfoldable pub has_value_at : Tag → ElementList → Bool
+has_value_at tag d = not (is_empty (values_in (element_at tag d)))
 
 -- what is there passes a test
 abbrev pub holds : {A : Type 0} → Option A → (A → Bool) → Bool
@@ -49,14 +49,14 @@ holds (Some x) test = test x
 -- The step has a modality and a station, and it starts at one date and one time.
 unfoldable pub is_complete_step : ElementList → Bool
 is_complete_step step =
-    (has_value modality step && has_value scheduled_station_ae_title step)
+    (has_value_at modality step && has_value_at scheduled_station_ae_title step)
     && (holds (sole_at scheduled_procedure_step_start_date step) (λ value. is_some (day value))
     && holds (sole_at scheduled_procedure_step_start_time step) (λ value. is_some (span value)))
 
 -- The patient, the study and the requested procedure are named, and there is one complete step.
 unfoldable pub is_complete : ElementList → Bool
 is_complete d =
-    (has_value patient_name d && (has_value patient_id d && has_value requested_procedure_id d))
+    (has_value_at patient_name d && (has_value_at patient_id d && has_value_at requested_procedure_id d))
     && (is_some (uid_at study_instance_uid d)
     && holds (sole_item_at scheduled_procedure_step_sequence d) is_complete_step)
 
@@ -68,7 +68,7 @@ pub record Order : Type 0 where
 abbrev pub order_in : ElementList → Option Order
 order_in d = do
   id ← entry_id d
-  provided (is_complete d) (record { elements = d; id = id })
+  only_if (is_complete d) (record { elements = d; id = id })
 
 abbrev pub read_order : Result ElementList ReadFault → Option Order
 read_order (Ok d) = order_in d
@@ -83,13 +83,13 @@ order_limit = other_limit
 abbrev pub has_entry : List Record → List ℕ → Bool
 has_entry records id = is_some (record_at Entry id records)
 
-abbrev pub is_full : Limits → List Record → Bool
-is_full limits records = nat_le limits.entries (length (records_of Entry records))
+abbrev pub is_worklist_full : Limits → List Record → Bool
+is_worklist_full limits records = nat_le limits.entries (length (records_of Entry records))
 
 -- The refusals in their order: first those of the order, then those of what is kept.
 abbrev pub record_refusals : Limits → List Record → Option Order → List (Bool × Refusal)
 record_refusals limits records order =
-    (holds order (λ o. has_entry records o.id), Taken) ∷ (is_full limits records, Full) ∷ []
+    (holds order (λ o. has_entry records o.id), Taken) ∷ (is_worklist_full limits records, Full) ∷ []
 
 abbrev pub refusals : Limits → List Record → List ℕ → Result ElementList ReadFault
     → List (Bool × Refusal)
@@ -109,28 +109,28 @@ entry_of order = record {
 }
 
 -- What is complete becomes an entry, and nothing is answered.
-abbrev pub added : Option Order → Option ℕ × List Edit
-added None = (Some (number_of Incomplete), [])
-added (Some order) = (None, Put (entry_of order) ∷ [])
+abbrev pub entry_added : Option Order → Option ℕ × List Edit
+entry_added None = (Some (refusal_number Incomplete), [])
+entry_added (Some order) = (None, Put (entry_of order) ∷ [])
 
 -- the number of the refusal, or none and the new entry
-abbrev pub answered : Option Refusal → Option Order → Option ℕ × List Edit
-answered refusal order =
-    outcome (option_map (λ (r : Refusal). Some (number_of r)) refusal) (added order)
+abbrev pub refusal_or_entry : Option Refusal → Option Order → Option ℕ × List Edit
+refusal_or_entry refusal order =
+    refusal_or (option_map (λ (r : Refusal). Some (refusal_number r)) refusal) (entry_added order)
 
 -- what is left of it where there is an order
 unfoldable pub order_outcome : Limits → List Record → Order → Option ℕ × List Edit
 order_outcome limits records order =
-    answered (first_refusal (record_refusals limits records (Some order))) (Some order)
+    refusal_or_entry (first_refusal (record_refusals limits records (Some order))) (Some order)
 
-unfoldable pub scheduled : Limits → List Record → List ℕ → Option ℕ × List Edit
-scheduled limits records octets =
+unfoldable pub schedule_outcome : Limits → List Record → List ℕ → Option ℕ × List Edit
+schedule_outcome limits records octets =
     let data_set = reading Explicit octets in
-    answered (first_refusal (refusals limits records octets data_set)) (read_order data_set)
+    refusal_or_entry (first_refusal (refusals limits records octets data_set)) (read_order data_set)
 
 -- ---- withdrawing
 
 unfoldable pub withdrawn : List Record → List ℕ → Option ℕ × List Edit
 withdrawn records id =
     if has_entry records id then (None, Remove Entry id ∷ [])
-    else (Some (number_of NoSuchEntry), [])
+    else (Some (refusal_number NoSuchEntry), [])

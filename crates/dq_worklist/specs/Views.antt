@@ -12,13 +12,13 @@ use Rattle.dq_tables.specs.Serving.{first_refusal}
 use Rattle.dq_worklist.specs.declared.completeness.Order.{Order as TheOrder}
 use Rattle.dq_worklist.specs.declared.refusal.Refusal.{Refusal}
 use Rattle.dq_worklist.specs.declared.refusal.Refusal.TheVariants.{Taken, Full}
-use Rattle.dq_worklist.specs.Orders.{Order, order_limit, has_entry, is_full}
+use Rattle.dq_worklist.specs.Orders.{Order, order_limit, has_entry, is_worklist_full}
 
 abbrev pub order_of : ElementList → List ℕ → Order
 order_of d id = record { elements = d; id = id }
 
-abbrev pub held : TheOrder → Order
-held order = order_of order.elements.now order.id.now
+abbrev pub held_order : TheOrder → Order
+held_order order = order_of order.elements.now order.id.now
 
 -- An order that was read can be written, and is not too long for an entry.
 pub record CanBeKept (d : ElementList) : Type 0 where
@@ -33,4 +33,4 @@ data_set_within octets =
 -- the refusal of an order with the id because of what is kept
 abbrev pub record_refusal : Limits → List Record → List ℕ → Option Refusal
 record_refusal limits records id =
-    first_refusal ((has_entry records id, Taken) ∷ (is_full limits records, Full) ∷ [])
+    first_refusal ((has_entry records id, Taken) ∷ (is_worklist_full limits records, Full) ∷ [])

@@ -9,9 +9,9 @@ ghost use Rattle.dq_tables.specs.Records.{data_set_of};
 ghost use Rattle.dq_tables.specs.declared.row.Row.{Row as TheRow};
 ghost use Rattle.dq_tables.specs.Rows.{Record, record_of, row_of};
 ghost use Rattle.dq_archive.specs.Archives.{Looks, Decides};
-ghost use Rattle.dq_worklist.specs.Candidates.{id_asked, candidates, answer_of};
+ghost use Rattle.dq_worklist.specs.Candidates.{id_asked, entry_candidates, entry_answer};
 ghost use Rattle.dq_tables.specs.Serving.{Serves};
-ghost use Rattle.dq_worklist.specs.Queries.{listed};
+ghost use Rattle.dq_worklist.specs.Queries.{worklist_outcome};
 
 use crate::asking::{Query, query_of};
 use dq_archive::{Archive, Decision};
@@ -66,7 +66,7 @@ fn candidates<T: Tables>(
     keys: &DataSet,
 ) -> Result<Listed<Row>, TableFault>
     ensures { Looks T.state archive.old archive.new (λ records.
-        map (row_of archive.old.institution.now.name) (candidates records keys.now)) result }
+        map (row_of archive.old.institution.now.name) (entry_candidates records keys.now)) result }
 {
     let Some(id) = id_asked(keys) else {
         return archive.waiting();
@@ -88,7 +88,7 @@ fn may_fit(keys: &DataSet, row: &Row) -> bool
 fn answers_of(alloc: Global, keys: &DataSet, rows: &[Row]) -> Result<Listed<DataSet>, AllocError>
     requires { HasKnownTags keys.now }
     ensures { IfOk result (λ answers. answers ≡ filter_map
-        (λ (row : TheRow). answer_of keys.now (record_of row)) rows.now) }
+        (λ (row : TheRow). entry_answer keys.now (record_of row)) rows.now) }
 {
     let mut answers = Listed::empty(alloc);
     for row in rows {
@@ -115,7 +115,7 @@ pub fn query<T: Tables>(
     syntax: Syntax,
 ) -> Result<Found, TableFault>
     ensures { Serves (T.state tables.old) (T.state tables.new) institution.now.name
-        (λ (records : List Record). (listed records (plain_message message.now) syntax, [])) result }
+        (λ (records : List Record). (worklist_outcome records (plain_message message.now) syntax, [])) result }
 {
     let mut archive = Archive::new(alloc, tables, institution);
     let decision = decide_answers(&mut archive, message, syntax)?;
@@ -129,7 +129,7 @@ fn decide_answers<T: Tables>(
     syntax: Syntax,
 ) -> Result<Decision<Found>, TableFault>
     ensures { Decides T.state archive.old archive.new (λ (records : List Record).
-        (listed records (plain_message message.now) syntax, [])) result }
+        (worklist_outcome records (plain_message message.now) syntax, [])) result }
 {
     let query = match query_of(archive.alloc, message, syntax)? {
         Ok(query) => query,

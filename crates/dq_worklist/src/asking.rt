@@ -2,7 +2,7 @@
 ghost use Rattle.std.specs.Prelude.{◌≡◌, IfOk};
 ghost use Rattle.dq_dimse.specs.Holding.{plain_message};
 ghost use Rattle.dq_match.specs.Identifiers.{HasKnownTags};
-ghost use Rattle.dq_worklist.specs.Queries.{query_at, query_of};
+ghost use Rattle.dq_worklist.specs.Queries.{keys_query, worklist_query};
 
 use dq_dataset::{DataSet, Syntax};
 use dq_dimse::Message;
@@ -19,13 +19,13 @@ pub(crate) struct Query {
 
 /// The query of a message, or the status that refuses it: the identifier is too long, unreadable,
 /// or has a value that is not well formed.
-#[tactic(auto, unfolding(crate::specs::Queries::query_of))]
+#[tactic(auto, unfolding(crate::specs::Queries::worklist_query))]
 pub(crate) fn query_of(
     alloc: Global,
     message: &Message,
     syntax: Syntax,
 ) -> Result<Result<Query, u16>, AllocError>
-    ensures query { IfOk result (λ q. q ≡ query_of (plain_message message.now) syntax) }
+    ensures query { IfOk result (λ q. q ≡ worklist_query (plain_message message.now) syntax) }
     ensures known { IfOk result (λ q. IfOk q (λ query. HasKnownTags query.keys)) }
 {
     match message.identifier(alloc, syntax)? {
@@ -35,7 +35,7 @@ pub(crate) fn query_of(
 }
 
 fn query_at(alloc: Global, identifier: &DataSet) -> Result<Result<Query, u16>, AllocError>
-    ensures query { IfOk result (λ q. q ≡ query_at identifier.now) }
+    ensures query { IfOk result (λ q. q ≡ keys_query identifier.now) }
     ensures known { IfOk result (λ q. IfOk q (λ query. HasKnownTags query.keys)) }
 {
     let (keys, optional) = strike(alloc, identifier, KeyList::Entry)?;

@@ -5,8 +5,8 @@ ghost use Rattle.dq_value.specs.Day.{day};
 ghost use Rattle.dq_value.specs.Time.{span};
 ghost use Rattle.dq_vr.specs.Tags.{scheduled_procedure_step_sequence};
 ghost use Rattle.dq_tables.specs.Keys.{sole_item_at, entry_id};
-ghost use Rattle.dq_worklist.specs.Orders.{has_value, holds, is_complete_step, is_complete, order_in};
-ghost use Rattle.dq_worklist.specs.Views.{held};
+ghost use Rattle.dq_worklist.specs.Orders.{has_value_at, holds, is_complete_step, is_complete, order_in};
+ghost use Rattle.dq_worklist.specs.Views.{held_order};
 
 use dq_dataset::{DataSet, Value};
 use dq_tables::{entry_id, sole_item_at, uid_at};
@@ -14,9 +14,9 @@ use dq_value::{date_of, time_of, values};
 use dq_vr::{Tag, tags};
 
 /// Whether the element with the tag has a value.
-#[tactic(auto, unfolding(crate::specs::Orders::has_value))]
+#[tactic(auto, unfolding(crate::specs::Orders::has_value_at))]
 fn has_value(data_set: &DataSet, tag: Tag) -> bool
-    ensures { result ≡ has_value tag data_set.now }
+    ensures { result ≡ has_value_at tag data_set.now }
 {
     let Some(element) = data_set.get(tag) else {
         return false;
@@ -89,7 +89,7 @@ pub(crate) struct Order<'a> {
 impl<'a> Order<'a> {
     /// The order that a data set is, if it is complete.
     pub(crate) fn of(data_set: &'a DataSet) -> Option<Order<'a>>
-        ensures order { option_map held result ≡ order_in data_set.now }
+        ensures order { option_map held_order result ≡ order_in data_set.now }
         ensures own { IfSome result (λ order. entry_id data_set.now ≡ Some order.id.now) }
         ensures whole { IfSome result (λ order. order.elements.now ≡ data_set.now) }
     {

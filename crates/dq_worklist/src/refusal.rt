@@ -17,11 +17,11 @@ pub enum Refusal {
 }
 
 impl Refusal {
-    ghost use Rattle.dq_worklist.specs.Orders.{number_of};
+    ghost use Rattle.dq_worklist.specs.Orders.{refusal_number};
 
     /// 1 to 5, in the order in which the refusals are declared.
     pub fn number(self) -> u16
-        ensures { result ≡ number_of self }
+        ensures { result ≡ refusal_number self }
     {
         self as u16
     }

@@ -4,8 +4,8 @@ ghost use Rattle.dq_config.specs.Limits.{limits_of};
 ghost use Rattle.dq_tables.specs.Rows.{Record, row_of};
 ghost use Rattle.dq_tables.specs.Serving.{Serves};
 ghost use Rattle.dq_archive.specs.Archives.{Looks, Decides};
-ghost use Rattle.dq_worklist.specs.Orders.{entry_of, number_of, scheduled, withdrawn};
-ghost use Rattle.dq_worklist.specs.Views.{held, CanBeKept, data_set_within, record_refusal};
+ghost use Rattle.dq_worklist.specs.Orders.{entry_of, refusal_number, schedule_outcome, withdrawn};
+ghost use Rattle.dq_worklist.specs.Views.{held_order, CanBeKept, data_set_within, record_refusal};
 
 use crate::completeness::Order;
 use crate::refusal::Refusal;
@@ -31,7 +31,7 @@ pub fn schedule<T: Tables>(
     octets: &[u8],
 ) -> Result<Option<u16>, TableFault>
     ensures { Serves (T.state tables.old) (T.state tables.new) institution.now.name
-        (λ (records : List Record). scheduled (limits_of institution.now) records octets.now)
+        (λ (records : List Record). schedule_outcome (limits_of institution.now) records octets.now)
         result }
 {
     let mut archive = Archive::new(alloc, tables, institution);
@@ -56,7 +56,7 @@ pub fn withdraw<T: Tables>(
 
 /// A refusal, which changes nothing.
 fn refused(refusal: Refusal) -> Decision<Option<u16>>
-    ensures { result ≡ record { answer = Some (number_of refusal); change = None } }
+    ensures { result ≡ record { answer = Some (refusal_number refusal); change = None } }
 {
     Decision::unchanged(Some(refusal.number()))
 }
@@ -67,7 +67,7 @@ fn decide_order<T: Tables>(
     octets: &[u8],
 ) -> Result<Decision<Option<u16>>, TableFault>
     ensures { Decides T.state archive.old archive.new (λ records.
-        scheduled (limits_of archive.old.institution.now) records octets.now) result }
+        schedule_outcome (limits_of archive.old.institution.now) records octets.now) result }
 {
     written_law();
     let Some(data_set) = data_set_within(archive.alloc, octets)? else {
@@ -120,7 +120,7 @@ fn record_refusal<T: Tables>(
 /// The row of an entry.
 fn entry_row(alloc: Global, name: &[u8], order: &Order<'_>) -> Result<Row, AllocError>
     requires { CanBeKept order.now.elements.now }
-    ensures { IfOk result (λ row. row ≡ row_of name.now (entry_of (held order.now))) }
+    ensures { IfOk result (λ row. row ≡ row_of name.now (entry_of (held_order order.now))) }
 {
     let keys = RecordKeys {
         kind: Kind::Entry,

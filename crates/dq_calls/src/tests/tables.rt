@@ -1,7 +1,7 @@
 //! Rows of records in memory, and over a fuse.
 ghost use Rattle.std.specs.Prelude.{◌≡◌, [], true, false, IfOk};
 ghost use Rattle.dq_tables.specs.declared.row.Kind.{Kind};
-ghost use Rattle.dq_tables.specs.Sound.{is_own, Fits};
+ghost use Rattle.dq_tables.specs.Sound.{is_own_row, ChangeFits};
 
 use dq_tables::{Change, Fuse, Fused, Kind, PlainTables, RecordKeys, Row, TableFault, Tables};
 use std::alloc::{AllocError, Global};
@@ -37,7 +37,7 @@ fn row(alloc: Global, kind: Kind, key: &[u8], octets: &[u8]) -> Result<Row, Allo
 /// The row of the entry, which is its record's own.
 fn entry(alloc: Global) -> Result<Row, Fail>
     ensures kind { IfOk result (λ row. row.kind ≡ Kind.Entry) }
-    ensures own { IfOk result (λ row. is_own row ≡ true) }
+    ensures own { IfOk result (λ row. is_own_row row ≡ true) }
 {
     let row = row(alloc, Kind::Entry, b"S1", &ENTRY)?;
     let is_own = row.is_own(alloc)?;
@@ -50,7 +50,7 @@ fn entry(alloc: Global) -> Result<Row, Fail>
 
 /// The change that adds the entry where nothing is kept.
 fn added(alloc: Global) -> Result<Change, Fail>
-    ensures { IfOk result (λ change. Fits [] change) }
+    ensures { IfOk result (λ change. ChangeFits [] change) }
 {
     Ok(Change::EntryAdded(entry(alloc)?))
 }

@@ -16,16 +16,16 @@ use Rattle.dq_core.specs.declared.event.Event.{Event}
 use Rattle.dq_core.specs.declared.event.Event.TheVariants as event
 use Rattle.dq_tables.specs.declared.row.Row.{Row}
 use Rattle.dq_config.specs.Limits.{Limits}
-use Rattle.dq_config.specs.Routing.{routed, named}
+use Rattle.dq_config.specs.Routing.{institution_routed, institution_named}
 use Rattle.dq_assoc.specs.Negotiation.{agreement_of}
-use Rattle.dq_tables.specs.Rows.{Record, edited}
-use Rattle.dq_core.specs.Services.{Order, Scheduling, Withdrawal}
+use Rattle.dq_tables.specs.Rows.{Record, records_after_edits}
+use Rattle.dq_core.specs.Services.{ConsoleOrder, Scheduling, Withdrawal}
 use Rattle.dq_core.specs.Pages.{OpenQuery, next_page, reaction}
-use Rattle.dq_core.specs.Answers.{Progress, Answer, answer, answers, then_answer, request_in, progress_of, inputs_added, piece_answer, stranger_answer, after_piece}
+use Rattle.dq_core.specs.Answers.{Progress, Answer, input_answer, input_answers, then_answer, request_in, progress_of, inputs_added, piece_answer, stranger_answer, after_piece}
 use Rattle.dq_core.specs.Connections.{Connection, new_connection, with_piece, with_query, connection_in}
-use Rattle.dq_core.specs.Owners.{owner, owner_by, is_sound}
-use Rattle.dq_core.specs.Shared.{World, turn, answer_by, piece_turn, end_turn, pull_turn, order_turn, world_after_turn, world_from, opening, world_after}
-use Rattle.dq_core.specs.Accepted.{AreMessages, AreOpen}
+use Rattle.dq_core.specs.Owners.{owner, owner_by, is_sound_request}
+use Rattle.dq_core.specs.Shared.{World, turn, answer_by, piece_turn, end_turn, pull_turn, order_turn, world_after_turn, world_from, first_world, world_after}
+use Rattle.dq_core.specs.Accepted.{AreMessageInputs, AreOpen}
 use Rattle.dq_core.proofs.isolation.Lists.{found-has, each-append, each-without, each-with}
 use Rattle.dq_core.proofs.isolation.Requests.{nowhere-closes, open-line, accept-line}
 use Rattle.dq_core.proofs.isolation.Streams.{AddsInputs, added-are, request_in-first}
@@ -37,34 +37,34 @@ both-open a b false h k = (h, rw h at k)
 
 -- inputs that an association that is open has not closed at
 open-messages : (limits : Limits) (verdict : Verdict) (records : List Record) (query : Option OpenQuery) (agreement : Agreement) (xs : List Input)
-    → (answers limits verdict (record { agreement = Some agreement; records = records; query = query }) xs).close ≡ false → AreMessages xs
+    → (input_answers limits verdict (record { agreement = Some agreement; records = records; query = query }) xs).close ≡ false → AreMessageInputs xs
 open-messages limits verdict records query agreement [] h = tt
 open-messages limits verdict records query agreement (Sent message ∷ xs) h =
     let r = reaction query limits records agreement message in
-    open-messages limits verdict (edited r.edits records) r.query agreement xs h
+    open-messages limits verdict (records_after_edits r.edits records) r.query agreement xs h
 open-messages limits verdict records query agreement (x ∷ xs) h = cc
 
-sound-owned : (institutions : List Institution) (request : Request) (i : Institution) (b : Bool) → is_sound request ≡ b
-    → owner_by institutions (Some request) ≡ Some i → IsTrue (is_sound request) × IsSome (routed institutions request.called request.calling)
-sound-owned institutions request i true h e = let r : routed institutions request.called request.calling ≡ Some i = rw h at e in (h, rw r refl)
+sound-owned : (institutions : List Institution) (request : Request) (i : Institution) (b : Bool) → is_sound_request request ≡ b
+    → owner_by institutions (Some request) ≡ Some i → IsTrue (is_sound_request request) × IsSome (institution_routed institutions request.called request.calling)
+sound-owned institutions request i true h e = let r : institution_routed institutions request.called request.calling ≡ Some i = rw h at e in (h, rw r refl)
 sound-owned institutions request i false h e = let t : None ≡ Some i = rw h at e in cc
 
 -- the inputs that come first
 first-open : (institutions : List Institution) (limits : Limits) (verdict : Verdict) (records : List Record) (query : Option OpenQuery) (i : Institution)
     (ys : List Input)
     → owner_by institutions (request_in ys) ≡ Some i
-    → (answers limits verdict (record { agreement = None; records = records; query = query }) ys).close ≡ false → AreOpen institutions ys
+    → (input_answers limits verdict (record { agreement = None; records = records; query = query }) ys).close ≡ false → AreOpen institutions ys
 first-open institutions limits verdict records query i [] e h = tt
 first-open institutions limits verdict records query i (Requested request ∷ ys) e h =
-    let first = answer limits verdict (record { agreement = None; records = records; query = query }) (Requested request) in
-    let o = both-open first (answers limits verdict first.next ys) first.close refl h in
-    let s = sound-owned institutions request i (is_sound request) refl e in (
+    let first = input_answer limits verdict (record { agreement = None; records = records; query = query }) (Requested request) in
+    let o = both-open first (input_answers limits verdict first.next ys) first.close refl h in
+    let s = sound-owned institutions request i (is_sound_request request) refl e in (
       record { sound = s.0; owned = s.1; opens = accept-line request verdict o.0 },
       open-messages limits verdict records query (agreement_of request) ys o.1,
     )
 first-open institutions limits verdict records query i (y ∷ ys) e h = cc
 
-more-messages : (xs ys : List Input) → AreMessages xs → AreMessages ys → AreMessages (xs ++ ys)
+more-messages : (xs ys : List Input) → AreMessageInputs xs → AreMessageInputs ys → AreMessageInputs (xs ++ ys)
 more-messages [] ys m n = n
 more-messages (Sent message ∷ xs) ys m n = more-messages xs ys m n
 more-messages (x ∷ xs) ys m n = absurd m
@@ -73,7 +73,7 @@ more-messages (x ∷ xs) ys m n = absurd m
 owner-open : (institutions : List Institution) (limits : Limits) (verdict : Verdict) (records : List Record) (query : Option OpenQuery) (i : Institution)
     (xs ys : List Input)
     → AreOpen institutions xs → owner_by institutions (request_in (xs ++ ys)) ≡ Some i
-    → (answers limits verdict (record { agreement = option_map agreement_of (request_in xs); records = records; query = query }) ys).close ≡ false
+    → (input_answers limits verdict (record { agreement = option_map agreement_of (request_in xs); records = records; query = query }) ys).close ≡ false
     → AreOpen institutions (xs ++ ys)
 owner-open institutions limits verdict records query i [] ys a e h = first-open institutions limits verdict records query i ys e h
 owner-open institutions limits verdict records query i (Requested request ∷ xs) ys a e h =
@@ -128,7 +128,7 @@ module _ (adds : AddsInputs) (institutions : List Institution) where
     pull-open n (Some c) e =
         each-with IsOpen (with_query (next_page c.query).query c) world.connections (found-has IsOpen n world.connections c e each) each
 
-    order-open : (order : Order) (o : Option Institution) → AllByRecursion IsOpen (order_turn world order o).connections
+    order-open : (order : ConsoleOrder) (o : Option Institution) → AllByRecursion IsOpen (order_turn world order o).connections
     order-open order None = each
     order-open order (Some i) = each
 
@@ -137,8 +137,8 @@ module _ (adds : AddsInputs) (institutions : List Institution) where
     turn-open (event.Piece n piece) = piece-open n piece (connection_in n world.connections) refl
     turn-open (event.End n) = end-open (connection_in n world.connections)
     turn-open (event.Pull n) = pull-open n (connection_in n world.connections) refl
-    turn-open (event.Schedule inst octets) = order-open (Scheduling octets) (named institutions inst)
-    turn-open (event.Withdraw inst id) = order-open (Withdrawal id) (named institutions inst)
+    turn-open (event.Schedule inst octets) = order-open (Scheduling octets) (institution_named institutions inst)
+    turn-open (event.Withdraw inst id) = order-open (Withdrawal id) (institution_named institutions inst)
 
   open-from : (world : World) (events : List Event) → AllByRecursion IsOpen world.connections
       → AllByRecursion IsOpen (world_from institutions world events).connections
@@ -148,17 +148,17 @@ module _ (adds : AddsInputs) (institutions : List Institution) where
   pub held-open : (rows : List Row) (events : List Event) (number : ℕ) (c : Connection)
       → connection_in number (world_after institutions rows events).connections ≡ Some c → AreOpen institutions (inputs c.stream)
   held-open rows events number c e =
-      found-has IsOpen number (world_after institutions rows events).connections c e (open-from (opening rows) events tt)
+      found-has IsOpen number (world_after institutions rows events).connections c e (open-from (first_world rows) events tt)
 
 -- a request that did not close was accepted with the verdict at hand
 first-accepted : (limits : Limits) (verdict : Verdict) (records : List Record) (query : Option OpenQuery) (request : Request) (xs : List Input)
     → request_in xs ≡ Some request
-    → (answers limits verdict (record { agreement = None; records = records; query = query }) xs).close ≡ false → (line Waiting verdict (Requested request)).next ≡ Open
+    → (input_answers limits verdict (record { agreement = None; records = records; query = query }) xs).close ≡ false → (line Waiting verdict (Requested request)).next ≡ Open
 first-accepted limits verdict records query request [] e h = cc
 first-accepted limits verdict records query request (Requested r ∷ xs) e h =
-    let first = answer limits verdict (record { agreement = None; records = records; query = query }) (Requested r) in
+    let first = input_answer limits verdict (record { agreement = None; records = records; query = query }) (Requested r) in
     let same : request ≡ r = cc in
-    rw same (open-line r verdict (both-open first (answers limits verdict first.next xs) first.close refl h).0)
+    rw same (open-line r verdict (both-open first (input_answers limits verdict first.next xs) first.close refl h).0)
 first-accepted limits verdict records query request (x ∷ xs) e h = cc
 
 no-request-before : (xs ys : List Input) (request : Request) → request_in xs ≡ None → request_in (xs ++ ys) ≡ Some request → xs ≡ []

@@ -8,7 +8,7 @@ use Rattle.dq_tables.specs.declared.row.Row.{Row}
 use Rattle.dq_tables.specs.Rows.{Operation, after}
 use Rattle.dq_core.specs.declared.event.Event.{Event}
 use Rattle.dq_core.specs.declared.event.Event.TheVariants as event
-use Rattle.dq_core.specs.Own.{pieces_of, stream_of}
+use Rattle.dq_core.specs.Own.{octets_of_pieces, stream_of}
 use Rattle.dq_core.specs.Shared.{World, turn, world_after}
 use Rattle.dq_core.specs.Soundness.{BringsOctets, BringOctets}
 use Rattle.dq_core.specs.Conversations.{Arrival, InputAt, PageRequest, ConnectionEnd, input_arrivals, arrivals_at, arrivals}
@@ -25,11 +25,11 @@ until-end : (b : Bool) (later : List ℕ) → Small later → Small (if b then [
 until-end true later t = tt
 until-end false later t = t
 
-pieces-small : (number : ℕ) (events : List Event) → BringOctets events → Small (pieces_of number events)
+pieces-small : (number : ℕ) (events : List Event) → BringOctets events → Small (octets_of_pieces number events)
 pieces-small number [] brings = tt
 pieces-small number (event.Piece n piece ∷ events) brings =
-    with-piece (number == n) piece (pieces_of number events) (from-octets piece brings.0) (pieces-small number events brings.1)
-pieces-small number (event.End n ∷ events) brings = until-end (number == n) (pieces_of number events) (pieces-small number events brings.1)
+    with-piece (number == n) piece (octets_of_pieces number events) (from-octets piece brings.0) (pieces-small number events brings.1)
+pieces-small number (event.End n ∷ events) brings = until-end (number == n) (octets_of_pieces number events) (pieces-small number events brings.1)
 pieces-small number (e ∷ events) brings = pieces-small number events brings.1
 
 opened-small : (b : Bool) (pieces later : List ℕ) → Small pieces → Small later → Small (if b then pieces else later)
@@ -39,7 +39,7 @@ opened-small false pieces later s t = t
 came-small : (number : ℕ) (events : List Event) → BringOctets events → Small (stream_of number events)
 came-small number [] brings = tt
 came-small number (event.Open n ∷ events) brings =
-    opened-small (number == n) (pieces_of number events) (stream_of number events) (pieces-small number events brings.1) (came-small number events brings.1)
+    opened-small (number == n) (octets_of_pieces number events) (stream_of number events) (pieces-small number events brings.1) (came-small number events brings.1)
 came-small number (e ∷ events) brings = came-small number events brings.1
 
 -- ---- arrivals

@@ -19,10 +19,10 @@ use Rattle.dq_core.specs.Pages.{next_page}
 use Rattle.dq_core.specs.Answers.{Answer, no_answer, request_in, progress_of, inputs_added, verdict_at}
 use Rattle.dq_core.specs.Connections.{Connection, new_connection, with_piece, with_query, connection_in, without}
 use Rattle.dq_core.specs.Owners.{owner, owner_by, live_of}
-use Rattle.dq_core.specs.Histories.{is_above, newest_after, rises_from, is_well_formed}
+use Rattle.dq_core.specs.Histories.{is_above, newest_after, rises_from, is_well_formed_history}
 use Rattle.dq_core.specs.Runs.{IsRun}
-use Rattle.dq_core.specs.Own.{Output, Octet, Close, is_on_connection, pieces_of, stream_of, close_if, outputs_in, outputs_on}
-use Rattle.dq_core.specs.Shared.{World, Turn, turn, answer_turn, world_after_turn, world_from, replies_from, opening, replies, world_after}
+use Rattle.dq_core.specs.Own.{Output, Octet, Close, is_on_connection, octets_of_pieces, stream_of, close_if, outputs_in, outputs_on}
+use Rattle.dq_core.specs.Shared.{World, EventEffect, turn, answer_turn, world_after_turn, world_from, replies_from, first_world, replies, world_after}
 use Rattle.dq_core.specs.Conversations.{Arrival, PageRequest, ConnectionEnd, input_arrivals, arrivals_at, arrivals, exchange, conversation, conversation_on, IsAnsweredAt}
 use Rattle.dq_core.proofs.isolation.Lists.{at-number, differ, NotNumbered, found-number, found-has, found-with, left-have, in-among}
 use Rattle.dq_core.proofs.isolation.Streams.{AddsInputs, added-are, owner-stays, no_input_yet, front_without, request_in-first}
@@ -103,7 +103,7 @@ module _ (adds : AddsInputs) (lens : Edits) (institutions : List Institution) (r
 
   world-next : (before : List Event) (world : World) (e : Event) → world_after institutions rows before ≡ world
       → world_after institutions rows (before ++ e ∷ []) ≡ next_world world e
-  world-next before world e is = world-from (opening rows) before e ∙ ap (λ w. next_world w e) is
+  world-next before world e is = world-from (first_world rows) before e ∙ ap (λ w. next_world w e) is
 
   on-answered : (world : World) (e : Event) (rest : List Event) → is_on_connection number e ≡ true
       → answered world (e ∷ rest) ≡ outputs_in (turn institutions world e).reply ++ answered (next_world world e) rest
@@ -118,7 +118,7 @@ module _ (adds : AddsInputs) (lens : Edits) (institutions : List Institution) (r
 
   -- ---- an event elsewhere
 
-  off-pieces : (e : Event) (more : List Event) → is_on_connection number e ≡ false → pieces_of number (e ∷ more) ≡ pieces_of number more
+  off-pieces : (e : Event) (more : List Event) → is_on_connection number e ≡ false → octets_of_pieces number (e ∷ more) ≡ octets_of_pieces number more
   off-pieces (event.Piece n p) more m = rw (differ n number m) refl
   off-pieces (event.End n) more m = rw (differ n number m) refl
   off-pieces e more m = refl
@@ -211,7 +211,7 @@ module _ (adds : AddsInputs) (lens : Edits) (institutions : List Institution) (r
   record Held (before : List Event) (world : World) (c : Connection) : Type 0 where
     world_is : world_after institutions rows before ≡ world
     held : connection_in number world.connections ≡ Some c
-    stream : (more : List Event) → stream_of number (before ++ more) ≡ c.stream ++ pieces_of number more
+    stream : (more : List Event) → stream_of number (before ++ more) ≡ c.stream ++ octets_of_pieces number more
 
   held-number : (before : List Event) (world : World) (c : Connection) → Held before world c → c.number ≡ number
   held-number before world c h = found-number number world.connections c h.held
@@ -232,16 +232,16 @@ module _ (adds : AddsInputs) (lens : Edits) (institutions : List Institution) (r
   held-stream before world c h = ap (stream_of number) (sym (append-nil before)) ∙ h.stream [] ∙ append-nil c.stream
 
   -- an event that adds a piece, or nothing, to its stream
-  stream-next : (before : List Event) (e : Event) (stream piece : List ℕ) → ((more : List Event) → stream_of number (before ++ more) ≡ stream ++ pieces_of number more)
-      → ((more : List Event) → pieces_of number (e ∷ more) ≡ piece ++ pieces_of number more) → (more : List Event)
-      → stream_of number ((before ++ e ∷ []) ++ more) ≡ (stream ++ piece) ++ pieces_of number more
+  stream-next : (before : List Event) (e : Event) (stream piece : List ℕ) → ((more : List Event) → stream_of number (before ++ more) ≡ stream ++ octets_of_pieces number more)
+      → ((more : List Event) → octets_of_pieces number (e ∷ more) ≡ piece ++ octets_of_pieces number more) → (more : List Event)
+      → stream_of number ((before ++ e ∷ []) ++ more) ≡ (stream ++ piece) ++ octets_of_pieces number more
   stream-next before e stream piece f g more =
       ap (stream_of number) (append_assoc before (e ∷ []) more) ∙ f (e ∷ more) ∙ ap (λ p. stream ++ p) (g more)
-      ∙ sym (append_assoc stream piece (pieces_of number more))
+      ∙ sym (append_assoc stream piece (octets_of_pieces number more))
 
-  same-stream : (before : List Event) (e : Event) (stream : List ℕ) → ((more : List Event) → stream_of number (before ++ more) ≡ stream ++ pieces_of number more)
-      → ((more : List Event) → pieces_of number (e ∷ more) ≡ pieces_of number more) → (more : List Event)
-      → stream_of number ((before ++ e ∷ []) ++ more) ≡ stream ++ pieces_of number more
+  same-stream : (before : List Event) (e : Event) (stream : List ℕ) → ((more : List Event) → stream_of number (before ++ more) ≡ stream ++ octets_of_pieces number more)
+      → ((more : List Event) → octets_of_pieces number (e ∷ more) ≡ octets_of_pieces number more) → (more : List Event)
+      → stream_of number ((before ++ e ∷ []) ++ more) ≡ stream ++ octets_of_pieces number more
   same-stream before e stream f g more =
       ap (stream_of number) (append_assoc before (e ∷ []) more) ∙ f (e ∷ more) ∙ ap (λ p. stream ++ p) (g more)
 
@@ -261,7 +261,7 @@ module _ (adds : AddsInputs) (lens : Edits) (institutions : List Institution) (r
 
   -- a piece on it
   piece-stream : (before : List Event) (world : World) (c : Connection) (p : List ℕ) → Held before world c → (more : List Event)
-      → stream_of number ((before ++ event.Piece number p ∷ []) ++ more) ≡ (c.stream ++ p) ++ pieces_of number more
+      → stream_of number ((before ++ event.Piece number p ∷ []) ++ more) ≡ (c.stream ++ p) ++ octets_of_pieces number more
   piece-stream before world c p h = stream-next before (event.Piece number p) c.stream p h.stream (λ more. rw same refl)
 
   piece-comes : (before : List Event) (world : World) (c : Connection) (p : List ℕ) → Held before world c
@@ -281,7 +281,7 @@ module _ (adds : AddsInputs) (lens : Edits) (institutions : List Institution) (r
       let new = with_piece c p x.next.query in
       let found : connection_in c.number world.connections ≡ Some c = ap (λ k. connection_in k world.connections) n ∙ h.held in record {
         world_is = world-next before world (event.Piece number p) h.world_is;
-        held = ap (λ (u : Turn). connection_in number u.connections) t
+        held = ap (λ (u : EventEffect). connection_in number u.connections) t
             ∙ rw (goes, ← n) (found-with new world.connections c found);
         stream = piece-stream before world c p h;
       }
@@ -291,7 +291,7 @@ module _ (adds : AddsInputs) (lens : Edits) (institutions : List Institution) (r
       → connection_in number (turn institutions world (event.Piece number p)).connections ≡ None
   closed-none before newest world rest c p o x s h t closes =
       let n = held-number before world c h in
-      ap (λ (u : Turn). connection_in number u.connections) t
+      ap (λ (u : EventEffect). connection_in number u.connections) t
       ∙ rw (closes, n) (none-in number (without number world.connections) (left-have number world.connections s.apart))
 
   owner-now : (before : List Event) (newest : Option ℕ) (world : World) (c : Connection) (p : List ℕ) (rest : List Event)
@@ -303,9 +303,9 @@ module _ (adds : AddsInputs) (lens : Edits) (institutions : List Institution) (r
       by_owner o e final
     where
       by_owner : (o : Option Institution) → owner institutions (c.stream ++ p) ≡ o
-          → owner institutions ((c.stream ++ p) ++ pieces_of c.number rest) ≡ Some i → (o ≡ Some i) ⊎ ((o ≡ None) × (inputs (c.stream ++ p) ≡ []))
-      by_owner None e final = inr (refl, no_input_yet adds institutions (c.stream ++ p) (pieces_of c.number rest) i e final)
-      by_owner (Some j) e final = inl (sym (owner-stays adds institutions (c.stream ++ p) (pieces_of c.number rest) j e) ∙ final)
+          → owner institutions ((c.stream ++ p) ++ octets_of_pieces c.number rest) ≡ Some i → (o ≡ Some i) ⊎ ((o ≡ None) × (inputs (c.stream ++ p) ≡ []))
+      by_owner None e final = inr (refl, no_input_yet adds institutions (c.stream ++ p) (octets_of_pieces c.number rest) i e final)
+      by_owner (Some j) e final = inl (sym (owner-stays adds institutions (c.stream ++ p) (octets_of_pieces c.number rest) j e) ∙ final)
 
   -- ---- the association is open
 
@@ -347,10 +347,10 @@ module _ (adds : AddsInputs) (lens : Edits) (institutions : List Institution) (r
       let told = coming (before ++ e ∷ []) rest in
       let comes : coming before (e ∷ rest) ≡ input_arrivals world (map (by i.name) x.changes) (inputs_added c.stream p) ++ told =
       ap (λ xs. xs ++ told) (piece-comes before world c p h
-      ∙ ap (λ (u : Turn). input_arrivals world u.operations (inputs_added c.stream p)) t)
+      ∙ ap (λ (u : EventEffect). input_arrivals world u.operations (inputs_added c.stream p)) t)
       in
       on-answered world e rest same
-      ∙ ap (λ (u : Turn). outputs_in u.reply ++ answered (next_world world e) rest) t
+      ∙ ap (λ (u : EventEffect). outputs_in u.reply ++ answered (next_world world e) rest) t
       ∙ append_assoc (map Octet x.octets) (close_if x.close) (answered (next_world world e) rest)
       ∙ ap (λ xs. map Octet x.octets ++ xs) after_said
       ∙ sym said
@@ -510,7 +510,7 @@ module _ (adds : AddsInputs) (lens : Edits) (institutions : List Institution) (r
       ∙ ap (input_arrivals world (turn institutions world piece).operations) added)
       in
       on-answered world piece rest same
-      ∙ ap (λ (u : Turn). outputs_in u.reply ++ answered (next_world world piece) rest) t
+      ∙ ap (λ (u : EventEffect). outputs_in u.reply ++ answered (next_world world piece) rest) t
       ∙ later (before ++ piece ∷ []) newest (next_world world piece) (with_piece c p c.query) (sound-next institutions IsOwned newest world piece rest s)
       (record { held = taken-held before world c p None x h.held t refl; no_inputs = e; no_query = h.no_query })
       ∙ ap (conversation institutions i) (sym comes)
@@ -545,7 +545,7 @@ module _ (adds : AddsInputs) (lens : Edits) (institutions : List Institution) (r
       let n = held-number before world c h.held in
       let is : (c.number == number) ≡ true = ap (λ k. k == number) n ∙ same in
       let final = found-has (Owned institutions IsOwned (event.End number ∷ rest)) number world.connections c h.held.held s.owned is in
-      let none : pieces_of c.number (event.End number ∷ rest) ≡ [] = rw is refl in
+      let none : octets_of_pieces c.number (event.End number ∷ rest) ≡ [] = rw is refl in
       let both : None ≡ Some i = sym (rw (none, append-nil c.stream, h.no_inputs) refl) ∙ final in cc
 
   waiting-on : (e : Event) (before : List Event) (newest : Option ℕ) (world : World) (c : Connection) (rest : List Event)
@@ -667,10 +667,10 @@ module _ (adds : AddsInputs) (lens : Edits) (institutions : List Institution) (r
 
   -- ---- the whole history
 
-  pub conversed : (events : List Event) → is_well_formed events ≡ true → owner institutions (stream_of number events) ≡ Some i
+  pub conversed : (events : List Event) → is_well_formed_history events ≡ true → owner institutions (stream_of number events) ≡ Some i
       → outputs_on number events (replies institutions rows events) ≡ conversation_on institutions rows number i events
   conversed events w o =
-      unopened-rest events [] None (opening rows)
+      unopened-rest events [] None (first_world rows)
       (record {
         owned = tt;
         apart = tt;
@@ -705,14 +705,14 @@ module _ (adds : AddsInputs) (lens : Edits) (institutions : List Institution) (r
 
   -- its stream grows
   abbrev PiecesGrow : List Event → Event → Type 0
-  PiecesGrow events e = (p : List ℕ) × (pieces_of number (events ++ e ∷ []) ≡ pieces_of number events ++ p)
+  PiecesGrow events e = (p : List ℕ) × (octets_of_pieces number (events ++ e ∷ []) ≡ octets_of_pieces number events ++ p)
 
   abbrev StreamGrows : List Event → Event → Type 0
   StreamGrows events e = (p : List ℕ) × (stream_of number (events ++ e ∷ []) ≡ stream_of number events ++ p)
 
   piece-grows : (n : ℕ) (q : List ℕ) (events : List Event) (e : Event) (b : Bool) → (number == n) ≡ b → PiecesGrow events e
       → PiecesGrow (event.Piece n q ∷ events) e
-  piece-grows n q events e true h g = rw h (g.0, ap (λ xs. q ++ xs) g.1 ∙ sym (append_assoc q (pieces_of number events) g.0))
+  piece-grows n q events e true h g = rw h (g.0, ap (λ xs. q ++ xs) g.1 ∙ sym (append_assoc q (octets_of_pieces number events) g.0))
   piece-grows n q events e false h g = rw h g
 
   end-grows : (n : ℕ) (events : List Event) (e : Event) (b : Bool) → (number == n) ≡ b → PiecesGrow events e → PiecesGrow (event.End n ∷ events) e
@@ -720,7 +720,7 @@ module _ (adds : AddsInputs) (lens : Edits) (institutions : List Institution) (r
   end-grows n events e false h g = rw h g
 
   pieces-grow : (events : List Event) (e : Event) → PiecesGrow events e
-  pieces-grow [] e = (pieces_of number (e ∷ []), refl)
+  pieces-grow [] e = (octets_of_pieces number (e ∷ []), refl)
   pieces-grow (event.Piece n q ∷ events) e = piece-grows n q events e (number == n) refl (pieces-grow events e)
   pieces-grow (event.End n ∷ events) e = end-grows n events e (number == n) refl (pieces-grow events e)
   pieces-grow (d ∷ events) e = pieces-grow events e
@@ -741,13 +741,13 @@ module _ (adds : AddsInputs) (lens : Edits) (institutions : List Institution) (r
       let both = both-true (is_above newest n) (rises_from (Some n) (events ++ e ∷ [])) r in rw both.0 (rises-front (Some n) events e both.1)
   rises-front newest (d ∷ events) e r = rises-front newest events e r
 
-  pub conversed-at : (events : List Event) (e : Event) → is_well_formed (events ++ e ∷ []) ≡ true → owner institutions (stream_of number events) ≡ Some i
+  pub conversed-at : (events : List Event) (e : Event) → is_well_formed_history (events ++ e ∷ []) ≡ true → owner institutions (stream_of number events) ≡ Some i
       → is_on_connection number e ≡ true → IsAnsweredAt institutions rows events number i e
   conversed-at events e w o m =
       let grown = stream-grows events e in
       let owned = ap (owner institutions) grown.1 ∙ owner-stays adds institutions (stream_of number events) grown.0 i o in
       sym (conversed (events ++ e ∷ []) w owned)
-      ∙ last-answered (opening rows) events e m
+      ∙ last-answered (first_world rows) events e m
       ∙ ap (λ xs. xs ++ outputs_in (turn institutions (world_after institutions rows events) e).reply) (conversed events (rises-front None events e w) o)
 
   -- ---- a run
@@ -760,10 +760,10 @@ module _ (adds : AddsInputs) (lens : Edits) (institutions : List Institution) (r
   rises-taken (suc k) newest (d ∷ events) r = rises-taken k newest events r
 
   pub conversed-run : (events : List Event) (given : List Reply) (kept : List Row) → IsRun institutions rows events given kept
-      → is_well_formed events ≡ true → owner institutions (stream_of number (take (length given) events)) ≡ Some i
+      → is_well_formed_history events ≡ true → owner institutions (stream_of number (take (length given) events)) ≡ Some i
       → outputs_on number events given ≡ conversation_on institutions rows number i (take (length given) events)
   conversed-run events given kept run w o =
       let k = length given in
       ap (outputs_on number events) run.first_replies
-      ∙ ap (flat_map outputs_in) (replies-front institutions (is_on_connection number) k (opening rows) events)
+      ∙ ap (flat_map outputs_in) (replies-front institutions (is_on_connection number) k (first_world rows) events)
       ∙ conversed (take k events) (rises-taken k None events w) o

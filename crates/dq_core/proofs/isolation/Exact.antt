@@ -40,26 +40,26 @@ use Rattle.dq_core.proofs.isolation.Arriving.{IsMetAt, each-met}
 
 abbrev pub StudiesFound : Type 0
 StudiesFound = (institution : List ℕ) (rows : List Row) (called : List ℕ) (message : Message) (syntax : Syntax) → IsSound rows
-    → (study.found (of institution rows) called message syntax).status ≡ success
-    → (query : Query) × (study.query_of message syntax ≡ Ok query)
-    × study_answers.AreAnswers (of institution rows) called query (study.found (of institution rows) called message syntax).answers
+    → (study.query_outcome (of institution rows) called message syntax).status ≡ success
+    → (query : Query) × (study.message_query message syntax ≡ Ok query)
+    × study_answers.AreQueryAnswers (of institution rows) called query (study.query_outcome (of institution rows) called message syntax).answers
 
 abbrev pub EntriesFound : Type 0
 EntriesFound = (institution : List ℕ) (rows : List Row) (message : Message) (syntax : Syntax) → IsSound rows
-    → (worklist.listed (of institution rows) message syntax).status ≡ success
-    → (keys : ElementList) × (optional : Bool) × (worklist.query_of message syntax ≡ Ok (record { keys = keys; optional = optional }))
-    × worklist_answers.AreAnswers (of institution rows) keys (worklist.listed (of institution rows) message syntax).answers
+    → (worklist.worklist_outcome (of institution rows) message syntax).status ≡ success
+    → (keys : ElementList) × (optional : Bool) × (worklist.worklist_query message syntax ≡ Ok (record { keys = keys; optional = optional }))
+    × worklist_answers.AreEntryAnswers (of institution rows) keys (worklist.worklist_outcome (of institution rows) message syntax).answers
 
 -- whether some keys are optional is the query's
 study-optional : (records : List Record) (called : List ℕ) (message : Message) (context : AgreedContext) (query : Query)
-    → study.query_of message context.syntax ≡ Ok query → (study.found records called message context.syntax).optional ≡ query.optional
-unfolding study.found
+    → study.message_query message context.syntax ≡ Ok query → (study.query_outcome records called message context.syntax).optional ≡ query.optional
+unfolding study.query_outcome
 study-optional records called message context query e = rw e refl
 
 entries-optional : (records : List Record) (message : Message) (context : AgreedContext) (keys : ElementList) (optional : Bool)
-    → worklist.query_of message context.syntax ≡ Ok (record { keys = keys; optional = optional })
-    → (worklist.listed records message context.syntax).optional ≡ optional
-unfolding worklist.listed
+    → worklist.worklist_query message context.syntax ≡ Ok (record { keys = keys; optional = optional })
+    → (worklist.worklist_outcome records message context.syntax).optional ≡ optional
+unfolding worklist.worklist_outcome
 entries-optional records message context keys optional e = rw e refl
 
 -- what is refused has no answers
@@ -68,20 +68,20 @@ study-none_by : (records : List Record) (called : List ℕ) (query : Result Quer
 study-none_by records called (Err status) h = refl
 study-none_by records called (Ok query) h = absurd (h refl)
 
-study-none : (records : List Record) (called : List ℕ) (message : Message) (syntax : Syntax) → (study.found records called message syntax).status ≢ success
-    → (study.found records called message syntax).answers ≡ []
-unfolding study.found
-study-none records called message syntax h = study-none_by records called (study.query_of message syntax) h
+study-none : (records : List Record) (called : List ℕ) (message : Message) (syntax : Syntax) → (study.query_outcome records called message syntax).status ≢ success
+    → (study.query_outcome records called message syntax).answers ≡ []
+unfolding study.query_outcome
+study-none records called message syntax h = study-none_by records called (study.message_query message syntax) h
 
 entries-none_by : (records : List Record) (query : Result _ ℕ) → (worklist.listed_by records query).status ≢ success
     → (worklist.listed_by records query).answers ≡ []
 entries-none_by records (Err status) h = refl
 entries-none_by records (Ok query) h = absurd (h refl)
 
-entries-none : (records : List Record) (message : Message) (syntax : Syntax) → (worklist.listed records message syntax).status ≢ success
-    → (worklist.listed records message syntax).answers ≡ []
-unfolding worklist.listed
-entries-none records message syntax h = entries-none_by records (worklist.query_of message syntax) h
+entries-none : (records : List Record) (message : Message) (syntax : Syntax) → (worklist.worklist_outcome records message syntax).status ≢ success
+    → (worklist.worklist_outcome records message syntax).answers ≡ []
+unfolding worklist.worklist_outcome
+entries-none records message syntax h = entries-none_by records (worklist.worklist_query message syntax) h
 
 -- the one operation that a test allows
 pub only : (b : Bool) (allowed named : DimseOperation) → (if b then Some allowed else None) ≡ Some named → allowed ≡ named
@@ -144,7 +144,7 @@ module _ (studies : StudiesFound) (entries : EntriesFound) (institution : List �
 
   studies-exact : Exactly StudyRootFind FindStudies
   studies-exact ok =
-      let answered = study.found own a.called message context.syntax in
+      let answered = study.query_outcome own a.called message context.syntax in
       let told = studies institution rows a.called message context.syntax sound ok in (
         told.0,
         told.1,
@@ -156,7 +156,7 @@ module _ (studies : StudiesFound) (entries : EntriesFound) (institution : List �
 
   entries-exact : Exactly WorklistFind FindEntries
   entries-exact ok =
-      let answered = worklist.listed own message context.syntax in
+      let answered = worklist.worklist_outcome own message context.syntax in
       let told = entries institution rows message context.syntax sound ok in (
         told.0,
         told.1,

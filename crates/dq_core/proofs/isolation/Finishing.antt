@@ -2,7 +2,7 @@
 use Rattle.std.proofs.Common.{◌≡◌, ℕ, suc, ◌*◌, nat_le, true, List, [], ◌∷◌, ◌++◌, map, length, Option, Some, None, inl, inr, refl, sym, ap, ◌∙◌}
 use Rattle.std.specs.List.{flat_map}
 use Rattle.dq_dimse.specs.Received.{Message}
-use Rattle.dq_dimse.specs.Sending.{sent}
+use Rattle.dq_dimse.specs.Sending.{message_pdus}
 use Rattle.dq_assoc.specs.declared.agreement.Agreement.{Agreement}
 use Rattle.dq_assoc.specs.declared.association.State.TheVariants.{Open}
 use Rattle.dq_assoc.specs.declared.association.Verdict.TheVariants.{Accept}
@@ -18,7 +18,7 @@ use Rattle.dq_core.specs.Conversations.{Arrival, InputAt, PageRequest, Connectio
 -- all responses to a message
 abbrev whole_octets : Agreement → Message → Option Responses → List ℕ
 whole_octets a m None = []
-whole_octets a m (Some r) = flat_map (λ (x : Response). sent m.context x.0 x.1 a.limit) (all_responses r)
+whole_octets a m (Some r) = flat_map (λ (x : Response). message_pdus m.context x.0 x.1 a.limit) (all_responses r)
 
 -- an exchange without pages
 abbrev in_full : Institution → Agreement → List Arrival → List Output
@@ -41,9 +41,9 @@ held-sent r pages NoMessage h = held-whole r pages [] h
 whole-sent : (a : Agreement) (m : Message) (s : ℕ × Next) (o : Option Responses) → AreAllSent s o → response_octets_of a m s o ≡ whole_octets a m o
 whole-sent a m s None h = refl
 whole-sent a m s (Some r) (inl another) =
-    ap (λ n. flat_map (λ (x : Response). sent m.context x.0 x.1 a.limit) (responses_sent (suc s.0) n r)) another
+    ap (λ n. flat_map (λ (x : Response). message_pdus m.context x.0 x.1 a.limit) (responses_sent (suc s.0) n r)) another
 whole-sent a m s (Some r) (inr held) =
-    ap (flat_map (λ (x : Response). sent m.context x.0 x.1 a.limit)) (held-sent r (suc s.0) s.1 held)
+    ap (flat_map (λ (x : Response). message_pdus m.context x.0 x.1 a.limit)) (held-sent r (suc s.0) s.1 held)
 
 finished-full : (i : Institution) (a : Agreement) (xs : List Arrival) → AreFinished i a xs → exchange i a xs ≡ in_full i a xs
 finished-full i a [] h = refl

@@ -12,23 +12,23 @@ use Rattle.dq_core.specs.declared.event.Event.{Event}
 use Rattle.dq_core.specs.declared.event.Event.TheVariants as event
 use Rattle.dq_tables.specs.declared.row.Row.{Row}
 use Rattle.dq_config.specs.Limits.{Limits, limits_of}
-use Rattle.dq_config.specs.Routing.{named}
-use Rattle.dq_tables.specs.Rows.{Edit, edited, Operation, by, of, after, IsRising}
-use Rattle.dq_core.specs.Services.{Order, Scheduling, Withdrawal, ordered}
+use Rattle.dq_config.specs.Routing.{institution_named}
+use Rattle.dq_tables.specs.Rows.{Edit, records_after_edits, Operation, by, of, after, IsRising}
+use Rattle.dq_core.specs.Services.{ConsoleOrder, Scheduling, Withdrawal, console_outcome}
 use Rattle.dq_core.specs.Answers.{no_answer, request_in, progress_of, inputs_added}
 use Rattle.dq_core.specs.Pages.{next_page}
 use Rattle.dq_core.specs.Connections.{Connection, with_query, connection_in}
-use Rattle.dq_core.specs.Owners.{owner, owner_by, is_of, live_of}
-use Rattle.dq_core.specs.Shared.{World, Turn, turn, answer_by, owner_turn, piece_turn, end_turn, pull_turn, order_turn}
+use Rattle.dq_core.specs.Owners.{owner, owner_by, is_institution, live_of}
+use Rattle.dq_core.specs.Shared.{World, EventEffect, turn, answer_by, owner_turn, piece_turn, end_turn, pull_turn, order_turn}
 use Rattle.dq_core.specs.Alone.{AloneWorld, AloneTurn, alone_live, alone_piece, alone_answer, alone_answer_turn, alone_end, alone_pull, alone_order, alone_turn}
-use Rattle.dq_core.specs.Own.{pieces_of, is_on}
+use Rattle.dq_core.specs.Own.{octets_of_pieces, is_on}
 use Rattle.dq_core.proofs.isolation.Lists.{among, among-opened, in-among, without-among, with-among, piece-among, found-number, each-weaker}
 use Rattle.dq_core.proofs.isolation.Streams.{AddsInputs, owner-stays, no_input_yet, front_without}
 use Rattle.dq_core.proofs.isolation.Sound.{Owned, Sound, owned-piece}
 
 -- an operation changes its own institution's records, and no other's
 pub record Lenses : Type 0 where
-  pub same : (name : List ℕ) (edits : List Edit) (rows : List Row) → of name (after (by name edits) rows) ≡ edited edits (of name rows)
+  pub same : (name : List ℕ) (edits : List Edit) (rows : List Row) → of name (after (by name edits) rows) ≡ records_after_edits edits (of name rows)
   pub other : (name another : List ℕ) (edits : List Edit) (rows : List Row) → (another ≡ name → ⊥) → IsRising rows
       → of name (after (by another edits) rows) ≡ of name rows
   pub rising : (operation : Operation) (rows : List Row) → IsRising rows → IsRising (after operation rows)
@@ -36,19 +36,19 @@ pub record Lenses : Type 0 where
 -- the limits of the institution with a name
 pub record Configured (institutions : List Institution) (name : List ℕ) (limits : Limits) : Type 0 where
   pub owner_limits : (stream : List ℕ) (i : Institution) → owner institutions stream ≡ Some i → i.name ≡ name → limits_of i ≡ limits
-  pub known : (i : Institution) × (named institutions name ≡ Some i) × (i.name ≡ name) × (limits_of i ≡ limits)
+  pub known : (i : Institution) × (institution_named institutions name ≡ Some i) × (i.name ≡ name) × (limits_of i ≡ limits)
 
 -- a test of numbers tells whether the institution with the name is the owner in the end
 abbrev pub IsMine : List ℕ → (ℕ → Bool) → ℕ → Option Institution → Type 0
-IsMine name mine number o = mine number ≡ is_of name o
+IsMine name mine number o = mine number ≡ is_institution name o
 
-is_of-some : (name : List ℕ) (o : Option Institution) → is_of name o ≡ true → (i : Institution) × (o ≡ Some i) × (i.name ≡ name)
+pub is_of-some : (name : List ℕ) (o : Option Institution) → is_institution name o ≡ true → (i : Institution) × (o ≡ Some i) × (i.name ≡ name)
 is_of-some name None h = absurd (false≢true h)
 is_of-some name (Some i) h = (i, refl, (bytes_eq-Decides i.name name).0 h)
 
 -- a connection of the institution that is held is counted once it has sent its request
-counted : (institutions : List Institution) (name : List ℕ) (xs ys : List Input) (m : Bool) → m ≡ is_of name (owner_by institutions (request_in (xs ++ ys)))
-    → is_of name (owner_by institutions (request_in xs)) ≡ (m && is_some (request_in xs))
+counted : (institutions : List Institution) (name : List ℕ) (xs ys : List Input) (m : Bool) → m ≡ is_institution name (owner_by institutions (request_in (xs ++ ys)))
+    → is_institution name (owner_by institutions (request_in xs)) ≡ (m && is_some (request_in xs))
 counted institutions name [] ys m h = grind arith
 counted institutions name (Requested request ∷ xs) ys m h = rw (← h) (grind arith)
 counted institutions name (x ∷ xs) ys m h = grind arith
@@ -59,7 +59,7 @@ count-each p m q [] each = refl
 count-each p m q (c ∷ cs) each = let first = each.0 in grind (arith, count-each p m q cs each.1)
 
 -- An event of the institution is answered and changes alike.
-pub record IsAlike (name : List ℕ) (mine : ℕ → Bool) (t : Turn) (a : AloneTurn) : Type 0 where
+pub record IsAlike (name : List ℕ) (mine : ℕ → Bool) (t : EventEffect) (a : AloneTurn) : Type 0 where
   pub reply : t.reply ≡ a.reply
   pub operations : t.operations ≡ map (by name) a.changes
   pub connections : a.connections ≡ among mine t.connections
@@ -78,15 +78,15 @@ module _ (adds : AddsInputs) (institutions : List Institution) (name : List ℕ)
   live-alone : (rest : List Event) → AllByRecursion (Owned institutions (IsMine name mine) rest) world.connections
       → live_of institutions name world.connections ≡ alone_live (among mine world.connections)
   live-alone rest each =
-      count-each (λ c. is_of name (owner institutions c.stream)) (λ c. mine c.number) (λ c. is_some (request_in (inputs c.stream))) world.connections
+      count-each (λ c. is_institution name (owner institutions c.stream)) (λ c. mine c.number) (λ c. is_some (request_in (inputs c.stream))) world.connections
       (each-weaker (Owned institutions (IsMine name mine) rest)
-      (λ c. is_of name (owner institutions c.stream) ≡ (mine c.number && is_some (request_in (inputs c.stream))))
-      (λ c o. let more = adds c.stream (pieces_of c.number rest) in
-      counted institutions name (inputs c.stream) more.0 (mine c.number) (o ∙ ap (λ xs. is_of name (owner_by institutions (request_in xs))) more.1))
+      (λ c. is_institution name (owner institutions c.stream) ≡ (mine c.number && is_some (request_in (inputs c.stream))))
+      (λ c o. let more = adds c.stream (octets_of_pieces c.number rest) in
+      counted institutions name (inputs c.stream) more.0 (mine c.number) (o ∙ ap (λ xs. is_institution name (owner_by institutions (request_in xs))) more.1))
       world.connections each)
 
   alike-owned : (rest : List Event) (c : Connection) (piece more : List ℕ) → AllByRecursion (Owned institutions (IsMine name mine) rest) world.connections
-      → mine c.number ≡ true → is_of name (owner institutions ((c.stream ++ piece) ++ more)) ≡ true
+      → mine c.number ≡ true → is_institution name (owner institutions ((c.stream ++ piece) ++ more)) ≡ true
       → (o : Option Institution) → owner institutions (c.stream ++ piece) ≡ o
       → IsAlike name mine (owner_turn o institutions world c piece) (alone_answer_turn alone c piece (alone_answer limits alone c piece))
   alike-owned rest c piece more each m final (Some i) e =
@@ -119,7 +119,7 @@ module _ (adds : AddsInputs) (institutions : List Institution) (name : List ℕ)
   alike-piece n piece rest each m (Some c) e =
       let final = owned-piece institutions (IsMine name mine) n piece rest world.connections c e each in
       let mine_c : mine c.number ≡ true = ap mine (found-number n world.connections c e) ∙ m in
-      alike-owned (event.Piece n piece ∷ rest) c piece (pieces_of c.number rest) each mine_c (sym final ∙ mine_c) (owner institutions (c.stream ++ piece)) refl
+      alike-owned (event.Piece n piece ∷ rest) c piece (octets_of_pieces c.number rest) each mine_c (sym final ∙ mine_c) (owner institutions (c.stream ++ piece)) refl
 
   alike-end : (n : ℕ) → mine n ≡ true → (o : Option Connection) → connection_in n world.connections ≡ o
       → IsAlike name mine (end_turn world o) (alone_end alone o)
@@ -138,15 +138,15 @@ module _ (adds : AddsInputs) (institutions : List Institution) (name : List ℕ)
         connections = rw b.connections (sym (with-among mine (with_query (next_page c.query).query c) world.connections mine_c));
       }
 
-  alike-order : (inst : List ℕ) (order : Order) → bytes_eq inst name ≡ true
-      → IsAlike name mine (order_turn world order (named institutions inst)) (alone_order alone (ordered limits alone.records order))
+  alike-order : (inst : List ℕ) (order : ConsoleOrder) → bytes_eq inst name ≡ true
+      → IsAlike name mine (order_turn world order (institution_named institutions inst)) (alone_order alone (console_outcome limits alone.records order))
   alike-order inst order h =
       let i = configured.known in
-      let found : named institutions inst ≡ Some i.0 = ap (named institutions) ((bytes_eq-Decides inst name).0 h) ∙ i.1 in
-      let same : ordered limits alone.records order ≡ ordered (limits_of i.0) (of i.0.name world.rows) order = rw (i.3, i.2, b.records) refl in
+      let found : institution_named institutions inst ≡ Some i.0 = ap (institution_named institutions) ((bytes_eq-Decides inst name).0 h) ∙ i.1 in
+      let same : console_outcome limits alone.records order ≡ console_outcome (limits_of i.0) (of i.0.name world.rows) order = rw (i.3, i.2, b.records) refl in
       rw (found, same) (record {
         reply = refl;
-        operations = ap (λ n. by n (ordered (limits_of i.0) (of i.0.name world.rows) order).edits ∷ []) i.2;
+        operations = ap (λ n. by n (console_outcome (limits_of i.0) (of i.0.name world.rows) order).edits ∷ []) i.2;
         connections = b.connections;
       })
 
@@ -168,7 +168,7 @@ module _ (adds : AddsInputs) (institutions : List Institution) (name : List ℕ)
   alike newest (event.Withdraw inst id) rest s m = alike-order inst (Withdrawal id) m
 
 -- the laws of rows as they are stated
-pub lenses-from : ((name : List ℕ) (edits : List Edit) (rows : List Row) → of name (after (by name edits) rows) ≡ edited edits (of name rows))
+pub lenses-from : ((name : List ℕ) (edits : List Edit) (rows : List Row) → of name (after (by name edits) rows) ≡ records_after_edits edits (of name rows))
     → ((name another : List ℕ) → (another ≡ name → ⊥) → (edits : List Edit) (rows : List Row) → IsRising rows
     → of name (after (by another edits) rows) ≡ of name rows)
     → ((operation : Operation) (rows : List Row) → IsRising rows → IsRising (after operation rows)) → Lenses

@@ -4,8 +4,8 @@ use Rattle.std.specs.List.{AllByRecursion}
 use Rattle.std.specs.Option.{option_map_or}
 use Rattle.std.specs.Str.{bytes_eq}
 use Rattle.std.proofs.lemmas.List.{map-append}
+use Rattle.dq_list.specs.Octets.{AreOctets}
 use Rattle.dq_dataset.specs.declared.header.Syntax.{Syntax}
-use Rattle.dq_dataset.specs.Grammar.{AreOctets}
 use Rattle.dq_dimse.specs.CommandFields.{c_cancel}
 use Rattle.dq_dimse.specs.Received.{Message}
 use Rattle.dq_assoc.specs.declared.agreement.AgreedContext.{AgreedContext}
@@ -16,23 +16,23 @@ use Rattle.dq_assoc.specs.Negotiation.{context_of}
 use Rattle.dq_assoc.specs.Table.{Input, Sent}
 use Rattle.dq_config.specs.declared.config.Institution.{Institution}
 use Rattle.dq_config.specs.Limits.{Limits, limits_of}
-use Rattle.dq_config.specs.Routing.{named}
+use Rattle.dq_config.specs.Routing.{institution_named}
 use Rattle.dq_tables.specs.declared.row.Row.{Row}
-use Rattle.dq_tables.specs.Rows.{Record, Edit, edited, Operation, by, of, after, after_all}
-use Rattle.dq_store.specs.Storing.{stored}
-use Rattle.dq_worklist.specs.Orders.{scheduled, withdrawn}
-use Rattle.dq_mpps.specs.Creating.{created}
-use Rattle.dq_mpps.specs.Changing.{changed}
+use Rattle.dq_tables.specs.Rows.{Record, Edit, records_after_edits, Operation, by, of, after, after_all}
+use Rattle.dq_store.specs.Storing.{store_outcome}
+use Rattle.dq_worklist.specs.Orders.{schedule_outcome, withdrawn}
+use Rattle.dq_mpps.specs.Creating.{create_outcome}
+use Rattle.dq_mpps.specs.Changing.{set_outcome}
 use Rattle.dq_core.specs.declared.event.Event.{Event}
 use Rattle.dq_core.specs.declared.event.Event.TheVariants as event
-use Rattle.dq_core.specs.Services.{Order, Scheduling, Withdrawal, ordered, served, served_by, no_response, operation_named, operation_outcome, outcome_of, message_outcome}
+use Rattle.dq_core.specs.Services.{ConsoleOrder, Scheduling, Withdrawal, console_outcome, served, served_by, no_response, operation_named, operation_outcome, outcome_of, message_outcome}
 use Rattle.dq_core.specs.declared.dimse_operation.DimseOperation.{DimseOperation}
 use Rattle.dq_core.specs.declared.dimse_operation.DimseOperation.TheVariants.{Echo, Store, FindStudies, FindEntries, CreateStep, SetStep}
-use Rattle.dq_core.specs.Pages.{OpenQuery, Reaction, next_page, reaction, reaction_while, cancel_reaction, first_reaction, message_id}
-use Rattle.dq_core.specs.Answers.{Progress, Answer, answer, answers, answer_after, then_answer, progress_of, inputs_added, verdict_at, after_piece}
+use Rattle.dq_core.specs.Pages.{OpenQuery, Reaction, next_page, reaction, reaction_while, cancel_reaction, first_reaction, answered_message_id}
+use Rattle.dq_core.specs.Answers.{Progress, Answer, input_answer, input_answers, answer_after, then_answer, progress_of, inputs_added, verdict_at, after_piece}
 use Rattle.dq_core.specs.Connections.{Connection, new_connection, with_piece, with_query, connection_in}
 use Rattle.dq_core.specs.Owners.{owner, live_of}
-use Rattle.dq_core.specs.Shared.{World, turn, answer_by, operations_by, piece_turn, end_turn, pull_turn, order_turn, world_after_turn, world_from, opening, world_after, operations_next, rows_within}
+use Rattle.dq_core.specs.Shared.{World, turn, answer_by, operations_by, piece_turn, end_turn, pull_turn, order_turn, world_after_turn, world_from, first_world, world_after, operations_next, rows_within}
 use Rattle.dq_core.specs.Soundness.{HoldsOctets, BringsOctets, BringOctets, CameAsOctets}
 use Rattle.dq_core.proofs.Composing.{after-append}
 use Rattle.dq_core.proofs.isolation.Lists.{found-has, each-append, each-without, each-with}
@@ -68,7 +68,7 @@ module _ (institutions : List Institution) where
   pull-came world number (Some c) e each =
       each-with Came (with_query (next_page c.query).query c) world.connections (found-has Came number world.connections c e each) each
 
-  order-came : (world : World) (order : Order) (o : Option Institution) → CameAsOctets world.connections
+  order-came : (world : World) (order : ConsoleOrder) (o : Option Institution) → CameAsOctets world.connections
       → CameAsOctets (order_turn world order o).connections
   order-came world order None each = each
   order-came world order (Some i) each = each
@@ -79,8 +79,8 @@ module _ (institutions : List Institution) where
       on_connection-came world number piece (connection_in number world.connections) refl brings each
   turn-came world (event.End number) each brings = end-came world (connection_in number world.connections) each
   turn-came world (event.Pull number) each brings = pull-came world number (connection_in number world.connections) refl each
-  turn-came world (event.Schedule inst octets) each brings = order-came world (Scheduling octets) (named institutions inst) each
-  turn-came world (event.Withdraw inst id) each brings = order-came world (Withdrawal id) (named institutions inst) each
+  turn-came world (event.Schedule inst octets) each brings = order-came world (Scheduling octets) (institution_named institutions inst) each
+  turn-came world (event.Withdraw inst id) each brings = order-came world (Withdrawal id) (institution_named institutions inst) each
 
   came-from : (world : World) (events : List Event) → CameAsOctets world.connections → BringOctets events
       → CameAsOctets (world_from institutions world events).connections
@@ -90,13 +90,13 @@ module _ (institutions : List Institution) where
 
 pub history-came : (institutions : List Institution) (rows : List Row) (events : List Event) → BringOctets events
     → CameAsOctets (world_after institutions rows events).connections
-history-came institutions rows events brings = came-from institutions (opening rows) events tt brings
+history-came institutions rows events brings = came-from institutions (first_world rows) events tt brings
 
 -- ---- what services keep
 
 -- an institution's records are edited
 abbrev pub Edits : Type 0
-Edits = (name : List ℕ) (edits : List Edit) (rows : List Row) → of name (after (by name edits) rows) ≡ edited edits (of name rows)
+Edits = (name : List ℕ) (edits : List Edit) (rows : List Row) → of name (after (by name edits) rows) ≡ records_after_edits edits (of name rows)
 
 module _ (Good : List Row → Type 0) where
   -- the rows after edits of an institution's records, if they were good
@@ -105,13 +105,13 @@ module _ (Good : List Row → Type 0) where
 
   pub record ServicesKeep : Type 0 where
     pub storing : (name : List ℕ) (limits : Limits) (rows : List Row) (message : Message) (syntax : Syntax) → AreOctets message.octets → Good rows
-        → Good (after (by name (stored limits (of name rows) message syntax).1) rows)
+        → Good (after (by name (store_outcome limits (of name rows) message syntax).1) rows)
     pub creating : (name : List ℕ) (limits : Limits) (rows : List Row) (message : Message) (syntax : Syntax) → AreOctets message.octets → Good rows
-        → Good (after (by name (created limits (of name rows) message syntax).1) rows)
+        → Good (after (by name (create_outcome limits (of name rows) message syntax).1) rows)
     pub changing : (name : List ℕ) (rows : List Row) (message : Message) (syntax : Syntax) → AreOctets message.octets → Good rows
-        → Good (after (by name (changed (of name rows) message syntax).1) rows)
+        → Good (after (by name (set_outcome (of name rows) message syntax).1) rows)
     pub scheduling : (name : List ℕ) (limits : Limits) (rows : List Row) (octets : List ℕ) → AreOctets octets → Good rows
-        → Good (after (by name (scheduled limits (of name rows) octets).1) rows)
+        → Good (after (by name (schedule_outcome limits (of name rows) octets).1) rows)
     pub withdrawing : (name : List ℕ) (rows : List Row) (id : List ℕ) → Good rows
         → Good (after (by name (withdrawn (of name rows) id).1) rows)
 
@@ -196,19 +196,19 @@ module _ (Good : List Row → Type 0) where
         → Good (after (by name (served limits (of name rows) agreement message).edits) rows)
     served-kept agreement message are = served-by-kept agreement message are (message.command.code == c_cancel) refl
 
-    pub ordered-kept : (order : Order) → HoldsOctets order → Good (after (by name (ordered limits (of name rows) order).edits) rows)
-    unfolding ordered
+    pub ordered-kept : (order : ConsoleOrder) → HoldsOctets order → Good (after (by name (console_outcome limits (of name rows) order).edits) rows)
+    unfolding console_outcome
     ordered-kept (Scheduling octets) are = keep.scheduling name limits rows octets are good
     ordered-kept (Withdrawal id) are = keep.withdrawing name rows id good
 
-    cancel-kept : (id : ℕ) (query : OpenQuery) (b : Bool) → (id == message_id query) ≡ b → Keep name (cancel_reaction id query).edits rows
+    cancel-kept : (id : ℕ) (query : OpenQuery) (b : Bool) → (id == answered_message_id query) ≡ b → Keep name (cancel_reaction id query).edits rows
     cancel-kept id query true h = rw h good
     cancel-kept id query false h = rw h good
 
     while-kept : (query : Option OpenQuery) (message : Message) (first : Reaction) (b : Bool) → (message.command.code == c_cancel) ≡ b
         → Keep name first.edits rows → Keep name (reaction_while query message first).edits rows
     while-kept None message first b h k = k
-    while-kept (Some query) message first true h k = rw h (cancel-kept message.command.id query (message.command.id == message_id query) refl)
+    while-kept (Some query) message first true h k = rw h (cancel-kept message.command.id query (message.command.id == answered_message_id query) refl)
     while-kept (Some query) message first false h k = rw h k
 
     reaction-kept : (query : Option OpenQuery) (agreement : Agreement) (message : Message) → AreOctets message.octets
@@ -230,19 +230,19 @@ module _ (Good : List Row → Type 0) where
     after-kept (Some agreement) agreed query rows x s good = record { stay = good; has = refl }
 
     answer-kept : (progress : Progress) (rows : List Row) (x : Input) → SmallInput x → Good rows → progress.records ≡ of name rows
-        → Keeps name rows (answer limits verdict progress x)
+        → Keeps name rows (input_answer limits verdict progress x)
     answer-kept progress rows x s good e =
-        subst (λ (records : List Record). Keeps name rows (answer limits verdict (record progress { records = records }) x)) (sym e)
+        subst (λ (records : List Record). Keeps name rows (input_answer limits verdict (record progress { records = records }) x)) (sym e)
         (after-kept progress.agreement progress.agreement progress.query rows x s good)
 
     pub answers-kept : (progress : Progress) (rows : List Row) (xs : List Input) → AllByRecursion SmallInput xs → Good rows
-        → progress.records ≡ of name rows → Keeps name rows (answers limits verdict progress xs)
+        → progress.records ≡ of name rows → Keeps name rows (input_answers limits verdict progress xs)
     answers-kept progress rows [] s good e = record { stay = good; has = e }
     answers-kept progress rows (x ∷ xs) s good e =
-        let first = answer limits verdict progress x in
+        let first = input_answer limits verdict progress x in
         let k = answer-kept progress rows x s.0 good e in
         let later = after_all (map (by name) first.changes) rows in
-        keeps-then name rows first (answers limits verdict first.next xs) first.close refl k
+        keeps-then name rows first (input_answers limits verdict first.next xs) first.close refl k
         (answers-kept first.next later xs s.1 (stay-all (map (by name) first.changes) rows k.stay) k.has)
 
   -- ---- turns and histories
@@ -271,7 +271,7 @@ module _ (Good : List Row → Type 0) where
     pull-kept world None good = good
     pull-kept world (Some c) good = good
 
-    order-kept : (world : World) (order : Order) (o : Option Institution) → HoldsOctets order → Good world.rows
+    order-kept : (world : World) (order : ConsoleOrder) (o : Option Institution) → HoldsOctets order → Good world.rows
         → Stay (order_turn world order o).operations world.rows
     order-kept world order None are good = good
     order-kept world order (Some i) are good = (good, ordered-kept keep i.name (limits_of i) world.rows good order are)
@@ -283,8 +283,8 @@ module _ (Good : List Row → Type 0) where
         on_connection-kept world number piece (connection_in number world.connections) refl came brings good
     turn-kept world (event.End number) came brings good = end-kept world (connection_in number world.connections) good
     turn-kept world (event.Pull number) came brings good = pull-kept world (connection_in number world.connections) good
-    turn-kept world (event.Schedule inst octets) came brings good = order-kept world (Scheduling octets) (named institutions inst) brings good
-    turn-kept world (event.Withdraw inst id) came brings good = order-kept world (Withdrawal id) (named institutions inst) tt good
+    turn-kept world (event.Schedule inst octets) came brings good = order-kept world (Scheduling octets) (institution_named institutions inst) brings good
+    turn-kept world (event.Withdraw inst id) came brings good = order-kept world (Withdrawal id) (institution_named institutions inst) tt good
 
     -- what is kept by events
     pub record IsKept (world : World) : Type 0 where
@@ -301,7 +301,7 @@ module _ (Good : List Row → Type 0) where
         })
 
     pub history-kept : (rows : List Row) (events : List Event) → BringOctets events → Good rows → IsKept (world_after institutions rows events)
-    history-kept rows events brings good = from-kept (opening rows) events brings (record { came = tt; good = good })
+    history-kept rows events brings good = from-kept (first_world rows) events brings (record { came = tt; good = good })
 
     next-kept : (world : World) (events : List Event) → BringOctets events → IsKept world → (count : ℕ)
         → Good (after_all (take count (operations_next institutions world events)) world.rows)

@@ -13,18 +13,18 @@ use Rattle.dq_assoc.specs.Table.{Requested, line}
 use Rattle.dq_assoc.specs.Inputs.{inputs}
 use Rattle.dq_config.specs.declared.config.Institution.{Institution}
 use Rattle.dq_config.specs.Limits.{Limits, limits_of}
-use Rattle.dq_config.specs.Routing.{named}
+use Rattle.dq_config.specs.Routing.{institution_named}
 use Rattle.dq_tables.specs.declared.row.Row.{Row}
 use Rattle.dq_tables.specs.Rows.{of}
 use Rattle.dq_assoc.specs.After.{is_closed}
 use Rattle.dq_core.specs.declared.event.Event.{Event}
 use Rattle.dq_core.specs.declared.event.Event.TheVariants as event
-use Rattle.dq_core.specs.Services.{Order, Scheduling, Withdrawal}
+use Rattle.dq_core.specs.Services.{ConsoleOrder, Scheduling, Withdrawal}
 use Rattle.dq_core.specs.Answers.{request_in, verdict_at, after_piece}
 use Rattle.dq_core.specs.Pages.{OpenQuery}
 use Rattle.dq_core.specs.Connections.{Connection, new_connection, with_piece, with_query, connection_in, without, with_connection}
-use Rattle.dq_core.specs.Owners.{HaveOwnNames, owner, owner_by, is_of, live_of}
-use Rattle.dq_core.specs.Shared.{World, turn, answer_by, piece_turn, end_turn, pull_turn, order_turn, world_after_turn, world_from, opening, world_after}
+use Rattle.dq_core.specs.Owners.{HaveOwnNames, owner, owner_by, is_institution, live_of}
+use Rattle.dq_core.specs.Shared.{World, turn, answer_by, piece_turn, end_turn, pull_turn, order_turn, world_after_turn, world_from, first_world, world_after}
 use Rattle.dq_core.proofs.isolation.Lists.{found-number}
 use Rattle.dq_core.proofs.isolation.Requests.{busy-closes}
 use Rattle.dq_core.proofs.isolation.Streams.{AddsInputs, owner-stays, no_input_yet}
@@ -70,7 +70,7 @@ request-of institutions (Some request) i e = (request, refl)
 module _ (adds : AddsInputs) (institutions : List Institution) (name : List ℕ) (limits : Limits) (known : Configured institutions name limits) where
   -- what is counted for the institution
   abbrev is_its : Connection → Bool
-  is_its c = is_of name (owner institutions c.stream)
+  is_its c = is_institution name (owner institutions c.stream)
 
   abbrev IsWithin : List Connection → Type 0
   IsWithin cs = live_of institutions name cs ≤ limits.associations
@@ -90,20 +90,20 @@ module _ (adds : AddsInputs) (institutions : List Institution) (name : List ℕ)
         rw (← known.owner_limits (c.stream ++ piece) i e n, ← n) below
 
     within-joined : (c : Connection) (piece : List ℕ) (o q : Option Institution) (a b : Bool) → connection_in c.number world.connections ≡ Some c
-        → owner institutions (c.stream ++ piece) ≡ o → owner institutions c.stream ≡ q → is_of name o ≡ a → is_of name q ≡ b
+        → owner institutions (c.stream ++ piece) ≡ o → owner institutions c.stream ≡ q → is_institution name o ≡ a → is_institution name q ≡ b
         → (answer_by o institutions world c piece).close ≡ false → (left : Option OpenQuery)
         → IsWithin (with_connection (with_piece c piece left) world.connections)
     within-joined c piece o q false b f e g h k close left =
-        let more = count-with_other is_its (with_piece c piece left) world.connections (ap (is_of name) e ∙ h) in omega arith
+        let more = count-with_other is_its (with_piece c piece left) world.connections (ap (is_institution name) e ∙ h) in omega arith
     within-joined c piece o q true true f e g h k close left =
-        let more = count-with_same is_its (with_piece c piece left) c world.connections f (ap (is_of name) g ∙ k) in omega arith
+        let more = count-with_same is_its (with_piece c piece left) c world.connections f (ap (is_institution name) g ∙ k) in omega arith
     within-joined c piece None q true false f e g h k close left = absurd (false≢true h)
     within-joined c piece (Some i) None true false f e g h k close left =
         let room = has-room c piece i ((bytes_eq-Decides i.name name).0 h) g e close in
         let more = count-with is_its (with_piece c piece left) world.connections in omega arith
     within-joined c piece (Some i) (Some j) true false f e g h k close left =
         let same : Some j ≡ Some i = sym (owner-stays adds institutions c.stream piece j g) ∙ e in
-        absurd (false≢true (sym k ∙ ap (is_of name) same ∙ h))
+        absurd (false≢true (sym k ∙ ap (is_institution name) same ∙ h))
 
     within-piece : (c : Connection) (piece : List ℕ) (p : Bool) → connection_in c.number world.connections ≡ Some c →
         let x = answer_by (owner institutions (c.stream ++ piece)) institutions world c piece in
@@ -133,14 +133,14 @@ module _ (adds : AddsInputs) (institutions : List Institution) (name : List ℕ)
     pull-within n (Some c) f =
         let same : n ≡ c.number = sym (found-number n world.connections c f) in page-within c _ _ (rw same at f) refl
 
-    order-within : (order : Order) (o : Option Institution) → IsWithin (order_turn world order o).connections
+    order-within : (order : ConsoleOrder) (o : Option Institution) → IsWithin (order_turn world order o).connections
     order-within order None = within
     order-within order (Some i) = within
 
     -- a connection that was just opened is nobody's
     opened-within : (n : ℕ) → IsWithin (world.connections ++ new_connection n ∷ [])
     opened-within n =
-        let none : is_its (new_connection n) ≡ false = ap (λ xs. is_of name (owner_by institutions (request_in xs))) no-inputs in
+        let none : is_its (new_connection n) ≡ false = ap (λ xs. is_institution name (owner_by institutions (request_in xs))) no-inputs in
         rw (filter-append is_its world.connections (new_connection n ∷ []), none, append-nil (filter is_its world.connections)) within
 
     turn-within : (e : Event) → IsWithin (turn institutions world e).connections
@@ -148,8 +148,8 @@ module _ (adds : AddsInputs) (institutions : List Institution) (name : List ℕ)
     turn-within (event.Piece n piece) = piece-within n piece (connection_in n world.connections) refl
     turn-within (event.End n) = end-within (connection_in n world.connections)
     turn-within (event.Pull n) = pull-within n (connection_in n world.connections) refl
-    turn-within (event.Schedule inst octets) = order-within (Scheduling octets) (named institutions inst)
-    turn-within (event.Withdraw inst id) = order-within (Withdrawal id) (named institutions inst)
+    turn-within (event.Schedule inst octets) = order-within (Scheduling octets) (institution_named institutions inst)
+    turn-within (event.Withdraw inst id) = order-within (Withdrawal id) (institution_named institutions inst)
 
   from-within : (world : World) (events : List Event) → IsWithin world.connections → IsWithin (world_from institutions world events).connections
   from-within world [] l = l
@@ -158,4 +158,4 @@ module _ (adds : AddsInputs) (institutions : List Institution) (name : List ℕ)
 pub live-within : AddsInputs → (institutions : List Institution) (rows : List Row) (events : List Event) (i : Institution) → HaveOwnNames institutions
     → Contains institutions i → live_of institutions i.name (world_after institutions rows events).connections ≤ i.associations
 live-within adds institutions rows events i names c =
-    from-within adds institutions i.name (limits_of i) (configured institutions i names c) (opening rows) events (omega arith)
+    from-within adds institutions i.name (limits_of i) (configured institutions i names c) (first_world rows) events (omega arith)

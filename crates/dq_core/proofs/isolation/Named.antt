@@ -8,17 +8,17 @@ use Rattle.std.specs.Str.{bytes_eq}
 use Rattle.dq_assoc.specs.Inputs.{inputs}
 use Rattle.dq_config.specs.declared.config.Institution.{Institution}
 use Rattle.dq_config.specs.Limits.{limits_of}
-use Rattle.dq_config.specs.Routing.{routed, named}
+use Rattle.dq_config.specs.Routing.{institution_routed, institution_named}
 use Rattle.dq_core.specs.Answers.{request_in}
-use Rattle.dq_core.specs.Owners.{HaveOwnNames, is_sound, owner_by}
+use Rattle.dq_core.specs.Owners.{HaveOwnNames, is_sound_request, owner_by, owner}
 use Rattle.dq_core.proofs.isolation.Isolating.{Configured}
 use Rattle.dq_core.proofs.isolation.Others.{named-name}
 
-abbrev IsIn : Institution → List Institution → Type 0
+abbrev pub IsIn : Institution → List Institution → Type 0
 IsIn i [] = ⊥
 IsIn i (x ∷ xs) = (i ≡ x) ⊎ IsIn i xs
 
-in-at : (i : Institution) (xs : List Institution) (k : ℕ) → k < length xs → get_or xs k i ≡ i → IsIn i xs
+pub in-at : (i : Institution) (xs : List Institution) (k : ℕ) → k < length xs → get_or xs k i ≡ i → IsIn i xs
 in-at i [] k l e = absurd (omega arith)
 in-at i (x ∷ xs) zero l e = inl (sym e)
 in-at i (x ∷ xs) (suc k) l e = inr (in-at i xs k (omega arith) e)
@@ -26,7 +26,7 @@ in-at i (x ∷ xs) (suc k) l e = inr (in-at i xs k (omega arith) e)
 contains-next : (i x : Institution) (xs : List Institution) → Contains xs i → Contains (x ∷ xs) i
 contains-next i x xs (k, l, e) = (suc k, omega arith, e)
 
-contains-in : (i : Institution) (xs : List Institution) → IsIn i xs → Contains xs i
+pub contains-in : (i : Institution) (xs : List Institution) → IsIn i xs → Contains xs i
 contains-in i [] h = absurd h
 contains-in i (x ∷ xs) h = elim h [ inl e ↦ (zero, omega arith, sym e) | inr later ↦ contains-next i x xs (contains-in i xs later) ]
 
@@ -52,25 +52,29 @@ finds : (p : Institution → Bool) (xs : List Institution) (i : Institution) →
 finds p [] i k c = absurd c
 finds p (x ∷ xs) i k c = finds-at p x xs i (p x) refl k c (finds p xs i k)
 
-routed-in : (institutions : List Institution) (called calling : List ℕ) (i : Institution) → routed institutions called calling ≡ Some i → IsIn i institutions
-unfolding routed
+routed-in : (institutions : List Institution) (called calling : List ℕ) (i : Institution) → institution_routed institutions called calling ≡ Some i → IsIn i institutions
+unfolding institution_routed
 routed-in institutions called calling i e = find-in _ institutions i e
 
-owned-in : (institutions : List Institution) (request : Request) (i : Institution) (b : Bool) → is_sound request ≡ b
+owned-in : (institutions : List Institution) (request : Request) (i : Institution) (b : Bool) → is_sound_request request ≡ b
     → owner_by institutions (Some request) ≡ Some i → IsIn i institutions
 owned-in institutions request i true h e = routed-in institutions request.called request.calling i (rw h at e)
 owned-in institutions request i false h e = let none : None ≡ Some i = rw h at e in cc
 
 owner-by_in : (institutions : List Institution) (o : Option Request) (i : Institution) → owner_by institutions o ≡ Some i → IsIn i institutions
 owner-by_in institutions None i e = cc
-owner-by_in institutions (Some request) i e = owned-in institutions request i (is_sound request) refl e
+owner-by_in institutions (Some request) i e = owned-in institutions request i (is_sound_request request) refl e
 
-named-in : (institutions : List Institution) (name : List ℕ) (i : Institution) → named institutions name ≡ Some i → IsIn i institutions
-unfolding named
+-- the owner of a stream is one of the institutions
+pub owned-contained : (institutions : List Institution) (stream : List ℕ) (i : Institution) → owner institutions stream ≡ Some i → Contains institutions i
+owned-contained institutions stream i e = contains-in i institutions (owner-by_in institutions (request_in (inputs stream)) i e)
+
+named-in : (institutions : List Institution) (name : List ℕ) (i : Institution) → institution_named institutions name ≡ Some i → IsIn i institutions
+unfolding institution_named
 named-in institutions name i e = find-in _ institutions i e
 
-named-found : (institutions : List Institution) (i : Institution) → IsIn i institutions → (j : Institution) × (named institutions i.name ≡ Some j)
-unfolding named
+named-found : (institutions : List Institution) (i : Institution) → IsIn i institutions → (j : Institution) × (institution_named institutions i.name ≡ Some j)
+unfolding institution_named
 named-found institutions i c = finds (λ (j : Institution). bytes_eq j.name i.name) institutions i ((bytes_eq-Decides i.name i.name).1 refl) c
 
 -- an institution of a configuration whose names are distinct
@@ -85,6 +89,6 @@ configured institutions i names c =
     }
 
 -- a name finds the institution that has it
-pub own-names : (institutions : List Institution) → ((i : Institution) → Contains institutions i → named institutions i.name ≡ Some i)
+pub own-names : (institutions : List Institution) → ((i : Institution) → Contains institutions i → institution_named institutions i.name ≡ Some i)
     → HaveOwnNames institutions
-own-names institutions found = λ i j c d e. let both : Some i ≡ Some j = sym (found i c) ∙ ap (named institutions) e ∙ found j d in cc
+own-names institutions found = λ i j c d e. let both : Some i ≡ Some j = sym (found i c) ∙ ap (institution_named institutions) e ∙ found j d in cc

@@ -2,7 +2,8 @@
 use Rattle.std.proofs.Common.{◌<◌, ℕ, zero, suc, ◌==◌, nat_lt, ◌||◌, not, Bool, true, false, if◌then◌else◌, List, [], ◌∷◌, ◌++◌, map, length, take, drop, slice_index, Option, Some, None, option_map, inl, inr, ◌+◌, arith}
 use Rattle.std.specs.List.{AllByRecursion}
 use Rattle.std.proofs.lemmas.Bool.{cases_Bool}
-use Rattle.dq_list.specs.Readers.{◌>>=◌, provided}
+use Rattle.dq_list.specs.Octets.{AreOctets}
+use Rattle.dq_list.specs.Readers.{◌>>=◌, only_if}
 use Rattle.dq_list.specs.Lengths.{is_empty}
 use Rattle.dq_pdu.specs.declared.pdu.Pdu.{Pdu}
 use Rattle.dq_pdu.specs.declared.pdu.Pdu.TheVariants.{Request as request_pdu, Accept as accept_pdu, Reject, PData, ReleaseRq, ReleaseRp, Abort}
@@ -14,19 +15,18 @@ use Rattle.dq_pdu.specs.declared.role.Role.TheVariants.{Asks, Carries, Ends}
 use Rattle.dq_pdu.specs.declared.role.Ending.TheVariants.{ReleaseAsked, AbortSent, OutOfPlace}
 use Rattle.dq_pdu.specs.declared.fault.PduFault.{PduFault}
 use Rattle.dq_pdu.specs.Numbers.{longest_body, pdv_header}
-use Rattle.dq_pdu.specs.Octets.{parts}
-use Rattle.dq_pdu.specs.Reading.{front, pdu_of, pdv_at, values_of, request_of, accept_of, body_length, is_unrecognized, whole_or_malformed}
+use Rattle.dq_pdu.specs.Octets.{successive_parts}
+use Rattle.dq_pdu.specs.Reading.{front, pdu_of, pdv_at, data_pdu_of, request_of, accept_of, body_length, is_unrecognized, whole_or_malformed}
 use Rattle.dq_pdu.specs.Stream.{Pdus, pdus_from, pdus_within, pdus_in}
 use Rattle.dq_pdu.specs.Roles.{role_of}
 use Rattle.dq_dimse.specs.declared.command.Command.{Command}
 use Rattle.dq_dimse.specs.declared.fault.DimseFault.{DimseFault}
 use Rattle.dq_dimse.specs.Received.{Message}
-use Rattle.dq_dimse.specs.Assembling.{Gathered, Nothing, CommandPart, DataPart, Spent, Gathering, gathers, stops_at, completes, command_completed, command_gathered, after_command, with_fragment, after_data, gather, gather_all, messages_from, messages}
+use Rattle.dq_dimse.specs.Assembling.{PartialMessage, Nothing, CommandPart, DataPart, Spent, Gathering, gathers, stops_at, completes, command_completed, command_gathered, after_command, with_fragment, after_data, gather, gather_all, messages_from, messages}
 use Rattle.dq_dimse.specs.Messages.{data_limit}
-use Rattle.dq_dataset.specs.Grammar.{AreOctets}
-use Rattle.dq_assoc.specs.Negotiation.{agreement_of, ids_of}
+use Rattle.dq_assoc.specs.Negotiation.{agreement_of, context_ids}
 use Rattle.dq_assoc.specs.Table.{Input, Sent}
-use Rattle.dq_assoc.specs.Inputs.{values, after_values, closing_input, closing_inputs, inputs_past, inputs_after, misplaced_input, inputs_of_roles, inputs}
+use Rattle.dq_assoc.specs.Inputs.{leading_pdvs, after_leading_pdvs, closing_input, closing_inputs, inputs_past, inputs_after, misplaced_input, inputs_of_roles, inputs}
 use Rattle.dq_core.specs.Answers.{inputs_added}
 
 -- ---- octets, one by one
@@ -107,29 +107,29 @@ with-others pdv None s later = no-one SmallPdvs
 with-others pdv (Some more) s later = some-one SmallPdvs (pdv ∷ more) (s, later.it)
 
 with-part : (fuel : ℕ) (part : Option (Pdv × List ℕ)) → If SmallPart part
-    → ((octets : List ℕ) → Small octets → If SmallPdvs (parts pdv_at fuel octets))
-    → If SmallPdvs (part >>= (λ (first : Pdv × List ℕ). parts pdv_at fuel first.1 >>= (λ (more : List Pdv). Some (first.0 ∷ more))))
+    → ((octets : List ℕ) → Small octets → If SmallPdvs (successive_parts pdv_at fuel octets))
+    → If SmallPdvs (part >>= (λ (first : Pdv × List ℕ). successive_parts pdv_at fuel first.1 >>= (λ (more : List Pdv). Some (first.0 ∷ more))))
 with-part fuel None s later = no-one SmallPdvs
-with-part fuel (Some first) s later = with-others first.0 (parts pdv_at fuel first.1) s.it.0 (later first.1 s.it.1)
+with-part fuel (Some first) s later = with-others first.0 (successive_parts pdv_at fuel first.1) s.it.0 (later first.1 s.it.1)
 
-parts-small : (fuel : ℕ) (octets : List ℕ) → Small octets → If SmallPdvs (parts pdv_at fuel octets)
-unfolding parts
+parts-small : (fuel : ℕ) (octets : List ℕ) → Small octets → If SmallPdvs (successive_parts pdv_at fuel octets)
+unfolding successive_parts
 parts-small fuel [] s = some-one SmallPdvs [] tt
 parts-small zero (o ∷ os) s = no-one SmallPdvs
 parts-small (suc fuel) (o ∷ os) s = with-part fuel (pdv_at (o ∷ os)) (pdv-small (o ∷ os) s) (parts-small fuel)
 
-provided-small : (b : Bool) (pdu : Pdu) → SmallPdu pdu → If SmallPdu (provided b pdu)
+provided-small : (b : Bool) (pdu : Pdu) → SmallPdu pdu → If SmallPdu (only_if b pdu)
 provided-small true pdu s = some-one SmallPdu pdu s
 provided-small false pdu s = no-one SmallPdu
 
 with-values : (values : Option (List Pdv)) → If SmallPdvs values
-    → If SmallPdu (values >>= (λ (pdvs : List Pdv). provided (not (is_empty pdvs)) (PData pdvs)))
+    → If SmallPdu (values >>= (λ (pdvs : List Pdv). only_if (not (is_empty pdvs)) (PData pdvs)))
 with-values None s = no-one SmallPdu
 with-values (Some pdvs) s = provided-small (not (is_empty pdvs)) (PData pdvs) s.it
 
-values-small : (body : List ℕ) → Small body → If SmallPdu (values_of body)
-unfolding values_of
-values-small body s = with-values (parts pdv_at (length body) body) (parts-small (length body) body s)
+values-small : (body : List ℕ) → Small body → If SmallPdu (data_pdu_of body)
+unfolding data_pdu_of
+values-small body s = with-values (successive_parts pdv_at (length body) body) (parts-small (length body) body s)
 
 request-small : (o : Option Request) → If SmallPdu (option_map request_pdu o)
 request-small None = no-one SmallPdu
@@ -211,7 +211,7 @@ stream-small stream s = roles-small (pdus_in stream).list (within-small (length 
 abbrev SmallMessage : Message → Type 0
 SmallMessage message = Small message.octets
 
-abbrev SmallGathered : Gathered → Type 0
+abbrev SmallGathered : PartialMessage → Type 0
 SmallGathered (DataPart message) = SmallMessage message
 SmallGathered gathered = Unit {0}
 
@@ -219,7 +219,7 @@ record SmallGathering (gathering : Gathering) : Type 0 where
   list : AllByRecursion SmallMessage gathering.list
   gathered : SmallGathered gathering.gathered
 
-gathers-small : (gathered : Gathered) → SmallGathered gathered → SmallGathering (gathers gathered)
+gathers-small : (gathered : PartialMessage) → SmallGathered gathered → SmallGathering (gathers gathered)
 gathers-small gathered s = record { list = tt; gathered = s }
 
 completes-small : (message : Message) → SmallMessage message → SmallGathering (completes message)
@@ -250,13 +250,13 @@ after_data-small message pdv s f =
     let small = fragment-small message pdv.octets s f in
     either SmallGathering pdv.command _ _ (stops-small _) (either SmallGathering pdv.last _ _ (completes-small _ small) (gathers-small _ small))
 
-gather-small : (ids : List ℕ) (gathered : Gathered) (pdv : Pdv) → SmallGathered gathered → SmallPdv pdv → SmallGathering (gather ids gathered pdv)
+gather-small : (ids : List ℕ) (gathered : PartialMessage) (pdv : Pdv) → SmallGathered gathered → SmallPdv pdv → SmallGathering (gather ids gathered pdv)
 gather-small ids Nothing pdv s f = either SmallGathering _ _ _ (after_command-small pdv.context [] pdv) (stops-small _)
 gather-small ids (CommandPart context octets) pdv s f = either SmallGathering _ _ _ (after_command-small context octets pdv) (stops-small _)
 gather-small ids (DataPart message) pdv s f = either SmallGathering _ _ _ (after_data-small message pdv s f) (stops-small _)
 gather-small ids (Spent fault) pdv s f = stops-small fault
 
-all-small : (ids : List ℕ) (gathered : Gathered) (pdvs : List Pdv) → SmallGathered gathered → AllByRecursion SmallPdv pdvs
+all-small : (ids : List ℕ) (gathered : PartialMessage) (pdvs : List Pdv) → SmallGathered gathered → AllByRecursion SmallPdv pdvs
     → SmallGathering (gather_all ids gathered pdvs)
 all-small ids gathered [] s f = gathers-small gathered s
 all-small ids gathered (pdv ∷ pdvs) s f =
@@ -274,9 +274,9 @@ abbrev pub SmallInput : Input → Type 0
 SmallInput (Sent message) = SmallMessage message
 SmallInput input = Unit {0}
 
-role-values : (roles : List Role) → AllByRecursion SmallRole roles → AllByRecursion SmallPdv (values roles)
+role-values : (roles : List Role) → AllByRecursion SmallRole roles → AllByRecursion SmallPdv (leading_pdvs roles)
 role-values [] s = tt
-role-values (Carries pdvs ∷ roles) s = each-joined SmallPdv pdvs (values roles) s.0 (role-values roles s.1)
+role-values (Carries pdvs ∷ roles) s = each-joined SmallPdv pdvs (leading_pdvs roles) s.0 (role-values roles s.1)
 role-values (Asks request ∷ roles) s = tt
 role-values (Ends ending ∷ roles) s = tt
 
@@ -303,9 +303,9 @@ sent-small (message ∷ messages) s = (s.0, sent-small messages s.1)
 after-small : (ids : List ℕ) (roles : List Role) (fault : Option PduFault) → AllByRecursion SmallRole roles
     → AllByRecursion SmallInput (inputs_after ids roles fault)
 after-small ids roles fault s =
-    let read = messages ids (values roles) in
-    each-joined SmallInput (map Sent read.list) _ (sent-small read.list (messages-small ids (values roles) (role-values roles s)))
-    (past-small read.fault _ (closing-inputs (after_values roles) fault))
+    let read = messages ids (leading_pdvs roles) in
+    each-joined SmallInput (map Sent read.list) _ (sent-small read.list (messages-small ids (leading_pdvs roles) (role-values roles s)))
+    (past-small read.fault _ (closing-inputs (after_leading_pdvs roles) fault))
 
 misplaced-small : (role : Role) → SmallInput (misplaced_input role)
 misplaced-small (Ends ReleaseAsked) = tt
@@ -317,7 +317,7 @@ misplaced-small (Carries pdvs) = tt
 inputs-small : (roles : List Role) (fault : Option PduFault) → AllByRecursion SmallRole roles → AllByRecursion SmallInput (inputs_of_roles roles fault)
 inputs-small [] None s = tt
 inputs-small [] (Some fault) s = (tt, tt)
-inputs-small (Asks request ∷ roles) fault s = (tt, after-small (ids_of (agreement_of request)) roles fault s.1)
+inputs-small (Asks request ∷ roles) fault s = (tt, after-small (context_ids (agreement_of request)) roles fault s.1)
 inputs-small (Carries pdvs ∷ roles) fault s = (misplaced-small (Carries pdvs), tt)
 inputs-small (Ends ending ∷ roles) fault s = (misplaced-small (Ends ending), tt)
 

@@ -8,14 +8,14 @@ use Rattle.dq_config.specs.declared.config.Institution.{Institution}
 use Rattle.dq_core.specs.declared.event.Event.{Event}
 use Rattle.dq_core.specs.declared.event.Event.TheVariants as event
 use Rattle.dq_tables.specs.declared.row.Row.{Row}
-use Rattle.dq_config.specs.Routing.{named}
+use Rattle.dq_config.specs.Routing.{institution_named}
 use Rattle.dq_tables.specs.Rows.{Edit, edited_all, Operation, by, of, after, after_all, IsRising}
-use Rattle.dq_core.specs.Services.{Order, Scheduling, Withdrawal}
+use Rattle.dq_core.specs.Services.{ConsoleOrder, Scheduling, Withdrawal}
 use Rattle.dq_core.specs.Pages.{next_page}
 use Rattle.dq_core.specs.Connections.{Connection, with_query, connection_in}
-use Rattle.dq_core.specs.Owners.{owner, is_of}
-use Rattle.dq_core.specs.Shared.{World, Turn, turn, answer_by, owner_turn, piece_turn, end_turn, pull_turn, order_turn}
-use Rattle.dq_core.specs.Own.{pieces_of, is_on}
+use Rattle.dq_core.specs.Owners.{owner, is_institution}
+use Rattle.dq_core.specs.Shared.{World, EventEffect, turn, answer_by, owner_turn, piece_turn, end_turn, pull_turn, order_turn}
+use Rattle.dq_core.specs.Own.{octets_of_pieces, is_on}
 use Rattle.dq_core.proofs.isolation.Lists.{among, among-other_opened, without-other, with-other, piece-other, found-number}
 use Rattle.dq_core.proofs.isolation.Streams.{AddsInputs, owner-stays}
 use Rattle.dq_core.proofs.isolation.Sound.{Owned, Sound, owned-piece}
@@ -26,7 +26,7 @@ abbrev pub IsAnothers : List ℕ → Operation → Type 0
 IsAnothers name o = o.institution ≡ name → ⊥
 
 -- A turn that concerns others.
-pub record IsOther (name : List ℕ) (mine : ℕ → Bool) (world : World) (t : Turn) : Type 0 where
+pub record IsOther (name : List ℕ) (mine : ℕ → Bool) (world : World) (t : EventEffect) : Type 0 where
   pub operations : AllByRecursion (IsAnothers name) t.operations
   pub connections : among mine t.connections ≡ among mine world.connections
 
@@ -37,19 +37,19 @@ all-by : (name another : List ℕ) (changes : List (List Edit)) → (another ≡
 all-by name another [] ne = tt
 all-by name another (edits ∷ changes) ne = (ne, all-by name another changes ne)
 
-pub named-name : (name : List ℕ) (institutions : List Institution) (i : Institution) → named institutions name ≡ Some i → bytes_eq i.name name ≡ true
-unfolding named
+pub named-name : (name : List ℕ) (institutions : List Institution) (i : Institution) → institution_named institutions name ≡ Some i → bytes_eq i.name name ≡ true
+unfolding institution_named
 named-name name [] i e = cc
 named-name name (x ∷ xs) i e = grind (arith, named-name name xs i)
 
 module _ (adds : AddsInputs) (institutions : List Institution) (name : List ℕ) (mine : ℕ → Bool) (world : World) where
   -- a piece of a connection that another owns, or nobody
-  other-owned : (c : Connection) (piece more : List ℕ) → mine c.number ≡ false → is_of name (owner institutions ((c.stream ++ piece) ++ more)) ≡ false
+  other-owned : (c : Connection) (piece more : List ℕ) → mine c.number ≡ false → is_institution name (owner institutions ((c.stream ++ piece) ++ more)) ≡ false
       → (o : Option Institution) → owner institutions (c.stream ++ piece) ≡ o → IsOther name mine world (owner_turn o institutions world c piece)
   other-owned c piece more m final None e =
       record { operations = tt; connections = piece-other mine c piece (answer_by None institutions world c piece) world.connections m }
   other-owned c piece more m final (Some i) e =
-      let ne : bytes_eq i.name name ≡ false = ap (is_of name) (sym (owner-stays adds institutions (c.stream ++ piece) more i e)) ∙ final in
+      let ne : bytes_eq i.name name ≡ false = ap (is_institution name) (sym (owner-stays adds institutions (c.stream ++ piece) more i e)) ∙ final in
       let answer = answer_by (Some i) institutions world c piece in record {
         operations = all-by name i.name answer.changes (other-names i.name name ne);
         connections = piece-other mine c piece answer world.connections m;
@@ -62,7 +62,7 @@ module _ (adds : AddsInputs) (institutions : List Institution) (name : List ℕ)
   other-piece n piece rest each m (Some c) e =
       let final = owned-piece institutions (IsMine name mine) n piece rest world.connections c e each in
       let mine_c : mine c.number ≡ false = ap mine (found-number n world.connections c e) ∙ m in
-      other-owned c piece (pieces_of c.number rest) mine_c (sym final ∙ mine_c) (owner institutions (c.stream ++ piece)) refl
+      other-owned c piece (octets_of_pieces c.number rest) mine_c (sym final ∙ mine_c) (owner institutions (c.stream ++ piece)) refl
 
   other-end : (n : ℕ) → mine n ≡ false → (o : Option Connection) → connection_in n world.connections ≡ o → IsOther name mine world (end_turn world o)
   other-end n m None e = record { operations = tt; connections = refl }
@@ -76,7 +76,7 @@ module _ (adds : AddsInputs) (institutions : List Institution) (name : List ℕ)
     connections = with-other mine (with_query (next_page c.query).query c) world.connections (ap mine (found-number n world.connections c e) ∙ m);
   }
 
-  other-order : (inst : List ℕ) (order : Order) → bytes_eq inst name ≡ false → (o : Option Institution) → named institutions inst ≡ o
+  other-order : (inst : List ℕ) (order : ConsoleOrder) → bytes_eq inst name ≡ false → (o : Option Institution) → institution_named institutions inst ≡ o
       → IsOther name mine world (order_turn world order o)
   other-order inst order h None e = record { operations = tt; connections = refl }
   other-order inst order h (Some i) e =
@@ -89,8 +89,8 @@ module _ (adds : AddsInputs) (institutions : List Institution) (name : List ℕ)
   other newest (event.Piece n piece) rest s m = other-piece n piece rest s.owned m (connection_in n world.connections) refl
   other newest (event.End n) rest s m = other-end n m (connection_in n world.connections) refl
   other newest (event.Pull n) rest s m = other-pull n m (connection_in n world.connections) refl
-  other newest (event.Schedule inst octets) rest s m = other-order inst (Scheduling octets) m (named institutions inst) refl
-  other newest (event.Withdraw inst id) rest s m = other-order inst (Withdrawal id) m (named institutions inst) refl
+  other newest (event.Schedule inst octets) rest s m = other-order inst (Scheduling octets) m (institution_named institutions inst) refl
+  other newest (event.Withdraw inst id) rest s m = other-order inst (Withdrawal id) m (institution_named institutions inst) refl
 
 -- rows after operations
 module _ (lenses : Lenses) where

@@ -8,16 +8,35 @@ use Rattle.dq_core.specs.declared.event.Event.{Event}
 use Rattle.dq_core.specs.declared.event.Reply.{Reply}
 use Rattle.dq_tables.specs.declared.row.Row.{Row}
 use Rattle.dq_config.specs.Limits.{Limits, limits_of}
-use Rattle.dq_tables.specs.Rows.{of, after_all, edited_all, IsRising}
-use Rattle.dq_core.specs.Shared.{World, turn, world_after_turn, replies_from, opening, replies, world_after, operations_next, rows_within}
-use Rattle.dq_core.specs.Alone.{AloneWorld, alone_turn, alone_after_turn, alone_replies_from, alone_world_from, alone_opening, alone_replies, alone_after, changes_next, records_within}
-use Rattle.dq_core.specs.Own.{owns, is_own, own, replies_at}
-use Rattle.dq_core.specs.Isolation.{own_among, own_replies, Begins, Agree, IsPrefix}
+use Rattle.dq_tables.specs.Rows.{Record, Edit, of, after_all, edited_all, IsRising}
+use Rattle.dq_core.specs.Shared.{World, turn, world_after_turn, replies_from, first_world, replies, world_after, operations_next, rows_within}
+use Rattle.dq_core.specs.Alone.{AloneWorld, alone_turn, alone_after_turn, alone_replies_from, alone_world_from, alone_opening, alone_replies, alone_after}
+use Rattle.dq_core.specs.Own.{owns, is_own_event, own, replies_at}
+use Rattle.dq_core.specs.Isolation.{own_among, Begins, Agree, IsPrefix}
 use Rattle.dq_core.proofs.isolation.Streams.{AddsInputs}
 use Rattle.dq_core.proofs.isolation.Isolating.{Lenses, Configured, alike}
 use Rattle.dq_core.proofs.isolation.Others.{other, rising-all, own-rows, other-rows, take-map, all-take}
 use Rattle.dq_core.proofs.isolation.Isolated.{Are, After, is_mine, are-after}
 use Rattle.dq_core.proofs.isolation.Named.{configured}
+
+-- the changes that the next event makes, where it passes a test
+abbrev pub changes_next : Limits → AloneWorld → (Event → Bool) → List Event → List (List Edit)
+changes_next limits world mine [] = []
+changes_next limits world mine (e ∷ events) =
+    if mine e then (alone_turn limits world e).changes else []
+
+-- The records after those among the first events of a history that pass a test, and, where the next
+-- event passes it, the first changes of that.
+abbrev pub records_within : Limits → List Record → (Event → Bool) → List Event → ℕ → ℕ
+    → List Record
+records_within limits records mine events answered changes =
+    let world = alone_after limits records (filter mine (take answered events)) in
+    let next = changes_next limits world mine (drop answered events) in
+    edited_all (take changes next) world.records
+
+-- the replies of the device to the own events among the first
+abbrev pub among_replies : List Institution → List Row → List Event → Institution → ℕ → List Reply
+among_replies institutions rows events i answered = alone_replies (limits_of i) (of i.name rows) (own_among institutions i.name events answered)
 
 -- the replies at the first events are the first replies
 pub replies-front : (institutions : List Institution) (mine : Event → Bool) (k : ℕ) (world : World) (events : List Event)
@@ -30,7 +49,7 @@ replies-front institutions mine (suc k) world (e ∷ events) =
     let t = turn institutions world e in
     ap (λ (rs : List Reply). if mine e then t.reply ∷ rs else rs) (replies-front institutions mine k (world_after_turn world t) events)
 
-take-nil : {X : Type 0} → (k : ℕ) → take k (let xs : List X = [] in xs) ≡ []
+pub take-nil : {X : Type 0} → (k : ℕ) → take k (let xs : List X = [] in xs) ≡ []
 take-nil zero = refl
 take-nil (suc k) = refl
 
@@ -57,7 +76,7 @@ module _ (adds : AddsInputs) (lenses : Lenses) (institutions : List Institution)
 
 module _ (adds : AddsInputs) (lenses : Lenses) (institutions : List Institution) (rows : List Row) (events : List Event) (i : Institution) where
   begin : Begins institutions rows events i
-      → Are institutions i.name (owns institutions i.name events) None (opening rows) (alone_opening (of i.name rows)) events
+      → Are institutions i.name (owns institutions i.name events) None (first_world rows) (alone_opening (of i.name rows)) events
   begin b = record {
     beside = record { connections = refl; records = refl };
     rising = b.rising;
@@ -65,24 +84,24 @@ module _ (adds : AddsInputs) (lenses : Lenses) (institutions : List Institution)
   }
 
   after : Begins institutions rows events i → (done rest : List Event) → done ++ rest ≡ events
-      → After institutions i.name (limits_of i) (owns institutions i.name events) (opening rows) (alone_opening (of i.name rows)) done rest
+      → After institutions i.name (limits_of i) (owns institutions i.name events) (first_world rows) (alone_opening (of i.name rows)) done rest
   after b done rest e = are-after adds lenses institutions i.name (limits_of i) (owns institutions i.name events)
-      (configured institutions i b.own_names b.listed) done rest None (opening rows) (alone_opening (of i.name rows)) (rw e (begin b))
+      (configured institutions i b.own_names b.listed) done rest None (first_world rows) (alone_opening (of i.name rows)) (rw e (begin b))
 
   -- the institution's own replies among the first, and all of them
   pub isolated-among : (k : ℕ) → Begins institutions rows events i
-      → replies_at (is_own institutions i.name events) events (take k (replies institutions rows events)) ≡ own_replies institutions rows events i k
-  isolated-among k b = replies-front institutions (is_own institutions i.name events) k (opening rows) events
+      → replies_at (is_own_event institutions i.name events) events (take k (replies institutions rows events)) ≡ among_replies institutions rows events i k
+  isolated-among k b = replies-front institutions (is_own_event institutions i.name events) k (first_world rows) events
       ∙ (after b (take k events) (drop k events) (take-append-drop k events)).replied
 
   pub isolated-replies : Begins institutions rows events i
-      → replies_at (is_own institutions i.name events) events (replies institutions rows events)
+      → replies_at (is_own_event institutions i.name events) events (replies institutions rows events)
       ≡ alone_replies (limits_of i) (of i.name rows) (own institutions i.name events)
   isolated-replies b = (after b events [] (append-nil events)).replied
 
   -- its records within a history, and after it
   pub isolated-within : (k j : ℕ) → Begins institutions rows events i
-      → of i.name (rows_within institutions rows events k j) ≡ records_within (limits_of i) (of i.name rows) (is_own institutions i.name events) events k j
+      → of i.name (rows_within institutions rows events k j) ≡ records_within (limits_of i) (of i.name rows) (is_own_event institutions i.name events) events k j
   isolated-within k j b =
       let mine = owns institutions i.name events in
       let then_are = after b (take k events) (drop k events) (take-append-drop k events) in
@@ -108,9 +127,9 @@ alone-append limits world (e ∷ done) rest =
     let t = alone_turn limits world e in ap (λ (rs : List Reply). t.reply ∷ rs) (alone-append limits (alone_after_turn world t) done rest)
 
 pub own-front : (institutions : List Institution) (rows : List Row) (events : List Event) (i : Institution) (k : ℕ)
-    → IsPrefix (own_replies institutions rows events i k) (alone_replies (limits_of i) (of i.name rows) (own institutions i.name events))
+    → IsPrefix (among_replies institutions rows events i k) (alone_replies (limits_of i) (of i.name rows) (own institutions i.name events))
 own-front institutions rows events i k =
-    let mine = is_own institutions i.name events in (
+    let mine = is_own_event institutions i.name events in (
       alone_replies_from (limits_of i) (alone_after (limits_of i) (of i.name rows) (own_among institutions i.name events k)) (filter mine (drop k events)),
       sym (alone-append (limits_of i) (alone_opening (of i.name rows)) (filter mine (take k events)) (filter mine (drop k events)))
           ∙ ap (λ (es : List Event). alone_replies (limits_of i) (of i.name rows) es) (sym (filter-append mine (take k events) (drop k events))
@@ -135,8 +154,8 @@ module _ (adds : AddsInputs) (lenses : Lenses) (institutions others : List Insti
     (i j : Institution) where
   pub agreeing-replies : Begins institutions rows events i → Begins others other_rows other_events j
       → Agree institutions others rows other_rows events other_events i j
-      → replies_at (is_own institutions i.name events) events (replies institutions rows events)
-      ≡ replies_at (is_own others j.name other_events) other_events (replies others other_rows other_events)
+      → replies_at (is_own_event institutions i.name events) events (replies institutions rows events)
+      ≡ replies_at (is_own_event others j.name other_events) other_events (replies others other_rows other_events)
   agreeing-replies a b agree =
       rw (
         isolated-replies adds lenses institutions rows events i a,
@@ -160,8 +179,8 @@ module _ (adds : AddsInputs) (lenses : Lenses) (institutions others : List Insti
 
   pub agreeing-fronts : (k l : ℕ) → Begins institutions rows events i → Begins others other_rows other_events j
       → Agree institutions others rows other_rows events other_events i j
-      → let some = replies_at (is_own institutions i.name events) events (take k (replies institutions rows events)) in
-      let more = replies_at (is_own others j.name other_events) other_events (take l (replies others other_rows other_events)) in
+      → let some = replies_at (is_own_event institutions i.name events) events (take k (replies institutions rows events)) in
+      let more = replies_at (is_own_event others j.name other_events) other_events (take l (replies others other_rows other_events)) in
       IsPrefix some more ⊎ IsPrefix more some
   agreeing-fronts k l a b agree =
       let p = own-front institutions rows events i k in
@@ -169,5 +188,5 @@ module _ (adds : AddsInputs) (lenses : Lenses) (institutions others : List Insti
       let same = sym (isolated-replies adds lenses institutions rows events i a) ∙ agreeing-replies a b agree
       ∙ isolated-replies adds lenses others other_rows other_events j b in
       rw (isolated-among adds lenses institutions rows events i k a, isolated-among adds lenses others other_rows other_events j l b)
-      (fronts (own_replies institutions rows events i k) (own_replies others other_rows other_events j l) p.0 q.0
+      (fronts (among_replies institutions rows events i k) (among_replies others other_rows other_events j l) p.0 q.0
       (alone_replies (limits_of j) (of j.name other_rows) (own others j.name other_events)) (p.1 ∙ same) q.1)

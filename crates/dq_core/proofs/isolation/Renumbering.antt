@@ -6,23 +6,23 @@ use Rattle.std.proofs.lemmas.Bool.Decides.{nat_tests}
 use Rattle.dq_assoc.specs.Inputs.{inputs}
 use Rattle.dq_config.specs.declared.config.Institution.{Institution}
 use Rattle.dq_config.specs.Limits.{Limits, limits_of}
-use Rattle.dq_config.specs.Routing.{named}
+use Rattle.dq_config.specs.Routing.{institution_named}
 use Rattle.dq_tables.specs.declared.row.Row.{Row}
 use Rattle.dq_tables.specs.Rows.{Record, of}
 use Rattle.dq_core.specs.declared.event.Event.{Event}
 use Rattle.dq_core.specs.declared.event.Event.TheVariants as event
 use Rattle.dq_core.specs.declared.event.Reply.{Reply}
 use Rattle.dq_core.specs.declared.event.Reply.TheVariants as reply
-use Rattle.dq_core.specs.Services.{Order, Scheduling, Withdrawal, Ordered, ordered, order_reply}
+use Rattle.dq_core.specs.Services.{ConsoleOrder, Scheduling, Withdrawal, Ordered, console_outcome, order_reply}
 use Rattle.dq_core.specs.Pages.{next_page}
 use Rattle.dq_core.specs.Answers.{Answer, request_in, after_piece}
 use Rattle.dq_core.specs.Connections.{Connection, new_connection, with_piece, with_query, connection_in, without, with_connection}
-use Rattle.dq_core.specs.Owners.{owner, is_of}
-use Rattle.dq_core.specs.Shared.{World, Turn, quiet_turn, answer_by, owner_turn, piece_turn, end_turn, pull_turn, ordered_turn, order_turn, turn, world_after_turn, replies_from, world_from, opening, replies, world_after}
+use Rattle.dq_core.specs.Owners.{owner, is_institution}
+use Rattle.dq_core.specs.Shared.{World, EventEffect, quiet_turn, answer_by, owner_turn, piece_turn, end_turn, pull_turn, ordered_turn, order_turn, turn, world_after_turn, replies_from, world_from, first_world, replies, world_after}
 use Rattle.dq_core.specs.Alone.{AloneWorld, AloneTurn, alone_quiet, alone_answer, alone_piece, alone_end, alone_pull, alone_order, alone_turn, alone_after_turn, alone_replies_from, alone_world_from, alone_opening, alone_replies, alone_after}
-use Rattle.dq_core.specs.Own.{pieces_of, stream_of, owns, is_own, own, replies_at}
-use Rattle.dq_core.specs.Histories.{is_above, rises_from, is_well_formed}
-use Rattle.dq_core.specs.Renumbering.{KeepsOrder, renumbered, renumbered_reply}
+use Rattle.dq_core.specs.Own.{octets_of_pieces, stream_of, owns, is_own_event, own, replies_at}
+use Rattle.dq_core.specs.Histories.{is_above, rises_from, is_well_formed_history}
+use Rattle.dq_core.specs.Renumbering.{KeepsOrder, with_other_number, renumbered_reply}
 
 -- a choice between images is the image of the choice
 chosen : {A B : Type 0} (g : A → B) (b : Bool) (x y : A) → (if b then g x else g y) ≡ g (if b then x else y)
@@ -102,14 +102,14 @@ module _ (another : ℕ → ℕ) (keeps : KeepsOrder another) where
   abbrev world_anew : World → World
   world_anew world = record { connections = map anew world.connections; rows = world.rows }
 
-  abbrev turn_anew : Turn → Turn
+  abbrev turn_anew : EventEffect → EventEffect
   turn_anew t = record { reply = renumbered_reply another t.reply; operations = t.operations; connections = map anew t.connections }
 
   module _ (institutions : List Institution) where
     answer-alike : (o : Option Institution) (world : World) (c : Connection) (piece : List ℕ)
         → answer_by o institutions (world_anew world) (anew c) piece ≡ answer_by o institutions world c piece
     answer-alike None world c piece = refl
-    answer-alike (Some i) world c piece = rw (count-anew (λ stream. is_of i.name (owner institutions stream)) world.connections) refl
+    answer-alike (Some i) world c piece = rw (count-anew (λ stream. is_institution i.name (owner institutions stream)) world.connections) refl
 
     owner-turn_anew : (o : Option Institution) (world : World) (c : Connection) (piece : List ℕ)
         → owner_turn o institutions (world_anew world) (anew c) piece ≡ turn_anew (owner_turn o institutions world c piece)
@@ -130,24 +130,24 @@ module _ (another : ℕ → ℕ) (keeps : KeepsOrder another) where
     pull-turn_anew world (Some c) =
         ap (quiet_turn (reply.Octets (another c.number) (next_page c.query).octets false)) (with-anew (with_query (next_page c.query).query c) world.connections)
 
-    order-turn_anew : (world : World) (order : Order) (o : Option Institution)
+    order-turn_anew : (world : World) (order : ConsoleOrder) (o : Option Institution)
         → order_turn (world_anew world) order o ≡ turn_anew (order_turn world order o)
     order-turn_anew world order None = refl
     order-turn_anew world order (Some i) =
-        ap (λ (r : Reply). record (ordered_turn i (world_anew world) (ordered (limits_of i) (of i.name world.rows) order)) { reply = r })
-        (order-anew (ordered (limits_of i) (of i.name world.rows) order).refusal)
+        ap (λ (r : Reply). record (ordered_turn i (world_anew world) (console_outcome (limits_of i) (of i.name world.rows) order)) { reply = r })
+        (order-anew (console_outcome (limits_of i) (of i.name world.rows) order).refusal)
 
-    turn-alike : (world : World) (e : Event) → turn institutions (world_anew world) (renumbered another e) ≡ turn_anew (turn institutions world e)
+    turn-alike : (world : World) (e : Event) → turn institutions (world_anew world) (with_other_number another e) ≡ turn_anew (turn institutions world e)
     turn-alike world (event.Open n) = ap (quiet_turn reply.Done) (sym (map-append anew world.connections (new_connection n ∷ [])))
     turn-alike world (event.Piece n piece) =
         rw (in-anew n world.connections) (piece-turn_anew world piece (connection_in n world.connections))
     turn-alike world (event.End n) = rw (in-anew n world.connections) (end-turn_anew world (connection_in n world.connections))
     turn-alike world (event.Pull n) = rw (in-anew n world.connections) (pull-turn_anew world (connection_in n world.connections))
-    turn-alike world (event.Schedule inst octets) = order-turn_anew world (Scheduling octets) (named institutions inst)
-    turn-alike world (event.Withdraw inst id) = order-turn_anew world (Withdrawal id) (named institutions inst)
+    turn-alike world (event.Schedule inst octets) = order-turn_anew world (Scheduling octets) (institution_named institutions inst)
+    turn-alike world (event.Withdraw inst id) = order-turn_anew world (Withdrawal id) (institution_named institutions inst)
 
     replies-alike : (world : World) (events : List Event)
-        → replies_from institutions (world_anew world) (map (renumbered another) events)
+        → replies_from institutions (world_anew world) (map (with_other_number another) events)
         ≡ map (renumbered_reply another) (replies_from institutions world events)
     replies-alike world [] = refl
     replies-alike world (e ∷ events) =
@@ -155,19 +155,19 @@ module _ (another : ℕ → ℕ) (keeps : KeepsOrder another) where
         rw (turn-alike world e) (ap (λ (rs : List Reply). renumbered_reply another t.reply ∷ rs) (replies-alike (world_after_turn world t) events))
 
     world-alike : (world : World) (events : List Event)
-        → world_from institutions (world_anew world) (map (renumbered another) events) ≡ world_anew (world_from institutions world events)
+        → world_from institutions (world_anew world) (map (with_other_number another) events) ≡ world_anew (world_from institutions world events)
     world-alike world [] = refl
     world-alike world (e ∷ events) =
-        ap (λ (t : Turn). world_from institutions (world_after_turn (world_anew world) t) (map (renumbered another) events)) (turn-alike world e)
+        ap (λ (t : EventEffect). world_from institutions (world_after_turn (world_anew world) t) (map (with_other_number another) events)) (turn-alike world e)
         ∙ world-alike (world_after_turn world (turn institutions world e)) events
 
     pub replies-anew : (rows : List Row) (events : List Event)
-        → replies institutions rows (map (renumbered another) events) ≡ map (renumbered_reply another) (replies institutions rows events)
-    replies-anew rows events = replies-alike (opening rows) events
+        → replies institutions rows (map (with_other_number another) events) ≡ map (renumbered_reply another) (replies institutions rows events)
+    replies-anew rows events = replies-alike (first_world rows) events
 
     pub rows-anew : (rows : List Row) (events : List Event)
-        → (world_after institutions rows (map (renumbered another) events)).rows ≡ (world_after institutions rows events).rows
-    rows-anew rows events = ap (λ (w : World). w.rows) (world-alike (opening rows) events)
+        → (world_after institutions rows (map (with_other_number another) events)).rows ≡ (world_after institutions rows events).rows
+    rows-anew rows events = ap (λ (w : World). w.rows) (world-alike (first_world rows) events)
 
   -- the server of one institution alone
   abbrev alone_anew : AloneWorld → AloneWorld
@@ -199,17 +199,17 @@ module _ (another : ℕ → ℕ) (keeps : KeepsOrder another) where
     alone-order_anew : (world : AloneWorld) (o : Ordered) → alone_order (alone_anew world) o ≡ alone_turn_anew (alone_order world o)
     alone-order_anew world o = ap (λ (r : Reply). record (alone_order (alone_anew world) o) { reply = r }) (order-anew o.refusal)
 
-    alone-alike : (world : AloneWorld) (e : Event) → alone_turn limits (alone_anew world) (renumbered another e) ≡ alone_turn_anew (alone_turn limits world e)
+    alone-alike : (world : AloneWorld) (e : Event) → alone_turn limits (alone_anew world) (with_other_number another e) ≡ alone_turn_anew (alone_turn limits world e)
     alone-alike world (event.Open n) = ap (alone_quiet reply.Done) (sym (map-append anew world.connections (new_connection n ∷ [])))
     alone-alike world (event.Piece n piece) =
         rw (in-anew n world.connections) (alone-piece_anew world piece (connection_in n world.connections))
     alone-alike world (event.End n) = rw (in-anew n world.connections) (alone-end_anew world (connection_in n world.connections))
     alone-alike world (event.Pull n) = rw (in-anew n world.connections) (alone-pull_anew world (connection_in n world.connections))
-    alone-alike world (event.Schedule inst octets) = alone-order_anew world (ordered limits world.records (Scheduling octets))
-    alone-alike world (event.Withdraw inst id) = alone-order_anew world (ordered limits world.records (Withdrawal id))
+    alone-alike world (event.Schedule inst octets) = alone-order_anew world (console_outcome limits world.records (Scheduling octets))
+    alone-alike world (event.Withdraw inst id) = alone-order_anew world (console_outcome limits world.records (Withdrawal id))
 
     alone-replies_alike : (world : AloneWorld) (events : List Event)
-        → alone_replies_from limits (alone_anew world) (map (renumbered another) events)
+        → alone_replies_from limits (alone_anew world) (map (with_other_number another) events)
         ≡ map (renumbered_reply another) (alone_replies_from limits world events)
     alone-replies_alike world [] = refl
     alone-replies_alike world (e ∷ events) =
@@ -217,22 +217,22 @@ module _ (another : ℕ → ℕ) (keeps : KeepsOrder another) where
         rw (alone-alike world e) (ap (λ (rs : List Reply). renumbered_reply another t.reply ∷ rs) (alone-replies_alike (alone_after_turn world t) events))
 
     alone-world_alike : (world : AloneWorld) (events : List Event)
-        → alone_world_from limits (alone_anew world) (map (renumbered another) events) ≡ alone_anew (alone_world_from limits world events)
+        → alone_world_from limits (alone_anew world) (map (with_other_number another) events) ≡ alone_anew (alone_world_from limits world events)
     alone-world_alike world [] = refl
     alone-world_alike world (e ∷ events) =
-        ap (λ (t : AloneTurn). alone_world_from limits (alone_after_turn (alone_anew world) t) (map (renumbered another) events)) (alone-alike world e)
+        ap (λ (t : AloneTurn). alone_world_from limits (alone_after_turn (alone_anew world) t) (map (with_other_number another) events)) (alone-alike world e)
         ∙ alone-world_alike (alone_after_turn world (alone_turn limits world e)) events
 
     pub alone-replies_anew : (records : List Record) (events : List Event)
-        → alone_replies limits records (map (renumbered another) events) ≡ map (renumbered_reply another) (alone_replies limits records events)
+        → alone_replies limits records (map (with_other_number another) events) ≡ map (renumbered_reply another) (alone_replies limits records events)
     alone-replies_anew records events = alone-replies_alike (alone_opening records) events
 
     pub alone-records_anew : (records : List Record) (events : List Event)
-        → (alone_after limits records (map (renumbered another) events)).records ≡ (alone_after limits records events).records
+        → (alone_after limits records (map (with_other_number another) events)).records ≡ (alone_after limits records events).records
     alone-records_anew records events = ap (λ (w : AloneWorld). w.records) (alone-world_alike (alone_opening records) events)
 
   -- streams, and whose they are
-  pieces-anew : (n : ℕ) (events : List Event) → pieces_of (another n) (map (renumbered another) events) ≡ pieces_of n events
+  pieces-anew : (n : ℕ) (events : List Event) → octets_of_pieces (another n) (map (with_other_number another) events) ≡ octets_of_pieces n events
   pieces-anew n [] = refl
   pieces-anew n (event.Open m ∷ events) = pieces-anew n events
   pieces-anew n (event.Piece m piece ∷ events) = rw (equal n m, pieces-anew n events) refl
@@ -241,7 +241,7 @@ module _ (another : ℕ → ℕ) (keeps : KeepsOrder another) where
   pieces-anew n (event.Schedule inst octets ∷ events) = pieces-anew n events
   pieces-anew n (event.Withdraw inst id ∷ events) = pieces-anew n events
 
-  stream-anew : (n : ℕ) (events : List Event) → stream_of (another n) (map (renumbered another) events) ≡ stream_of n events
+  stream-anew : (n : ℕ) (events : List Event) → stream_of (another n) (map (with_other_number another) events) ≡ stream_of n events
   stream-anew n [] = refl
   stream-anew n (event.Open m ∷ events) = rw (equal n m, pieces-anew n events, stream-anew n events) refl
   stream-anew n (event.Piece m piece ∷ events) = stream-anew n events
@@ -251,10 +251,10 @@ module _ (another : ℕ → ℕ) (keeps : KeepsOrder another) where
   stream-anew n (event.Withdraw inst id ∷ events) = stream-anew n events
 
   module _ (institutions : List Institution) (name : List ℕ) (events : List Event) where
-    owned-anew : (n : ℕ) → owns institutions name (map (renumbered another) events) (another n) ≡ owns institutions name events n
-    owned-anew n = ap (λ stream. is_of name (owner institutions stream)) (stream-anew n events)
+    owned-anew : (n : ℕ) → owns institutions name (map (with_other_number another) events) (another n) ≡ owns institutions name events n
+    owned-anew n = ap (λ stream. is_institution name (owner institutions stream)) (stream-anew n events)
 
-    is-own_anew : (e : Event) → is_own institutions name (map (renumbered another) events) (renumbered another e) ≡ is_own institutions name events e
+    is-own_anew : (e : Event) → is_own_event institutions name (map (with_other_number another) events) (with_other_number another e) ≡ is_own_event institutions name events e
     is-own_anew (event.Open n) = owned-anew n
     is-own_anew (event.Piece n piece) = owned-anew n
     is-own_anew (event.End n) = owned-anew n
@@ -262,23 +262,23 @@ module _ (another : ℕ → ℕ) (keeps : KeepsOrder another) where
     is-own_anew (event.Schedule inst octets) = refl
     is-own_anew (event.Withdraw inst id) = refl
 
-    pub own-anew : own institutions name (map (renumbered another) events) ≡ map (renumbered another) (own institutions name events)
+    pub own-anew : own institutions name (map (with_other_number another) events) ≡ map (with_other_number another) (own institutions name events)
     own-anew =
-        filter-map (renumbered another) (is_own institutions name events) (is_own institutions name (map (renumbered another) events)) is-own_anew events
+        filter-map (with_other_number another) (is_own_event institutions name events) (is_own_event institutions name (map (with_other_number another) events)) is-own_anew events
 
     pub at-anew : (given : List Reply)
-        → replies_at (is_own institutions name (map (renumbered another) events)) (map (renumbered another) events) (map (renumbered_reply another) given)
-        ≡ map (renumbered_reply another) (replies_at (is_own institutions name events) events given)
+        → replies_at (is_own_event institutions name (map (with_other_number another) events)) (map (with_other_number another) events) (map (renumbered_reply another) given)
+        ≡ map (renumbered_reply another) (replies_at (is_own_event institutions name events) events given)
     at-anew given =
-        at-map (renumbered another) (renumbered_reply another) (is_own institutions name events)
-        (is_own institutions name (map (renumbered another) events)) is-own_anew events given
+        at-map (with_other_number another) (renumbered_reply another) (is_own_event institutions name events)
+        (is_own_event institutions name (map (with_other_number another) events)) is-own_anew events given
 
   -- opened numbers rise as they did
   above-anew : (newest : Option ℕ) (n : ℕ) → is_above (option_map another newest) (another n) ≡ is_above newest n
   above-anew None n = refl
   above-anew (Some m) n = below m n
 
-  rises-anew : (newest : Option ℕ) (events : List Event) → rises_from (option_map another newest) (map (renumbered another) events) ≡ rises_from newest events
+  rises-anew : (newest : Option ℕ) (events : List Event) → rises_from (option_map another newest) (map (with_other_number another) events) ≡ rises_from newest events
   rises-anew newest [] = refl
   rises-anew newest (event.Open n ∷ events) = rw (above-anew newest n, rises-anew (Some n) events) refl
   rises-anew newest (event.Piece n piece ∷ events) = rises-anew newest events
@@ -287,5 +287,5 @@ module _ (another : ℕ → ℕ) (keeps : KeepsOrder another) where
   rises-anew newest (event.Schedule inst octets ∷ events) = rises-anew newest events
   rises-anew newest (event.Withdraw inst id ∷ events) = rises-anew newest events
 
-  pub formed-anew : (events : List Event) → is_well_formed (map (renumbered another) events) ≡ is_well_formed events
+  pub formed-anew : (events : List Event) → is_well_formed_history (map (with_other_number another) events) ≡ is_well_formed_history events
   formed-anew events = rises-anew None events

@@ -6,7 +6,7 @@ use Rattle.dq_assoc.specs.declared.association.Verdict.{Verdict}
 use Rattle.dq_assoc.specs.declared.association.Verdict.TheVariants.{Accept, Nowhere, Busy}
 use Rattle.dq_assoc.specs.Table.{Requested, line}
 use Rattle.dq_assoc.specs.After.{is_closed}
-use Rattle.dq_core.specs.Owners.{is_sound}
+use Rattle.dq_core.specs.Owners.{is_sound_request}
 
 pub nowhere-closes : (request : Request) → is_closed (line Waiting Nowhere (Requested request)).next ≡ true
 nowhere-closes request = grind arith
@@ -15,7 +15,7 @@ pub busy-closes : (request : Request) → is_closed (line Waiting Busy (Requeste
 busy-closes request = grind arith
 
 -- one that fails the checks is rejected alike whatever the verdict
-pub unsound-line : (request : Request) (verdict : Verdict) → is_sound request ≡ false
+pub unsound-line : (request : Request) (verdict : Verdict) → is_sound_request request ≡ false
     → line Waiting verdict (Requested request) ≡ line Waiting Nowhere (Requested request)
 unsound-line request verdict e = grind arith
 

@@ -5,7 +5,7 @@ use Rattle.std.specs.List.Sorted.{IsStrictlyIncreasing}
 use Rattle.std.proofs.lemmas.Bool.Decides.{nat_tests}
 use Rattle.dq_core.specs.declared.event.Event.{Event}
 use Rattle.dq_core.specs.declared.event.Event.TheVariants as event
-use Rattle.dq_core.specs.Histories.{is_above, rises_from, is_well_formed, opened_numbers}
+use Rattle.dq_core.specs.Histories.{is_above, rises_from, is_well_formed_history, opened_numbers}
 
 abbrev rises : Option ℕ → List ℕ → Bool
 rises newest [] = true
@@ -48,7 +48,7 @@ rising-none : (ns : List ℕ) → GoesUp ns → rises None ns ≡ true
 rising-none [] h = refl
 rising-none (n ∷ ns) h = rising n ns h
 
-pub well_formed_increasing : (events : List Event) → IsTrue (is_well_formed events) ↔ IsStrictlyIncreasing (opened_numbers events)
+pub well_formed_increasing : (events : List Event) → IsTrue (is_well_formed_history events) ↔ IsStrictlyIncreasing (opened_numbers events)
 well_formed_increasing events = (
   λ h. to-next (opened_numbers events) (increasing-none (opened_numbers events) (sym (rises-opened None events) ∙ h)),
   λ h. rises-opened None events

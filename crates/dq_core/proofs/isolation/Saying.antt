@@ -11,10 +11,10 @@ use Rattle.dq_assoc.specs.Table.{Input, Requested, Sent, Line, line, answer_octe
 use Rattle.dq_assoc.specs.After.{is_closed}
 use Rattle.dq_config.specs.declared.config.Institution.{Institution}
 use Rattle.dq_config.specs.Limits.{limits_of}
-use Rattle.dq_tables.specs.Rows.{Record, edited, of, by, after}
+use Rattle.dq_tables.specs.Rows.{Record, records_after_edits, of, by, after}
 use Rattle.dq_core.specs.Services.{served}
 use Rattle.dq_core.specs.Pages.{OpenQuery, reaction}
-use Rattle.dq_core.specs.Answers.{Progress, Answer, answers, line_answer, then_answer, verdict_at}
+use Rattle.dq_core.specs.Answers.{Progress, Answer, input_answers, line_answer, then_answer, verdict_at}
 use Rattle.dq_core.specs.Owners.{live_of}
 use Rattle.dq_core.specs.Own.{Output, Octet, Close}
 use Rattle.dq_core.specs.Shared.{World}
@@ -33,10 +33,10 @@ abbrev pub still : Institution → Agreement → Option OpenQuery → List Arriv
 still i a q later = map Octet (unsent q later) ++ exchange i a later
 
 abbrev pub from_open : Institution → Agreement → Verdict → List Record → Option OpenQuery → List Input → Answer
-from_open i a verdict records q xs = answers (limits_of i) verdict (record { agreement = Some a; records = records; query = q }) xs
+from_open i a verdict records q xs = input_answers (limits_of i) verdict (record { agreement = Some a; records = records; query = q }) xs
 
 abbrev pub from_wait : Institution → Verdict → List Record → List Input → Answer
-from_wait i verdict records xs = answers (limits_of i) verdict (record { agreement = None; records = records; query = None }) xs
+from_wait i verdict records xs = input_answers (limits_of i) verdict (record { agreement = None; records = records; query = None }) xs
 
 -- what is open after inputs has pending responses left
 pub answers-more : (i : Institution) (a : Agreement) (verdict : Verdict) (records : List Record) (q : Option OpenQuery) (xs : List Input) → HasMore q
@@ -44,7 +44,7 @@ pub answers-more : (i : Institution) (a : Agreement) (verdict : Verdict) (record
 answers-more i a verdict records q [] more = more
 answers-more i a verdict records q (Sent m ∷ xs) more =
     let r = reaction q (limits_of i) records a m in
-    answers-more i a verdict (edited r.edits records) r.query xs (message-more (limits_of i) records a m q more)
+    answers-more i a verdict (records_after_edits r.edits records) r.query xs (message-more (limits_of i) records a m q more)
 answers-more i a verdict records q (x ∷ xs) more = more
 
 -- what inputs bring is answered, and then what comes later
@@ -64,9 +64,9 @@ open-said lens i a verdict (Sent m ∷ xs) world q later more =
     let records = of i.name world.rows in
     let r = reaction q (limits_of i) records a m in
     let next = record world { rows = after (by i.name r.edits) world.rows } in
-    let x = from_open i a verdict (edited r.edits records) r.query xs in
+    let x = from_open i a verdict (records_after_edits r.edits records) r.query xs in
     let told = input_arrivals next (map (by i.name) x.changes) xs ++ later in
-    let later_said : IsSaid i a verdict next (edited r.edits records) r.query xs later =
+    let later_said : IsSaid i a verdict next (records_after_edits r.edits records) r.query xs later =
     subst (λ (rs : List Record). IsSaid i a verdict next rs r.query xs later) (lens i.name r.edits world.rows)
     (open-said lens i a verdict xs next r.query later (message-more (limits_of i) records a m q more))
     in

@@ -21,17 +21,17 @@ pub study_search : (agreement : Agreement) (context : AgreedContext) (limits : L
     (message : Message) (records : List Record) (query : Query)
     → service_of context.class ≡ StudyRootFind → message.command.code ≡ c_find
     → message.command.sop_class ≡ uid_of context.class
-    → study.query_of message context.syntax ≡ Ok query
+    → study.message_query message context.syntax ≡ Ok query
     → message_outcome agreement context limits message records
     ≡ (
       record {
         status = success;
         optional = query.optional;
-        answers = study.answers records agreement.called query;
+        answers = study.answers_of_records records agreement.called query;
       },
       [],
     )
-unfolding study.found
+unfolding study.query_outcome
 study_search agreement context limits message records query service finds is asked =
     let named : (message.command.code == c_find) ≡ true = ap (λ (code : ℕ). code == c_find) finds in
     let same : bytes_eq message.command.sop_class (uid_of context.class) ≡ true =
@@ -41,10 +41,10 @@ pub worklist_search : (agreement : Agreement) (context : AgreedContext) (limits 
     (message : Message) (records : List Record) (keys : ElementList) (optional : Bool)
     → service_of context.class ≡ WorklistFind → message.command.code ≡ c_find
     → message.command.sop_class ≡ uid_of context.class
-    → worklist.query_of message context.syntax ≡ Ok (record { keys = keys; optional = optional })
+    → worklist.worklist_query message context.syntax ≡ Ok (record { keys = keys; optional = optional })
     → message_outcome agreement context limits message records
-    ≡ (record { status = success; optional = optional; answers = worklist.answers records keys }, [])
-unfolding worklist.listed
+    ≡ (record { status = success; optional = optional; answers = worklist.answers_of_entries records keys }, [])
+unfolding worklist.worklist_outcome
 worklist_search agreement context limits message records keys optional service finds is asked =
     let named : (message.command.code == c_find) ≡ true = ap (λ (code : ℕ). code == c_find) finds in
     let same : bytes_eq message.command.sop_class (uid_of context.class) ≡ true =

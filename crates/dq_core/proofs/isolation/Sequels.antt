@@ -14,7 +14,7 @@ use Rattle.dq_assoc.specs.Table.{Sent}
 use Rattle.dq_config.specs.Limits.{Limits}
 use Rattle.dq_tables.specs.Rows.{Record}
 use Rattle.dq_core.specs.Services.{Response, Responses, responses, message_outcome, no_response, served, served_by}
-use Rattle.dq_core.specs.Pages.{OpenQuery, page_length, message_id, response_octets, octets_of, rest, page, next_page, query_by, reaction, reaction_while, cancel_reaction, first_reaction}
+use Rattle.dq_core.specs.Pages.{OpenQuery, page_length, answered_message_id, response_octets, responses_octets, rest, page, next_page, query_by, reaction, reaction_while, cancel_reaction, first_reaction}
 use Rattle.dq_core.specs.Shared.{World}
 use Rattle.dq_core.specs.Conversations.{Arrival, InputAt, PageRequest, Next, Cancel, AnotherMessage, NoMessage, sequel, all_responses, responses_in_pages, responses_sent, response_octets_of}
 
@@ -39,7 +39,7 @@ le-more n p h =
     let few : n ≤ page_length = grind (arith, nat_tests) in
     let more : n ≤ suc p * page_length = omega (arith, few) in grind (arith, nat_tests, more)
 
-in-two : (query : OpenQuery) (xs ys : List Response) → octets_of query xs ++ octets_of query ys ≡ octets_of query (xs ++ ys)
+in-two : (query : OpenQuery) (xs ys : List Response) → responses_octets query xs ++ responses_octets query ys ≡ responses_octets query (xs ++ ys)
 in-two query xs ys = sym (flat_map-append (response_octets query.context query.limit) xs ys)
 
 whole-two : (n : ℕ) (xs ys : List Response) → xs ++ ys ≡ take n xs ++ (drop n xs ++ ys)
@@ -74,30 +74,30 @@ whole-in r p NoMessage h = rw (le-more (length r.pending) p h) refl
 -- what is sent after a page
 abbrev sent_after : Option OpenQuery → ℕ × Next → List ℕ
 sent_after None s = []
-sent_after (Some query) s = octets_of query (responses_sent s.0 s.1 query.left)
+sent_after (Some query) s = responses_octets query (responses_sent s.0 s.1 query.left)
 
 page-then : (query : OpenQuery) (s : ℕ × Next) (b : Bool) → nat_le (length query.left.pending) page_length ≡ b
-    → octets_of query (responses_sent (suc s.0) s.1 query.left) ≡ (page query).octets ++ sent_after (page query).query s
-page-then query s true h = rw h (ap (octets_of query) (whole-in query.left s.0 s.1 h) ∙ sym (append-nil (rest query)))
+    → responses_octets query (responses_sent (suc s.0) s.1 query.left) ≡ (page query).octets ++ sent_after (page query).query s
+page-then query s true h = rw h (ap (responses_octets query) (whole-in query.left s.0 s.1 h) ∙ sym (append-nil (rest query)))
 page-then query s false h =
     let r = query.left in
-    rw h (ap (octets_of query) (split r s.0 s.1) ∙ sym (in-two query (take page_length r.pending) (responses_sent s.0 s.1 (after_page r))))
+    rw h (ap (responses_octets query) (split r s.0 s.1) ∙ sym (in-two query (take page_length r.pending) (responses_sent s.0 s.1 (after_page r))))
 
 -- what is left unsent of the C-FIND that is open, if one is, and will be sent
 abbrev pub unsent : Option OpenQuery → List Arrival → List ℕ
 unsent None later = []
-unsent (Some query) later = let s = sequel (message_id query) later in octets_of query (responses_sent s.0 s.1 query.left)
+unsent (Some query) later = let s = sequel (answered_message_id query) later in responses_octets query (responses_sent s.0 s.1 query.left)
 
 unsent-after : (query : OpenQuery) (later : List Arrival) (b : Bool) → nat_le (length query.left.pending) page_length ≡ b
-    → sent_after (page query).query (sequel (message_id query) later) ≡ unsent (page query).query later
+    → sent_after (page query).query (sequel (answered_message_id query) later) ≡ unsent (page query).query later
 unsent-after query later true h = rw h refl
 unsent-after query later false h = rw h refl
 
-page-unsent : (query : OpenQuery) (later : List Arrival) → let s = sequel (message_id query) later in
-    octets_of query (responses_sent (suc s.0) s.1 query.left) ≡ (page query).octets ++ unsent (page query).query later
+page-unsent : (query : OpenQuery) (later : List Arrival) → let s = sequel (answered_message_id query) later in
+    responses_octets query (responses_sent (suc s.0) s.1 query.left) ≡ (page query).octets ++ unsent (page query).query later
 page-unsent query later =
     let b = nat_le (length query.left.pending) page_length in
-    page-then query (sequel (message_id query) later) b refl ∙ ap (λ xs. (page query).octets ++ xs) (unsent-after query later b refl)
+    page-then query (sequel (answered_message_id query) later) b refl ∙ ap (λ xs. (page query).octets ++ xs) (unsent-after query later b refl)
 
 -- a pull sends the next page
 pub pull-unsent : (q : Option OpenQuery) (later : List Arrival) → unsent q (PageRequest ∷ later) ≡ (next_page q).octets ++ unsent (next_page q).query later
@@ -120,7 +120,7 @@ next-more (Some query) = page-more query (nat_le (length query.left.pending) pag
 
 pub nothing-unsent : (q : Option OpenQuery) (later : List Arrival) → HasMore q → ((id : ℕ) → sequel id later ≡ (0, NoMessage)) → unsent q later ≡ []
 nothing-unsent None later more f = refl
-nothing-unsent (Some query) later more f = rw (f (message_id query), more) refl
+nothing-unsent (Some query) later more f = rw (f (answered_message_id query), more) refl
 
 -- ---- a message
 
@@ -163,7 +163,7 @@ module _ (limits : Limits) (records : List Record) (a : Agreement) (m : Message)
       ≡ r.octets ++ unsent r.query later
 
   cancel-sent : (query : OpenQuery) (world : World) (later : List Arrival) (b : Bool) → HasMore (Some query) → (m.command.code == c_cancel) ≡ true
-      → (m.command.id == message_id query) ≡ b → IsSent (Some query) world later
+      → (m.command.id == answered_message_id query) ≡ b → IsSent (Some query) world later
   unfolding reaction
   cancel-sent query world later true more h k = rw (h, k, none-served h, more) refl
   cancel-sent query world later false more h k = rw (h, k, none-served h) (append-nil (unsent (Some query) later))
@@ -178,7 +178,7 @@ module _ (limits : Limits) (records : List Record) (a : Agreement) (m : Message)
 
   sent-at : (query : OpenQuery) (world : World) (later : List Arrival) (b : Bool) → HasMore (Some query) → (m.command.code == c_cancel) ≡ b
       → IsSent (Some query) world later
-  sent-at query world later true more h = cancel-sent query world later (m.command.id == message_id query) more h refl
+  sent-at query world later true more h = cancel-sent query world later (m.command.id == answered_message_id query) more h refl
   sent-at query world later false more h = other-sent query world later more h
 
   pub message-sent : (q : Option OpenQuery) (world : World) (later : List Arrival) → HasMore q → IsSent q world later
@@ -187,14 +187,14 @@ module _ (limits : Limits) (records : List Record) (a : Agreement) (m : Message)
   message-sent (Some query) world later more = sent-at query world later (m.command.code == c_cancel) more refl
 
   -- and what is then open has pending responses left
-  cancel-more : (query : OpenQuery) (b : Bool) → (m.command.id == message_id query) ≡ b → HasMore (Some query)
+  cancel-more : (query : OpenQuery) (b : Bool) → (m.command.id == answered_message_id query) ≡ b → HasMore (Some query)
       → HasMore (cancel_reaction m.command.id query).query
   cancel-more query true k more = rw k tt
   cancel-more query false k more = rw k more
 
   more-while : (query : OpenQuery) (b : Bool) → (m.command.code == c_cancel) ≡ b → HasMore (Some query)
       → HasMore (reaction_while (Some query) m (first_reaction a m (served limits records a m))).query
-  more-while query true h more = rw h (cancel-more query (m.command.id == message_id query) refl more)
+  more-while query true h more = rw h (cancel-more query (m.command.id == answered_message_id query) refl more)
   more-while query false h more = rw h (next-more (query_by a m (served limits records a m).responses))
 
   pub message-more : (q : Option OpenQuery) → HasMore q → HasMore (reaction q limits records a m).query

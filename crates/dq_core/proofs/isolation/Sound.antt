@@ -8,10 +8,10 @@ use Rattle.dq_core.specs.declared.event.Event.TheVariants as event
 use Rattle.dq_core.specs.Answers.{Answer, after_piece}
 use Rattle.dq_core.specs.Pages.{next_page}
 use Rattle.dq_core.specs.Connections.{Connection, new_connection, with_piece, with_query, connection_in, without}
-use Rattle.dq_core.specs.Services.{Order, Scheduling, Withdrawal}
+use Rattle.dq_core.specs.Services.{ConsoleOrder, Scheduling, Withdrawal}
 use Rattle.dq_core.specs.Owners.{owner}
-use Rattle.dq_config.specs.Routing.{named}
-use Rattle.dq_core.specs.Own.{pieces_of, stream_of}
+use Rattle.dq_config.specs.Routing.{institution_named}
+use Rattle.dq_core.specs.Own.{octets_of_pieces, stream_of}
 use Rattle.dq_core.specs.Histories.{is_above, newest_after, rises_from}
 use Rattle.dq_core.specs.Shared.{World, turn, piece_turn, answer_by, end_turn, pull_turn, order_turn}
 use Rattle.dq_core.proofs.isolation.Lists.{differ, NotNumbered, AreApart, found-has, found-number, none-has, each-both, each-weaker, each-append, each-without, each-with, apart-without, apart-opened, apart-with, others-with, others-without}
@@ -34,14 +34,14 @@ below-differs n m h = grind (arith, nat_tests)
 module _ (institutions : List Institution) (Final : ℕ → Option Institution → Type 0) where
   -- what is so of a number and of the owner that its connection has in the end
   abbrev pub Owned : List Event → Connection → Type 0
-  Owned rest c = Final c.number (owner institutions (c.stream ++ pieces_of c.number rest))
+  Owned rest c = Final c.number (owner institutions (c.stream ++ octets_of_pieces c.number rest))
 
   -- the owner of a connection, in the end, after the piece that comes next
   pub owned-piece : (n : ℕ) (piece : List ℕ) (rest : List Event) (cs : List Connection) (c : Connection) → connection_in n cs ≡ Some c
-      → AllByRecursion (Owned (event.Piece n piece ∷ rest)) cs → Final c.number (owner institutions ((c.stream ++ piece) ++ pieces_of c.number rest))
+      → AllByRecursion (Owned (event.Piece n piece ∷ rest)) cs → Final c.number (owner institutions ((c.stream ++ piece) ++ octets_of_pieces c.number rest))
   owned-piece n piece rest cs c e each =
       let same : (c.number == n) ≡ true = rw (found-number n cs c e) (same-number n) in
-      rw (append_assoc c.stream piece (pieces_of c.number rest)) (rw same at (found-has (Owned (event.Piece n piece ∷ rest)) n cs c e each))
+      rw (append_assoc c.stream piece (octets_of_pieces c.number rest)) (rw same at (found-has (Owned (event.Piece n piece ∷ rest)) n cs c e each))
 
   -- The connections that are held before the rest of a history, each number once, and the numbers that are still to be opened.
   pub record Sound (newest : Option ℕ) (connections : List Connection) (rest : List Event) : Type 0 where
@@ -146,7 +146,7 @@ module _ (institutions : List Institution) (Final : ℕ → Option Institution �
   sound-end newest world n rest (Some c) e s =
       rw (found-number n world.connections c e) (sound-ended newest world.connections n rest s)
 
-  sound-order : (newest : Option ℕ) (world : World) (order : Order) (rest : List Event) (o : Option Institution) → Sound newest world.connections rest
+  sound-order : (newest : Option ℕ) (world : World) (order : ConsoleOrder) (rest : List Event) (o : Option Institution) → Sound newest world.connections rest
       → Sound newest (order_turn world order o).connections rest
   sound-order newest world order rest None s = s
   sound-order newest world order rest (Some i) s = s
@@ -157,7 +157,7 @@ module _ (institutions : List Institution) (Final : ℕ → Option Institution �
   sound-next newest world (event.Piece n piece) rest s = sound-piece newest world n piece rest (connection_in n world.connections) refl s
   sound-next newest world (event.End n) rest s = sound-end newest world n rest (connection_in n world.connections) refl s
   sound-next newest world (event.Pull n) rest s = sound-pull newest world n rest (connection_in n world.connections) refl s
-  sound-next newest world (event.Schedule inst octets) rest s = sound-order newest world (Scheduling octets) rest (named institutions inst)
+  sound-next newest world (event.Schedule inst octets) rest s = sound-order newest world (Scheduling octets) rest (institution_named institutions inst)
       (record { owned = s.owned; apart = s.apart; before = s.before; later = s.later; rises = s.rises })
-  sound-next newest world (event.Withdraw inst id) rest s = sound-order newest world (Withdrawal id) rest (named institutions inst)
+  sound-next newest world (event.Withdraw inst id) rest s = sound-order newest world (Withdrawal id) rest (institution_named institutions inst)
       (record { owned = s.owned; apart = s.apart; before = s.before; later = s.later; rises = s.rises })

@@ -3,8 +3,8 @@ use Rattle.std.proofs.Common.{◌≡◌, ℕ, ◌==◌, Bool, true, false, List,
 use Rattle.std.specs.List.{AllByRecursion}
 use Rattle.std.specs.Result.{result_unwrap_or}
 use Rattle.std.specs.Str.{bytes_eq}
+use Rattle.dq_list.specs.Octets.{AreOctets}
 use Rattle.dq_dataset.specs.declared.header.Syntax.{Syntax}
-use Rattle.dq_dataset.specs.Grammar.{AreOctets}
 use Rattle.dq_dataset.specs.Reading.{reading}
 use Rattle.dq_dataset.specs.Tree.{no_elements}
 use Rattle.dq_dimse.specs.CommandFields.{c_cancel, c_store}
@@ -24,7 +24,7 @@ use Rattle.dq_tables.specs.declared.row.Row.{Row}
 use Rattle.dq_tables.specs.Rows.{Record, Edit, of, by, after}
 use Rattle.dq_tables.specs.Sound.{IsSound}
 use Rattle.dq_store.specs.Levels.{is_of_its_level, stands_whole}
-use Rattle.dq_store.specs.Storing.{instance_in, stored}
+use Rattle.dq_store.specs.Storing.{instance_in, store_outcome}
 use Rattle.dq_core.specs.declared.event.Event.{Event}
 use Rattle.dq_core.specs.declared.event.Reply.{Reply}
 use Rattle.dq_core.specs.Runs.{IsRun}
@@ -54,8 +54,8 @@ module _ (keep : ServicesKeep AreMade) (lens : Edits) where
 -- what a status says where it has one of two numbers
 abbrev Says : ℕ → Bool → Type 0
 Says wanted b = (name : List ℕ) (limits : Limits) (rows : List Row) (message : Message) (syntax : Syntax) → AreOctets message.octets → IsSound rows
-    → AllByRecursion (λ (row : Row). is_of_its_level row ≡ true) rows → (stored limits (of name rows) message syntax).0 ≡ wanted
-    → stands_whole (of name (after (by name (stored limits (of name rows) message syntax).1) rows))
+    → AllByRecursion (λ (row : Row). is_of_its_level row ≡ true) rows → (store_outcome limits (of name rows) message syntax).0 ≡ wanted
+    → stands_whole (of name (after (by name (store_outcome limits (of name rows) message syntax).1) rows))
     (instance_in (result_unwrap_or (reading syntax message.octets) no_elements)) ≡ b
 
 module _ (whole : Says success true) (discarded : Says elements_discarded false) (name : List ℕ) (rows : List Row) (limits : Limits) (a : Agreement)

@@ -10,15 +10,15 @@ use Rattle.dq_config.specs.declared.config.Institution.{Institution}
 use Rattle.dq_core.specs.declared.event.Event.{Event}
 use Rattle.dq_core.specs.declared.event.Event.TheVariants as event
 use Rattle.dq_tables.specs.declared.row.Row.{Row}
-use Rattle.dq_config.specs.Routing.{routed, named}
-use Rattle.dq_core.specs.Services.{Order, Scheduling, Withdrawal}
+use Rattle.dq_config.specs.Routing.{institution_routed, institution_named}
+use Rattle.dq_core.specs.Services.{ConsoleOrder, Scheduling, Withdrawal}
 use Rattle.dq_core.specs.Answers.{request_in}
 use Rattle.dq_core.specs.Pages.{next_page}
 use Rattle.dq_core.specs.Connections.{Connection, with_query, connection_in}
 use Rattle.dq_core.specs.Owners.{owner, owner_by}
-use Rattle.dq_core.specs.Shared.{World, Turn, turn, answer_by, owner_turn, piece_turn, end_turn, pull_turn, order_turn, world_after_turn, replies_from, opening, replies}
-use Rattle.dq_core.specs.Own.{pieces_of, stream_of, is_on, is_on_connection, replies_at}
-use Rattle.dq_core.specs.Histories.{newest_after, is_well_formed}
+use Rattle.dq_core.specs.Shared.{World, EventEffect, turn, answer_by, owner_turn, piece_turn, end_turn, pull_turn, order_turn, world_after_turn, replies_from, first_world, replies}
+use Rattle.dq_core.specs.Own.{octets_of_pieces, stream_of, is_on, is_on_connection, replies_at}
+use Rattle.dq_core.specs.Histories.{newest_after, is_well_formed_history}
 use Rattle.dq_core.specs.Isolation.{stranger_replies}
 use Rattle.dq_core.proofs.isolation.Lists.{at-number, among, among-opened, among-other_opened, in-among, without-among, without-other, with-among, with-other, piece-among, piece-other, found-number}
 use Rattle.dq_core.proofs.isolation.Streams.{AddsInputs, owner-stays}
@@ -34,12 +34,12 @@ abbrev pub is_theirs : (ℕ → Bool) → Event → Bool
 is_theirs mine = is_on mine (λ (inst : List ℕ). false)
 
 nobody-by : (o : Option Request) → owner_by [] o ≡ None
-unfolding routed
+unfolding institution_routed
 nobody-by None = refl
 nobody-by (Some request) = grind arith
 
 -- An event on one of them is answered alike.
-record IsAlike (mine : ℕ → Bool) (t u : Turn) : Type 0 where
+record IsAlike (mine : ℕ → Bool) (t u : EventEffect) : Type 0 where
   reply : t.reply ≡ u.reply
   connections : u.connections ≡ among mine t.connections
 
@@ -65,7 +65,7 @@ module _ (institutions : List Institution) (mine : ℕ → Bool) (world : World)
         let mine_c : mine c.number ≡ true = ap mine (found-number n world.connections c e) ∙ m in
         let final = owned-piece institutions (IsNobodys mine) n piece rest world.connections c e each mine_c in
         alike-taken c piece (owner institutions (c.stream ++ piece)) (owner [] (c.stream ++ piece)) mine_c
-        (none-before adds institutions (c.stream ++ piece) (pieces_of c.number rest) final (owner institutions (c.stream ++ piece)) refl)
+        (none-before adds institutions (c.stream ++ piece) (octets_of_pieces c.number rest) final (owner institutions (c.stream ++ piece)) refl)
         (nobody-by (request_in (inputs (c.stream ++ piece))))
 
     alike-end : (n : ℕ) → mine n ≡ true → (o : Option Connection) → connection_in n world.connections ≡ o
@@ -116,7 +116,7 @@ module _ (institutions : List Institution) (mine : ℕ → Bool) (world : World)
   kept-pull n m (Some c) e =
       with-other mine (with_query (next_page c.query).query c) world.connections (ap mine (found-number n world.connections c e) ∙ m)
 
-  kept-order : (order : Order) (o : Option Institution) → among mine (order_turn world order o).connections ≡ among mine world.connections
+  kept-order : (order : ConsoleOrder) (o : Option Institution) → among mine (order_turn world order o).connections ≡ among mine world.connections
   kept-order order None = refl
   kept-order order (Some i) = refl
 
@@ -125,8 +125,8 @@ module _ (institutions : List Institution) (mine : ℕ → Bool) (world : World)
   kept (event.Piece n piece) m = kept-piece n piece m (connection_in n world.connections) refl
   kept (event.End n) m = kept-end n m (connection_in n world.connections) refl
   kept (event.Pull n) m = kept-pull n m (connection_in n world.connections) refl
-  kept (event.Schedule inst octets) m = kept-order (Scheduling octets) (named institutions inst)
-  kept (event.Withdraw inst id) m = kept-order (Withdrawal id) (named institutions inst)
+  kept (event.Schedule inst octets) m = kept-order (Scheduling octets) (institution_named institutions inst)
+  kept (event.Withdraw inst id) m = kept-order (Withdrawal id) (institution_named institutions inst)
 
 module _ (adds : AddsInputs) (institutions : List Institution) where
   -- the replies at their events are those of a server without institutions
@@ -159,7 +159,7 @@ module _ (adds : AddsInputs) (institutions : List Institution) where
       strange-at mine newest world other e done rest b s (strange-from mine done rest) (is_theirs mine e) refl
 
   module _ (rows : List Row) (events : List Event) (number : ℕ) where
-    sound-opening : owner institutions (stream_of number events) ≡ None → is_well_formed events ≡ true
+    sound-opening : owner institutions (stream_of number events) ≡ None → is_well_formed_history events ≡ true
         → Sound institutions (IsNobodys (λ n. n == number)) None [] events
     sound-opening none w = record {
       owned = tt;
@@ -170,15 +170,15 @@ module _ (adds : AddsInputs) (institutions : List Institution) where
     }
 
     -- the replies on a connection that nobody owns, among the first replies
-    pub strange-among : (k : ℕ) → owner institutions (stream_of number events) ≡ None → is_well_formed events ≡ true
+    pub strange-among : (k : ℕ) → owner institutions (stream_of number events) ≡ None → is_well_formed_history events ≡ true
         → replies_at (is_on_connection number) events (take k (replies institutions rows events))
         ≡ stranger_replies (filter (is_on_connection number) (take k events))
     strange-among k none w =
-        replies-front institutions (is_on_connection number) k (opening rows) events
-        ∙ strange-from (λ n. n == number) (take k events) (drop k events) None (opening rows) (opening []) refl
+        replies-front institutions (is_on_connection number) k (first_world rows) events
+        ∙ strange-from (λ n. n == number) (take k events) (drop k events) None (first_world rows) (first_world []) refl
         (rw (take-append-drop k events) (sound-opening none w))
 
     -- and all of them
-    pub strange-replies : owner institutions (stream_of number events) ≡ None → is_well_formed events ≡ true
+    pub strange-replies : owner institutions (stream_of number events) ≡ None → is_well_formed_history events ≡ true
         → replies_at (is_on_connection number) events (replies institutions rows events) ≡ stranger_replies (filter (is_on_connection number) events)
-    strange-replies none w = strange-from (λ n. n == number) events [] None (opening rows) (opening []) refl (rw append-nil (sound-opening none w))
+    strange-replies none w = strange-from (λ n. n == number) events [] None (first_world rows) (first_world []) refl (rw append-nil (sound-opening none w))

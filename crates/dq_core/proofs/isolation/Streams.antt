@@ -13,7 +13,7 @@ use Rattle.dq_assoc.specs.Negotiation.{agreement_of}
 use Rattle.dq_tables.specs.Rows.{Record}
 use Rattle.dq_core.specs.Pages.{OpenQuery}
 use Rattle.dq_core.specs.Connections.{Connection, with_piece}
-use Rattle.dq_core.specs.Answers.{then_answer, answers, request_in, progress_of, inputs_added, piece_answer}
+use Rattle.dq_core.specs.Answers.{then_answer, input_answers, request_in, progress_of, inputs_added, piece_answer}
 use Rattle.dq_core.specs.Doing.{agreement_after}
 use Rattle.dq_core.specs.Owners.{owner, owner_by}
 use Rattle.dq_core.proofs.isolation.AnswerLaws.{answers-append, next-agreement, verdict-unread}
@@ -73,9 +73,9 @@ pub piece-in_two : AddsInputs → HasInputs → (limits : Limits) (verdict : Ver
 piece-in_two adds has limits verdict records c first second =
     let stream = c.stream in
     let a = piece_answer limits verdict records c first in
-    ap (answers limits verdict (progress_of c records)) (added-append adds stream first second)
+    ap (input_answers limits verdict (progress_of c records)) (added-append adds stream first second)
     ∙ answers-append limits verdict (progress_of c records) (inputs_added stream first) (inputs_added (stream ++ first) second)
-    ∙ ap (λ (o : Option Agreement). then_answer a (answers limits verdict (record { agreement = o; records = a.next.records; query = a.next.query })
+    ∙ ap (λ (o : Option Agreement). then_answer a (input_answers limits verdict (record { agreement = o; records = a.next.records; query = a.next.query })
     (inputs_added (stream ++ first) second))) (progress-longer adds has limits verdict records c first a.next.query)
 
 -- the verdict is not read after a request

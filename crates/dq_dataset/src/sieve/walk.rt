@@ -2,10 +2,10 @@
 //! (PS3.5 section 7.5).
 
 ghost use Rattle.std.specs.Prelude.{◌≡◌, ◌-◌, ◌<◌, ◌≤◌, ℕ, List, [], ◌∷◌, length, take, reverse, true, Option, IfOk, IfSome, IfNone};
+ghost use Rattle.dq_list.specs.Octets.{AreOctets};
 ghost use Rattle.dq_dataset.specs.declared.fault.ReadFault.{ReadFault};
 ghost use Rattle.dq_dataset.specs.Reading.{may_nest, length_of};
-ghost use Rattle.dq_dataset.specs.Grammar.{AreOctets};
-ghost use Rattle.dq_dataset.specs.Sifting.{is_full, bound_by, until_of, reach_of, place_in, opened_reach, opened_left, HasRoom, HasNoRoom, ItemMet, ElementMet, IsWalked, WalkedLeads, WalkLeads, LeadsTo, LeadsOn, IsSettling, IsWalk, IsPart, HasCome, HasEnd, AreNested};
+ghost use Rattle.dq_dataset.specs.Sifting.{is_reached, bound_by, until_of, reach_of, place_of_value, opened_reach, opened_left, StaysWithin, HasNoRoom, ItemMet, ElementMet, IsWalked, WalkedLeads, WalkLeads, LeadsTo, LeadsOn, IsSettling, IsWalk, IsPart, HasCome, HasEnd, AreNested};
 
 use crate::fault::ReadFault;
 use crate::header::{
@@ -54,7 +54,7 @@ pub struct Walk {
 
 /// A value after more of its octets.
 #[derive(Drop)]
-pub enum Walked {
+pub enum WalkStep {
     /// It is open.
     On(Walk),
     /// All of it came.
@@ -64,7 +64,7 @@ pub enum Walked {
 }
 
 /// What the octets that came of a header are.
-pub enum Met<H> {
+pub enum HeaderFound<H> {
     /// Not yet a header.
     Part,
     /// The end of what is open.
@@ -96,7 +96,7 @@ impl Reach {
 
     /// Whether nothing more is within reach where so many octets are left.
     fn is_full(self, left: usize) -> bool
-        ensures { result ≡ is_full self left }
+        ensures { result ≡ is_reached self left }
     {
         match self {
             Reach::Measured(until) | Reach::Within(until) => until == left,
@@ -108,7 +108,7 @@ impl Reach {
     /// are left then. None where it is too long.
     fn opened(self, extent: Option<u32>, left: usize) -> Option<(Reach, usize)>
         ensures some { IfSome result (λ x. (x.0 ≡ opened_reach self extent left)
-            × (x.1 ≡ opened_left self extent left) × HasRoom self extent left) }
+            × (x.1 ≡ opened_left self extent left) × StaysWithin self extent left) }
         ensures none { IfNone result (HasNoRoom self extent left) }
     {
         let until = match self {
@@ -147,7 +147,7 @@ impl Place {
     /// The place of a value, by what its header says.
     fn of_value(content: Content, levels: u8, reach: Reach) -> Place
         requires { may_nest levels content ≡ true }
-        ensures { result ≡ place_in content levels reach }
+        ensures { result ≡ place_of_value content levels reach }
     {
         match content {
             Content::Plain(_) => Place::InOctets(reach.until()),
@@ -157,18 +157,18 @@ impl Place {
 }
 
 /// What the octets that came where an item is due are.
-fn item_met(bound: Bound, front: &[u8]) -> Met<Option<u32>>
+fn item_met(bound: Bound, front: &[u8]) -> HeaderFound<Option<u32>>
     ensures met { ItemMet bound front.now result }
     ensures octets { AreOctets front.now }
 {
     if let Ok(Some(_)) = end_at(bound, SEQUENCE_END, front) {
-        return Met::End;
+        return HeaderFound::End;
     }
     match item_front_at(front) {
-        Ok((extent, _)) => Met::Whole(extent),
+        Ok((extent, _)) => HeaderFound::Whole(extent),
         Err(fault) => match fault {
-            ReadFault::Truncated => Met::Part,
-            _ => Met::Bad(fault),
+            ReadFault::Truncated => HeaderFound::Part,
+            _ => HeaderFound::Bad(fault),
         },
     }
 }
@@ -180,30 +180,30 @@ pub fn element_met(
     last: Option<Tag>,
     bound: Bound,
     front: &[u8],
-) -> Met<Header>
+) -> HeaderFound<Header>
     ensures met { ElementMet syntax levels last bound front.now result }
     ensures octets { AreOctets front.now }
 {
     if let Ok(Some(_)) = end_at(bound, ITEM_END, front) {
-        return Met::End;
+        return HeaderFound::End;
     }
     match front_at(syntax, levels, last, front) {
-        Ok((header, _)) => Met::Whole(header),
+        Ok((header, _)) => HeaderFound::Whole(header),
         Err(fault) => match fault {
-            ReadFault::Truncated => Met::Part,
-            _ => Met::Bad(fault),
+            ReadFault::Truncated => HeaderFound::Part,
+            _ => HeaderFound::Bad(fault),
         },
     }
 }
 
 impl Walk {
     /// A value behind the header of an element of the outer data set.
-    pub fn of_value(alloc: Global, content: Content) -> Walked
+    pub fn of_value(alloc: Global, content: Content) -> WalkStep
         requires { may_nest 16 content ≡ true }
         ensures sound { IsWalked result }
         ensures leads { (octets : List ℕ) (end : Option ReadFault) → WalkedLeads result octets end
             → LeadsTo (opened_left Reach.Endless (length_of content) 0)
-            (place_in content 16 (opened_reach Reach.Endless (length_of content) 0) ∷ []) octets
+            (place_of_value content 16 (opened_reach Reach.Endless (length_of content) 0) ∷ []) octets
             end }
     {
         let (reach, left) = match length_of(content) {
@@ -220,27 +220,27 @@ impl Walk {
     }
 
     /// Closes what is full. An end of its own is missing where nothing is left for it.
-    fn settled(mut self) -> Walked
+    fn settled(mut self) -> WalkStep
         requires { IsSettling self }
         ensures { LeadsOn self [] result }
     {
         loop {
             let reach = self.place.reach();
             if !reach.is_full(self.left) {
-                return Walked::On(self);
+                return WalkStep::On(self);
             }
             match reach.bound() {
-                Bound::Delimited => return Walked::Failed(ReadFault::Truncated, 0),
+                Bound::Delimited => return WalkStep::Failed(ReadFault::Truncated, 0),
                 Bound::Filled => match self.around.pop() {
                     Some(place) => self.place = place,
-                    None => return Walked::Over,
+                    None => return WalkStep::Over,
                 },
             }
         }
     }
 
     /// Passes over octets of a value.
-    fn passed(mut self, until: usize, octets: &[u8]) -> (Walked, usize)
+    fn passed(mut self, until: usize, octets: &[u8]) -> (WalkStep, usize)
         requires some { 0 < length octets.now }
         requires walk { IsWalk self }
         requires place { self.place ≡ Place.InOctets until }
@@ -260,20 +260,20 @@ impl Walk {
     }
 
     /// Waits for more of a header, which is missing where nothing is left for it.
-    fn waiting(self) -> Walked
+    fn waiting(self) -> WalkStep
         requires come { HasCome self }
         requires part { IsPart self.place self.front.items }
         ensures { LeadsOn self [] result }
     {
         let left = self.left_behind();
         if self.place.reach().is_full(left) {
-            return Walked::Failed(ReadFault::Truncated, 0);
+            return WalkStep::Failed(ReadFault::Truncated, 0);
         }
-        Walked::On(self)
+        WalkStep::On(self)
     }
 
     /// Closes the innermost place behind its end.
-    fn ended(mut self) -> Walked
+    fn ended(mut self) -> WalkStep
         requires come { HasCome self }
         requires ends { HasEnd self.place self.front.items }
         ensures { LeadsOn self [] result }
@@ -285,12 +285,12 @@ impl Walk {
                 self.place = place;
                 self.settled()
             }
-            None => Walked::Over,
+            None => WalkStep::Over,
         }
     }
 
     /// Goes on in a value behind its header, with so many octets left.
-    fn entered(mut self, behind: Place, inner: Place, left: usize) -> Result<Walked, AllocError>
+    fn entered(mut self, behind: Place, inner: Place, left: usize) -> Result<WalkStep, AllocError>
         requires nested { AreNested left (inner ∷ behind ∷ reverse self.around.items) }
         requires leads { (octets : List ℕ) (end : Option ReadFault)
             → LeadsTo left (inner ∷ behind ∷ reverse self.around.items) octets end
@@ -305,22 +305,22 @@ impl Walk {
     }
 
     /// What an octet adds to the header of an item.
-    fn item_came(self, syntax: Syntax, levels: u8, reach: Reach) -> Result<Walked, AllocError>
+    fn item_came(self, syntax: Syntax, levels: u8, reach: Reach) -> Result<WalkStep, AllocError>
         requires come { HasCome self }
         requires place { self.place ≡ Place.InItems syntax levels reach }
         ensures { IfOk result (λ walked. LeadsOn self [] walked) }
     {
         let left = self.left_behind();
         match item_met(reach.bound(), &self.front) {
-            Met::Part => Ok(self.waiting()),
-            Met::End => Ok(self.ended()),
-            Met::Bad(fault) => Ok(Walked::Failed(fault, left)),
-            Met::Whole(extent) => match reach.opened(extent, left) {
+            HeaderFound::Part => Ok(self.waiting()),
+            HeaderFound::End => Ok(self.ended()),
+            HeaderFound::Bad(fault) => Ok(WalkStep::Failed(fault, left)),
+            HeaderFound::Whole(extent) => match reach.opened(extent, left) {
                 Some((inner, left)) => {
                     let behind = Place::InItems(syntax, levels, reach);
                     self.entered(behind, Place::InElements(syntax, levels, None, inner), left)
                 }
-                None => Ok(Walked::Failed(ReadFault::Truncated, 0)),
+                None => Ok(WalkStep::Failed(ReadFault::Truncated, 0)),
             },
         }
     }
@@ -332,30 +332,30 @@ impl Walk {
         levels: u8,
         last: Option<Tag>,
         reach: Reach,
-    ) -> Result<Walked, AllocError>
+    ) -> Result<WalkStep, AllocError>
         requires come { HasCome self }
         requires place { self.place ≡ Place.InElements syntax levels last reach }
         ensures { IfOk result (λ walked. LeadsOn self [] walked) }
     {
         let left = self.left_behind();
         match element_met(syntax, levels, last, reach.bound(), &self.front) {
-            Met::Part => Ok(self.waiting()),
-            Met::End => Ok(self.ended()),
-            Met::Bad(fault) => Ok(Walked::Failed(fault, left)),
-            Met::Whole(Header { tag, content, .. }) => {
+            HeaderFound::Part => Ok(self.waiting()),
+            HeaderFound::End => Ok(self.ended()),
+            HeaderFound::Bad(fault) => Ok(WalkStep::Failed(fault, left)),
+            HeaderFound::Whole(Header { tag, content, .. }) => {
                 match reach.opened(length_of(content), left) {
                     Some((inner, left)) => {
                         let behind = Place::InElements(syntax, levels, Some(tag), reach);
                         self.entered(behind, Place::of_value(content, levels, inner), left)
                     }
-                    None => Ok(Walked::Failed(ReadFault::Truncated, 0)),
+                    None => Ok(WalkStep::Failed(ReadFault::Truncated, 0)),
                 }
             }
         }
     }
 
     /// Takes octets of the value, and says how many.
-    pub fn step(mut self, octets: &[u8]) -> Result<(Walked, usize), AllocError>
+    pub fn step(mut self, octets: &[u8]) -> Result<(WalkStep, usize), AllocError>
         requires some { 0 < length octets.now }
         requires walk { IsWalk self }
         ensures leads { IfOk result (λ x. LeadsOn self (take x.1 octets.now) x.0) }

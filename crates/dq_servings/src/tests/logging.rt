@@ -4,7 +4,7 @@ ghost use Rattle.std.specs.Prelude.{◌<◌};
 use super::sockets::Hand;
 use super::wires::turner;
 use dq_list::Listed;
-use dq_wires::{AssociationLog, Came, LoggedWires, MemoryWires, Script, turn_all};
+use dq_wires::{AssociationLog, LoggedWires, MemoryWires, ReadOutcome, Script, turn_all};
 use std::alloc::{AllocError, Global};
 use std::cell::Cell;
 use std::io::{self, Write};
@@ -25,7 +25,7 @@ fn call(alloc: Global, size: usize) -> Result<Script, AllocError>
 {
     let mut script = Script::empty(alloc);
     for piece in OCTETS.chunks(size) {
-        let came = Came::Octets(Listed::copy_of(alloc, piece)?);
+        let came = ReadOutcome::Octets(Listed::copy_of(alloc, piece)?);
         script.reads.push((3, came))?;
     }
     script.accepts.push_back(Ok(Some(3)))?;

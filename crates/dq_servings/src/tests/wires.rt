@@ -3,7 +3,7 @@ use dq_core::Server;
 use dq_list::Listed;
 use dq_tables::PlainTables;
 use dq_wires::{
-    Call, Came, MOST_WIRES, MemoryWires, Script, TurnFault, Turner, WireFault, turn_all,
+    Call, MOST_WIRES, MemoryWires, ReadOutcome, Script, TurnFault, Turner, WireFault, turn_all,
 };
 use std::alloc::{AllocError, Global};
 use std::test::Fail;
@@ -23,8 +23,8 @@ pub(super) fn turner(alloc: Global) -> Result<Turner<PlainTables>, Fail> {
     Ok(Turner::new(alloc, server))
 }
 
-fn octets(alloc: Global, octets: &[u8]) -> Result<Came, AllocError> {
-    Ok(Came::Octets(Listed::copy_of(alloc, octets)?))
+fn octets(alloc: Global, octets: &[u8]) -> Result<ReadOutcome, AllocError> {
+    Ok(ReadOutcome::Octets(Listed::copy_of(alloc, octets)?))
 }
 
 /// Whether these octets were written at a place, in order.
@@ -125,7 +125,7 @@ fn a_failing_read_ends_its_own_connection(rt: HostRuntime) -> Result<(), Fail> {
     script.accepts.push_back(Ok(Some(1)))?;
     script.reads.push((0, octets(alloc, &UNKNOWN[..1])?))?;
     script.reads.push((1, octets(alloc, &UNKNOWN[..1])?))?;
-    script.reads.push((1, Came::Failed))?;
+    script.reads.push((1, ReadOutcome::Failed))?;
     script.shuts.push_back(Err(WireFault))?;
     let outcome = Outcome {
         answer: Ok(()),

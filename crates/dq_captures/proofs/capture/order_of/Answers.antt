@@ -1,7 +1,7 @@
 use Rattle.std.proofs.Common.{◌≡◌, ℕ, List, ◌++◌, codes, rules, ap, sym, ◌∙◌, append_assoc, lit<}
 use Rattle.std.proofs.lemmas.Bool.{false≢true}
 use Rattle.std.proofs.lemmas.Str.Pattern.{split_parts}
-use Rattle.dq_config.specs.Conditions.{is_name}
+use Rattle.dq_config.specs.Conditions.{is_institution_name}
 use Rattle.dq_captures.proofs.Lines.{SpellsOrder-split, SpellsOrder-unsplit}
 use Rattle.dq_captures.proofs.capture.order_of.Goals as goal
 
@@ -11,7 +11,7 @@ returns-in_default c = SpellsOrder-unsplit c.args.rest.now c.split_once.result c
 pub returns-then-not-is_name : goal.returns-then-not-is_name
 returns-then-not-is_name c = λ name octets spells.
     let parts = rw c.in-Some.is at (SpellsOrder-split c.args.rest.now c.split_once.result c.split_once.ensures.cases name octets spells) in
-    let named : is_name c.in-Some.name.now ≡ is_name name = ap is_name parts.0 in
+    let named : is_institution_name c.in-Some.name.now ≡ is_institution_name name = ap is_institution_name parts.0 in
     false≢true (search rules)
 
 pub returns-in_default-2 : goal.returns-in_default-2

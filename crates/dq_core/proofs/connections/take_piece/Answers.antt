@@ -2,7 +2,7 @@ use Rattle.std.proofs.Common.{◌≡◌, List, ap, ◌∙◌}
 use Rattle.std.specs.Option.{option_copied}
 use Rattle.dq_pdu.specs.declared.pdu.Pdu.{Pdu}
 use Rattle.dq_core.specs.Slots.{owner_at}
-use Rattle.dq_core.specs.Tallies.{tallied}
+use Rattle.dq_core.specs.Tallies.{tally_of_name}
 use Rattle.dq_core.proofs.Pieces.{Laws, fed_slot, took}
 use Rattle.dq_core.proofs.connections.take_piece.Goals as goal
 
@@ -25,7 +25,7 @@ returns c = λ world x held counts.
     } in
     let q_is : q ≡ owner_at institutions (fed_slot old inbox) fed.pdus =
     c.owner_of-institution.ensures ∙ ap (λ (list : List Pdu). owner_at institutions (fed_slot old inbox) list) c.as_slice.ensures in
-    took institutions laws world x c.args.piece.now (tallied institutions c.args.tally.now.counts.items) old fed.pdus fed.fault inbox c.take.new.self q verdict
+    took institutions laws world x c.args.piece.now (tally_of_name institutions c.args.tally.now.counts.items) old fed.pdus fed.fault inbox c.take.new.self q verdict
     c.in_ok-taken.taken held counts
     (record {
       list = (c.in-Ok.ensures.pdus x.stream held.inbox).0;

@@ -1,4 +1,4 @@
-use Rattle.dq_core.proofs.isolation.WorkedExamples.{a_query_over_no_rows, stores, alone, a_kept_study}
+use Rattle.dq_core.proofs.isolation.WorkedExamples.{a_query_over_no_rows, stores, a_kept_study}
 use Rattle.dq_core.proofs.laws.examples_are_answered_octet_for_octet.Goals as goal
 
 pub returns-clause-nothing_found : goal.returns-clause-nothing_found
@@ -18,6 +18,3 @@ returns-clause-found c = a_kept_study.0
 
 pub returns-clause-another : goal.returns-clause-another
 returns-clause-another c = a_kept_study.1
-
-pub returns-clause-alone : goal.returns-clause-alone
-returns-clause-alone c = alone

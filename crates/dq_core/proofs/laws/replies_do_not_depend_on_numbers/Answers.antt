@@ -1,4 +1,4 @@
-use Rattle.dq_core.proofs.isolation.Renumbering.{replies-anew, rows-anew, formed-anew, own-anew, at-anew, alone-replies_anew, alone-records_anew}
+use Rattle.dq_core.proofs.isolation.Renumbering.{replies-anew, rows-anew, formed-anew, own-anew, at-anew}
 use Rattle.dq_core.proofs.laws.replies_do_not_depend_on_numbers.Goals as goal
 
 pub returns-clause-replies : goal.returns-clause-replies
@@ -15,9 +15,3 @@ returns-clause-own c = λ institutions name events another keeps. own-anew anoth
 
 pub returns-clause-own_replies : goal.returns-clause-own_replies
 returns-clause-own_replies c = λ institutions name events given another keeps. at-anew another keeps institutions name events given
-
-pub returns-clause-alone : goal.returns-clause-alone
-returns-clause-alone c = λ limits records events another keeps. alone-replies_anew another keeps limits records events
-
-pub returns-clause-alone_records : goal.returns-clause-alone_records
-returns-clause-alone_records c = λ limits records events another keeps. alone-records_anew another keeps limits records events

@@ -1,6 +1,6 @@
 use Rattle.std.proofs.Common.{ap, ◌∙◌}
 use Rattle.dq_tables.specs.Rows.{of}
-use Rattle.dq_core.specs.Own.{is_own, replies_at}
+use Rattle.dq_core.specs.Own.{is_own_event, replies_at}
 use Rattle.dq_core.proofs.Running.{all-replies, begun}
 use Rattle.dq_core.proofs.server.run.Goals as goal
 
@@ -35,7 +35,7 @@ pub returns-clause-own_replies : goal.returns-clause-own_replies
 returns-clause-own_replies g c = λ h n i k.
     let given = all-replies c.args.config (g.T.Tables.state c.args.tables).rows c.args.events.items c.answer_history-outcome.result.replies
     (g.T.Tables.state c.answer_history-outcome.result.tables).rows (c.answer_history-outcome.ensures.ran h) (c.answer_history-outcome.ensures.answered n) in
-    ap (replies_at (is_own c.args.config i.name c.args.events.items) c.args.events.items) given
+    ap (replies_at (is_own_event c.args.config i.name c.args.events.items) c.args.events.items) given
     ∙ c.institutions_are_isolated.ensures.replies c.args.config (g.T.Tables.state c.args.tables).rows c.args.events.items i
     (begun i (c.institutions_have_own_names.ensures c.args.config c.is_sound.ensures) k
     (g.met.T.Tables.sound c.args.tables (c.answer_history-outcome.ensures.was_honest h)).rising c.requires.formed)

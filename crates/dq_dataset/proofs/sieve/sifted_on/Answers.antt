@@ -1,7 +1,7 @@
 use Rattle.std.proofs.Common.{◌<◌, ◌++◌, List, ℕ, [], length, take, drop, refl, sym, ap, subst, ◌∙◌, append_assoc, arith}
 use Rattle.std.proofs.lemmas.Bool.{eqb-true}
 use Rattle.std.proofs.lemmas.List.{length-drop, take-append-drop, append-nil, nil_from_length}
-use Rattle.dq_dataset.specs.Sieving.{GoesOn}
+use Rattle.dq_dataset.specs.Sieving.{SieveGoesOn}
 use Rattle.dq_dataset.proofs.SieveSteps.{goes_nowhere, goes_then}
 use Rattle.dq_dataset.proofs.sieve.sifted_on.Goals as goal
 
@@ -38,4 +38,4 @@ returns c =
     let so_far = now.invariant in
     let none = nil_from_length now.rest.now (eqb-true (length now.rest.now) 0 (sym c.is_empty.ensures ∙ c.loop-rest-test.false)) in
     let all = so_far.1 ∙ ap (λ (x : List ℕ). so_far.0 ++ x) none ∙ append-nil so_far.0 in
-    subst (λ (o : List ℕ). GoesOn c.args.tags.now c.args.outer c.args.stage o now.outer now.stage) (sym all) so_far.2
+    subst (λ (o : List ℕ). SieveGoesOn c.args.tags.now c.args.outer c.args.stage o now.outer now.stage) (sym all) so_far.2

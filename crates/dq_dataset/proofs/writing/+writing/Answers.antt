@@ -1,7 +1,7 @@
 use Rattle.std.proofs.Common.{◌≡◌, ℕ, ◌++◌, List, length, arith, refl, sym, ap, ◌∙◌, append_assoc}
 use Rattle.std.proofs.lemmas.List.{length-append}
 use Rattle.dq_dataset.proofs.Types.{Vr, SQ}
-use Rattle.dq_dataset.specs.Canonical.{header_of, item_header_of, canonical, canonical_items}
+use Rattle.dq_dataset.specs.Canonical.{header_octets, item_header_of, canonical, canonical_items}
 use Rattle.dq_dataset.specs.View.{items_of}
 use Rattle.dq_dataset.proofs.Views.{as_elements-elements_of}
 use Rattle.dq_dataset.proofs.Spelled.{next_element, next_item, item_written, count-drop, items_count-drop}
@@ -12,8 +12,8 @@ pub put_element-put_length_before-requires-clause-place : goal.put_element-put_l
 put_element-put_length_before-requires-clause-place t c =
     let e = c.args.element.now in
     let vr = vr_is e.vr e.value c.in-Items.items c.requires.sequence c.in-Items.is in
-    let begun : c.put_header-in-Items.new.out.items ≡ c.args.out.now.items ++ header_of c.args.syntax e.tag SQ 0 =
-    c.in_ok-put_header-in-Items.ensures ∙ ap (λ (v : Vr). c.args.out.now.items ++ header_of c.args.syntax e.tag v 0) vr in
+    let begun : c.put_header-in-Items.new.out.items ≡ c.args.out.now.items ++ header_octets c.args.syntax e.tag SQ 0 =
+    c.in_ok-put_header-in-Items.ensures ∙ ap (λ (v : Vr). c.args.out.now.items ++ header_octets c.args.syntax e.tag v 0) vr in
     let start = sequence_start c.args.syntax e.tag c.args.out.now.items c.put_header-in-Items.new.out.items begun in
     omega (arith, start, c.put_header-in-Items.new.out.ok.0)
 
@@ -23,8 +23,8 @@ put_element-returns-in_ok-put_items-in-Items t c =
     let items = c.in-Items.items in
     let body = canonical_items c.args.syntax (items_of items) in
     let vr = vr_is e.vr e.value items c.requires.sequence c.in-Items.is in
-    let begun : c.put_header-in-Items.new.out.items ≡ c.args.out.now.items ++ header_of c.args.syntax e.tag SQ 0 =
-    c.in_ok-put_header-in-Items.ensures ∙ ap (λ (v : Vr). c.args.out.now.items ++ header_of c.args.syntax e.tag v 0) vr in
+    let begun : c.put_header-in-Items.new.out.items ≡ c.args.out.now.items ++ header_octets c.args.syntax e.tag SQ 0 =
+    c.in_ok-put_header-in-Items.ensures ∙ ap (λ (v : Vr). c.args.out.now.items ++ header_octets c.args.syntax e.tag v 0) vr in
     let whole : c.put_items.new.out.items ≡ c.put_header-in-Items.new.out.items ++ body = c.in_ok-put_items-in-Items.ensures
     ∙ rw (c.deref-in-Items.ensures.value, c.inner.ensures) refl in
     c.put_length_before.ensures

@@ -1,6 +1,6 @@
 use Rattle.std.proofs.Common.{◌≡◌, ◌∙◌, ◌∷◌, List, ℕ, Bool, cond, filter, take, sym, ap, subst}
 use Rattle.dq_vr.specs.declared.Vr.TheVariants.{CS}
-use Rattle.dq_value.specs.Parts.{parts}
+use Rattle.dq_value.specs.Parts.{element_values}
 use Rattle.dq_find.specs.Computed.{all_in_order}
 use Rattle.dq_find.specs.Modalities.{is_modality, modality_limit, modalities_of}
 use Rattle.dq_find.proofs.InOrder.{put_more, few_stay}
@@ -11,7 +11,7 @@ unfolding modalities_of
 loop-part-init c = (
   c.requires,
   ap (λ (ps : List (List ℕ)). take modality_limit (all_in_order (filter is_modality ps) c.args.values.now.items))
-      (c.values-parts.ensures ∙ ap (parts CS) c.octets_at.ensures),
+      (c.values-parts.ensures ∙ ap (element_values CS) c.octets_at.ensures),
 )
 
 pub loop-part-preserved : goal.loop-part-preserved

@@ -1,30 +1,24 @@
-use Rattle.std.proofs.Common.{◌∙◌, List, Ok, ap}
+use Rattle.std.proofs.Common.{◌∙◌, List, map, Ok, ap}
 use Rattle.dq_tables.specs.declared.row.Row.{Row}
-use Rattle.dq_tables.specs.Rows.{Record}
-use Rattle.dq_tables.proofs.Calling.{reads_then}
-use Rattle.dq_find.specs.declared.level.Level.TheVariants.{Study}
-use Rattle.dq_find.specs.Computed.{computed, joined}
-use Rattle.dq_find.proofs.Looking.{looks_right}
-use Rattle.dq_find.proofs.Counting.{computed_of_found}
+use Rattle.dq_tables.specs.Rows.{record_of}
+use Rattle.dq_archive.specs.Archives.{records_in}
+use Rattle.dq_archive.proofs.Looking.{looks_then, looks_as}
+use Rattle.dq_find.specs.Computed.{images_below, modalities_in, backslash_joined}
+use Rattle.dq_find.proofs.Counting.{computed_of_rows}
 use Rattle.dq_find.proofs.computed.study_computed.Goals as goal
 
 pub returns : goal.returns
 returns g c =
-    let old = g.T.Tables.state c.args.tables.now in
-    let mid = g.T.Tables.state c.series_of.new.self in
-    let new = g.T.Tables.state c.images_below.new.tables in
-    let name = c.args.institution.now in
-    let key = c.args.key.now in
-    let series : List Row = c.in_ok-series.series in
-    let first = c.in_ok-series.ensures.reads in
-    let second = c.in_ok-images.ensures.reads in
-    looks_right name old new c.in_ok-images.images c.in_ok-study_values.field-0
-    (λ (records : List Record). computed records Study key)
-    (reads_then old mid new series (Ok c.in_ok-images.images) first second)
-    (λ h.
-    let was = second.goes.was_honest h in
-    c.in_ok-study_values.ensures
-    ∙ computed_of_found name key old.rows mid.rows series c.as_slice.result.now c.as_slice-2.result.now c.in_ok-modalities.modalities.items
-    c.deref-2.result.now c.len.result c.in_ok-images.images (first.same was) (c.in_ok-series.ensures.found was) c.as_slice.ensures
-    c.as_slice-2.ensures (c.in_ok-images.ensures.answered h) c.in_ok-modalities.ensures
-    (c.deref-2.ensures.value ∙ c.in_ok-modalities-2.ensures ∙ ap joined c.deref.ensures.value) c.len.ensures)
+    let state = g.T.Tables.state in
+    let old = c.args.archive.now in
+    let new = c.images_below.new.archive in
+    let series = c.in_ok-series.series in
+    let images = c.in_ok-images.images in
+    let second = looks_then state old c.rows_above.new.self new _ series c.in_ok-series.ensures _ (Ok images) c.in_ok-images.ensures in
+    looks_as state old new _ images second _ c.in_ok-study_values.field-0
+    (λ h. c.in_ok-study_values.ensures
+    ∙ computed_of_rows old.institution.now.name c.args.key.now (records_in state old) series c.deref-2.result.now c.len.result images
+    (c.in_ok-series.ensures.answered (c.in_ok-images.ensures.reads.goes.was_honest h))
+    (c.deref-2.ensures.value ∙ c.in_ok-modalities-2.ensures ∙ ap backslash_joined (c.deref.ensures.value ∙ c.in_ok-modalities.ensures
+    ∙ ap (λ (rows : List Row). modalities_in (map record_of rows)) c.as_slice-2.ensures)) c.len.ensures
+    (second.answered h ∙ ap (λ (rows : List Row). images_below (records_in state old) (map record_of rows)) c.as_slice.ensures))

@@ -6,7 +6,7 @@ use Rattle.dq_dataset.specs.View.{as_elements}
 use Rattle.dq_dataset.specs.Facts.{IsDataSet}
 use Rattle.dq_dataset.proofs.Views.{as_elements-elements_of}
 use Rattle.dq_match.specs.declared.keys.Place.TheVariants.{Outer}
-use Rattle.dq_match.specs.Responses.{shown_keys, put_first, shown}
+use Rattle.dq_match.specs.Responses.{shown_keys, put_first, shown_data_set}
 use Rattle.dq_match.proofs.Showing.{shown_is_whole}
 use Rattle.dq_match.proofs.responses.shown.Goals as goal
 
@@ -24,7 +24,7 @@ from_elements-requires c =
     (shown_is_whole c.args.identifier.now c.args.held.now c.elements.ensures.facts c.requires c.elements-2.ensures.facts)
 
 pub returns : goal.returns
-unfolding shown
+unfolding shown_data_set
 returns c =
     let keys : as_elements c.elements.result.now ≡ c.args.identifier.now = ap as_elements c.elements.ensures.elements
     ∙ as_elements-elements_of c.args.identifier.now in

@@ -1,6 +1,6 @@
 use Rattle.std.proofs.Common.{◌≡◌, ◌∙◌, ℕ, is_none, List, Some, refl, sym, ap}
 use Rattle.std.specs.Option.{option_map}
-use Rattle.dq_dataset.specs.Editing.{merged}
+use Rattle.dq_dataset.specs.Editing.{merged_data_set}
 use Rattle.dq_tables.specs.declared.row.Kind.TheVariants.{Step}
 use Rattle.dq_tables.specs.declared.row.Row.{Row}
 use Rattle.dq_tables.specs.declared.change.Change.TheVariants.{StepChanged}
@@ -66,7 +66,7 @@ returns g c =
     (sym c.attribute_refusal.ensures ∙ c.in_default-attribute_refusal.is)
     (sym c.in_ok-octets.ensures.within ∙ ap is_none c.in-Some-2.is)
     octets (at_some _ _ _ c.in_ok-octets.ensures.spelled c.in-Some-2.is))
-    (λ h. changed_fits name uid (merged c.in_ok-kept.kept sent) octets (state_in state old).rows c.in-Some.row
+    (λ h. changed_fits name uid (merged_data_set c.in_ok-kept.kept sent) octets (state_in state old).rows c.in-Some.row
     (g.met.T.Tables.sound old.tables.now (first.reads.goes.was_honest h)).own
     (sym c.in-Some.is ∙ first.answered h ∙ sym (found_own Step name uid (state_in state old).rows))
     (at_some _ _ _ c.in_ok-octets.ensures.spelled c.in-Some-2.is) (at_some _ _ _ c.in_ok-octets.ensures.read_back c.in-Some-2.is))

@@ -2,7 +2,7 @@ use Rattle.std.proofs.Common.{◌≡◌, ◌∙◌, ℕ, List, ◌∷◌, map, O
 use Rattle.dq_tables.specs.declared.row.Row.{Row}
 use Rattle.dq_tables.specs.declared.change.Change.TheVariants.{StepAdded}
 use Rattle.dq_tables.specs.Rows.{Put, Start, row_of}
-use Rattle.dq_tables.specs.Serving.{outcome}
+use Rattle.dq_tables.specs.Serving.{refusal_or}
 use Rattle.dq_config.specs.Limits.{limits_of}
 use Rattle.dq_archive.specs.Archives.{state_in, records_in}
 use Rattle.dq_archive.proofs.Looking.{looks_then}
@@ -18,7 +18,7 @@ returns-in-Some g c =
     let old = c.args.archive.now in
     let sent = c.args.sent.now in
     decides_unchanged g.T.Tables.state old c.refusal.new.archive _ _ c.in_ok-status.field-0 c.in_ok-status.ensures c.in-Some.status c.unchanged.result c.unchanged.ensures
-    (λ h. ap (λ (o : Option ℕ). outcome o (0, creation (records_in g.T.Tables.state old) sent.uid.now sent.data_set.now))
+    (λ h. ap (λ (o : Option ℕ). refusal_or o (0, creation (records_in g.T.Tables.state old) sent.uid.now sent.data_set.now))
     (sym (c.in_ok-status.ensures.answered h) ∙ c.in-Some.is))
 
 pub returns : goal.returns
@@ -40,7 +40,7 @@ returns g c =
     decides_change state old new _ _ keys second 0 _ (StepAdded (row_of name (step_record uid d)) keys)
     (c.with_change.ensures ∙ ap (λ (row : Row). record { answer = 0; change = Some (StepAdded row keys) }) row_is)
     refl
-    (λ h. ap (λ (o : Option ℕ). outcome o (0, creation records uid d)) (none h)
+    (λ h. ap (λ (o : Option ℕ). refusal_or o (0, creation records uid d)) (none h)
     ∙ ap (λ (ks : List (List ℕ)). (0, Put (step_record uid d) ∷ map Start ks)) (sym (second.answered h)))
     (λ h. new_step_fits name uid d (state_in state old).rows keys c.in_ok-row.ensures.read_back c.requires.uid
     (free_if_accepted (limits_of old.institution.now) records uid d (none h)) (second.answered h))

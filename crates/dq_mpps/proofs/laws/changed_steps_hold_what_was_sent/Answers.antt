@@ -1,7 +1,7 @@
 use Rattle.std.proofs.Common.{ap, List}
 use Rattle.dq_dataset.specs.declared.header.Syntax.TheVariants.{Explicit}
-use Rattle.dq_dataset.specs.Editing.{merged}
-use Rattle.dq_tables.specs.Rows.{Edit, edited}
+use Rattle.dq_dataset.specs.Editing.{merged_data_set}
+use Rattle.dq_tables.specs.Rows.{Edit, records_after_edits}
 use Rattle.dq_mpps.specs.Changed.{step_at}
 use Rattle.dq_mpps.proofs.Changed.{changed_is}
 use Rattle.dq_mpps.proofs.Refusals.{changed_unless}
@@ -13,8 +13,8 @@ returns-clause-changed c = λ records message syntax are_octets are_kept.
     (λ d read. c.spelling_law.ensures.facts syntax message.octets d (c.spelling_law.ensures.spelled syntax message.octets d are_octets read))
     (λ sent are_sent lengths.
     let kept = step_at message.command.sop_instance records in
-    c.written_law.ensures.read_back Explicit (merged kept sent) (c.editing_law.ensures.merged kept sent are_kept are_sent) lengths tt)
+    c.written_law.ensures.read_back Explicit (merged_data_set kept sent) (c.editing_law.ensures.merged kept sent are_kept are_sent) lengths tt)
 
 pub returns-clause-refused : goal.returns-clause-refused
 returns-clause-refused c = λ records message syntax refused.
-    ap (λ (es : List Edit). edited es records) (changed_unless records message syntax refused)
+    ap (λ (es : List Edit). records_after_edits es records) (changed_unless records message syntax refused)

@@ -1,7 +1,7 @@
 use Rattle.std.proofs.Common.{Some}
 use Rattle.std.specs.List.{AllByRecursion}
 use Rattle.dq_dataset.specs.declared.header.Syntax.TheVariants.{Explicit}
-use Rattle.dq_dataset.specs.Editing.{merged}
+use Rattle.dq_dataset.specs.Editing.{merged_data_set}
 use Rattle.dq_dataset.specs.Facts.{IsDataSet}
 use Rattle.dq_tables.specs.declared.row.Row.{Row}
 use Rattle.dq_tables.specs.Records.{data_set_of}
@@ -31,7 +31,7 @@ returns-clause-changed c = λ h rows message syntax are_octets all.
     let Each = λ (row : Row). IsDataSet (data_set_of row.octets) in
     changed_stays (AllByRecursion Each) h rows all message syntax (λ d read r there short.
     let uid = message.command.sop_instance in
-    let step = merged (kept_data_set (Some r)) d in
+    let step = merged_data_set (kept_data_set (Some r)) d in
     let sent = c.spelling_law.ensures.facts syntax message.octets d (c.spelling_law.ensures.spelled syntax message.octets d are_octets read) in
     let facts = c.editing_law.ensures.merged (kept_data_set (Some r)) d (each_found Each h uid rows r all there) sent in
     each_put Each h (step_record uid step) rows all (rw (c.written_law.ensures.read_back Explicit step facts (short_step step short) tt) facts))

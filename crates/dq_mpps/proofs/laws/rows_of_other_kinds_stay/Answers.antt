@@ -1,6 +1,6 @@
 use Rattle.std.proofs.Common.{◌≡◌, true, Some, inl, inr, refl}
 use Rattle.std.specs.List.{AllByRecursion}
-use Rattle.dq_dataset.specs.Editing.{merged}
+use Rattle.dq_dataset.specs.Editing.{merged_data_set}
 use Rattle.dq_tables.specs.declared.row.Row.{Row}
 use Rattle.dq_tables.specs.Rows.{Put, of, after_edit, row_of}
 use Rattle.dq_tables.specs.Starting.{entries_named}
@@ -23,5 +23,5 @@ pub returns-clause-changed : goal.returns-clause-changed
 returns-clause-changed c = λ holds asked h rows message syntax all.
     let Each = λ (row : Row). holds row ≡ true in
     changed_stays (AllByRecursion Each) h rows all message syntax (λ d read r there short.
-    let step = step_record message.command.sop_instance (merged (kept_data_set (Some r)) d) in
+    let step = step_record message.command.sop_instance (merged_data_set (kept_data_set (Some r)) d) in
     each_put Each h step rows all (asked (row_of h step) refl))

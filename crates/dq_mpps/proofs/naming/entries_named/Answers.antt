@@ -1,6 +1,6 @@
+use Rattle.dq_list.specs.Octets.{octets_of_vectors}
 use Rattle.dq_archive.specs.Archives.{state_in}
 use Rattle.dq_archive.proofs.Looking.{looks_alike}
-use Rattle.dq_mpps.specs.Views.{octets_of}
 use Rattle.dq_mpps.proofs.Named.{kept_is_named}
 use Rattle.dq_mpps.proofs.naming.entries_named.Goals as goal
 
@@ -8,5 +8,5 @@ pub returns : goal.returns
 returns g c =
     let it = c.args.archive.now in
     looks_alike g.T.Tables.state it c.kept_of.new.archive _ _ c.kept_of.result c.kept_of.ensures
-    (λ h. kept_is_named it.institution.now.name (state_in g.T.Tables.state it).rows c.args.step.now (octets_of c.in_ok-ids.ids.keys)
+    (λ h. kept_is_named it.institution.now.name (state_in g.T.Tables.state it).rows c.args.step.now (octets_of_vectors c.in_ok-ids.ids.keys)
     (c.honest_rows_are_sound.ensures.rising it.tables.now h) c.in_ok-ids.ensures)

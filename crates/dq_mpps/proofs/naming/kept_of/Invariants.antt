@@ -1,11 +1,12 @@
 use Rattle.std.proofs.Common.{length}
-use Rattle.dq_mpps.specs.Views.{octets_of}
+use Rattle.dq_list.specs.Octets.{octets_of_vectors}
+use Rattle.dq_archive.proofs.Looking.{LooksSoFar}
 use Rattle.dq_mpps.proofs.Named.{KeptSoFar}
 use Rattle.dq_mpps.proofs.naming.kept_of.Given as goal
 
 abbrev pub invariant-loop-id : goal.invariant-loop-id
 invariant-loop-id g l =
-    KeptSoFar g.T.Tables.state l.fn.archive l.archive l.keys (octets_of l.ids.keys) (octets_of l.fn.ids.keys)
+    LooksSoFar g.T.Tables.state l.fn.archive l.archive l.keys (KeptSoFar l.keys (octets_of_vectors l.ids.keys) (octets_of_vectors l.fn.ids.keys))
 
 abbrev pub decreases-loop-id : goal.decreases-loop-id
 decreases-loop-id g l = length l.ids.keys

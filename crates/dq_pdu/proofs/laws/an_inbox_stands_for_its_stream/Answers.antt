@@ -1,5 +1,5 @@
 use Rattle.std.proofs.Common.{sym, ap, ◌∙◌}
-use Rattle.dq_pdu.specs.Inboxes.{fault_in}
+use Rattle.dq_pdu.specs.Inboxes.{inbox_fault}
 use Rattle.dq_pdu.proofs.InboxLaws.{not_spent, fault_held}
 use Rattle.dq_pdu.proofs.laws.an_inbox_stands_for_its_stream.Goals as goal
 
@@ -7,5 +7,5 @@ pub returns : goal.returns
 returns c = record {
   only = λ stream inbox other a b. a.holds ∙ sym b.holds;
   not_spent = λ stream a. not_spent stream a.holds;
-  fault = λ stream inbox a. ap fault_in a.holds ∙ fault_held stream;
+  fault = λ stream inbox a. ap inbox_fault a.holds ∙ fault_held stream;
 }

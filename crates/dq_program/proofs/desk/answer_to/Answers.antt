@@ -10,9 +10,9 @@ pub returns-in_err-printed_line-in-Order-clause-cut : goal.returns-in_err-printe
 returns-in_err-printed_line-in-Order-clause-cut g c =
     OnErr-known c.from_residual-in_err-printed_line-in-Order.result (rw c.in-Order.is (inr (_, c.in_ok-reply-in-Order.ensures.stepped)))
 
-pub returns-in_err-report-in-Report-clause-cut : goal.returns-in_err-report-in-Report-clause-cut
-returns-in_err-report-in-Report-clause-cut g c =
-    OnErr-known c.from_residual-in_err-report-in-Report.result (rw c.in-Report.is c.in_err-report-in-Report.ensures.cut)
+pub returns-in_err-lines_of-in-Report-clause-cut : goal.returns-in_err-lines_of-in-Report-clause-cut
+returns-in_err-lines_of-in-Report-clause-cut g c =
+    OnErr-known c.from_residual-in_err-lines_of-in-Report.result (rw c.in-Report.is c.in_err-lines_of-in-Report.ensures.fails.0)
 
 pub returns-in_err-back_up-in-Backup-clause-cut : goal.returns-in_err-back_up-in-Backup-clause-cut
 returns-in_err-back_up-in-Backup-clause-cut g c =

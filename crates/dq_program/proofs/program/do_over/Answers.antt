@@ -1,15 +1,15 @@
 use Rattle.std.proofs.Common.{◌≡◌, inl, inr, refl}
 use Rattle.dq_core.specs.Shared.{world_after}
-use Rattle.dq_words.specs.Words.{place_in}
-use Rattle.dq_program.specs.Program.{IsInStore, unclosed}
+use Rattle.dq_words.specs.Words.{place_asked}
+use Rattle.dq_program.specs.Program.{IsInStore, unclosed_store}
 use Rattle.dq_program.proofs.Inputs.{if_error}
 use Rattle.dq_program.proofs.Storing.{of_new, of_found}
 use Rattle.dq_program.proofs.program.do_over.Goals as goal
 
 pub returns-in_err-close-in-New-clause-stops : goal.returns-in_err-close-in-New-clause-stops
 returns-in_err-close-in-New-clause-stops g c =
-    let is_in : IsInStore (place_in c.args.asked.keeper) = rw c.in-New.is tt in
-    if_error _ c.from_residual-in_err-close-in-New.result unclosed c.from_residual-in_err-close-in-New.ensures.1
+    let is_in : IsInStore (place_asked c.args.asked.keeper) = rw c.in-New.is tt in
+    if_error _ c.from_residual-in_err-close-in-New.result unclosed_store c.from_residual-in_err-close-in-New.ensures.1
     (inr (inr (
       is_in,
       refl,
@@ -20,8 +20,8 @@ returns-in_err-close-in-New-clause-stops g c =
 
 pub returns-in_err-close-in-Found-clause-stops : goal.returns-in_err-close-in-Found-clause-stops
 returns-in_err-close-in-Found-clause-stops g c =
-    let is_in : IsInStore (place_in c.args.asked.keeper) = rw c.in-Found.is tt in
-    if_error _ c.from_residual-in_err-close-in-Found.result unclosed c.from_residual-in_err-close-in-Found.ensures.1
+    let is_in : IsInStore (place_asked c.args.asked.keeper) = rw c.in-Found.is tt in
+    if_error _ c.from_residual-in_err-close-in-Found.result unclosed_store c.from_residual-in_err-close-in-Found.ensures.1
     (inr (inr (
       is_in,
       refl,

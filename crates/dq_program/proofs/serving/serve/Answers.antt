@@ -1,8 +1,8 @@
 use Rattle.std.proofs.Common.{IfSome, inr, refl}
 use Rattle.std.specs.Option.{option_copied}
-use Rattle.dq_words.specs.Words.{place_in}
+use Rattle.dq_words.specs.Words.{place_asked}
 use Rattle.dq_program.specs.declared.stop.Stop.{Stop}
-use Rattle.dq_program.specs.Program.{unclosed, rows_at, AreHonest}
+use Rattle.dq_program.specs.Program.{unclosed_store, rows_at, AreHonest}
 use Rattle.dq_program.specs.Serving.{turn_count, ServedUpTo}
 use Rattle.dq_program.proofs.Ends.{ends-so}
 use Rattle.dq_program.proofs.Inputs.{if_error}
@@ -11,7 +11,7 @@ use Rattle.dq_program.proofs.serving.serve.Goals as goal
 
 pub returns-in_err-close-in-New-clause-stops : goal.returns-in_err-close-in-New-clause-stops
 returns-in_err-close-in-New-clause-stops g c =
-    if_error _ c.from_residual-in_err-close-in-New.result unclosed c.from_residual-in_err-close-in-New.ensures.1
+    if_error _ c.from_residual-in_err-close-in-New.result unclosed_store c.from_residual-in_err-close-in-New.ensures.1
     (inr (_, c.in_ok-config.ensures.read, inr (refl, c.in_ok-filled-in-New.ensures.ready)))
 
 pub returns-in_ok-close-in-New-clause-served : goal.returns-in_ok-close-in-New-clause-served
@@ -27,7 +27,7 @@ returns-in_ok-close-in-New-clause-served g c =
 
 pub returns-in_err-close-in-Found-clause-stops : goal.returns-in_err-close-in-Found-clause-stops
 returns-in_err-close-in-Found-clause-stops g c =
-    if_error _ c.from_residual-in_err-close-in-Found.result unclosed c.from_residual-in_err-close-in-Found.ensures.1
+    if_error _ c.from_residual-in_err-close-in-Found.result unclosed_store c.from_residual-in_err-close-in-Found.ensures.1
     (inr (_, c.in_ok-config.ensures.read, inr (refl, c.in_ok-kept-in-Found.ensures.ready)))
 
 pub returns-in_ok-close-in-Found-clause-served : goal.returns-in_ok-close-in-Found-clause-served
@@ -48,7 +48,7 @@ returns-in_err-serve_by-in-Memory-clause-stops g c =
     let IsSo : Stop → Type 0 = λ (why : Stop). AreHonest state → ServedUpTo g.Rt.Wired.Wires.log (g.Rt.Network.may_break c.args.rt.now)
     c.in_ok-server-in-Memory.server.institutions (state c.in_ok-server-in-Memory.server.tables).rows (turn_count c.args.service.turns)
     (option_copied c.args.service.console) why in
-    let IsAlso : Stop → Type 0 = λ (why : Stop). IfSome (rows_at (g.Rt.Stores.stored c.args.rt.now) (place_in c.args.service.keeper)) (λ rows.
+    let IsAlso : Stop → Type 0 = λ (why : Stop). IfSome (rows_at (g.Rt.Stores.stored c.args.rt.now) (place_asked c.args.service.keeper)) (λ rows.
     ServedUpTo g.Rt.Wired.Wires.log (g.Rt.Network.may_break c.args.rt.now) c.in_ok-config.config rows (turn_count c.args.service.turns)
     (option_copied c.args.service.console) why) in
     if_error _ c.from_residual-in_err-serve_by-in-Memory.result _ c.from_residual-in_err-serve_by-in-Memory.ensures.1
@@ -66,7 +66,7 @@ returns-in_err-filled-in-New-clause-stops g c =
     let IsSo : Stop → Type 0 = λ (why : Stop). AreHonest state → ServedUpTo g.Rt.Wired.Wires.log (g.Rt.Network.may_break c.args.rt.now)
     c.in_ok-server-in-New.server.institutions (state c.in_ok-server-in-New.server.tables).rows (turn_count c.args.service.turns)
     (option_copied c.args.service.console) why in
-    let IsAlso : Stop → Type 0 = λ (why : Stop). IfSome (rows_at (g.Rt.Stores.stored c.args.rt.now) (place_in c.args.service.keeper)) (λ rows.
+    let IsAlso : Stop → Type 0 = λ (why : Stop). IfSome (rows_at (g.Rt.Stores.stored c.args.rt.now) (place_asked c.args.service.keeper)) (λ rows.
     ServedUpTo g.Rt.Wired.Wires.log (g.Rt.Network.may_break c.args.rt.now) c.in_ok-config.config rows (turn_count c.args.service.turns)
     (option_copied c.args.service.console) why) in
     if_error _ c.from_residual-in_err-filled-in-New.result _ c.from_residual-in_err-filled-in-New.ensures.1
@@ -85,7 +85,7 @@ returns-in_err-kept-in-Found-clause-stops g c =
     let IsSo : Stop → Type 0 = λ (why : Stop). AreHonest state → ServedUpTo g.Rt.Wired.Wires.log (g.Rt.Network.may_break c.args.rt.now)
     c.in_ok-server-in-Found.server.institutions (state c.in_ok-server-in-Found.server.tables).rows (turn_count c.args.service.turns)
     (option_copied c.args.service.console) why in
-    let IsAlso : Stop → Type 0 = λ (why : Stop). IfSome (rows_at (g.Rt.Stores.stored c.args.rt.now) (place_in c.args.service.keeper)) (λ rows.
+    let IsAlso : Stop → Type 0 = λ (why : Stop). IfSome (rows_at (g.Rt.Stores.stored c.args.rt.now) (place_asked c.args.service.keeper)) (λ rows.
     ServedUpTo g.Rt.Wired.Wires.log (g.Rt.Network.may_break c.args.rt.now) c.in_ok-config.config rows (turn_count c.args.service.turns)
     (option_copied c.args.service.console) why) in
     if_error _ c.from_residual-in_err-kept-in-Found.result _ c.from_residual-in_err-kept-in-Found.ensures.1

@@ -1,8 +1,8 @@
 use Rattle.std.proofs.Common.{◌≡◌, map, take}
 use Rattle.dq_tables.specs.Rows.{after_all, IsRising}
-use Rattle.dq_sql.specs.Migrating.{started_by}
+use Rattle.dq_sql.specs.Migrating.{starting_operation}
 use Rattle.dq_sql.proofs.kept_steps.start_named.Given as goal
 
 abbrev pub invariant-loop-entries : goal.invariant-loop-entries
 invariant-loop-entries l =
-    (l.rows.items ≡ after_all (map started_by (take l.entries-index l.entries-items)) l.fn.rows.items) × IsRising l.rows.items
+    (l.rows.items ≡ after_all (map starting_operation (take l.entries-index l.entries-items)) l.fn.rows.items) × IsRising l.rows.items

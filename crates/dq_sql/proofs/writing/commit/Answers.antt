@@ -7,7 +7,7 @@ use Rattle.sqlite.specs.Held.{state}
 use Rattle.sqlite.proofs.StateLemmas.{survives_then}
 use Rattle.sqlite.proofs.Callers.{survives_begin}
 use Rattle.sqlite.specs.Effect.{Database}
-use Rattle.dq_sql.specs.Writing.{Makes, Commits, IsMade, IsUndone}
+use Rattle.dq_sql.specs.Writing.{MakesChange, Commits, IsMade, IsUndone}
 use Rattle.dq_sql.proofs.writing.commit.Goals as goal
 
 -- what a commit that succeeds shows
@@ -35,7 +35,7 @@ returns-in-Ok-clause-survives g c =
     let made = λ (clean : HasCleanDisk (state g.S.Store mid)).
     let both = c.in_ok-make.ensures.done clean (rw begun refl) in
     let was_open : IsTrue (state g.S.Store old).is_open = rw begun at (both.0.on.was_open both.0.is_open) in
-    let it : Makes (state g.S.Store old).now (state g.S.Store mid).now c.args.change.now = rw begun at both.1 in
+    let it : MakesChange (state g.S.Store old).now (state g.S.Store mid).now c.args.change.now = rw begun at both.1 in
     let whole : P (state g.S.Store mid).now.trees = record { was_open = was_open; after = (state g.S.Store mid).now; made = it; is = refl } in whole in
     let whole = survives_then (state g.S.Store old) (state g.S.Store mid) (state g.S.Store c.commit.new.self.0) _ _ P (λ _ db none. absurd none)
     (λ clean db is. subst P (sym is) (made (omega (arith, c.commit.ensures.survives.clean)))) (survives_begin g.S.Store old (state g.S.Store mid) _ (rw begun at c.make.ensures.survives)) c.commit.ensures.survives in
@@ -50,7 +50,7 @@ returns-in-Err-clause-survives g c =
     let made = λ (clean : HasCleanDisk (state g.S.Store mid)).
     let both = c.in_ok-make.ensures.done clean (rw begun refl) in
     let was_open : IsTrue (state g.S.Store old).is_open = rw begun at (both.0.on.was_open both.0.is_open) in
-    let it : Makes (state g.S.Store old).now (state g.S.Store mid).now c.args.change.now = rw begun at both.1 in
+    let it : MakesChange (state g.S.Store old).now (state g.S.Store mid).now c.args.change.now = rw begun at both.1 in
     let whole : P (state g.S.Store mid).now.trees = record { was_open = was_open; after = (state g.S.Store mid).now; made = it; is = refl } in whole in
     let whole = survives_then (state g.S.Store old) (state g.S.Store mid) (state g.S.Store c.commit.new.self.0) _ _ P (λ _ db none. absurd none)
     (λ clean db is. subst P (sym is) (made (omega (arith, c.commit.ensures.survives.clean)))) (survives_begin g.S.Store old (state g.S.Store mid) _ (rw begun at c.make.ensures.survives)) c.commit.ensures.survives in
@@ -67,11 +67,11 @@ returns-in-Ok-clause-done g c =
     let before : HasCleanDisk mid = omega (arith, c.commit.ensures.survives.clean) in
     let both = c.in_ok-make.ensures.done before (rw begun refl) in
     let was_open : IsTrue old.is_open = rw begun at (both.0.on.was_open both.0.is_open) in
-    let it : Makes old.now mid.now c.args.change.now = rw begun at both.1 in
+    let it : MakesChange old.now mid.now c.args.change.now = rw begun at both.1 in
     let made : IsMade old new c.args.change.now = record {
       was_open = was_open;
       is_open = shown.is_open;
-      made = subst (λ (d : Database). Makes old.now d c.args.change.now) (sym shown.now_is) it;
+      made = subst (λ (d : Database). MakesChange old.now d c.args.change.now) (sym shown.now_is) it;
       committed = shown.committed_is ∙ sym shown.now_is;
     } in made in
     search (rules, whole)

@@ -6,7 +6,7 @@ use Rattle.dq_tables.proofs.Calling.{reads_refused}
 use Rattle.dq_archive.specs.Archives.{state_in, records_in}
 use Rattle.dq_archive.proofs.Looking.{looks_then, looks_as}
 use Rattle.dq_store.specs.Storing.{Kept, kept_refusals, limit_refusals, instance_refusals}
-use Rattle.dq_store.specs.Views.{instance_of, kept_of, rows_among, unless_refused}
+use Rattle.dq_store.specs.Views.{instance_of, records_kept, rows_among, unless_refused}
 use Rattle.dq_store.proofs.Records.{kept_is}
 use Rattle.dq_store.proofs.kept.kept_unless_refused.Goals as goal
 
@@ -38,7 +38,7 @@ returns-in-Some g c =
     let second = looks_then state old c.kept_rows.new.archive new _ kept first _ _ c.in_ok-refusal.ensures in
     looks_as state old new _ c.in_ok-refusal.refusal second _ (Err c.in-Some.status)
     (λ h. ap (λ (o : Option ℕ). unless_refused o (rows_among name records sent)) (sym c.in-Some.is ∙ second.answered h
-    ∙ ap (λ i. first_refusal (kept_refusals (kept_of kept) sent ++ limit_refusals (limits_of i.now) records (kept_of kept))) first.same.institution
+    ∙ ap (λ i. first_refusal (kept_refusals (records_kept kept) sent ++ limit_refusals (limits_of i.now) records (records_kept kept))) first.same.institution
     ∙ ap (λ (k : Kept). first_refusal (kept_refusals k sent ++ limit_refusals limits records k))
     (kept_is name records sent kept (first.answered (c.in_ok-refusal.ensures.reads.goes.was_honest h)))))
 
@@ -58,6 +58,6 @@ returns-in-None g c =
     (λ h.
     let rows = first.answered (c.in_ok-refusal.ensures.reads.goes.was_honest h) in
     ap (λ (o : Option ℕ). unless_refused o kept) (sym c.in-None.is ∙ second.answered h
-    ∙ ap (λ i. first_refusal (kept_refusals (kept_of kept) sent ++ limit_refusals (limits_of i.now) records (kept_of kept))) first.same.institution
+    ∙ ap (λ i. first_refusal (kept_refusals (records_kept kept) sent ++ limit_refusals (limits_of i.now) records (records_kept kept))) first.same.institution
     ∙ ap (λ (k : Kept). first_refusal (kept_refusals k sent ++ limit_refusals limits records k)) (kept_is name records sent kept rows))
     ∙ ap (unless_refused (first_refusal (instance_refusals limits records sent))) rows)

@@ -6,7 +6,7 @@ use Rattle.dq_tables.specs.Serving.{first_refusal}
 use Rattle.dq_archive.specs.Archives.{records_in}
 use Rattle.dq_archive.proofs.Looking.{looks_then, looks_as}
 use Rattle.dq_store.specs.Storing.{finds_no_room, count_of}
-use Rattle.dq_store.specs.Views.{kept_of}
+use Rattle.dq_store.specs.Views.{records_kept}
 use Rattle.dq_store.proofs.kept.limit_refusal.Goals as goal
 
 abbrev status_by : Bool → Bool → Option ℕ
@@ -16,7 +16,7 @@ pub returns-then-branch : goal.returns-then-branch
 returns-then-branch g c =
     let old = c.args.archive.now in
     let first = c.in_ok-finds_no_room.ensures in
-    let images = finds_no_room (kept_of c.args.kept.now).image (limits_of old.institution.now).images (count_of Image (records_in g.T.Tables.state old)) in
+    let images = finds_no_room (records_kept c.args.kept.now).image (limits_of old.institution.now).images (count_of Image (records_in g.T.Tables.state old)) in
     looks_as g.T.Tables.state old c.finds_no_room.new.archive _ c.in_ok-finds_no_room.field-0 first _ (Some 0xA700)
     (λ h i. status_by ((sym c.if-branch.true ∙ first.answered h) i) images)
 

@@ -9,7 +9,7 @@ use Rattle.dq_archive.specs.Archives.{state_in, records_in}
 use Rattle.dq_archive.specs.Deciding.{IsOwn}
 use Rattle.dq_archive.proofs.Deciding.{decides_unchanged}
 use Rattle.dq_store.specs.Storing.{kept_among}
-use Rattle.dq_store.specs.Views.{instance_of, kept_of}
+use Rattle.dq_store.specs.Views.{instance_of, records_kept}
 use Rattle.dq_store.proofs.Outcomes.{refused_instance, kept_instance, kept_records}
 use Rattle.dq_store.proofs.storing.decide_instance.Goals as goal
 
@@ -69,6 +69,6 @@ returns g c =
           record {
             made = kept_instance limits (of name rows) other sent name kept is ∙ sym made.made;
             fits = made.fits rows (g.met.T.Tables.sound old.tables.now (found.reads.goes.was_honest h)).rising
-                (subst (λ (n : List ℕ). kept_of kept ≡ kept_among (of n rows) sent) (sym named) (kept_records limits (of name rows) other sent name kept is));
+                (subst (λ (n : List ℕ). records_kept kept ≡ kept_among (of n rows) sent) (sym named) (kept_records limits (of name rows) other sent name kept is));
           });
     }

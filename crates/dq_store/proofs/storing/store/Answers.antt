@@ -9,7 +9,7 @@ use Rattle.dq_dimse.specs.Attributes.{kept_attributes}
 use Rattle.dq_tables.specs.Rows.{Record, Edit, of}
 use Rattle.dq_tables.specs.Serving.{Serves}
 use Rattle.dq_tables.proofs.Calling.{reads_nothing, serves_read}
-use Rattle.dq_store.specs.Storing.{stored}
+use Rattle.dq_store.specs.Storing.{store_outcome}
 use Rattle.dq_store.specs.Views.{instance_of, instance_stored}
 use Rattle.dq_store.proofs.Outcomes.{over}
 use Rattle.dq_store.proofs.Sifted.{octets_over, kept_of_it, stored_large, stored_unread, stored_unnamed, stored_kept}
@@ -20,7 +20,7 @@ returns-in_default-clause-serves g c = λ sent h.
     let it = g.T.Tables.state c.args.tables.now in
     let name = c.args.institution.now.name in
     let limits = limits_of c.args.institution.now in
-    let does = λ (records : List Record). stored limits records sent c.args.syntax in
+    let does = λ (records : List Record). store_outcome limits records sent c.args.syntax in
     serves_read name does it it 0xA700 (reads_nothing it 0xA700)
     (λ honest. over limits (of name it.rows) sent c.args.syntax
     (octets_over c.args.syntax c.args.message.now sent h c.in_default.field-0 c.requires c.in_default.is))
@@ -30,7 +30,7 @@ returns-in-Large-clause-serves g c = λ sent h.
     let it = g.T.Tables.state c.args.tables.now in
     let name = c.args.institution.now.name in
     let limits = limits_of c.args.institution.now in
-    let does = λ (records : List Record). stored limits records sent c.args.syntax in
+    let does = λ (records : List Record). store_outcome limits records sent c.args.syntax in
     serves_read name does it it 0xA700 (reads_nothing it 0xA700)
     (λ honest. stored_large limits (of name it.rows) c.args.syntax c.args.message.now sent h c.in-Sifted.sifted c.in-Sifted.is c.in-Large.is
     (c.spelling_law.ensures.read c.args.syntax sent.octets))
@@ -40,7 +40,7 @@ returns-in-Fault-clause-serves g c = λ sent h.
     let it = g.T.Tables.state c.args.tables.now in
     let name = c.args.institution.now.name in
     let limits = limits_of c.args.institution.now in
-    let does = λ (records : List Record). stored limits records sent c.args.syntax in
+    let does = λ (records : List Record). store_outcome limits records sent c.args.syntax in
     serves_read name does it it 0xC000 (reads_nothing it 0xC000)
     (λ honest. stored_unread limits (of name it.rows) c.args.syntax c.args.message.now sent h c.in-Sifted.sifted c.in-Fault.field-0
     c.in-Sifted.is c.in-Fault.is (c.fault_law.ensures.read c.args.syntax sent.octets))
@@ -50,7 +50,7 @@ returns-in_default-of-clause-serves g c = λ sent h.
     let it = g.T.Tables.state c.args.tables.now in
     let name = c.args.institution.now.name in
     let limits = limits_of c.args.institution.now in
-    let does = λ (records : List Record). stored limits records sent c.args.syntax in
+    let does = λ (records : List Record). store_outcome limits records sent c.args.syntax in
     let none = sym (ap (option_map instance_of) c.in_default-of.is) ∙ c.of.ensures.named in
     serves_read name does it it 0xA900 (reads_nothing it 0xA900)
     (λ honest. stored_unnamed limits (of name it.rows) c.args.syntax c.args.message.now sent h c.in-Sifted.sifted c.in-Kept.data_set c.in-Kept.other

@@ -1,7 +1,7 @@
 use Rattle.std.proofs.Common.{length, refl, sym, subst}
 use Rattle.std.proofs.lemmas.Option.{slice_get_read}
 use Rattle.dq_tables.specs.declared.row.Kind.TheVariants.{Entry}
-use Rattle.dq_tables.specs.Finding.{IsThere}
+use Rattle.dq_tables.specs.Finding.{IsAtIndex}
 use Rattle.dq_tables.specs.Rows.{IsRising, Start, place}
 use Rattle.dq_tables.proofs.Lens.{rising_edit}
 use Rattle.dq_tables.proofs.Started.{starts_at, start_of_none}
@@ -11,7 +11,7 @@ pub returns-in-Ok-clause-done : goal.returns-in-Ok-clause-done
 returns-in-Ok-clause-done c =
     let rows = c.args.rows.now.items in
     let row = c.index_mut.result.now in
-    let there : IsThere (place Entry c.args.institution.now c.args.key.now) rows c.in-Ok.at = rw c.deref.ensures.value at (c.in-Ok.ensures {u = tt}) in
+    let there : IsAtIndex (place Entry c.args.institution.now c.args.key.now) rows c.in-Ok.at = rw c.deref.ensures.value at (c.in-Ok.ensures {u = tt}) in
     starts_at c.args.institution.now c.args.key.now rows c.in-Ok.at row there
     (slice_get_read rows (length rows) c.in-Ok.at row refl there.within c.index_mut.ensures.value)
 

@@ -2,10 +2,10 @@ use Rattle.std.proofs.Common.{◌≡◌, ◌++◌, drop}
 use Rattle.std.specs.List.{filter_map}
 use Rattle.dq_tables.specs.declared.row.Row.{Row}
 use Rattle.dq_tables.specs.Rows.{record_of}
-use Rattle.dq_worklist.specs.Candidates.{answer_of}
+use Rattle.dq_worklist.specs.Candidates.{entry_answer}
 use Rattle.dq_worklist.proofs.answering.answers_of.Given as goal
 
 abbrev pub invariant-loop-row : goal.invariant-loop-row
 invariant-loop-row l =
-    l.answers ++ filter_map (λ (row : Row). answer_of l.keys (record_of row)) (drop l.row-index l.rows)
-    ≡ filter_map (λ (row : Row). answer_of l.keys (record_of row)) l.rows
+    l.answers ++ filter_map (λ (row : Row). entry_answer l.keys (record_of row)) (drop l.row-index l.rows)
+    ≡ filter_map (λ (row : Row). entry_answer l.keys (record_of row)) l.rows

@@ -8,7 +8,7 @@ use Rattle.dq_tables.specs.Rows.{of, row_of}
 use Rattle.dq_tables.specs.Sound.{IsNew}
 use Rattle.dq_tables.proofs.Calling.{reads_right}
 use Rattle.dq_worklist.specs.Orders.{entry_of}
-use Rattle.dq_worklist.specs.Views.{held, order_of, CanBeKept}
+use Rattle.dq_worklist.specs.Views.{held_order, order_of, CanBeKept}
 use Rattle.dq_worklist.proofs.Orders.{malformed, incomplete, complete, free_if_accepted, order_refused, order_kept}
 use Rattle.dq_archive.proofs.Looking.{free_own}
 use Rattle.dq_archive.proofs.Deciding.{decides_at_once, decides_unchanged}
@@ -24,15 +24,15 @@ pub returns-in_default-of : goal.returns-in_default-of
 returns-in_default-of g c =
     decides_at_once g.T.Tables.state c.args.archive.now _ _ c.refused-in_default-of.result c.refused-in_default-of.ensures
     (λ records. incomplete (limits_of c.args.archive.now.institution.now) records c.args.octets.now c.in-Some.data_set
-    (sym c.in_ok-data_set.ensures.read ∙ c.in-Some.is) (sym c.of.ensures.order ∙ ap (option_map held) c.in_default-of.is))
+    (sym c.in_ok-data_set.ensures.read ∙ c.in-Some.is) (sym c.of.ensures.order ∙ ap (option_map held_order) c.in_default-of.is))
 
 pub returns-in-Some-2 : goal.returns-in-Some-2
 returns-in-Some-2 g c =
     let i = c.args.archive.now.institution.now in
     let limits = limits_of i in
     let records = of i.name (g.T.Tables.state c.args.archive.now.tables.now).rows in
-    let order = held c.in-Some-of.order in
-    let some = sym c.of.ensures.order ∙ ap (option_map held) c.in-Some-of.is in
+    let order = held_order c.in-Some-of.order in
+    let some = sym c.of.ensures.order ∙ ap (option_map held_order) c.in-Some-of.is in
     decides_unchanged g.T.Tables.state c.args.archive.now c.record_refusal.new.archive _ _ c.in_ok-refusal.field-0 c.in_ok-refusal.ensures _ _
     c.refused-in-Some-2.ensures
     (λ h. complete limits records c.args.octets.now c.in-Some.data_set order (sym c.in_ok-data_set.ensures.read ∙ c.in-Some.is) some
@@ -46,8 +46,8 @@ returns g c =
     let rows = (g.T.Tables.state c.args.archive.now.tables.now).rows in
     let d = c.in-Some.data_set in
     let id = c.in-Some-of.order.id.now in
-    let order = held c.in-Some-of.order in
-    let some = sym c.of.ensures.order ∙ ap (option_map held) c.in-Some-of.is in
+    let order = held_order c.in-Some-of.order in
+    let some = sym c.of.ensures.order ∙ ap (option_map held_order) c.in-Some-of.is in
     let kept : CanBeKept d = rw c.in-Some.is at c.in_ok-data_set.ensures.short in
     let back = c.written_law.ensures.read_back Explicit d c.elements-elements.ensures.facts kept.lengths tt in
     let row_is : c.in_ok-row.row ≡ row_of name (entry_of order) =

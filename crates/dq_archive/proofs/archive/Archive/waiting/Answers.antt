@@ -1,5 +1,5 @@
 use Rattle.std.proofs.Common.{refl}
-use Rattle.dq_tables.specs.Finding.{waiting}
+use Rattle.dq_tables.specs.Finding.{waiting_entries}
 use Rattle.dq_tables.proofs.Seen.{waiting_own}
 use Rattle.dq_archive.specs.Archives.{state_in}
 use Rattle.dq_archive.proofs.Looking.{looks_for}
@@ -8,5 +8,5 @@ use Rattle.dq_archive.proofs.archive.Archive.waiting.Goals as goal
 pub returns : goal.returns
 returns g c =
     let it = c.args.self.now in
-    looks_for g.T.Tables.state it _ waiting _ c.as_slice-name.result.now c.waiting.result (record { tables = refl; institution = refl })
+    looks_for g.T.Tables.state it _ waiting_entries _ c.as_slice-name.result.now c.waiting.result (record { tables = refl; institution = refl })
     c.as_slice-name.ensures (waiting_own it.institution.now.name (state_in g.T.Tables.state it).rows) c.waiting.ensures.reads c.waiting.ensures.found

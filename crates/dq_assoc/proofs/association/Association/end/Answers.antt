@@ -4,7 +4,7 @@ use Rattle.dq_assoc.specs.declared.association.Held.{Held}
 use Rattle.dq_assoc.specs.declared.association.State.{State}
 use Rattle.dq_assoc.specs.After.{inputs_from}
 use Rattle.dq_assoc.specs.Holding.{IsStep, accepted_in, held_agreement, is_unspent}
-use Rattle.dq_assoc.specs.Steps.{outcome, open_outcome}
+use Rattle.dq_assoc.specs.Steps.{step_of_inputs, open_outcome}
 use Rattle.dq_assoc.proofs.Standing.{after_none, after_some, stands_sound, stands_state}
 use Rattle.dq_assoc.proofs.association.Association.end.Goals as goal
 
@@ -21,5 +21,5 @@ returns-in_ok-stop-in-Some-clause-step c = λ association before h stand.
     let inputs = λ (fault : Option PduFault). inputs_from association [] fault in
     after_some accepted c.args.messages.items before c.after_messages.result last (open_outcome (inputs c.args.fault)) c.after_messages.ensures stand
     (subst (λ (fault : Option PduFault). IsStep accepted last (open_outcome (inputs fault))) (sym c.in-Some.is)
-    (subst (λ (s : State). IsStep accepted last (outcome s (inputs (Some c.in-Some.fault))))
+    (subst (λ (s : State). IsStep accepted last (step_of_inputs s (inputs (Some c.in-Some.fault))))
     (sym (stands_state c.args.self.now association h) ∙ c.requires) (c.in_ok-stop-in-Some.ensures.step association h accepted)))

@@ -6,8 +6,8 @@ use Rattle.dq_assoc.proofs.association.Association.take_role.Goals as goal
 
 pub returns-in-Carries-clause-step : goal.returns-in-Carries-clause-step
 returns-in-Carries-clause-step c = λ association stands.
-    carried_step c.take_values.result c.args.self.now c.in-Open.agreement c.in-Open.assembler c.args.role.now c.in-Carries.values c.as_slice.result.now
-    association (c.in-Open.ensures.value ∙ c.self.view_is) c.in-Carries.is c.as_slice.ensures stands c.take_values.ensures.step
+    carried_step c.take_pdvs.result c.args.self.now c.in-Open.agreement c.in-Open.assembler c.args.role.now c.in-Carries.pdvs c.as_slice.result.now
+    association (c.in-Open.ensures.value ∙ c.self.view_is) c.in-Carries.is c.as_slice.ensures stands c.take_pdvs.ensures.step
 
 pub returns-in_default : goal.returns-in_default
 returns-in_default c =

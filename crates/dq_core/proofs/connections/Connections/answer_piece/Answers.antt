@@ -3,8 +3,8 @@ use Rattle.std.proofs.lemmas.Bool.{false≢true}
 use Rattle.std.specs.Option.{option_copied, option_copied_mut}
 use Rattle.slab.specs.Slab.{get, with_value}
 use Rattle.dq_core.specs.declared.connections.Connections.{Connections}
-use Rattle.dq_core.specs.Stepping.{MayLeave}
-use Rattle.dq_core.specs.Queries.{query_in}
+use Rattle.dq_core.specs.Stepping.{MayLeaveAfter}
+use Rattle.dq_core.specs.Queries.{open_query_in}
 use Rattle.dq_core.specs.Tallies.{retallied_by}
 use Rattle.dq_core.proofs.Going.{on-err}
 use Rattle.dq_core.specs.declared.event.Reply.TheVariants as reply
@@ -28,8 +28,8 @@ returns-in_default-get_mut-clause-turned g c = λ world h r honest.
     absurd (not-there c.args.self.now.config world c.args.number c.args.self.now c.in-Some.place h (sym c.place_of.ensures ∙ c.in-Some.is)
     (sym c.get_mut.ensures.value ∙ ap option_copied_mut c.in_default-get_mut.is))
 
-pub returns-in_err-institution-clause-quiet : goal.returns-in_err-institution-clause-quiet
-returns-in_err-institution-clause-quiet g c = λ connections h k.
+pub returns-in_err-owner-clause-quiet : goal.returns-in_err-owner-clause-quiet
+returns-in_err-owner-clause-quiet g c = λ connections h k.
     absurd (not-quiet c.args.self.now.config c.args.number c.args.piece.now c.args.self.now connections c.in-Some.place h
     (sym c.place_of.ensures ∙ c.in-Some.is) c.if-is_empty.ensures k)
 
@@ -38,12 +38,12 @@ returns-in_err-answered-clause-part g c = λ world h r honest.
     let now = c.args.self.now in
     on-err c.from_residual-in_err-answered.result
     (piece-part now.config world c.args.number c.args.piece.now now c.in-Some.place c.in-Some-get_mut.slot.now c.take_piece.new.slot
-    (option_copied c.in_ok-institution.institution) c.in_ok-institution.taken h (sym c.place_of.ensures ∙ c.in-Some.is)
+    (option_copied c.in_ok-owner.owner) c.in_ok-owner.taken h (sym c.place_of.ensures ∙ c.in-Some.is)
     (sym c.get_mut.ensures.value ∙ ap option_copied_mut c.in-Some-get_mut.is)
-    (λ x held counts. c.in_ok-institution.ensures world x held counts) (option_copied c.agreement-agreement.result)
+    (λ x held counts. c.in_ok-owner.ensures world x held counts) (option_copied c.agreement-agreement.result)
     (g.T.Tables.state c.args.tables.now).rows (g.T.Tables.state c.answer.new.tables).rows c.agreement-agreement.ensures r
-    (query_in c.take-query.result) (ap query_in (sym c.take-query.ensures.value))
-    (MayLeave (g.T.Tables.state c.args.tables.now) (g.T.Tables.state c.answer.new.tables)) (c.in_err-answered.ensures.stops honest))
+    (open_query_in c.take-query.result) (ap open_query_in (sym c.take-query.ensures.value))
+    (MayLeaveAfter (g.T.Tables.state c.args.tables.now) (g.T.Tables.state c.answer.new.tables)) (c.in_err-answered.ensures.stops honest))
 
 pub returns-in_err-answered-clause-quiet : goal.returns-in_err-answered-clause-quiet
 returns-in_err-answered-clause-quiet g c = λ connections h k.
@@ -56,8 +56,8 @@ returns-clause-turned g c = λ world h r honest.
     let place = c.in-Some.place in
     let old = c.in-Some-get_mut.slot.now in
     let new = c.take_piece.new.slot in
-    let q = option_copied c.in_ok-institution.institution in
-    let t = c.in_ok-institution.taken in
+    let q = option_copied c.in_ok-owner.owner in
+    let t = c.in_ok-owner.taken in
     let found = sym c.place_of.ensures ∙ c.in-Some.is in
     let there : get now.slots place ≡ Some old = sym c.get_mut.ensures.value ∙ ap option_copied_mut c.in-Some-get_mut.is in
     let left = c.in_ok-answered.answered.query in
@@ -66,31 +66,31 @@ returns-clause-turned g c = λ world h r honest.
       slots = with_value now.slots place (record new { query = left });
       places = now.places;
       spares = now.spares;
-      tally = c.retally.new.tally;
+      tally = c.retally.new.self;
       newest = now.newest;
     } in
     let counted = c.retally.ensures
     ∙ ap (λ was. retallied_by now.config now.tally.counts.items q was c.stays_open-is_open.result) c.is_some-was_open.ensures in
     let told = piece-taken now.config world c.args.number c.args.piece.now now place old new q t h found there
-    (λ x held counts. c.in_ok-institution.ensures world x held counts)
+    (λ x held counts. c.in_ok-owner.ensures world x held counts)
     (option_copied c.agreement-agreement.result) (g.T.Tables.state c.args.tables.now).rows (g.T.Tables.state c.answer.new.tables).rows
-    c.agreement-agreement.ensures r (query_in c.take-query.result) (ap query_in (sym c.take-query.ensures.value)) in
+    c.agreement-agreement.ensures r (open_query_in c.take-query.result) (ap open_query_in (sym c.take-query.ensures.value)) in
     elim c.if-close.branch [
       | then-close w ↦ rw w.self-is (told w.remove.new.self c.in_ok-answered.answered.octets.items left c.octets_reply-2.result (c.in_ok-answered.ensures.does honest)
           (λ e. closes now.config world c.args.number c.args.piece.now now place old new q t h found there
-          (λ x held counts. c.in_ok-institution.ensures world x held counts) c.is_sound.ensures
+          (λ x held counts. c.in_ok-owner.ensures world x held counts) c.is_sound.ensures
           c.an_association_after_pdus.ensures.waits mid w.remove.new.self left c.stays_open-is_open.result (c.stays_open-is_open.ensures, refl, refl, refl, counted) e
           w.remove.ensures.slots w.remove.ensures.places w.remove.ensures.ordered w.remove.ensures.newest w.remove.ensures.tally)
           (λ e. absurd (false≢true (sym e ∙ w.if-close.true))) c.octets_reply-2.ensures)
       | else-close w ↦ rw w.self-is (told mid c.in_ok-answered.answered.octets.items left c.octets_reply-2.result (c.in_ok-answered.ensures.does honest)
           (λ e. absurd (false≢true (sym w.if-close.false ∙ e)))
           (λ e. stays-open now.config world c.args.number c.args.piece.now now place old new q t h found there
-          (λ x held counts. c.in_ok-institution.ensures world x held counts) c.is_sound.ensures
+          (λ x held counts. c.in_ok-owner.ensures world x held counts) c.is_sound.ensures
           c.an_association_after_pdus.ensures.waits mid left c.stays_open-is_open.result (c.stays_open-is_open.ensures, refl, refl, refl, counted) e) c.octets_reply-2.ensures)
     ]
 
-pub returns-in_err-institution-clause-always : goal.returns-in_err-institution-clause-always
-returns-in_err-institution-clause-always g c = λ k.
+pub returns-in_err-owner-clause-always : goal.returns-in_err-owner-clause-always
+returns-in_err-owner-clause-always g c = λ k.
     absurd (not-always c.args.number c.args.piece.now c.args.self.now c.in-Some.place (sym c.place_of.ensures ∙ c.in-Some.is) c.if-is_empty.ensures k)
 
 pub returns-in_err-answered-clause-always : goal.returns-in_err-answered-clause-always

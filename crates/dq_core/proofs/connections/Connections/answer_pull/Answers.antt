@@ -3,7 +3,7 @@ use Rattle.std.proofs.lemmas.Bool.{false≢true}
 use Rattle.std.specs.Option.{option_copied_mut}
 use Rattle.dq_core.specs.declared.event.Reply.TheVariants as reply
 use Rattle.dq_core.specs.Pages.{next_page}
-use Rattle.dq_core.specs.Queries.{query_in}
+use Rattle.dq_core.specs.Queries.{open_query_in}
 use Rattle.dq_core.proofs.Turning.{vacant, pull-none, pull-answered, not-pending, no-search}
 use Rattle.dq_core.proofs.connections.Connections.answer_pull.Goals as goal
 
@@ -26,7 +26,7 @@ returns-clause-turned c = λ world h.
     let old = c.in-Some-get_mut.slot.now in
     pull-answered c.args.self.now.config world c.args.number c.args.self.now c.in-Some.place old c.send_page.new.self h
     (sym c.place_of.ensures ∙ c.in-Some.is) (sym c.get_mut.ensures.value ∙ ap option_copied_mut c.in-Some-get_mut.is) c.in_ok-octets.ensures.keeps
-    (next_page (query_in old.query)) refl c.in_ok-octets.ensures.left c.octets_reply.result
+    (next_page (open_query_in old.query)) refl c.in_ok-octets.ensures.left c.octets_reply.result
     (c.octets_reply.ensures ∙ ap (λ (octets : List ℕ). reply.Octets c.args.number octets false) c.in_ok-octets.ensures.page)
 
 pub returns-in_err-octets-clause-always : goal.returns-in_err-octets-clause-always

@@ -1,6 +1,6 @@
 use Rattle.std.proofs.Common.{List, ℕ, ◌++◌, refl, ap, ◌∙◌, arith}
 use Rattle.dq_match.specs.declared.responses.Found.{Found}
-use Rattle.dq_core.specs.Queries.{query_of}
+use Rattle.dq_core.specs.Queries.{open_query_of}
 use Rattle.dq_core.proofs.Sending.{none-sent, one-sent, so-many, all-sent}
 use Rattle.dq_core.proofs.pages.OpenQuery.send_pending.Goals as goal
 
@@ -32,7 +32,7 @@ loop-init c = (
 
 pub returns-in_default-clause-left : goal.returns-in_default-clause-left
 returns-in_default-clause-left c =
-    ap (λ (pages : Found). query_of (record c.loop.self { pages = pages })) c.in_default.ensures.1
+    ap (λ (pages : Found). open_query_of (record c.loop.self { pages = pages })) c.in_default.ensures.1
     ∙ (all-sent c.loop.invariant.0 c.args.count c.in_default.ensures.0 (omega (arith, c.loop-test.true))).1
 
 pub returns-clause-left : goal.returns-clause-left

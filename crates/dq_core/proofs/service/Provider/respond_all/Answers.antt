@@ -1,6 +1,6 @@
 use Rattle.std.proofs.Common.{sym, ◌∙◌}
 use Rattle.std.proofs.lemmas.List.{nil_from_length}
-use Rattle.dq_core.specs.Stepping.{MayLeave}
+use Rattle.dq_core.specs.Stepping.{MayLeaveAfter}
 use Rattle.dq_core.proofs.Going.{goes-then, on-err, part-left, left-then}
 use Rattle.dq_core.proofs.Composing.{held-next, held-part, held-all}
 use Rattle.dq_core.proofs.service.Provider.respond_all.Goals as goal
@@ -8,8 +8,8 @@ use Rattle.dq_core.proofs.service.Provider.respond_all.Goals as goal
 pub returns-in_err-query-clause-stops : goal.returns-in_err-query-clause-stops
 returns-in_err-query-clause-stops g c = λ h sent stand. on-err c.from_residual.result
     (held-part (c.loop-message.invariant.3 (c.in_err-query.ensures.goes.was_honest h) sent stand) c.in-Some.ensures.steps.0
-    (MayLeave (g.T.Tables.state c.args.tables.now) (g.T.Tables.state c.respond.new.tables))
-    (λ m on. part-left (MayLeave (g.T.Tables.state c.args.tables.now) (g.T.Tables.state c.respond.new.tables))
+    (MayLeaveAfter (g.T.Tables.state c.args.tables.now) (g.T.Tables.state c.respond.new.tables))
+    (λ m on. part-left (MayLeaveAfter (g.T.Tables.state c.args.tables.now) (g.T.Tables.state c.respond.new.tables))
     (left-then (g.T.Tables.state c.respond.new.tables) c.loop-message.invariant.2 (c.in_err-query.ensures.goes.was_honest h))
     (c.in_err-query.ensures.stops h m on)))
 

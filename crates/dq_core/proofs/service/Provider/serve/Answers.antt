@@ -1,11 +1,11 @@
 use Rattle.std.proofs.Common.{◌≡◌, true, false, ◌==◌, Some, None, sym, ◌∙◌, arith}
 use Rattle.std.proofs.lemmas.Bool.Decides.{nat_tests}
 use Rattle.dq_dimse.specs.CommandFields.{c_cancel}
-use Rattle.dq_core.specs.Stepping.{MayLeave}
+use Rattle.dq_core.specs.Stepping.{MayLeaveAfter}
 use Rattle.dq_core.proofs.Going.{on-err}
 use Rattle.dq_core.proofs.Serving.{did-stray, did-cancel, did-served, part-served, part-unserved}
 use Rattle.dq_core.proofs.Serving.{context_stands, stands_there, code_stands, unsent_stands}
-use Rattle.dq_core.specs.Queries.{query_of, query_in}
+use Rattle.dq_core.specs.Queries.{open_query_of, open_query_in}
 use Rattle.dq_core.proofs.service.Provider.serve.Goals as goal
 
 pub returns-in_default-clause-does : goal.returns-in_default-clause-does
@@ -30,7 +30,7 @@ returns-in_err-send_page-clause-stops g c = λ h sent on.
     part-served c.args.self.institution.now agreement sent c.in-Some.context
     (context_stands agreement c.args.message sent on (Some c.in-Some.context) found)
     (g.T.Tables.state c.args.tables.now).rows (g.T.Tables.state c.outcome.new.tables).rows
-    (MayLeave (g.T.Tables.state c.args.tables.now) (g.T.Tables.state c.outcome.new.tables))
+    (MayLeaveAfter (g.T.Tables.state c.args.tables.now) (g.T.Tables.state c.outcome.new.tables))
     (code_stands agreement c.args.message sent on false goes_on) (serves.done h)
     (λ r left. (serves.goes.settles h left.0).only r left.1))
 
@@ -44,7 +44,7 @@ returns-in_err-found-clause-stops g c = λ h sent on.
     part-unserved c.args.self.institution.now agreement sent c.in-Some.context
     (context_stands agreement c.args.message sent on (Some c.in-Some.context) found)
     (g.T.Tables.state c.args.tables.now).rows (g.T.Tables.state c.outcome.new.tables).rows
-    (MayLeave (g.T.Tables.state c.args.tables.now) (g.T.Tables.state c.outcome.new.tables))
+    (MayLeaveAfter (g.T.Tables.state c.args.tables.now) (g.T.Tables.state c.outcome.new.tables))
     (code_stands agreement c.args.message sent on false goes_on) (serves.same h)
     (serves.crash h))
 
@@ -57,7 +57,7 @@ returns-clause-does g c = λ h sent on.
     did-served c.args.self.institution.now agreement sent c.in-Some.context
     (context_stands agreement c.args.message sent on (Some c.in-Some.context) found)
     (g.T.Tables.state c.args.tables.now).rows (g.T.Tables.state c.outcome.new.tables).rows c.args.out.now.items c.send_page.new.out.items c.in_ok-found.found
-    (query_of c.new-query.result) (query_in c.in_ok-send_page.field-0)
+    (open_query_of c.new-query.result) (open_query_in c.in_ok-send_page.field-0)
     (code_stands agreement c.args.message sent on false goes_on) (serves.answered h) (serves.done h)
-    (unsent_stands agreement c.args.message sent on c.in-Some.context c.in_ok-found.found (query_of c.new-query.result) c.new-query.ensures)
+    (unsent_stands agreement c.args.message sent on c.in-Some.context c.in_ok-found.found (open_query_of c.new-query.result) c.new-query.ensures)
     c.in_ok-send_page.ensures.0 c.in_ok-send_page.ensures.1

@@ -1,5 +1,5 @@
 use Rattle.std.proofs.Common.{◌≡◌, length}
-use Rattle.dq_dataset.specs.Grammar.{AreOctets}
+use Rattle.dq_list.specs.Octets.{AreOctets}
 use Rattle.dq_dataset.specs.Lending.{lent_from}
 use Rattle.dq_dataset.proofs.lending.ElementsIterator.next.Given as goal
 

@@ -1,51 +1,44 @@
-use Rattle.std.proofs.Common.{◌≡◌, ◌∙◌, false, List, None, sym, ap}
+use Rattle.std.proofs.Common.{◌≡◌, ◌∙◌, false, None, sym, ap}
 use Rattle.std.specs.List.{list_all}
 use Rattle.dq_dataset.specs.View.{elements_of}
 use Rattle.dq_match.specs.declared.keys.Place.TheVariants.{Outer}
-use Rattle.dq_tables.specs.Rows.{Record, of, record_of}
 use Rattle.dq_tables.specs.Records.{data_set_of}
-use Rattle.dq_find.specs.Queries.{answer_if, answer_of}
-use Rattle.dq_find.proofs.Looking.{looks_nothing}
+use Rattle.dq_archive.specs.Archives.{records_in}
+use Rattle.dq_archive.proofs.Looking.{looks_nothing}
+use Rattle.dq_find.specs.Queries.{answer_if}
+use Rattle.dq_find.specs.Kept.{is_key_met}
 use Rattle.dq_find.proofs.Answering.{answered_alike}
-use Rattle.dq_find.specs.Kept.{is_met}
 use Rattle.dq_find.proofs.MetFirst.{not_met}
 use Rattle.dq_find.proofs.finding.Search.answer_of.Goals as goal
 
 pub returns-then-not-asks_computed : goal.returns-then-not-asks_computed
 returns-then-not-asks_computed g c =
-    let it = g.T.Tables.state c.args.tables.now in
-    let name = c.args.self.now.institution.now in
-    let called = c.args.self.now.called.now in
+    let it = c.args.archive.now in
     let query = c.args.self.now.query.now in
     let row = c.args.row.now in
-    looks_nothing name it c.in_ok-answer.field-0
-    (λ (records : List Record). answer_of records called query (record_of row))
-    (c.in_ok-answer.ensures ∙ ap (answer_if called query) c.in_ok-held.ensures.data_set
-    ∙ answered_alike (of name it.rows) called row.key query (data_set_of row.octets) (sym c.asks_computed.ensures ∙ c.if-not-asks_computed.true))
+    looks_nothing g.T.Tables.state it _ c.in_ok-answer.field-0
+    (c.in_ok-answer.ensures ∙ ap (answer_if c.args.self.now.called.now query) c.in_ok-held.ensures.data_set
+    ∙ answered_alike (records_in g.T.Tables.state it) c.args.self.now.called.now row.key query (data_set_of row.octets)
+    (sym c.asks_computed.ensures ∙ c.if-not-asks_computed.true))
 
 pub returns-then-not-may_fit : goal.returns-then-not-may_fit
 returns-then-not-may_fit g c =
-    let it = g.T.Tables.state c.args.tables.now in
-    let name = c.args.self.now.institution.now in
-    let called = c.args.self.now.called.now in
+    let it = c.args.archive.now in
     let query = c.args.self.now.query.now in
     let row = c.args.row.now in
-    looks_nothing name it None (λ (records : List Record). answer_of records called query (record_of row))
-    (sym (not_met (of name it.rows) called row.key query (data_set_of row.octets)
+    looks_nothing g.T.Tables.state it _ None
+    (sym (not_met (records_in g.T.Tables.state it) c.args.self.now.called.now row.key query (data_set_of row.octets)
     (λ one fit. ((c.keys_are_met_alone_and_as_a_period.ensures.each Outer query.keys one).0 fit).0)
     (c.may_fit.ensures c.if-not-may_fit.true)))
 
 pub returns-then-not-kept_keys_are_met : goal.returns-then-not-kept_keys_are_met
 returns-then-not-kept_keys_are_met g c =
-    let it = g.T.Tables.state c.args.tables.now in
-    let name = c.args.self.now.institution.now in
-    let called = c.args.self.now.called.now in
+    let it = c.args.archive.now in
     let query = c.args.self.now.query.now in
     let row = c.args.row.now in
-    let held = data_set_of row.octets in
-    let unmet : list_all (is_met held) (elements_of query.keys) ≡ false =
-    (λ i. list_all (is_met (sym c.in_ok-held.ensures.data_set i)) (sym c.elements.ensures.elements i))
+    let unmet : list_all (is_key_met (data_set_of row.octets)) (elements_of query.keys) ≡ false =
+    (λ i. list_all (is_key_met (sym c.in_ok-held.ensures.data_set i)) (sym c.elements.ensures.elements i))
     ∙ sym c.kept_keys_are_met.ensures ∙ c.if-not-kept_keys_are_met.true in
-    looks_nothing name it None (λ (records : List Record). answer_of records called query (record_of row))
-    (sym (not_met (of name it.rows) called row.key query held
+    looks_nothing g.T.Tables.state it _ None
+    (sym (not_met (records_in g.T.Tables.state it) c.args.self.now.called.now row.key query (data_set_of row.octets)
     (λ one fit. ((c.keys_are_met_alone_and_as_a_period.ensures.each Outer query.keys one).0 fit).0) unmet))

@@ -1,19 +1,11 @@
-use Rattle.std.proofs.Common.{List, option_map}
-use Rattle.dq_tables.specs.Rows.{Record, row_of}
-use Rattle.dq_find.specs.Candidates.{named_record}
-use Rattle.dq_find.proofs.Looking.{looks_right}
+use Rattle.dq_archive.specs.Archives.{records_in}
+use Rattle.dq_archive.proofs.Looking.{looks_as}
 use Rattle.dq_find.proofs.LookedUp.{looked_up_is}
 use Rattle.dq_find.proofs.finding.Search.row_named.Goals as goal
 
 pub returns : goal.returns
 returns g c =
-    let old = g.T.Tables.state c.args.tables.now in
-    let new = g.T.Tables.state c.row.new.self in
-    let name = c.args.self.now.institution.now in
-    let query = c.args.self.now.query.now in
-    let uid = c.args.uid.now in
-    looks_right name old new c.in_ok-row.row c.looked_up.result
-    (λ (records : List Record). option_map (row_of name) (named_record records query uid))
-    c.in_ok-row.ensures.reads
-    (λ h. looked_up_is name old.rows query uid c.kind.result c.in_ok-row.row c.looked_up.result c.kind.ensures
-    (c.in_ok-row.ensures.found h) c.looked_up.ensures)
+    let it = c.args.archive.now in
+    looks_as g.T.Tables.state it c.row.new.self _ c.in_ok-row.row c.in_ok-row.ensures _ c.looked_up.result
+    (λ h. looked_up_is it.institution.now.name (records_in g.T.Tables.state it) c.args.self.now.query.now c.args.uid.now c.kind.result c.in_ok-row.row
+    c.looked_up.result c.kind.ensures (c.in_ok-row.ensures.answered h) c.looked_up.ensures)

@@ -1,38 +1,35 @@
 use Rattle.std.proofs.Common.{◌≡◌, ◌∙◌, List, ℕ, true, false, [], sym, ap}
-use Rattle.std.proofs.lemmas.Result.{IfOk-weaker}
+use Rattle.dq_list.specs.Octets.{octets_of_vectors}
 use Rattle.dq_vr.specs.declared.Tag.{Tag}
 use Rattle.dq_vr.specs.declared.Vr.TheVariants.{UI}
-use Rattle.dq_value.specs.Parts.{parts}
-use Rattle.dq_dataset.specs.Values.{element_at, octets_in}
+use Rattle.dq_value.specs.Parts.{element_values}
+use Rattle.dq_dataset.specs.Values.{element_at, element_octets}
+use Rattle.dq_archive.specs.Archives.{state_in, records_in}
+use Rattle.dq_archive.proofs.Looking.{looks_alike}
 use Rattle.dq_find.specs.Computed.{all_in_order}
-use Rattle.dq_find.specs.Candidates.{own_values, looks_up, octets_of}
+use Rattle.dq_find.specs.Candidates.{own_values, looks_up}
 use Rattle.dq_find.proofs.LookedUp.{all_candidates, named_candidates}
 use Rattle.dq_find.proofs.finding.Search.rows.Goals as goal
 
 pub returns-then-not-looks_up : goal.returns-then-not-looks_up
 returns-then-not-looks_up g c =
+    let it = c.args.archive.now in
     let query = c.args.self.now.query.now in
-    let values : parts UI c.octets_at-values.result.now ≡ own_values query =
-    ap (parts UI) (c.octets_at-values.ensures ∙ ap (λ (t : Tag). octets_in (element_at t query.keys)) c.unique_key.ensures) in
+    let values : element_values UI c.octets_at-values.result.now ≡ own_values query =
+    ap (element_values UI) (c.octets_at-values.ensures ∙ ap (λ (t : Tag). element_octets (element_at t query.keys)) c.unique_key.ensures) in
     let none : looks_up query.level (own_values query) ≡ false = sym (ap (looks_up query.level) values) ∙ sym c.looks_up.ensures ∙ c.if-not-looks_up.true in
-    record {
-      reads = c.asked_rows.ensures.reads;
-      answered = λ h. IfOk-weaker c.asked_rows.result _ _
-          (λ v e. e ∙ all_candidates c.args.self.now.institution.now _ query none) (c.asked_rows.ensures.answered h);
-    }
+    looks_alike g.T.Tables.state it c.asked_rows.new.archive _ _ c.asked_rows.result c.asked_rows.ensures
+    (λ h. all_candidates it.institution.now.name (records_in g.T.Tables.state it) query none)
 
 pub returns : goal.returns
 returns g c =
+    let it = c.args.archive.now in
     let query = c.args.self.now.query.now in
-    let values : parts UI c.octets_at-values.result.now ≡ own_values query =
-    ap (parts UI) (c.octets_at-values.ensures ∙ ap (λ (t : Tag). octets_in (element_at t query.keys)) c.unique_key.ensures) in
+    let values : element_values UI c.octets_at-values.result.now ≡ own_values query =
+    ap (element_values UI) (c.octets_at-values.ensures ∙ ap (λ (t : Tag). element_octets (element_at t query.keys)) c.unique_key.ensures) in
     let some : looks_up query.level (own_values query) ≡ true = sym (ap (looks_up query.level) values) ∙ sym c.looks_up.ensures ∙ c.if-not-looks_up.false in
-    let uids : octets_of c.in_ok-uids.uids.keys ≡ all_in_order (own_values query) [] =
+    let uids : octets_of_vectors c.in_ok-uids.uids.keys ≡ all_in_order (own_values query) [] =
     c.in_ok-uids.ensures ∙ ap (λ (vs : List (List ℕ)). all_in_order vs []) values in
-    record {
-      reads = c.rows_named.ensures.reads;
-      answered = λ h. IfOk-weaker c.rows_named.result _ _
-          (λ v e. e ∙ named_candidates c.args.self.now.institution.now _ query (octets_of c.in_ok-uids.uids.keys)
-          (c.honest_rows_are_sound.ensures.rising c.args.tables.now (c.rows_named.ensures.reads.goes.was_honest h)) uids some)
-          (c.rows_named.ensures.answered h);
-    }
+    looks_alike g.T.Tables.state it c.rows_named.new.archive _ _ c.rows_named.result c.rows_named.ensures
+    (λ h. named_candidates it.institution.now.name (state_in g.T.Tables.state it).rows query (octets_of_vectors c.in_ok-uids.uids.keys)
+    (c.honest_rows_are_sound.ensures.rising it.tables.now h) uids some)

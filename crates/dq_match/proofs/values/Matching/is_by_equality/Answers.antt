@@ -1,5 +1,5 @@
 use Rattle.std.proofs.Common.{sym, ap, ◌∙◌}
-use Rattle.dq_value.specs.Parts.{parts}
+use Rattle.dq_value.specs.Parts.{element_values}
 use Rattle.dq_match.specs.declared.values.Matching.{Matching}
 use Rattle.dq_match.specs.Values.{some_meet}
 use Rattle.dq_match.proofs.SeveralValues.{plain_by_equality}
@@ -7,5 +7,5 @@ use Rattle.dq_match.proofs.values.Matching.is_by_equality.Goals as goal
 
 pub returns-in-WildCard : goal.returns-in-WildCard
 returns-in-WildCard c = λ h values.
-    let keys = parts c.args.vr c.args.key.now in
+    let keys = element_values c.args.vr c.args.key.now in
     ap (λ (m : Matching). some_meet m keys values) c.in-WildCard.is ∙ plain_by_equality keys (sym c.all_plain.ensures ∙ h) values

@@ -2,7 +2,7 @@ use Rattle.std.proofs.Common.{◌≡◌, ◌++◌, ◌+◌, ◌<◌, length, sym
 use Rattle.std.proofs.lemmas.List.{append-nil}
 use Rattle.std.proofs.lemmas.Bool.{eqb-true}
 use Rattle.dq_pdu.specs.Stream.{Pdus, pdus_in}
-use Rattle.dq_pdu.specs.Inboxes.{octets_in}
+use Rattle.dq_pdu.specs.Inboxes.{inbox_octets}
 use Rattle.dq_pdu.specs.declared.inbox.InboxState.TheVariants.{Reading}
 use Rattle.dq_pdu.specs.Holding.{held_at, HoldsPart}
 use Rattle.dq_pdu.proofs.InboxLaws.{reading_on, stopped_on, holding-part, idle_exact, none_by_length, reading_is, part_is_short, held_is_short}
@@ -51,5 +51,5 @@ returns-then-is_empty-clause-few c = part_is_short (Reading c.in-Reading.rest) (
 
 pub returns-in_ok-held-in-Reading-clause-few : goal.returns-in_ok-held-in-Reading-clause-few
 returns-in_ok-held-in-Reading-clause-few c =
-    subst (λ h. length (octets_in h) < 6 + 65536) (sym c.in_ok-held-in-Reading.ensures.held) (held_is_short
+    subst (λ h. length (inbox_octets h) < 6 + 65536) (sym c.in_ok-held-in-Reading.ensures.held) (held_is_short
     (c.in-Reading.rest ++ c.args.piece.now))

@@ -1,7 +1,7 @@
 use Rattle.std.proofs.Common.{arith}
 use Rattle.sqlite.specs.State.{HasCleanDisk}
 use Rattle.sqlite.specs.Held.{state}
-use Rattle.dq_tables.specs.Finding.{waiting}
+use Rattle.dq_tables.specs.Finding.{waiting_entries}
 use Rattle.dq_sql.proofs.Keeping.{rows_set, if_ok, found_in, stays_kept, still_counted}
 use Rattle.dq_sql.proofs.sql_tables.SqlTablesTables.waiting.Goals as goal
 
@@ -20,5 +20,5 @@ returns-clause-found g c clean =
     let it = c.args.self.now in
     let before : HasCleanDisk (state g.S.Store it.conn) = omega (arith, c.waiting-answer.ensures.stays.survives.clean) in
     rw c.noted.ensures.same
-    (if_ok c.waiting-answer.result _ _ (λ found h. found_in rows_set (state g.S.Store it.conn) it.history.rows (waiting c.args.institution.now) found it.keeps before h)
+    (if_ok c.waiting-answer.result _ _ (λ found h. found_in rows_set (state g.S.Store it.conn) it.history.rows (waiting_entries c.args.institution.now) found it.keeps before h)
     (c.waiting-answer.ensures.found clean))
