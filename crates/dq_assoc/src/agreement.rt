@@ -13,7 +13,7 @@ use std::alloc::{AllocError, Global};
 use std::marker::Model;
 
 /// The longest PDU that a peer takes, in octets: 0 is no limit, and any other leaves room for the
-/// header of a value and a fragment of two octets (PS3.8 annex D.1).
+/// header of a PDV and a fragment of two octets (PS3.8 annex D.1).
 #[derive(Clone, Copy, Debug)]
 pub struct PeerLimit {
     octets: u32,

@@ -12,7 +12,7 @@ ghost use Rattle.dq_config.specs.Limits.{Limits, limits_of};
 ghost use Rattle.dq_core.specs.Answers.{piece_answer, then_answer, request_in};
 ghost use Rattle.dq_core.specs.Owners.{owner, live_of, HaveOwnNames};
 ghost use Rattle.dq_core.specs.Shared.{turn, replies, world_after, rows_within};
-ghost use Rattle.dq_core.specs.Alone.{alone_replies};
+ghost use Rattle.dq_core.specs.Alone.{alone_replies, alone_after};
 ghost use Rattle.dq_core.specs.Own.{is_own_event, own, is_on_connection, stream_of, replies_at, outputs_on};
 ghost use Rattle.dq_core.specs.Histories.{is_well_formed_history, opened_numbers};
 ghost use Rattle.dq_core.specs.Runs.{IsRun, IsLeftOf, IsOwnRun};
@@ -205,7 +205,7 @@ pub fn institutions_are_isolated()
 
 /// A device of proofs: the server of one institution as a definition of its own, which has no names
 /// and no routes, and to which each request is the institution's. It answers own events in the same
-/// way, whatever the numbers of connections are.
+/// way, and leaves the same records, whatever the numbers of connections are.
 pub fn institutions_are_answered_by_records()
     ensures first_replies { (institutions : List Institution) (rows : List Row)
         (events : List Event) (i : Institution) (answered : ℕ) →
@@ -214,6 +214,10 @@ pub fn institutions_are_answered_by_records()
         (take answered (replies institutions rows events))
         ≡ alone_replies (limits_of i) (of i.name rows)
         (own_among institutions i.name events answered) }
+    ensures records { (institutions : List Institution) (rows : List Row) (events : List Event)
+        (i : Institution) → Begins institutions rows events i →
+        of i.name (world_after institutions rows events).rows ≡
+        (alone_after (limits_of i) (of i.name rows) (own institutions i.name events)).records }
     ensures prefix { (institutions : List Institution) (rows : List Row) (events : List Event)
         (i : Institution) (answered : ℕ) →
         IsPrefix (alone_replies (limits_of i) (of i.name rows)

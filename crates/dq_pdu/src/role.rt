@@ -10,7 +10,7 @@ use dq_list::Listed;
 pub enum Role {
     /// It asks for the association.
     Asks(Request),
-    /// It carries values, which are the association's messages.
+    /// It carries PDVs, which are the association's messages.
     Carries(Listed<Pdv>),
     /// It ends the association.
     Ends(Ending),

@@ -158,8 +158,8 @@ module _ {Wired : Type 0} (log : Wired → Option (List Call)) where
       × IsUncalled (log wires) × AreConsoled [] rounds
       × LogsAll (log wires) (log left) (flat_map console_calls rounds)
 
--- Acts were done over wires which were not called before, from rows that were there, and the part of
--- a turn up to a cut; up to `NoRoom` they are all. The calls are exactly theirs, and what was
+-- Acts were done, from rows that were there, over wires that were not called before. A cut may follow:
+-- the part of a turn that a fault ends (`NoRoom` is none). The calls are exactly these, and what was
 -- answered is what the plain server answers.
 pub record AreServed {Wired : Type 0} (log : Wired → Option (List Call))
     (institutions : List Institution) (rows : List Row) (acts : List Act) (cut : Cut) : Type 0 where

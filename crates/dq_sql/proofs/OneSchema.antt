@@ -74,14 +74,14 @@ one_defined table i j (Text sql) name tree p q =
     p.2 ∙ ap₂ (λ (m : Index) (n : ℕ). record m { tree = n; table = table.tree }) made tree ∙ sym q.2
 one_defined table i j (Blob b) name tree p q = absurd p
 
-one_index : (tables : List Table) → IsAscending (λ (s t : Table). same_name s.name t.name ≡ false) tables → (row : Values) (i j : Index)
-    → IsIndexRow tables row i → IsIndexRow tables row j → i ≡ j
-one_index tables named row i j p q =
+one_index : (tables : List Table) → IsAscending (λ (s t : Table). same_name s.name t.name ≡ false) tables → (cells : Values) (i j : Index)
+    → IsIndexRow tables cells i → IsIndexRow tables cells j → i ≡ j
+one_index tables named cells i j p q =
     let owner : p.table.name ≡ q.table.name = same_text (sym p.described.owner_is ∙ q.described.owner_is) in
     let same : same_name p.table.name q.table.name ≡ true = subst (λ n. same_name p.table.name n ≡ true) owner (same_itself p.table.name) in
     let table : p.table ≡ q.table = named_once tables p.table q.table named p.listed q.listed same in
-    one_defined p.table i j (column row 4) (same_text (sym p.described.name_is ∙ q.described.name_is)) (same_number (sym p.described.id ∙ q.described.id)) p.defined
-    (subst (λ t. IsDefined t j (column row 4)) (sym table) q.defined)
+    one_defined p.table i j (column cells 4) (same_text (sym p.described.name_is ∙ q.described.name_is)) (same_number (sym p.described.id ∙ q.described.id)) p.defined
+    (subst (λ t. IsDefined t j (column cells 4)) (sym table) q.defined)
 
 -- Trees that obey a schema without views, which they list, obey no other.
 pub one_schema : (trees : Trees) (a b : Schema) → a.views ≡ [] → IsSound a trees → IsSound b trees → a ≡ b

@@ -29,7 +29,7 @@ fn roomy<T>(alloc: Global, room: usize) -> Vec<T>
 }
 
 impl Judgement {
-    /// That of no rows, with room for so many, where there is memory for it.
+    /// The judgement of no rows, with room for so many, where there is memory for it.
     pub(crate) fn new(alloc: Global, room: usize) -> Judgement
         ensures { IsJudged [] result }
     {

@@ -146,8 +146,8 @@ impl Disk for MemoryFile {
 /// there is no next.
 const SEED: u64 = 0;
 
-/// How many pages are held beside the files. A page that is not held is copied from memory, so that
-/// more would save little, and each is made as the tables are.
+/// How many pages are held beside the files. All are made when the tables are opened. A page that is
+/// not held is copied from memory, so more of them would save little.
 const HELD_PAGES: usize = 256;
 
 impl SqlTables<FileStore<MemoryFile>> {

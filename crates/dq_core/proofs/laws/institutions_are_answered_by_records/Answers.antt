@@ -1,11 +1,16 @@
 use Rattle.dq_core.proofs.isolation.Isolating.{lenses-from}
-use Rattle.dq_core.proofs.isolation.Promise.{isolated-among, own-front}
+use Rattle.dq_core.proofs.isolation.Promise.{isolated-among, isolated-records, own-front}
 use Rattle.dq_core.proofs.isolation.Renumbering.{alone-replies_anew}
 use Rattle.dq_core.proofs.laws.institutions_are_answered_by_records.Goals as goal
 
 pub returns-clause-first_replies : goal.returns-clause-first_replies
 returns-clause-first_replies c =
     isolated-among c.a_longer_stream_adds_inputs.ensures.adds
+    (lenses-from c.own_records_are_edited.ensures.one c.other_records_stay.ensures.one c.rows_stay_in_order.ensures.one)
+
+pub returns-clause-records : goal.returns-clause-records
+returns-clause-records c =
+    isolated-records c.a_longer_stream_adds_inputs.ensures.adds
     (lenses-from c.own_records_are_edited.ensures.one c.other_records_stay.ensures.one c.rows_stay_in_order.ensures.one)
 
 pub returns-clause-prefix : goal.returns-clause-prefix
