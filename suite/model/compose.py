@@ -26,7 +26,7 @@ with spaces stand in double quotes. A tag that has no keyword here is GGGGEEEE:V
 zeros:COUNT is so many zero octets. `nodata` in place of DATA sends a command without a data set. A last word `raw:HEX`
 adds octets after the data set as they are, such as no data set has. A line that begins with a space goes on with the line
 before it.
-CLASS is echo, CR, CT, MR, US, SC, study, worklist, mpps or a UID; SYNTAX is explicit, implicit or a UID.
+CLASS is a word of sop_classes.py, as CT, or a UID; SYNTAX is explicit, implicit or a UID.
 
 On a line that is not understood it tells the line, the word and what was expected there, and exits with 2.
 """
@@ -36,15 +36,13 @@ import shlex
 import sys
 
 import data_sets
-from keywords import KEYWORDS
+import sop_classes
+from dictionary import KEYWORDS
 from messages import (C_CANCEL, C_ECHO, C_FIND, C_STORE, DATA_SET, N_CREATE, N_SET, NO_DATA_SET, command_set, form_of,
                       padded, sent, two)
 from upper_layer import ABORT, APPLICATION_CONTEXT, EXPLICIT, IMPLICIT, RELEASE_RQ, pdu, request_pdu
 
-IMAGES = b"1.2.840.10008.5.1.4.1.1."
-CLASSES = {"echo": b"1.2.840.10008.1.1", "CR": IMAGES + b"1", "CT": IMAGES + b"2", "MR": IMAGES + b"4",
-           "US": IMAGES + b"6.1", "SC": IMAGES + b"7", "study": b"1.2.840.10008.5.1.4.1.2.2.1",
-           "worklist": b"1.2.840.10008.5.1.4.31", "mpps": b"1.2.840.10008.3.1.2.3.3"}
+CLASSES = sop_classes.UIDS
 SYNTAXES = {"explicit": EXPLICIT, "implicit": IMPLICIT}
 # the words that a line has, by its first one
 LINES = {"open": "open N", "end": "end N", "associate": "associate N CALLED CALLING I=CLASS:SYNTAX,SYNTAX ..",

@@ -2,7 +2,7 @@
 """What octets are as a data set, worked out from the standard: an independent model for the suite of data sets.
 
 Written from PS3.5 section 7.1 (data elements), section 7.2 (group lengths), section 7.5 (sequences and items), section
-6.2 (value representations) and annex A (transfer syntaxes), with the tags of PS3.6 below. It shares nothing with the
+6.2 (value representations) and annex A (transfer syntaxes), with the tags of PS3.6 in dictionary.py. It shares nothing with the
 crates' code. Where octets have several faults, the first in their order counts, and for one element the order in which
 `element` tests.
 
@@ -12,38 +12,9 @@ Implicit; where the line asks to sift, what is kept, in Explicit, and whether th
 import re
 import sys
 
-# Tags of PS3.6 with their value representations, group by group.
-DICTIONARY_TEXT = """
-0008: 0005 CS 0008 CS 0012 DA 0013 TM 0014 UI 0016 UI 0018 UI 0020 DA 0021 DA 0022 DA 0023 DA 002A DT 0030 TM 0031 TM
-    0032 TM 0033 TM 0050 SH 0052 CS 0054 AE 0056 CS 0060 CS 0061 CS 0062 UI 0064 CS 0070 LO 0080 LO 0081 ST 0090 PN
-    0100 SH 0102 SH 0103 SH 0104 LO 0201 SH 1010 SH 1030 LO 1032 SQ 103E LO 1040 LO 1048 PN 1050 PN 1060 PN 1070 PN
-    1080 LO 1090 LO 1110 SQ 1111 SQ 1115 SQ 1120 SQ 1140 SQ 1150 UI 1155 UI 1199 SQ 2111 ST 2112 SQ
-0010: 0010 PN 0020 LO 0021 LO 0030 DA 0032 TM 0040 CS 1000 LO 1001 PN 1010 AS 1020 DS 1030 DS 2000 LO 2110 LO 2160 SH
-    2180 SH 21B0 LT 21C0 US 4000 LT
-0018: 0015 CS 0050 DS 0060 DS 0080 DS 0081 DS 1000 LO 1020 LO 1030 LO 1151 IS 5100 CS
-0020: 000D UI 000E UI 0010 SH 0011 IS 0012 IS 0013 IS 0032 DS 0037 DS 0052 UI 0060 CS 1041 DS 1206 IS 1208 IS 1209 IS
-    4000 LT
-0028: 0002 US 0004 CS 0008 IS 0010 US 0011 US 0030 DS 0100 US 0101 US 0102 US 0103 US 1050 DS 1051 DS 1052 DS 1053 DS
-0032: 1032 PN 1033 LO 1060 LO 1064 SQ
-0038: 0010 LO 0050 LO 0300 LO 0500 LO
-0040: 0001 AE 0002 DA 0003 TM 0004 DA 0005 TM 0006 PN 0007 LO 0008 SQ 0009 SH 0010 SH 0011 SH 0012 LO 0020 CS 0100 SQ
-    0220 SQ 0241 AE 0242 SH 0243 SH 0244 DA 0245 TM 0250 DA 0251 TM 0252 CS 0253 SH 0254 LO 0255 LO 0260 SQ 0270 SQ
-    0275 SQ 0280 ST 0281 SQ 0340 SQ 1001 SH 1002 LO 1003 SH 1004 LO 1400 LT 2016 LO 2017 LO 2400 LT
-7FE0: 0010 OW
-"""
+import study_root
+from dictionary import DICTIONARY
 
-
-def dictionary():
-    found = {}
-    for text in re.split(r"\n(?=\S)", DICTIONARY_TEXT.strip()):
-        group, rest = text.split(":")
-        words = rest.split()
-        for number, vr in zip(words[::2], words[1::2]):
-            found[int(group, 16), int(number, 16)] = vr
-    return found
-
-
-DICTIONARY = dictionary()
 SHORT = set("AE AS AT CS DA DS DT FD FL IS LO LT PN SH SL SS ST TM UI UL US".split())
 LONG = set("OB OD OF OL OV OW SQ SV UC UN UR UT UV".split())
 TEXT = set("AE AS CS DA DS DT IS LO LT PN SH ST TM UC UR UT".split())
@@ -198,18 +169,11 @@ def answer(octets, syntax):
 
 
 SEQUENCES = {(0x0008, 0x1110), (0x0008, 0x1115), (0x0010, 0x0020), (0x0040, 0x0270), (0x0040, 0x0275)}
-STORAGE_TEXT = """
-0008: 0005 0008 0016 0018 0020 0021 0023 0030 0031 0033 0050 0060 0090 1030 103E
-0010: 0010 0020 0021 0030 0040
-0018: 0015
-0020: 000D 000E 0010 0011 0013
-0028: 0010 0011
-"""
 LISTS = {
     "none": set(),
     "sequences": SEQUENCES,
-    "storage": {(int(group, 16), int(number, 16)) for group, rest in re.findall(r"(\w+):(.*)", STORAGE_TEXT)
-                for number in rest.split()},
+    # what is kept of what is stored, with Specific Character Set
+    "storage": {(0x0008, 0x0005)}.union(*study_root.KEPT.values()),
 }
 
 

@@ -5,6 +5,7 @@ A data set is a list of (tag, VR, value), the value octets or a list of data set
 import datetime
 import re
 
+import study_root
 from data_sets import TEXT
 
 LEADING = {"AE", "CS", "DS", "IS", "LO", "SH"}
@@ -214,14 +215,10 @@ def tags(text, **inner):
     return found
 
 
-KEPT = {
-    "STUDY": tags("0008: 0020 0030 0050 0090 1030; 0010: 0010 0020 0021 0030 0040; 0020: 000D 0010"),
-    "SERIES": tags("0008: 0021 0031 0060 103E; 0018: 0015; 0020: 000D 000E 0011"),
-    "IMAGE": tags("0008: 0008 0016 0018 0023 0033; 0020: 000D 000E 0013; 0028: 0010 0011"),
-}
+KEPT = study_root.KEPT
 KEYS = {
-    "STUDY": {**KEPT["STUDY"], **tags("0008: 0061; 0020: 1206 1208")},
-    "SERIES": {**KEPT["SERIES"], **tags("0020: 1209")},
+    "STUDY": {**KEPT["STUDY"], **study_root.COMPUTED["STUDY"]},
+    "SERIES": {**KEPT["SERIES"], **study_root.COMPUTED["SERIES"]},
     "IMAGE": KEPT["IMAGE"],
     "ENTRY": tags("0008: 0050 0090 1080; 0010: 0010 0020 0021 0030 0040 1030 2000 2110 21C0 4000; 0020: 000D;"
                   "0032: 1032 1033 1060; 0038: 0010 0050 0300 0500; 0040: 1001 1002 1003 1004 1400 2016 2017",

@@ -2,7 +2,8 @@
 
 A number that a table does not have is shown as itself: `named` says so, and nothing is guessed.
 """
-from keywords import KEYWORDS
+import sop_classes
+from dictionary import KEYWORDS
 
 # PS3.8 section 9.3.1, table 9-10 and those after it: the types of PDUs
 PDUS = {0x01: "A-ASSOCIATE-RQ", 0x02: "A-ASSOCIATE-AC", 0x03: "A-ASSOCIATE-RJ", 0x04: "P-DATA-TF", 0x05: "A-RELEASE-RQ",
@@ -83,27 +84,22 @@ TRANSFER_SYNTAXES = {
     "1.2.840.10008.1.2.4.90": "JPEG 2000 Lossless Only", "1.2.840.10008.1.2.4.91": "JPEG 2000",
     "1.2.840.10008.1.2.5": "RLE Lossless"}
 
-# PS3.6 annex A, table A-1: the application context, and SOP classes
+# PS3.6 annex A, table A-1: the application context, and SOP classes that are not served
 APPLICATION_CONTEXTS = {"1.2.840.10008.3.1.1.1": "DICOM Application Context Name"}
 SOP_CLASSES = {
-    "1.2.840.10008.1.1": "Verification",
-    "1.2.840.10008.3.1.2.3.3": "Modality Performed Procedure Step",
     "1.2.840.10008.5.1.4.1.2.1.1": "Patient Root Query/Retrieve Information Model - FIND",
-    "1.2.840.10008.5.1.4.1.2.2.1": "Study Root Query/Retrieve Information Model - FIND",
-    "1.2.840.10008.5.1.4.1.2.2.2": "Study Root Query/Retrieve Information Model - MOVE",
-    "1.2.840.10008.5.1.4.31": "Modality Worklist Information Model - FIND"}
+    "1.2.840.10008.5.1.4.1.2.2.2": "Study Root Query/Retrieve Information Model - MOVE"}
 
-# PS3.6 annex A, table A-1: storage SOP classes, by what follows 1.2.840.10008.5.1.4.1.1.; each name ends in " Storage"
+# PS3.6 annex A, table A-1: storage SOP classes that are not served, by what follows 1.2.840.10008.5.1.4.1.1.; each name ends in " Storage"
 STORAGE_TEXT = """
-1       Computed Radiography Image                      1.1     Digital X-Ray Image - For Presentation
+1.1     Digital X-Ray Image - For Presentation
 1.1.1   Digital X-Ray Image - For Processing            1.2     Digital Mammography X-Ray Image - For Presentation
 1.2.1   Digital Mammography X-Ray Image - For Processing
 1.3     Digital Intra-Oral X-Ray Image - For Presentation
 1.3.1   Digital Intra-Oral X-Ray Image - For Processing
-2       CT Image                                        2.1     Enhanced CT Image
-3.1     Ultrasound Multi-frame Image                    4       MR Image
+2.1     Enhanced CT Image
+3.1     Ultrasound Multi-frame Image
 4.1     Enhanced MR Image                               4.2     MR Spectroscopy
-6.1     Ultrasound Image                                7       Secondary Capture Image
 7.1     Multi-frame Single Bit Secondary Capture Image
 7.2     Multi-frame Grayscale Byte Secondary Capture Image
 7.3     Multi-frame Grayscale Word Secondary Capture Image
@@ -143,7 +139,7 @@ def storage_classes():
     return found
 
 
-SOP_CLASSES |= storage_classes()
+SOP_CLASSES |= storage_classes() | sop_classes.NAMES
 
 # the tags of PS3.6, by which data sets are shown
 KEYWORDS_BY_TAG = {tag: name for name, tag in KEYWORDS.items()}

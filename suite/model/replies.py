@@ -16,6 +16,7 @@ import sys
 import tomllib
 
 import services
+import sop_classes
 import stores
 from messages import C_CANCEL, C_ECHO, C_FIND, C_STORE, N_CREATE, N_SET, Assembler, response, sent
 from upper_layer import (ABORT, APPLICATION_CONTEXT, EXPLICIT, IMPLICIT, P_DATA, RELEASE_RQ, REQUEST, UNEXPECTED, BadPdu,
@@ -32,13 +33,7 @@ steps = 100
 associations = 4
 """
 VERIFICATION, STORAGE, STUDY_ROOT, WORKLIST, PROCEDURE_STEP = "verification storage study worklist procedure".split()
-CLASSES = {
-    b"1.2.840.10008.1.1": VERIFICATION,
-    b"1.2.840.10008.5.1.4.1.2.2.1": STUDY_ROOT,
-    b"1.2.840.10008.5.1.4.31": WORKLIST,
-    b"1.2.840.10008.3.1.2.3.3": PROCEDURE_STEP,
-    **{b"1.2.840.10008.5.1.4.1.1." + end: STORAGE for end in (b"1", b"2", b"4", b"6.1", b"7")},
-}
+CLASSES = sop_classes.SERVICES
 COMMANDS = {VERIFICATION: {C_ECHO}, STORAGE: {C_STORE}, STUDY_ROOT: {C_FIND}, WORKLIST: {C_FIND},
             PROCEDURE_STEP: {N_CREATE, N_SET}}
 CLASS_NOT_SUPPORTED, UNRECOGNIZED_OPERATION, CANCELLED = 0x0122, 0x0211, 0xFE00

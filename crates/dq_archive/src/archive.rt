@@ -24,12 +24,12 @@ pub struct Archive<'a, T> {
 
 impl<'a, T: Tables> Archive<'a, T> {
     /// The archive of an institution.
-    pub fn new(alloc: Global, tables: &'a mut T, institution: &'a Institution) -> Archive<'a, T>
+    pub fn new(tables: &'a mut T, institution: &'a Institution) -> Archive<'a, T>
         ensures tables { IsOver tables.entry result }
         ensures institution { result.institution ≡ institution.entry }
     {
         Archive {
-            alloc,
+            alloc: tables.alloc(),
             institution,
             tables,
         }
@@ -51,7 +51,7 @@ impl<'a, T: Tables> Archive<'a, T> {
             result }
     {
         let name = self.institution.name.as_slice();
-        self.tables.row(self.alloc, kind, name, key)
+        self.tables.row(kind, name, key)
     }
 
     /// How many records of a kind there are.
@@ -60,7 +60,7 @@ impl<'a, T: Tables> Archive<'a, T> {
             (λ records. length (records_of kind records)) result }
     {
         let name = self.institution.name.as_slice();
-        self.tables.count(self.alloc, kind, name)
+        self.tables.count(kind, name)
     }
 
     /// The records of a kind under the record with the key `above`, as rows in the order of their
@@ -71,7 +71,7 @@ impl<'a, T: Tables> Archive<'a, T> {
             result }
     {
         let name = self.institution.name.as_slice();
-        self.tables.rows_above(self.alloc, kind, name, above)
+        self.tables.rows_above(kind, name, above)
     }
 
     /// How many records of a kind there are under the record with the key `above`.
@@ -80,7 +80,7 @@ impl<'a, T: Tables> Archive<'a, T> {
             (λ records. length (records_above kind above.now records)) result }
     {
         let name = self.institution.name.as_slice();
-        self.tables.count_above(self.alloc, kind, name, above)
+        self.tables.count_above(kind, name, above)
     }
 
     /// The studies that a choice takes, as rows in the order of their keys.
@@ -89,7 +89,7 @@ impl<'a, T: Tables> Archive<'a, T> {
             map (row_of self.old.institution.now.name) (studies_among choice.now records)) result }
     {
         let name = self.institution.name.as_slice();
-        self.tables.studies_in(self.alloc, name, choice)
+        self.tables.studies_in(name, choice)
     }
 
     /// The worklist entries that wait, as rows: no performed procedure step has started them (PS3.4
@@ -99,7 +99,7 @@ impl<'a, T: Tables> Archive<'a, T> {
             map (row_of self.old.institution.now.name) (waiting_among records)) result }
     {
         let name = self.institution.name.as_slice();
-        self.tables.waiting(self.alloc, name)
+        self.tables.waiting(name)
     }
 
     /// Makes the change of a decision, whole or not at all, and gives the answer. The records of
@@ -116,7 +116,7 @@ impl<'a, T: Tables> Archive<'a, T> {
         let Some(change) = change else {
             return Ok(answer);
         };
-        make_change(self.alloc, self.tables, change)?;
+        make_change(self.tables, change)?;
         Ok(answer)
     }
 }

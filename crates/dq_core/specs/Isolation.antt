@@ -1,12 +1,11 @@
 -- What it is that one institution's replies and records do not depend on the others.
 use Rattle.std.specs.Prelude.{◌≡◌, ℕ, zero, Bool, IsTrue, if◌then◌else◌, List, [], ◌∷◌, ◌++◌, length, filter, take, drop, Contains}
-use Rattle.std.specs.Str.{bytes_eq}
 use Rattle.dq_config.specs.declared.config.Institution.{Institution}
 use Rattle.dq_core.specs.declared.event.Event.{Event}
 use Rattle.dq_core.specs.declared.event.Reply.{Reply}
 use Rattle.dq_tables.specs.declared.row.Row.{Row}
 use Rattle.dq_config.specs.Limits.{limits_of}
-use Rattle.dq_tables.specs.Rows.{of, IsRising}
+use Rattle.dq_tables.specs.Rows.{of, rows_named, IsRising}
 use Rattle.dq_core.specs.Owners.{HaveOwnNames}
 use Rattle.dq_core.specs.Histories.{is_well_formed_history}
 use Rattle.dq_core.specs.Shared.{World, replies, world_after, rows_within}
@@ -17,18 +16,14 @@ abbrev pub own_among : List Institution → List ℕ → List Event → ℕ → 
 own_among institutions name events answered =
     filter (is_own_event institutions name events) (take answered events)
 
--- An institution's server alone is the same server, configured with it alone, over its rows. These
--- are its rows among those of all.
-abbrev pub rows_alone : List ℕ → List Row → List Row
-rows_alone name rows = filter (λ (row : Row). bytes_eq row.inst name) rows
-
--- what it replies to events
+-- An institution's server alone is the same server, configured with it alone, over its rows: those
+-- under its name. This is what it replies to events.
 abbrev pub replies_alone : Institution → List Row → List Event → List Reply
-replies_alone i rows events = replies (i ∷ []) (rows_alone i.name rows) events
+replies_alone i rows events = replies (i ∷ []) (rows_named i.name rows) events
 
 -- what it holds and keeps after them
 abbrev pub world_alone : Institution → List Row → List Event → World
-world_alone i rows events = world_after (i ∷ []) (rows_alone i.name rows) events
+world_alone i rows events = world_after (i ∷ []) (rows_named i.name rows) events
 
 -- its replies to the own events among the first that were answered
 abbrev pub own_replies : List Institution → List Row → List Event → Institution → ℕ → List Reply
@@ -44,7 +39,7 @@ own_operations mine (event ∷ events) operations = if mine event then operation
 abbrev pub own_rows_within : List Institution → List Row → List Event → Institution → ℕ → ℕ
     → List Row
 own_rows_within institutions rows events i answered operations =
-    rows_within (i ∷ []) (rows_alone i.name rows) (own institutions i.name events)
+    rows_within (i ∷ []) (rows_named i.name rows) (own institutions i.name events)
     (length (own_among institutions i.name events answered))
     (own_operations (is_own_event institutions i.name events) (drop answered events) operations)
 

@@ -21,7 +21,6 @@ ghost use Rattle.dq_core.specs.Slots.{has_slot, has_search, AreHeld, IsHeld, Sta
 use crate::event::Reply;
 use crate::fault::Fault;
 use crate::notes::{Heard, Notes};
-use crate::service::Host;
 use crate::slot::{Called, Slot, Taken};
 use crate::tally::Tally;
 use dq_assoc::Verdict;
@@ -156,7 +155,6 @@ impl Connections {
     /// Answers a piece, and ends the connection where the answer closes it.
     pub(crate) fn answer_piece<T: Tables>(
         &mut self,
-        alloc: Global,
         tables: &mut T,
         number: u64,
         piece: &[u8],
@@ -190,13 +188,19 @@ impl Connections {
             return Ok(Reply::Ignored);
         };
         if piece.is_empty() {
-            return Ok(octets_reply(number, Vec::new(alloc), false));
+            return Ok(octets_reply(number, Vec::new(tables.alloc()), false));
         }
         let Some(slot) = self.slots.get_mut(place) else {
             return Ok(Reply::Ignored);
         };
         let was_open = slot.home.is_some();
-        let (owner, taken, heard) = take_piece(alloc, &self.config, &self.tally, slot, piece)?;
+        let (owner, taken, heard) = take_piece(
+            tables.alloc(),
+            &self.config,
+            &self.tally,
+            slot,
+            piece,
+        )?;
         let close = taken.step.close;
         let is_open = stays_open(slot, close);
         notes.turn_to(number);
@@ -204,21 +208,13 @@ impl Connections {
             note_home(notes, slot, heard);
         }
         let ending = heard.ending(&taken.step);
-        let agreement = slot.association.agreement();
-        let query = slot.query.take();
-        let host = Host {
-            alloc,
-            institution: owner,
-            agreement,
-        };
-        let answered = host.answer(query, taken, tables, notes)?;
-        slot.query = answered.query;
+        let octets = slot.answer(owner, taken, tables, notes)?;
         notes.close(ending);
         self.tally.retally(&self.config, owner, was_open, is_open);
         if close {
             self.remove(number, place);
         }
-        Ok(octets_reply(number, answered.octets, close))
+        Ok(octets_reply(number, octets, close))
     }
 
     /// Answers a pull with the next page of the C-FIND that is open. Where none is, it takes no

@@ -1,6 +1,7 @@
 //! The server: events in, replies out.
 #![tactic(auto)]
 
+mod answer_queue;
 mod connections;
 mod dimse_operation;
 mod event;

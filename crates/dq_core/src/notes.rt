@@ -175,6 +175,11 @@ impl Notes {
         self.put(Noted::Ended);
     }
 
+    /// The allocator that they were made with.
+    pub(crate) fn alloc(&self) -> Global {
+        self.alloc
+    }
+
     /// Whether what is served is noted.
     pub(crate) fn are_kept(&self) -> bool {
         self.is_kept

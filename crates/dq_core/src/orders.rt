@@ -9,7 +9,6 @@ use crate::fault::Fault;
 use dq_config::Config;
 use dq_tables::Tables;
 use dq_worklist::{schedule, withdraw};
-use std::alloc::Global;
 
 /// The refusal of an order for an institution that is not configured.
 const NO_SUCH_INSTITUTION: u16 = 6;
@@ -26,7 +25,6 @@ fn order_reply(refusal: Option<u16>) -> Reply
 /// Schedules an entry of the named institution's worklist.
 #[tactic(auto, unfolding(crate::specs::Services::console_outcome))]
 pub(crate) fn schedule_entry<T: Tables>(
-    alloc: Global,
     config: &Config,
     name: &[u8],
     octets: &[u8],
@@ -39,7 +37,7 @@ pub(crate) fn schedule_entry<T: Tables>(
     match config.institution(name) {
         None => Ok(Reply::Refused(NO_SUCH_INSTITUTION)),
         Some(institution) => {
-            let refusal = schedule(alloc, tables, institution, octets)?;
+            let refusal = schedule(tables, institution, octets)?;
             Ok(order_reply(refusal))
         }
     }
@@ -48,7 +46,6 @@ pub(crate) fn schedule_entry<T: Tables>(
 /// Withdraws an entry of the named institution's worklist.
 #[tactic(auto, unfolding(crate::specs::Services::console_outcome))]
 pub(crate) fn withdraw_entry<T: Tables>(
-    alloc: Global,
     config: &Config,
     name: &[u8],
     id: &[u8],
@@ -61,7 +58,7 @@ pub(crate) fn withdraw_entry<T: Tables>(
     match config.institution(name) {
         None => Ok(Reply::Refused(NO_SUCH_INSTITUTION)),
         Some(institution) => {
-            let refusal = withdraw(alloc, tables, institution, id)?;
+            let refusal = withdraw(tables, institution, id)?;
             Ok(order_reply(refusal))
         }
     }

@@ -1,16 +1,13 @@
 //! The responses to a message, a page at a time (PS3.4 sections C.4.1 and K.4.1).
 ghost use Rattle.std.specs.Prelude.{◌≡◌, ◌++◌, ◌∷◌, [], take, true, false, None, IfOk, OnOk};
-ghost use Rattle.dq_dataset.specs.Canonical.{canonical};
 ghost use Rattle.dq_dimse.specs.LentCommands.{command_of_lent};
-ghost use Rattle.dq_dimse.specs.Sending.{cut_into_pdus};
 ghost use Rattle.dq_core.specs.Services.{is_of_instance, named_instance, response_command, response, pending_status, responses};
 ghost use Rattle.dq_core.specs.Pages.{responses_octets, rest, without_first, page, cancel_reaction};
 ghost use Rattle.dq_core.specs.Queries.{open_query_of, open_query_in, command_octets};
 
+use crate::answer_queue::AnswerQueue;
 use dq_assoc::{AgreedContext, Agreement, PeerLimit, SopClass};
-use dq_dataset::{DataSet, Syntax, can_be_written, write};
 use dq_dimse::{Command, LentCommand, append_command, append_data_set, command_field, status};
-use dq_find::Pages;
 use dq_match::Found;
 use std::alloc::{AllocError, Global};
 
@@ -24,7 +21,7 @@ pub(crate) struct OpenQuery {
     pub context: AgreedContext,
     pub command: Command,
     pub limit: PeerLimit,
-    pub pages: Pages,
+    pub pages: AnswerQueue,
 }
 
 /// Whether the response to an operation names an instance (PS3.7 sections 9.3.1.2, 10.3.3.2 and
@@ -77,16 +74,6 @@ fn pending_status(optional: bool) -> u16
     }
 }
 
-/// The octets of an answer. Those of one with a length that can't be written want memory.
-fn answer_octets(alloc: Global, answer: &DataSet, syntax: Syntax) -> Result<Vec<u8>, AllocError>
-    ensures { IfOk result (λ octets. octets.items ≡ canonical syntax answer.now) }
-{
-    if !can_be_written(answer, syntax) {
-        return Err(AllocError);
-    }
-    write(alloc, answer, syntax)
-}
-
 /// Where responses go: the context and the command of the message that they answer, and the longest
 /// PDU that the peer takes.
 #[derive(Clone, Copy)]
@@ -113,27 +100,12 @@ impl Recipient<'_> {
         append_command(alloc, out, context.id, response, limit.octets())?;
         Ok(())
     }
-
-    /// Adds the data set of a response with an answer.
-    fn put_answer(self, answer: &DataSet, out: &mut Vec<u8>) -> Result<(), AllocError>
-        ensures { OnOk result (out.new.items ≡ out.old.items ++ cut_into_pdus self.entry.context.id false
-            self.entry.limit (canonical self.entry.context.syntax answer.now)) }
-    {
-        let Recipient {
-            alloc,
-            context,
-            command: _,
-            limit,
-        } = self;
-        let octets = answer_octets(alloc, answer, context.syntax)?;
-        append_data_set(out, context.id, &octets, limit.octets())?;
-        Ok(())
-    }
 }
 
 impl OpenQuery {
     /// The responses to a message on a context, of which none was sent.
     pub(crate) fn new(
+        alloc: Global,
         agreement: &Agreement,
         context: AgreedContext,
         command: Command,
@@ -149,7 +121,7 @@ impl OpenQuery {
             context,
             command,
             limit: agreement.limit,
-            pages: Pages::new(found),
+            pages: AnswerQueue::new(alloc, found),
         }
     }
 
@@ -186,11 +158,12 @@ impl OpenQuery {
         self.recipient(alloc)
             .put_command(status, true, &mut command)?;
         for _ in 0..count {
-            let Some(answer) = self.pages.next() else {
+            let next = self.pages.next_octets(alloc, self.context.syntax)?;
+            let Some(octets) = next else {
                 return Ok(());
             };
             out.extend_from_slice(&command)?;
-            self.recipient(alloc).put_answer(&answer, out)?;
+            append_data_set(out, self.context.id, &octets, self.limit.octets())?;
         }
         Ok(())
     }
@@ -216,7 +189,7 @@ impl OpenQuery {
     }
 
     /// Sends a page: the next pending responses, and the final one where none of them is left.
-    /// Gives back what is left.
+    /// Gives back what is left, held as octets.
     pub(crate) fn send_page(
         mut self,
         alloc: Global,
@@ -231,6 +204,7 @@ impl OpenQuery {
             return Ok(None);
         }
         self.send_pending(alloc, PAGE_LENGTH, out)?;
+        self.pages.pack(alloc)?;
         Ok(Some(self))
     }
 

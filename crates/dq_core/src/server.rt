@@ -229,7 +229,7 @@ impl<T: Tables> Server<T> {
         if self.spent {
             Err(Fault::Stopped)
         } else {
-            match self.tables.count(self.alloc, kind, name) {
+            match self.tables.count(kind, name) {
                 Ok(number) => Ok(number),
                 Err(fault) => {
                     self.spend();
@@ -303,13 +303,8 @@ impl<T: Tables> Server<T> {
             Event::Open(number) => Ok(self.connections.open(self.alloc, number)?),
             Event::Piece(number, piece) => {
                 let piece = piece.as_slice();
-                self.connections.answer_piece(
-                    self.alloc,
-                    &mut self.tables,
-                    number,
-                    piece,
-                    &mut self.notes,
-                )
+                self.connections
+                    .answer_piece(&mut self.tables, number, piece, &mut self.notes)
             }
             Event::End(number) => {
                 self.notes.end(number);
@@ -317,14 +312,12 @@ impl<T: Tables> Server<T> {
             }
             Event::Pull(number) => Ok(self.connections.answer_pull(self.alloc, number)?),
             Event::Schedule { inst, octets } => schedule_entry(
-                self.alloc,
                 &self.connections.config,
                 inst.as_slice(),
                 octets.as_slice(),
                 &mut self.tables,
             ),
             Event::Withdraw { inst, id } => withdraw_entry(
-                self.alloc,
                 &self.connections.config,
                 inst.as_slice(),
                 id.as_slice(),

@@ -1,7 +1,6 @@
 //! What messages are answered with, by the service of their context.
 
 ghost use Rattle.std.specs.Prelude.{◌≡◌, ◌≢◌, ◌++◌, [], List, true, IfOk, IfErr, OnErr, None, Some};
-ghost use Rattle.std.specs.Option.{option_copied};
 ghost use Rattle.dq_dimse.specs.Holding.{StandForAll, StandsFor, StandsOn, plain_message};
 ghost use Rattle.dq_dimse.specs.Received.{Message as Received};
 ghost use Rattle.dq_assoc.specs.Holding.{accepted_by};
@@ -11,7 +10,7 @@ ghost use Rattle.dq_core.specs.Services.{command_field_of, status_alone, operati
 ghost use Rattle.dq_core.specs.Stepping.{Goes, MayLeaveAfter};
 ghost use Rattle.dq_core.specs.Doing.{Operates, Did, DidPart, Taken as Pure, served_answer, messages_answer, taken_answer};
 ghost use Rattle.dq_core.specs.Queries.{open_query_in};
-ghost use Rattle.dq_core.specs.Slots.{IsTaken, connection_answer};
+ghost use Rattle.dq_core.specs.Slots.{IsTaken};
 
 use crate::dimse_operation::DimseOperation;
 use crate::fault::Fault;
@@ -35,18 +34,8 @@ use std::alloc::{AllocError, Global};
 /// Who serves the messages of a connection: the institution that has it, by what is agreed on it.
 #[derive(Clone, Copy)]
 pub(crate) struct Provider<'a> {
-    pub alloc: Global,
     pub institution: &'a Institution,
     pub agreement: &'a Agreement,
-}
-
-/// Whose a connection is: the institution that has it, if one has, and what is agreed on it, if
-/// something is.
-#[derive(Clone, Copy)]
-pub(crate) struct Host<'a> {
-    pub alloc: Global,
-    pub institution: Option<&'a Institution>,
-    pub agreement: Option<&'a Agreement>,
 }
 
 /// What a connection is answered: octets, and the C-FIND that is open on it afterwards.
@@ -97,28 +86,27 @@ impl Provider<'_> {
         ensures fault { IfErr result (λ fault. fault ≢ Fault.Stopped) }
     {
         let Provider {
-            alloc,
             institution,
             agreement,
         } = self;
         match operation {
-            DimseOperation::Echo => Ok(status_alone(alloc, status::SUCCESS)),
+            DimseOperation::Echo => Ok(status_alone(tables.alloc(), status::SUCCESS)),
             DimseOperation::Store => {
-                let status = store(alloc, tables, institution, message, syntax)?;
-                Ok(status_alone(alloc, status))
+                let status = store(tables, institution, message, syntax)?;
+                Ok(status_alone(tables.alloc(), status))
             }
             DimseOperation::FindStudies => {
                 let called = &agreement.called;
-                Ok(find(alloc, tables, institution, called, message, syntax)?)
+                Ok(find(tables, institution, called, message, syntax)?)
             }
-            DimseOperation::FindEntries => Ok(query(alloc, tables, institution, message, syntax)?),
+            DimseOperation::FindEntries => Ok(query(tables, institution, message, syntax)?),
             DimseOperation::CreateStep => {
-                let status = create(alloc, tables, institution, message, syntax)?;
-                Ok(status_alone(alloc, status))
+                let status = create(tables, institution, message, syntax)?;
+                Ok(status_alone(tables.alloc(), status))
             }
             DimseOperation::SetStep => {
-                let status = set(alloc, tables, institution, message, syntax)?;
-                Ok(status_alone(alloc, status))
+                let status = set(tables, institution, message, syntax)?;
+                Ok(status_alone(tables.alloc(), status))
             }
         }
     }
@@ -140,10 +128,10 @@ impl Provider<'_> {
     {
         let command = &message.command;
         let Some(operation) = DimseOperation::of(context.class.service(), command.code) else {
-            return Ok(status_alone(self.alloc, status::UNRECOGNIZED_OPERATION));
+            return Ok(status_alone(tables.alloc(), status::UNRECOGNIZED_OPERATION));
         };
         if command.sop_class.as_slice() != context.class.uid() {
-            return Ok(status_alone(self.alloc, status::SOP_CLASS_NOT_SUPPORTED));
+            return Ok(status_alone(tables.alloc(), status::SOP_CLASS_NOT_SUPPORTED));
         }
         self.perform(operation, message, context.syntax, tables)
     }
@@ -151,7 +139,7 @@ impl Provider<'_> {
     /// Notes what a message was answered, where notes are kept.
     fn note(self, context: AgreedContext, message: &Message, found: &Found, notes: &mut Notes) {
         if notes.are_kept() {
-            let identifier = identifier(self.alloc, message, context.syntax).unwrap_or(None);
+            let identifier = identifier(notes.alloc(), message, context.syntax).unwrap_or(None);
             notes.serve(
                 context.class.service(),
                 found.status,
@@ -196,8 +184,14 @@ impl Provider<'_> {
         }
         let found = self.outcome(context, &message, tables)?;
         self.note(context, &message, &found, notes);
-        let query = OpenQuery::new(self.agreement, context, message.command, found);
-        Ok(query.send_page(self.alloc, out)?)
+        let query = OpenQuery::new(
+            tables.alloc(),
+            self.agreement,
+            context,
+            message.command,
+            found,
+        );
+        Ok(query.send_page(tables.alloc(), out)?)
     }
 
     /// Answers a message: a C-CANCEL ends the C-FIND that is open, where it is of that, and any
@@ -231,9 +225,9 @@ impl Provider<'_> {
             return self.serve(message, tables, out, notes);
         };
         if message.command.code == command_field::C_CANCEL {
-            return Ok(open.cancel(self.alloc, message.command.id, out)?);
+            return Ok(open.cancel(tables.alloc(), message.command.id, out)?);
         }
-        open.send_rest(self.alloc, out)?;
+        open.send_rest(tables.alloc(), out)?;
         self.serve(message, tables, out, notes)
     }
 
@@ -308,48 +302,12 @@ impl Provider<'_> {
     }
 }
 
-impl Host<'_> {
-    /// Answers what was taken: by the institution that has the connection, where one has and
-    /// something is agreed on it.
-    pub(crate) fn answer<T: Tables>(
-        self,
-        query: Option<OpenQuery>,
-        taken: Taken,
-        tables: &mut T,
-        notes: &mut Notes,
-    ) -> Result<Answered, Fault>
-        ensures goes { Goes (T.state tables.old) (T.state tables.new) result }
-        ensures does { (T.state tables.new).honest → (t : Pure) →
-            IsTaken (option_copied self.entry.agreement) taken t → IfOk result (λ given.
-            Did (option_copied self.entry.institution)
-            (connection_answer (option_copied self.entry.institution) (T.state tables.old).rows
-            (option_copied self.entry.agreement) (open_query_in query) t)
-            (T.state tables.old).rows (T.state tables.new).rows [] given.octets.items
-            (open_query_in given.query)) }
-        ensures stops { (T.state tables.new).honest → (t : Pure) →
-            IsTaken (option_copied self.entry.agreement) taken t → OnErr result (
-            DidPart (option_copied self.entry.institution)
-            (connection_answer (option_copied self.entry.institution) (T.state tables.old).rows
-            (option_copied self.entry.agreement) (open_query_in query) t)
-            (T.state tables.old).rows (T.state tables.new).rows
-            (MayLeaveAfter (T.state tables.old) (T.state tables.new))) }
-        ensures fault { IfErr result (λ fault. fault ≢ Fault.Stopped) }
-    {
-        let (Some(institution), Some(agreement)) = (self.institution, self.agreement) else {
-            return Ok(answer_unserved(query, taken)?);
-        };
-        let provider = Provider {
-            alloc: self.alloc,
-            institution,
-            agreement,
-        };
-        provider.answer(query, taken, tables, notes)
-    }
-}
-
 /// Answers what was taken on a connection that no institution has, or on which nothing is agreed:
 /// no service is reached.
-fn answer_unserved(query: Option<OpenQuery>, taken: Taken) -> Result<Answered, AllocError>
+pub(crate) fn answer_unserved(
+    query: Option<OpenQuery>,
+    taken: Taken,
+) -> Result<Answered, AllocError>
     ensures { IfOk result (λ given.
         (given.octets.items ≡ taken.opening ++ taken.step.octets) × (given.query ≡ query)) }
 {

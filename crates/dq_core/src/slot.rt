@@ -1,4 +1,4 @@
-ghost use Rattle.std.specs.Prelude.{◌≡◌, ◌⊎◌, List, [], ◌∷◌, ◌++◌, Option, None, false, IfOk, OnOk, IsOk};
+ghost use Rattle.std.specs.Prelude.{◌≡◌, ◌≢◌, ◌⊎◌, List, [], ◌∷◌, ◌++◌, Option, None, false, IfOk, IfErr, OnOk, OnErr, IsOk};
 ghost use Rattle.std.specs.Option.{option_copied};
 ghost use Rattle.dq_pdu.specs.declared.pdu.Pdu.{Pdu};
 ghost use Rattle.dq_pdu.specs.declared.pdu.Pdu.TheVariants as pdu;
@@ -10,17 +10,22 @@ ghost use Rattle.dq_assoc.specs.Associations as pure;
 ghost use Rattle.dq_assoc.specs.Associations.{HeldState};
 ghost use Rattle.dq_assoc.specs.Holding.{Stands, held_agreement, held_state};
 ghost use Rattle.dq_config.specs.declared.config.Institution.{Institution};
-ghost use Rattle.dq_core.specs.Doing.{agreement_after, taken_inputs};
+ghost use Rattle.dq_core.specs.Doing.{Did, DidPart, Taken as Pure, agreement_after, taken_inputs};
 ghost use Rattle.dq_core.specs.Pages.{next_page};
 ghost use Rattle.dq_core.specs.Queries.{open_query_in};
-ghost use Rattle.dq_core.specs.Slots.{IsTaken, StandsAt, home_of};
+ghost use Rattle.dq_core.specs.Slots.{IsTaken, StandsAt, connection_answer, home_of};
+ghost use Rattle.dq_core.specs.Stepping.{Goes, MayLeaveAfter};
 
+use crate::fault::Fault;
+use crate::notes::Notes;
 use crate::pages::OpenQuery;
+use crate::service::{Provider, answer_unserved};
 use dq_assoc::laws::{an_association_after_pdus, pdus_in_parts};
 use dq_assoc::{Agreement, Association, State, Step, Verdict};
 use dq_config::Institution;
 use dq_list::Listed;
 use dq_pdu::{Fed, Inbox, Pdu, Request};
+use dq_tables::Tables;
 use std::alloc::{AllocError, Global};
 
 /// A connection that is held: its number, what came on it so far, its association, the name of the
@@ -96,6 +101,49 @@ impl Slot {
             self.query = query.send_page(alloc, &mut octets)?;
         }
         Ok(octets)
+    }
+
+    /// Answers what was taken: by the institution that has the connection, where one has and
+    /// something is agreed on it.
+    pub(crate) fn answer<T: Tables>(
+        &mut self,
+        institution: Option<&Institution>,
+        taken: Taken,
+        tables: &mut T,
+        notes: &mut Notes,
+    ) -> Result<Vec<u8>, Fault>
+        ensures goes { Goes (T.state tables.old) (T.state tables.new) result }
+        ensures does { (T.state tables.new).honest → (t : Pure) →
+            IsTaken (held_agreement self.old.association) taken t → IfOk result (λ octets.
+            Did (option_copied institution.entry)
+            (connection_answer (option_copied institution.entry) (T.state tables.old).rows
+            (held_agreement self.old.association) (open_query_in self.old.query) t)
+            (T.state tables.old).rows (T.state tables.new).rows [] octets.items
+            (open_query_in self.new.query)) }
+        ensures stops { (T.state tables.new).honest → (t : Pure) →
+            IsTaken (held_agreement self.old.association) taken t → OnErr result (
+            DidPart (option_copied institution.entry)
+            (connection_answer (option_copied institution.entry) (T.state tables.old).rows
+            (held_agreement self.old.association) (open_query_in self.old.query) t)
+            (T.state tables.old).rows (T.state tables.new).rows
+            (MayLeaveAfter (T.state tables.old) (T.state tables.new))) }
+        ensures fault { IfErr result (λ fault. fault ≢ Fault.Stopped) }
+        ensures keeps { self.new ≡ record self.old { query = self.new.query } }
+    {
+        let query = self.query.take();
+        let (Some(institution), Some(agreement)) = (institution, self.association.agreement())
+        else {
+            let answered = answer_unserved(query, taken)?;
+            self.query = answered.query;
+            return Ok(answered.octets);
+        };
+        let provider = Provider {
+            institution,
+            agreement,
+        };
+        let answered = provider.answer(query, taken, tables, notes)?;
+        self.query = answered.query;
+        Ok(answered.octets)
     }
 
     /// Takes PDUs in order, up to one that closes, and then a fault of the stream (PS3.8 section

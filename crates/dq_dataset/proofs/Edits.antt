@@ -1,5 +1,5 @@
 -- What is cut out of a data set, and what is merged from two.
-use Rattle.std.proofs.Common.{◌≡◌, ℕ, ◌-◌, ◌<◌, Bool, true, false, cond, ◌&&◌, List, [], ◌∷◌, ◌++◌, length, get_or, take, drop, Option, Some, None, refl, sym, ap, ◌∙◌, append_assoc, ◌+◌, arith}
+use Rattle.std.proofs.Common.{◌≡◌, ℕ, ◌-◌, ◌<◌, Bool, true, false, cond, ◌&&◌, List, [], ◌∷◌, ◌++◌, length, get_or, take, drop, slice_index_or, Option, Some, None, IfSome, option_to_list, refl, sym, ap, ◌∙◌, append_assoc, ◌+◌, arith}
 use Rattle.std.specs.Prelude.{filter, nat_eq}
 use Rattle.std.proofs.lemmas.List.{take_all, take_more}
 use Rattle.std.proofs.lemmas.Bool.Decides.{nat_tests}
@@ -156,6 +156,47 @@ pub joined_first : (kept sent : List Element) (first : Element) (rest : List Ele
     → IsDataSet (as_elements kept) → is_below first.tag new.tag ≡ false → same_tag first.tag new.tag ≡ false
     → merged_elements kept sent ≡ new ∷ merged_elements kept others
 joined_first kept sent first rest new others k s h below other = rw (k, s) (next_joins first rest new others (rw k at h) below other)
+
+-- the same of lists whose first element is taken
+after_first : (kept : List Element) → IsDataSet (as_elements kept) → IsDataSet (as_elements (drop 1 kept))
+after_first [] h = h
+after_first (first ∷ rest) h =
+    let parts = facts-parts 16 None first rest h in
+    after_earlier 16 None first.tag (as_elements rest) parts.0.rises parts.2
+
+pub rest_is : (kept : List Element) (first : Option Element) (rest : List Element) → kept ≡ option_to_list first ++ rest → IsDataSet (as_elements kept)
+    → IfSome first (λ _. IsDataSet (as_elements rest))
+rest_is kept None rest k h = tt
+rest_is kept (Some first) rest k h = after_first (first ∷ rest) (rw k at h)
+
+pub left_is : (first : Option Element) (kept left : List Element) → left ≡ drop 1 kept → IsDataSet (as_elements kept)
+    → IfSome first (λ _. IsDataSet (as_elements left))
+left_is None kept left is h = tt
+left_is (Some first) kept left is h = rw is (after_first kept h)
+
+pub kept_taken : (kept sent : List Element) (first : Option Element) (rest : List Element) (f n : Element) → kept ≡ option_to_list first ++ rest
+    → f ≡ slice_index_or kept 0 f → 0 < length sent → n ≡ slice_index_or sent 0 n → is_below f.tag n.tag ≡ true
+    → IfSome first (λ e. merged_elements kept sent ≡ e ∷ merged_elements rest sent)
+kept_taken kept sent None rest f n k f_is some n_is h = tt
+kept_taken kept [] (Some first) rest f n k f_is some n_is h = absurd (omega (arith, some))
+kept_taken kept (new ∷ others) (Some first) rest f n k f_is some n_is h =
+    kept_first kept (new ∷ others) first rest new others k refl (rw (rw k at f_is, n_is) at h)
+
+pub replaced_taken : (kept sent : List Element) (first : Option Element) (others : List Element) (f n : Element) → sent ≡ option_to_list first ++ others
+    → n ≡ slice_index_or sent 0 n → 0 < length kept → f ≡ slice_index_or kept 0 f → IsDataSet (as_elements kept) → same_tag f.tag n.tag ≡ true
+    → IfSome first (λ e. merged_elements kept sent ≡ e ∷ merged_elements (drop 1 kept) others)
+replaced_taken kept sent None others f n s n_is some f_is is h = tt
+replaced_taken [] sent (Some new) others f n s n_is some f_is is h = absurd (omega (arith, some))
+replaced_taken (first ∷ rest) sent (Some new) others f n s n_is some f_is is h =
+    replaced_first (first ∷ rest) sent first rest new others refl s is (rw (f_is, rw s at n_is) at h)
+
+pub joined_taken : (kept sent : List Element) (first : Option Element) (others : List Element) (f n : Element) → sent ≡ option_to_list first ++ others
+    → n ≡ slice_index_or sent 0 n → 0 < length kept → f ≡ slice_index_or kept 0 f → IsDataSet (as_elements kept) → is_below f.tag n.tag ≡ false
+    → same_tag f.tag n.tag ≡ false → IfSome first (λ e. merged_elements kept sent ≡ e ∷ merged_elements kept others)
+joined_taken kept sent None others f n s n_is some f_is is below other = tt
+joined_taken [] sent (Some new) others f n s n_is some f_is is below other = absurd (omega (arith, some))
+joined_taken (first ∷ rest) sent (Some new) others f n s n_is some f_is is below other =
+    joined_first (first ∷ rest) sent first rest new others refl s is (rw (f_is, rw s at n_is) at below) (rw (f_is, rw s at n_is) at other)
 
 -- ---- what is merged is a data set
 

@@ -20,3 +20,4 @@ pub mod Same
 pub mod Sifting
 pub mod Sieve
 pub mod Sieving
+pub mod Packed

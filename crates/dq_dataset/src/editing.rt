@@ -1,5 +1,5 @@
 //! What is cut out of a data set, and what is merged from two.
-ghost use Rattle.std.specs.Prelude.{◌≡◌, ◌+◌, ◌<◌, [], ◌∷◌, length, IfOk, IfNone, IfSome};
+ghost use Rattle.std.specs.Prelude.{◌≡◌, ◌+◌, ◌<◌, [], ◌∷◌, drop, length, IfOk, IfNone, IfSome};
 ghost use Rattle.dq_dataset.specs.View.{as_elements};
 ghost use Rattle.dq_dataset.specs.Facts.{IsDataSet};
 ghost use Rattle.dq_dataset.specs.Editing.{is_listed, cut_out, merged_elements, merged_data_set};
@@ -7,6 +7,7 @@ ghost use Rattle.dq_dataset.specs.Editing.{is_listed, cut_out, merged_elements, 
 use crate::data_set::{DataSet, Element};
 use dq_vr::Tag;
 use std::alloc::{AllocError, Global};
+use std::collections::VecDeque;
 
 impl DataSet {
     /// A copy of those elements whose tags are listed, in the order of the data set.
@@ -35,6 +36,19 @@ impl DataSet {
             elements.push(next.copied(alloc)?)?;
             kept = kept_after;
             new = new_after;
+        }
+        Ok(DataSet::from_elements(elements))
+    }
+
+    /// `merged`, of a data set and another that are given away: their elements are moved.
+    pub fn into_merged(self, alloc: Global, sent: DataSet) -> Result<DataSet, AllocError>
+        ensures { IfOk result (λ all. all ≡ merged_data_set self sent) }
+    {
+        let mut kept = VecDeque::from_vec(self.into_elements());
+        let mut new = VecDeque::from_vec(sent.into_elements());
+        let mut elements = Vec::with_capacity(alloc, kept.len() + new.len())?;
+        while let Some(next) = take_first_merged(&mut kept, &mut new) {
+            elements.push(next)?;
         }
         Ok(DataSet::from_elements(elements))
     }
@@ -74,4 +88,36 @@ fn first_merged<'a>(kept: &'a [Element], sent: &'a [Element]) -> Option<Merging<
         return Some((new, rest, others));
     }
     Some((new, kept, others))
+}
+
+/// Takes the first element of what is merged.
+fn take_first_merged(kept: &mut VecDeque<Element>, sent: &mut VecDeque<Element>) -> Option<Element>
+    requires { IsDataSet (as_elements kept.old.items) }
+    ensures some { IfSome result (λ e. merged_elements kept.old.items sent.old.items
+        ≡ e ∷ merged_elements kept.new.items sent.new.items) }
+    ensures none { IfNone result (merged_elements kept.old.items sent.old.items ≡ []) }
+    ensures rises { IfSome result (λ _. IsDataSet (as_elements kept.new.items)) }
+    ensures shorter { IfSome result (λ _. length kept.new.items + length sent.new.items
+        < length kept.old.items + length sent.old.items) }
+{
+    let Some(new) = sent.front() else {
+        return kept.pop_front();
+    };
+    let Some(first) = kept.front() else {
+        return sent.pop_front();
+    };
+    if first.tag.is_below(new.tag) {
+        return kept.pop_front();
+    }
+    if first.tag == new.tag {
+        drop_first(kept);
+        return sent.pop_front();
+    }
+    sent.pop_front()
+}
+
+fn drop_first(elements: &mut VecDeque<Element>)
+    ensures { elements.new.items ≡ drop 1 elements.old.items }
+{
+    let _first = elements.pop_front();
 }

@@ -18,7 +18,7 @@ use Rattle.dq_dimse.specs.declared.command.Message.{Message as HeldMessage}
 use Rattle.dq_dimse.specs.declared.fault.DimseFault.{DimseFault}
 use Rattle.dq_dimse.specs.declared.fault.DimseFault.TheVariants.{NoMemory}
 use Rattle.dq_dimse.specs.Assembling.{PartialMessage, Nothing, CommandPart, DataPart, Spent, Gathering, stops_at, Messages, Assembly, new_assembly, assembly_from}
-use Rattle.dq_dimse.specs.Attributes.{kept_attributes}
+use Rattle.dq_vr.specs.StudyRoot.{kept_attributes}
 use Rattle.dq_dimse.specs.CommandFields.{c_store}
 use Rattle.dq_dimse.specs.Messages.{command_limit, other_limit, data_limit}
 use Rattle.dq_dimse.specs.Received.{Message}

@@ -1,5 +1,4 @@
 pub mod Faults
-pub mod Attributes
 pub mod Assembling
 pub mod Carrying
 pub mod CommandElements

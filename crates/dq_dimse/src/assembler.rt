@@ -13,13 +13,13 @@ ghost use Rattle.dq_dimse.specs.Holding.{BodyStandsFor, PartStandsFor, StandsFor
 ghost use Rattle.dq_dimse.specs.Holding.{accepted_with, fault_held, accepted_ids, is_sifted, is_stored, spent_with};
 ghost use Rattle.dq_dimse.specs.Messages.{data_limit};
 
-use crate::attributes::KEPT_ATTRIBUTES;
 use crate::command::{Body, Command, Message};
 use crate::fault::DimseFault;
 use crate::{command_field, reading};
 use dq_dataset::{Sieve, Syntax};
 use dq_list::Listed;
 use dq_pdu::Pdv;
+use dq_vr::study_root::KEPT_ATTRIBUTES;
 use std::alloc::{AllocError, Global};
 use std::marker::Model;
 use std::mem;
@@ -28,8 +28,8 @@ use std::mem;
 const COMMAND_LIMIT: usize = 16_384;
 /// The data set of a C-STORE is at most so many octets.
 const STORE_LIMIT: usize = 4_294_967_295;
-/// The data set of any other command is at most so many octets.
-const OTHER_LIMIT: usize = 1_048_576;
+/// The data set of any other command, an Identifier among them, is at most so many octets.
+pub(crate) const OTHER_LIMIT: usize = 1_048_576;
 
 /// A presentation context that was accepted (PS3.8 section 7.1.1).
 #[derive(Clone, Copy, Debug, PartialEq, Eq)]
@@ -352,36 +352,6 @@ impl Assembler {
         }
     }
 
-    /// Takes the next PDV, by what was gathered alone.
-    fn take_next(&mut self, pdv: &Pdv) -> Result<Option<Message>, DimseFault>
-        ensures exact { (assembly : Assembly) → Assembles self.old assembly →
-            AddsMessage self.old.accepted result [] (messages_from assembly (pdv.now ∷ [])) }
-        ensures next { (assembly : Assembly) → Assembles self.old assembly →
-            OnOk result (Assembles self.new (assembly_from assembly (pdv.now ∷ []))) }
-        ensures spent { IfErr result (λ fault. spent_with self.new ≡ Some fault) }
-        ensures unspent { OnOk result (spent_with self.new ≡ None) }
-        ensures stays { (fault : DimseFault) →
-            spent_with self.old ≡ Some fault → result ≡ Err fault }
-        ensures keeps { self.new.accepted ≡ self.old.accepted }
-        ensures memory { (assembly : Assembly) → Assembles self.old assembly →
-            result ≡ Err DimseFault.NoMemory → NeedsMemory assembly pdv.now }
-    {
-        let before = mem::replace(
-            &mut self.gathered,
-            PartialMessage::Spent(DimseFault::NoMemory),
-        );
-        match gather(self.alloc, self.accepted.as_slice(), before, pdv) {
-            Ok((message, gathered)) => {
-                self.gathered = gathered;
-                Ok(message)
-            }
-            Err(fault) => {
-                self.gathered = PartialMessage::Spent(fault);
-                Err(fault)
-            }
-        }
-    }
-
     /// Takes the next PDV and gives the message that it completes. A run of PDVs takes time in
     /// proportion to its octets. After a fault it answers the same fault to every PDV.
     ///
@@ -412,6 +382,19 @@ impl Assembler {
         ensures memory { (assembly : Assembly) → Assembles self.old assembly →
             result ≡ Err DimseFault.NoMemory → NeedsMemory assembly pdv.now }
     {
-        self.take_next(pdv)
+        let before = mem::replace(
+            &mut self.gathered,
+            PartialMessage::Spent(DimseFault::NoMemory),
+        );
+        match gather(self.alloc, self.accepted.as_slice(), before, pdv) {
+            Ok((message, gathered)) => {
+                self.gathered = gathered;
+                Ok(message)
+            }
+            Err(fault) => {
+                self.gathered = PartialMessage::Spent(fault);
+                Err(fault)
+            }
+        }
     }
 }

@@ -29,8 +29,8 @@ ghost use Rattle.dq_dimse.specs.declared.status.TheConstants as coded_status;
 ghost use Rattle.dq_dimse.specs.Statuses as status;
 ghost use Rattle.dq_dimse.specs.declared.command_field.TheConstants as coded_field;
 ghost use Rattle.dq_dimse.specs.CommandFields as field;
-ghost use Rattle.dq_dimse.specs.declared.attributes.TheConstants.{KEPT_ATTRIBUTES};
-ghost use Rattle.dq_dimse.specs.Attributes.{kept_attributes};
+ghost use Rattle.dq_vr.specs.declared.study_root.TheConstants.{KEPT_ATTRIBUTES};
+ghost use Rattle.dq_vr.specs.StudyRoot.{kept_attributes};
 
 use dq_dataset::laws::spelling_law;
 use dq_pdu::laws::{fragments_are_writable, written_pdus_are_read};

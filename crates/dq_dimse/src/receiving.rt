@@ -7,14 +7,12 @@ ghost use Rattle.dq_dataset.specs.Canonical.{HasLengths};
 ghost use Rattle.dq_dimse.specs.Holding.{plain_message};
 ghost use Rattle.dq_dimse.specs.Receiving.{is_over, identifier_in};
 
+use crate::assembler::OTHER_LIMIT;
 use crate::command::Message;
 use crate::status::{CANNOT_UNDERSTAND, OUT_OF_RESOURCES};
 use dq_dataset::laws::spelling_law;
 use dq_dataset::{DataSet, ReadFault, Syntax, read};
 use std::alloc::{AllocError, Global};
-
-/// An Identifier is at most so many octets.
-const IDENTIFIER_LIMIT: usize = 1_048_576;
 
 impl Message {
     /// Whether the data set has more octets than the limit, or was discarded because it had too
@@ -52,7 +50,7 @@ impl Message {
     ) -> Result<Result<DataSet, u16>, AllocError>
         ensures { IfOk result (λ identifier. identifier ≡ identifier_in (plain_message self.now) syntax) }
     {
-        if self.is_over(IDENTIFIER_LIMIT) {
+        if self.is_over(OTHER_LIMIT) {
             return Ok(Err(OUT_OF_RESOURCES));
         }
         match self.data_set(alloc, syntax)? {

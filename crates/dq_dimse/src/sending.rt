@@ -1,15 +1,15 @@
 //! Messages as they are sent (PS3.7 section 6.3.1 and annex E, PS3.8 annex E).
-ghost use Rattle.std.specs.Prelude.{◌≡◌, ◌+◌, ◌-◌, ◌<◌, ◌≤◌, ◌∷◌, ◌++◌, ◌↔◌, length, IsTrue, IsSome, true, false, take, drop, vec_len};
-ghost use Rattle.std.specs.Prelude.{IfOk, OnOk, option_map};
+ghost use Rattle.std.specs.Prelude.{◌≡◌, ◌+◌, ◌-◌, ◌<◌, ◌≤◌, ◌∷◌, ◌++◌, length, true, false, take, drop, vec_len};
+ghost use Rattle.std.specs.Prelude.{IfOk, OnOk};
 ghost use Rattle.std.specs.Int.{w16, w32, to_le_bytes};
 ghost use Rattle.dq_dimse.specs.LentCommands.{command_of_lent};
 ghost use Rattle.dq_dimse.specs.Sending.{zero_padded, command_element, short_command_element, instance_element};
 ghost use Rattle.dq_pdu.specs.Numbers.{pdv_header};
 ghost use Rattle.dq_dimse.specs.Sending.{command_elements, command_set, fragment_size};
 ghost use Rattle.dq_dimse.specs.Sending.{IsPduLimit, own_limit};
-ghost use Rattle.dq_dimse.specs.Sending.{cut_within, cut_into_pdus, data_cut, message_pdus};
+ghost use Rattle.dq_dimse.specs.Sending.{cut_within, cut_into_pdus};
 
-use crate::command::{Command, LentCommand};
+use crate::command::LentCommand;
 use crate::numbers;
 use dq_pdu::{PDV_HEADER, append_p_data};
 use std::alloc::{AllocError, Global};
@@ -195,41 +195,4 @@ pub fn append_data_set(
         ≡ out.old.items ++ cut_into_pdus context false limit octets.now) }
 {
     put_cut(out, context, false, limit, octets)
-}
-
-/// Writes a data set, where there is one.
-fn put_data(
-    out: &mut Vec<u8>,
-    context: u8,
-    limit: u32,
-    octets: Option<&[u8]>,
-) -> Result<(), AllocError>
-    requires { IsPduLimit limit }
-    ensures { OnOk result (out.new.items
-        ≡ out.old.items ++ data_cut context limit (option_map (λ o. o.now) octets.entry)) }
-{
-    match octets {
-        None => Ok(()),
-        Some(octets) => append_data_set(out, context, octets, limit),
-    }
-}
-
-/// The octets that send a response on a context: its command set and then its data set, cut into
-/// PDUs of at most the peer's limit, where 0 is no limit (PS3.8 annex E).
-pub fn write_message(
-    alloc: Global,
-    context: u8,
-    command: &Command,
-    octets: Option<&[u8]>,
-    limit: u32,
-) -> Result<Vec<u8>, AllocError>
-    requires with_data { IsTrue command.now.with_data ↔ IsSome octets }
-    requires limit { IsPduLimit limit }
-    ensures { IfOk result (λ written. written.items
-        ≡ message_pdus context command.now (option_map (λ o. o.now) octets.entry) limit) }
-{
-    let mut written = Vec::new(alloc);
-    append_command(alloc, &mut written, context, command.lent(), limit)?;
-    put_data(&mut written, context, limit, octets)?;
-    Ok(written)
 }

@@ -1,5 +1,5 @@
 -- Where a query gives its level's own unique key values, no record with another matches.
-use Rattle.std.proofs.Common.{◌≡◌, ℕ, Bool, true, false, ◌||◌, ◌&&◌, not, List, [], ◌∷◌, Option, Some, None, is_some, unwrap_or, inl, inr, refl, sym, ap, ◌∙◌, if◌then◌else◌, arith}
+use Rattle.std.proofs.Common.{◌≡◌, ℕ, Bool, true, false, ◌||◌, ◌&&◌, not, List, [], ◌∷◌, Option, Some, None, is_some, unwrap_or, inl, inr, refl, sym, ap, ◌∙◌, arith}
 use Rattle.std.specs.List.{AllByRecursion, list_any}
 use Rattle.std.specs.Str.{bytes_eq}
 use Rattle.std.proofs.lemmas.Slice.Eq.{bytes_eq-Decides}
@@ -52,14 +52,18 @@ unique_keys_are_uids Image = (refl, refl, refl)
 -- ---- it is met by a value that is it
 
 among_by : (b : Bool) (first other : List ℕ) (others : List (List ℕ)) → bytes_eq first other ≡ b
-    → (list_any (λ key. bytes_eq key other || false) others ≡ true → IsAmong other others)
-    → ((b || false) || list_any (λ key. bytes_eq key other || false) others) ≡ true → IsAmong other (first ∷ others)
+    → (list_any (λ key. bytes_eq key other) others ≡ true → IsAmong other others)
+    → (b || list_any (λ key. bytes_eq key other) others) ≡ true → IsAmong other (first ∷ others)
 among_by true first other others is rest h = inl ((bytes_eq-Decides first other).0 is)
 among_by false first other others is rest h = inr (rest h)
 
-among_met : (values : List (List ℕ)) (other : List ℕ) → list_any (λ key. bytes_eq key other || false) values ≡ true → IsAmong other values
+among_met : (values : List (List ℕ)) (other : List ℕ) → list_any (λ key. bytes_eq key other) values ≡ true → IsAmong other values
 among_met [] other h = absurd cc
 among_met (first ∷ others) other h = among_by (bytes_eq first other) first other others refl (among_met others other) h
+
+or_none : (b : Bool) → (b || false) ≡ true → b ≡ true
+or_none true h = refl
+or_none false h = h
 
 not_asterisk : (b : Bool) → not b ≡ true → b ≡ false
 not_asterisk true h = absurd cc
@@ -75,10 +79,11 @@ unfolding octets_meet is_universal matching_of is_padded
 met_among key held other [] one two named h = absurd cc
 met_among key held other (first ∷ others) one two named h =
     let values : List (List ℕ) = first ∷ others in
-    let reduced : ((false || (true && is_asterisk values)) || false) || list_any (λ key. bytes_eq key other || false) values ≡ true =
+    let reduced : ((false || (true && is_asterisk values)) || false) || (list_any (λ key. bytes_eq key other) values || false) ≡ true =
     (λ i. ((is_empty (sym one i) || (is_padded UI && is_asterisk (sym one i))) || is_empty (sym two i)) || some_meet (matching_of UI) (sym one i) (sym two i)) ∙ h in
     among_met values other
-    (ap (λ (b : Bool). ((false || (true && b)) || false) || list_any (λ key. bytes_eq key other || false) values) (sym (no_asterisk first others named)) ∙ reduced)
+    (or_none (list_any (λ key. bytes_eq key other) values)
+    (ap (λ (b : Bool). ((false || (true && b)) || false) || (list_any (λ key. bytes_eq key other) values || false)) (sym (no_asterisk first others named)) ∙ reduced))
 
 -- the element of a key that names records
 pub record HasValues (tag : Tag) (keys : ElementList) (values : List (List ℕ)) : Type 0 where

@@ -11,7 +11,7 @@ ghost use Rattle.dq_tables.specs.Serving.{Serves};
 ghost use Rattle.dq_archive.specs.Archives.{Looks, Decides};
 ghost use Rattle.dq_find.specs.Choosing.{is_asked};
 ghost use Rattle.dq_find.specs.Candidates.{looks_up, query_candidates, is_under, named_record, named_rows, looked_up};
-ghost use Rattle.dq_find.specs.Kept.{is_met_later, is_key_met};
+ghost use Rattle.dq_find.specs.Kept.{is_key_met};
 ghost use Rattle.dq_find.specs.Computed.{computed_keys, all_in_order};
 ghost use Rattle.dq_value.specs.Parts.{element_values};
 ghost use Rattle.dq_vr.specs.declared.Vr.TheVariants.{UI};
@@ -25,12 +25,12 @@ use crate::query::{Query, query_of};
 use crate::texts::{Text, elements};
 use dq_archive::{Archive, Decision};
 use dq_config::Institution;
-use dq_dataset::{DataSet, Element, Syntax};
+use dq_dataset::{DataSet, Syntax};
 use dq_dimse::Message;
 use dq_dimse::status::SUCCESS;
 use dq_list::Listed;
 use dq_match::laws::keys_are_met_alone_and_as_a_period;
-use dq_match::{Found, answer, lent_meets, meets};
+use dq_match::{Found, PreparedKeys, shown};
 use dq_tables::laws::{day_numbers_are_in_order, honest_rows_are_sound};
 use dq_tables::{Kind, Row, TableFault, Tables, uid_at};
 use dq_value::{stripped, values};
@@ -95,11 +95,12 @@ fn key_above(keys: &DataSet, tag: Tag) -> &[u8]
     }
 }
 
-/// A query, with the title that was called.
+/// A query with its keys, read once for all records, and the title that was called.
 #[derive(Clone, Copy)]
 struct Search<'a> {
     called: &'a [u8],
     query: &'a Query,
+    prepared: &'a PreparedKeys,
 }
 
 impl Search<'_> {
@@ -223,24 +224,26 @@ impl Search<'_> {
         held: &DataSet,
     ) -> Result<Option<DataSet>, AllocError>
         requires known { HasKnownTags self.now.query.now.keys }
+        requires prepared { self.now.prepared.now ≡ self.now.query.now.keys }
         requires about { about.now ≡ about_answers self.now.called.now self.now.query.now.level }
         ensures { IfOk result (λ given. given
             ≡ answer_if self.now.called.now self.now.query.now held.now) }
     {
-        let Some(part) = answer(alloc, &self.query.keys, held)? else {
+        if !self.prepared.fits(held) {
             return Ok(None);
-        };
-        Ok(Some(part.merged(alloc, about)?))
+        }
+        let part = shown(alloc, &self.query.keys, held)?;
+        Ok(Some(part.into_merged(alloc, about.copied(alloc)?)?))
     }
 
     /// Whether a row meets the keys that a kept element meets, as far as its octets tell before they
     /// are read.
     fn may_fit(&self, row: &Row) -> bool
+        requires { self.now.prepared.now ≡ self.now.query.now.keys }
         ensures { result ≡ false → list_all (is_key_met (data_set_of row.now.octets))
             (elements_of self.now.query.now.keys) ≡ false }
     {
-        let keys = self.query.keys.elements();
-        lent_meets(keys, &MET_LATER, row.octets.as_slice())
+        self.prepared.lent_meets(&MET_LATER, row.octets.as_slice())
     }
 
     /// The answer that a row gives. What no key asks for is not computed, nor what is asked of a
@@ -252,6 +255,7 @@ impl Search<'_> {
         row: &Row,
     ) -> Result<Option<DataSet>, TableFault>
         requires known { HasKnownTags self.now.query.now.keys }
+        requires prepared { self.now.prepared.now ≡ self.now.query.now.keys }
         requires about { about.now ≡ about_answers self.now.called.now self.now.query.now.level }
         ensures { Looks T.state archive.old archive.new (λ records.
             record_answer records self.now.called.now self.now.query.now (record_of row.now)) result }
@@ -264,11 +268,11 @@ impl Search<'_> {
         if !asks_computed(self.query) {
             return Ok(self.answer(archive.alloc, about, &held)?);
         }
-        if !kept_keys_are_met(self.query.keys.elements(), &held) {
+        if !self.prepared.meets_at_once(&MET_LATER, &held) {
             return Ok(None);
         }
         let values = self.computed(archive, row.key.as_slice())?;
-        let held = held.merged(archive.alloc, &values)?;
+        let held = held.into_merged(archive.alloc, values)?;
         Ok(self.answer(archive.alloc, about, &held)?)
     }
 
@@ -278,7 +282,8 @@ impl Search<'_> {
         archive: &mut Archive<'_, T>,
         rows: &[Row],
     ) -> Result<Listed<DataSet>, TableFault>
-        requires { HasKnownTags self.now.query.now.keys }
+        requires known { HasKnownTags self.now.query.now.keys }
+        requires prepared { self.now.prepared.now ≡ self.now.query.now.keys }
         ensures { Looks T.state archive.old archive.new (λ records. filter_map
             (λ (row : TheRow). record_answer records self.now.called.now self.now.query.now
             (record_of row)) rows.now) result }
@@ -329,31 +334,12 @@ fn asks_computed(query: &Query) -> bool
     COMPUTED.iter().any(|tag| query.keys.get(*tag).is_some())
 }
 
-fn is_met_later(tag: Tag) -> bool
-    ensures { result ≡ is_met_later tag }
-{
-    MET_LATER.iter().any(|one| *one == tag)
-}
-
-/// Whether a record, of which nothing is computed yet, meets the keys that a kept element meets.
-fn kept_keys_are_met(keys: &[Element], held: &DataSet) -> bool
-    ensures { result ≡ list_all (is_key_met held.now) keys.now }
-{
-    for key in keys {
-        if !is_met_later(key.tag) && !meets(key, held.get(key.tag)) {
-            return false;
-        }
-    }
-    true
-}
-
 /// Answers a Study Root C-FIND from the records of an institution: of the query's level those that
 /// fit, in order of the octets of their unique key, each with what the keys ask for. It is refused
 /// with status A700 where the identifier is too long, C000 where it is unreadable, and A900 where
 /// it names no level, lacks a unique key of a level above, or has values that are not well formed
 /// (PS3.4 section C.4.1.1.4).
 pub fn find<T: Tables>(
-    alloc: Global,
     tables: &mut T,
     institution: &Institution,
     called: &[u8],
@@ -363,7 +349,7 @@ pub fn find<T: Tables>(
     ensures { Serves (T.state tables.old) (T.state tables.new) institution.now.name
         (λ records. (query_outcome records called.now (plain_message message.now) syntax, [])) result }
 {
-    let mut archive = Archive::new(alloc, tables, institution);
+    let mut archive = Archive::new(tables, institution);
     let decision = decide_answers(&mut archive, called, message, syntax)?;
     archive.carry_out(decision)
 }
@@ -386,9 +372,11 @@ fn decide_answers<T: Tables>(
     honest_rows_are_sound::<T>();
     day_numbers_are_in_order();
     keys_are_met_alone_and_as_a_period();
+    let prepared = PreparedKeys::of(archive.alloc, &query.keys)?;
     let search = Search {
         called,
         query: &query,
+        prepared: &prepared,
     };
     let rows = search.rows(archive)?;
     let answers = search.answers_of(archive, rows.as_slice())?;

@@ -7,14 +7,15 @@ use Rattle.std.specs.Cmp.Lexicographic.{slice_cmp}
 use Rattle.std.specs.Ordering.{match_ordering, is_eq}
 use Rattle.std.specs.declared.cmp.Ordering.{Ordering}
 use Rattle.std.specs.declared.cmp.Ordering.TheVariants.{Less, Equal, Greater}
+use Rattle.std.proofs.lemmas.Bool.Decides.{nat_tests}
 use Rattle.std.proofs.lemmas.Map.Text.{is_eq-slice_cmp}
 use Rattle.std.proofs.lemmas.Slice.Eq.{bytes_eq-Decides}
 use Rattle.dq_list.specs.Octets.{octets_of_vectors}
 use Rattle.dq_match.specs.declared.wildcards.Casing.TheVariants.{Exact}
-use Rattle.dq_match.specs.declared.values.Matching.TheVariants.{WildCard}
+use Rattle.dq_match.specs.declared.values.Matching.TheVariants.{WildCard, Equality}
 use Rattle.dq_match.specs.Wildcards.{wild, after_run, after_one, stands_for, any_run, any_one}
 use Rattle.dq_match.specs.Values.{is_same}
-use Rattle.dq_match.specs.Several.{is_one_of_values, some_equal, AreMetByEquality, is_plain}
+use Rattle.dq_match.specs.Several.{is_one_of_values, AreMetByEquality, is_plain}
 
 -- ---- a pattern without wild cards fits itself alone
 
@@ -32,19 +33,27 @@ plain_meets (wanted ∷ value) (octet ∷ others) plain =
     ap (λ (b : Bool). cond b (after_run (wild Exact value) (octet ∷ others)) (after_one (stands_for Exact wanted) (wild Exact value) (octet ∷ others))) parts.0
     ∙ (λ i. (parts.1 i || nat_eq wanted octet) && plain_meets value others parts.2 i)
 
-each_alike : (f g : List ℕ → Bool) (values : List (List ℕ)) → ((value : List ℕ) → f value ≡ g value) → list_any f values ≡ list_any g values
-each_alike f g [] same = refl
-each_alike f g (value ∷ values) same = (λ i. same value i || each_alike f g values same i)
-
 all_parts : (a b : Bool) → (a && b) ≡ true → (a ≡ true) × (b ≡ true)
 all_parts true b h = (refl, h)
 all_parts false b h = absurd cc
 
+same_back : (a b : List ℕ) → is_same a b ≡ is_same b a
+same_back [] [] = refl
+same_back [] (y ∷ ys) = refl
+same_back (x ∷ xs) [] = refl
+same_back (x ∷ xs) (y ∷ ys) =
+    let first : nat_eq x y ≡ nat_eq y x = grind (arith, nat_tests) in
+    (λ i. first i && same_back xs ys i)
+
 pub plain_by_equality : (keys : List (List ℕ)) → list_all is_plain keys ≡ true → AreMetByEquality WildCard keys
-plain_by_equality [] plain values = refl
-plain_by_equality (key ∷ keys) plain values =
+plain_by_equality [] plain value = refl
+plain_by_equality (key ∷ keys) plain value =
     let parts = all_parts (is_plain key) (list_all is_plain keys) plain in
-    (λ i. each_alike (wild Exact key) (is_same key) values (λ value. plain_meets key value parts.0) i || plain_by_equality keys parts.1 values i)
+    (λ i. (plain_meets key value parts.0 ∙ same_back key value) i || plain_by_equality keys parts.1 value i)
+
+pub equal_by_equality : (keys : List (List ℕ)) → AreMetByEquality Equality keys
+equal_by_equality [] value = refl
+equal_by_equality (key ∷ keys) value = (λ i. same_back key value i || equal_by_equality keys value i)
 
 -- ---- a value that is put into a set
 
@@ -106,8 +115,3 @@ all_in inside left value whole none h = or_none inside ∙ sym (ap (λ (vs : Lis
 pub found_in : (value : List ℕ) (set : List (Vec ℕ)) → list_any (λ (v : Vec ℕ). is_eq (slice_cmp nat_cmp value v.items)) set ≡ is_one_of_values value (octets_of_vectors set)
 found_in value [] = refl
 found_in value (first ∷ others) = (λ i. is_eq-slice_cmp value first.items i || found_in value others i)
-
-pub one_looked_up : (b : Bool) (value : List ℕ) (set : List (Vec ℕ)) (rest keys : List (List ℕ)) (whole : Bool)
-    → list_any (λ (v : Vec ℕ). is_eq (slice_cmp nat_cmp value v.items)) set ≡ b → keys ≡ value ∷ rest → some_equal keys (octets_of_vectors set) ≡ whole
-    → (b || some_equal rest (octets_of_vectors set)) ≡ whole
-one_looked_up b value set rest keys whole is first so_far = grind (arith, found_in)

@@ -6,6 +6,7 @@ pub mod Ranges
 pub mod DateBounds
 pub mod Values
 pub mod Several
+pub mod Takes
 pub mod Keys
 pub mod Matching
 pub mod Fitting
@@ -15,4 +16,6 @@ pub mod Responses
 pub mod Universal
 pub mod ShownTags
 pub mod AsLent
+pub mod Prepared
+pub mod PreparedFalls
 pub mod Answers

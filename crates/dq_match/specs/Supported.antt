@@ -1,7 +1,8 @@
 -- The keys that are supported at each level (PS3.4 tables C.6-3 to C.6-5 and K.6-1).
-use Rattle.std.specs.Prelude.{Bool, false, not, List, [], ◌∷◌, ◌||◌, if◌then◌else◌}
+use Rattle.std.specs.Prelude.{Bool, false, not, List, [], ◌∷◌, ◌++◌, ◌||◌, if◌then◌else◌}
 use Rattle.std.specs.List.{list_any}
 use Rattle.dq_vr.specs.declared.Tag.{Tag}
+use Rattle.dq_vr.specs.StudyRoot.{study_level, series_level, image_level, computed_of_study, computed_of_series}
 use Rattle.dq_vr.specs.Tags as tags
 use Rattle.dq_dataset.specs.Tree.{ElementList, no_elements, element, sequence, ItemList, no_items, item}
 use Rattle.dq_dataset.specs.View.{items_of, list_of}
@@ -17,25 +18,15 @@ use Rattle.dq_match.specs.Keys.{is_tag, other_than_keys}
 abbrev pub is_tag_among : Tag → List Tag → Bool
 is_tag_among tag listed = list_any (λ one. is_tag one tag) listed
 
+-- the keys of a level of the Study Root model are its attributes
 abbrev pub study_keys : List Tag
-study_keys =
-    tags.study_date ∷ tags.study_time ∷ tags.accession_number ∷ tags.modalities_in_study
-    ∷ tags.referring_physician_name ∷ tags.study_description ∷ tags.patient_name ∷ tags.patient_id
-    ∷ tags.issuer_of_patient_id ∷ tags.patient_birth_date ∷ tags.patient_sex
-    ∷ tags.study_instance_uid ∷ tags.study_id ∷ tags.number_of_study_related_series
-    ∷ tags.number_of_study_related_instances ∷ []
+study_keys = study_level ++ computed_of_study
 
 abbrev pub series_keys : List Tag
-series_keys =
-    tags.series_date ∷ tags.series_time ∷ tags.modality ∷ tags.series_description
-    ∷ tags.body_part_examined ∷ tags.study_instance_uid ∷ tags.series_instance_uid
-    ∷ tags.series_number ∷ tags.number_of_series_related_instances ∷ []
+series_keys = series_level ++ computed_of_series
 
 abbrev pub image_keys : List Tag
-image_keys =
-    tags.image_type ∷ tags.sop_class_uid ∷ tags.sop_instance_uid ∷ tags.content_date
-    ∷ tags.content_time ∷ tags.study_instance_uid ∷ tags.series_instance_uid ∷ tags.instance_number
-    ∷ tags.rows ∷ tags.columns ∷ []
+image_keys = image_level
 
 abbrev pub entry_keys : List Tag
 entry_keys =

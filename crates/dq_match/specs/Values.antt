@@ -60,9 +60,13 @@ unfoldable pub is_universal : Vr → List ℕ → Bool
 is_universal vr octets =
     is_empty (element_values vr octets) || (is_padded vr && is_asterisk (element_values vr octets))
 
--- some value of the key is met by some value of the record (C.2.2.2.2)
+-- some value of the key is met by one of the record
+abbrev pub is_met_by_value : Matching → List (List ℕ) → List ℕ → Bool
+is_met_by_value matching keys value = list_any (λ key. value_meets matching key value) keys
+
+-- and by some value of the record (C.2.2.2.2)
 abbrev pub some_meet : Matching → List (List ℕ) → List (List ℕ) → Bool
-some_meet matching keys values = list_any (λ key. list_any (value_meets matching key) values) keys
+some_meet matching keys values = list_any (is_met_by_value matching keys) values
 
 -- A record without values is unknown, and meets every key.
 unfoldable pub octets_meet : Vr → List ℕ → List ℕ → Bool

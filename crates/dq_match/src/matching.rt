@@ -18,28 +18,28 @@ use dq_vr::tags::{SCHEDULED_PROCEDURE_STEP_START_DATE, SCHEDULED_PROCEDURE_STEP_
 use jiff::civil::Date;
 
 #[tactic(auto, unfolding(crate::specs::Matching::asked_days))]
-fn asked_days(keys: &DataSet) -> Option<Bounds<Date>>
+pub(crate) fn asked_days(keys: &DataSet) -> Option<Bounds<Date>>
     ensures { option_map days_of result ≡ asked_days keys.now }
 {
     date_range(keys.sole_value(SCHEDULED_PROCEDURE_STEP_START_DATE)?)
 }
 
 #[tactic(auto, unfolding(crate::specs::Matching::asked_times))]
-fn asked_times(keys: &DataSet) -> Option<Bounds<Span>>
+pub(crate) fn asked_times(keys: &DataSet) -> Option<Bounds<Span>>
     ensures { result ≡ asked_times keys.now }
 {
     time_range(keys.sole_value(SCHEDULED_PROCEDURE_STEP_START_TIME)?)
 }
 
 #[tactic(auto, unfolding(crate::specs::Matching::start_day))]
-fn start_day(held: &DataSet) -> Option<Date>
+pub(crate) fn start_day(held: &DataSet) -> Option<Date>
     ensures { option_map epoch_day result ≡ start_day held.now }
 {
     date_of(held.sole_value(SCHEDULED_PROCEDURE_STEP_START_DATE)?)
 }
 
 #[tactic(auto, unfolding(crate::specs::Matching::start_time))]
-fn start_time(held: &DataSet) -> Option<Span>
+pub(crate) fn start_time(held: &DataSet) -> Option<Span>
     ensures { result ≡ start_time held.now }
 {
     time_of(held.sole_value(SCHEDULED_PROCEDURE_STEP_START_TIME)?)
@@ -64,7 +64,7 @@ fn is_start(tag: Tag) -> bool
     tag == SCHEDULED_PROCEDURE_STEP_START_DATE || tag == SCHEDULED_PROCEDURE_STEP_START_TIME
 }
 
-fn is_matched_elsewhere(place: Place, joined: bool, tag: Tag) -> bool
+pub(crate) fn is_matched_elsewhere(place: Place, joined: bool, tag: Tag) -> bool
     ensures { result ≡ is_matched_elsewhere place joined tag }
 {
     !place.is_key(tag) || (joined && is_start(tag))
@@ -97,16 +97,13 @@ fn each_met(place: Place, joined: bool, keys: &[Element], held: &DataSet) -> boo
 
 /// Whether the element of a record, absent where it is `None`, meets one key of an identifier
 /// (PS3.4 section C.2.2.2). An element that is absent or has no values or items meets every key.
-/// Several values against several take memory, as the key's own, and do without where it is wanting.
+/// Several values against several are compared each with each: `PreparedKeys` look them up.
 #[cycle(matching)]
 pub fn meets(key: &Element, held: Option<&Element>) -> bool
     ensures { result ≡ meets key.now (option_copied held.entry) }
 {
     match &key.value {
-        Value::Octets(octets) => {
-            let alloc = *octets.inner().allocator();
-            octets_meet(alloc, key.vr, octets.as_slice(), octets_in(held))
-        }
+        Value::Octets(octets) => octets_meet(key.vr, octets.as_slice(), octets_in(held)),
         Value::Items(items) => items_meet(items.as_slice(), items_in(held)),
     }
 }

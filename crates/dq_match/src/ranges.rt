@@ -4,7 +4,7 @@ ghost use Rattle.std.specs.Option.{option_copied};
 ghost use Rattle.jiff.specs.Words.{epoch_day};
 ghost use Rattle.dq_value.specs.Day.{day};
 ghost use Rattle.dq_value.specs.Time.{span};
-ghost use Rattle.dq_match.specs.Ranges.{bound, range_bounds, bounds, has_day, unless_open, date_meets, time_meets, is_from, is_until, is_in_range};
+ghost use Rattle.dq_match.specs.Ranges.{bound, range_bounds, bounds, has_day, has_time, both, unless_open, date_meets, time_meets, is_from, is_until, is_in_range};
 ghost use Rattle.dq_match.specs.DateBounds.{days_of};
 
 use dq_value::{date_of, range_of, time_of};
@@ -122,31 +122,41 @@ fn is_time_until(last: Option<Span>, microsecond: u64) -> bool
 }
 
 /// Whether the date of the record is the key's, or in its range.
+pub(crate) fn is_date_met(range: Option<Bounds<Date>>, date: Option<Date>) -> bool
+    ensures { result ≡ both has_day (option_map days_of range) (option_map epoch_day date) }
+{
+    match (range, date) {
+        (Some(range), Some(date)) => has_day(range, date),
+        _ => false,
+    }
+}
+
+/// Whether the time of the record begins in the key's time, or in its range.
+pub(crate) fn is_time_met(range: Option<Bounds<Span>>, time: Option<Span>) -> bool
+    ensures { result ≡ both has_time range time }
+{
+    match (range, time) {
+        (Some((first, last)), Some((start, _))) => {
+            is_time_from(first, start) && is_time_until(last, start)
+        }
+        _ => false,
+    }
+}
+
+/// Whether a value of the record meets a date or a range of dates.
 #[tactic(auto, unfolding(crate::specs::Ranges::date_meets))]
 pub(crate) fn date_meets(key: &[u8], value: &[u8]) -> bool
     ensures { result ≡ date_meets key.now value.now }
 {
-    let Some(range) = date_bounds(key) else {
-        return false;
-    };
-    let Some(date) = date_of(value) else {
-        return false;
-    };
-    has_day(range, date)
+    is_date_met(date_bounds(key), date_of(value))
 }
 
-/// Whether the time of the record begins in the key's time, or in its range.
+/// Whether a value of the record meets a time or a range of times.
 #[tactic(auto, unfolding(crate::specs::Ranges::time_meets))]
 pub(crate) fn time_meets(key: &[u8], value: &[u8]) -> bool
     ensures { result ≡ time_meets key.now value.now }
 {
-    let Some((first, last)) = time_bounds(key) else {
-        return false;
-    };
-    let Some((start, _)) = time_of(value) else {
-        return false;
-    };
-    is_time_from(first, start) && is_time_until(last, start)
+    is_time_met(time_bounds(key), time_of(value))
 }
 
 fn is_from(days: Option<Date>, times: Option<Span>, date: Date, microsecond: u64) -> bool

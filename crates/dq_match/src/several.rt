@@ -1,9 +1,9 @@
-//! Several values of a key against several of a record, without comparing each with each.
+//! Several values of a key, which are put in order to be looked up.
 ghost use Rattle.std.specs.Prelude.{◌≡◌, ℕ, List, IfOk};
 ghost use Rattle.std.specs.List.{list_all};
 ghost use Rattle.dq_list.specs.Octets.{octets_of_vectors};
 ghost use Rattle.dq_value.specs.Parts.{element_values};
-ghost use Rattle.dq_match.specs.Several.{is_one_of_values, some_equal, is_plain_octet, is_plain};
+ghost use Rattle.dq_match.specs.Several.{is_one_of_values, is_plain_octet, is_plain};
 
 use dq_value::values;
 use dq_vr::Vr;
@@ -41,14 +41,12 @@ pub(crate) fn all_plain(vr: Vr, key: &[u8]) -> bool
     true
 }
 
-/// Whether there are two values or more.
-pub(crate) fn has_several(vr: Vr, octets: &[u8]) -> bool {
-    let mut all = values(vr, octets);
-    all.next().is_some() && all.next().is_some()
-}
-
 /// The values in the order of their octets.
-fn in_order(alloc: Global, vr: Vr, octets: &[u8]) -> Result<BTreeSet<Vec<u8>>, AllocError>
+pub(crate) fn in_order(
+    alloc: Global,
+    vr: Vr,
+    octets: &[u8],
+) -> Result<BTreeSet<Vec<u8>>, AllocError>
     ensures { IfOk result (λ set. (value : List ℕ)
         → is_one_of_values value (octets_of_vectors set.keys) ≡ is_one_of_values value (element_values vr octets.now)) }
 {
@@ -58,25 +56,4 @@ fn in_order(alloc: Global, vr: Vr, octets: &[u8]) -> Result<BTreeSet<Vec<u8>>, A
         set.insert(Vec::from_slice(alloc, value)?)?;
     }
     Ok(set)
-}
-
-fn some_is_in(vr: Vr, key: &[u8], set: &BTreeSet<Vec<u8>>) -> bool
-    ensures { result ≡ some_equal (element_values vr key.now) (octets_of_vectors set.now.keys) }
-{
-    let mut keys = values(vr, key);
-    while let Some(value) = keys.next() {
-        if set.contains(value) {
-            return true;
-        }
-    }
-    false
-}
-
-/// Whether some value of the record is some value of the key.
-pub(crate) fn some_equal(alloc: Global, vr: Vr, key: &[u8], held: &[u8]) -> Result<bool, AllocError>
-    ensures { IfOk result (λ met. met
-        ≡ some_equal (element_values vr key.now) (element_values vr held.now)) }
-{
-    let set = in_order(alloc, vr, held)?;
-    Ok(some_is_in(vr, key, &set))
 }

@@ -1,6 +1,6 @@
 //! The keys that are supported at each level, and what is left of an identifier without the others
 //! (PS3.4 sections C.6.2.1 and K.6.1.2).
-ghost use Rattle.std.specs.Prelude.{◌≡◌, IfOk};
+ghost use Rattle.std.specs.Prelude.{◌≡◌, ◌<◌, ◌++◌, IfOk, length, drop};
 ghost use Rattle.dq_dataset.specs.View.{as_elements, elements_of, items_of, list_of};
 ghost use Rattle.dq_match.specs.Identifiers.{HasKnownTags};
 ghost use Rattle.dq_match.specs.Supported.{key_tags, leaves, is_tag_among, is_supported, below, below_entry, below_step, supported_part, supported_items, supported_value, has_unsupported, have_unsupported, value_has_unsupported};
@@ -9,6 +9,9 @@ ghost use Rattle.dq_match.specs.declared.supported.KeyScope.TheVariants.{Identif
 use crate::keys::is_other_than_key;
 use dq_dataset::{DataSet, Element, Value};
 use dq_list::Listed;
+use dq_vr::study_root::{
+    COMPUTED_OF_SERIES, COMPUTED_OF_STUDY, image_attributes, series_attributes, study_attributes,
+};
 use dq_vr::{Tag, tags};
 use std::alloc::{AllocError, Global};
 
@@ -35,49 +38,6 @@ pub enum KeyScope {
     /// Items of which no key is supported.
     Other,
 }
-
-static STUDY_KEYS: [Tag; 15] = [
-    tags::STUDY_DATE,
-    tags::STUDY_TIME,
-    tags::ACCESSION_NUMBER,
-    tags::MODALITIES_IN_STUDY,
-    tags::REFERRING_PHYSICIAN_NAME,
-    tags::STUDY_DESCRIPTION,
-    tags::PATIENT_NAME,
-    tags::PATIENT_ID,
-    tags::ISSUER_OF_PATIENT_ID,
-    tags::PATIENT_BIRTH_DATE,
-    tags::PATIENT_SEX,
-    tags::STUDY_INSTANCE_UID,
-    tags::STUDY_ID,
-    tags::NUMBER_OF_STUDY_RELATED_SERIES,
-    tags::NUMBER_OF_STUDY_RELATED_INSTANCES,
-];
-
-static SERIES_KEYS: [Tag; 9] = [
-    tags::SERIES_DATE,
-    tags::SERIES_TIME,
-    tags::MODALITY,
-    tags::SERIES_DESCRIPTION,
-    tags::BODY_PART_EXAMINED,
-    tags::STUDY_INSTANCE_UID,
-    tags::SERIES_INSTANCE_UID,
-    tags::SERIES_NUMBER,
-    tags::NUMBER_OF_SERIES_RELATED_INSTANCES,
-];
-
-static IMAGE_KEYS: [Tag; 10] = [
-    tags::IMAGE_TYPE,
-    tags::SOP_CLASS_UID,
-    tags::SOP_INSTANCE_UID,
-    tags::CONTENT_DATE,
-    tags::CONTENT_TIME,
-    tags::STUDY_INSTANCE_UID,
-    tags::SERIES_INSTANCE_UID,
-    tags::INSTANCE_NUMBER,
-    tags::ROWS,
-    tags::COLUMNS,
-];
 
 static ENTRY_KEYS: [Tag; 32] = [
     tags::ACCESSION_NUMBER,
@@ -147,15 +107,25 @@ fn is_among(tag: Tag, listed: &[Tag]) -> bool
     listed.iter().any(|one| *one == tag)
 }
 
+/// Whether the tag is of a level's attributes, Specific Character Set apart, which is the first of
+/// those that are kept.
+#[tactic(auto, using(crate::proofs::Joined::among_joined))]
+fn is_key_of_level(tag: Tag, kept: &[Tag], computed: &[Tag]) -> bool
+    requires { 0 < length kept.now }
+    ensures { result ≡ is_tag_among tag (drop 1 kept.now ++ computed.now) }
+{
+    is_among(tag, &kept[1..]) || is_among(tag, computed)
+}
+
 impl KeyList {
     #[tactic(auto, unfolding(crate::specs::Supported::key_tags))]
     fn has(self, tag: Tag) -> bool
         ensures { result ≡ is_tag_among tag (key_tags self) }
     {
         match self {
-            KeyList::Study => is_among(tag, &STUDY_KEYS),
-            KeyList::Series => is_among(tag, &SERIES_KEYS),
-            KeyList::Image => is_among(tag, &IMAGE_KEYS),
+            KeyList::Study => is_key_of_level(tag, study_attributes(), &COMPUTED_OF_STUDY),
+            KeyList::Series => is_key_of_level(tag, series_attributes(), &COMPUTED_OF_SERIES),
+            KeyList::Image => is_key_of_level(tag, image_attributes(), &[]),
             KeyList::Entry => is_among(tag, &ENTRY_KEYS),
         }
     }

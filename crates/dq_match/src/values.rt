@@ -4,15 +4,14 @@ ghost use Rattle.std.specs.List.{list_any, list_all};
 ghost use Rattle.dq_list.specs.Lengths.{is_empty};
 ghost use Rattle.dq_value.specs.Parts.{element_values};
 ghost use Rattle.dq_value.specs.Trimming.{is_padded, without_trailing};
-ghost use Rattle.dq_match.specs.Values.{matching_of, is_name_pad, compared_name, value_meets, is_asterisk, is_universal, some_meet, octets_meet, is_well_formed_value, are_well_formed};
+ghost use Rattle.dq_match.specs.Values.{matching_of, is_name_pad, compared_name, value_meets, is_asterisk, is_universal, is_met_by_value, some_meet, octets_meet, is_well_formed_value, are_well_formed};
 ghost use Rattle.dq_match.specs.Several.{AreMetByEquality};
 
 use crate::ranges::{date_bounds, date_meets, time_bounds, time_meets};
-use crate::several::{all_plain, has_several, some_equal};
+use crate::several::all_plain;
 use crate::wildcards::{Casing, wild_by};
 use dq_value::{Parts, sole_value, values};
 use dq_vr::Vr;
-use std::alloc::Global;
 
 /// How values of a VR are matched.
 #[derive(Clone, Copy, Debug, PartialEq, Eq)]
@@ -57,7 +56,7 @@ impl Matching {
     }
 
     /// Whether each value of the key is met by equality.
-    fn is_by_equality(self, vr: Vr, key: &[u8]) -> bool
+    pub(crate) fn is_by_equality(self, vr: Vr, key: &[u8]) -> bool
         ensures { result ≡ true → AreMetByEquality self (element_values vr key.now) }
     {
         match self {
@@ -107,7 +106,7 @@ fn is_text_or_uid(vr: Vr) -> bool
 
 /// Whether a key is met by every record: it has no values, or its only value is an asterisk.
 #[tactic(auto, unfolding(crate::specs::Values::is_universal))]
-fn is_universal(vr: Vr, key: &[u8]) -> bool
+pub(crate) fn is_universal(vr: Vr, key: &[u8]) -> bool
     ensures { result ≡ is_universal vr key.now }
 {
     has_no_values(vr, key) || (is_text_or_uid(vr) && is_asterisk(vr, key))
@@ -128,11 +127,11 @@ fn is_asterisk(vr: Vr, key: &[u8]) -> bool
     }
 }
 
-/// Whether some value of the record meets the key's one.
-fn some_value_meets(matching: Matching, key: &[u8], mut held: Parts) -> bool
-    ensures { result ≡ list_any (value_meets matching key.now) held.entry }
+/// Whether some value of the key is met by the record's one.
+pub(crate) fn some_key_met(matching: Matching, mut keys: Parts, value: &[u8]) -> bool
+    ensures { result ≡ is_met_by_value matching keys.entry value.now }
 {
-    while let Some(value) = held.next() {
+    while let Some(key) = keys.next() {
         if matching.value_meets(key, value) {
             return true;
         }
@@ -141,40 +140,24 @@ fn some_value_meets(matching: Matching, key: &[u8], mut held: Parts) -> bool
 }
 
 /// Whether some value of the record meets some value of the key, each compared with each.
-fn some_meets_some(matching: Matching, vr: Vr, key: &[u8], held: &[u8]) -> bool
+fn some_meet(matching: Matching, vr: Vr, key: &[u8], held: &[u8]) -> bool
     ensures { result ≡ some_meet matching (element_values vr key.now) (element_values vr held.now) }
 {
-    let mut keys = values(vr, key);
-    while let Some(value) = keys.next() {
-        if some_value_meets(matching, value, values(vr, held)) {
+    let mut all = values(vr, held);
+    while let Some(value) = all.next() {
+        if some_key_met(matching, values(vr, key), value) {
             return true;
         }
     }
     false
 }
 
-/// Whether some value of the record meets some value of the key. Several values that are met by
-/// equality are looked up among those of the record, where memory suffices to put these in order.
-fn some_meet(alloc: Global, vr: Vr, key: &[u8], held: &[u8]) -> bool
-    ensures { result ≡ some_meet (matching_of vr) (element_values vr key.now) (element_values vr held.now) }
-{
-    let matching = Matching::of(vr);
-    if has_several(vr, key) && has_several(vr, held) {
-        if matching.is_by_equality(vr, key) {
-            if let Ok(met) = some_equal(alloc, vr, key, held) {
-                return met;
-            }
-        }
-    }
-    some_meets_some(matching, vr, key, held)
-}
-
 /// Whether the octets of a record's element meet a key of the VR.
 #[tactic(auto, unfolding(crate::specs::Values::octets_meet))]
-pub(crate) fn octets_meet(alloc: Global, vr: Vr, key: &[u8], held: &[u8]) -> bool
+pub(crate) fn octets_meet(vr: Vr, key: &[u8], held: &[u8]) -> bool
     ensures { result ≡ octets_meet vr key.now held.now }
 {
-    is_universal(vr, key) || has_no_values(vr, held) || some_meet(alloc, vr, key, held)
+    is_universal(vr, key) || has_no_values(vr, held) || some_meet(Matching::of(vr), vr, key, held)
 }
 
 /// Whether each value of a date or time key is one date or time, or a range.

@@ -28,7 +28,6 @@ const STEP_LIMIT: usize = 0x40_0000;
 /// Changes a performed procedure step of the institution, and answers the status
 /// (PS3.4 section F.7.2.2). A refusal, and a fault of the tables or want of memory, change nothing.
 pub fn set<T: Tables>(
-    alloc: Global,
     tables: &mut T,
     institution: &Institution,
     message: &Message,
@@ -37,7 +36,7 @@ pub fn set<T: Tables>(
     ensures { Serves (T.state tables.old) (T.state tables.new) institution.now.name
         (λ records. set_outcome records (plain_message message.now) syntax) result }
 {
-    let mut archive = Archive::new(alloc, tables, institution);
+    let mut archive = Archive::new(tables, institution);
     let decision = decide_change(&mut archive, message, syntax)?;
     archive.carry_out(decision)
 }

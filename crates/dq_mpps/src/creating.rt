@@ -28,7 +28,6 @@ use std::alloc::{AllocError, Global};
 /// Creates a performed procedure step among the institution's rows, and answers the status
 /// (PS3.4 section F.7.2.1). A refusal, and a fault of the tables or want of memory, change nothing.
 pub fn create<T: Tables>(
-    alloc: Global,
     tables: &mut T,
     institution: &Institution,
     message: &Message,
@@ -37,7 +36,7 @@ pub fn create<T: Tables>(
     ensures { Serves (T.state tables.old) (T.state tables.new) institution.now.name
         (λ records. create_outcome (limits_of institution.now) records (plain_message message.now) syntax) result }
 {
-    let mut archive = Archive::new(alloc, tables, institution);
+    let mut archive = Archive::new(tables, institution);
     let decision = decide_creation(&mut archive, message, syntax)?;
     archive.carry_out(decision)
 }

@@ -142,7 +142,6 @@ pub fn lines_of<C: CountsRows>(
 /// Tables, as what is kept after a history.
 #[derive(Drop)]
 struct Kept<T> {
-    alloc: Global,
     tables: T,
 }
 
@@ -159,7 +158,7 @@ impl<T: Tables> CountsRows for Kept<T> {
     ghost fails = { λ _ _ fault. fault ≢ Fault.Stopped };
 
     fn count_rows(&mut self, kind: Kind, name: &[u8]) -> Result<u64, Fault> {
-        Ok(self.tables.count(self.alloc, kind, name)?)
+        Ok(self.tables.count(kind, name)?)
     }
 
     ghost leads_nowhere = { λ it honest. refl };
@@ -219,11 +218,10 @@ fn report_of<T: Tables + Drop>(
 {
     let names = names_of(alloc, history.config.institutions())?;
     let mut kept = Kept {
-        alloc,
         tables: kept_after(alloc, history, tables)?,
     };
     let text = lines_of(alloc, &mut kept, names.as_slice())?;
-    let Kept { alloc: _, tables } = kept;
+    let Kept { tables } = kept;
     Ok((text, tables))
 }
 

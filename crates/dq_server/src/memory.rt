@@ -48,67 +48,62 @@ impl Tables for RowsInMemory {
 
     ghost left_sound = { λ t. left_sound _ _ t.tables.keeps };
 
+    fn alloc(&self) -> Global {
+        self.tables.alloc()
+    }
+
     fn row(
         &mut self,
-        alloc: Global,
         kind: Kind,
         institution: &[u8],
         key: &[u8],
     ) -> Result<Option<Row>, TableFault> {
-        without_failure(self.tables.row(alloc, kind, institution, key))
+        without_failure(self.tables.row(kind, institution, key))
     }
 
-    fn rows_of(
-        &mut self,
-        alloc: Global,
-        kind: Kind,
-        institution: &[u8],
-    ) -> Result<Listed<Row>, TableFault> {
-        without_failure(self.tables.rows_of(alloc, kind, institution))
+    fn rows_of(&mut self, kind: Kind, institution: &[u8]) -> Result<Listed<Row>, TableFault> {
+        without_failure(self.tables.rows_of(kind, institution))
     }
 
     fn rows_above(
         &mut self,
-        alloc: Global,
         kind: Kind,
         institution: &[u8],
         above: &[u8],
     ) -> Result<Listed<Row>, TableFault> {
-        without_failure(self.tables.rows_above(alloc, kind, institution, above))
+        without_failure(self.tables.rows_above(kind, institution, above))
     }
 
     fn studies_in(
         &mut self,
-        alloc: Global,
         institution: &[u8],
         choice: &Choice,
     ) -> Result<Listed<Row>, TableFault> {
-        without_failure(self.tables.studies_in(alloc, institution, choice))
+        without_failure(self.tables.studies_in(institution, choice))
     }
 
-    fn waiting(&mut self, alloc: Global, institution: &[u8]) -> Result<Listed<Row>, TableFault> {
-        without_failure(self.tables.waiting(alloc, institution))
+    fn waiting(&mut self, institution: &[u8]) -> Result<Listed<Row>, TableFault> {
+        without_failure(self.tables.waiting(institution))
     }
 
-    fn count(&mut self, alloc: Global, kind: Kind, institution: &[u8]) -> Result<u64, TableFault> {
-        without_failure(self.tables.count(alloc, kind, institution))
+    fn count(&mut self, kind: Kind, institution: &[u8]) -> Result<u64, TableFault> {
+        without_failure(self.tables.count(kind, institution))
     }
 
     fn count_above(
         &mut self,
-        alloc: Global,
         kind: Kind,
         institution: &[u8],
         above: &[u8],
     ) -> Result<u64, TableFault> {
-        without_failure(self.tables.count_above(alloc, kind, institution, above))
+        without_failure(self.tables.count_above(kind, institution, above))
     }
 
     fn failed(&self) -> bool {
         false
     }
 
-    fn apply(&mut self, alloc: Global, change: &Change) -> Result<(), TableFault> {
-        without_failure(self.tables.apply(alloc, change))
+    fn apply(&mut self, change: &Change) -> Result<(), TableFault> {
+        without_failure(self.tables.apply(change))
     }
 }

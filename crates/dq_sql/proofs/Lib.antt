@@ -1,9 +1,11 @@
 mod Added
 mod Counted
+mod CountsAbove
 mod Counting
 mod Filled
 mod Found
 mod Inserted
+mod KeysAbove
 mod Judged
 mod Judgements
 mod Keeping

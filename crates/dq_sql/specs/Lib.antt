@@ -11,6 +11,7 @@ pub mod Keeping
 pub mod Kept
 pub mod Adopting
 pub mod Counts
+pub mod CountsAbove
 pub mod Filling
 pub mod Migrating
 pub mod Migration

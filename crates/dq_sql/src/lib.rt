@@ -1,11 +1,13 @@
 //! Rows in SQLite: a keeper of rows over a database that lasts.
 #![tactic(auto)]
 
+mod above_key;
 mod adopting;
 mod cells;
 mod choosing;
 mod copying;
 mod counts;
+mod counts_above;
 mod fault;
 mod filling;
 mod finding;
@@ -14,6 +16,7 @@ mod ids;
 mod judgement;
 mod judging;
 mod kept_steps;
+mod known;
 pub mod laws;
 mod memory_files;
 mod migrate_fault;

@@ -46,7 +46,7 @@ pub(crate) fn answered<S: Alter>(
 }
 
 /// The octets in a column.
-fn octets_at(values: &sqlite::Row, at: usize) -> Result<Listed<u8>, TableFault>
+pub(crate) fn octets_at(values: &sqlite::Row, at: usize) -> Result<Listed<u8>, TableFault>
     ensures { IfOk result (λ octets. octets ≡ bytes (column values.now at)) }
 {
     match values.get::<Vec<u8>>(at) {

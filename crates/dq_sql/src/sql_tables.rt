@@ -7,15 +7,15 @@ ghost use Rattle.dq_tables.specs.declared.fault.TableFault.TheVariants.{Store};
 ghost use Rattle.dq_tables.specs.declared.row.Row.{Row};
 ghost use Rattle.dq_sql.specs.Keeping.{KeepsSoundRows, under_schema};
 ghost use Rattle.dq_sql.specs.Tie.{HasRows};
-ghost use Rattle.dq_sql.specs.Counts.{AreRight};
+ghost use Rattle.dq_sql.specs.Counts.{AreKnown};
 ghost use Rattle.dq_sql.specs.Restarting.{ImageHoldsRows, HoldsAlone};
 ghost use Rattle.sqlite_wal.specs.Files.{outcomes};
 ghost use Rattle.sqlite_wal.specs.Reads.{AreClean};
 ghost use Rattle.sqlite_wal.specs.Recovery.{Image};
 
-use crate::counts::Counts;
 use crate::fault::StoreFault;
 use crate::history::History;
+use crate::known::Known;
 use crate::silents::Silents;
 use crate::{choosing, reading, writing};
 use dq_list::Listed;
@@ -29,14 +29,15 @@ use std::alloc::Global;
 #[derive(Drop)]
 pub struct SqlTables<S: Alter> {
     pub(crate) conn: Connection<S>,
+    alloc: Global,
     failed: bool,
     pub(crate) history: History,
-    counts: Counts,
+    known: Known,
     silents: Silents,
     ghost alone: { conn.in_transaction ≡ false },
     ghost keeps: { ∥ (HasCleanDisk (state S.Store conn)
         → KeepsSoundRows (state S.Store conn) history.rows) ∥₁ },
-    ghost counted: { ∥ (HasCleanDisk (state S.Store conn) → AreRight history.rows counts) ∥₁ },
+    ghost counted: { ∥ (HasCleanDisk (state S.Store conn) → AreKnown history.rows known) ∥₁ },
 }
 
 /// The answer, whose failure of the store is noted.
@@ -64,9 +65,10 @@ impl<S: Alter> SqlTables<S> {
     {
         SqlTables {
             conn,
+            alloc,
             failed: false,
             history: History::from_rows(rows),
-            counts: Counts::new(alloc),
+            known: Known::new(alloc),
             silents: Silents::new(alloc),
         }
     }
@@ -87,9 +89,10 @@ impl<S: Alter> SqlTables<S> {
     {
         let SqlTables {
             conn,
+            alloc: _,
             failed: _,
             history: _,
-            counts: _,
+            known: _,
             silents: _,
         } = self;
         conn
@@ -136,76 +139,78 @@ impl<S: Alter> Tables for SqlTables<S> {
 
     ghost left_sound = { λ t. left_sound _ _ t.keeps };
 
+    fn alloc(&self) -> Global {
+        self.alloc
+    }
+
     fn row(
         &mut self,
-        alloc: Global,
         kind: Kind,
         institution: &[u8],
         key: &[u8],
     ) -> Result<Option<Row>, TableFault> {
-        let answer = reading::row(&mut self.conn, alloc, kind, institution, key);
+        let answer = reading::row(&mut self.conn, self.alloc, kind, institution, key);
         noted(&mut self.failed, answer)
     }
 
-    fn rows_of(
-        &mut self,
-        alloc: Global,
-        kind: Kind,
-        institution: &[u8],
-    ) -> Result<Listed<Row>, TableFault> {
-        let answer = reading::rows_of(&mut self.conn, alloc, kind, institution);
+    fn rows_of(&mut self, kind: Kind, institution: &[u8]) -> Result<Listed<Row>, TableFault> {
+        let answer = reading::rows_of(&mut self.conn, self.alloc, kind, institution);
         noted(&mut self.failed, answer)
     }
 
     fn rows_above(
         &mut self,
-        alloc: Global,
         kind: Kind,
         institution: &[u8],
         above: &[u8],
     ) -> Result<Listed<Row>, TableFault> {
-        let answer = reading::rows_above(&mut self.conn, alloc, kind, institution, above);
+        let answer = reading::rows_above(&mut self.conn, self.alloc, kind, institution, above);
         noted(&mut self.failed, answer)
     }
 
     fn studies_in(
         &mut self,
-        alloc: Global,
         institution: &[u8],
         choice: &Choice,
     ) -> Result<Listed<Row>, TableFault> {
         let answer = choosing::studies_in(
             &mut self.conn,
             &mut self.silents,
-            alloc,
+            self.alloc,
             institution,
             choice,
         );
         noted(&mut self.failed, answer)
     }
 
-    fn waiting(&mut self, alloc: Global, institution: &[u8]) -> Result<Listed<Row>, TableFault> {
-        let answer = reading::waiting(&mut self.conn, alloc, institution);
+    fn waiting(&mut self, institution: &[u8]) -> Result<Listed<Row>, TableFault> {
+        let answer = reading::waiting(&mut self.conn, self.alloc, institution);
         noted(&mut self.failed, answer)
     }
 
-    fn count(&mut self, alloc: Global, kind: Kind, institution: &[u8]) -> Result<u64, TableFault> {
-        if let Some(number) = self.counts.get(kind, institution) {
+    fn count(&mut self, kind: Kind, institution: &[u8]) -> Result<u64, TableFault> {
+        if let Some(number) = self.known.get(kind, institution) {
             return Ok(number);
         }
         let answer = reading::count(&mut self.conn, kind, institution);
         let number = noted(&mut self.failed, answer)?;
-        self.counts.note(alloc, kind, institution, number)?;
+        self.known.note(self.alloc, kind, institution, number)?;
         Ok(number)
     }
 
     fn count_above(
         &mut self,
-        _alloc: Global,
         kind: Kind,
         institution: &[u8],
         above: &[u8],
     ) -> Result<u64, TableFault> {
+        if let Some(number) = self.known.get_above(self.alloc, kind, institution, above)? {
+            return Ok(number);
+        }
+        let learnt = self
+            .known
+            .learn(self.alloc, &mut self.conn, kind, institution);
+        noted(&mut self.failed, learnt)?;
         let answer = reading::count_above(&mut self.conn, kind, institution, above);
         noted(&mut self.failed, answer)
     }
@@ -214,11 +219,11 @@ impl<S: Alter> Tables for SqlTables<S> {
         self.failed
     }
 
-    fn apply(&mut self, alloc: Global, change: &Change) -> Result<(), TableFault> {
-        match writing::commit(&mut self.conn, alloc, change) {
+    fn apply(&mut self, change: &Change) -> Result<(), TableFault> {
+        match writing::commit(&mut self.conn, self.alloc, change) {
             Ok(()) => {
                 self.history = self.history.then(change);
-                self.counts.follow(change);
+                self.known.follow(change);
                 Ok(())
             }
             Err(fault) => noted(&mut self.failed, Err(fault)),

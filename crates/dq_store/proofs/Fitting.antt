@@ -34,7 +34,7 @@ use Rattle.dq_tables.proofs.Order.{rows_total, is_at, IsRising-split}
 use Rattle.dq_tables.proofs.InOrder.{row_at_is}
 use Rattle.dq_tables.proofs.Lens.{rising_edit}
 use Rattle.dq_tables.proofs.Seen.{found_own}
-use Rattle.dq_store.specs.Attributes.{study_attributes, series_attributes, image_attributes}
+use Rattle.dq_vr.specs.StudyRoot.{study_attributes, series_attributes, image_attributes}
 use Rattle.dq_store.specs.Storing.{Instance, Kept, kept_among, cut_record, study_record, series_record, image_record, put_new, stored_edits}
 use Rattle.dq_store.specs.Views.{new_if, new_rows}
 

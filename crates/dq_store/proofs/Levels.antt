@@ -1,5 +1,5 @@
 -- What is cut out for a level is of that level, and the attributes that are kept are those of the levels.
-use Rattle.std.proofs.Common.{◌≡◌, Bool, true, false, ◌||◌, List, [], ◌∷◌, ◌++◌, filter, refl, sym, ◌∙◌, ap, if◌then◌else◌}
+use Rattle.std.proofs.Common.{◌≡◌, Bool, true, false, ◌||◌, List, [], ◌∷◌, ◌++◌, filter, refl, ◌∙◌, ap, if◌then◌else◌}
 use Rattle.std.specs.List.{list_all, list_any}
 use Rattle.std.proofs.lemmas.Bool.{and_parts}
 use Rattle.dq_vr.specs.declared.Tag.{Tag}
@@ -8,10 +8,9 @@ use Rattle.dq_dataset.specs.Tree.{ElementList}
 use Rattle.dq_dataset.specs.View.{as_elements, elements_of, has_tag}
 use Rattle.dq_dataset.specs.Editing.{cut_out, is_listed}
 use Rattle.dq_dataset.proofs.Views.{as_elements-elements_of, elements_of-as_elements}
-use Rattle.dq_dimse.specs.Attributes.{kept_attributes}
-use Rattle.dq_store.specs.Attributes.{study_attributes, series_attributes, image_attributes}
+use Rattle.dq_vr.specs.StudyRoot.{kept_attributes}
+use Rattle.dq_vr.specs.StudyRoot.{study_attributes, series_attributes, image_attributes}
 use Rattle.dq_store.specs.Levels.{has_only}
-use Rattle.dq_store.proofs.Sieved.{AllListed, listed_too, study_kept, series_kept, image_kept}
 
 -- ---- what is cut out
 
@@ -39,12 +38,6 @@ cut_is_whole tags d only = ap as_elements (whole_filter (is_listed tags) (elemen
 
 -- ---- the attributes that are kept
 
-abbrev of_levels : List Tag
-of_levels = study_attributes ++ (series_attributes ++ image_attributes)
-
-kept_of_levels : AllListed kept_attributes of_levels
-kept_of_levels = refl
-
 or_again : (a b c : Bool) → (a || (b || c)) ≡ ((a || b) || c)
 or_again true b c = refl
 or_again false b c = refl
@@ -53,26 +46,8 @@ any_append : {X : Type 0} (f : X → Bool) (xs ys : List X) → list_any f (xs +
 any_append f [] ys = refl
 any_append f (x ∷ xs) ys = ap (λ (b : Bool). f x || b) (any_append f xs ys) ∙ or_again (f x) (list_any f xs) (list_any f ys)
 
-listed_apart : (e : Element) → is_listed of_levels e ≡ (is_listed study_attributes e || (is_listed series_attributes e || is_listed image_attributes e))
-listed_apart e =
-    any_append (λ (tag : Tag). has_tag tag e) study_attributes (series_attributes ++ image_attributes)
-    ∙ ap (λ (b : Bool). is_listed study_attributes e || b) (any_append (λ (tag : Tag). has_tag tag e) series_attributes image_attributes)
-
-alike : (a b : Bool) → (a ≡ true → b ≡ true) → (b ≡ true → a ≡ true) → a ≡ b
-alike true b f g = sym (f refl)
-alike false true f g = g refl
-alike false false f g = refl
-
-one_of : (a b c k : Bool) → (a ≡ true → k ≡ true) → (b ≡ true → k ≡ true) → (c ≡ true → k ≡ true) → (a || (b || c)) ≡ true → k ≡ true
-one_of true b c k f g h any = f refl
-one_of false true c k f g h any = g refl
-one_of false false c k f g h any = h any
-
 pub kept_are_of_levels : (e : Element) → is_listed kept_attributes e
     ≡ (is_listed study_attributes e || (is_listed series_attributes e || is_listed image_attributes e))
 kept_are_of_levels e =
-    alike (is_listed kept_attributes e) (is_listed study_attributes e || (is_listed series_attributes e || is_listed image_attributes e))
-    (λ kept. sym (listed_apart e) ∙ listed_too kept_attributes of_levels kept_of_levels e kept)
-    (one_of (is_listed study_attributes e) (is_listed series_attributes e) (is_listed image_attributes e) (is_listed kept_attributes e)
-    (listed_too study_attributes kept_attributes study_kept e) (listed_too series_attributes kept_attributes series_kept e)
-    (listed_too image_attributes kept_attributes image_kept e))
+    any_append (λ (tag : Tag). has_tag tag e) study_attributes (series_attributes ++ image_attributes)
+    ∙ ap (λ (b : Bool). is_listed study_attributes e || b) (any_append (λ (tag : Tag). has_tag tag e) series_attributes image_attributes)

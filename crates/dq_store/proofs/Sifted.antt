@@ -20,7 +20,7 @@ use Rattle.dq_dimse.specs.declared.command.Body.{Body}
 use Rattle.dq_dimse.specs.declared.command.Body.TheVariants.{Octets, Sifted}
 use Rattle.dq_dimse.specs.declared.command.Command.{Command}
 use Rattle.dq_dimse.specs.declared.command.Message.{Message as HeldMessage}
-use Rattle.dq_dimse.specs.Attributes.{kept_attributes}
+use Rattle.dq_vr.specs.StudyRoot.{kept_attributes}
 use Rattle.dq_dimse.specs.Holding.{BodyStandsFor, StandsFor, is_sifted, is_stored}
 use Rattle.dq_dimse.specs.Messages.{store_limit, other_limit}
 use Rattle.dq_dimse.specs.Received.{Message}

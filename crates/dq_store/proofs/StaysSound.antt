@@ -14,7 +14,7 @@ use Rattle.dq_dataset.specs.Canonical.{canonical}
 use Rattle.dq_dataset.specs.Editing.{cut_out}
 use Rattle.dq_dataset.specs.Sieve.{has_other}
 use Rattle.dq_dimse.specs.declared.command.Command.{Command}
-use Rattle.dq_dimse.specs.Attributes.{kept_attributes}
+use Rattle.dq_vr.specs.StudyRoot.{kept_attributes}
 use Rattle.dq_dimse.specs.Received.{Message}
 use Rattle.dq_dimse.specs.Receiving.{is_over}
 use Rattle.dq_config.specs.Limits.{Limits}

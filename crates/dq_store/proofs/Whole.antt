@@ -31,7 +31,7 @@ use Rattle.dq_tables.proofs.Listing.{one_kind}
 use Rattle.dq_tables.proofs.Rising.{each_among}
 use Rattle.dq_tables.proofs.Members.{find_among}
 use Rattle.dq_tables.proofs.Seen.{found_own}
-use Rattle.dq_store.specs.Attributes.{study_attributes, series_attributes, image_attributes}
+use Rattle.dq_vr.specs.StudyRoot.{study_attributes, series_attributes, image_attributes}
 use Rattle.dq_store.specs.Levels.{keeps_to_its_level, is_of_its_level, data_set_in, stands_whole}
 use Rattle.dq_store.specs.Storing.{Instance, Kept, kept_among, instance_in, keeps_too_much, is_under_another, is_kept_elsewhere, standing_attributes, storage_refusals, study_record, series_record, image_record, put_new, stored_status, stored_edits, store_outcome}
 use Rattle.dq_store.proofs.Levels.{cut_is_whole}

@@ -12,7 +12,7 @@ use Rattle.dq_tables.specs.declared.row.Row.{Row}
 use Rattle.dq_tables.specs.Rows.{Record}
 use Rattle.dq_tables.specs.Finding.{record_at}
 use Rattle.dq_tables.specs.Records.{data_set_of}
-use Rattle.dq_store.specs.Attributes.{study_attributes, series_attributes, image_attributes}
+use Rattle.dq_vr.specs.StudyRoot.{study_attributes, series_attributes, image_attributes}
 use Rattle.dq_store.specs.Storing.{Instance, is_kept_whole}
 
 -- each element is one of the attributes

@@ -1,4 +1,3 @@
-pub mod Attributes
 pub mod Levels
 pub mod Storing
 pub mod Views

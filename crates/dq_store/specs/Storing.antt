@@ -16,7 +16,7 @@ use Rattle.dq_dataset.specs.Canonical.{canonical}
 use Rattle.dq_dataset.specs.Editing.{cut_out}
 use Rattle.dq_dataset.specs.Same.{has_element}
 use Rattle.dq_dataset.specs.Sieve.{is_over_limit}
-use Rattle.dq_dimse.specs.Attributes.{kept_attributes}
+use Rattle.dq_vr.specs.StudyRoot.{kept_attributes}
 use Rattle.dq_dimse.specs.declared.command.Command.{Command}
 use Rattle.dq_dimse.specs.Limits.{store_limit}
 use Rattle.dq_dimse.specs.Received.{Message}
@@ -31,7 +31,7 @@ use Rattle.dq_tables.specs.Keys.{uid_at}
 use Rattle.dq_tables.specs.Records.{data_set_of}
 use Rattle.dq_tables.specs.Serving.{first_refusal, refusal_or}
 use Rattle.dq_tables.specs.Sound.{is_value}
-use Rattle.dq_store.specs.Attributes.{study_attributes, series_attributes, image_attributes}
+use Rattle.dq_vr.specs.StudyRoot.{study_attributes, series_attributes, image_attributes}
 
 -- ---- what is sent
 

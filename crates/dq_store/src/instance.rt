@@ -7,11 +7,11 @@ ghost use Rattle.dq_tables.specs.Rows.{row_of};
 ghost use Rattle.dq_store.specs.Storing.{instance_in, names_instance, cut_record, study_record, series_record, image_record};
 ghost use Rattle.dq_store.specs.Views.{instance_of, HasUids};
 
-use crate::attributes;
 use dq_dataset::laws::editing_law;
 use dq_dataset::{DataSet, Syntax, write};
 use dq_dimse::Command;
 use dq_tables::{Kind, RecordKeys, Row, uid_at};
+use dq_vr::study_root::{image_attributes, series_attributes, study_attributes};
 use dq_vr::{Tag, tags};
 use std::alloc::{AllocError, Global};
 
@@ -62,7 +62,7 @@ impl<'a> Instance<'a> {
             key: self.study,
             above: &[],
         };
-        self.row(alloc, name, &keys, &attributes::STUDY)
+        self.row(alloc, name, &keys, study_attributes())
     }
 
     /// The row that is kept of its series.
@@ -76,7 +76,7 @@ impl<'a> Instance<'a> {
             key: self.series,
             above: self.study,
         };
-        self.row(alloc, name, &keys, &attributes::SERIES)
+        self.row(alloc, name, &keys, series_attributes())
     }
 
     /// The row that is kept of its image.
@@ -89,7 +89,7 @@ impl<'a> Instance<'a> {
             key: self.image,
             above: self.series,
         };
-        self.row(alloc, name, &keys, &attributes::IMAGE)
+        self.row(alloc, name, &keys, image_attributes())
     }
 
     /// The row of those attributes that are listed.

@@ -7,11 +7,10 @@ ghost use Rattle.dq_archive.specs.Archives.{Looks};
 ghost use Rattle.dq_dataset.specs.Editing.{cut_out, is_listed};
 ghost use Rattle.dq_dataset.specs.Same.{has_element};
 ghost use Rattle.dq_tables.specs.Records.{data_set_of};
-ghost use Rattle.dq_store.specs.Attributes.{study_attributes, series_attributes, image_attributes};
+ghost use Rattle.dq_vr.specs.StudyRoot.{study_attributes, series_attributes, image_attributes};
 ghost use Rattle.dq_store.specs.Storing.{is_under_another, kept_refusals, finds_no_room, count_of, limit_refusals, instance_refusals, is_kept_whole};
 ghost use Rattle.dq_store.specs.Views.{instance_of, rows_among, unless_refused, records_kept, kept_status};
 
-use crate::attributes;
 use crate::instance::Instance;
 use crate::keeping::{KeptRows, Level};
 use dq_archive::Archive;
@@ -19,6 +18,7 @@ use dq_dataset::{DataSet, Element};
 use dq_dimse::status;
 use dq_tables::{Kind, Row, TableFault, Tables};
 use dq_vr::Tag;
+use dq_vr::study_root::{image_attributes, series_attributes, study_attributes};
 use std::alloc::{AllocError, Global};
 
 /// The rows that are kept already of what is sent.
@@ -185,9 +185,9 @@ fn is_kept_whole(study: &DataSet, series: &DataSet, image: &DataSet, sent: &Data
     ensures { result ≡ is_kept_whole (cut_out study_attributes study.now)
         (cut_out series_attributes series.now) (cut_out image_attributes image.now) sent.now }
 {
-    sent.elements().iter().all(|element| has_attribute(study, &attributes::STUDY, element)
-        || has_attribute(series, &attributes::SERIES, element)
-        || has_attribute(image, &attributes::IMAGE, element))
+    sent.elements().iter().all(|element| has_attribute(study, study_attributes(), element)
+        || has_attribute(series, series_attributes(), element)
+        || has_attribute(image, image_attributes(), element))
 }
 
 /// The status of an instance that is not refused: whether elements of it are discarded (PS3.4

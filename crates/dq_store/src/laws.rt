@@ -9,7 +9,7 @@ ghost use Rattle.dq_dataset.specs.Tree.{no_elements};
 ghost use Rattle.dq_dataset.specs.Reading.{reading};
 ghost use Rattle.dq_dataset.specs.Editing.{is_listed};
 ghost use Rattle.dq_dataset.specs.Facts.{IsDataSet};
-ghost use Rattle.dq_dimse.specs.Attributes.{kept_attributes};
+ghost use Rattle.dq_vr.specs.StudyRoot.{kept_attributes};
 ghost use Rattle.dq_dimse.specs.Received.{Message};
 ghost use Rattle.dq_dimse.specs.Statuses.{success, elements_discarded};
 ghost use Rattle.dq_config.specs.Limits.{Limits};
@@ -20,7 +20,7 @@ ghost use Rattle.dq_tables.specs.Rows.{Record, Edit, IsRising, of, by, after, re
 ghost use Rattle.dq_tables.specs.Finding.{record_at};
 ghost use Rattle.dq_tables.specs.Records.{data_set_of};
 ghost use Rattle.dq_tables.specs.Sound.{IsSound};
-ghost use Rattle.dq_store.specs.Attributes.{study_attributes, series_attributes, image_attributes};
+ghost use Rattle.dq_vr.specs.StudyRoot.{study_attributes, series_attributes, image_attributes};
 ghost use Rattle.dq_store.specs.Levels.{is_of_its_level, stands_whole};
 ghost use Rattle.dq_store.specs.Storing.{instance_in, store_outcome};
 

@@ -1,7 +1,6 @@
 //! Storage as an SCP (PS3.4 annex B): what is kept of an instance, and the status of a C-STORE.
 #![tactic(auto)]
 
-mod attributes;
 mod instance;
 mod keeping;
 mod kept;

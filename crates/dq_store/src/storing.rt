@@ -30,7 +30,6 @@ use std::alloc::{AllocError, Global};
 /// refusal, and a fault of the tables or want of memory, change nothing. The message is a C-STORE:
 /// its data set was sifted as it came, unless it passed its limit.
 pub fn store<T: Tables>(
-    alloc: Global,
     tables: &mut T,
     institution: &Institution,
     message: &Message,
@@ -62,12 +61,11 @@ pub fn store<T: Tables>(
     if !can_be_written(data_set, Syntax::Explicit) {
         return Ok(status::OUT_OF_RESOURCES);
     }
-    store_instance(alloc, tables, institution, &sent)
+    store_instance(tables, institution, &sent)
 }
 
 /// Stores an instance that was read.
 fn store_instance<T: Tables>(
-    alloc: Global,
     tables: &mut T,
     institution: &Institution,
     sent: &Instance<'_>,
@@ -78,7 +76,7 @@ fn store_instance<T: Tables>(
         (λ records. instance_stored (limits_of institution.now) records sent.now.other
         (instance_of sent.now)) result }
 {
-    let mut archive = Archive::new(alloc, tables, institution);
+    let mut archive = Archive::new(tables, institution);
     let decision = decide_instance(&mut archive, sent)?;
     archive.carry_out(decision)
 }

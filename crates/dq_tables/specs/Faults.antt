@@ -2,7 +2,7 @@
 use Rattle.std.specs.Prelude.{ℕ, ◌-◌, ◌==◌, ◌||◌, true, if◌then◌else◌}
 use Rattle.dq_tables.specs.declared.fault.TableFault.{TableFault}
 use Rattle.dq_tables.specs.declared.fault.TableFault.TheVariants.{NoMemory, Store}
-use Rattle.dq_tables.specs.declared.fuse.Fuse.{Fuse}
+use Rattle.dq_tables.specs.declared.testing.fuse.Fuse.{Fuse}
 
 abbrev pub table_fault_number : TableFault → ℕ
 table_fault_number NoMemory = 1

@@ -123,9 +123,13 @@ record_of row = record {
   started = row.started;
 }
 
+-- the rows under an institution's name
+abbrev pub rows_named : List ℕ → List Row → List Row
+rows_named institution rows = filter (λ (row : Row). bytes_eq row.inst institution) rows
+
 -- the records of an institution
 unfoldable pub of : List ℕ → List Row → List Record
-of institution rows = map record_of (filter (λ (row : Row). bytes_eq row.inst institution) rows)
+of institution rows = map record_of (rows_named institution rows)
 
 -- where a row stands among all
 pub record RowPlace : Type 0 where

@@ -1,12 +1,11 @@
-//! What is kept of several institutions: rows, their changes, and the trait of what keeps them.
+//! What is kept of several institutions: rows, their changes, and the trait of what keeps them. `Fused`
+//! is for tests: it fails after some changes.
 #![tactic(auto)]
 
 mod asked;
 mod change;
 mod choice;
 mod fault;
-mod fuse;
-mod fused;
 mod keys;
 mod labels;
 pub mod laws;
@@ -20,12 +19,11 @@ mod scan;
 mod search;
 mod starting;
 mod tables;
+mod testing;
 
 pub use change::Change;
 pub use choice::Choice;
 pub use fault::TableFault;
-pub use fuse::Fuse;
-pub use fused::Fused;
 pub use keys::{entry_id, sole_item_at, uid_at};
 pub use labels::{Labels, day_number};
 pub use making::make_change;
@@ -35,3 +33,4 @@ pub use row::{Kind, RecordKeys, Row};
 pub use search::search as search_rows;
 pub use starting::ids_named;
 pub use tables::Tables;
+pub use testing::{Fuse, Fused};

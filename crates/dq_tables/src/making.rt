@@ -6,17 +6,12 @@ ghost use Rattle.dq_tables.specs.Keeping.{Writes};
 use crate::change::Change;
 use crate::fault::TableFault;
 use crate::tables::Tables;
-use std::alloc::Global;
 
 /// Makes one change, whole or not at all, and lets it go.
-pub fn make_change<T: Tables>(
-    alloc: Global,
-    tables: &mut T,
-    change: Change,
-) -> Result<(), TableFault>
+pub fn make_change<T: Tables>(tables: &mut T, change: Change) -> Result<(), TableFault>
     requires { (T.state tables.old).honest → ChangeFits (T.state tables.old).rows change }
     ensures { Writes (T.state tables.old) (T.state tables.new)
         (after (operation_of change) (T.state tables.old).rows) result }
 {
-    tables.apply(alloc, &change)
+    tables.apply(&change)
 }

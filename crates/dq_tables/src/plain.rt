@@ -14,6 +14,7 @@ use std::alloc::{AllocError, Global};
 /// answer `Store`.
 #[derive(Drop)]
 pub struct PlainTables {
+    pub(crate) alloc: Global,
     kept: Vec<Row>,
     ghost rising: { IsRising kept.items } by { IsRising-prop kept.items },
     ghost own: { OwnEach kept.items } by { OwnEach-prop kept.items },
@@ -29,6 +30,7 @@ impl PlainTables {
         ensures failed { (⟦<PlainTables as crate::tables::Tables>⟧.state result).failed ≡ false }
     {
         PlainTables {
+            alloc,
             kept: Vec::new(alloc),
         }
     }
@@ -40,14 +42,14 @@ impl PlainTables {
     }
 
     /// Puts a copy of a row in its place. Want of memory changes nothing.
-    pub(crate) fn keep(&mut self, alloc: Global, row: &Row) -> Result<(), AllocError>
+    pub(crate) fn keep(&mut self, row: &Row) -> Result<(), AllocError>
         requires own { is_own_row row.now ≡ true }
         requires held { is_held self.old.kept.items row.now.kind row.now.inst row.now.above ≡ true }
         ensures ok { OnOk result (self.new.kept.items
             ≡ after_edit row.now.inst (Put (record_of row.now)) self.old.kept.items) }
         ensures err { OnErr result (self.new.kept.items ≡ self.old.kept.items) }
     {
-        let row = row.copied(alloc)?;
+        let row = row.copied(self.alloc)?;
         self.kept.reserve(1)?;
         put(&mut self.kept, row);
         Ok(())
@@ -57,7 +59,6 @@ impl PlainTables {
     /// places. Want of memory changes nothing.
     pub(crate) fn keep_stored(
         &mut self,
-        alloc: Global,
         study: &Option<Row>,
         series: &Option<Row>,
         image: &Row,
@@ -67,9 +68,9 @@ impl PlainTables {
             ≡ after (operation_of (Stored study.now series.now image.now)) self.old.kept.items) }
         ensures err { OnErr result (self.new.kept.items ≡ self.old.kept.items) }
     {
-        let study = Row::copied_if(alloc, study)?;
-        let series = Row::copied_if(alloc, series)?;
-        let image = image.copied(alloc)?;
+        let study = Row::copied_if(self.alloc, study)?;
+        let series = Row::copied_if(self.alloc, series)?;
+        let image = image.copied(self.alloc)?;
         self.kept.reserve(3)?;
         put_if(&mut self.kept, study);
         put_if(&mut self.kept, series);
@@ -79,18 +80,13 @@ impl PlainTables {
 
     /// Puts a copy of a new step in its place, and starts entries of its institution. Want of
     /// memory changes nothing.
-    pub(crate) fn keep_step(
-        &mut self,
-        alloc: Global,
-        step: &Row,
-        keys: &[Listed<u8>],
-    ) -> Result<(), AllocError>
+    pub(crate) fn keep_step(&mut self, step: &Row, keys: &[Listed<u8>]) -> Result<(), AllocError>
         requires { FitsStep self.old.kept.items step.now keys.now }
         ensures ok { OnOk result (self.new.kept.items
             ≡ after (operation_of (StepAdded step.now keys.now)) self.old.kept.items) }
         ensures err { OnErr result (self.new.kept.items ≡ self.old.kept.items) }
     {
-        self.keep(alloc, step)?;
+        self.keep(step)?;
         self.start_each(step.inst.as_slice(), keys);
         Ok(())
     }

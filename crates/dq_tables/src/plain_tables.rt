@@ -23,55 +23,50 @@ impl Tables for PlainTables {
 
     ghost left_sound = { λ _ _ _ left. absurd left };
 
+    fn alloc(&self) -> Global {
+        self.alloc
+    }
+
     fn row(
         &mut self,
-        alloc: Global,
         kind: Kind,
         institution: &[u8],
         key: &[u8],
     ) -> Result<Option<Row>, TableFault> {
-        Ok(scan::row_at(alloc, self.kept(), kind, institution, key)?)
+        Ok(scan::row_at(self.alloc, self.kept(), kind, institution, key)?)
     }
 
-    fn rows_of(
-        &mut self,
-        alloc: Global,
-        kind: Kind,
-        institution: &[u8],
-    ) -> Result<Listed<Row>, TableFault> {
-        Ok(scan::rows_of(alloc, self.kept(), kind, institution)?)
+    fn rows_of(&mut self, kind: Kind, institution: &[u8]) -> Result<Listed<Row>, TableFault> {
+        Ok(scan::rows_of(self.alloc, self.kept(), kind, institution)?)
     }
 
     fn rows_above(
         &mut self,
-        alloc: Global,
         kind: Kind,
         institution: &[u8],
         above: &[u8],
     ) -> Result<Listed<Row>, TableFault> {
-        Ok(scan::rows_above(alloc, self.kept(), kind, institution, above)?)
+        Ok(scan::rows_above(self.alloc, self.kept(), kind, institution, above)?)
     }
 
     fn studies_in(
         &mut self,
-        alloc: Global,
         institution: &[u8],
         choice: &Choice,
     ) -> Result<Listed<Row>, TableFault> {
-        Ok(scan::studies_in(alloc, self.kept(), institution, choice)?)
+        Ok(scan::studies_in(self.alloc, self.kept(), institution, choice)?)
     }
 
-    fn waiting(&mut self, alloc: Global, institution: &[u8]) -> Result<Listed<Row>, TableFault> {
-        Ok(scan::waiting(alloc, self.kept(), institution)?)
+    fn waiting(&mut self, institution: &[u8]) -> Result<Listed<Row>, TableFault> {
+        Ok(scan::waiting(self.alloc, self.kept(), institution)?)
     }
 
-    fn count(&mut self, _alloc: Global, kind: Kind, institution: &[u8]) -> Result<u64, TableFault> {
+    fn count(&mut self, kind: Kind, institution: &[u8]) -> Result<u64, TableFault> {
         Ok(scan::count_of(self.kept(), kind, institution))
     }
 
     fn count_above(
         &mut self,
-        _alloc: Global,
         kind: Kind,
         institution: &[u8],
         above: &[u8],
@@ -83,20 +78,20 @@ impl Tables for PlainTables {
         false
     }
 
-    fn apply(&mut self, alloc: Global, change: &Change) -> Result<(), TableFault> {
+    fn apply(&mut self, change: &Change) -> Result<(), TableFault> {
         match change {
             Change::Stored {
                 study,
                 series,
                 image,
-            } => self.keep_stored(alloc, study, series, image)?,
+            } => self.keep_stored(study, series, image)?,
             Change::EntryRemoved { inst, key } => self.remove_entry(
                 inst.as_slice(),
                 key.as_slice(),
             ),
-            Change::EntryAdded(row) => self.keep(alloc, row)?,
-            Change::StepAdded(row, keys) => self.keep_step(alloc, row, keys.as_slice())?,
-            Change::StepChanged(row) => self.keep(alloc, row)?,
+            Change::EntryAdded(row) => self.keep(row)?,
+            Change::StepAdded(row, keys) => self.keep_step(row, keys.as_slice())?,
+            Change::StepChanged(row) => self.keep(row)?,
         }
         Ok(())
     }

@@ -18,30 +18,22 @@ use std::alloc::Global;
 /// What keeps the rows of several institutions.
 ///
 /// Each call answers from the rows, or answers a fault and leaves them as they were. Lists are in
-/// the order of the keys, octet by octet.
+/// the order of the keys, octet by octet. What is answered is allocated by the keeper's allocator.
 pub trait Tables {
     /// What contracts see.
     ghost state: { Self → State };
 
+    /// The allocator that it was made with.
+    fn alloc(&self) -> Global;
+
     /// The institution's row of a kind with the key.
-    fn row(
-        &mut self,
-        alloc: Global,
-        kind: Kind,
-        institution: &[u8],
-        key: &[u8],
-    ) -> Result<Option<Row>, TableFault>
+    fn row(&mut self, kind: Kind, institution: &[u8], key: &[u8]) -> Result<Option<Row>, TableFault>
         ensures found { (state self.new).honest → IfOk result
             (λ row. row ≡ row_at kind institution.now key.now (state self.old).rows) }
         ensures reads { Reads (state self.old) (state self.new) result };
 
     /// The institution's rows of a kind.
-    fn rows_of(
-        &mut self,
-        alloc: Global,
-        kind: Kind,
-        institution: &[u8],
-    ) -> Result<Listed<Row>, TableFault>
+    fn rows_of(&mut self, kind: Kind, institution: &[u8]) -> Result<Listed<Row>, TableFault>
         ensures found { (state self.new).honest → IfOk result
             (λ list. list ≡ rows_of kind institution.now (state self.old).rows) }
         ensures reads { Reads (state self.old) (state self.new) result };
@@ -49,7 +41,6 @@ pub trait Tables {
     /// The institution's rows of a kind under the row with the key `above`.
     fn rows_above(
         &mut self,
-        alloc: Global,
         kind: Kind,
         institution: &[u8],
         above: &[u8],
@@ -59,25 +50,20 @@ pub trait Tables {
         ensures reads { Reads (state self.old) (state self.new) result };
 
     /// The institution's studies that a choice takes.
-    fn studies_in(
-        &mut self,
-        alloc: Global,
-        institution: &[u8],
-        choice: &Choice,
-    ) -> Result<Listed<Row>, TableFault>
+    fn studies_in(&mut self, institution: &[u8], choice: &Choice) -> Result<Listed<Row>, TableFault>
         ensures found { (state self.new).honest → IfOk result
             (λ list. list ≡ studies_in choice.now institution.now (state self.old).rows) }
         ensures reads { Reads (state self.old) (state self.new) result };
 
     /// The institution's worklist entries that no performed procedure step has started (PS3.4
     /// section K.6.1.2).
-    fn waiting(&mut self, alloc: Global, institution: &[u8]) -> Result<Listed<Row>, TableFault>
+    fn waiting(&mut self, institution: &[u8]) -> Result<Listed<Row>, TableFault>
         ensures found { (state self.new).honest → IfOk result
             (λ list. list ≡ waiting_entries institution.now (state self.old).rows) }
         ensures reads { Reads (state self.old) (state self.new) result };
 
     /// How many rows of a kind the institution has.
-    fn count(&mut self, alloc: Global, kind: Kind, institution: &[u8]) -> Result<u64, TableFault>
+    fn count(&mut self, kind: Kind, institution: &[u8]) -> Result<u64, TableFault>
         ensures found { (state self.new).honest → IfOk result
             (λ number. number ≡ length (rows_of kind institution.now (state self.old).rows)) }
         ensures reads { Reads (state self.old) (state self.new) result };
@@ -85,7 +71,6 @@ pub trait Tables {
     /// How many rows of a kind the institution has under the row with the key `above`.
     fn count_above(
         &mut self,
-        alloc: Global,
         kind: Kind,
         institution: &[u8],
         above: &[u8],
@@ -100,7 +85,7 @@ pub trait Tables {
         ensures { result ≡ (state self.now).failed };
 
     /// Makes one change, whole or not at all.
-    fn apply(&mut self, alloc: Global, change: &Change) -> Result<(), TableFault>
+    fn apply(&mut self, change: &Change) -> Result<(), TableFault>
         requires { (state self.old).honest → ChangeFits (state self.old).rows change.now }
         ensures { Writes (state self.old) (state self.new)
             (after (operation_of change.now) (state self.old).rows) result };
@@ -113,114 +98,80 @@ pub trait Tables {
         → (r : List Row) → (state it).may_leave r → IsSound r };
 
     /// The institution's study with the key.
-    final fn study(
-        &mut self,
-        alloc: Global,
-        institution: &[u8],
-        key: &[u8],
-    ) -> Result<Option<Row>, TableFault>
+    final fn study(&mut self, institution: &[u8], key: &[u8]) -> Result<Option<Row>, TableFault>
         ensures found { (state self.new).honest → IfOk result
             (λ row. row ≡ row_at Study institution.now key.now (state self.old).rows) }
         ensures reads { Reads (state self.old) (state self.new) result }
     {
-        self.row(alloc, Kind::Study, institution, key)
+        self.row(Kind::Study, institution, key)
     }
 
     /// The institution's series with the key.
-    final fn series(
-        &mut self,
-        alloc: Global,
-        institution: &[u8],
-        key: &[u8],
-    ) -> Result<Option<Row>, TableFault>
+    final fn series(&mut self, institution: &[u8], key: &[u8]) -> Result<Option<Row>, TableFault>
         ensures found { (state self.new).honest → IfOk result
             (λ row. row ≡ row_at Series institution.now key.now (state self.old).rows) }
         ensures reads { Reads (state self.old) (state self.new) result }
     {
-        self.row(alloc, Kind::Series, institution, key)
+        self.row(Kind::Series, institution, key)
     }
 
     /// The institution's image with the key.
-    final fn image(
-        &mut self,
-        alloc: Global,
-        institution: &[u8],
-        key: &[u8],
-    ) -> Result<Option<Row>, TableFault>
+    final fn image(&mut self, institution: &[u8], key: &[u8]) -> Result<Option<Row>, TableFault>
         ensures found { (state self.new).honest → IfOk result
             (λ row. row ≡ row_at Image institution.now key.now (state self.old).rows) }
         ensures reads { Reads (state self.old) (state self.new) result }
     {
-        self.row(alloc, Kind::Image, institution, key)
+        self.row(Kind::Image, institution, key)
     }
 
     /// The institution's worklist entry with the key.
-    final fn entry(
-        &mut self,
-        alloc: Global,
-        institution: &[u8],
-        key: &[u8],
-    ) -> Result<Option<Row>, TableFault>
+    final fn entry(&mut self, institution: &[u8], key: &[u8]) -> Result<Option<Row>, TableFault>
         ensures found { (state self.new).honest → IfOk result
             (λ row. row ≡ row_at Entry institution.now key.now (state self.old).rows) }
         ensures reads { Reads (state self.old) (state self.new) result }
     {
-        self.row(alloc, Kind::Entry, institution, key)
+        self.row(Kind::Entry, institution, key)
     }
 
     /// The institution's performed procedure step with the key.
-    final fn step(
-        &mut self,
-        alloc: Global,
-        institution: &[u8],
-        key: &[u8],
-    ) -> Result<Option<Row>, TableFault>
+    final fn step(&mut self, institution: &[u8], key: &[u8]) -> Result<Option<Row>, TableFault>
         ensures found { (state self.new).honest → IfOk result
             (λ row. row ≡ row_at Step institution.now key.now (state self.old).rows) }
         ensures reads { Reads (state self.old) (state self.new) result }
     {
-        self.row(alloc, Kind::Step, institution, key)
+        self.row(Kind::Step, institution, key)
     }
 
     /// The institution's studies.
-    final fn studies(
-        &mut self,
-        alloc: Global,
-        institution: &[u8],
-    ) -> Result<Listed<Row>, TableFault>
+    final fn studies(&mut self, institution: &[u8]) -> Result<Listed<Row>, TableFault>
         ensures found { (state self.new).honest → IfOk result
             (λ list. list ≡ rows_of Study institution.now (state self.old).rows) }
         ensures reads { Reads (state self.old) (state self.new) result }
     {
-        self.rows_of(alloc, Kind::Study, institution)
+        self.rows_of(Kind::Study, institution)
     }
 
     /// The institution's worklist entries.
-    final fn entries(
-        &mut self,
-        alloc: Global,
-        institution: &[u8],
-    ) -> Result<Listed<Row>, TableFault>
+    final fn entries(&mut self, institution: &[u8]) -> Result<Listed<Row>, TableFault>
         ensures found { (state self.new).honest → IfOk result
             (λ list. list ≡ rows_of Entry institution.now (state self.old).rows) }
         ensures reads { Reads (state self.old) (state self.new) result }
     {
-        self.rows_of(alloc, Kind::Entry, institution)
+        self.rows_of(Kind::Entry, institution)
     }
 
     /// The institution's performed procedure steps.
-    final fn steps(&mut self, alloc: Global, institution: &[u8]) -> Result<Listed<Row>, TableFault>
+    final fn steps(&mut self, institution: &[u8]) -> Result<Listed<Row>, TableFault>
         ensures found { (state self.new).honest → IfOk result
             (λ list. list ≡ rows_of Step institution.now (state self.old).rows) }
         ensures reads { Reads (state self.old) (state self.new) result }
     {
-        self.rows_of(alloc, Kind::Step, institution)
+        self.rows_of(Kind::Step, institution)
     }
 
     /// The series of the institution's study with the key `above`.
     final fn series_of(
         &mut self,
-        alloc: Global,
         institution: &[u8],
         above: &[u8],
     ) -> Result<Listed<Row>, TableFault>
@@ -228,13 +179,12 @@ pub trait Tables {
             (λ list. list ≡ rows_above Series institution.now above.now (state self.old).rows) }
         ensures reads { Reads (state self.old) (state self.new) result }
     {
-        self.rows_above(alloc, Kind::Series, institution, above)
+        self.rows_above(Kind::Series, institution, above)
     }
 
     /// The images of the institution's series with the key `above`.
     final fn images_of(
         &mut self,
-        alloc: Global,
         institution: &[u8],
         above: &[u8],
     ) -> Result<Listed<Row>, TableFault>
@@ -242,6 +192,6 @@ pub trait Tables {
             (λ list. list ≡ rows_above Image institution.now above.now (state self.old).rows) }
         ensures reads { Reads (state self.old) (state self.new) result }
     {
-        self.rows_above(alloc, Kind::Image, institution, above)
+        self.rows_above(Kind::Image, institution, above)
     }
 }

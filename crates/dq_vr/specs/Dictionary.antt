@@ -3,7 +3,7 @@
 use Rattle.std.specs.Prelude.{List, [], ◌∷◌, Option, Some, None, nat_eq, AllPairs, IsTrue, if◌then◌else◌, ◌&&◌}
 use Rattle.dq_vr.specs.declared.Tag.{Tag}
 use Rattle.dq_vr.specs.declared.Vr.{Vr}
-use Rattle.dq_vr.specs.declared.TheConstants.{DICTIONARY}
+use Rattle.dq_vr.specs.declared.tags.TheConstants.{DICTIONARY}
 use Rattle.dq_vr.specs.Tag.{is_below}
 
 -- A tag and its VR.

@@ -5,7 +5,7 @@ use Rattle.dq_core.specs.declared.event.Event.{Event}
 use Rattle.dq_core.specs.declared.fault.Fault.{Fault}
 use Rattle.dq_wires.specs.declared.calls.Call.{Call}
 use Rattle.dq_wires.specs.declared.fault.TurnFault.{TurnFault}
-use Rattle.dq_wires.specs.declared.rounds.Holding.{Holding}
+use Rattle.dq_wires.specs.declared.rounds.HeldWires.{HeldWires}
 use Rattle.dq_wires.specs.Logs.{LogsAll}
 use Rattle.dq_wires.specs.Held.{HeldWire}
 use Rattle.dq_wires.specs.Steps.{Step, Runs, StopsBy}
@@ -13,8 +13,8 @@ use Rattle.dq_wires.specs.Deeds.{Break, IsBreak, break_calls, break_event}
 use Rattle.dq_wires.specs.Turns.{Done, wire_of, calls_of, done_steps, wires_kept, AreDue, Hold, Taking, IsTaking, taking_calls, taking_steps, with_taken, Turn, IsTurn, turn_calls, turn_steps, after_turn, Cut, IsCut, cut_calls, cut_steps, CutStops}
 
 -- what contracts see of the connections that are held
-abbrev pub hold_in : Holding → Hold
-hold_in holding = record { held = holding.held.items; newest = holding.newest }
+abbrev pub hold_in : HeldWires → Hold
+hold_in wires = record { held = wires.held.items; newest = wires.newest }
 
 -- each of these connections had its turn
 pub record RoundWent {State : Type 0} (Goes : State → State → Step → Type 0)

@@ -20,6 +20,7 @@ mod rounds;
 mod socket;
 mod sockets;
 mod stepping;
+mod titles;
 mod turner;
 mod turning;
 mod watched;

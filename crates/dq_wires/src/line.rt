@@ -5,6 +5,8 @@ ghost use Rattle.dq_wires.specs.Logs.{IfGot};
 use crate::calls::{ReadTurn, WireFault};
 use crate::given_up::{GivenUp, Limits, Reason};
 use crate::socket::Socket;
+use crate::titles::Titles;
+use mio::event::Event;
 use std::io::ErrorKind;
 use std::net::SocketAddr;
 use std::time::Duration;
@@ -84,15 +86,37 @@ enum Stage {
     Closing,
 }
 
-/// A connection: its socket and its peer's address, whether the system may have something for it,
-/// since when no octet has passed, how far it is and since when, what was written, and why it was
-/// given up, if it was.
+/// What the system may have for a connection.
+#[derive(Clone, Copy)]
+struct Readiness {
+    is_readable: bool,
+    is_writable: bool,
+    /// Whether the peer sends no more, or the connection broke.
+    is_ending: bool,
+}
+
+/// What a connection has of the reads that it shares with others of the same titles.
+#[derive(Clone, Copy)]
+struct Share {
+    /// Its titles, if the first octets that came on it have them.
+    titles: Option<Titles>,
+    /// Whether it was read since the turn began.
+    is_read: bool,
+    /// How often another was read in its place since it was read last.
+    passed_over: u64,
+}
+
+/// A connection: its socket and its peer's address, what the system may have for it, its share of
+/// the reads, whether octets came and whether some wait to be sent, since when no octet has passed,
+/// how far it is and since when, what was written, and why it was given up, if it was.
 #[derive(Drop)]
 pub(crate) struct Line {
     socket: Socket,
     peer: Option<SocketAddr>,
-    is_readable: bool,
-    is_writable: bool,
+    ready: Readiness,
+    share: Share,
+    is_begun: bool,
+    is_sending: bool,
     silence: Duration,
     stage: Stage,
     waited: Duration,
@@ -106,8 +130,18 @@ impl Line {
         Line {
             socket,
             peer,
-            is_readable: true,
-            is_writable: true,
+            ready: Readiness {
+                is_readable: true,
+                is_writable: true,
+                is_ending: false,
+            },
+            share: Share {
+                titles: None,
+                is_read: false,
+                passed_over: 0,
+            },
+            is_begun: false,
+            is_sending: false,
             silence: Duration::ZERO,
             stage: Stage::Unasked,
             waited: Duration::ZERO,
@@ -138,10 +172,38 @@ impl Line {
         }
     }
 
-    /// Whatever the system tells, both are tried.
-    pub(crate) fn wake(&mut self) {
-        self.is_readable = true;
-        self.is_writable = true;
+    /// Takes what the system tells of the connection. Whatever that is, writing is tried.
+    pub(crate) fn wake(&mut self, event: &Event) {
+        if event.is_read_closed() || event.is_error() {
+            self.ready.is_ending = true;
+        }
+        if event.is_readable() || self.ready.is_ending {
+            self.ready.is_readable = true;
+        }
+        self.ready.is_writable = true;
+    }
+
+    /// Begins a turn, in which it was not read yet.
+    pub(crate) fn begin_turn(&mut self) {
+        self.share.is_read = false;
+    }
+
+    /// Whether octets may be read, and none wait to be sent.
+    pub(crate) fn is_waiting(&self) -> bool {
+        self.ready.is_readable && !self.is_sending
+    }
+
+    /// Whether another leaves its read to it: both have the same titles, or told none yet, and it was
+    /// passed over more often, or where reads have taken long was read already.
+    pub(crate) fn goes_before(&self, other: &Line, is_long: bool) -> bool {
+        self.share.titles == other.share.titles
+            && (is_long && self.share.is_read
+                || self.is_waiting() && self.share.passed_over > other.share.passed_over)
+    }
+
+    /// Notes that it leaves its read to another.
+    pub(crate) fn give_way(&mut self) {
+        self.share.passed_over = self.share.passed_over.saturating_add(1);
     }
 
     /// Time has passed.
@@ -202,24 +264,39 @@ impl Line {
     fn receive(&mut self, buffer: &mut [u8]) -> Result<ReadTurn, WireFault>
         ensures { IfGot result (λ count. count ≤ length buffer.old) }
     {
-        if !self.is_readable {
+        if !self.ready.is_readable {
             return Ok(ReadTurn::Nothing);
         }
         match self.socket.read(buffer) {
             Ok(0) => Ok(ReadTurn::Ended),
             Ok(count) => {
-                self.silence = Duration::ZERO;
+                self.take(&buffer[..count]);
+                // Where there was room for more, the system has no more: it tells what comes later.
+                if count < buffer.len() {
+                    self.ready.is_readable = self.ready.is_ending;
+                }
                 Ok(ReadTurn::Got(count))
             }
             Err(error) => match error.kind() {
                 ErrorKind::Interrupted => Ok(ReadTurn::Nothing),
                 ErrorKind::WouldBlock => {
-                    self.is_readable = false;
+                    self.ready.is_readable = false;
                     Ok(ReadTurn::Nothing)
                 }
                 _ => Err(WireFault),
             },
         }
+    }
+
+    // These octets came.
+    fn take(&mut self, octets: &[u8]) {
+        if !self.is_begun {
+            self.share.titles = Titles::of_request(octets);
+        }
+        self.is_begun = true;
+        self.share.is_read = true;
+        self.share.passed_over = 0;
+        self.silence = Duration::ZERO;
     }
 
     /// Writes the first of these octets.
@@ -259,19 +336,21 @@ impl Line {
     fn send(&mut self, octets: &[u8]) -> Result<usize, WireFault>
         ensures { IfOk result (λ count. count ≤ length octets.now) }
     {
-        if !self.is_writable {
+        if !self.ready.is_writable {
             return Ok(0);
         }
+        self.is_sending = true;
         match self.socket.write(octets) {
             Ok(count) => {
                 self.silence = Duration::ZERO;
+                self.is_sending = count < octets.len();
                 self.written.pass(&octets[..count]);
                 Ok(count)
             }
             Err(error) => match error.kind() {
                 ErrorKind::Interrupted => Ok(0),
                 ErrorKind::WouldBlock => {
-                    self.is_writable = false;
+                    self.ready.is_writable = false;
                     Ok(0)
                 }
                 _ => Err(WireFault),

@@ -53,14 +53,14 @@ fn has_room(held: &[Wire], newest: u64) -> bool
 
 /// The connections that are held, the number that was given last, and what turns of them need.
 #[derive(Drop)]
-pub(crate) struct Holding {
+pub(crate) struct HeldWires {
     pub(crate) alloc: Global,
     pub(crate) held: Vec<Wire>,
     pub(crate) newest: u64,
     pub(crate) buffer: Vec<u8>,
 }
 
-impl Holding {
+impl HeldWires {
     /// Accepts a connection where there is room, and opens it under the next number.
     fn take_wire<T: Tables, W: Wires>(
         &mut self,

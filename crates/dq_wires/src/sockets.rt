@@ -8,9 +8,8 @@ use crate::wires::Wires;
 use mio::unix::SourceFd;
 use mio::{Events, Interest, Poll, Token};
 use std::alloc::Global;
-use std::fs::Files;
 use std::io::{self, ErrorKind};
-use std::net::{Net, SocketAddr};
+use std::net::SocketAddr;
 use std::os::fd::AsRawFd;
 use std::time::{Clock, Duration, Instant};
 
@@ -20,6 +19,10 @@ const LISTENER: Token = Token(MOST_WIRES);
 const OTHERS: Token = Token(MOST_WIRES + 1);
 
 const MOST_EVENTS: usize = MOST_WIRES + 2;
+
+/// For so many milliseconds the system is not asked again what may be done, while there is something
+/// to do, and all connections are read that can be.
+const SHORT: u64 = 1;
 
 // The errors of accept(2) that are no fault of the listening socket. The first four tell of
 // descriptors and buffers that are used up (ENOMEM, ENFILE, EMFILE, ENOBUFS), the others of a call
@@ -31,35 +34,49 @@ const PASSING: [i32; 16] = [
 
 /// Wires over the sockets of connections that come to a listening one. They ask the system only for
 /// what it has told to be ready, and tell no calls to contracts. A connection that they give up is
-/// one that ended.
+/// one that ended. Where reads between two rests take long, one connection is read of those that have
+/// the same titles. The others bring nothing until it is their turn: one peer's many do not slow
+/// others.
 #[derive(Drop)]
 pub struct SocketWires {
+    clock: HostRuntime,
     poll: Poll,
     events: Events,
     door: Door,
     is_called: bool,
+    is_called_beside: bool,
     lines: Vec<Option<Line>>,
     is_busy: bool,
+    reading: Reading,
     limits: Limits,
     turned_away: Option<GivenUp>,
     rested: Option<Instant>,
 }
 
+/// The reads between two rests: since when, and whether connections were passed over in them or in
+/// those before.
+#[derive(Clone, Copy, Default)]
+struct Reading {
+    begun: Option<Instant>,
+    is_short: bool,
+    was_short: bool,
+}
+
 impl SocketWires {
     /// Listens at an address, on a port that the system chooses where it is 0.
-    pub fn listen(alloc: Global, net: &impl Net, address: SocketAddr) -> io::Result<Self> {
-        Self::behind(alloc, net, Door::at_address(net, address)?)
+    pub fn listen(alloc: Global, rt: &HostRuntime, address: SocketAddr) -> io::Result<Self> {
+        Self::behind(alloc, rt, Door::at_address(rt, address)?)
     }
 
     /// Listens at a path, for connections of the machine itself. The file is its owner's alone. Where
     /// the file of a socket is there on which nobody listens, it is made anew.
-    pub fn listen_at<R: Files + Net>(alloc: Global, rt: &R, path: &str) -> io::Result<Self> {
+    pub fn listen_at(alloc: Global, rt: &HostRuntime, path: &str) -> io::Result<Self> {
         Self::behind(alloc, rt, Door::at_path(rt, path)?)
     }
 
     // Over the connections that come to a listening socket.
-    fn behind(alloc: Global, net: &impl Net, mut door: Door) -> io::Result<Self> {
-        let poll = Poll::new(net)?;
+    fn behind(alloc: Global, rt: &HostRuntime, mut door: Door) -> io::Result<Self> {
+        let poll = Poll::new(rt)?;
         door.register(poll.registry(), LISTENER)?;
         let events = Events::with_capacity(alloc, MOST_EVENTS)?;
         let mut lines = Vec::new(alloc);
@@ -67,12 +84,15 @@ impl SocketWires {
             lines.push(None)?;
         }
         Ok(SocketWires {
+            clock: *rt,
             poll,
             events,
             door,
             is_called: true,
+            is_called_beside: false,
             lines,
             is_busy: false,
+            reading: Reading::default(),
             limits: Limits::default(),
             turned_away: None,
             rested: None,
@@ -91,24 +111,56 @@ impl SocketWires {
     }
 
     /// Waits until something may be done, so long at most. After calls that did something it only
-    /// looks what else there is.
+    /// looks what else there is, unless it has done so within a millisecond.
     pub fn rest(&mut self, clock: &impl Clock, most: Duration) -> io::Result<()> {
-        let time = if self.is_busy { Duration::ZERO } else { most };
+        let is_busy = self.is_busy;
+        self.begin_turn();
+        if is_busy && self.is_fresh(Instant::now(clock)?) {
+            return Ok(());
+        }
+        self.look(clock, if is_busy { Duration::ZERO } else { most })
+    }
+
+    // Nothing was done in the next turn yet.
+    fn begin_turn(&mut self) {
         self.is_busy = false;
-        self.poll.poll(&mut self.events, Some(time))?;
+        self.reading = Reading {
+            was_short: self.reading.is_short,
+            ..Reading::default()
+        };
+        for slot in self.lines.iter_mut() {
+            if let Some(line) = slot {
+                line.begin_turn();
+            }
+        }
+    }
+
+    // Whether the system was asked lately.
+    fn is_fresh(&self, now: Instant) -> bool {
+        match self.rested {
+            Some(before) => now.duration_since(before) < Duration::from_millis(SHORT),
+            None => false,
+        }
+    }
+
+    // Asks the system what may be done, and waits for it so long.
+    fn look(&mut self, clock: &impl Clock, most: Duration) -> io::Result<()> {
+        self.poll.poll(&mut self.events, Some(most))?;
         for event in self.events.iter() {
             let Token(place) = event.token();
             if event.token() == LISTENER {
                 self.is_called = true;
+            } else if event.token() == OTHERS {
+                self.is_called_beside = true;
             } else if let Some(Some(line)) = self.lines.get_mut(place) {
-                line.wake();
+                line.wake(event);
             }
         }
         self.grow_old(Instant::now(clock)?);
         Ok(())
     }
 
-    // The time since the last rest has passed on each line.
+    // The time since the system was last asked has passed on each line.
     fn grow_old(&mut self, now: Instant) {
         if let Some(before) = self.rested {
             let time = now.duration_since(before);
@@ -138,9 +190,61 @@ impl SocketWires {
         most: Duration,
     ) -> io::Result<()> {
         let most = if others.is_busy { Duration::ZERO } else { most };
+        others.begin_turn();
         self.rest(clock, most)?;
-        let _ = others.rest(clock, Duration::ZERO);
+        if self.is_called_beside || !others.is_fresh(Instant::now(clock)?) {
+            self.is_called_beside = false;
+            let _ = others.look(clock, Duration::ZERO);
+        }
         Ok(())
+    }
+
+    // Whether reads have taken long since the first one after a rest.
+    fn is_long(&mut self) -> bool {
+        let Ok(now) = Instant::now(&self.clock) else {
+            return false;
+        };
+        let begun = self.reading.begun.unwrap_or(now);
+        self.reading.begun = Some(begun);
+        now.duration_since(begun) >= Duration::from_millis(SHORT)
+    }
+
+    // Whether a connection that can be read, and comes from another machine, leaves its read to one of
+    // the same titles: to one that was passed over more often, and where reads have taken long also to
+    // one that was read.
+    fn gives_way(&mut self, place: usize) -> bool {
+        match self.lines.get(place) {
+            Some(Some(line)) if line.is_waiting() && line.peer().is_some() => {}
+            _ => return false,
+        }
+        let is_long = self.is_long();
+        if !is_long && !self.reading.is_short && !self.reading.was_short {
+            return false;
+        }
+        if !self.is_preceded(place, is_long) {
+            return false;
+        }
+        self.is_busy = true;
+        self.reading.is_short = true;
+        if let Some(Some(line)) = self.lines.get_mut(place) {
+            line.give_way();
+        }
+        true
+    }
+
+    // Whether there is one to which it leaves its read.
+    fn is_preceded(&self, place: usize, is_long: bool) -> bool {
+        let Some(Some(line)) = self.lines.get(place) else {
+            return false;
+        };
+        for (at, slot) in self.lines.iter().enumerate() {
+            if let Some(other) = slot {
+                if at != place && other.goes_before(line, is_long) {
+                    return true;
+                }
+            }
+        }
+        false
     }
 
     // The end of a connection of whose address there are as many as may be.
@@ -221,6 +325,9 @@ impl Wires for SocketWires {
     }
 
     fn read(&mut self, place: usize, buffer: &mut [u8]) -> Result<ReadTurn, WireFault> {
+        if self.gives_way(place) {
+            return Ok(ReadTurn::Nothing);
+        }
         let Some(Some(line)) = self.lines.get_mut(place) else {
             return Err(WireFault);
         };

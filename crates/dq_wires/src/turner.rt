@@ -10,7 +10,7 @@ ghost use Rattle.dq_wires.specs.Turns.{TurnsWent, TurnsCut};
 ghost use Rattle.dq_wires.specs.Turners.{IsOrder, first_fault, EndsUnaccepted};
 
 use crate::fault::TurnFault;
-use crate::rounds::Holding;
+use crate::rounds::HeldWires;
 use crate::stepping::step_order;
 use crate::wire::Wire;
 use crate::wires::Wires;
@@ -23,7 +23,7 @@ use std::marker::Model;
 #[derive(Drop)]
 pub struct Turner<T> {
     server: Server<T>,
-    holding: Holding,
+    holding: HeldWires,
     fault: Option<TurnFault>,
 }
 
@@ -59,7 +59,7 @@ impl<T: Tables> Turner<T> {
     {
         Turner {
             server,
-            holding: Holding {
+            holding: HeldWires {
                 alloc,
                 held: Vec::new(alloc),
                 newest: 0,

@@ -22,7 +22,7 @@ use Rattle.dq_match.specs.Matching.{fits}
 use Rattle.dq_match.specs.Responses.{shown_data_set}
 use Rattle.dq_tables.specs.declared.row.Kind.TheVariants.{Entry}
 use Rattle.dq_tables.specs.declared.row.Row.{Row}
-use Rattle.dq_tables.specs.Rows.{Record, Place, record_place, Edit, Put, Remove, IsRising, record_of, of, by, after, number_of_kind as kind_number, kind_order, octet_order, place_order, records_after_edits, edited_by, records_before, records_past}
+use Rattle.dq_tables.specs.Rows.{Record, Place, record_place, Edit, Put, Remove, IsRising, record_of, rows_named, of, by, after, number_of_kind as kind_number, kind_order, octet_order, place_order, records_after_edits, edited_by, records_before, records_past}
 use Rattle.dq_tables.specs.Finding.{record_at, same_kind}
 use Rattle.dq_tables.specs.Keys.{entry_id}
 use Rattle.dq_tables.specs.Records.{data_set_of}
@@ -30,7 +30,7 @@ use Rattle.dq_tables.specs.Serving.{first_refusal}
 use Rattle.dq_tables.proofs.InOrder.{is_eq_then, is_eq_nat}
 use Rattle.dq_tables.proofs.Lens.{others}
 use Rattle.dq_worklist.specs.declared.refusal.Refusal.{Refusal}
-use Rattle.dq_worklist.specs.Orders.{Order, rows_named, refusal_number, is_complete, read_order, order_limit, has_entry, entry_of, refusal_or_entry, refusals, schedule_outcome, withdrawn}
+use Rattle.dq_worklist.specs.Orders.{Order, refusal_number, is_complete, read_order, order_limit, has_entry, entry_of, refusal_or_entry, refusals, schedule_outcome, withdrawn}
 use Rattle.dq_worklist.specs.Queries.{answers_of_entries, worklist_outcome}
 use Rattle.dq_worklist.specs.Views.{order_of}
 use Rattle.dq_worklist.proofs.Matching.{match_shown}

@@ -1,7 +1,6 @@
 -- Orders for the worklist: which are complete, and what scheduling and withdrawing make of the
 -- records of one institution (PS3.4 section K.6.1).
-use Rattle.std.specs.Prelude.{ℕ, Bool, false, not, ◌&&◌, ◌||◌, nat_lt, nat_le, List, [], ◌∷◌, filter, length, if◌then◌else◌, Option, Some, None, is_some, is_none, option_map, Result, Ok, Err, is_err}
-use Rattle.std.specs.Str.{bytes_eq}
+use Rattle.std.specs.Prelude.{ℕ, Bool, false, not, ◌&&◌, ◌||◌, nat_lt, nat_le, List, [], ◌∷◌, length, if◌then◌else◌, Option, Some, None, is_some, is_none, option_map, Result, Ok, Err, is_err}
 use Rattle.dq_list.specs.Lengths.{is_empty}
 use Rattle.dq_list.specs.Readers.{◌>>=◌, only_if}
 use Rattle.dq_vr.specs.declared.Tag.{Tag}
@@ -17,17 +16,12 @@ use Rattle.dq_dataset.specs.Values.{element_at, values_in, sole_at}
 use Rattle.dq_dimse.specs.Limits.{other_limit}
 use Rattle.dq_config.specs.Limits.{Limits}
 use Rattle.dq_tables.specs.declared.row.Kind.TheVariants.{Entry}
-use Rattle.dq_tables.specs.declared.row.Row.{Row}
 use Rattle.dq_tables.specs.Rows.{Record, Edit, Put, Remove}
 use Rattle.dq_tables.specs.Finding.{record_at, records_of}
 use Rattle.dq_tables.specs.Serving.{first_refusal, refusal_or}
 use Rattle.dq_tables.specs.Keys.{uid_at, sole_item_at, entry_id}
 use Rattle.dq_worklist.specs.declared.refusal.Refusal.{Refusal}
 use Rattle.dq_worklist.specs.declared.refusal.Refusal.TheVariants.{Malformed, Incomplete, Taken, Full, NoSuchEntry}
-
--- the rows under an institution's name
-abbrev pub rows_named : List ℕ → List Row → List Row
-rows_named name rows = filter (λ (row : Row). bytes_eq row.inst name) rows
 
 abbrev pub refusal_number : Refusal → ℕ
 refusal_number Malformed = 1

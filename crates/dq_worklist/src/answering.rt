@@ -21,7 +21,7 @@ use dq_dimse::Message;
 use dq_dimse::status::SUCCESS;
 use dq_list::Listed;
 use dq_match::laws::keys_are_met_alone_and_as_a_period;
-use dq_match::{Found, answer, is_plain, lent_meets};
+use dq_match::{Found, PreparedKeys, is_plain, shown};
 use dq_tables::laws::honest_rows_are_sound;
 use dq_tables::{Kind, Row, TableFault, Tables, sole_item_at};
 use dq_vr::{Tag, tags};
@@ -76,11 +76,11 @@ fn candidates<T: Tables>(
 }
 
 /// Whether an entry can fit the keys, as far as its octets tell before they are read.
-fn may_fit(keys: &DataSet, row: &Row) -> bool
+fn may_fit(keys: &PreparedKeys, row: &Row) -> bool
     ensures { result ≡ false → fits keys.now (data_set_of row.now.octets) ≡ false }
 {
     keys_are_met_alone_and_as_a_period();
-    lent_meets(keys.elements(), &MET_LATER, row.octets.as_slice())
+    keys.lent_meets(&MET_LATER, row.octets.as_slice())
 }
 
 /// The answers that rows give to the keys. An entry that a performed procedure step has started is
@@ -90,13 +90,15 @@ fn answers_of(alloc: Global, keys: &DataSet, rows: &[Row]) -> Result<Listed<Data
     ensures { IfOk result (λ answers. answers ≡ filter_map
         (λ (row : TheRow). entry_answer keys.now (record_of row)) rows.now) }
 {
+    let prepared = PreparedKeys::of(alloc, keys)?;
     let mut answers = Listed::empty(alloc);
     for row in rows {
-        if row.started || !may_fit(keys, row) {
+        if row.started || !may_fit(&prepared, row) {
             continue;
         }
         let held = row.data_set(alloc)?;
-        if let Some(given) = answer(alloc, keys, &held)? {
+        if prepared.fits(&held) {
+            let given = shown(alloc, keys, &held)?;
             answers.push(given)?;
         }
     }
@@ -108,7 +110,6 @@ fn answers_of(alloc: Global, keys: &DataSet, rows: &[Row]) -> Result<Listed<Data
 /// the identifier is too long, C000 where it is unreadable, and A900 where it has values that are
 /// not well formed (PS3.4 section K.4.1.1.4).
 pub fn query<T: Tables>(
-    alloc: Global,
     tables: &mut T,
     institution: &Institution,
     message: &Message,
@@ -117,7 +118,7 @@ pub fn query<T: Tables>(
     ensures { Serves (T.state tables.old) (T.state tables.new) institution.now.name
         (λ (records : List Record). (worklist_outcome records (plain_message message.now) syntax, [])) result }
 {
-    let mut archive = Archive::new(alloc, tables, institution);
+    let mut archive = Archive::new(tables, institution);
     let decision = decide_answers(&mut archive, message, syntax)?;
     archive.carry_out(decision)
 }

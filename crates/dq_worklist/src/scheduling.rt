@@ -25,7 +25,6 @@ const ORDER_LIMIT: usize = 0x10_0000;
 /// complete (PS3.4 table K.6-1), 3 where there is an entry with its id, and 4 where the entries are
 /// at their limit. A refusal, and a fault, change nothing.
 pub fn schedule<T: Tables>(
-    alloc: Global,
     tables: &mut T,
     institution: &Institution,
     octets: &[u8],
@@ -34,14 +33,13 @@ pub fn schedule<T: Tables>(
         (λ (records : List Record). schedule_outcome (limits_of institution.now) records octets.now)
         result }
 {
-    let mut archive = Archive::new(alloc, tables, institution);
+    let mut archive = Archive::new(tables, institution);
     let decision = decide_order(&mut archive, octets)?;
     archive.carry_out(decision)
 }
 
 /// Removes the entry with the id, as it is given, and answers nothing, or 5 where there is none.
 pub fn withdraw<T: Tables>(
-    alloc: Global,
     tables: &mut T,
     institution: &Institution,
     id: &[u8],
@@ -49,7 +47,7 @@ pub fn withdraw<T: Tables>(
     ensures { Serves (T.state tables.old) (T.state tables.new) institution.now.name
         (λ (records : List Record). withdrawn records id.now) result }
 {
-    let mut archive = Archive::new(alloc, tables, institution);
+    let mut archive = Archive::new(tables, institution);
     let decision = decide_withdrawal(&mut archive, id)?;
     archive.carry_out(decision)
 }

@@ -1,5 +1,5 @@
 use dq_dataset::{DataSet, ReadFault, Syntax, read};
-use dq_match::{fits, is_query, lent_meets, wild};
+use dq_match::{PreparedKeys, fits, is_query, wild};
 use dq_vr::{Tag, tags};
 use std::alloc::Global;
 use std::test::Fail;
@@ -15,11 +15,12 @@ fn alone(alloc: Global, tag: Tag, value: &[u8]) -> Result<DataSet, ReadFault> {
     read(alloc, octets.as_slice(), Syntax::Implicit)
 }
 
-/// Whether a record of one element meets a key.
-fn meets_alone(alloc: Global, tag: Tag, key: &[u8], held: &[u8]) -> Result<bool, ReadFault> {
+/// Whether a record of one element meets a key, and whether it meets the key read once.
+fn meets_alone(alloc: Global, tag: Tag, key: &[u8], held: &[u8]) -> Result<[bool; 2], ReadFault> {
     let key = alone(alloc, tag, key)?;
     let held = alone(alloc, tag, held)?;
-    Ok(fits(&key, &held))
+    let prepared = PreparedKeys::of(alloc, &key)?;
+    Ok([fits(&key, &held), prepared.fits(&held)])
 }
 
 // PS3.4 section C.2.2.2.4.
@@ -116,7 +117,7 @@ fn keys_of_each_kind(rt: HostRuntime) -> Result<(), Fail> {
     ];
     for (tag, key, held, expected) in rows {
         let met = meets_alone(rt.alloc(), tag, key, held)?;
-        assert_eq!(rt; met, expected, "{tag:?} {key:?} {held:?}");
+        assert_eq!(rt; met, [expected, expected], "{tag:?} {key:?} {held:?}");
     }
     Ok(())
 }
@@ -134,12 +135,9 @@ fn elements_are_met_as_they_are_lent(rt: HostRuntime) -> Result<(), Fail> {
     ];
     for (tag, key, octets, expected) in rows {
         let keys = alone(rt.alloc(), tag, key)?;
-        assert_eq!(rt;
-            lent_meets(keys.elements(), &[], octets),
-            expected,
-            "{tag:?} {key:?}"
-        );
-        assert!(rt; lent_meets(keys.elements(), &[tag], octets));
+        let keys = PreparedKeys::of(rt.alloc(), &keys)?;
+        assert_eq!(rt; keys.lent_meets(&[], octets), expected, "{tag:?} {key:?}");
+        assert!(rt; keys.lent_meets(&[tag], octets));
     }
     Ok(())
 }

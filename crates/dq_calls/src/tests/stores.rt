@@ -40,8 +40,8 @@ fn stored(
     requires { message.now.command.code ≡ 1 }
 {
     let mut tables = PlainTables::new(alloc);
-    let status = store(alloc, &mut tables, institution, message, Syntax::Explicit)?;
-    Ok((status, tables.count(alloc, Kind::Image, b"DEMO")?))
+    let status = store(&mut tables, institution, message, Syntax::Explicit)?;
+    Ok((status, tables.count(Kind::Image, b"DEMO")?))
 }
 
 /// More is to be kept than there may be, or the data set is over its limit.

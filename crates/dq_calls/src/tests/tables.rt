@@ -56,14 +56,14 @@ fn added(alloc: Global) -> Result<Change, Fail>
 }
 
 /// Whether tables have failed, and answer nothing.
-fn is_blown(alloc: Global, tables: &mut Fused<PlainTables>) -> bool {
+fn is_blown(tables: &mut Fused<PlainTables>) -> bool {
     let blown = Fuse {
         left: 0,
         blown: true,
     };
     tables.failed()
         && tables.fuse() == blown
-        && tables.count(alloc, Kind::Entry, NORTH) == Err(TableFault::Store)
+        && tables.count(Kind::Entry, NORTH) == Err(TableFault::Store)
 }
 
 /// Tables that make no change fail at the first, and answer nothing from then on.
@@ -71,7 +71,7 @@ fn is_blown(alloc: Global, tables: &mut Fused<PlainTables>) -> bool {
 fn a_fuse_blows(rt: HostRuntime) -> Result<(), Fail> {
     let change = added(rt.alloc())?;
     let mut tables = Fused::new(PlainTables::new(rt.alloc()), 0);
-    assert!(rt; tables.apply(rt.alloc(), &change) == Err(TableFault::Store));
-    assert!(rt; is_blown(rt.alloc(), &mut tables));
+    assert!(rt; tables.apply(&change) == Err(TableFault::Store));
+    assert!(rt; is_blown(&mut tables));
     Ok(())
 }

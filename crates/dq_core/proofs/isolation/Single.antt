@@ -15,7 +15,7 @@ use Rattle.dq_config.specs.declared.config.Institution.{Institution}
 use Rattle.dq_config.specs.Limits.{limits_of}
 use Rattle.dq_config.specs.Routing.{institution_routed}
 use Rattle.dq_tables.specs.declared.row.Row.{Row}
-use Rattle.dq_tables.specs.Rows.{of, record_of, IsRising}
+use Rattle.dq_tables.specs.Rows.{of, rows_named, record_of, IsRising}
 use Rattle.dq_core.specs.declared.event.Event.{Event}
 use Rattle.dq_core.specs.declared.event.Event.TheVariants as event
 use Rattle.dq_core.specs.declared.event.Reply.{Reply}
@@ -25,7 +25,7 @@ use Rattle.dq_core.specs.Histories.{is_above, rises_from}
 use Rattle.dq_core.specs.Shared.{World, turn, world_after_turn, replies_from, world_from, first_world, replies, world_after, rows_within}
 use Rattle.dq_core.specs.Alone.{alone_turn, alone_replies, alone_after}
 use Rattle.dq_core.specs.Own.{octets_of_pieces, stream_of, owns, is_on, is_own_event, own, replies_at}
-use Rattle.dq_core.specs.Isolation.{own_among, rows_alone, replies_alone, world_alone, own_replies, own_operations, own_rows_within, Begins, IsPrefix}
+use Rattle.dq_core.specs.Isolation.{own_among, replies_alone, world_alone, own_replies, own_operations, own_rows_within, Begins, IsPrefix}
 use Rattle.dq_core.proofs.isolation.Lists.{at-number}
 use Rattle.dq_core.proofs.isolation.Streams.{AddsInputs}
 use Rattle.dq_core.proofs.isolation.Isolating.{Lenses, is_of-some}
@@ -223,7 +223,7 @@ module _ (institutions : List Institution) (rows : List Row) (events : List Even
   mine = is_own_event institutions i.name events
 
   abbrev here : List Row
-  here = rows_alone i.name rows
+  here = rows_named i.name rows
 
   abbrev mine_here : Event → Bool
   mine_here = is_own_event (i ∷ []) i.name (own institutions i.name events)

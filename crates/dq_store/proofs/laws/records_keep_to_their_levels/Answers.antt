@@ -5,11 +5,11 @@ use Rattle.dq_dataset.specs.declared.header.Syntax.TheVariants.{Explicit}
 use Rattle.dq_dataset.specs.Canonical.{canonical}
 use Rattle.dq_dataset.specs.Editing.{cut_out}
 use Rattle.dq_dataset.proofs.Large.{small_has_lengths}
-use Rattle.dq_dimse.specs.Attributes.{kept_attributes}
+use Rattle.dq_vr.specs.StudyRoot.{kept_attributes}
 use Rattle.dq_tables.specs.declared.row.Row.{Row}
 use Rattle.dq_tables.specs.Records.{data_set_of}
 use Rattle.dq_tables.specs.Rows.{of}
-use Rattle.dq_store.specs.Attributes.{study_attributes, series_attributes, image_attributes}
+use Rattle.dq_vr.specs.StudyRoot.{study_attributes, series_attributes, image_attributes}
 use Rattle.dq_store.specs.Levels.{has_only, keeps_to_its_level, is_of_its_level}
 use Rattle.dq_store.specs.Storing.{instance_in, kept_among}
 use Rattle.dq_store.proofs.Levels.{cut_has_only}

@@ -1,7 +1,7 @@
 use Rattle.std.proofs.Common.{◌≡◌, true, inl, inr, refl}
 use Rattle.std.specs.List.{AllByRecursion}
 use Rattle.dq_dataset.specs.Editing.{cut_out}
-use Rattle.dq_dimse.specs.Attributes.{kept_attributes}
+use Rattle.dq_vr.specs.StudyRoot.{kept_attributes}
 use Rattle.dq_tables.specs.declared.row.Row.{Row}
 use Rattle.dq_tables.specs.Rows.{of, row_of}
 use Rattle.dq_store.specs.Storing.{instance_in, kept_among, study_record, series_record, image_record}

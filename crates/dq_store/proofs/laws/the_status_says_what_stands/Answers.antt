@@ -8,9 +8,9 @@ use Rattle.dq_dataset.specs.Reading.{reading}
 use Rattle.dq_dataset.specs.Canonical.{canonical, HasLengths}
 use Rattle.dq_dataset.specs.Editing.{cut_out}
 use Rattle.dq_dataset.proofs.Large.{small_has_lengths}
-use Rattle.dq_dimse.specs.Attributes.{kept_attributes}
+use Rattle.dq_vr.specs.StudyRoot.{kept_attributes}
 use Rattle.dq_tables.specs.Records.{data_set_of}
-use Rattle.dq_store.specs.Attributes.{study_attributes, series_attributes, image_attributes}
+use Rattle.dq_vr.specs.StudyRoot.{study_attributes, series_attributes, image_attributes}
 use Rattle.dq_store.proofs.Sieved.{AllListed, study_kept, series_kept, image_kept, cut_twice}
 use Rattle.dq_store.proofs.Whole.{whole, discarded}
 use Rattle.dq_store.proofs.laws.the_status_says_what_stands.Goals as goal

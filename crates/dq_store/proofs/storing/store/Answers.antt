@@ -5,7 +5,7 @@ use Rattle.dq_dataset.specs.declared.header.Syntax.TheVariants.{Explicit}
 use Rattle.dq_dataset.specs.Canonical.{HasLengths}
 use Rattle.dq_dataset.specs.Editing.{cut_out}
 use Rattle.dq_dataset.proofs.Large.{small_has_lengths}
-use Rattle.dq_dimse.specs.Attributes.{kept_attributes}
+use Rattle.dq_vr.specs.StudyRoot.{kept_attributes}
 use Rattle.dq_tables.specs.Rows.{Record, Edit, of}
 use Rattle.dq_tables.specs.Serving.{Serves}
 use Rattle.dq_tables.proofs.Calling.{reads_nothing, serves_read}

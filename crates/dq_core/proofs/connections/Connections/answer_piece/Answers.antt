@@ -2,6 +2,7 @@ use Rattle.std.proofs.Common.{◌≡◌, false, Some, refl, sym, ap, ◌∙◌}
 use Rattle.std.proofs.lemmas.Bool.{false≢true}
 use Rattle.std.specs.Option.{option_copied, option_copied_mut}
 use Rattle.slab.specs.Slab.{get, with_value}
+use Rattle.dq_assoc.specs.Holding.{held_agreement}
 use Rattle.dq_core.specs.declared.connections.Connections.{Connections}
 use Rattle.dq_core.specs.Stepping.{MayLeaveAfter}
 use Rattle.dq_core.specs.Queries.{open_query_in}
@@ -33,20 +34,20 @@ returns-in_err-owner-clause-quiet g c = λ connections h k.
     absurd (not-quiet c.args.self.now.config c.args.number c.args.piece.now c.args.self.now connections c.in-Some.place h
     (sym c.place_of.ensures ∙ c.in-Some.is) c.if-is_empty.ensures k)
 
-pub returns-in_err-answered-clause-part : goal.returns-in_err-answered-clause-part
-returns-in_err-answered-clause-part g c = λ world h r honest.
+pub returns-in_err-octets-clause-part : goal.returns-in_err-octets-clause-part
+returns-in_err-octets-clause-part g c = λ world h r honest.
     let now = c.args.self.now in
-    on-err c.from_residual-in_err-answered.result
+    on-err c.from_residual-in_err-octets.result
     (piece-part now.config world c.args.number c.args.piece.now now c.in-Some.place c.in-Some-get_mut.slot.now c.take_piece.new.slot
     (option_copied c.in_ok-owner.owner) c.in_ok-owner.taken h (sym c.place_of.ensures ∙ c.in-Some.is)
     (sym c.get_mut.ensures.value ∙ ap option_copied_mut c.in-Some-get_mut.is)
-    (λ x held counts. c.in_ok-owner.ensures world x held counts) (option_copied c.agreement-agreement.result)
-    (g.T.Tables.state c.args.tables.now).rows (g.T.Tables.state c.answer.new.tables).rows c.agreement-agreement.ensures r
-    (open_query_in c.take-query.result) (ap open_query_in (sym c.take-query.ensures.value))
-    (MayLeaveAfter (g.T.Tables.state c.args.tables.now) (g.T.Tables.state c.answer.new.tables)) (c.in_err-answered.ensures.stops honest))
+    (λ x held counts. c.in_ok-owner.ensures world x held counts) (held_agreement c.take_piece.new.slot.association)
+    (g.T.Tables.state c.args.tables.now).rows (g.T.Tables.state c.answer.new.tables).rows refl r
+    (open_query_in c.take_piece.new.slot.query) refl
+    (MayLeaveAfter (g.T.Tables.state c.args.tables.now) (g.T.Tables.state c.answer.new.tables)) (c.in_err-octets.ensures.stops honest))
 
-pub returns-in_err-answered-clause-quiet : goal.returns-in_err-answered-clause-quiet
-returns-in_err-answered-clause-quiet g c = λ connections h k.
+pub returns-in_err-octets-clause-quiet : goal.returns-in_err-octets-clause-quiet
+returns-in_err-octets-clause-quiet g c = λ connections h k.
     absurd (not-quiet c.args.self.now.config c.args.number c.args.piece.now c.args.self.now connections c.in-Some.place h
     (sym c.place_of.ensures ∙ c.in-Some.is) c.if-is_empty.ensures k)
 
@@ -60,10 +61,10 @@ returns-clause-turned g c = λ world h r honest.
     let t = c.in_ok-owner.taken in
     let found = sym c.place_of.ensures ∙ c.in-Some.is in
     let there : get now.slots place ≡ Some old = sym c.get_mut.ensures.value ∙ ap option_copied_mut c.in-Some-get_mut.is in
-    let left = c.in_ok-answered.answered.query in
+    let left = c.answer.new.self.query in
     let mid : Connections = record {
       config = now.config;
-      slots = with_value now.slots place (record new { query = left });
+      slots = with_value now.slots place c.answer.new.self;
       places = now.places;
       spares = now.spares;
       tally = c.retally.new.self;
@@ -73,26 +74,27 @@ returns-clause-turned g c = λ world h r honest.
     ∙ ap (λ was. retallied_by now.config now.tally.counts.items q was c.stays_open-is_open.result) c.is_some-was_open.ensures in
     let told = piece-taken now.config world c.args.number c.args.piece.now now place old new q t h found there
     (λ x held counts. c.in_ok-owner.ensures world x held counts)
-    (option_copied c.agreement-agreement.result) (g.T.Tables.state c.args.tables.now).rows (g.T.Tables.state c.answer.new.tables).rows
-    c.agreement-agreement.ensures r (open_query_in c.take-query.result) (ap open_query_in (sym c.take-query.ensures.value)) in
+    (held_agreement new.association) (g.T.Tables.state c.args.tables.now).rows (g.T.Tables.state c.answer.new.tables).rows
+    refl r (open_query_in new.query) refl in
+    let kept = ap (with_value now.slots place) c.in_ok-octets.ensures.keeps in
     elim c.if-close.branch [
-      | then-close w ↦ rw w.self-is (told w.remove.new.self c.in_ok-answered.answered.octets.items left c.octets_reply-2.result (c.in_ok-answered.ensures.does honest)
+      | then-close w ↦ rw w.self-is (told w.remove.new.self c.in_ok-octets.octets.items left c.octets_reply-2.result (c.in_ok-octets.ensures.does honest)
           (λ e. closes now.config world c.args.number c.args.piece.now now place old new q t h found there
           (λ x held counts. c.in_ok-owner.ensures world x held counts) c.is_sound.ensures
-          c.an_association_after_pdus.ensures.waits mid w.remove.new.self left c.stays_open-is_open.result (c.stays_open-is_open.ensures, refl, refl, refl, counted) e
+          c.an_association_after_pdus.ensures.waits mid w.remove.new.self left c.stays_open-is_open.result (c.stays_open-is_open.ensures, kept, refl, refl, counted) e
           w.remove.ensures.slots w.remove.ensures.places w.remove.ensures.ordered w.remove.ensures.newest w.remove.ensures.tally)
           (λ e. absurd (false≢true (sym e ∙ w.if-close.true))) c.octets_reply-2.ensures)
-      | else-close w ↦ rw w.self-is (told mid c.in_ok-answered.answered.octets.items left c.octets_reply-2.result (c.in_ok-answered.ensures.does honest)
+      | else-close w ↦ rw w.self-is (told mid c.in_ok-octets.octets.items left c.octets_reply-2.result (c.in_ok-octets.ensures.does honest)
           (λ e. absurd (false≢true (sym w.if-close.false ∙ e)))
           (λ e. stays-open now.config world c.args.number c.args.piece.now now place old new q t h found there
           (λ x held counts. c.in_ok-owner.ensures world x held counts) c.is_sound.ensures
-          c.an_association_after_pdus.ensures.waits mid left c.stays_open-is_open.result (c.stays_open-is_open.ensures, refl, refl, refl, counted) e) c.octets_reply-2.ensures)
+          c.an_association_after_pdus.ensures.waits mid left c.stays_open-is_open.result (c.stays_open-is_open.ensures, kept, refl, refl, counted) e) c.octets_reply-2.ensures)
     ]
 
 pub returns-in_err-owner-clause-always : goal.returns-in_err-owner-clause-always
 returns-in_err-owner-clause-always g c = λ k.
     absurd (not-always c.args.number c.args.piece.now c.args.self.now c.in-Some.place (sym c.place_of.ensures ∙ c.in-Some.is) c.if-is_empty.ensures k)
 
-pub returns-in_err-answered-clause-always : goal.returns-in_err-answered-clause-always
-returns-in_err-answered-clause-always g c = λ k.
+pub returns-in_err-octets-clause-always : goal.returns-in_err-octets-clause-always
+returns-in_err-octets-clause-always g c = λ k.
     absurd (not-always c.args.number c.args.piece.now c.args.self.now c.in-Some.place (sym c.place_of.ensures ∙ c.in-Some.is) c.if-is_empty.ensures k)

@@ -5,15 +5,16 @@ use Rattle.dq_core.proofs.Sending.{none-sent, one-sent, so-many, all-sent}
 use Rattle.dq_core.proofs.pages.OpenQuery.send_pending.Goals as goal
 
 pub loop-preserved : goal.loop-preserved
-loop-preserved c = (
-  one-sent c.loop.invariant.0 c.next.new.self c.in-Some.answer c.put_command.new.out.items c.extend_from_slice.new.self.items c.put_answer.new.out.items
-      c.in-Some.ensures c.loop.invariant.3
-      (c.in_ok-extend_from_slice.ensures.items ∙ ap (λ (x : List ℕ). c.loop.out.items ++ x) c.deref.ensures.value)
-      (rw (c.recipient-in-loop.ensures.0, c.recipient-in-loop.ensures.2) at c.in_ok-put_answer.ensures),
-  omega (arith, c.loop-test.true),
-  refl,
-  c.loop.invariant.3,
-)
+loop-preserved c =
+    let given = rw c.in-Some.is at c.in_ok-next.ensures in (
+      one-sent c.loop.invariant.0 c.next_octets.new.self given.0 _ c.extend_from_slice.new.self.items c.append_data_set.new.out.items
+          given.1 c.loop.invariant.3
+          (c.in_ok-extend_from_slice.ensures.items ∙ ap (λ (x : List ℕ). c.loop.out.items ++ x) c.deref.ensures.value)
+          (rw (c.octets.ensures.same, c.deref-in-loop.ensures.value, given.2) at c.in_ok-append_data_set.ensures),
+      omega (arith, c.loop-test.true),
+      refl,
+      c.loop.invariant.3,
+    )
 
 pub loop-init : goal.loop-init
 loop-init c = (
@@ -32,8 +33,9 @@ loop-init c = (
 
 pub returns-in_default-clause-left : goal.returns-in_default-clause-left
 returns-in_default-clause-left c =
-    ap (λ (pages : Found). open_query_of (record c.loop.self { pages = pages })) c.in_default.ensures.1
-    ∙ (all-sent c.loop.invariant.0 c.args.count c.in_default.ensures.0 (omega (arith, c.loop-test.true))).1
+    let none = rw c.in_default.is at c.in_ok-next.ensures in
+    ap (λ (pages : Found). open_query_of (record c.loop.self { pages = pages })) none.1
+    ∙ (all-sent c.loop.invariant.0 c.args.count none.0 (omega (arith, c.loop-test.true))).1
 
 pub returns-clause-left : goal.returns-clause-left
 returns-clause-left c = (so-many c.loop.invariant.0 c.args.count (omega (arith, c.loop.auto.counter-end, c.loop-test.false))).1

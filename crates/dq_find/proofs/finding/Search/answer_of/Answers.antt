@@ -31,14 +31,14 @@ returns-then-not-may_fit g c =
     (λ one fit. ((c.keys_are_met_alone_and_as_a_period.ensures.each Outer query.keys one).0 fit).0)
     (c.may_fit.ensures c.if-not-may_fit.true)))
 
-pub returns-then-not-kept_keys_are_met : goal.returns-then-not-kept_keys_are_met
-returns-then-not-kept_keys_are_met g c =
+pub returns-then-not-meets_at_once : goal.returns-then-not-meets_at_once
+returns-then-not-meets_at_once g c =
     let it = c.args.archive.now in
     let query = c.args.self.now.query.now in
     let row = c.args.row.now in
     let unmet : list_all (is_key_met (data_set_of row.octets)) (elements_of query.keys) ≡ false =
-    (λ i. list_all (is_key_met (sym c.in_ok-held.ensures.data_set i)) (sym c.elements.ensures.elements i))
-    ∙ sym c.kept_keys_are_met.ensures ∙ c.if-not-kept_keys_are_met.true in
+    (λ i. list_all (is_key_met (sym c.in_ok-held.ensures.data_set i)) (elements_of (sym c.requires.prepared i)))
+    ∙ sym c.meets_at_once.ensures ∙ c.if-not-meets_at_once.true in
     looks_nothing g.T.Tables.state it _ None
     (sym (not_met (records_in g.T.Tables.state it) c.args.self.now.called.now row.key query (data_set_of row.octets)
     (λ one fit. ((c.keys_are_met_alone_and_as_a_period.ensures.each Outer query.keys one).0 fit).0) unmet))
