@@ -29,6 +29,14 @@ class TooLong(Exception):
     """A peer takes more time than anybody waits."""
 
 
+class Unable(Exception):
+    """A server does not do what is measured."""
+
+
+# what a measurement of a server may raise
+FAILURES = (TooLong, Unable, OSError, TypeError)
+
+
 class Program:
     """The program over a store in a file."""
     name = "newtiron"
@@ -127,7 +135,7 @@ def associated(port, *names):
     client = Client(port)
     client.send(associate(*names))
     if client.pdu()[0] != 2:
-        raise SystemExit("an association was not accepted")
+        raise Unable("an association was not accepted")
     return client
 
 
@@ -164,10 +172,27 @@ def image(at, studies):
                  StudyID=b"1", SeriesNumber=b"1", PixelData=bytes(700))
 
 
+def acknowledge(client):
+    """Acknowledges at once what comes next, since a peer that writes a response in two parts waits for it."""
+    client.socket.setsockopt(socket.IPPROTO_TCP, QUICK_ACK, True)
+
+
 def stores(server, count, studies):
     with associated(server.port, "CT", "study") as client:
         def one(at):
             client.send(image(at, studies))
-            if client.status() not in (0, 0xB006):
-                raise SystemExit("an instance was not stored")
+            acknowledge(client)
+            status = client.status()
+            if status not in (0, 0xB006):
+                raise Unable(f"instance {at} was not stored: {status}")
         return timed(count, one)
+
+
+def answers(client, query):
+    """How many answers a query has, where it ends in success."""
+    client.send(query)
+    acknowledge(client)
+    statuses = client.statuses()
+    if not statuses or statuses[-1] != 0:
+        raise Unable(f"a search ended with {statuses[-1:]}")
+    return len(statuses) - 1

@@ -5,8 +5,8 @@ Written from PS3.8 section 9 (PDUs and the state machine), PS3.7 (messages and s
 K (services), with the choices that docs/DECISIONS.md lists where the standard leaves one. It shares nothing with the
 server's code.
 
-Use: replies.py [--config FILE] [--new FILE | --store FILE] [--report] < CAPTURE. It prints the lines of the replies, or with
---report a line for each institution. On a bad line it prints none, tells the line on standard error, and exits with 3; on a
+Use: replies.py [--config FILE] [--new FILE | --store FILE] [--report | --check] < CAPTURE. It prints the lines of the replies, or with
+--report a line for each institution. With --check it reads no capture, and lists the institutions. On a bad line it prints none, tells the line on standard error, and exits with 3; on a
 bad configuration with 2, and on a store that is not taken, or that fails, with 4.
 """
 import argparse
@@ -43,6 +43,16 @@ LIMITS = {"studies": 1000000, "images": 1000000, "entries": 1000000, "steps": 10
 
 
 NAME = re.compile(r"[A-Z0-9_]{1,16}", re.ASCII)
+# What `check` says before `config N`.
+CONFIG_WORDS = (
+    "the file cannot be read, or is not UTF-8",
+    "it is not TOML, or a key is missing, unknown or not of its type",
+    "a name is not 1 to 16 of A to Z, 0 to 9 and the underscore",
+    "a title is not 1 to 16 printable characters of ASCII, or has a backslash",
+    "two institutions have one name",
+    "two routes have the same pair of titles",
+    "a limit is not 1 to 1000000, or of associations not 1 to 64",
+)
 
 
 class BadConfiguration(Exception):
@@ -365,14 +375,41 @@ def with_options(words, has_store=True):
     return words
 
 
-def configured(words):
-    """The institutions; None and the exit status where the configuration is refused."""
+def refusal_of(text):
+    """The number by which a configuration is refused; None where it is not."""
+    try:
+        read_configuration(text)
+    except BadConfiguration as bad:
+        return bad.args[0]
+    return None
+
+
+def line_of_fault(text, number):
+    """The line of the first institution with which a text is refused so, up to the next one; 0 where there is none."""
+    begins = [found.start() for found in re.finditer(r"\[\[institution\]\]", text)]
+    if begins and refusal_of(text[:begins[0]]) != number:
+        for begin, end in zip(begins, [*begins[1:], len(text)]):
+            if refusal_of(text[:end]) == number:
+                return text[:begin].count("\n") + 1
+    return 0
+
+
+def configured(words, in_words=False):
+    """The institutions; None and the exit status where the configuration is refused. That is told by its number, and before by its
+    place and in words where these are asked for."""
+    text, number = "", 0
     try:
         text = BUILT_IN if words.config is None else open(words.config, encoding="utf-8").read()
         return read_configuration(text), 0
-    except (OSError, UnicodeDecodeError, BadConfiguration) as bad:
-        print("config", bad.args[0] if isinstance(bad, BadConfiguration) else 0, file=sys.stderr)
-        return None, 2
+    except (OSError, UnicodeDecodeError):
+        pass
+    except BadConfiguration as bad:
+        number = bad.args[0]
+    if in_words:
+        line = line_of_fault(text, number)
+        print(f"in the institution of line {line}\n" * bool(line) + CONFIG_WORDS[number], file=sys.stderr)
+    print("config", number, file=sys.stderr)
+    return None, 2
 
 
 def opened(words, institutions):
@@ -399,6 +436,53 @@ def begun(words):
     return institutions, store, status
 
 
+def listed(institutions, has_rows):
+    """The lines of a check: of each institution its pairs of titles, its limits, and how many rows it has, if that is asked for."""
+    for one, line in zip(institutions, Server(institutions).reported()):
+        for called, calling in one.pairs:
+            yield f"{one.name} called {called.decode()} calling {calling.decode()}"
+        yield " ".join([one.name, "limits", *(f"{key} {limit}" for key, limit in one.limits.items())])
+        if has_rows:
+            yield line
+
+
+def check(words):
+    """Lists the institutions of a configuration; the exit status."""
+    if words.config is None or words.new is not None:
+        print("usage", file=sys.stderr)
+        return 1
+    institutions, status = configured(words, in_words=True)
+    if not status and words.store is not None:
+        store, status = opened(words, institutions)
+    if status:
+        return status
+    text = "".join(f"{line}\n" for line in listed(institutions, words.store is not None))
+    try:
+        os.write(sys.stdout.fileno(), text.encode())
+    except OSError:
+        return 4
+    return 0
+
+
+def copy(words):
+    """Makes a new store of the rows of some institutions; the exit status."""
+    options = argparse.ArgumentParser()
+    options.add_argument("--from", dest="old", required=True)
+    options.add_argument("--to", dest="new", required=True)
+    options.add_argument("--only", action="append", default=[])
+    words = options.parse_args(words)
+    try:
+        count = stores.copy(words.old, words.new, words.only)
+    except stores.Refused as refused:
+        print("store", refused.args[0], file=sys.stderr)
+        return 4
+    try:
+        os.write(sys.stdout.fileno(), f"copied rows {count}\n".encode())
+    except OSError:
+        return 4
+    return 0
+
+
 def migrate(words):
     """Migrates a store of version 1; the exit status."""
     options = argparse.ArgumentParser()
@@ -420,7 +504,10 @@ def migrate(words):
 def main():
     words = with_options(argparse.ArgumentParser())
     words.add_argument("--report", action="store_true")
+    words.add_argument("--check", action="store_true")
     words = words.parse_args()
+    if words.check:
+        return check(words)
     institutions, status = configured(words)
     if status:
         return status

@@ -225,6 +225,22 @@ def migrate(old, new_one):
     store.close()
 
 
+def copied_rows(rows, names):
+    """The rows of the institutions of these names: of all, where there is no name."""
+    return [row for row in rows if not names or row[1].decode() in names]
+
+
+def copy(old, new_one, names=()):
+    """Makes a new store of rows of another one; how many they are."""
+    if not os.access(old, os.R_OK | os.W_OK) or os.path.exists(new_one) and os.path.samefile(old, new_one):
+        raise Refused(STORE)
+    store = empty(new_one)
+    rows = copied_rows([row for row, _ in adopt(old)[1]], names)
+    fill(store, rows)
+    store.close()
+    return len(rows)
+
+
 def take(institutions, found):
     """The rows of these institutions, into their records."""
     named = {one.name.encode(): one.records for one in institutions}

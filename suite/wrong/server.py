@@ -415,6 +415,54 @@ def migrates_and_empties():
     stores.migrate = migrate
 
 
+def copies_alike(wrong):
+    """The rows of a copy are made of all rows and the right ones by a function."""
+    right = stores.copied_rows
+    stores.copied_rows = lambda rows, names: wrong(rows, right(rows, names))
+
+
+def copies_without_a_row():
+    copies_alike(lambda _, rows: rows[:-1])
+
+
+def copies_all():
+    copies_alike(lambda rows, _: rows)
+
+
+def copies_and_empties():
+    """The old store has no rows any more."""
+    right = stores.copy
+
+    def copy(old, new_one, names=()):
+        count = right(old, new_one, names)
+        stores.connect(old).execute("DELETE FROM kept")
+        return count
+
+    stores.copy = copy
+
+
+def checks_anything():
+    """A configuration that is refused counts as one of nobody."""
+    right = replies.read_configuration
+
+    def read_configuration(text):
+        try:
+            return right(text)
+        except replies.BadConfiguration:
+            return []
+
+    replies.read_configuration = read_configuration
+
+
+def check_tells_no_place():
+    replies.line_of_fault = lambda text, number: 0
+
+
+def check_lists_another_limit():
+    right = replies.listed
+    replies.listed = lambda institutions, has_rows: (line.replace(" steps ", " steps 1") for line in right(institutions, has_rows))
+
+
 def migrates_row_by_row():
     """Each row is a transaction of its own."""
     def fill(store, rows, version=stores.VERSION):
@@ -837,6 +885,8 @@ FAULTS = {"stop-at-unreadable": stop_at_unreadable, "limit-over-all": limit_over
           "migrates-by-id-alone": migrates_by_id_alone, "migrates-without-steps-ended": migrates_without_steps_ended,
           "migrates-without-a-row": migrates_without_a_row, "migrates-any-version": migrates_any_version,
           "migrates-over-rows": migrates_over_rows, "migrates-and-empties": migrates_and_empties,
+          "copies-without-a-row": copies_without_a_row, "copies-all": copies_all, "copies-and-empties": copies_and_empties,
+          "checks-anything": checks_anything, "check-tells-no-place": check_tells_no_place, "check-lists-another-limit": check_lists_another_limit,
           "migrates-row-by-row": migrates_row_by_row, "old-store-is-taken": old_store_is_taken,
           "store-with-entry-patients": store_with_entry_patients,
           "store-without-an-index": store_without_an_index, "socket-drops-an-octet": socket_drops_an_octet,
@@ -867,13 +917,18 @@ def main():
     fault, *words = sys.argv[1:]
     name, *parts = fault.split(":")
     FAULTS[name](*parts)
-    options = [word.split("=")[0] for word in words if word.startswith("--")]
-    if words[:1] not in ([], ["replay"], ["report"], ["serve"], ["loopback"], ["migrate"]) or {
+    options = [word.split("=")[0] for word in words if word.startswith("--") and word.split("=")[0] != "--only"]
+    if words[:1] not in ([], ["replay"], ["report"], ["serve"], ["loopback"], ["migrate"], ["check"], ["copy"]) or {
             "--new", "--store"} <= set(options) or len(options) > len(set(options)):
         return usage()
     try:
         if words[:1] == ["migrate"]:
             return replies.migrate(words[1:])
+        if words[:1] == ["copy"]:
+            return replies.copy(words[1:])
+        if words[:1] == ["check"]:
+            sys.argv = ["replies.py", "--check", *words[1:]]
+            return replies.main()
         if words[:1] == ["serve"]:
             return serving.serve(words[1:])
         if words[:1] == ["loopback"]:

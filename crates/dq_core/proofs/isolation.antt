@@ -30,3 +30,4 @@ pub mod Arriving
 pub mod Exact
 pub mod Stored
 pub mod PagedExamples
+pub mod Showing

@@ -22,6 +22,7 @@ pub mod Tallies
 pub mod Slots
 pub mod Standing
 pub mod Looking
+pub mod Showing
 pub mod Examples
 pub mod Soundness
 pub mod Stores

@@ -54,6 +54,9 @@ ghost use Rattle.dq_tables.specs.Keeping.{IsSettled};
 ghost use Rattle.dq_core.specs.Shared.{World};
 ghost use Rattle.dq_core.specs.Standing.{Standing};
 ghost use Rattle.dq_core.specs.Looking.{Looked};
+ghost use Rattle.dq_core.specs.Showing.{found_for, steps_for};
+ghost use Rattle.dq_core.specs.declared.showing.SearchKind.{SearchKind};
+ghost use Rattle.dq_core.specs.declared.showing.ShownPage.{ShownPage};
 ghost use Rattle.dq_core.specs.Restarts.{IsRestart};
 
 use crate::event::Event;
@@ -658,6 +661,32 @@ pub fn looks_are_one_look<T: Tables>()
     ensures another { (old mid new : Standing T) → Looked T.state old mid →
         Looked T.state mid new → Looked T.state old new }
 {}
+
+/// What an institution is shown, of what keys find and of its steps, is what a server that it has
+/// alone shows over its rows. What others keep does not enter it.
+pub fn what_is_shown_is_own()
+    ensures found { (institutions : List Institution) (rows : List Row) (events : List Event)
+        (i : Institution) (kind : SearchKind) (keys : ElementList) (page : ShownPage) →
+        Begins institutions rows events i →
+        found_for institutions i.name (world_after institutions rows events).rows kind keys page
+        ≡ found_for (i ∷ []) i.name
+        (world_alone i rows (own institutions i.name events)).rows kind keys page }
+    ensures steps { (institutions : List Institution) (rows : List Row) (events : List Event)
+        (i : Institution) (page : ShownPage) → Begins institutions rows events i →
+        steps_for institutions i.name (world_after institutions rows events).rows page
+        ≡ steps_for (i ∷ []) i.name
+        (world_alone i rows (own institutions i.name events)).rows page }
+    ensures own_rows { (institutions : List Institution) (name : List ℕ) (rows alike : List Row)
+        (kind : SearchKind) (keys : ElementList) (page : ShownPage) →
+        of name rows ≡ of name alike →
+        found_for institutions name rows kind keys page
+        ≡ found_for institutions name alike kind keys page }
+    ensures own_steps { (institutions : List Institution) (name : List ℕ) (rows alike : List Row)
+        (page : ShownPage) → of name rows ≡ of name alike →
+        steps_for institutions name rows page ≡ steps_for institutions name alike page }
+{
+    institutions_are_isolated();
+}
 
 /// On worked examples, octet for octet: over no rows a query for all studies is answered with 0000
 /// alone, and one at a level that there is not with A900; a C-STORE without a data set with A900, and

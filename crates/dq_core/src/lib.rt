@@ -13,6 +13,7 @@ mod orders;
 mod pages;
 mod server;
 mod service;
+mod showing;
 mod slot;
 mod tally;
 
@@ -22,3 +23,4 @@ pub use fault::Fault;
 pub use look::Look;
 pub use notes::{Note, Noted, Notes, Party, Sought, Titles};
 pub use server::{Outcome, Server, run, well_formed};
+pub use showing::{SearchKind, ShownPage};

@@ -15,6 +15,7 @@ ghost use Rattle.dq_core.specs.Slots.{has_slot, has_search, AreHeld, Turned};
 ghost use Rattle.dq_core.specs.Standing.{IsQuiet, IsWorking, StandsFor};
 ghost use Rattle.dq_tables.specs.Finding.{rows_of};
 ghost use Rattle.dq_core.specs.Looking.{Looked, FailsToLook};
+ghost use Rattle.dq_core.specs.Showing.{found_for, steps_for};
 
 use crate::connections::Connections;
 use crate::event::{Event, Reply};
@@ -23,8 +24,11 @@ use crate::laws::{institutions_are_isolated, institutions_have_own_names, runs_a
 use crate::look::Look;
 use crate::notes::Notes;
 use crate::orders::{schedule_entry, withdraw_entry};
+use crate::showing::{SearchKind, ShownPage, search_page, steps_page};
 use dq_config::{Config, Institution};
+use dq_dataset::DataSet;
 use dq_list::Listed;
+use dq_match::Found;
 use dq_tables::{Kind, Tables};
 use std::alloc::{AllocError, Global};
 use std::marker::Model;
@@ -231,6 +235,65 @@ impl<T: Tables> Server<T> {
         } else {
             match self.tables.count(kind, name) {
                 Ok(number) => Ok(number),
+                Err(fault) => {
+                    self.spend();
+                    Err(Fault::from(fault))
+                }
+            }
+        }
+    }
+
+    /// What keys find among the records of the institution of a name, if there is one, and of that a
+    /// page: what a C-FIND with them is answered. It is no event, and changes nothing. No title is
+    /// called, so the answers of Study Root show an empty one. After a fault every search is answered
+    /// Stopped.
+    pub fn search(
+        &mut self,
+        name: &[u8],
+        kind: SearchKind,
+        keys: &DataSet,
+        page: ShownPage,
+    ) -> Result<Option<Found>, Fault>
+        ensures found { (T.state self.new.tables).honest → IfOk result (λ found. found ≡ found_for
+            self.old.institutions name.now (T.state self.old.tables).rows kind keys.now page) }
+        ensures looked { OnOk result (Looked T.state self.old self.new) }
+        ensures fails { IfErr result (FailsToLook T.state self.old self.new) }
+        ensures working { IsWorking T.state self.old → IsWorking T.state self.new }
+    {
+        if self.spent {
+            Err(Fault::Stopped)
+        } else {
+            let Some(institution) = self.connections.config.institution(name) else {
+                return Ok(None);
+            };
+            match search_page(&mut self.tables, institution, kind, keys, page) {
+                Ok(found) => Ok(Some(found)),
+                Err(fault) => {
+                    self.spend();
+                    Err(Fault::from(fault))
+                }
+            }
+        }
+    }
+
+    /// The performed procedure steps of the institution of a name, if there is one, in the order of
+    /// their keys, and of these a page. It is no event, and changes nothing. After a fault it is
+    /// answered Stopped.
+    pub fn steps(&mut self, name: &[u8], page: ShownPage) -> Result<Option<Listed<DataSet>>, Fault>
+        ensures found { (T.state self.new.tables).honest → IfOk result (λ found. found ≡ steps_for
+            self.old.institutions name.now (T.state self.old.tables).rows page) }
+        ensures looked { OnOk result (Looked T.state self.old self.new) }
+        ensures fails { IfErr result (FailsToLook T.state self.old self.new) }
+        ensures working { IsWorking T.state self.old → IsWorking T.state self.new }
+    {
+        if self.spent {
+            Err(Fault::Stopped)
+        } else {
+            let Some(institution) = self.connections.config.institution(name) else {
+                return Ok(None);
+            };
+            match steps_page(&mut self.tables, institution, page) {
+                Ok(steps) => Ok(Some(steps)),
                 Err(fault) => {
                     self.spend();
                     Err(Fault::from(fault))

@@ -17,6 +17,7 @@ use Rattle.dq_dataset.specs.Tree.{ElementList}
 use Rattle.dq_dataset.specs.Values.{element_octets}
 use Rattle.dq_dimse.specs.Statuses.{success}
 use Rattle.dq_dimse.specs.Received.{Message}
+use Rattle.dq_dimse.specs.Receiving.{identifier_in}
 use Rattle.dq_tables.specs.declared.row.Kind.{Kind}
 use Rattle.dq_tables.specs.declared.row.Kind.TheVariants as kind
 use Rattle.dq_tables.specs.declared.row.Row.{Row}
@@ -29,7 +30,7 @@ use Rattle.dq_find.specs.declared.level.Level.{Level}
 use Rattle.dq_find.specs.declared.level.Level.TheVariants.{Study, Series, Image}
 use Rattle.dq_find.specs.declared.query.Query.{Query}
 use Rattle.dq_find.specs.Levels.{kind_of, level_name}
-use Rattle.dq_find.specs.Queries.{message_query, key_above, records_asked, asked_records, answer_elements, record_answer, answers_of_records, about_answers, found_by, query_outcome}
+use Rattle.dq_find.specs.Queries.{identifier_query, message_query, key_above, records_asked, asked_records, answer_elements, record_answer, answers_of_records, about_answers, found_by, query_outcome, keys_outcome}
 use Rattle.dq_find.specs.Answers.{TellsLevel}
 use Rattle.dq_find.proofs.Completing.{first_of_three, second_of_three, third_of_three}
 
@@ -97,6 +98,11 @@ pub none_refused : (records : List Record) (called : List ℕ) (message : Messag
     → (query_outcome records called message syntax).answers ≡ []
 unfolding query_outcome
 none_refused records called message syntax h = refused_by records called (message_query message syntax) h
+
+pub same_by_keys : (records : List Record) (called : List ℕ) (message : Message) (syntax : Syntax) (identifier : ElementList)
+    → identifier_in message syntax ≡ Ok identifier → query_outcome records called message syntax ≡ keys_outcome records called identifier
+unfolding query_outcome message_query keys_outcome
+same_by_keys records called message syntax identifier is = ap (λ (read : Result ElementList ℕ). found_by records called (identifier_query read)) is
 
 pub same_found : (own other : List ℕ) → other ≢ own → (edits : List Edit) (rows : List Row) → IsRising rows
     → (called : List ℕ) (message : Message) (syntax : Syntax)

@@ -1,5 +1,5 @@
 -- The answers of one row after the other, and what is not computed where no key asks for it.
-use Rattle.std.proofs.Common.{◌≡◌, ℕ, Bool, true, false, cond, ◌||◌, List, [], ◌∷◌, Option, Some, None, option_map, is_some, Ok, Err, refl, sym, ap, ◌∙◌, arith}
+use Rattle.std.proofs.Common.{◌≡◌, ℕ, Bool, true, false, cond, ◌||◌, List, [], ◌∷◌, Option, Some, None, option_map, is_some, Result, refl, sym, ap, ◌∙◌, arith}
 use Rattle.std.specs.List.{list_any}
 use Rattle.std.proofs.lemmas.Bool.Decides.{nat_tests}
 use Rattle.dq_vr.specs.declared.Tag.{Tag}
@@ -12,15 +12,13 @@ use Rattle.dq_dataset.specs.View.{elements_of, has_tag, list_of}
 use Rattle.dq_dataset.specs.Editing.{merged_data_set}
 use Rattle.dq_dataset.specs.Values.{element_at}
 use Rattle.dq_match.specs.Keys.{is_tag}
-use Rattle.dq_match.specs.Answers.{refused_with}
 use Rattle.dq_dimse.specs.Received.{Message}
-use Rattle.dq_dimse.specs.Statuses.{success}
 use Rattle.dq_tables.specs.Rows.{Record}
 use Rattle.dq_find.specs.declared.level.Level.{Level}
 use Rattle.dq_find.specs.declared.level.Level.TheVariants.{Study, Series, Image}
 use Rattle.dq_find.specs.declared.query.Query.{Query}
 use Rattle.dq_find.specs.Computed.{study_values, series_values, computed_keys}
-use Rattle.dq_find.specs.Queries.{answer_elements, answer_if, answers_of_records, asks_computed, message_query, found_by, query_outcome}
+use Rattle.dq_find.specs.Queries.{answer_elements, answer_if, asks_computed, message_query, found_by, query_outcome}
 use Rattle.dq_find.proofs.Completing.{element_stays}
 use Rattle.dq_find.proofs.Agreeing.{Agree, fits_alike, shown_alike}
 
@@ -108,14 +106,7 @@ answered_alike records called key query held h =
 
 -- ---- what is found
 
-pub found_none : (records : List Record) (called : List ℕ) (message : Message) (syntax : Syntax) (status : ℕ) → message_query message syntax ≡ Err status
-    → query_outcome records called message syntax ≡ refused_with status
+pub outcome_of : (records : List Record) (called : List ℕ) (message : Message) (syntax : Syntax) (asked : Result Query ℕ) → asked ≡ message_query message syntax
+    → query_outcome records called message syntax ≡ found_by records called asked
 unfolding query_outcome
-found_none records called message syntax status is = ap (found_by records called) is
-
-pub found_some : (records : List Record) (called : List ℕ) (message : Message) (syntax : Syntax) (query : Query) (answered : List ElementList)
-    → message_query message syntax ≡ Ok query → answered ≡ answers_of_records records called query
-    → query_outcome records called message syntax ≡ record { status = success; optional = query.optional; answers = answered }
-unfolding query_outcome
-found_some records called message syntax query answered asked is =
-    ap (found_by records called) asked ∙ (λ i. record { status = success; optional = query.optional; answers = sym is i })
+outcome_of records called message syntax asked is = ap (found_by records called) (sym is)

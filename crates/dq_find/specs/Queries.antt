@@ -96,6 +96,11 @@ found_by records called (Ok query) = record {
 unfoldable pub query_outcome : List Record → List ℕ → Message → Syntax → Found
 query_outcome records called message syntax = found_by records called (message_query message syntax)
 
+-- the same of an identifier that no message brought
+unfoldable pub keys_outcome : List Record → List ℕ → ElementList → Found
+keys_outcome records called identifier =
+    found_by records called (level_query identifier (level_of identifier))
+
 -- whether some key is computed
 abbrev pub computed_tags : List Tag
 computed_tags =

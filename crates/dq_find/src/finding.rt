@@ -6,7 +6,8 @@ ghost use Rattle.dq_dataset.specs.View.{elements_of};
 ghost use Rattle.dq_dimse.specs.Holding.{plain_message};
 ghost use Rattle.dq_match.specs.Identifiers.{HasKnownTags};
 ghost use Rattle.dq_tables.specs.Records.{data_set_of};
-ghost use Rattle.dq_tables.specs.Rows.{record_of, row_of};
+ghost use Rattle.dq_tables.specs.Keeping.{Reads};
+ghost use Rattle.dq_tables.specs.Rows.{of, record_of, row_of};
 ghost use Rattle.dq_tables.specs.Serving.{Serves};
 ghost use Rattle.dq_archive.specs.Archives.{Looks, Decides};
 ghost use Rattle.dq_find.specs.Choosing.{is_asked};
@@ -15,13 +16,13 @@ ghost use Rattle.dq_find.specs.Kept.{is_key_met};
 ghost use Rattle.dq_find.specs.Computed.{computed_keys, all_in_order};
 ghost use Rattle.dq_value.specs.Parts.{element_values};
 ghost use Rattle.dq_vr.specs.declared.Vr.TheVariants.{UI};
-ghost use Rattle.dq_find.specs.Queries.{about_answers, key_above, asks_computed, asked_records, answer_if, record_answer, query_outcome};
+ghost use Rattle.dq_find.specs.Queries.{about_answers, key_above, asks_computed, asked_records, answer_if, record_answer, found_by, query_outcome, keys_outcome};
 ghost use Rattle.dq_tables.specs.declared.row.Row.{Row as TheRow};
 
 use crate::choosing::choice_in;
 use crate::computed::{octets_at, series_computed, study_computed};
 use crate::level::Level;
-use crate::query::{Query, query_of};
+use crate::query::{Query, query_at, query_of};
 use crate::texts::{Text, elements};
 use dq_archive::{Archive, Decision};
 use dq_config::Institution;
@@ -354,6 +355,24 @@ pub fn find<T: Tables>(
     archive.carry_out(decision)
 }
 
+/// Answers keys that no message brought, an identifier with its Query/Retrieve Level, as `find`
+/// answers the identifier of a message. Nothing is changed.
+#[tactic(auto, unfolding(crate::specs::Queries::keys_outcome))]
+pub fn find_by_keys<T: Tables>(
+    tables: &mut T,
+    institution: &Institution,
+    called: &[u8],
+    identifier: &DataSet,
+) -> Result<Found, TableFault>
+    ensures found { (T.state tables.new).honest → IfOk result (λ found. found
+        ≡ keys_outcome (of institution.now.name (T.state tables.old).rows) called.now identifier.now) }
+    ensures reads { Reads (T.state tables.old) (T.state tables.new) result }
+{
+    let mut kept = Archive::new(tables, institution);
+    let asked = query_at(kept.alloc, identifier)?;
+    answers_to(&mut kept, called, asked)
+}
+
 /// The answers to a Study Root C-FIND, which change nothing.
 fn decide_answers<T: Tables>(
     archive: &mut Archive<'_, T>,
@@ -364,9 +383,24 @@ fn decide_answers<T: Tables>(
     ensures { Decides T.state archive.old archive.new (λ records.
         (query_outcome records called.now (plain_message message.now) syntax, [])) result }
 {
-    let query = match query_of(archive.alloc, message, syntax)? {
+    let asked = query_of(archive.alloc, message, syntax)?;
+    let found = answers_to(archive, called, asked)?;
+    Ok(Decision::unchanged(found))
+}
+
+/// The answers to a query, or the status that refuses it.
+fn answers_to<T: Tables>(
+    archive: &mut Archive<'_, T>,
+    called: &[u8],
+    asked: Result<Query, u16>,
+) -> Result<Found, TableFault>
+    requires { IfOk asked (λ query. HasKnownTags query.keys) }
+    ensures { Looks T.state archive.old archive.new (λ records. found_by records called.now asked)
+        result }
+{
+    let query = match asked {
         Ok(query) => query,
-        Err(status) => return Ok(Decision::unchanged(Found::refused(archive.alloc, status))),
+        Err(status) => return Ok(Found::refused(archive.alloc, status)),
     };
     query.keys.has_facts();
     honest_rows_are_sound::<T>();
@@ -380,9 +414,9 @@ fn decide_answers<T: Tables>(
     };
     let rows = search.rows(archive)?;
     let answers = search.answers_of(archive, rows.as_slice())?;
-    Ok(Decision::unchanged(Found {
+    Ok(Found {
         status: SUCCESS,
         optional: query.optional,
         answers,
-    }))
+    })
 }

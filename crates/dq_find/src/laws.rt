@@ -6,13 +6,14 @@ ghost use Rattle.dq_dataset.specs.declared.header.Syntax.TheVariants.{Explicit};
 ghost use Rattle.dq_dataset.specs.Tree.{ElementList};
 ghost use Rattle.dq_dimse.specs.Statuses.{success};
 ghost use Rattle.dq_dimse.specs.Received.{Message};
+ghost use Rattle.dq_dimse.specs.Receiving.{identifier_in};
 ghost use Rattle.dq_match.specs.declared.responses.Found.{Found};
 ghost use Rattle.dq_tables.specs.declared.row.Row.{Row};
 ghost use Rattle.dq_tables.specs.Rows.{Record, Edit, IsRising, of, by, after};
 ghost use Rattle.dq_tables.specs.Records.{data_set_of};
 ghost use Rattle.dq_tables.specs.Sound.{IsSound};
 ghost use Rattle.dq_find.specs.declared.query.Query.{Query};
-ghost use Rattle.dq_find.specs.Queries.{message_query, answers_of_records, query_outcome};
+ghost use Rattle.dq_find.specs.Queries.{message_query, answers_of_records, query_outcome, keys_outcome};
 ghost use Rattle.dq_find.specs.Computed.{modalities_in};
 ghost use Rattle.dq_find.specs.Answers.{MatchesQuery, HasKeyAbove, AreQueryAnswers, TellsLevel};
 ghost use Rattle.dq_find.specs.Modalities.{AreModalities};
@@ -51,6 +52,14 @@ pub fn what_matches_has_the_key_above()
 {
     keys_are_met_alone_and_as_a_period();
 }
+
+/// Keys that no message brought are answered as the identifier of a message is.
+#[tactic(auto, using(crate::proofs::Answered::same_by_keys))]
+pub fn keys_are_answered_as_in_a_message()
+    ensures { (records : List Record) (called : List ℕ) (message : Message) (syntax : Syntax)
+        (identifier : ElementList) → identifier_in message syntax ≡ Ok identifier
+        → query_outcome records called message syntax ≡ keys_outcome records called identifier }
+{}
 
 /// A query that is refused has no answers (PS3.4 section C.4.1.1.4).
 #[tactic(auto, using(crate::proofs::Answered::none_refused))]

@@ -11,7 +11,7 @@ mod pages;
 mod query;
 mod texts;
 
-pub use finding::find;
+pub use finding::{find, find_by_keys};
 pub use level::Level;
 pub use pages::Pages;
 pub use query::Query;

@@ -37,7 +37,11 @@ pub(crate) fn query_of(
     }
 }
 
-fn query_at(alloc: Global, identifier: &DataSet) -> Result<Result<Query, u16>, AllocError>
+/// The query of an identifier, or the status that refuses it.
+pub(crate) fn query_at(
+    alloc: Global,
+    identifier: &DataSet,
+) -> Result<Result<Query, u16>, AllocError>
     ensures query { IfOk result (λ q. q ≡ level_query identifier.now (level_of identifier.now)) }
     ensures known { IfOk result (λ q. IfOk q (λ query. HasKnownTags query.keys)) }
 {

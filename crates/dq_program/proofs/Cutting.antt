@@ -45,6 +45,7 @@ module _ (institutions : List Institution) (rows : List Row) (events : List Even
   cuts-given before after stop.Output are part = AppendsPart-items printed_line before after (replies institutions rows events) (length given) (rw are.first at part)
   cuts-given before after stop.Usage are cut = cut
   cuts-given before after (stop.Config number) are cut = cut
+  cuts-given before after (stop.Unfit misfit) are cut = cut
   cuts-given before after (stop.Capture number) are cut = cut
   cuts-given before after (stop.Store number) are cut = cut
   cuts-given before after stop.Network are cut = cut

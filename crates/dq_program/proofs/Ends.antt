@@ -6,11 +6,11 @@ use Rattle.clap.specs.declared.error.kind.ErrorKind.TheVariants as kind
 use Rattle.dq_tables.specs.declared.row.Row.{Row}
 use Rattle.dq_wires.specs.declared.calls.Call.{Call}
 use Rattle.dq_wires.specs.Turns.{Cut}
-use Rattle.dq_words.specs.Words.{Errand, Plays, Serves, Loops, Migrates}
+use Rattle.dq_words.specs.Words.{Errand, Plays, Serves, Loops, Migrates, Checks, Copies}
 use Rattle.dq_program.specs.declared.network.Unheard.{Unheard}
 use Rattle.dq_program.specs.declared.network.Unheard.TheVariants as unheard
 use Rattle.dq_program.specs.declared.stop.Stop.{Stop}
-use Rattle.dq_program.specs.declared.stop.Stop.TheVariants.{Usage, Config, Capture, Store, Fault, Output, Network}
+use Rattle.dq_program.specs.declared.stop.Stop.TheVariants.{Usage, Config, Unfit, Capture, Store, Fault, Output, Network}
 use Rattle.dq_program.specs.Errands.{EndsEarly}
 use Rattle.dq_program.specs.Program.{no_memory, unclosed_store, status_of, stop_of_listening, RefusesFile}
 use Rattle.dq_program.specs.Serving.{ready_text, IsUnheard, HasCause, EndsService}
@@ -60,12 +60,17 @@ module _ {Wired : Type 0} (log : Wired → Option (List Call)) (held : List ℕ 
   no-usage (Loops file) ends = ends
   no-usage (Migrates files) (inl refused) = refused.1
   no-usage (Migrates files) (inr kept) = let is : Usage ≡ unclosed_store = kept.0 in absurd (cc)
+  no-usage (Checks checking) (inl refused) = refused.1
+  no-usage (Checks checking) (inr (institutions, by, cut)) = cut.1
+  no-usage (Copies copying) (kept, inl refused) = refused
+  no-usage (Copies copying) (kept, inr unclosed) = let is : Usage ≡ unclosed_store = unclosed in absurd (cc)
 
   -- words that are understood are not told as usage
   pub not_usage : (errand : Errand) (cause : Stop) → EndsEarly log held stored input before after unread unfed fails breaks errand cause
       → status_of cause ≡ 1 → ⊥
   not_usage errand Usage ends one = no-usage errand ends
   not_usage errand (Config number) ends one = absurd (omega (arith, one))
+  not_usage errand (Unfit misfit) ends one = absurd (omega (arith, one))
   not_usage errand (Capture number) ends one = absurd (omega (arith, one))
   not_usage errand (Store number) ends one = absurd (omega (arith, one))
   not_usage errand (Fault number) ends one = absurd (omega (arith, one))
@@ -80,6 +85,8 @@ module _ {Wired : Type 0} (log : Wired → Option (List Call)) (held : List ℕ 
   unbegun (Serves serving) = inl (keeps written, no_file unread held serving.config)
   unbegun (Loops file) = keeps written
   unbegun (Migrates files) = inl (keeps written, refl)
+  unbegun (Checks checking) = inl (keeps written, refl)
+  unbegun (Copies copying) = (keeps written, inl refl)
 
   -- Words that ask for something are not read only for want of memory.
   pub unread_words : (found : Option Errand) (errand : Errand) (Told : Stop → Type 0) (k : ErrorKind) (status : ℕ)
@@ -94,6 +101,7 @@ module _ {Wired : Type 0} (log : Wired → Option (List Call)) (held : List ℕ 
 pub status_bounds : (cause : Stop) → (1 ≤ status_of cause) × (status_of cause ≤ 5)
 status_bounds Usage = (omega arith, omega arith)
 status_bounds (Config number) = (omega arith, omega arith)
+status_bounds (Unfit misfit) = (omega arith, omega arith)
 status_bounds (Capture number) = (omega arith, omega arith)
 status_bounds (Store number) = (omega arith, omega arith)
 status_bounds (Fault number) = (omega arith, omega arith)
@@ -126,6 +134,7 @@ module _ (breaks fails : Type 0) (before after : Option (List ℕ)) (port : ℕ)
   unheard-ends IsSo Network kept is = inl (kept, is)
   unheard-ends IsSo Usage kept is = is
   unheard-ends IsSo (Config number) kept is = is
+  unheard-ends IsSo (Unfit misfit) kept is = is
   unheard-ends IsSo (Capture number) kept is = is
   unheard-ends IsSo (Store number) kept is = absurd is
   unheard-ends IsSo Output kept is = absurd is
@@ -137,6 +146,7 @@ module _ (breaks fails : Type 0) (before after : Option (List ℕ)) (port : ℕ)
   cut-ends IsSo Network cut ready is so = inr (ready, so)
   cut-ends IsSo Usage cut ready is so = is
   cut-ends IsSo (Config number) cut ready is so = is
+  cut-ends IsSo (Unfit misfit) cut ready is so = is
   cut-ends IsSo (Capture number) cut ready is so = is
   cut-ends IsSo (Store number) cut ready is so = absurd is
   cut-ends IsSo Output cut ready is so = absurd is
@@ -150,6 +160,7 @@ module _ (breaks fails : Type 0) (before after : Option (List ℕ)) (port : ℕ)
   ends-so IsSo IsAlso also Network (inr some) = inr (some.0, also Network some.1)
   ends-so IsSo IsAlso also Usage ends = ends
   ends-so IsSo IsAlso also (Config number) ends = ends
+  ends-so IsSo IsAlso also (Unfit misfit) ends = ends
   ends-so IsSo IsAlso also (Capture number) ends = ends
   ends-so IsSo IsAlso also (Store number) ends = ends
   ends-so IsSo IsAlso also Output ends = ends

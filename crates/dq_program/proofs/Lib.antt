@@ -3,6 +3,8 @@ pub mod Cutting
 pub mod Ends
 pub mod Heeding
 pub mod Lines
+pub mod Listed
+pub mod Misfits
 pub mod Rounded
 pub mod Serviced
 pub mod Replaying

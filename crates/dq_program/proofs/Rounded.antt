@@ -125,6 +125,7 @@ console-cause : (breaks : Type 0) (cause : Stop) → IsConsoleStop cause → Has
 console-cause breaks (stop.Fault number) is = is
 console-cause breaks stop.Usage is = is
 console-cause breaks (stop.Config number) is = is
+console-cause breaks (stop.Unfit misfit) is = is
 console-cause breaks (stop.Capture number) is = is
 console-cause breaks (stop.Store number) is = is
 console-cause breaks stop.Output is = is

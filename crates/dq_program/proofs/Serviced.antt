@@ -28,7 +28,7 @@ use Rattle.dq_program.specs.declared.desk.Line.TheVariants as line
 use Rattle.dq_program.specs.declared.stop.Stop.{Stop}
 use Rattle.dq_program.specs.Desk.{HasOrders, TellsLine, Answered, is_bad, LooksInPart, Unanswered}
 use Rattle.dq_program.specs.Console.{Calling, caller_with_answer}
-use Rattle.dq_program.specs.Console.LineAnswer.{Obeyed, Reported, BackedUp, Unread}
+use Rattle.dq_program.specs.Console.LineAnswer.{Obeyed, Reported, BackedUp, Searched, Unread}
 use Rattle.dq_program.specs.Heeding.{Does, Halted}
 use Rattle.dq_program.specs.Looping.{ArePlayedOver}
 use Rattle.dq_program.specs.Rounds.{RoundsCut}
@@ -125,6 +125,12 @@ module _ {Tables : Type 0} (state : Tables → State) where
         acts = went-by-look looks is.looked;
         leaves = put ∙ ap₂ (λ (t : List ℕ) (b : Bool). caller_with_answer caller t b) is.text_is bad;
       }
+      does-line (line.Search subject rest) tells order bad is = record {
+        answer = Searched text;
+        is = (subject, _, tells);
+        acts = went-by-look looks is.0;
+        leaves = put ∙ ap (λ (b : Bool). caller_with_answer caller text b) bad;
+      }
       does-line line.Bad tells order bad is = record {
         answer = Unread;
         is = tells;
@@ -159,6 +165,7 @@ module _ {Tables : Type 0} (state : Tables → State) where
     }
     line-halted line.Report tells order looked = looks-halted looked
     line-halted (line.Backup path) tells order looked = looks-halted looked
+    line-halted (line.Search subject rest) tells order looked = looks-halted looked
     line-halted line.Bad tells order same = record { order = None; is = tt; last = old; acts = λ log. went-nowhere log old; left = inl same }
 
 -- what has gone on from a beginning is a service

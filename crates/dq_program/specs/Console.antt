@@ -18,6 +18,8 @@ use Rattle.dq_captures.specs.Printing.{printed_line}
 use Rattle.dq_program.specs.declared.desk.Line.TheVariants as line
 use Rattle.dq_program.specs.declared.stores.Uncopied.{Uncopied}
 use Rattle.dq_program.specs.Backups.{backup_text}
+use Rattle.dq_program.specs.declared.searching.Subject.{Subject}
+use Rattle.dq_program.specs.Searching.{subject_word}
 use Rattle.dq_program.specs.Desk.{TellsLine, bad_line}
 
 -- A caller: its place among the wires, the octets that came and are not taken, those of its answer
@@ -68,11 +70,12 @@ other_lines octets = drop (first_line_length octets + 1) octets
 -- ---- answers
 
 -- What was done at a line: an order was stepped, with this reply; a report was answered; a copy of
--- all rows was made or refused; or nothing.
+-- all rows was made or refused; a search was answered; or nothing.
 pub data LineAnswer : Type 0 where
   Obeyed : Event → Reply → LineAnswer
   Reported : List ℕ → LineAnswer
   BackedUp : Result (Unit {0}) Uncopied → LineAnswer
+  Searched : List ℕ → LineAnswer
   Unread : LineAnswer
 
 -- which lines it is for
@@ -80,6 +83,8 @@ abbrev pub IsLineAnswer : List ℕ → LineAnswer → Type 0
 IsLineAnswer text (Obeyed event reply) = TellsLine text (line.Order event) × IsOrder event
 IsLineAnswer text (Reported report) = TellsLine text line.Report
 IsLineAnswer text (BackedUp made) = (path : List ℕ) × (text ≡ codes "backup " ++ path)
+IsLineAnswer text (Searched found) =
+    (subject : Subject) × (rest : List ℕ) × (text ≡ subject_word subject ++ rest)
 IsLineAnswer text Unread = TellsLine text line.Bad
 
 -- An order is answered by the line of its reply, as in a replay.
@@ -87,18 +92,21 @@ abbrev pub line_answer_text : LineAnswer → List ℕ
 line_answer_text (Obeyed event reply) = printed_line reply
 line_answer_text (Reported report) = report
 line_answer_text (BackedUp made) = backup_text made
+line_answer_text (Searched found) = found
 line_answer_text Unread = bad_line
 
 abbrev pub answer_acts : LineAnswer → List Act
 answer_acts (Obeyed event reply) = Ordered event reply ∷ []
 answer_acts (Reported report) = []
 answer_acts (BackedUp made) = []
+answer_acts (Searched found) = []
 answer_acts Unread = []
 
 abbrev pub is_unread : LineAnswer → Bool
 is_unread (Obeyed event reply) = false
 is_unread (Reported report) = false
 is_unread (BackedUp made) = false
+is_unread (Searched found) = false
 is_unread Unread = true
 
 -- ---- the turn of a caller

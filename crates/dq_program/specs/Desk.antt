@@ -11,21 +11,25 @@ use Rattle.dq_core.specs.Looking.{Looked, FailsToLook}
 use Rattle.dq_wires.specs.Stepping.{Stepped, Fails}
 use Rattle.dq_wires.specs.Turners.{IsOrder}
 use Rattle.dq_program.specs.declared.desk.Line.{Line}
-use Rattle.dq_program.specs.declared.desk.Line.TheVariants.{Order, Report, Backup, Bad}
+use Rattle.dq_program.specs.declared.desk.Line.TheVariants.{Order, Report, Backup, Search, Bad}
 use Rattle.dq_captures.specs.Captures.{line_feed, SpellsEvent}
 use Rattle.dq_captures.specs.Printing.{printed_line}
 use Rattle.dq_program.specs.declared.stores.Uncopied.{Uncopied}
 use Rattle.dq_program.specs.Backups.{backup_text}
 use Rattle.dq_program.specs.Reports.{report_text}
+use Rattle.dq_program.specs.declared.searching.Subject.{Subject}
+use Rattle.dq_program.specs.Searching.{subject_word, IsToldOf}
 
 -- What a line tells: an order, spelled as in a capture; that a report is wanted; that a copy of all
--- rows is, at a path; or none of these.
+-- rows is, at a path; what is searched, and of whose; or none of these.
 abbrev pub TellsLine : List ℕ → Line → Type 0
 TellsLine line (Order event) = SpellsEvent line event
 TellsLine line Report = line ≡ codes "report"
 TellsLine line (Backup path) = line ≡ codes "backup " ++ string_bytes path
+TellsLine line (Search subject rest) = line ≡ subject_word subject ++ string_bytes rest
 TellsLine line Bad = IsUtf8 line
     → (line ≢ codes "report") × ((path : List ℕ) → line ≡ codes "backup " ++ path → ⊥)
+    × ((subject : Subject) (rest : List ℕ) → line ≡ subject_word subject ++ rest → ⊥)
     × ((event : Event) → SpellsEvent line event → IsOrder event → ⊥)
 
 -- Its order is one of the console's.
@@ -33,6 +37,7 @@ abbrev pub HasOrders : Line → Type 0
 HasOrders (Order event) = IsOrder event
 HasOrders Report = Unit {0}
 HasOrders (Backup path) = Unit {0}
+HasOrders (Search subject rest) = Unit {0}
 HasOrders Bad = Unit {0}
 
 -- whether it tells nothing
@@ -40,6 +45,7 @@ abbrev pub is_bad : Line → Bool
 is_bad (Order event) = false
 is_bad Report = false
 is_bad (Backup path) = false
+is_bad (Search subject rest) = false
 is_bad Bad = true
 
 -- what is answered to one that tells nothing
@@ -56,7 +62,8 @@ pub record BacksUp {Tables : Type 0} (state : Tables → State) (copied : List R
   pub is_copied : (state new.tables).honest → OnOk made (copied (state old.tables).rows)
 
 -- What is answered to it. An order is stepped, and its reply is printed as in a replay. A report
--- counts the rows that are there. A copy says whether it is made. Anything else changes nothing.
+-- counts the rows that are there. A copy says whether it is made. A search tells what the institution
+-- that it names is shown. Anything else changes nothing.
 module _ {Tables : Type 0} (state : Tables → State) (copied : List Row → Type 0)
     (names : List (List ℕ)) where
   abbrev pub Answered : Standing Tables → Standing Tables → Line → List ℕ → Type 0
@@ -65,6 +72,8 @@ module _ {Tables : Type 0} (state : Tables → State) (copied : List Row → Typ
   Answered old new Report text = Looked state old new
       × ((state new.tables).honest → text ≡ report_text (state old.tables).rows names)
   Answered old new (Backup path) text = BacksUp state copied old new text
+  Answered old new (Search subject rest) text = Looked state old new × ((state new.tables).honest
+      → IsToldOf old.institutions (state old.tables).rows subject (string_bytes rest) text)
   Answered old new Bad text = (new ≡ old) × (text ≡ bad_line)
 
 -- What a fault leaves of a server: it is as it was, or it failed at an event or at a look.
@@ -84,4 +93,5 @@ module _ {Tables : Type 0} (state : Tables → State) where
       ⊎ ((reply : Reply) × Stepped state old new event reply)
   Unanswered old new Report = LooksInPart old new
   Unanswered old new (Backup path) = LooksInPart old new
+  Unanswered old new (Search subject rest) = LooksInPart old new
   Unanswered old new Bad = new ≡ old

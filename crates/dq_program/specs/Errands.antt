@@ -1,10 +1,12 @@
 -- What is done for what the words ask, and what it stops by.
-use Rattle.std.specs.Prelude.{◌≡◌, ℕ, List, Option, IfSome}
+use Rattle.std.specs.Prelude.{◌≡◌, ℕ, List, length, Option, IfSome}
 use Rattle.std.specs.Io.KnownBytes.{Appends}
 use Rattle.dq_tables.specs.declared.row.Row.{Row}
 use Rattle.dq_wires.specs.declared.calls.Call.{Call}
-use Rattle.dq_words.specs.Words.{Errand, Plays, Serves, Loops, Migrates}
+use Rattle.dq_words.specs.Words.{Errand, Plays, Serves, Loops, Migrates, Checks, Copies}
 use Rattle.dq_program.specs.declared.stop.Stop.{Stop}
+use Rattle.dq_program.specs.Checks.{IsChecked, StopsCheck}
+use Rattle.dq_program.specs.Copies.{copied_line, EndsCopy}
 use Rattle.dq_program.specs.Looping.{IsLooped, EndsLoop}
 use Rattle.dq_program.specs.Program.{IsReplayed, StopsPlay, migrated_line, EndsMigration}
 use Rattle.dq_program.specs.Serving.{IsServed, StopsService}
@@ -12,7 +14,8 @@ use Rattle.dq_program.specs.Serving.{IsServed, StopsService}
 -- What is held in files and in stores, what is there once a store is closed, the input, and what was
 -- written before and after, as far as these are known.
 module _ {Wired : Type 0} (log : Wired → Option (List Call)) (held : List ℕ → Option (List ℕ))
-    (stored migrated : List ℕ → Option (List Row)) (closed : List Row → Type 0)
+    (stored migrated : List ℕ → Option (List Row))
+    (copied : List ℕ → List (List ℕ) → Option (List Row)) (closed : List Row → Type 0)
     (input : Option (List ℕ)) (before after : Option (List ℕ)) where
   -- all was done
   abbrev pub IsDone : Errand → Type 0
@@ -22,6 +25,11 @@ module _ {Wired : Type 0} (log : Wired → Option (List Call)) (held : List ℕ 
   -- A new store of the old one's rows was made and closed, and a line was printed.
   IsDone (Migrates files) = Appends before after migrated_line
       × ((kept : List Row) × closed kept × IfSome (migrated files.from) (λ rows. kept ≡ rows))
+  IsDone (Checks checking) = IsChecked held stored before after checking
+  -- A new store of the rows that are copied was made and closed, and a line says how many they are.
+  IsDone (Copies copying) = (kept : List Row) × closed kept
+      × IfSome (copied copying.from copying.only) (λ rows. kept ≡ rows)
+      × Appends before after (copied_line (length kept))
 
 -- It stopped short of its end, as far as files, the input, the output and the network may fail.
 module _ {Wired : Type 0} (log : Wired → Option (List Call)) (held : List ℕ → Option (List ℕ))
@@ -34,3 +42,6 @@ module _ {Wired : Type 0} (log : Wired → Option (List Call)) (held : List ℕ 
       StopsService log held stored before after serving breaks unread fails cause
   EndsEarly (Loops file) cause = EndsLoop log held file input fails before after cause
   EndsEarly (Migrates files) cause = EndsMigration fails before after cause
+  EndsEarly (Checks checking) cause =
+      StopsCheck held stored before after unread fails checking cause
+  EndsEarly (Copies copying) cause = EndsCopy fails before after cause

@@ -1,11 +1,15 @@
 pub mod Backups
+pub mod Checks
 pub mod Console
+pub mod Copies
 pub mod Desk
 pub mod Errands
 pub mod Heeding
 pub mod Looping
+pub mod Places
 pub mod Program
 pub mod Replays
 pub mod Reports
 pub mod Rounds
 pub mod Serving
+pub mod Searching

@@ -1,5 +1,5 @@
 -- What the program does with its words, a configuration and a capture.
-use Rattle.std.specs.Prelude.{◌≡◌, ◌≢◌, ℕ, zero, suc, ◌<◌, ◌≤◌, ◌⊎◌, codes, IfSome}
+use Rattle.std.specs.Prelude.{◌≡◌, ◌≢◌, ℕ, zero, suc, ◌<◌, ◌≤◌, ◌==◌, ◌⊎◌, if◌then◌else◌, codes, IfSome}
 use Rattle.std.specs.Prelude.{List, [], ◌∷◌, ◌++◌, length, take, Option, None, Some, option_map, Ok, Err}
 use Rattle.std.specs.Str.{IsUtf8}
 use Rattle.std.specs.Io.KnownBytes.{Keeps, Appends}
@@ -22,10 +22,12 @@ use Rattle.dq_program.specs.declared.network.Unheard.{Unheard}
 use Rattle.dq_program.specs.declared.network.Unheard.TheVariants as unheard
 use Rattle.dq_captures.specs.declared.surroundings.Unread.{Unread}
 use Rattle.dq_captures.specs.declared.surroundings.Unread.TheVariants as unread
+use Rattle.dq_program.specs.declared.stop.Misfit.{Misfit}
 use Rattle.dq_program.specs.declared.stop.Stop.{Stop}
 use Rattle.dq_program.specs.declared.stop.Stop.TheVariants as stop
 use Rattle.dq_captures.specs.Captures.{line_feed, lines_of, AreCapture, IsFirstBadLine}
 use Rattle.dq_captures.specs.Printing.{numbered_line, reply_lines}
+use Rattle.dq_program.specs.Places.{IsAtLine}
 use Rattle.dq_program.specs.Reports.{names_of, report_text}
 use Rattle.dq_captures.specs.Surroundings.{AppendsPart, BreaksOff}
 use Rattle.dq_program.specs.declared.stores.Unkept.{Unkept}
@@ -84,16 +86,40 @@ stop_of_listening unheard.NoMemory = stop.Fault no_memory
 abbrev pub status_of : Stop → ℕ
 status_of stop.Usage = 1
 status_of (stop.Config number) = 2
+status_of (stop.Unfit misfit) = 2
 status_of (stop.Capture number) = 3
 status_of (stop.Store number) = 4
 status_of (stop.Fault number) = 4
 status_of stop.Output = 4
 status_of stop.Network = 5
 
+-- What is wrong with a configuration, in words, by the number of its fault.
+abbrev pub config_words : ℕ → List ℕ
+config_words number =
+    if number == 0 then codes "the file cannot be read, or is not UTF-8"
+    else if number == 1 then codes "it is not TOML, or a key is missing, unknown or not of its type"
+    else if number == 2 then codes "a name is not 1 to 16 of A to Z, 0 to 9 and the underscore"
+    else if number == 3
+    then codes "a title is not 1 to 16 printable characters of ASCII, or has a backslash"
+    else if number == 4 then codes "two institutions have one name"
+    else if number == 5 then codes "two routes have the same pair of titles"
+    else codes "a limit is not 1 to 1000000, or of associations not 1 to 64"
+
+-- where it is wrong, if that is known
+abbrev pub place_text : ℕ → List ℕ
+place_text line =
+    if line == 0 then [] else numbered_line (codes "in the institution of line ") line
+
+-- what is told of a configuration that is checked
+abbrev pub misfit_text : Misfit → List ℕ
+misfit_text misfit = place_text misfit.line
+    ++ numbered_line (config_words misfit.number ++ line_feed ∷ codes "config ") misfit.number
+
 -- What is told of a stop on standard error. For usage that is the command line's own text.
 abbrev pub stop_text : Stop → List ℕ
 stop_text stop.Usage = []
 stop_text (stop.Config number) = numbered_line (codes "config ") number
+stop_text (stop.Unfit misfit) = misfit_text misfit
 stop_text (stop.Capture number) = numbered_line (codes "capture line ") number
 stop_text (stop.Store number) = numbered_line (codes "store ") number
 stop_text (stop.Fault number) = numbered_line (codes "fault ") number
@@ -137,6 +163,20 @@ abbrev pub RefusesConfig : Type 0 → Option (List ℕ) → Stop → Type 0
 RefusesConfig may_fail held (stop.Config number) = IsBadConfig may_fail held number
 RefusesConfig may_fail held (stop.Fault number) = number ≡ no_memory
 RefusesConfig may_fail held other = ⊥
+
+-- The line that is told is that of the institution with which the text is refused by this fault; 0
+-- stands for none.
+abbrev pub IsPlaced : Misfit → List ℕ → Type 0
+IsPlaced misfit octets = (misfit.line ≡ 0)
+    ⊎ ((fault : ConfigFault) × (config_number fault ≡ misfit.number)
+    × IsAtLine octets fault misfit.line)
+
+-- how one that is checked is refused
+abbrev pub RefusesChecked : Type 0 → Option (List ℕ) → Stop → Type 0
+RefusesChecked may_fail held (stop.Unfit misfit) =
+    IsBadConfig may_fail held misfit.number × IfSome held (IsPlaced misfit)
+RefusesChecked may_fail held (stop.Fault number) = number ≡ no_memory
+RefusesChecked may_fail held other = ⊥
 
 -- how the file of a configuration is refused, or the configuration that is built in
 abbrev pub RefusesFile : (List ℕ → Type 0) → (List ℕ → Option (List ℕ)) → Option (List ℕ) → Stop

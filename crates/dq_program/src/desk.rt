@@ -1,5 +1,5 @@
-//! The console: orders of the worklist, reports and copies of the store, that are asked for by lines
-//! over wires of their own.
+//! The console: orders of the worklist, reports, copies of the store and searches, that are asked for
+//! by lines over wires of their own.
 ghost use Rattle.std.specs.Prelude.{◌≡◌, ℕ, List, [], ◌++◌, codes, IfOk, IfErr, OnOk, OnErr, MatchBool, MatchOption};
 ghost use Rattle.dq_core.specs.Looking.{Looked};
 ghost use Rattle.dq_wires.specs.Logs.{LogsAll};
@@ -14,6 +14,7 @@ ghost use Rattle.dq_program.specs.Serving.{Attended, IsConsoleStop};
 use crate::backup::{Backups, Copying};
 use crate::caller::{Caller, Next};
 use crate::reporting::{CountsRows, lines_of};
+use crate::searching::{Subject, search_in, tell_search};
 use crate::stop::Stop;
 use crate::stores::Uncopied;
 use dq_captures::{event_of, printed_line};
@@ -37,6 +38,7 @@ enum Line {
     Order(Event),
     Report,
     Backup(String),
+    Search(Subject, String),
     Bad,
 }
 
@@ -54,7 +56,7 @@ fn is_bad(line: &Line) -> bool
 {
     match line {
         Line::Bad => true,
-        Line::Order(_) | Line::Report | Line::Backup(_) => false,
+        Line::Order(_) | Line::Report | Line::Backup(_) | Line::Search(..) => false,
     }
 }
 
@@ -75,6 +77,9 @@ fn line_of(alloc: Global, text: &str) -> Result<Line, AllocError>
     }
     if let Some(path) = backup_path(text) {
         return Ok(Line::Backup(String::from_str(alloc, path)?));
+    }
+    if let Some((subject, rest)) = search_in(text) {
+        return Ok(Line::Search(subject, String::from_str(alloc, rest)?));
     }
     match event_of(alloc, text)? {
         Some(event) => {
@@ -177,6 +182,7 @@ fn answer_to<T: Tables, B: Backups<T>>(
         }
         Line::Report => Ok(lines_of(alloc, turner, names)?),
         Line::Backup(path) => Ok(back_up(alloc, turner, backups, path.as_str())?),
+        Line::Search(subject, rest) => Ok(tell_search(alloc, turner, subject, rest.as_str())?),
         Line::Bad => Ok(Vec::from_slice(alloc, BAD_LINE.as_bytes())?),
     }
 }
@@ -193,7 +199,7 @@ fn line_in(alloc: Global, octets: &[u8]) -> Result<Line, AllocError>
 }
 
 /// What a note says of a line before its answer: an order's word and institution, or that of a copy.
-/// There is no note of a report. An entry is not told, nor whose it is.
+/// There is no note of a report, nor of a search. An entry is not told, nor whose it is.
 fn note_of(alloc: Global, line: &Line) -> Result<Option<String>, AllocError> {
     match line {
         Line::Order(Event::Schedule { inst, octets: _ }) => {
@@ -206,7 +212,7 @@ fn note_of(alloc: Global, line: &Line) -> Result<Option<String>, AllocError> {
         }
         Line::Backup(_) => Ok(Some(String::from_str(alloc, "backup ")?)),
         Line::Bad => Ok(Some(String::new(alloc))),
-        Line::Order(_) | Line::Report => Ok(None),
+        Line::Order(_) | Line::Report | Line::Search(..) => Ok(None),
     }
 }
 

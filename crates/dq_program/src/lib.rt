@@ -4,17 +4,22 @@
 #![tactic(auto)]
 
 mod answering;
+mod asking;
 mod backup;
 mod caller;
+mod checking;
+mod copying;
 mod desk;
 pub mod laws;
 mod logged_sockets;
 mod looping;
 mod migrating;
 mod network;
+mod placing;
 mod program;
 mod reading;
 mod reporting;
+mod searching;
 mod serving;
 mod stop;
 mod stores;

@@ -5,6 +5,7 @@ use crate::logged_sockets::LoggedSockets;
 use dq_captures::Host;
 use dq_tables::Tables;
 use dq_wires::{AssociationLog, Called, Limits, LogEnd, LoggedWires, SocketWires, Turner};
+use dq_words::VERSION;
 use std::alloc::{AllocError, Global};
 use std::io;
 use std::net::{IpAddr, SocketAddr};
@@ -141,6 +142,7 @@ fn log_of(
         Ok(end) => {
             let mut log = AssociationLog::new(alloc, end);
             log.read_clock(rt);
+            log.start(VERSION);
             Ok(log)
         }
         Err(error) => Err(why_unheard(&error)),

@@ -12,6 +12,8 @@ ghost use Rattle.dq_program.specs.Program.{no_memory, status_of, IsTold, no_text
 ghost use Rattle.dq_program.specs.Errands.{IsDone, EndsEarly};
 
 use crate::answering::answer;
+use crate::checking::check;
+use crate::copying::copy;
 use crate::looping::loop_over;
 use crate::migrating::migrate;
 use crate::network::Network;
@@ -129,8 +131,8 @@ fn do_job<Rt: AllocGlobal + Folder + Stores + Network, R: Source, W: Sink>(
 ) -> Result<(), Stop>
     ensures flushed { OnOk result (W.is_flushed output.new) }
     ensures done { OnOk result (IsDone Rt.Wired.log (Rt.held rt.now) (Rt.stored rt.now)
-        (Rt.migrated rt.now) (Rt.closed rt.now) (R.octets input) (W.written output.old)
-        (W.written output.new) (errand_in job.entry)) }
+        (Rt.migrated rt.now) (Rt.copied rt.now) (Rt.closed rt.now) (R.octets input)
+        (W.written output.old) (W.written output.new) (errand_in job.entry)) }
     ensures stops { IfErr result (EndsEarly Rt.Wired.log (Rt.held rt.now) (Rt.stored rt.now)
         (R.octets input) (W.written output.old) (W.written output.new) (Rt.may_fail rt.now)
         (R.may_fail input) (W.may_fail output.old) (Rt.may_break rt.now) (errand_in job.entry)) }
@@ -140,6 +142,8 @@ fn do_job<Rt: AllocGlobal + Folder + Stores + Network, R: Source, W: Sink>(
         Job::Serve(service) => serve(rt, service, output),
         Job::Loop(config) => loop_over(rt, config, input, output),
         Job::Migrate(files) => migrate(rt, files, output),
+        Job::Check(inspection) => check(rt, inspection, output),
+        Job::Copy(copying) => copy(rt, &copying, output),
     }
 }
 
@@ -188,8 +192,8 @@ pub fn perform<Rt: AllocGlobal + Folder + Stores + Network, S: AsStr, R: Source,
     // At 0 all was done that the words ask for.
     ensures done { (errand : Errand) → errand_asked (map S.text words.now) ≡ Some errand → result ≡ 0 →
         IsDone Rt.Wired.log (Rt.held rt.now) (Rt.stored rt.now) (Rt.migrated rt.now)
-        (Rt.closed rt.now) (R.octets input) (W.written output.old) (W.written output.new)
-        errand }
+        (Rt.copied rt.now) (Rt.closed rt.now) (R.octets input) (W.written output.old)
+        (W.written output.new) errand }
     // At any other status it stopped short of its end, as is told, and this is what was done.
     ensures stops { (errand : Errand) → errand_asked (map S.text words.now) ≡ Some errand → result ≢ 0 →
         (stop : Stop) × (result ≡ status_of stop)

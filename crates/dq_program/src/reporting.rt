@@ -102,7 +102,7 @@ fn put_count<C: CountsRows>(
 }
 
 /// Adds the line of an institution.
-fn put_line<C: CountsRows>(
+pub fn put_line<C: CountsRows>(
     alloc: Global,
     text: &mut Vec<u8>,
     counts: &mut C,
@@ -141,8 +141,8 @@ pub fn lines_of<C: CountsRows>(
 
 /// Tables, as what is kept after a history.
 #[derive(Drop)]
-struct Kept<T> {
-    tables: T,
+pub struct Kept<T> {
+    pub tables: T,
 }
 
 impl<T: Tables> CountsRows for Kept<T> {

@@ -1,8 +1,9 @@
 //! Why the program stops, what is told of it, and its exit status.
-ghost use Rattle.std.specs.Prelude.{◌≡◌, OnOk, OnErr};
+ghost use Rattle.std.specs.Prelude.{◌≡◌, ◌∷◌, ◌++◌, codes, OnOk, OnErr};
 ghost use Rattle.std.specs.Io.KnownBytes.{Appends};
+ghost use Rattle.dq_captures.specs.Captures.{line_feed};
 ghost use Rattle.dq_captures.specs.Surroundings.{BreaksOff};
-ghost use Rattle.dq_program.specs.Program.{stop_of_file, stop_of_input, stop_text, status_of};
+ghost use Rattle.dq_program.specs.Program.{stop_of_file, stop_of_input, config_words, place_text, misfit_text, stop_text, status_of};
 
 use crate::network::Unheard;
 use crate::stores::{Unclosed, Unkept};
@@ -13,6 +14,15 @@ use dq_wires::TurnFault;
 use std::alloc::AllocError;
 use std::io;
 
+/// What is wrong with a configuration that is checked: the number of its fault, 0 for a file that
+/// cannot be read or is no text; and the line where the institution begins with which it is refused,
+/// 0 where that is not known.
+#[derive(Clone, Copy, Debug, PartialEq, Eq)]
+pub struct Misfit {
+    pub number: u8,
+    pub line: u64,
+}
+
 /// Why the program stops short of its end.
 #[derive(Clone, Copy, Debug, PartialEq, Eq)]
 pub enum Stop {
@@ -21,6 +31,8 @@ pub enum Stop {
     /// A refused configuration, with the number of its fault. 0 stands for a file that cannot be
     /// read, or is no text.
     Config(u8),
+    /// A refused configuration that is checked, which is told in words too.
+    Unfit(Misfit),
     /// A bad line of the capture. 0 stands for one that cannot be read, is too long, or is no text.
     Capture(u64),
     /// A refused store, with the number of what is wrong with it. 5 stands for one that all was done
@@ -140,6 +152,52 @@ impl From<Unheard> for Stop {
     }
 }
 
+/// What is wrong with a configuration, in words, by the number of its fault, and what comes before
+/// that number.
+fn config_words(number: u8) -> &'static str
+    ensures { result.now ≡ config_words number ++ line_feed ∷ codes "config " }
+{
+    match number {
+        0 => "the file cannot be read, or is not UTF-8\nconfig ",
+        1 => "it is not TOML, or a key is missing, unknown or not of its type\nconfig ",
+        2 => "a name is not 1 to 16 of A to Z, 0 to 9 and the underscore\nconfig ",
+        3 => "a title is not 1 to 16 printable characters of ASCII, or has a backslash\nconfig ",
+        4 => "two institutions have one name\nconfig ",
+        5 => "two routes have the same pair of titles\nconfig ",
+        _ => "a limit is not 1 to 1000000, or of associations not 1 to 64\nconfig ",
+    }
+}
+
+/// Tells where a configuration is wrong, if that is known.
+fn put_place<E: Sink>(line: u64, errors: &mut E) -> io::Result<()>
+    ensures written { OnOk result
+        (Appends (E.written errors.old) (E.written errors.new) (place_text line)) }
+    ensures part { OnErr result (BreaksOff (E.may_fail errors.old) (E.written errors.old)
+        (E.written errors.new) (place_text line)) }
+    ensures fails { E.may_fail errors.new → E.may_fail errors.old }
+{
+    if line == 0 {
+        return Ok(());
+    }
+    put_numbered("in the institution of line ", line, errors)
+}
+
+/// Tells what is wrong with a configuration: where, in words, and by its number.
+fn put_misfit<E: Sink>(misfit: Misfit, errors: &mut E) -> io::Result<()>
+    ensures written { OnOk result
+        (Appends (E.written errors.old) (E.written errors.new) (misfit_text misfit)) }
+    ensures part { OnErr result (BreaksOff (E.may_fail errors.old) (E.written errors.old)
+        (E.written errors.new) (misfit_text misfit)) }
+{
+    put_place(misfit.line, errors)?;
+    put_numbered(
+        config_words(misfit.number),
+        u64::from(misfit.number),
+        errors,
+    )?;
+    Ok(())
+}
+
 impl Stop {
     /// The stop where a configuration's file is not read.
     pub fn of_file(unread: Unread) -> Stop
@@ -167,7 +225,7 @@ impl Stop {
     {
         match self {
             Stop::Usage => 1,
-            Stop::Config(_) => 2,
+            Stop::Config(_) | Stop::Unfit(_) => 2,
             Stop::Capture(_) => 3,
             Stop::Store(_) | Stop::Fault(_) | Stop::Output => 4,
             Stop::Network => 5,
@@ -183,6 +241,7 @@ impl Stop {
     {
         match self {
             Stop::Config(number) => put_numbered("config ", u64::from(number), errors),
+            Stop::Unfit(misfit) => put_misfit(misfit, errors),
             Stop::Capture(number) => put_numbered("capture line ", number, errors),
             Stop::Store(number) => put_numbered("store ", u64::from(number), errors),
             Stop::Fault(number) => put_numbered("fault ", u64::from(number), errors),

@@ -1,5 +1,5 @@
 //! What keeps rows: memory, and stores that are files.
-ghost use Rattle.std.specs.Prelude.{◌≡◌, false, ℕ, List, [], Option, Some, IfOk, IfSome, OnOk};
+ghost use Rattle.std.specs.Prelude.{◌≡◌, false, ℕ, List, [], length, map, Option, Some, IfOk, IfSome, OnOk};
 ghost use Rattle.dq_tables.specs.declared.row.Row.{Row};
 ghost use Rattle.dq_core.specs.Looking.{LeavesAlone};
 ghost use Rattle.dq_core.specs.Soundness.{HoldSound};
@@ -67,6 +67,10 @@ pub trait Stores {
     /// are known.
     ghost migrated: { Self → List ℕ → Option (List Row) };
 
+    /// The rows that a copy of the store at a path has, of the institutions of some names or of all,
+    /// where they are known.
+    ghost copied: { Self → List ℕ → List (List ℕ) → Option (List Row) };
+
     /// What there is once a store of these rows is closed.
     ghost closed: { Self → List Row → Type 0 };
 
@@ -94,6 +98,20 @@ pub trait Stores {
     fn migrate(&self, alloc: Global, from: &str, to: &str) -> Result<Self::File, Unkept>
         ensures { IfOk result (λ tables. IfSome (migrated self.now from.now)
             (λ rows. (Self.File.state tables).rows ≡ rows)) };
+
+    /// Makes a new store in a file of the rows of another one, and closes it: of the institutions of some
+    /// names, or of all where none is named. The answer is how many rows they are. The old store stays.
+    fn copy(
+        &self,
+        alloc: Global,
+        from: &str,
+        to: &str,
+        only: &[&str],
+    ) -> Result<Result<u64, Unclosed>, Unkept>
+        ensures { IfOk result (λ ended. IfOk ended (λ count. (kept : List Row)
+            × closed self.now kept × IfSome
+            (copied self.now from.now (map (λ name. name.now) only.now)) (λ rows. kept ≡ rows)
+            × (length kept ≡ count))) };
 
     /// Copies all rows of a store into a new file at a path, and closes that. The store is only read,
     /// and its own files are not opened again.

@@ -1,5 +1,5 @@
 //! Rows in memory, and in SQLite files of the machine.
-ghost use Rattle.std.specs.Prelude.{◌≡◌, false, List, IfOk};
+ghost use Rattle.std.specs.Prelude.{◌≡◌, false, List, length, IfOk};
 ghost use Rattle.sqlite_store.specs.FileStore.{files};
 ghost use Rattle.sqlite_wal.specs.Files.{image_at};
 ghost use Rattle.sqlite_wal.specs.Reads.{AreClean};
@@ -12,7 +12,7 @@ ghost use Rattle.dq_tables.specs.Sound.{IsSound};
 ghost use Rattle.dq_core.specs.Looking.{LeavesAlone};
 ghost use Rattle.dq_core.specs.Soundness.{HoldSound};
 ghost use Rattle.dq_sql.specs.Restarting.{ImageHoldsRows};
-ghost use Rattle.dq_server.specs.Closing.{HaveAlone};
+ghost use Rattle.dq_server.specs.Closing.{HaveAlone, IsClosed};
 
 use crate::memory::RowsInMemory;
 use dq_core::laws::rows_stay_sound;
@@ -137,6 +137,25 @@ pub fn closed_files<D: Disk + Drop>(tables: SqlTables<FileStore<D>>) -> Result<F
     match tables.close() {
         Ok(files) => Ok(files),
         Err(_) => Err(Unclosed),
+    }
+}
+
+/// Makes a new store of the rows of another one, and closes it. The answer is how many rows they are.
+fn rows_copied<D: Disk + Drop>(
+    alloc: Global,
+    old: &mut Connection<FileStore<D>>,
+    new: Connection<FileStore<D>>,
+    only: &[&str],
+) -> Result<Result<u64, Unclosed>, Unkept>
+    ensures { IfOk result (λ ended. IfOk ended (λ count. (kept : List Row)
+        × IsClosed D.Disk kept × (length kept ≡ count))) }
+{
+    match SqlTables::copy_lent(alloc, old, new, only) {
+        Ok((tables, count)) => match closed_files(tables) {
+            Ok(_files) => Ok(Ok(count)),
+            Err(Unclosed) => Ok(Err(Unclosed)),
+        },
+        Err((fault, _)) => Err(unkept(fault)),
     }
 }
 
@@ -271,6 +290,8 @@ impl Stores for Machine<'_> {
 
     ghost migrated = { λ _ _. None };
 
+    ghost copied = { λ _ _ _. None };
+
     ghost closed = { λ _ rows. IsClosed ⟦<FileFrom<Wary> as Disk>⟧ rows };
 
     fn memory(&self, alloc: Global) -> Result<Self::Memory, Unkept> {
@@ -300,6 +321,19 @@ impl Stores for Machine<'_> {
             Ok(tables) => Ok(tables),
             Err((fault, _)) => Err(unmigrated(fault)),
         }
+    }
+
+    fn copy(
+        &self,
+        alloc: Global,
+        from: &str,
+        to: &str,
+        only: &[&str],
+    ) -> Result<Result<u64, Unclosed>, Unkept> {
+        // As at a migration, the old file is locked.
+        self.is_there(from)?;
+        let mut old = self.found(from)?;
+        rows_copied(alloc, &mut old, self.found(to)?, only)
     }
 
     fn backup(&self, alloc: Global, tables: &mut Self::File, path: &str) -> Result<(), Uncopied> {

@@ -6,6 +6,7 @@ mod Filled
 mod Found
 mod Inserted
 mod KeysAbove
+mod RowsAbove
 mod Judged
 mod Judgements
 mod Keeping
@@ -38,6 +39,7 @@ mod Sounding
 mod Apart
 mod Adopted
 mod Copied
+mod CopiedStore
 pub mod OneSchema
 pub mod Restarted
 pub mod InMemory

@@ -10,8 +10,10 @@ pub mod Writing
 pub mod Keeping
 pub mod Kept
 pub mod Adopting
+pub mod Copying
 pub mod Counts
 pub mod CountsAbove
+pub mod RowsAbove
 pub mod Filling
 pub mod Migrating
 pub mod Migration

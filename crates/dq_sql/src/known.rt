@@ -1,4 +1,4 @@
-//! What is remembered of how many rows there are.
+//! What is remembered of rows, and of how many there are.
 ghost use Rattle.std.specs.Prelude.{◌≡◌, List, length, IfOk, IfSome, OnOk, IsTrue};
 ghost use Rattle.sqlite.specs.State.{HasCleanDisk};
 ghost use Rattle.sqlite.specs.Held.{state};
@@ -12,9 +12,10 @@ ghost use Rattle.dq_sql.specs.Counts.{AreKnown};
 
 use crate::counts::Counts;
 use crate::counts_above::{CountsAbove, counts_above};
+use crate::known_rows::KnownRows;
 use crate::reading;
 use dq_list::Listed;
-use dq_tables::{Change, Kind, TableFault};
+use dq_tables::{Change, Kind, Row, TableFault};
 use sqlite::{Alter, Connection};
 use std::alloc::{AllocError, Global};
 
@@ -36,12 +37,14 @@ struct KindCounts {
     each: CountsAbove,
 }
 
-/// How many rows there are, and of one kind how many are under each key since the last change.
+/// How many rows there are, of one kind how many are under each key since the last change, and of
+/// one kind the rows under each key.
 #[derive(Drop)]
 pub(crate) struct Known {
     counts: Counts,
     under: Option<KindCounts>,
     asked: u64,
+    rows: KnownRows,
 }
 
 impl Known {
@@ -53,6 +56,7 @@ impl Known {
             counts: Counts::new(alloc),
             under: None,
             asked: 0,
+            rows: KnownRows::new(),
         }
     }
 
@@ -129,6 +133,7 @@ impl Known {
         self.counts.follow(change);
         self.under = None;
         self.asked = 0;
+        self.rows.forget();
     }
 
     /// Where many numbers were asked since a change, learns more of what is asked of: how many rows
@@ -156,6 +161,49 @@ impl Known {
                 self.note_above(alloc, kind, institution, each)?;
                 Ok(())
             }
+            Some(_) => Ok(()),
+            None => {
+                let rows = reading::count(conn, kind, institution)?;
+                self.note(alloc, kind, institution, rows)?;
+                Ok(())
+            }
+        }
+    }
+
+    /// The rows of a kind that the institution has under a key, where they are known.
+    pub(crate) fn get_rows(
+        &self,
+        alloc: Global,
+        kind: Kind,
+        institution: &[u8],
+        above: &[u8],
+    ) -> Result<Option<Listed<Row>>, AllocError>
+        ensures { IfOk result (λ found. (rows : List Row) → AreKnown rows self.now
+            → IfSome found (λ list. list ≡ rows_above kind institution.now above.now rows)) }
+    {
+        self.rows.get(alloc, kind, institution, above)
+    }
+
+    /// Where rows under many keys were asked for since a change, learns more of what is asked for:
+    /// how many rows there are, and then those under each key.
+    #[tactic(auto, using(crate::proofs::Staying::stays_itself))]
+    pub(crate) fn learn_rows<S: Alter>(
+        &mut self,
+        alloc: Global,
+        conn: &mut Connection<S>,
+        kind: Kind,
+        institution: &[u8],
+    ) -> Result<(), TableFault>
+        ensures known { HasCleanDisk (state S.Store conn.new) → (rows : List Row)
+            → (IsTrue (state S.Store conn.old).is_open → HasRows (state S.Store conn.old).now rows)
+            → AreKnown rows self.old → AreKnown rows self.new }
+        ensures stays { Stays (state S.Store conn.old) (state S.Store conn.new) }
+    {
+        if !self.rows.is_asked_often() {
+            return Ok(());
+        }
+        match self.get(kind, institution) {
+            Some(rows) if self.rows.pays(rows) => self.rows.learn(alloc, conn, kind, institution),
             Some(_) => Ok(()),
             None => {
                 let rows = reading::count(conn, kind, institution)?;

@@ -1,5 +1,5 @@
 //! Laws of tables over a store. Each function's contract is a law; its body does nothing.
-ghost use Rattle.std.specs.Prelude.{◌≡◌, ◌≢◌, List, map, false, IfOk, IfErr};
+ghost use Rattle.std.specs.Prelude.{◌≡◌, ◌≢◌, ℕ, List, [], ◌∷◌, map, false, Contains, IfOk, IfErr};
 ghost use Rattle.sqlite_wal.specs.Files.{outcomes};
 ghost use Rattle.sqlite_wal.specs.Reads.{AreClean};
 ghost use Rattle.sqlite_wal.specs.Recovery.{Image};
@@ -8,8 +8,10 @@ ghost use Rattle.sqlite.specs.Files.{file_state};
 ghost use Rattle.sqlite.specs.Start.{FindsIn};
 ghost use Rattle.dq_tables.specs.declared.row.Row.{Row};
 ghost use Rattle.dq_tables.specs.Keeping.{IsSettled};
-ghost use Rattle.dq_tables.specs.Rows.{IsRising};
+ghost use Rattle.dq_tables.specs.Rows.{rows_named, IsRising};
+ghost use Rattle.dq_tables.specs.Sound.{IsSound};
 ghost use Rattle.dq_sql.specs.declared.fault.StoreFault.TheVariants.{WrongVersion, BadRows};
+ghost use Rattle.dq_sql.specs.Copying.{copied_rows};
 ghost use Rattle.dq_sql.specs.Migrating.{migrated_rows, with_start};
 
 use crate::fault::StoreFault;
@@ -30,6 +32,20 @@ pub fn tables_in_memory_are_honest(_tables: &SqlTables<FileStore<MemoryFile>>)
 #[tactic(auto, using(crate::proofs::Started::migrated_is))]
 pub fn migrated_rows_are_the_rows_with_started_entries()
     ensures { (rows : List Row) → IsRising rows → migrated_rows rows ≡ map (with_start rows) rows }
+{}
+
+/// A copy has all rows of each institution that is named, and of no other. Where none is named, it has
+/// all rows. Rows that were sound are so in a copy.
+pub fn copies_have_the_rows_of_those_named()
+    ensures all { (rows : List Row) → copied_rows [] rows ≡ rows }
+    ensures one { (name : List ℕ) (rows : List Row) →
+        copied_rows (name ∷ []) rows ≡ rows_named name rows }
+    ensures named { (names : List (List ℕ)) (name : List ℕ) (rows : List Row) →
+        Contains names name → rows_named name (copied_rows names rows) ≡ rows_named name rows }
+    ensures others { (names : List (List ℕ)) (name : List ℕ) (rows : List Row) → names ≢ [] →
+        ¬ Contains names name → rows_named name (copied_rows names rows) ≡ [] }
+    ensures sound { (names : List (List ℕ)) (rows : List Row) → IsSound rows →
+        IsSound (copied_rows names rows) }
 {}
 
 /// What a crash leaves of tables is adopted. Let a connection be opened over files that hold what a

@@ -164,6 +164,13 @@ impl<S: Alter> Tables for SqlTables<S> {
         institution: &[u8],
         above: &[u8],
     ) -> Result<Listed<Row>, TableFault> {
+        if let Some(rows) = self.known.get_rows(self.alloc, kind, institution, above)? {
+            return Ok(rows);
+        }
+        let learnt = self
+            .known
+            .learn_rows(self.alloc, &mut self.conn, kind, institution);
+        noted(&mut self.failed, learnt)?;
         let answer = reading::rows_above(&mut self.conn, self.alloc, kind, institution, above);
         noted(&mut self.failed, answer)
     }

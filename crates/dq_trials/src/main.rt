@@ -1,8 +1,9 @@
 //! A bench of trials for data sets, for the suites: it reads octets that lines give, and answers
-//! the first fault or the canonical spellings, or what a list of tags leaves of them.
+//! the first fault or the canonical spellings, or what a list of tags leaves of them, or their JSON.
 #![tactic(auto)]
 
 mod cost;
+mod named;
 mod sift;
 mod stop;
 mod trial;

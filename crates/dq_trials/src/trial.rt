@@ -3,6 +3,7 @@ ghost use Rattle.std.specs.Prelude.{◌≡◌, ◌<◌, ◌^◌, length, string_
 ghost use Rattle.dq_dataset.specs.Reading.{reading};
 ghost use Rattle.dq_trials.specs.Answers.{reading_answer, spelled_octets, answer_text};
 
+use crate::named::{json_text, tag_text};
 use crate::sift::{Sifting, sifted_text, tags_of};
 use crate::stop::Stop;
 use dq_dataset::{ReadFault, Syntax, laws, read, write};
@@ -105,16 +106,22 @@ fn sifting_of(words: &str, syntax: Syntax) -> Option<Sifting> {
 }
 
 /// What octets are answered with that stand behind words: `implicit` or `explicit`, and before it
-/// `sift LIST FIRST EACH` where they are to be sifted.
+/// `sift LIST FIRST EACH` where they are to be sifted, or `json`; or `tag` before a name.
 fn answer_by(alloc: Global, words: &str, octets: &[u8]) -> Result<Option<String>, AllocError>
     requires { length octets.now < 2 ^ 31 }
 {
     if let Some(syntax) = syntax_of(words) {
         return Ok(Some(answered(alloc, octets, syntax)?));
     }
+    if words == "tag" {
+        return Ok(Some(tag_text(alloc, octets)?));
+    }
     let Some((words, name)) = words.rsplit_once(' ') else {
         return Ok(None);
     };
+    if let ("json", Some(syntax)) = (words, syntax_of(name)) {
+        return Ok(Some(json_text(alloc, octets, syntax)?));
+    }
     let (Some(words), Some(syntax)) = (words.strip_prefix("sift "), syntax_of(name)) else {
         return Ok(None);
     };

@@ -16,6 +16,7 @@ use std::time::Clock;
 /// A log of connections, by lines. Each begins with the time (RFC 3339, in UTC) and the number of
 /// the connection, or `-` where it is about none that has a number:
 ///
+/// - `- started 0.1.0`: the server starts, and its version;
 /// - `1 accepted NORTH ARCHIVE CT1 192.0.2.7:40112 3 contexts`: the institution, the called and the
 ///   calling title, the peer's address, and how many presentation contexts were accepted;
 /// - `2 rejected ARCHIVE CT9 192.0.2.7:40113 1 1 1 ..`: the titles and the address, then the
@@ -64,6 +65,11 @@ impl<L: Write + Drop> AssociationLog<L> {
             newest: 0,
             watched: Vec::new(alloc),
         }
+    }
+
+    /// Tells that the server starts, and its version.
+    pub fn start(&mut self, version: &str) {
+        self.put(None, LineContent::Started(version));
     }
 
     /// Lines have from now on the time of a clock. Where it fails they keep the time before.

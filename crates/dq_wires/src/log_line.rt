@@ -13,6 +13,8 @@ use std::net::SocketAddr;
 /// What a line tells.
 #[derive(Clone, Copy)]
 pub(crate) enum LineContent<'a> {
+    /// The server starts, of a version.
+    Started(&'a str),
     /// What was noted, with the peer's address, and how many milliseconds its turn took.
     Noted {
         noted: &'a Noted,
@@ -259,6 +261,7 @@ impl fmt::Display for LogLine<'_> {
                     ending_of(noted)
                 )
             }
+            LineContent::Started(version) => write!(f, "started {version}"),
             LineContent::GivenUp(given_up) => write!(f, "{given_up}"),
             LineContent::Console(note) => write!(f, "console {note}"),
             LineContent::Stopped(Some(fault)) => write!(f, "stopped fault {fault}"),

@@ -3,6 +3,7 @@ ghost use Rattle.std.specs.Prelude.{◌≡◌, [], length, IsTrue, None, Some, E
 ghost use Rattle.std.specs.Option.{option_copied};
 ghost use Rattle.dq_core.specs.Histories.{is_above};
 ghost use Rattle.dq_core.specs.Looking.{Looked, FailsToLook};
+ghost use Rattle.dq_core.specs.Showing.{found_for, steps_for};
 ghost use Rattle.dq_tables.specs.Finding.{rows_of};
 ghost use Rattle.dq_wires.specs.Stepping.{Stepped, Moves, Fails};
 ghost use Rattle.dq_wires.specs.Held.{wire_with};
@@ -14,7 +15,10 @@ use crate::rounds::HeldWires;
 use crate::stepping::step_order;
 use crate::wire::Wire;
 use crate::wires::Wires;
-use dq_core::{Event, Fault, Look, Notes, Reply, Server};
+use dq_core::{Event, Fault, Look, Notes, Reply, SearchKind, Server, ShownPage};
+use dq_dataset::DataSet;
+use dq_list::Listed;
+use dq_match::Found;
 use dq_tables::{Kind, Tables};
 use std::alloc::Global;
 use std::marker::Model;
@@ -167,6 +171,56 @@ impl<T: Tables> Turner<T> {
     {
         match self.server.count(kind, name) {
             Ok(number) => Ok(number),
+            Err(fault) => {
+                self.fault = self.fault.or(Some(TurnFault::Server(fault)));
+                Err(fault)
+            }
+        }
+    }
+
+    /// What keys find among the records of the institution of a name, if there is one, and of that a
+    /// page. A fault stops the turner.
+    pub fn search(
+        &mut self,
+        name: &[u8],
+        kind: SearchKind,
+        keys: &DataSet,
+        page: ShownPage,
+    ) -> Result<Option<Found>, Fault>
+        ensures found { (T.state self.new.server.tables).honest → IfOk result (λ found.
+            found ≡ found_for self.old.server.institutions name.now
+            (T.state self.old.server.tables).rows kind keys.now page) }
+        ensures looked { OnOk result (Looked T.state self.old.server self.new.server) }
+        ensures fails { IfErr result (FailsToLook T.state self.old.server self.new.server) }
+        ensures hold { self.new.hold ≡ self.old.hold }
+        ensures fault { OnOk result (self.new.fault ≡ self.old.fault) }
+        ensures stops { IfErr result (λ why.
+            self.new.fault ≡ Some (first_fault self.old.fault (TurnFault.Server why))) }
+    {
+        match self.server.search(name, kind, keys, page) {
+            Ok(found) => Ok(found),
+            Err(fault) => {
+                self.fault = self.fault.or(Some(TurnFault::Server(fault)));
+                Err(fault)
+            }
+        }
+    }
+
+    /// The performed procedure steps of the institution of a name, if there is one, and of these a
+    /// page. A fault stops the turner.
+    pub fn steps(&mut self, name: &[u8], page: ShownPage) -> Result<Option<Listed<DataSet>>, Fault>
+        ensures found { (T.state self.new.server.tables).honest → IfOk result (λ found.
+            found ≡ steps_for self.old.server.institutions name.now
+            (T.state self.old.server.tables).rows page) }
+        ensures looked { OnOk result (Looked T.state self.old.server self.new.server) }
+        ensures fails { IfErr result (FailsToLook T.state self.old.server self.new.server) }
+        ensures hold { self.new.hold ≡ self.old.hold }
+        ensures fault { OnOk result (self.new.fault ≡ self.old.fault) }
+        ensures stops { IfErr result (λ why.
+            self.new.fault ≡ Some (first_fault self.old.fault (TurnFault.Server why))) }
+    {
+        match self.server.steps(name, page) {
+            Ok(steps) => Ok(steps),
             Err(fault) => {
                 self.fault = self.fault.or(Some(TurnFault::Server(fault)));
                 Err(fault)

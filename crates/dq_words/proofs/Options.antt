@@ -1,7 +1,7 @@
 -- What is left of an option and of a command once one thing more is said of it.
 use Rattle.std.proofs.Common.{◌≡◌, List, ℕ, Bool, Some, true, refl, ap}
 use Rattle.std.specs.Borrow.{Bor}
-use Rattle.clap.specs.declared.builder.action.ArgAction.TheVariants.{SetTrue}
+use Rattle.clap.specs.declared.builder.action.ArgAction.TheVariants.{Append, SetTrue}
 use Rattle.clap.specs.declared.builder.arg.Arg.{Arg}
 use Rattle.clap.specs.declared.builder.texts.Texts.TheVariants.{One}
 use Rattle.clap.specs.declared.builder.command.Command.{Command}
@@ -30,6 +30,9 @@ needed a b is = rw is (record { rule_is = refl; global_is = refl })
 
 pub flagged : (a b : Arg) → b ≡ record a { action = Some SetTrue } → IsOption a b (record (rule_of a) { action = Some SetTrue })
 flagged a b is = rw is (record { rule_is = refl; global_is = refl })
+
+pub repeated : (a b : Arg) → b ≡ record a { action = Some Append } → IsOption a b (record (rule_of a) { action = Some Append })
+repeated a b is = rw is (record { rule_is = refl; global_is = refl })
 
 -- a command, once its texts for help are said: its shape, and that no option of it is asked for everywhere
 pub record IsToldOf (a b : Command) : Type 0 where

@@ -1,9 +1,9 @@
 -- The command line as clap reads it: a table of commands and options.
-use Rattle.std.specs.Prelude.{Bool, true, false, List, codes, Option, Some, None, option_and_then, if◌then◌else◌}
+use Rattle.std.specs.Prelude.{Bool, true, false, List, [], codes, Option, Some, None, option_and_then, unwrap_or, if◌then◌else◌}
 use Rattle.std.specs.Option.{option_map_or}
 use Rattle.std.specs.Str.{bytes_eq}
-use Rattle.clap.specs.Words.{App, Row, Rule, Text, first_of, new_app, new_rule, with_rule, with_subcommand}
-use Rattle.clap.specs.declared.builder.action.ArgAction.TheVariants.{SetTrue}
+use Rattle.clap.specs.Words.{App, Row, Rule, Text, all_of, first_of, new_app, new_rule, with_rule, with_subcommand}
+use Rattle.clap.specs.declared.builder.action.ArgAction.TheVariants.{Append, SetTrue}
 use Rattle.dq_words.specs.declared.words.Task.{Task}
 use Rattle.dq_words.specs.declared.words.Task.TheVariants.{Replay, Report}
 
@@ -14,6 +14,10 @@ value_rule name = record (new_rule name) { long = Some name; value_names = 1 }
 -- one that has to be given
 abbrev pub required_rule : Text → Rule
 required_rule name = record (value_rule name) { required = true }
+
+-- one that may be given several times, each time with a value
+abbrev pub repeated_rule : Text → Rule
+repeated_rule name = record (value_rule name) { action = Some Append }
 
 -- one that takes none
 abbrev pub flag_rule : Text → Rule
@@ -53,6 +57,19 @@ migrate_app = with_rule
     (with_rule (new_app (codes "migrate")) (required_rule (codes "from")))
     (required_rule (codes "to"))
 
+-- the one that checks a configuration
+abbrev pub check_app : App
+check_app = with_rule
+    (with_rule (new_app (codes "check")) (required_rule (codes "config")))
+    (value_rule (codes "store"))
+
+-- the one that copies a store
+abbrev pub copy_app : App
+copy_app = with_rule
+    (with_rule (with_rule (new_app (codes "copy")) (required_rule (codes "from")))
+    (required_rule (codes "to")))
+    (repeated_rule (codes "only"))
+
 -- a command that tells its version when it is asked for it
 abbrev pub with_version : App → App
 with_version app = record app { top = record app.top { has_version = true } }
@@ -66,14 +83,22 @@ tasks_app = with_subcommand
     (with_subcommand program_app (task_app (codes "replay")).top)
     (task_app (codes "report")).top
 
+-- the same, with those that serve
+abbrev pub serving_app : App
+serving_app = with_subcommand (with_subcommand tasks_app serve_app.top) loopback_app.top
+
 abbrev pub command : App
 command = with_subcommand
-    (with_subcommand (with_subcommand tasks_app serve_app.top) loopback_app.top)
-    migrate_app.top
+    (with_subcommand (with_subcommand serving_app migrate_app.top) check_app.top)
+    copy_app.top
 
 -- the value of an option of the subcommand
 abbrev pub value_in : Text → Option (Text × List Row) → Option Text
 value_in name = option_and_then (λ p. first_of name p.1)
+
+-- all values of one that may be given several times
+abbrev pub values_in : Text → Option (Text × List Row) → List Text
+values_in name subcommand = unwrap_or (option_and_then (λ p. all_of name p.1) subcommand) []
 
 -- whether an option that takes none is there
 abbrev pub is_given : Text → Option (Text × List Row) → Bool

@@ -1,12 +1,14 @@
 -- What the words of a command line ask for.
-use Rattle.std.specs.Prelude.{ℕ, Bool, ◌^◌, ◌&&◌, nat_lt, if◌then◌else◌, List, [], ◌∷◌, length, codes}
+use Rattle.std.specs.Prelude.{ℕ, Bool, ◌^◌, ◌&&◌, nat_lt, if◌then◌else◌, List, [], ◌∷◌, length, map, codes}
 use Rattle.std.specs.Prelude.{Option, Some, None, option_map, option_and_then, unwrap_or}
 use Rattle.std.specs.Option.{option_copied}
 use Rattle.std.specs.Str.{all_ascii_digits}
 use Rattle.std.specs.Str.Parse.{digits_value}
 use Rattle.clap.specs.Words.{Kinds, Row, Text, fault_of, subcommand_of}
-use Rattle.dq_words.specs.Clap.{command, value_in, is_given, is_subcommand, task_in}
+use Rattle.dq_words.specs.Clap.{command, value_in, values_in, is_given, is_subcommand, task_in}
 use Rattle.dq_words.specs.declared.words.Asked.{Asked}
+use Rattle.dq_words.specs.declared.words.Copying.{Copying}
+use Rattle.dq_words.specs.declared.words.Inspection.{Inspection}
 use Rattle.dq_words.specs.declared.words.Job.{Job}
 use Rattle.dq_words.specs.declared.words.Job.TheVariants as job
 use Rattle.dq_words.specs.declared.words.Keeper.{Keeper}
@@ -58,13 +60,27 @@ pub record Migrating : Type 0 where
   pub from : List ℕ
   pub to : List ℕ
 
+-- the file of a configuration that is checked, and that of a store, if one is named
+pub record Checking : Type 0 where
+  pub config : List ℕ
+  pub store : Option (List ℕ)
+
+-- the file of a store, the one in which a copy is made, and the names of the institutions whose rows
+-- it has: of all, where none is named
+pub record Duplicating : Type 0 where
+  pub from : List ℕ
+  pub to : List ℕ
+  pub only : List (List ℕ)
+
 -- what a command line asks for: a task over a capture, to serve, to play a capture over sockets
--- with a configuration, or to migrate a store
+-- with a configuration, to migrate a store, to check a configuration, or to copy a store
 pub data Errand : Type 0 where
   Plays : Request → Errand
   Serves : Serving → Errand
   Loops : Option (List ℕ) → Errand
   Migrates : Migrating → Errand
+  Checks : Checking → Errand
+  Copies : Duplicating → Errand
 
 -- the place that `--new` and `--store` name, which exclude each other
 abbrev pub place_by_options : Option (List ℕ) → Option (List ℕ) → Option RowsPlace
@@ -159,6 +175,18 @@ abbrev pub migration_of : Option (Text × List Row) → Option Migrating
 migration_of subcommand =
     files_of (value_in (codes "from") subcommand) (value_in (codes "to") subcommand)
 
+abbrev pub checking_of : Option (Text × List Row) → Option Checking
+checking_of subcommand =
+    option_map (λ config. record { config = config; store = value_in (codes "store") subcommand })
+    (value_in (codes "config") subcommand)
+
+abbrev pub duplicating_of : Option (Text × List Row) → Option Duplicating
+duplicating_of subcommand = option_map (λ (files : Migrating). record {
+  from = files.from;
+  to = files.to;
+  only = values_in (codes "only") subcommand;
+}) (migration_of subcommand)
+
 abbrev pub errand_of : Option (Text × List Row) → Option Errand
 errand_of subcommand =
     if is_subcommand (codes "serve") subcommand then option_map Serves (serving_of subcommand)
@@ -166,6 +194,10 @@ errand_of subcommand =
     then Some (Loops (value_in (codes "config") subcommand))
     else if is_subcommand (codes "migrate") subcommand
     then option_map Migrates (migration_of subcommand)
+    else if is_subcommand (codes "check") subcommand
+    then option_map Checks (checking_of subcommand)
+    else if is_subcommand (codes "copy") subcommand
+    then option_map Copies (duplicating_of subcommand)
     else option_map Plays (subcommand_request subcommand)
 
 abbrev pub errand_if : Kinds → Option Errand → Option Errand
@@ -206,8 +238,20 @@ serving_in service = record {
 abbrev pub migration_in : Migration → Migrating
 migration_in files = record { from = files.from.now; to = files.to.now }
 
+abbrev pub checking_in : Inspection → Checking
+checking_in it = record { config = it.config.now; store = option_copied it.store }
+
+abbrev pub duplicating_in : Copying → Duplicating
+duplicating_in copying = record {
+  from = copying.from.now;
+  to = copying.to.now;
+  only = map (λ name. name.now) copying.only.items;
+}
+
 abbrev pub errand_in : Job → Errand
 errand_in (job.Play asked) = Plays (request_asked asked)
 errand_in (job.Serve service) = Serves (serving_in service)
 errand_in (job.Loop config) = Loops (option_copied config)
 errand_in (job.Migrate files) = Migrates (migration_in files)
+errand_in (job.Check it) = Checks (checking_in it)
+errand_in (job.Copy copying) = Copies (duplicating_in copying)

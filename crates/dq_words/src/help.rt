@@ -18,12 +18,13 @@ Each event has one reply: `N HEX` or `N -`, with `close` behind it where the con
 
 /// What is told on standard error, and the exit statuses.
 pub(crate) const STATUSES: &str = "\
-Exit status, and what is told on standard error (serve has no capture, loopback no store, and
-migrate neither a capture nor a configuration):
+Exit status, and what is told on standard error (serve and check have no capture, loopback no
+store, migrate and copy neither a capture nor a configuration):
   0                   all was done
   1                   the words are not understood, or help or the version is asked for
   2  config 0         the configuration cannot be read, or is no text
-  2  config 1 to 6    bad syntax, bad name, bad title, name taken, route taken, bad limit
+  2  config 1 to 6    bad syntax, bad name, bad title, name taken, route taken, bad limit;
+                      check tells it in words before
   3  capture line N   line N is none of a capture; 0: it cannot be read, is too long, or no text
   4  store 2          the store failed, is not a store of rows, or is to be new and is not
   4  store 3          the store is of another version; that of migrate --from is not of version 1

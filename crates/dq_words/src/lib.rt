@@ -4,4 +4,6 @@
 mod help;
 mod words;
 
-pub use words::{Asked, Job, Keeper, Migration, Service, Task, line_of, parse};
+pub use words::{
+    Asked, Copying, Inspection, Job, Keeper, Migration, Service, Task, VERSION, line_of, parse,
+};

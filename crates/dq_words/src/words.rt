@@ -4,8 +4,8 @@ ghost use Rattle.std.specs.Option.{option_copied};
 ghost use Rattle.std.specs.Result.{result_ok};
 ghost use Rattle.clap.specs.declared.builder.command.Command.TheViews.{out-Command as fields_of};
 ghost use Rattle.clap.specs.Words.{app_of, rule_of, kind_of, subcommand_rows_of};
-ghost use Rattle.dq_words.specs.Words.{line_of, place_named, place_asked, port_told, number_told, seconds_told, told_if_given, artim_seconds, no_peer_limit, request_asked, subcommand_request, serving_in, serving_of, migration_in, migration_of, errand_in, errand_of, errand_asked};
-ghost use Rattle.dq_words.specs.Clap.{value_rule, task_app, listening_app, limiting_app, serve_app, loopback_app, migrate_app, tasks_app, command, value_in, is_given, is_subcommand};
+ghost use Rattle.dq_words.specs.Words.{line_of, place_named, place_asked, port_told, number_told, seconds_told, told_if_given, artim_seconds, no_peer_limit, request_asked, subcommand_request, serving_in, serving_of, migration_in, migration_of, checking_in, checking_of, duplicating_in, duplicating_of, errand_in, errand_of, errand_asked};
+ghost use Rattle.dq_words.specs.Clap.{value_rule, task_app, listening_app, limiting_app, serve_app, loopback_app, migrate_app, check_app, copy_app, tasks_app, serving_app, command, value_in, values_in, is_given, is_subcommand};
 
 use crate::help::{CAPTURES, STATUSES};
 use clap::error::ErrorKind;
@@ -15,8 +15,21 @@ use std::convert::AsStr;
 
 const PROGRAM_NAME: &str = "dq_server";
 
-/// The version of the program, with which CHANGELOG.md begins.
-const VERSION: &str = "0.1.0";
+/// A text with the version of the program, with which CHANGELOG.md begins, between two others.
+macro_rules! versioned {
+    ($before:literal, $after:literal) => {
+        concat!($before, "0.1.0", $after)
+    };
+}
+
+/// The version of the program.
+pub const VERSION: &str = versioned!("", "");
+
+/// What the program is, with which its help begins.
+const ABOUT: &str = versioned!(
+    "Newtiron ",
+    ", a DICOM server for metadata, of several hospitals"
+);
 
 /// What is said of the option that names the configuration.
 const CONFIGURATION: &str = "The configuration [default: the one that is built in]";
@@ -86,8 +99,24 @@ pub struct Migration<'a> {
     pub to: &'a str,
 }
 
-/// What a command line asks for.
+/// The file of a configuration that is checked, and that of a store, if one is named.
 #[derive(Clone, Copy)]
+pub struct Inspection<'a> {
+    pub config: &'a str,
+    pub store: Option<&'a str>,
+}
+
+/// The file of a store, the file in which a copy is made, and the names of the institutions whose
+/// rows it has: of all, where none is named.
+#[derive(Drop)]
+pub struct Copying<'a> {
+    pub from: &'a str,
+    pub to: &'a str,
+    pub only: Vec<&'a str>,
+}
+
+/// What a command line asks for.
+#[derive(Drop)]
 pub enum Job<'a> {
     /// A task over a capture.
     Play(Asked<'a>),
@@ -97,6 +126,10 @@ pub enum Job<'a> {
     Loop(Option<&'a str>),
     /// To migrate a store.
     Migrate(Migration<'a>),
+    /// To check a configuration.
+    Check(Inspection<'a>),
+    /// To copy a store.
+    Copy(Copying<'a>),
 }
 
 /// Why options are not taken.
@@ -114,8 +147,10 @@ enum Misuse {
     NoArtim,
     /// The number of connections of one address is none.
     NoPeers,
-    /// One of the files of a migration is not named.
+    /// One of the files of a migration or a copy is not named.
     NoFile,
+    /// The configuration that is to be checked is not named.
+    NoConfig,
 }
 
 /// The whole command line: the program's own name, and the words.
@@ -137,6 +172,24 @@ fn value_in<'a>(matches: &ArgMatches<'a>, name: &str) -> Option<&'a str>
 {
     let (_, options) = matches.subcommand()?;
     options.get_str(name)
+}
+
+/// The values of an option of the subcommand that may be given several times.
+fn values_in<'a>(
+    alloc: Global,
+    matches: &ArgMatches<'a>,
+    name: &str,
+) -> Result<Vec<&'a str>, AllocError>
+    ensures { IfOk result (λ values. map (λ value. value.now) values.items
+        ≡ values_in name.now (subcommand_rows_of matches.now)) }
+{
+    let Some((_, options)) = matches.subcommand() else {
+        return Ok(Vec::new(alloc));
+    };
+    match options.get_strs(name) {
+        Some(values) => Vec::from_slice(alloc, values),
+        None => Ok(Vec::new(alloc)),
+    }
 }
 
 /// Whether an option of the subcommand that takes no value is there.
@@ -296,8 +349,37 @@ fn migration_in<'a>(matches: &ArgMatches<'a>) -> Result<Migration<'a>, Misuse>
     }
 }
 
+/// Which configuration is checked.
+fn inspection_in<'a>(matches: &ArgMatches<'a>) -> Result<Inspection<'a>, Misuse>
+    ensures { option_map checking_in (result_ok result)
+        ≡ checking_of (subcommand_rows_of matches.now) }
+{
+    match value_in(matches, "config") {
+        Some(config) => Ok(Inspection {
+            config,
+            store: value_in(matches, "store"),
+        }),
+        None => Err(Misuse::NoConfig),
+    }
+}
+
+/// Which store is copied, of whose rows.
+fn copying_in<'a>(matches: &ArgMatches<'a>, only: Vec<&'a str>) -> Result<Copying<'a>, Misuse>
+    requires { map (λ name. name.now) only.items
+        ≡ values_in (codes "only") (subcommand_rows_of matches.now) }
+    ensures { option_map duplicating_in (result_ok result)
+        ≡ duplicating_of (subcommand_rows_of matches.now) }
+{
+    match (value_in(matches, "from"), value_in(matches, "to")) {
+        (Some(from), Some(to)) => Ok(Copying { from, to, only }),
+        _ => Err(Misuse::NoFile),
+    }
+}
+
 /// What the subcommand asks for with its options, a replay where there is none.
-fn job_in<'a>(matches: &ArgMatches<'a>) -> Result<Job<'a>, Misuse>
+fn job_in<'a>(matches: &ArgMatches<'a>, only: Vec<&'a str>) -> Result<Job<'a>, Misuse>
+    requires { map (λ name. name.now) only.items
+        ≡ values_in (codes "only") (subcommand_rows_of matches.now) }
     ensures { option_map errand_in (result_ok result)
         ≡ errand_of (subcommand_rows_of matches.now) }
 {
@@ -307,6 +389,10 @@ fn job_in<'a>(matches: &ArgMatches<'a>) -> Result<Job<'a>, Misuse>
         Ok(Job::Loop(value_in(matches, "config")))
     } else if is_named(matches, "migrate") {
         Ok(Job::Migrate(migration_in(matches)?))
+    } else if is_named(matches, "check") {
+        Ok(Job::Check(inspection_in(matches)?))
+    } else if is_named(matches, "copy") {
+        Ok(Job::Copy(copying_in(matches, only)?))
     } else {
         Ok(Job::Play(asked_in(matches)?))
     }
@@ -479,6 +565,63 @@ fn migrate_command<'a>(alloc: Global) -> Result<Command<'a>, AllocError>
     Ok(command)
 }
 
+/// The subcommand that checks a configuration.
+fn check_command<'a>(alloc: Global) -> Result<Command<'a>, AllocError>
+    ensures app { IfOk result (λ built. app_of built ≡ check_app) }
+    ensures local { IfOk result (λ built. (fields_of built).has_globals ≡ false) }
+{
+    let config = value_option(
+        alloc,
+        "config",
+        "FILE",
+        "The configuration; what is wrong with it is told in words",
+    )
+    .required(true);
+    let begun = Command::new(alloc, "check")
+        .about("Lists the institutions of a configuration; it reads no standard input")
+        .after_help(STATUSES)
+        .arg(config)?;
+    let store = value_option(
+        alloc,
+        "store",
+        "FILE",
+        "Counts the rows of each institution in a store, which is only read",
+    );
+    let command = begun.arg(store)?;
+    Ok(command)
+}
+
+/// The subcommand that copies a store.
+fn copy_command<'a>(alloc: Global) -> Result<Command<'a>, AllocError>
+    ensures app { IfOk result (λ built. app_of built ≡ copy_app) }
+    ensures local { IfOk result (λ built. (fields_of built).has_globals ≡ false) }
+{
+    let from = value_option(alloc, "from", "FILE", "The store, which stays as it is").required(
+        true,
+    );
+    let begun = Command::new(alloc, "copy")
+        .about("Makes a new store of the rows of another one; it reads no standard input")
+        .after_help(STATUSES)
+        .arg(from)?;
+    let to = value_option(
+        alloc,
+        "to",
+        "FILE",
+        "The new store, which is made; it must not be there, or be empty",
+    )
+    .required(true);
+    let made = begun.arg(to)?;
+    let only = value_option(
+        alloc,
+        "only",
+        "NAME",
+        "An institution whose rows are copied, once for each [default: all]",
+    )
+    .action(ArgAction::Append);
+    let command = made.arg(only)?;
+    Ok(command)
+}
+
 /// The program, with its tasks over a capture.
 fn tasks_command<'a>(alloc: Global) -> Result<Command<'a>, AllocError>
     ensures app { IfOk result (λ built. app_of built ≡ tasks_app) }
@@ -490,7 +633,7 @@ fn tasks_command<'a>(alloc: Global) -> Result<Command<'a>, AllocError>
         "Replays a capture from standard input (the default)",
     )?;
     let replaying = Command::new(alloc, PROGRAM_NAME)
-        .about("A DICOM server for metadata, of several hospitals")
+        .about(ABOUT)
         .version(VERSION)
         .after_help(CAPTURES)
         .subcommand(replay)?;
@@ -503,14 +646,25 @@ fn tasks_command<'a>(alloc: Global) -> Result<Command<'a>, AllocError>
     Ok(reporting)
 }
 
-/// The command line of the program.
-fn command<'a>(alloc: Global) -> Result<Command<'a>, AllocError>
-    ensures { IfOk result (λ built. app_of built ≡ command) }
+/// The same, with those that serve.
+fn serving_command<'a>(alloc: Global) -> Result<Command<'a>, AllocError>
+    ensures app { IfOk result (λ built. app_of built ≡ serving_app) }
+    ensures local { IfOk result (λ built. (fields_of built).has_globals ≡ false) }
 {
     let tasks = tasks_command(alloc)?;
     let served = tasks.subcommand(serve_command(alloc)?)?;
     let looped = served.subcommand(loopback_command(alloc)?)?;
-    let command = looped.subcommand(migrate_command(alloc)?)?;
+    Ok(looped)
+}
+
+/// The command line of the program.
+fn command<'a>(alloc: Global) -> Result<Command<'a>, AllocError>
+    ensures { IfOk result (λ built. app_of built ≡ command) }
+{
+    let serving = serving_command(alloc)?;
+    let migrating = serving.subcommand(migrate_command(alloc)?)?;
+    let checking = migrating.subcommand(check_command(alloc)?)?;
+    let command = checking.subcommand(copy_command(alloc)?)?;
     Ok(command)
 }
 
@@ -545,6 +699,10 @@ fn reproach(misuse: Misuse) -> (ErrorKind, &'static str) {
             ErrorKind::MissingRequiredArgument,
             "the arguments '--from <FILE>' and '--to <FILE>' are required",
         ),
+        Misuse::NoConfig => (
+            ErrorKind::MissingRequiredArgument,
+            "the argument '--config <FILE>' is required",
+        ),
     }
 }
 
@@ -567,7 +725,8 @@ pub fn parse<'a>(alloc: Global, line: &'a [&'a str]) -> Result<Job<'a>, clap::Er
         Ok(matches) => matches,
         Err(error) => return Err(error),
     };
-    match job_in(&matches) {
+    let only = values_in(alloc, &matches, "only")?;
+    match job_in(&matches, only) {
         Ok(job) => Ok(job),
         Err(misuse) => Err(misused(alloc, misuse)?),
     }

@@ -46,3 +46,7 @@ listed_by records (Ok query) =
 
 unfoldable pub worklist_outcome : List Record → Message → Syntax → Found
 worklist_outcome records message syntax = listed_by records (worklist_query message syntax)
+
+-- the same of an identifier that no message brought
+unfoldable pub keys_outcome : List Record → ElementList → Found
+keys_outcome records identifier = listed_by records (keys_query identifier)

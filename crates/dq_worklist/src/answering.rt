@@ -7,13 +7,14 @@ ghost use Rattle.dq_match.specs.Identifiers.{HasKnownTags};
 ghost use Rattle.dq_match.specs.Matching.{fits};
 ghost use Rattle.dq_tables.specs.Records.{data_set_of};
 ghost use Rattle.dq_tables.specs.declared.row.Row.{Row as TheRow};
-ghost use Rattle.dq_tables.specs.Rows.{Record, record_of, row_of};
+ghost use Rattle.dq_tables.specs.Keeping.{Reads};
+ghost use Rattle.dq_tables.specs.Rows.{Record, of, record_of, row_of};
 ghost use Rattle.dq_archive.specs.Archives.{Looks, Decides};
 ghost use Rattle.dq_worklist.specs.Candidates.{id_asked, entry_candidates, entry_answer};
 ghost use Rattle.dq_tables.specs.Serving.{Serves};
-ghost use Rattle.dq_worklist.specs.Queries.{worklist_outcome};
+ghost use Rattle.dq_worklist.specs.Queries.{listed_by, worklist_outcome, keys_outcome};
 
-use crate::asking::{Query, query_of};
+use crate::asking::{Query, query_at, query_of};
 use dq_archive::{Archive, Decision};
 use dq_config::Institution;
 use dq_dataset::{DataSet, Syntax};
@@ -123,6 +124,23 @@ pub fn query<T: Tables>(
     archive.carry_out(decision)
 }
 
+/// Answers keys that no message brought, as `query` answers the identifier of a message. Nothing is
+/// changed.
+#[tactic(auto, unfolding(crate::specs::Queries::keys_outcome))]
+pub fn query_by_keys<T: Tables>(
+    tables: &mut T,
+    institution: &Institution,
+    identifier: &DataSet,
+) -> Result<Found, TableFault>
+    ensures found { (T.state tables.new).honest → IfOk result (λ found. found
+        ≡ keys_outcome (of institution.now.name (T.state tables.old).rows) identifier.now) }
+    ensures reads { Reads (T.state tables.old) (T.state tables.new) result }
+{
+    let mut kept = Archive::new(tables, institution);
+    let asked = query_at(kept.alloc, identifier)?;
+    answers_to(&mut kept, asked)
+}
+
 /// The answers to a worklist C-FIND, which change nothing.
 fn decide_answers<T: Tables>(
     archive: &mut Archive<'_, T>,
@@ -132,18 +150,32 @@ fn decide_answers<T: Tables>(
     ensures { Decides T.state archive.old archive.new (λ (records : List Record).
         (worklist_outcome records (plain_message message.now) syntax, [])) result }
 {
-    let query = match query_of(archive.alloc, message, syntax)? {
+    let asked = query_of(archive.alloc, message, syntax)?;
+    let found = answers_to(archive, asked)?;
+    Ok(Decision::unchanged(found))
+}
+
+/// The answers to a query, or the status that refuses it.
+fn answers_to<T: Tables>(
+    archive: &mut Archive<'_, T>,
+    asked: Result<Query, u16>,
+) -> Result<Found, TableFault>
+    requires { IfOk asked (λ query. HasKnownTags query.keys) }
+    ensures { Looks T.state archive.old archive.new (λ (records : List Record).
+        listed_by records asked) result }
+{
+    let query = match asked {
         Ok(query) => query,
-        Err(status) => return Ok(Decision::unchanged(Found::refused(archive.alloc, status))),
+        Err(status) => return Ok(Found::refused(archive.alloc, status)),
     };
     query.keys.has_facts();
     honest_rows_are_sound::<T>();
     keys_are_met_alone_and_as_a_period();
     let rows = candidates(archive, &query.keys)?;
     let answers = answers_of(archive.alloc, &query.keys, rows.as_slice())?;
-    Ok(Decision::unchanged(Found {
+    Ok(Found {
         status: SUCCESS,
         optional: query.optional,
         answers,
-    }))
+    })
 }

@@ -34,7 +34,11 @@ pub(crate) fn query_of(
     }
 }
 
-fn query_at(alloc: Global, identifier: &DataSet) -> Result<Result<Query, u16>, AllocError>
+/// The query of an identifier, or the status that refuses it.
+pub(crate) fn query_at(
+    alloc: Global,
+    identifier: &DataSet,
+) -> Result<Result<Query, u16>, AllocError>
     ensures query { IfOk result (λ q. q ≡ keys_query identifier.now) }
     ensures known { IfOk result (λ q. IfOk q (λ query. HasKnownTags query.keys)) }
 {

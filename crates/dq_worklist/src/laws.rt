@@ -10,6 +10,7 @@ ghost use Rattle.dq_dataset.specs.Facts.{IsDataSet};
 ghost use Rattle.dq_list.specs.Among.{IsAmong};
 ghost use Rattle.dq_dimse.specs.Statuses.{success};
 ghost use Rattle.dq_dimse.specs.Received.{Message};
+ghost use Rattle.dq_dimse.specs.Receiving.{identifier_in};
 ghost use Rattle.dq_config.specs.Limits.{Limits};
 ghost use Rattle.dq_match.specs.Matching.{fits};
 ghost use Rattle.dq_match.specs.Responses.{shown_data_set};
@@ -21,7 +22,7 @@ ghost use Rattle.dq_tables.specs.Sound.{IsSound};
 ghost use Rattle.dq_worklist.specs.Orders.{Order, read_order, has_entry, schedule_outcome, withdrawn};
 ghost use Rattle.dq_worklist.specs.Answers.{AreEntryAnswers};
 ghost use Rattle.dq_worklist.specs.Examples.{worklist_request, asked_steps, entry, example_answer, found_entries};
-ghost use Rattle.dq_worklist.specs.Queries.{worklist_query, answers_of_entries, worklist_outcome};
+ghost use Rattle.dq_worklist.specs.Queries.{worklist_query, answers_of_entries, worklist_outcome, keys_outcome};
 ghost use Rattle.dq_worklist.specs.declared.asking.Query.{Query};
 
 use dq_dataset::laws::{spelling_law, written_law};
@@ -51,6 +52,14 @@ pub fn answers_are_the_matching_records_in_order()
     ensures alone { (records : List Record) (keys : ElementList)
         (one other : List ElementList) → AreEntryAnswers records keys one
         → AreEntryAnswers records keys other → one ≡ other }
+{}
+
+/// Keys that no message brought are answered as the identifier of a message is.
+#[tactic(auto, using(crate::proofs::Queries::same_by_keys))]
+pub fn keys_are_answered_as_in_a_message()
+    ensures { (records : List Record) (message : Message) (syntax : Syntax)
+        (identifier : ElementList) → identifier_in message syntax ≡ Ok identifier
+        → worklist_outcome records message syntax ≡ keys_outcome records identifier }
 {}
 
 /// A query that is refused has no answers (PS3.4 section K.4.1.1.4).

@@ -9,6 +9,6 @@ pub mod laws;
 mod refusal;
 mod scheduling;
 
-pub use answering::query;
+pub use answering::{query, query_by_keys};
 pub use refusal::Refusal;
 pub use scheduling::{schedule, withdraw};

@@ -88,6 +88,15 @@ configured institutions i names c =
       known = (found.0, found.1, same, ap limits_of (names found.0 i (contains-in found.0 institutions (named-in institutions i.name found.0 found.1)) c same));
     }
 
+-- it is found by its name
+pub named-own : (institutions : List Institution) (i : Institution) → HaveOwnNames institutions → Contains institutions i
+    → institution_named institutions i.name ≡ Some i
+named-own institutions i names c =
+    let found = named-found institutions i (in-at i institutions c.0 c.1 c.2) in
+    let same : found.0.name ≡ i.name = (bytes_eq-Decides found.0.name i.name).0 (named-name i.name institutions found.0 found.1) in
+    found.1 ∙ ap (λ (j : Institution). Some j)
+    (names found.0 i (contains-in found.0 institutions (named-in institutions i.name found.0 found.1)) c same)
+
 -- a name finds the institution that has it
 pub own-names : (institutions : List Institution) → ((i : Institution) → Contains institutions i → institution_named institutions i.name ≡ Some i)
     → HaveOwnNames institutions

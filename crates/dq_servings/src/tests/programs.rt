@@ -90,6 +90,8 @@ impl Stores for Bench<'_> {
 
     ghost migrated = { λ _ _. None };
 
+    ghost copied = { λ _ _ _. None };
+
     ghost closed = { λ _ _. Unit {0} };
 
     fn memory(&self, alloc: Global) -> Result<PlainTables, Unkept> {
@@ -105,6 +107,16 @@ impl Stores for Bench<'_> {
     }
 
     fn migrate(&self, _alloc: Global, _from: &str, _to: &str) -> Result<PlainTables, Unkept> {
+        Err(Unkept::Store(2))
+    }
+
+    fn copy(
+        &self,
+        _alloc: Global,
+        _from: &str,
+        _to: &str,
+        _only: &[&str],
+    ) -> Result<Result<u64, Unclosed>, Unkept> {
         Err(Unkept::Store(2))
     }
 

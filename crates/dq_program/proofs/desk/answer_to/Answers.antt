@@ -18,5 +18,15 @@ pub returns-in_err-back_up-in-Backup-clause-cut : goal.returns-in_err-back_up-in
 returns-in_err-back_up-in-Backup-clause-cut g c =
     OnErr-known c.from_residual-in_err-back_up-in-Backup.result (rw c.in-Backup.is c.in_err-back_up-in-Backup.ensures.cut)
 
+pub returns-in_err-tell_search-in-Search-clause-cut : goal.returns-in_err-tell_search-in-Search-clause-cut
+returns-in_err-tell_search-in-Search-clause-cut g c =
+    OnErr-known c.from_residual-in_err-tell_search-in-Search.result (rw c.in-Search.is c.in_err-tell_search-in-Search.ensures.cut)
+
 pub returns-in_err-from_slice-in-Bad-clause-cut : goal.returns-in_err-from_slice-in-Bad-clause-cut
 returns-in_err-from_slice-in-Bad-clause-cut g c = OnErr-known c.from_residual-in_err-from_slice-in-Bad.result (rw c.in-Bad.is refl)
+
+pub returns-in_ok-tell_search-in-Search-clause-answered :
+    goal.returns-in_ok-tell_search-in-Search-clause-answered
+returns-in_ok-tell_search-in-Search-clause-answered g c =
+    rw c.in-Search.is
+    (c.in_ok-tell_search-in-Search.ensures.looked, λ honest. rw c.as_str-in-Search.ensures.value at (c.in_ok-tell_search-in-Search.ensures.told honest))

@@ -25,3 +25,15 @@ returns-in-Migrate-clause-done g c = rw c.in-Migrate.is (both-ok _ _ c.migrate.r
 
 pub returns-in-Migrate-clause-stops : goal.returns-in-Migrate-clause-stops
 returns-in-Migrate-clause-stops g c = rw c.in-Migrate.is c.migrate.ensures.ends
+
+pub returns-in-Check-clause-done : goal.returns-in-Check-clause-done
+returns-in-Check-clause-done g c = rw c.in-Check.is c.check.ensures.done
+
+pub returns-in-Check-clause-stops : goal.returns-in-Check-clause-stops
+returns-in-Check-clause-stops g c = rw c.in-Check.is c.check.ensures.stops
+
+pub returns-in-Copy-clause-done : goal.returns-in-Copy-clause-done
+returns-in-Copy-clause-done g c = rw c.in-Copy.is c.copy.ensures.done
+
+pub returns-in-Copy-clause-stops : goal.returns-in-Copy-clause-stops
+returns-in-Copy-clause-stops g c = rw c.in-Copy.is c.copy.ensures.ends

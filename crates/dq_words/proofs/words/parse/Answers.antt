@@ -1,7 +1,10 @@
-use Rattle.std.proofs.Common.{◌≡◌, [], true, ap, ap₂, refl, sym, ◌∙◌, Result, Ok, Err, IfErr}
-use Rattle.clap.specs.Words.{fault_of, is_simple, is_simple_and_free, subcommand_of}
+use Rattle.std.proofs.Common.{◌≡◌, ◌≢◌, ℕ, List, [], None, true, ap, ap₂, refl, sym, ◌∙◌, Result, Ok, Err, IfErr}
+use Rattle.std.specs.Prelude.{IsErrAnd}
+use Rattle.clap.specs.declared.error.Error.{Error}
+use Rattle.clap.specs.declared.error.kind.ErrorKind.TheVariants.{OutOfMemory}
+use Rattle.clap.specs.Words.{fault_of, kind_of, is_simple, is_simple_and_free, subcommand_of}
 use Rattle.clap.proofs.OnLiterals.{clap_on_literals}
-use Rattle.dq_words.specs.Words.{line_of}
+use Rattle.dq_words.specs.Words.{errand_asked, line_of}
 use Rattle.dq_words.specs.Clap.{command}
 use Rattle.dq_words.proofs.Asking.{asked-by, asked-refused}
 use Rattle.dq_words.proofs.words.parse.Goals as goal
@@ -17,6 +20,12 @@ simple = refl
 at-any : {T E : Type 0} {P : E → Type 0} (r : Result T E) → ((e : E) → P e) → IfErr r P
 at-any (Ok x) all = tt
 at-any (Err e) all = all e
+
+-- an error that tells want of memory tells nothing of the words
+unwanted : {T : Type 0} (IsLine : List (List ℕ) → Type 0) (r : Result T Error) → IsErrAnd r (λ e. kind_of e ≡ OutOfMemory)
+    → IfErr r (λ e. (words : List (List ℕ)) → IsLine words → kind_of e ≢ OutOfMemory → errand_asked words ≡ None)
+unwanted IsLine (Ok x) is = tt
+unwanted IsLine (Err e) is = λ words line other. absurd (other is)
 
 pub returns-in-Ok-job_in-clause-ok : goal.returns-in-Ok-job_in-clause-ok
 returns-in-Ok-job_in-clause-ok c = λ words line.
@@ -43,3 +52,6 @@ pub returns-in-Err-clause-err : goal.returns-in-Err-clause-err
 returns-in-Err-clause-err c = λ words line memory.
     let same = c.in_ok-command.ensures in
     asked-refused words _ c.in-Err.error (c.in-Err.ensures.kinds (ap is_simple_and_free same ∙ is_free)) memory (ap₂ fault_of same line)
+
+pub returns-in_err-only-clause-err : goal.returns-in_err-only-clause-err
+returns-in_err-only-clause-err c = unwanted _ c.from_residual-in_err-only.result c.from_residual-in_err-only.ensures.1

@@ -1,0 +1,99 @@
+//! What an institution is shown of what it keeps, a page at a time.
+ghost use Rattle.std.specs.Prelude.{◌≡◌, List, map, drop, take, IfOk};
+ghost use Rattle.dq_tables.specs.Keeping.{Reads};
+ghost use Rattle.dq_tables.specs.Records.{data_set_of};
+ghost use Rattle.dq_tables.specs.Rows.{of};
+ghost use Rattle.dq_tables.specs.declared.row.Row.{Row as TheRow};
+ghost use Rattle.dq_core.specs.Showing.{found_in, steps_in, shown_page, found_page};
+
+use dq_config::Institution;
+use dq_dataset::DataSet;
+use dq_find::find_by_keys;
+use dq_list::Listed;
+use dq_match::Found;
+use dq_tables::{Kind, Row, TableFault, Tables};
+use dq_worklist::query_by_keys;
+use std::alloc::{AllocError, Global};
+
+/// The most that a page shows.
+const PAGE_MOST: usize = 1000;
+
+/// Among what keys are searched.
+#[derive(Debug, Clone, Copy, PartialEq, Eq)]
+pub enum SearchKind {
+    /// Studies, series or images, by the Query/Retrieve Level of the keys (PS3.4 annex C).
+    StudyRoot,
+    /// Entries of the worklist that wait (PS3.4 annex K).
+    Worklist,
+}
+
+/// A page: what comes after so many, and of that no more than the limit, nor than 1,000.
+#[derive(Debug, Clone, Copy, PartialEq, Eq)]
+pub struct ShownPage {
+    pub offset: usize,
+    pub limit: usize,
+}
+
+impl ShownPage {
+    /// The page of what there is.
+    fn of<A: Drop>(self, all: Listed<A>) -> Listed<A>
+        ensures { result ≡ shown_page self all }
+    {
+        let mut all = all.into_inner();
+        let before = self.offset.min(all.len());
+        let _ = all.drain(..before);
+        all.truncate(self.limit.min(PAGE_MOST));
+        Listed::from_inner(all)
+    }
+}
+
+/// What keys find among an institution's records, and of that a page.
+#[tactic(auto, unfolding(crate::specs::Showing::found_in))]
+pub(crate) fn search_page<T: Tables>(
+    tables: &mut T,
+    institution: &Institution,
+    kind: SearchKind,
+    keys: &DataSet,
+    page: ShownPage,
+) -> Result<Found, TableFault>
+    ensures found { (T.state tables.new).honest → IfOk result (λ found. found ≡ found_page page
+        (found_in kind keys.now (of institution.now.name (T.state tables.old).rows))) }
+    ensures reads { Reads (T.state tables.old) (T.state tables.new) result }
+{
+    let found = match kind {
+        SearchKind::StudyRoot => find_by_keys(tables, institution, &[], keys)?,
+        SearchKind::Worklist => query_by_keys(tables, institution, keys)?,
+    };
+    Ok(Found {
+        status: found.status,
+        optional: found.optional,
+        answers: page.of(found.answers),
+    })
+}
+
+/// The data sets of rows, in their order.
+fn data_sets_of(alloc: Global, rows: &[Row]) -> Result<Listed<DataSet>, AllocError>
+    ensures { IfOk result (λ sets. sets
+        ≡ map (λ (row : TheRow). data_set_of row.octets) rows.now) }
+{
+    let mut sets = Listed::empty(alloc);
+    for row in rows {
+        sets.push(row.data_set(alloc)?)?;
+    }
+    Ok(sets)
+}
+
+/// The performed procedure steps of an institution, and of these a page.
+pub(crate) fn steps_page<T: Tables>(
+    tables: &mut T,
+    institution: &Institution,
+    page: ShownPage,
+) -> Result<Listed<DataSet>, TableFault>
+    ensures found { (T.state tables.new).honest → IfOk result (λ found. found
+        ≡ shown_page page (steps_in (of institution.now.name (T.state tables.old).rows))) }
+    ensures reads { Reads (T.state tables.old) (T.state tables.new) result }
+{
+    let rows = tables.rows_of(Kind::Step, institution.name.as_slice())?;
+    let rows = page.of(rows);
+    Ok(data_sets_of(tables.alloc(), rows.as_slice())?)
+}

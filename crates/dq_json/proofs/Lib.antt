@@ -1,0 +1,5 @@
+mod Words
+mod Nesting
+mod Numbers
+mod Objects
+mod Texts

@@ -1,0 +1,13 @@
+//! Laws of the definitions, which the contracts of functions with no body name.
+ghost use Rattle.std.specs.Prelude.{◌≡◌, map};
+ghost use Rattle.dq_dataset.specs.Tree.{ElementList};
+ghost use Rattle.dq_dataset.specs.View.{elements_of};
+ghost use Rattle.dq_json.specs.Json.{json_tokens};
+ghost use Rattle.dq_json.specs.Outermost.{outermost_keys};
+ghost use Rattle.dq_json.specs.Text.{tag_digits};
+
+/// The JSON of a data set has one member for each element and no other, by its tag, in order.
+pub fn each_element_is_a_member()
+    ensures { (d : ElementList)
+        → outermost_keys (json_tokens d) ≡ map (λ e. tag_digits e.tag) (elements_of d) }
+{}

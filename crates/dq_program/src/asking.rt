@@ -1,0 +1,185 @@
+//! What the line of a search of the console asks for, by its words.
+
+use dq_core::ShownPage;
+use dq_dataset::{DataSet, ReadFault, Syntax, read};
+use dq_json::tag_named;
+use dq_vr::{DICTIONARY, LengthForm, Tag, Vr, length_form, lookup, tags};
+use percent_encoding::percent_decode;
+use std::alloc::{AllocError, Global};
+
+/// The most that a page shows.
+const PAGE_MOST: usize = 1000;
+
+/// The most octets of a value.
+const VALUE_MOST: usize = 65_534;
+
+/// An attribute, and the value that it is to match.
+#[derive(Drop)]
+struct GivenKey {
+    tag: Tag,
+    value: Vec<u8>,
+}
+
+/// What the words of a line ask for: values of attributes, and a page.
+#[derive(Drop)]
+pub struct Asking {
+    keys: Vec<GivenKey>,
+    pub page: ShownPage,
+}
+
+/// The octets of an unsigned short that a text spells.
+fn short_of(alloc: Global, text: &str) -> Result<Option<Vec<u8>>, AllocError> {
+    let Ok(number) = text.parse::<u16>() else {
+        return Ok(None);
+    };
+    Ok(Some(Vec::from_slice(alloc, &number.to_le_bytes())?))
+}
+
+/// The octets of a value, which %XX spells too, with the pad that makes them even in number (PS3.5
+/// section 6.2). Values of other than text, UIDs and unsigned shorts cannot be given.
+fn value_of(alloc: Global, vr: Vr, text: &str) -> Result<Option<Vec<u8>>, AllocError> {
+    if vr == Vr::US && !text.is_empty() {
+        return short_of(alloc, text);
+    }
+    if !vr.is_text() && vr != Vr::UI && !text.is_empty() {
+        return Ok(None);
+    }
+    let mut octets = Vec::new(alloc);
+    percent_decode(text.as_bytes()).append_to(&mut octets)?;
+    if octets.len() > VALUE_MOST {
+        return Ok(None);
+    }
+    if octets.len() % 2 == 1 {
+        octets.push(if vr.is_text() { b' ' } else { 0 })?;
+    }
+    Ok(Some(octets))
+}
+
+impl Asking {
+    /// Takes a word, `KEYWORD=VALUE`, `limit=N` or `offset=N`. The answer is whether it is one.
+    fn take_word(&mut self, alloc: Global, word: &str) -> Result<bool, AllocError> {
+        let Some((name, text)) = word.split_once('=') else {
+            return Ok(false);
+        };
+        if name == "limit" || name == "offset" {
+            return Ok(self.take_number(name == "limit", text));
+        }
+        let Some(tag) = tag_named(name) else {
+            return Ok(false);
+        };
+        let Some(vr) = lookup(tag) else {
+            return Ok(false);
+        };
+        let Some(value) = value_of(alloc, vr, text)? else {
+            return Ok(false);
+        };
+        self.keys.push(GivenKey { tag, value })?;
+        Ok(true)
+    }
+
+    /// Takes the limit or the offset of the page.
+    fn take_number(&mut self, is_limit: bool, text: &str) -> bool {
+        let Ok(number) = text.parse::<usize>() else {
+            return false;
+        };
+        if is_limit {
+            self.page.limit = number;
+        } else {
+            self.page.offset = number;
+        }
+        true
+    }
+
+    /// Whether attributes are asked for.
+    pub fn has_keys(&self) -> bool {
+        !self.keys.is_empty()
+    }
+
+    /// The value that is given of an attribute, and none where none is.
+    fn value(&self, tag: Tag) -> &[u8] {
+        match self.keys.iter().find(|key| key.tag == tag) {
+            Some(key) => key.value.as_slice(),
+            None => &[],
+        }
+    }
+
+    /// Adds each attribute of the dictionary in Explicit, with the value that is given. What is no
+    /// key of a level is left out as the query is read.
+    fn put_keys(&self, octets: &mut Vec<u8>, level: &[u8], step: &[u8]) -> Result<(), AllocError> {
+        for entry in &DICTIONARY {
+            let (tag, vr) = *entry;
+            if tag == tags::SPECIFIC_CHARACTER_SET {
+                continue;
+            }
+            let value = if tag == tags::QUERY_RETRIEVE_LEVEL {
+                level
+            } else if tag == tags::SCHEDULED_PROCEDURE_STEP_SEQUENCE {
+                step
+            } else {
+                self.value(tag)
+            };
+            put_element(octets, tag, vr, value)?;
+        }
+        Ok(())
+    }
+
+    /// The identifier of a query at a level.
+    pub fn study_identifier(&self, alloc: Global, level: &[u8]) -> Result<DataSet, ReadFault> {
+        let mut octets = Vec::new(alloc);
+        self.put_keys(&mut octets, level, &[])?;
+        read(alloc, octets.as_slice(), Syntax::Explicit)
+    }
+
+    /// The identifier of a worklist query. Keys of the scheduled procedure step stand in the item of
+    /// (0040,0100).
+    pub fn worklist_identifier(&self, alloc: Global) -> Result<DataSet, ReadFault> {
+        let mut step = Vec::new(alloc);
+        self.put_keys(&mut step, &[], &[])?;
+        let mut item = Vec::from_slice(alloc, &[0xfe, 0xff, 0x00, 0xe0])?;
+        put_long(&mut item, step.len())?;
+        item.extend_from_slice(step.as_slice())?;
+        let mut octets = Vec::new(alloc);
+        self.put_keys(&mut octets, &[], item.as_slice())?;
+        read(alloc, octets.as_slice(), Syntax::Explicit)
+    }
+}
+
+fn put_long(octets: &mut Vec<u8>, length: usize) -> Result<(), AllocError> {
+    let length = length.min(u32::MAX as usize) as u32;
+    octets.extend_from_slice(&length.to_le_bytes())
+}
+
+/// Adds an element in Explicit VR Little Endian (PS3.5 section 7.1.2).
+fn put_element(octets: &mut Vec<u8>, tag: Tag, vr: Vr, value: &[u8]) -> Result<(), AllocError> {
+    octets.extend_from_slice(&tag.group.to_le_bytes())?;
+    octets.extend_from_slice(&tag.element.to_le_bytes())?;
+    octets.extend_from_slice(&vr.letters())?;
+    match length_form(vr) {
+        LengthForm::Two => {
+            let length = value.len().min(u16::MAX as usize) as u16;
+            octets.extend_from_slice(&length.to_le_bytes())?;
+        }
+        LengthForm::Four => {
+            octets.extend_from_slice(&[0, 0])?;
+            put_long(octets, value.len())?;
+        }
+    }
+    octets.extend_from_slice(value)
+}
+
+/// What the words of a line ask for, or the first that is none of them.
+pub fn asking_of<'a>(alloc: Global, words: &'a str) -> Result<Result<Asking, &'a str>, AllocError> {
+    let mut asking = Asking {
+        keys: Vec::new(alloc),
+        page: ShownPage {
+            offset: 0,
+            limit: PAGE_MOST,
+        },
+    };
+    for word in words.split_whitespace() {
+        if !asking.take_word(alloc, word)? {
+            return Ok(Err(word));
+        }
+    }
+    Ok(Ok(asking))
+}
