@@ -44,7 +44,7 @@ impl<'a, T: Tables> Archive<'a, T> {
         Ok(row.is_some())
     }
 
-    /// The record of a kind with the key, as a row.
+    /// Returns the record of a kind with the key, as a row.
     pub fn row(&mut self, kind: Kind, key: &[u8]) -> Result<Option<Row>, TableFault>
         ensures { Looks T.state self.old self.new (λ records.
             option_map (row_of self.old.institution.now.name) (record_at kind key.now records))
@@ -54,7 +54,7 @@ impl<'a, T: Tables> Archive<'a, T> {
         self.tables.row(kind, name, key)
     }
 
-    /// How many records of a kind there are.
+    /// Counts the institution's records of a kind.
     pub fn count(&mut self, kind: Kind) -> Result<u64, TableFault>
         ensures { Looks T.state self.old self.new
             (λ records. length (records_of kind records)) result }
@@ -74,7 +74,7 @@ impl<'a, T: Tables> Archive<'a, T> {
         self.tables.rows_above(kind, name, above)
     }
 
-    /// How many records of a kind there are under the record with the key `above`.
+    /// Counts the institution's records of a kind under the record with the key `above`.
     pub fn count_above(&mut self, kind: Kind, above: &[u8]) -> Result<u64, TableFault>
         ensures { Looks T.state self.old self.new
             (λ records. length (records_above kind above.now records)) result }

@@ -47,7 +47,7 @@ impl PeerLimit {
         }
     }
 
-    /// In octets, where 0 is no limit.
+    /// Returns the limit in octets, where 0 is no limit.
     pub fn octets(&self) -> u32
         ensures same { result ≡ self.now }
         ensures room { IsPduLimit result }

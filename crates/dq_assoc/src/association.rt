@@ -291,7 +291,7 @@ fn opened(alloc: Global, request: &Request, limit: PeerLimit) -> Result<Held, Al
 }
 
 impl Association {
-    /// An association that awaits its request. It takes no memory.
+    /// Creates an association that awaits its request. It takes no memory.
     pub fn new(alloc: Global) -> Self
         ensures after { WasGivenPdus [] result }
         ensures state { held_state result ≡ State.Waiting }
@@ -302,7 +302,8 @@ impl Association {
         }
     }
 
-    /// Makes it an association that awaits its request, for another connection. It takes no memory.
+    /// Resets the association for another connection: it awaits its request again. It takes no
+    /// memory.
     pub fn reset(&mut self)
         ensures after { WasGivenPdus [] self.new }
         ensures state { held_state self.new ≡ State.Waiting }

@@ -26,7 +26,7 @@ const PROTOCOL_VERSION: u16 = 0x0001;
 /// The result of a presentation context that is accepted (PS3.8 table 9-18).
 const ACCEPTANCE: u8 = 0x00;
 
-/// Why a presentation context is refused: its result (PS3.8 table 9-18).
+/// The result of a refused presentation context (PS3.8 table 9-18).
 #[derive(Clone, Copy, Debug, PartialEq, Eq)]
 pub enum ContextRefusal {
     /// Its class is not served.

@@ -13,7 +13,7 @@ use hex::FromHexError;
 use std::alloc::{AllocError, Global};
 use thiserror::Error;
 
-/// Why a capture is not read.
+/// The reason why a capture cannot be read.
 #[derive(Clone, Copy, Debug, PartialEq, Eq, Error)]
 pub enum CaptureFault {
     /// The first bad line, counted from 1.

@@ -13,7 +13,7 @@ use std::alloc::{AllocError, Global};
 use std::io;
 use thiserror::Error;
 
-/// Why replies are not printed.
+/// The reason why replies could not be printed.
 #[derive(Clone, Copy, Debug, PartialEq, Eq, Error)]
 pub enum PrintFault {
     /// It is never answered: printing takes no memory.
@@ -26,7 +26,7 @@ pub enum PrintFault {
 impl PrintFault {
     ghost use Rattle.dq_captures.specs.Faults.{print_fault_number};
 
-    /// 1 and 2, in the order in which the faults are declared.
+    /// Returns the number of the fault, 1 or 2, in the order in which the faults are declared.
     pub fn number(self) -> u8
         ensures { result ≡ print_fault_number self }
     {

@@ -9,7 +9,7 @@ use std::fmt::Display;
 use std::io::{Read, Write};
 use std::{fs, io};
 
-/// Why octets are not read.
+/// The reason why octets could not be read.
 #[derive(Clone, Copy, Debug, PartialEq, Eq)]
 pub enum Unread {
     /// They cannot be read.

@@ -34,7 +34,7 @@ pub enum ConfigFault {
 impl ConfigFault {
     ghost use Rattle.dq_config.specs.Faults.{config_fault_number};
 
-    /// 1 to 7, in the order in which the faults are declared.
+    /// Returns the number of the fault, 1 to 7, in the order in which the faults are declared.
     pub fn number(self) -> u8
         ensures { result ≡ config_fault_number self }
     {

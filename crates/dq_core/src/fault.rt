@@ -7,7 +7,7 @@ use dq_tables::TableFault;
 use std::alloc::{AllocError, AllocFailed};
 use thiserror::Error;
 
-/// Why the server stopped.
+/// The reason why the server stopped.
 #[derive(Clone, Copy, Debug, PartialEq, Eq, Error)]
 pub enum Fault {
     #[error("memory ran out")]
@@ -22,7 +22,7 @@ pub enum Fault {
 impl Fault {
     ghost use Rattle.dq_core.specs.Faults.{server_fault_number};
 
-    /// 1 to 3, in the order in which the faults are declared.
+    /// Returns the number of the fault, 1 to 3, in the order in which the faults are declared.
     pub fn number(self) -> u8
         ensures { result ≡ server_fault_number self }
     {

@@ -308,7 +308,7 @@ pub fn searches_answer_what_matches()
         ) }
 {}
 
-/// So is a worklist query, with the entries that fit, in the order of their keys.
+/// A worklist query is answered with exactly the entries that match, in the order of their keys.
 #[tactic(auto, using(crate::proofs::isolation::Searching::worklist_search))]
 pub fn worklists_answer_what_matches()
     ensures { (agreement : Agreement) (context : AgreedContext) (limits : Limits)
@@ -328,11 +328,11 @@ pub fn worklists_answer_what_matches()
         ) }
 {}
 
-/// So are runs that a fault ends. The replies at an institution's own events are those of its
-/// server alone to those that were answered, and its records are those that this server then has,
-/// with the first changes of an own event that was not answered; the replies on a connection that
-/// nobody owns are a stranger's; and of the own replies of two runs that agree for an institution,
-/// one list begins with the other.
+/// Runs that a fault ends are isolated too. The replies at an institution's own events are those of
+/// its server alone to those that were answered, and its records are those that this server then
+/// has, with the first changes of an own event that was not answered; the replies on a connection
+/// that nobody owns are a stranger's; and of the own replies of two runs that agree for an
+/// institution, one list begins with the other.
 pub fn runs_are_isolated()
     ensures own { (institutions : List Institution) (rows : List Row) (events : List Event)
         (given : List Reply) (kept : List Row) → IsRun institutions rows events given kept →
@@ -506,10 +506,10 @@ pub fn services_keep_rows_sound()
     entries_hold_data_sets();
 }
 
-/// So does the server, whatever octets it is sent: rows stay sound, and hold data sets, after a
-/// message and after an order, after the first operations of an event, after a history and within
-/// it, and so after a run that a fault ends. At first there are no rows, which are sound, as are all
-/// sound rows of octets.
+/// The server keeps rows sound, whatever octets it is sent. They stay sound, and hold data sets,
+/// after a  message and after an order, after the first operations of an event, after a history and
+/// within it, and so after a run that a fault ends. At first there are no rows, which are sound, as
+/// are all sound rows of octets.
 pub fn rows_stay_sound()
     ensures at_first { HoldSound [] }
     ensures of_octets { (rows : List Row) → IsSound rows →
@@ -568,8 +568,8 @@ pub fn services_keep_rows_as_made()
     entries_leave_other_kinds();
 }
 
-/// So does the server, after a history and within it, and so after a run that a fault ends. At first
-/// there are no rows, and those are so.
+/// The server leaves rows as it makes them, after a history and within it, and after a run that a
+/// fault ends. At first there are no rows, which are such rows.
 pub fn rows_stay_as_made()
     ensures at_first { AreMade [] }
     ensures history { (institutions : List Institution) (rows : List Row) (events : List Event) →

@@ -24,7 +24,7 @@ pub struct Titles {
     pub calling: [u8; 16],
 }
 
-/// Who aborts an association.
+/// The side that aborts an association.
 #[derive(Clone, Copy, Debug, PartialEq, Eq)]
 pub enum Party {
     Peer,

@@ -33,7 +33,7 @@ use dq_tables::{Kind, Tables};
 use std::alloc::{AllocError, Global};
 use std::marker::Model;
 
-/// The server over what keeps its rows: the connections that are held, between two events.
+/// The server between two events: the connections that it holds, and the keeper of its rows.
 #[derive(Drop)]
 pub struct Server<T> {
     alloc: Global,
@@ -221,8 +221,8 @@ impl<T: Tables> Server<T> {
         }
     }
 
-    /// How many rows of a kind the institution of a name has. It is no event, and changes nothing.
-    /// After a fault, of a step or of a count, every count is answered Stopped.
+    /// Counts the rows of a kind that the institution of a name has. This is no event, and changes
+    /// nothing.  After a fault, of a step or of a count, every count is answered Stopped.
     pub fn count(&mut self, kind: Kind, name: &[u8]) -> Result<u64, Fault>
         ensures found { (T.state self.new.tables).honest → IfOk result (λ number.
             number ≡ length (rows_of kind name.now (T.state self.old.tables).rows)) }

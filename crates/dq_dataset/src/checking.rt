@@ -10,7 +10,7 @@ use crate::header::{
 };
 use dq_vr::Tag;
 
-/// What is left after the value.
+/// Returns the octets that follow the value.
 #[cycle(checking)]
 #[tactic(auto, unfolding(crate::specs::Reading::value_by))]
 pub fn value_end<'a>(levels: u8, content: Content, octets: &'a [u8]) -> Result<&'a [u8], ReadFault>

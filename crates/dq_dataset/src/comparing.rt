@@ -27,7 +27,7 @@ impl DataSet {
 }
 
 impl Element {
-    /// Whether both have the same tag, VR and value.
+    /// Returns whether both elements have the same tag, VR and value.
     pub fn is_same(&self, other: &Element) -> bool
         ensures equal { IsTrue result ↔ (self.now ≡ other.now) }
         ensures same { result ≡ same_element self.now other.now }

@@ -79,7 +79,7 @@ impl DataSet {
         }
     }
 
-    /// It has the facts of every data set (PS3.5 sections 6.2, 7.1 and 7.5).
+    /// Every `DataSet` has these facts (PS3.5 sections 6.2, 7.1 and 7.5).
     pub fn has_facts(&self)
         ensures { IsDataSet self.now }
     {

@@ -34,7 +34,7 @@ pub enum ReadFault {
 impl ReadFault {
     ghost use Rattle.dq_dataset.specs.FaultNumbers.{read_fault_number};
 
-    /// 1 to 7, in the order in which the faults are declared.
+    /// Returns the number of the fault, 1 to 7, in the order in which the faults are declared.
     pub fn number(self) -> u8
         ensures { result ≡ read_fault_number self }
     {

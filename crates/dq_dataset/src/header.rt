@@ -8,21 +8,21 @@ ghost use Rattle.dq_dataset.specs.Reading.{Answers, tag_at, number_at, long_leng
 use crate::fault::ReadFault;
 use dq_vr::{LengthForm, Tag, Vr, length_form, lookup};
 
-/// How data sets are spelled (PS3.5 annex A): without VRs, or with them.
+/// The transfer syntax of a data set (PS3.5 annex A): Implicit or Explicit VR Little Endian.
 #[derive(Clone, Copy, Debug, PartialEq, Eq)]
 pub enum Syntax {
     Implicit,
     Explicit,
 }
 
-/// Where elements or items end: with the octets, or with an end of their own.
+/// The end of a list of elements or items: that of its length, or a delimitation item.
 #[derive(Clone, Copy, Debug, PartialEq, Eq)]
 pub enum Bound {
     Filled,
     Delimited,
 }
 
-/// Where elements or items stand: how they end, how they are spelled, and how many more levels of
+/// The surroundings of elements or items: their end, their syntax, and how many more levels of
 /// sequences are allowed.
 #[derive(Clone, Copy)]
 pub struct Level {

@@ -76,8 +76,8 @@ pub fn fault_law()
         → reading syntax octets ≡ Err fault → reading syntax (octets ++ more) ≡ Err fault }
 {}
 
-/// What is lent of one level: one for each element that is spelled, and then the first fault, if
-/// there is one.
+/// The elements that are lent of one level are those that its octets spell. The first fault
+/// follows, if there is one.
 pub fn lending_law()
     ensures lent { (syntax : Syntax) (octets : List ℕ) → AreOctets octets
         → AgreesWith syntax octets (lent_elements syntax octets) }

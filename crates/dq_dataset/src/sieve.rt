@@ -45,15 +45,15 @@ pub enum Sifted {
 /// The elements of the outer data set, as far as they came.
 #[derive(Drop)]
 pub(crate) struct Outer {
-    /// How the data set is spelled.
+    /// The transfer syntax of the data set.
     pub syntax: Syntax,
     /// The tag of the last element.
     pub last: Option<Tag>,
-    /// Whether the elements whose tags are listed passed the limit.
+    /// True where the elements with listed tags passed the limit.
     pub large: bool,
-    /// Those elements, until they pass the limit.
+    /// The elements with listed tags, until they pass the limit.
     pub kept: Vec<Element>,
-    /// Whether there was another.
+    /// True where an element with another tag came.
     pub other: bool,
 }
 

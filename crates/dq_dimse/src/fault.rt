@@ -7,7 +7,7 @@ use dq_dataset::ReadFault;
 use std::alloc::AllocError;
 use thiserror::Error;
 
-/// Why presentation data values are no messages.
+/// The first fault of PDVs that carry no messages, and want of memory.
 #[derive(Clone, Copy, Debug, PartialEq, Eq, Error)]
 pub enum DimseFault {
     #[error("a value is of a context that is not accepted, or not of the message begun")]
@@ -23,7 +23,7 @@ pub enum DimseFault {
 impl DimseFault {
     ghost use Rattle.dq_dimse.specs.Faults.{dimse_fault_number};
 
-    /// 1 to 4, in the order in which the faults are declared.
+    /// Returns the number of the fault, 1 to 4, in the order in which the faults are declared.
     pub fn number(self) -> u8
         ensures { result ≡ dimse_fault_number self }
     {

@@ -78,7 +78,7 @@ pub fn command_sets_are_read()
     spelling_law();
 }
 
-/// The command set that is written of a response is one, and says the response.
+/// What is written of a response is a command set, and is read as that response.
 pub fn responses_are_command_sets()
     ensures { (command : Command) → HasFields command → SaysResponse command (command_set command) }
 {}
@@ -90,7 +90,7 @@ pub fn messages_are_messages()
         × AreLeft ids rest (messages ids pdvs).fault }
 {}
 
-/// No other messages are these PDVs, and nothing else is left after them.
+/// The PDVs carry no other list of messages, and nothing else is left after it.
 pub fn messages_are_the_only()
     ensures messages { (ids : List ℕ) (pdvs rest : List Pdv) (list : List Message)
         (fault : Option DimseFault) → AreMessages ids list pdvs rest → AreLeft ids rest fault →
@@ -177,7 +177,7 @@ pub fn pdus_fit()
         IsTrue (is_writable (p_data context command last octets)) }
 {}
 
-/// The fragments are the octets, and no others of the size are.
+/// The fragments of octets, joined, are the octets. No other fragments of that size are.
 pub fn fragments_are_the_only()
     ensures are { (size : ℕ) (octets : List ℕ) → 0 < size →
         AreFragmentsOf size octets (fragments size octets) }

@@ -56,7 +56,7 @@ impl Pages {
         self.answers.pop()
     }
 
-    /// How many answers are left.
+    /// Returns how many answers are left.
     pub fn left(&self) -> usize
         ensures { result ≡ length self.now.answers }
     {

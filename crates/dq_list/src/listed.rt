@@ -61,14 +61,14 @@ impl<T> Listed<T> {
         self.inner.as_slice()
     }
 
-    /// How many items there are.
+    /// Returns how many items the list has.
     pub fn len(&self) -> usize
         ensures { result ≡ length self.now }
     {
         self.inner.len()
     }
 
-    /// Whether there are none.
+    /// Returns whether the list has no items.
     pub fn is_empty(&self) -> bool
         ensures { result ≡ is_empty self.now }
     {

@@ -9,7 +9,7 @@ ghost use Rattle.dq_dataset.specs.Values.{element_octets};
 use dq_dataset::{DataSet, Element, Value};
 use dq_vr::{Tag, tags};
 
-/// Where an element stands: outside items or inside one.
+/// The place of an element: outside items, or inside one.
 #[derive(Clone, Copy, Debug, PartialEq, Eq)]
 pub enum Place {
     Outer,
@@ -49,7 +49,7 @@ pub(crate) fn element_at(elements: &[Element], tag: Tag) -> Option<&Element>
     elements.iter().find(|element| element.tag == tag)
 }
 
-/// The octets of a record's element, none where it is absent or a sequence.
+/// Returns the value of a record's element: no octets where it is absent, or a sequence.
 pub fn octets_in(held: Option<&Element>) -> &[u8]
     ensures { result.now ≡ element_octets (option_copied held.entry) }
 {

@@ -25,7 +25,7 @@ pub enum KeyList {
     Entry,
 }
 
-/// Where keys stand: in an identifier, or in the items of one of its sequences.
+/// The place of keys: in an Identifier, or in the items of one of its sequences.
 #[derive(Clone, Copy, Debug, PartialEq, Eq)]
 pub enum KeyScope {
     Identifier(KeyList),

@@ -13,7 +13,7 @@ use crate::wildcards::{Casing, wild_by};
 use dq_value::{Parts, sole_value, values};
 use dq_vr::Vr;
 
-/// How values of a VR are matched.
+/// The way in which values of a VR are matched (PS3.4 section C.2.2.2).
 #[derive(Clone, Copy, Debug, PartialEq, Eq)]
 pub enum Matching {
     /// By wild card, with letters of either case as one.

@@ -8,7 +8,7 @@ ghost use Rattle.dq_match.specs.declared.wildcards.Casing.TheVariants.{Exact};
 use crate::pieces::{ABREAST, first_fit_abreast};
 use crate::words::{Stretch, Word, all_stand, is_one_word};
 
-/// How octets are compared: each for itself, or letters of either case as one.
+/// The way in which octets are compared: exactly, or with upper and lower case as one.
 #[derive(Clone, Copy, Debug, PartialEq, Eq)]
 pub enum Casing {
     Exact,

@@ -19,7 +19,7 @@ pub enum PduFault {
 impl PduFault {
     ghost use Rattle.dq_pdu.specs.Faults.{pdu_fault_number};
 
-    /// 1 to 3, in the order in which the faults are declared.
+    /// Returns the number of the fault, 1 to 3, in the order in which the faults are declared.
     pub fn number(self) -> u8
         ensures { result ≡ pdu_fault_number self }
     {
@@ -27,7 +27,7 @@ impl PduFault {
     }
 }
 
-/// Why a piece was not taken.
+/// The reason why an inbox did not take a piece.
 #[derive(Clone, Copy, Debug, PartialEq, Eq, Error)]
 pub enum InboxError {
     #[error("memory ran out")]

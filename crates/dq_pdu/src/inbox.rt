@@ -65,7 +65,7 @@ impl Inbox {
         }
     }
 
-    /// Makes it an inbox that has read nothing, for another stream. It takes no memory, and keeps its
+    /// Resets the inbox for another stream: it has read nothing. It takes no memory, and keeps its
     /// room where that is for no more than two PDUs of the greatest length.
     #[tactic(auto, unfolding(crate::specs::Stream::pdus_within, crate::specs::Reading::front))]
     pub fn reset(&mut self)

@@ -67,9 +67,9 @@ pub struct AnsweredContext {
 pub struct Pdv {
     /// The presentation context's id.
     pub context: u8,
-    /// Whether the fragment is of a command, or else of a data set.
+    /// True for a fragment of a command set, false for one of a data set.
     pub command: bool,
-    /// Whether it is the last of the command or the data set.
+    /// True for the last fragment of the command set or the data set.
     pub last: bool,
     pub octets: Listed<u8>,
 }

@@ -16,7 +16,7 @@ pub enum Role {
     Ends(Ending),
 }
 
-/// How a PDU ends an association.
+/// The way in which a PDU ends an association.
 #[derive(Clone, Copy, Debug, PartialEq, Eq)]
 pub enum Ending {
     /// The peer asks for the release.

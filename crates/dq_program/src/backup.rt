@@ -8,7 +8,7 @@ use dq_core::Look;
 use dq_tables::Tables;
 use std::alloc::Global;
 
-/// Who makes copies of all rows of tables.
+/// A maker of copies of all rows of tables.
 pub trait Backups<T: Tables> {
     /// What there is once these rows are copied.
     ghost copied: { Self → List Row → Type 0 };

@@ -43,9 +43,9 @@ fn line_to(mut octets: Vec<u8>, end: usize) -> Vec<u8>
     octets
 }
 
-/// One who calls the console: its place among the wires, what came and is not taken, how much of it
-/// was searched for the end of a line, the answer, how much of it is written, and whether nothing
-/// more is taken.
+/// A caller of the console: its place among the wires, the octets that came and are not taken, how
+/// many of these were searched for the end of a line, the answer, how much of it is written, and
+/// whether nothing more is taken.
 #[derive(Drop)]
 pub struct Caller {
     alloc: Global,
@@ -75,7 +75,7 @@ impl Model for Caller {
 }
 
 impl Caller {
-    /// One that has just come.
+    /// Creates a caller that has just come.
     pub fn new(alloc: Global, place: usize) -> Self
         ensures { result ≡ new_calling place }
     {

@@ -225,8 +225,8 @@ fn keep_note(notes: &mut String, note: Option<String>, answer: &[u8]) -> Result<
     Ok(())
 }
 
-/// Who attends to callers of the console: over wires of its own, for institutions of these names,
-/// with notes of what it did.
+/// The part of the desk that attends to callers: its wires, the names of the institutions, and
+/// notes of what it did.
 #[derive(Drop)]
 pub struct Clerk<W> {
     alloc: Global,
@@ -323,7 +323,7 @@ pub struct Desk<W> {
 }
 
 impl<W: Wires + Drop> Desk<W> {
-    /// Over wires, for institutions of these names.
+    /// Creates a desk without callers, over wires, for the institutions with these names.
     pub fn new(alloc: Global, wires: W, names: Vec<Listed<u8>>) -> Result<Self, AllocError>
         ensures wires { IfOk result (λ desk. desk.clerk.wires ≡ wires) }
         ensures names { IfOk result (λ desk. desk.clerk.names.items ≡ names.items) }
@@ -395,11 +395,11 @@ impl<W: Wires + Drop> Desk<W> {
         Ok(())
     }
 
-    /// One turn: a caller is let in where there is room, and each that is there has its turn: what
-    /// is not written of its answer is offered, or else a line is taken and answered, if one has
-    /// come whole, or else is read. Nothing is asked of other connections. What fails of a caller,
-    /// or of the wires, ends that caller alone: only a fault of the server, or want of memory for an
-    /// answer, ends more.
+    /// Makes one turn. A caller is let in where there is room. Then each that is there has its
+    /// turn: what  is not written of its answer is offered, or else a line is taken and answered,
+    /// if one has come whole, or else is read. Nothing is asked of other connections. What fails of
+    /// a caller, or of the wires, ends that caller alone: only a fault of the server, or want of
+    /// memory for an answer, ends more.
     pub fn turn<T: Tables, B: Backups<T>>(
         &mut self,
         turner: &mut Turner<T>,

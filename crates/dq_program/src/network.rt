@@ -14,7 +14,7 @@ use std::time::Duration;
 /// A caller of the console that says nothing for so many seconds is let go.
 const CONSOLE_QUIET: u64 = 60;
 
-/// Why no connections come in.
+/// The reason why no connection can come in.
 #[derive(Clone, Copy, Debug, PartialEq, Eq)]
 pub enum Unheard {
     /// The address is none, or the port or the path cannot be had, or the log's file.

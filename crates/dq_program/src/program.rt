@@ -171,11 +171,11 @@ fn refused<E: Sink>(error: &clap::Error, errors: &mut E) -> u8
     Stop::Usage.status()
 }
 
-/// Plays the program: what opens its files and its stores and listens, its words, its input, its
-/// output and where it tells of errors. The exit status is 0 where all was done, 1 for words that
-/// are not understood, 2 for a refused configuration, 3 for a bad capture, 4 for a fault, a store
-/// that is refused or not closed, or where the output cannot be written, and 5 where no connections
-/// can come in.
+/// Runs the program over what opens its files and stores and listens, on its words and its input,
+/// with its two outputs. Returns the exit status: 0 where all was done, 1 for words that are not
+/// understood, 2 for a refused configuration, 3 for a bad capture, 4 for a fault, a store that is
+/// refused or not closed, or where the output cannot be written, and 5 where no connections can
+/// come in.
 pub fn perform<Rt: AllocGlobal + Folder + Stores + Network, S: AsStr, R: Source, W: Sink, E: Sink>(
     rt: &Rt,
     words: &[S],
@@ -215,7 +215,8 @@ pub fn perform<Rt: AllocGlobal + Folder + Stores + Network, S: AsStr, R: Source,
     }
 }
 
-/// Tells why there are no words: one is no text, which is usage, or memory ran out.
+/// Tells why the words of the command line cannot be read: one of them is not UTF-8, or memory ran
+/// out. Returns the exit status.
 pub fn unworded<E: Sink>(error: &io::Error, errors: &mut E) -> u8
     ensures memory { error_kind error.now ≡ IoKind.OutOfMemory → (result ≡ 4)
         × IsTold (E.may_fail errors.old) (E.written errors.old) (E.written errors.new)

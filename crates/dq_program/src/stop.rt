@@ -23,7 +23,7 @@ pub struct Misfit {
     pub line: u64,
 }
 
-/// Why the program stops short of its end.
+/// The reason why the program stops before its end.
 #[derive(Clone, Copy, Debug, PartialEq, Eq)]
 pub enum Stop {
     /// The words are not understood.

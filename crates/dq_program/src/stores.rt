@@ -9,7 +9,7 @@ use crate::stop::Stop;
 use dq_tables::Tables;
 use std::alloc::Global;
 
-/// Why there is no store.
+/// The reason why a store could not be opened or made.
 #[derive(Clone, Copy, Debug, PartialEq, Eq)]
 pub enum Unkept {
     /// The number of what is wrong with the store: 2 where it cannot be opened, made or read, 3
@@ -23,7 +23,7 @@ pub enum Unkept {
 #[derive(Clone, Copy, Debug, PartialEq, Eq)]
 pub struct Unclosed;
 
-/// Why a copy of a store is not made.
+/// The reason why a store was not copied.
 #[derive(Clone, Copy, Debug, PartialEq, Eq)]
 pub enum Uncopied {
     /// There is something at the path already.

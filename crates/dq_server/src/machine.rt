@@ -83,8 +83,8 @@ fn unmigrated(fault: MigrateFault) -> Unkept {
     }
 }
 
-/// A connection to the files at a path, which are made where they are not there. `S` stands for what
-/// they hold, and for how a crash is read.
+/// Opens a connection to the files at a path, which are made where they are not there. `S` stands
+/// for what  they hold, and for how a crash is read.
 pub fn opened<S: Start>(
     rt: &HostRuntime,
     path: &str,
@@ -100,7 +100,7 @@ pub fn opened<S: Start>(
     }
 }
 
-/// The rows of the store that the files at a path hold: what a crash left of tables, as
+/// Opens the store at a path, with the rows that its files hold: those that a crash left, as
 /// `dq_sql::laws::what_a_crash_leaves_is_adopted` says of the run before.
 pub fn kept_at<S: Start>(
     rt: &HostRuntime,

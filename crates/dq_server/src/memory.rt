@@ -26,7 +26,7 @@ fn without_failure<T>(answer: Result<T, TableFault>) -> Result<T, TableFault>
 }
 
 impl RowsInMemory {
-    /// No rows.
+    /// Creates tables in memory, without rows.
     pub fn new(alloc: Global) -> Result<RowsInMemory, AllocError>
         ensures rows { IfOk result (λ t. (⟦<RowsInMemory as Tables>⟧.state t).rows ≡ []) }
         ensures failed { IfOk result (λ t. (⟦<RowsInMemory as Tables>⟧.state t).failed ≡ false) }

@@ -6,7 +6,7 @@ use sqlite::{Error, ErrorCode};
 use std::alloc::{AllocError, AllocFailed};
 use thiserror::Error;
 
-/// A store that `open` or `adopt` does not take.
+/// The reason why `open` or `adopt` refuses a store, and want of memory.
 #[derive(Clone, Copy, Debug, PartialEq, Eq, Error)]
 pub enum StoreFault {
     /// A growth was refused.
@@ -27,7 +27,7 @@ pub enum StoreFault {
 impl StoreFault {
     ghost use Rattle.dq_sql.specs.Opening.{store_fault_number};
 
-    /// 1 to 4, in the order in which the faults are declared.
+    /// Returns the number of the fault, 1 to 4, in the order in which the faults are declared.
     pub fn number(self) -> u8
         ensures { result ≡ store_fault_number self }
     {

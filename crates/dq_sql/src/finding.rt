@@ -100,7 +100,7 @@ fn sound_rows(judgement: Judgement) -> Result<Vec<Row>, StoreFault>
     }
 }
 
-/// All rows of a store of rows of a version, in order. Nothing changes.
+/// Returns all rows of a store of a version, in order. Nothing changes.
 ///
 /// The version comes first. A store without the table `version` is refused by `Store`, and one where
 /// this says another number by `WrongVersion`, whatever other tables it has. One of the version is

@@ -5,7 +5,7 @@ use crate::fault::StoreFault;
 use std::alloc::AllocError;
 use thiserror::Error;
 
-/// Why `migrate` makes no store of another.
+/// The reason why `migrate` makes no new store, and want of memory.
 #[derive(Clone, Copy, Debug, PartialEq, Eq, Error)]
 pub enum MigrateFault {
     /// A growth was refused.
@@ -25,7 +25,7 @@ pub enum MigrateFault {
 impl MigrateFault {
     ghost use Rattle.dq_sql.specs.Migration.{migrate_fault_number};
 
-    /// 1 to 4, in the order in which the faults are declared.
+    /// Returns the number of the fault, 1 to 4, in the order in which the faults are declared.
     pub fn number(self) -> u8
         ensures { result ≡ migrate_fault_number self }
     {

@@ -15,8 +15,8 @@ use sqlite::{Alter, Connection};
 use std::alloc::Global;
 
 impl<S: Alter + Drop> SqlTables<S> {
-    /// Tables without rows over a store that has nothing yet. One transaction makes what they need.
-    /// A crash then leaves no rows.
+    /// Creates tables without rows over an empty store. One transaction makes what they need.  A
+    /// crash then leaves no rows.
     ///
     /// It answers `Store` where the store has a table or an index already, where a transaction is
     /// open, and where the store fails; `NoMemory` where a growth was refused. A refusal gives the

@@ -39,7 +39,7 @@ impl Choice {
         Ok(self.has_labels(&labels))
     }
 
-    /// Those of some studies that the choice takes, in the same order.
+    /// Returns the studies that the choice takes, in the same order.
     pub fn among(&self, alloc: Global, studies: Listed<Row>) -> Result<Listed<Row>, AllocError>
         ensures { IfOk result (λ taken.
             taken ≡ filter (λ row. is_chosen self.now (record_of row)) studies) }

@@ -19,7 +19,7 @@ pub enum TableFault {
 impl TableFault {
     ghost use Rattle.dq_tables.specs.Faults.{table_fault_number};
 
-    /// 1 and 2, in the order in which the faults are declared.
+    /// Returns the number of the fault, 1 or 2, in the order in which the faults are declared.
     pub fn number(self) -> u8
         ensures { result ≡ table_fault_number self }
     {

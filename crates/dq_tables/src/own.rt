@@ -67,8 +67,8 @@ fn may_be_started(kind: Kind, started: bool) -> bool
 }
 
 impl Row {
-    /// Whether the octets are the one Explicit spelling of a data set, the keys are its own, and
-    /// the row is started only where it may be.
+    /// Returns whether the row is its record's own: its octets are the one Explicit spelling of a
+    /// data set, its keys are those of that data set, and it is started only if it is an entry.
     #[tactic(auto, unfolding(crate::specs::Sound::is_own_row))]
     pub fn is_own(&self, alloc: Global) -> Result<bool, AllocError>
         requires { length self.now.octets < 2 ^ 31 }

@@ -30,7 +30,7 @@ impl Kind {
     ghost use Rattle.dq_tables.specs.declared.row.Kind.{Kind};
     ghost use Rattle.dq_tables.specs.Rows.{number_of_kind};
 
-    /// 1 to 5, in the order in which the kinds are declared.
+    /// Returns the number of the kind, 1 to 5, in the order in which the kinds are declared.
     pub fn number(self) -> u8
         ensures { result ≡ number_of_kind self }
     {

@@ -7,7 +7,7 @@ use dq_core::Fault;
 use std::alloc::{AllocError, AllocFailed};
 use thiserror::Error;
 
-/// Why turning stopped.
+/// The reason why a turner stopped.
 #[derive(Clone, Copy, Debug, PartialEq, Eq, Error)]
 pub enum TurnFault {
     /// A growth was refused.
@@ -24,8 +24,8 @@ pub enum TurnFault {
 impl TurnFault {
     ghost use Rattle.dq_wires.specs.Faults.{turn_fault_number};
 
-    /// 1 to 3, in the order in which the faults are declared. That of the server has a number of its
-    /// own.
+    /// Returns the number of the fault, 1 to 3, in the order in which the faults are declared. The
+    /// server's own fault has another number.
     pub fn number(self) -> u8
         ensures { result ≡ turn_fault_number self }
     {

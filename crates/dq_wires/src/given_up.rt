@@ -13,7 +13,7 @@ pub struct Limits {
     pub peer_connections: Option<usize>,
 }
 
-/// Why a connection is given up.
+/// The reason why a connection is given up.
 #[derive(Clone, Copy, PartialEq, Eq)]
 pub enum Reason {
     /// The ARTIM timer ran out (PS3.8 section 9.1.5).

@@ -17,7 +17,7 @@ pub struct Script {
     /// What comes, each with the place at which it is read. Octets for which the buffer has no room
     /// are lost.
     pub reads: Vec<(usize, ReadOutcome)>,
-    /// How many octets are taken, if so many are offered.
+    /// The number of octets that each write takes, if as many are offered.
     pub writes: VecDeque<Result<usize, WireFault>>,
     pub shuts: VecDeque<Result<(), WireFault>>,
 }

@@ -181,8 +181,8 @@ impl SocketWires {
             .register(&mut SourceFd(&descriptor), OTHERS, Interest::READABLE)
     }
 
-    /// Rests together with other wires, which it watches: until something may be done on one of the
-    /// two. That the others fail is no failure of its own.
+    /// Rests until something may be done on these wires or on others, which it watches too. A
+    /// failure of the others is none of its own.
     pub fn rest_with(
         &mut self,
         others: &mut Self,

@@ -54,7 +54,7 @@ impl<T> Model for Turner<T> {
 }
 
 impl<T: Tables> Turner<T> {
-    /// Over a server that has opened nothing. No connection is held.
+    /// Creates a turner of a server that has opened no connection. It holds none.
     pub fn new(alloc: Global, server: Server<T>) -> Self
         requires { IsTrue (is_above server.newest 0) }
         ensures server { result.server ≡ server }
@@ -158,7 +158,7 @@ impl<T: Tables> Turner<T> {
         }
     }
 
-    /// How many rows of a kind the institution of a name has. A fault stops the turner.
+    /// Counts the rows of a kind that the institution of a name has. A fault stops the turner.
     pub fn count(&mut self, kind: Kind, name: &[u8]) -> Result<u64, Fault>
         ensures found { (T.state self.new.server.tables).honest → IfOk result (λ number.
             number ≡ length (rows_of kind name.now (T.state self.old.server.tables).rows)) }
@@ -242,11 +242,11 @@ impl<T: Tables> Turner<T> {
     }
 }
 
-/// So many turns of all connections. In a turn a connection is accepted where there is room, and
-/// then each that is held has its turn, by rising number: unsent octets are written; one that a
-/// reply closed is given up when all is written; from any other is read, and what came is stepped;
-/// where nothing came and a C-FIND is open the next page of its answers is pulled. A fault stops the
-/// turner, and is answered from then on.
+/// Makes so many turns of all connections. In a turn a connection is accepted where there is room,
+/// and  then each that is held has its turn, by rising number: unsent octets are written; one that
+/// a reply closed is given up when all is written; from any other is read, and what came is
+/// stepped; where nothing came and a C-FIND is open the next page of its answers is pulled. A fault
+/// stops the turner, and is answered from then on.
 pub fn turn_all<T: Tables, W: Wires>(
     turner: &mut Turner<T>,
     wires: &mut W,

@@ -19,7 +19,7 @@ pub enum Refusal {
 impl Refusal {
     ghost use Rattle.dq_worklist.specs.Orders.{refusal_number};
 
-    /// 1 to 5, in the order in which the refusals are declared.
+    /// Returns the number of the refusal, 1 to 5, in the order in which the refusals are declared.
     pub fn number(self) -> u16
         ensures { result ≡ refusal_number self }
     {

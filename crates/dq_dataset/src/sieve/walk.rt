@@ -42,7 +42,8 @@ pub enum Place {
 /// A value of which not all octets have come.
 #[derive(Drop)]
 pub struct Walk {
-    /// How many octets of the outermost defined length are left, with those of a header that came.
+    /// The number of octets that are left of the outermost defined length, with those of a header
+    /// that came.
     pub left: usize,
     /// The innermost place that is open.
     pub place: Place,

@@ -1,6 +1,6 @@
 //! What limits how many changes are made.
 
-/// How many more changes are made, and whether one more than those was asked for.
+/// The number of changes that are still made, and whether one more was asked for.
 #[derive(Debug, Clone, Copy, PartialEq, Eq)]
 pub struct Fuse {
     pub left: u64,

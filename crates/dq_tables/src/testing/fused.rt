@@ -44,7 +44,7 @@ impl<T: Tables> Fused<T> {
         }
     }
 
-    /// How many changes it will still make, and whether it answers `Store` to each call.
+    /// Returns how many changes it will still make, and whether it answers `Store` to each call.
     pub fn fuse(&self) -> Fuse
         ensures { result ≡ self.now.fuse }
     {
