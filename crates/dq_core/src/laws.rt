@@ -507,7 +507,7 @@ pub fn services_keep_rows_sound()
 }
 
 /// The server keeps rows sound, whatever octets it is sent. They stay sound, and hold data sets,
-/// after a  message and after an order, after the first operations of an event, after a history and
+/// after a message and after an order, after the first operations of an event, after a history and
 /// within it, and so after a run that a fault ends. At first there are no rows, which are sound, as
 /// are all sound rows of octets.
 pub fn rows_stay_sound()

@@ -222,7 +222,7 @@ impl<T: Tables> Server<T> {
     }
 
     /// Counts the rows of a kind that the institution of a name has. This is no event, and changes
-    /// nothing.  After a fault, of a step or of a count, every count is answered Stopped.
+    /// nothing. After a fault, of a step or of a count, every count is answered Stopped.
     pub fn count(&mut self, kind: Kind, name: &[u8]) -> Result<u64, Fault>
         ensures found { (T.state self.new.tables).honest → IfOk result (λ number.
             number ≡ length (rows_of kind name.now (T.state self.old.tables).rows)) }
