@@ -396,7 +396,7 @@ impl<W: Wires + Drop> Desk<W> {
     }
 
     /// Makes one turn. A caller is let in where there is room. Then each that is there has its
-    /// turn: what  is not written of its answer is offered, or else a line is taken and answered,
+    /// turn: what is not written of its answer is offered, or else a line is taken and answered,
     /// if one has come whole, or else is read. Nothing is asked of other connections. What fails of
     /// a caller, or of the wires, ends that caller alone: only a fault of the server, or want of
     /// memory for an answer, ends more.

@@ -84,7 +84,7 @@ fn unmigrated(fault: MigrateFault) -> Unkept {
 }
 
 /// Opens a connection to the files at a path, which are made where they are not there. `S` stands
-/// for what  they hold, and for how a crash is read.
+/// for what they hold, and for how a crash is read.
 pub fn opened<S: Start>(
     rt: &HostRuntime,
     path: &str,

@@ -15,7 +15,7 @@ use sqlite::{Alter, Connection};
 use std::alloc::Global;
 
 impl<S: Alter + Drop> SqlTables<S> {
-    /// Creates tables without rows over an empty store. One transaction makes what they need.  A
+    /// Creates tables without rows over an empty store. One transaction makes what they need. A
     /// crash then leaves no rows.
     ///
     /// It answers `Store` where the store has a table or an index already, where a transaction is

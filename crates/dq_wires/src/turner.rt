@@ -243,7 +243,7 @@ impl<T: Tables> Turner<T> {
 }
 
 /// Makes so many turns of all connections. In a turn a connection is accepted where there is room,
-/// and  then each that is held has its turn, by rising number: unsent octets are written; one that
+/// and then each that is held has its turn, by rising number: unsent octets are written; one that
 /// a reply closed is given up when all is written; from any other is read, and what came is
 /// stepped; where nothing came and a C-FIND is open the next page of its answers is pulled. A fault
 /// stops the turner, and is answered from then on.
