@@ -41,9 +41,17 @@ limiting_app = with_rule
     (with_rule (with_rule listening_app (value_rule (codes "artim"))) (value_rule (codes "quiet")))
     (value_rule (codes "peer-connections"))
 
+-- with those of the web front
+abbrev pub web_app : App
+web_app = with_rule
+    (with_rule (with_rule (with_rule limiting_app (value_rule (codes "web")))
+    (value_rule (codes "web-keys")))
+    (value_rule (codes "web-listen")))
+    (value_rule (codes "web-host"))
+
 abbrev pub serve_app : App
 serve_app = with_rule
-    (with_rule (with_rule limiting_app (value_rule (codes "console")))
+    (with_rule (with_rule web_app (value_rule (codes "console")))
     (value_rule (codes "log-file")))
     (flag_rule (codes "log"))
 

@@ -16,6 +16,7 @@ use Rattle.dq_words.specs.declared.words.Keeper.TheVariants as keeper
 use Rattle.dq_words.specs.declared.words.Migration.{Migration}
 use Rattle.dq_words.specs.declared.words.Service.{Service}
 use Rattle.dq_words.specs.declared.words.Task.{Task}
+use Rattle.dq_words.specs.declared.words.Web.{Web}
 
 -- the program's own name, with which a command line begins
 abbrev pub program_name : List ℕ
@@ -37,11 +38,19 @@ pub record Request : Type 0 where
   pub config : Option (List ℕ)
   pub place : RowsPlace
 
+-- Where requests of the web front come in: a port of an address; the host that a proxy before it is
+-- called by, if one is named; and the file of its keys.
+pub record WebFront : Type 0 where
+  pub port : ℕ
+  pub address : List ℕ
+  pub host : Option (List ℕ)
+  pub keys : List ℕ
+
 -- The port and the address where connections come in; for how many seconds ARTIM runs (PS3.8 section
 -- 9.1.5), 0 for ever; after how many seconds of silence a connection counts as ended, if it does; how
 -- many may come of one address, 0 any number; whether what becomes of them is logged, and the file of
--- the log if one is named; the path of the console, if there is one; after how many turns the service
--- ends, if it ends; and what it goes by.
+-- the log if one is named; the path of the console and the web front, if they are there; after how
+-- many turns the service ends, if it ends; and what it goes by.
 pub record Serving : Type 0 where
   pub port : ℕ
   pub address : List ℕ
@@ -51,6 +60,7 @@ pub record Serving : Type 0 where
   pub is_logged : Bool
   pub log_file : Option (List ℕ)
   pub console : Option (List ℕ)
+  pub web : Option WebFront
   pub turns : Option ℕ
   pub config : Option (List ℕ)
   pub place : RowsPlace
@@ -143,10 +153,42 @@ subcommand_request subcommand = option_map (λ place. record {
   place = place;
 }) (place_named subcommand)
 
+-- The web front that the options name: its port and its keys, or neither, and then no more of it. None
+-- where they go not together, or the port is none.
+abbrev pub web_by_options : Option (List ℕ) → Option (List ℕ) → Option (List ℕ) → Option (List ℕ)
+    → Option (Option WebFront)
+web_by_options (Some port) (Some keys) address host = option_map (λ number. Some (record {
+  port = number;
+  address = unwrap_or address loopback_address;
+  host = host;
+  keys = keys;
+})) (port_told port)
+web_by_options (Some port) None address host = None
+web_by_options None (Some keys) address host = None
+web_by_options None None None None = Some None
+web_by_options None None (Some address) host = None
+web_by_options None None None (Some host) = None
+
+abbrev pub web_named : Option (Text × List Row) → Option (Option WebFront)
+web_named subcommand = web_by_options (value_in (codes "web") subcommand)
+    (value_in (codes "web-keys") subcommand) (value_in (codes "web-listen") subcommand)
+    (value_in (codes "web-host") subcommand)
+
+-- The file by which callers come in that are no associations: the path of the console, or the keys of the
+-- web front.
+abbrev pub callers_at : Option (List ℕ) → Option WebFront → Option (List ℕ)
+callers_at (Some path) web = Some path
+callers_at None (Some web) = Some web.keys
+callers_at None None = None
+
+abbrev pub callers_of : Serving → Option (List ℕ)
+callers_of serving = callers_at serving.console serving.web
+
 abbrev pub serving_of : Option (Text × List Row) → Option Serving
 serving_of subcommand =
     option_and_then (λ port. option_and_then (λ turns. option_and_then (λ quiet.
-    option_and_then (λ artim. option_and_then (λ peers. option_map (λ place. record {
+    option_and_then (λ artim. option_and_then (λ peers. option_and_then (λ web.
+    option_map (λ place. record {
       port = port;
       address = unwrap_or (value_in (codes "listen") subcommand) loopback_address;
       artim = unwrap_or artim artim_seconds;
@@ -155,10 +197,12 @@ serving_of subcommand =
       is_logged = is_given (codes "log") subcommand;
       log_file = value_in (codes "log-file") subcommand;
       console = value_in (codes "console") subcommand;
+      web = web;
       turns = turns;
       config = value_in (codes "config") subcommand;
       place = place;
     }) (place_named subcommand))
+    (web_named subcommand))
     (told_if_given number_told (value_in (codes "peer-connections") subcommand)))
     (told_if_given number_told (value_in (codes "artim") subcommand)))
     (told_if_given seconds_told (value_in (codes "quiet") subcommand)))
@@ -220,6 +264,14 @@ abbrev pub request_asked : Asked → Request
 request_asked asked =
     record { task = asked.task; config = option_copied asked.config; place = place_asked asked.keeper }
 
+abbrev pub web_front_in : Web → WebFront
+web_front_in web = record {
+  port = web.port;
+  address = web.address.now;
+  host = option_copied web.host;
+  keys = web.keys.now;
+}
+
 abbrev pub serving_in : Service → Serving
 serving_in service = record {
   port = service.port;
@@ -230,6 +282,7 @@ serving_in service = record {
   is_logged = service.is_logged;
   log_file = option_copied service.log_file;
   console = option_copied service.console;
+  web = option_map web_front_in service.web;
   turns = service.turns;
   config = option_copied service.config;
   place = place_asked service.keeper;

@@ -5,5 +5,5 @@ mod help;
 mod words;
 
 pub use words::{
-    Asked, Copying, Inspection, Job, Keeper, Migration, Service, Task, VERSION, line_of, parse,
+    Asked, Copying, Inspection, Job, Keeper, Migration, Service, Task, VERSION, Web, line_of, parse,
 };

@@ -4,8 +4,8 @@ ghost use Rattle.std.specs.Option.{option_copied};
 ghost use Rattle.std.specs.Result.{result_ok};
 ghost use Rattle.clap.specs.declared.builder.command.Command.TheViews.{out-Command as fields_of};
 ghost use Rattle.clap.specs.Words.{app_of, rule_of, kind_of, subcommand_rows_of};
-ghost use Rattle.dq_words.specs.Words.{line_of, place_named, place_asked, port_told, number_told, seconds_told, told_if_given, artim_seconds, no_peer_limit, request_asked, subcommand_request, serving_in, serving_of, migration_in, migration_of, checking_in, checking_of, duplicating_in, duplicating_of, errand_in, errand_of, errand_asked};
-ghost use Rattle.dq_words.specs.Clap.{value_rule, task_app, listening_app, limiting_app, serve_app, loopback_app, migrate_app, check_app, copy_app, tasks_app, serving_app, command, value_in, values_in, is_given, is_subcommand};
+ghost use Rattle.dq_words.specs.Words.{line_of, place_named, place_asked, port_told, number_told, seconds_told, told_if_given, artim_seconds, no_peer_limit, web_named, web_front_in, request_asked, subcommand_request, serving_in, serving_of, migration_in, migration_of, checking_in, checking_of, duplicating_in, duplicating_of, errand_in, errand_of, errand_asked};
+ghost use Rattle.dq_words.specs.Clap.{value_rule, task_app, listening_app, limiting_app, web_app, serve_app, loopback_app, migrate_app, check_app, copy_app, tasks_app, serving_app, command, value_in, values_in, is_given, is_subcommand};
 
 use crate::help::{CAPTURES, STATUSES};
 use clap::error::ErrorKind;
@@ -71,12 +71,22 @@ pub struct Asked<'a> {
     pub keeper: Keeper<'a>,
 }
 
+/// Where requests of the web front come in: a port of an address; the host that a proxy before it is
+/// called by, if one is named; and the file of its keys.
+#[derive(Clone, Copy)]
+pub struct Web<'a> {
+    pub port: u16,
+    pub address: &'a str,
+    pub host: Option<&'a str>,
+    pub keys: &'a str,
+}
+
 /// What `serve` is asked for: the port and the address where connections come in; for how many
 /// seconds ARTIM runs (PS3.8 section 9.1.5), 0 for ever; after how many seconds of silence a
 /// connection counts as ended, if it does; how many may come of one address, 0 any number; whether
-/// what becomes of them is logged, and the file of the log if one is named; the path of the console,
-/// if there is one; after how many turns the service ends, if it ends; the configuration's file if
-/// one is named, and where the rows are kept.
+/// what becomes of them is logged, and the file of the log if one is named; the path of the console
+/// and the web front, if they are there; after how many turns the service ends, if it ends; the
+/// configuration's file if one is named, and where the rows are kept.
 #[derive(Clone, Copy)]
 pub struct Service<'a> {
     pub port: u16,
@@ -87,6 +97,7 @@ pub struct Service<'a> {
     pub is_logged: bool,
     pub log_file: Option<&'a str>,
     pub console: Option<&'a str>,
+    pub web: Option<Web<'a>>,
     pub turns: Option<u32>,
     pub config: Option<&'a str>,
     pub keeper: Keeper<'a>,
@@ -151,6 +162,8 @@ enum Misuse {
     NoFile,
     /// The configuration that is to be checked is not named.
     NoConfig,
+    /// The port of the web front is none, or only one of its port and its keys is named.
+    NoWeb,
 }
 
 /// The whole command line: the program's own name, and the words.
@@ -294,6 +307,31 @@ fn quiet_in(matches: &ArgMatches) -> Result<Option<u32>, Misuse>
     }
 }
 
+/// The web front that the options name.
+fn web_in<'a>(matches: &ArgMatches<'a>) -> Result<Option<Web<'a>>, Misuse>
+    ensures { option_map (option_map web_front_in) (result_ok result)
+        ≡ web_named (subcommand_rows_of matches.now) }
+{
+    let address = value_in(matches, "web-listen");
+    let host = value_in(matches, "web-host");
+    match (value_in(matches, "web"), value_in(matches, "web-keys")) {
+        (Some(text), Some(keys)) => match port_told(text) {
+            Some(port) => Ok(Some(Web {
+                port,
+                address: address.unwrap_or(LOOPBACK_ADDRESS),
+                host,
+                keys,
+            })),
+            None => Err(Misuse::NoWeb),
+        },
+        (None, None) => match (address, host) {
+            (None, None) => Ok(None),
+            _ => Err(Misuse::NoWeb),
+        },
+        _ => Err(Misuse::NoWeb),
+    }
+}
+
 /// What is asked for of a capture.
 fn asked_in<'a>(matches: &ArgMatches<'a>) -> Result<Asked<'a>, Misuse>
     ensures { option_map request_asked (result_ok result)
@@ -322,6 +360,7 @@ fn service_in<'a>(matches: &ArgMatches<'a>) -> Result<Service<'a>, Misuse>
     let quiet = quiet_in(matches)?;
     let artim = number_in(matches, "artim", Misuse::NoArtim)?;
     let peers = number_in(matches, "peer-connections", Misuse::NoPeers)?;
+    let web = web_in(matches)?;
     let keeper = keeper_in(matches)?;
     Ok(Service {
         port,
@@ -332,6 +371,7 @@ fn service_in<'a>(matches: &ArgMatches<'a>) -> Result<Service<'a>, Misuse>
         is_logged: is_given(matches, "log"),
         log_file: value_in(matches, "log-file"),
         console: value_in(matches, "console"),
+        web,
         turns,
         config: value_in(matches, "config"),
         keeper,
@@ -497,12 +537,49 @@ fn limiting_command<'a>(alloc: Global) -> Result<Command<'a>, AllocError>
     Ok(limiting)
 }
 
+/// The subcommand that serves, with the options of the web front.
+fn web_command<'a>(alloc: Global) -> Result<Command<'a>, AllocError>
+    ensures app { IfOk result (λ built. app_of built ≡ web_app) }
+    ensures local { IfOk result (λ built. (fields_of built).has_globals ≡ false) }
+{
+    let limiting = limiting_command(alloc)?;
+    let web = value_option(
+        alloc,
+        "web",
+        "PORT",
+        "The port of a page, of searches over HTTP and of metrics [default: there are none]",
+    );
+    let begun = limiting.arg(web)?;
+    let keys = value_option(
+        alloc,
+        "web-keys",
+        "FILE",
+        "The keys of their readers: an institution's name and a SHA-256 a line",
+    );
+    let keyed = begun.arg(keys)?;
+    let listen = value_option(
+        alloc,
+        "web-listen",
+        "ADDRESS",
+        "The address of that port [default: 127.0.0.1]",
+    );
+    let listening = keyed.arg(listen)?;
+    let host = value_option(
+        alloc,
+        "web-host",
+        "HOST",
+        "The host that a proxy before it is called by",
+    );
+    let fronted = listening.arg(host)?;
+    Ok(fronted)
+}
+
 /// The subcommand that serves.
 fn serve_command<'a>(alloc: Global) -> Result<Command<'a>, AllocError>
     ensures app { IfOk result (λ built. app_of built ≡ serve_app) }
     ensures local { IfOk result (λ built. (fields_of built).has_globals ≡ false) }
 {
-    let command = limiting_command(alloc)?;
+    let command = web_command(alloc)?;
     let console = value_option(
         alloc,
         "console",
@@ -702,6 +779,10 @@ fn reproach(misuse: Misuse) -> (ErrorKind, &'static str) {
         Misuse::NoConfig => (
             ErrorKind::MissingRequiredArgument,
             "the argument '--config <FILE>' is required",
+        ),
+        Misuse::NoWeb => (
+            ErrorKind::ValueValidation,
+            "the arguments '--web <PORT>', from 1 to 65535, and '--web-keys <FILE>' go together",
         ),
     }
 }
