@@ -46,6 +46,7 @@ module _ (institutions : List Institution) (rows : List Row) (events : List Even
   cuts-given before after stop.Usage are cut = cut
   cuts-given before after (stop.Config number) are cut = cut
   cuts-given before after (stop.Unfit misfit) are cut = cut
+  cuts-given before after (stop.Keys line) are cut = cut
   cuts-given before after (stop.Capture number) are cut = cut
   cuts-given before after (stop.Store number) are cut = cut
   cuts-given before after stop.Network are cut = cut

@@ -126,6 +126,7 @@ console-cause breaks (stop.Fault number) is = is
 console-cause breaks stop.Usage is = is
 console-cause breaks (stop.Config number) is = is
 console-cause breaks (stop.Unfit misfit) is = is
+console-cause breaks (stop.Keys line) is = is
 console-cause breaks (stop.Capture number) is = is
 console-cause breaks (stop.Store number) is = is
 console-cause breaks stop.Output is = is

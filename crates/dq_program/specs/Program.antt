@@ -80,6 +80,7 @@ stop_of_turning turning.Network = stop.Network
 
 abbrev pub stop_of_listening : Unheard → Stop
 stop_of_listening unheard.Failed = stop.Network
+stop_of_listening (unheard.Keys line) = stop.Keys line
 stop_of_listening unheard.NoMemory = stop.Fault no_memory
 
 -- exit statuses
@@ -87,6 +88,7 @@ abbrev pub status_of : Stop → ℕ
 status_of stop.Usage = 1
 status_of (stop.Config number) = 2
 status_of (stop.Unfit misfit) = 2
+status_of (stop.Keys line) = 2
 status_of (stop.Capture number) = 3
 status_of (stop.Store number) = 4
 status_of (stop.Fault number) = 4
@@ -120,6 +122,7 @@ abbrev pub stop_text : Stop → List ℕ
 stop_text stop.Usage = []
 stop_text (stop.Config number) = numbered_line (codes "config ") number
 stop_text (stop.Unfit misfit) = misfit_text misfit
+stop_text (stop.Keys line) = numbered_line (codes "keys line ") line
 stop_text (stop.Capture number) = numbered_line (codes "capture line ") number
 stop_text (stop.Store number) = numbered_line (codes "store ") number
 stop_text (stop.Fault number) = numbered_line (codes "fault ") number

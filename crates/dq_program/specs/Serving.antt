@@ -16,7 +16,7 @@ use Rattle.dq_wires.specs.Turns.{Turn, Cut, IsCut, cut_calls}
 use Rattle.dq_wires.specs.Turns.Cut.{NoRoom, Unaccepted}
 use Rattle.dq_wires.specs.Turners.{Turning}
 use Rattle.dq_wires.specs.Servings.{Act, act_calls, nothing_held, AreActs, after_acts, served_steps, served_events, Serving}
-use Rattle.dq_words.specs.Words.{Serving as Service}
+use Rattle.dq_words.specs.Words.{callers_of, Serving as Service}
 use Rattle.dq_wires.specs.Servings.Act.{Turned}
 use Rattle.dq_program.specs.declared.stop.Stop.{Stop}
 use Rattle.dq_program.specs.declared.stop.Stop.TheVariants as stop
@@ -140,9 +140,11 @@ HasCause breaks cut (stop.Fault number) = IsServiceFault number
 HasCause breaks cut stop.Network = breaks ⊎ (cut ≡ Unaccepted)
 HasCause breaks cut other = ⊥
 
--- Why nobody is listened for: want of memory, or the network broke.
+-- Why nobody is listened for: want of memory, the keys of the web front are refused, or the network
+-- broke.
 abbrev pub IsUnheard : Type 0 → Stop → Type 0
 IsUnheard breaks (stop.Fault number) = number ≡ no_memory
+IsUnheard breaks (stop.Keys line) = Unit {0}
 IsUnheard breaks stop.Network = breaks
 IsUnheard breaks other = ⊥
 
@@ -201,14 +203,15 @@ pub record ServedUpTo {Wired : Type 0} (log : Wired → Option (List Call)) (bre
   pub served : AreServed log institutions rows (rounds_acts rounds ++ halt_acts halt) (halt_cut halt)
   pub consoled : HasConsoleTo log console rounds halt
 
--- How a service ends early: for want of memory, or because nobody can come in, before it was ready;
--- for a cause after it was, and what went before is so; because the output fails, after some octets
+-- How a service ends early: for want of memory, for the keys of its web front, or because nobody can
+-- come in, before it was ready; for a cause after it was, and what went before is so; because the output fails, after some octets
 -- of its line; or by a store that is not closed, after all its turns.
 module _ (breaks may_fail : Type 0) (before after : Option (List ℕ)) (port : ℕ)
     (IsSo : Stop → Type 0) where
   abbrev pub EndsService : Stop → Type 0
   EndsService (stop.Fault number) = (Keeps before after × (number ≡ no_memory))
       ⊎ (Appends before after (ready_text port) × IsServiceFault number × IsSo (stop.Fault number))
+  EndsService (stop.Keys line) = Keeps before after
   EndsService stop.Network = (Keeps before after × breaks)
       ⊎ (Appends before after (ready_text port) × IsSo stop.Network)
   EndsService stop.Output = BreaksOff may_fail before after (ready_text port)
@@ -225,7 +228,7 @@ module _ {Wired : Type 0} (log : Wired → Option (List Call))
   IsServed closed = Appends before after (ready_text serving.port)
       × ((institutions : List Institution) × IsConfigured held serving.config institutions
       × IfSome (rows_at stored serving.place) (λ rows.
-      Served log institutions rows (turn_count serving.turns) serving.console))
+      Served log institutions rows (turn_count serving.turns) (callers_of serving)))
       × ClosesAt serving.place closed (λ _. Unit {0})
 
   -- What a service stops by: a refused configuration or store, where nothing was printed, or an
@@ -237,4 +240,4 @@ module _ {Wired : Type 0} (log : Wired → Option (List Call))
       × ((Keeps before after × RefusesStore cause)
       ⊎ EndsService breaks may_fail before after serving.port (λ why.
       IfSome (rows_at stored serving.place) (λ rows. ServedUpTo log breaks institutions rows
-      (turn_count serving.turns) serving.console why)) cause))
+      (turn_count serving.turns) (callers_of serving) why)) cause))

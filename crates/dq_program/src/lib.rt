@@ -11,7 +11,6 @@ mod checking;
 mod copying;
 mod desk;
 pub mod laws;
-mod logged_sockets;
 mod looping;
 mod migrating;
 mod network;
@@ -20,6 +19,7 @@ mod program;
 mod reading;
 mod reporting;
 mod searching;
+mod server_sockets;
 mod serving;
 mod stop;
 mod stores;
@@ -27,6 +27,6 @@ mod stores;
 pub use dq_captures::{
     CaptureFault, Folder, Host, PrintFault, Sink, Source, Unread, print_replies, read_capture,
 };
-pub use network::{Listening, Logging, Network, Unheard};
+pub use network::{Entrance, Listening, Logging, Network, Unheard};
 pub use program::{perform, unworded};
 pub use stores::{Stores, Unclosed, Uncopied, Unkept};

@@ -1,24 +1,32 @@
 //! Where connections come in.
 ghost use Rattle.std.specs.Prelude.{◌≡◌, [], IfOk, IfSome, IsErrOf, OnErr};
 
-use crate::logged_sockets::LoggedSockets;
+use crate::server_sockets::{AssociationSockets, CallerSockets, Counted, ServerSockets};
 use dq_captures::Host;
+use dq_config::Institution;
+use dq_front::{Front, Site};
+use dq_list::Listed;
 use dq_tables::Tables;
+use dq_web::{Guard, Keys, KeysFault};
 use dq_wires::{AssociationLog, Called, Limits, LogEnd, LoggedWires, SocketWires, Turner};
-use dq_words::VERSION;
+use dq_words::{VERSION, Web};
 use std::alloc::{AllocError, Global};
+use std::fs;
 use std::io;
 use std::net::{IpAddr, SocketAddr};
 use std::time::Duration;
 
-/// A caller of the console that says nothing for so many seconds is let go.
-const CONSOLE_QUIET: u64 = 60;
+/// A caller of the console or of the web front that says nothing for so many seconds is let go.
+const CALLER_QUIET: u64 = 60;
 
 /// The reason why no connection can come in.
 #[derive(Clone, Copy, Debug, PartialEq, Eq)]
 pub enum Unheard {
     /// The address is none, or the port or the path cannot be had, or the log's file.
     Failed,
+    /// A line of the keys of the web front is bad. 0 stands for a file that cannot be read, is no text,
+    /// or has no key.
+    Keys(u64),
     NoMemory,
 }
 
@@ -48,6 +56,27 @@ pub struct Listening<'a> {
     pub log: Option<Logging<'a>>,
 }
 
+impl From<KeysFault> for Unheard {
+    ghost use Rattle.std.specs.Prelude.{Unit};
+
+    ghost from_gives = { λ _ _. Unit {0} };
+
+    fn from(fault: KeysFault) -> Unheard {
+        match fault {
+            KeysFault::Line(line) => Unheard::Keys(line),
+            KeysFault::NoMemory => Unheard::NoMemory,
+        }
+    }
+}
+
+/// Where callers come in that are no associations: at the path of the console, and by the web front, as
+/// far as they are there.
+#[derive(Clone, Copy)]
+pub struct Entrance<'a> {
+    pub console: Option<&'a str>,
+    pub web: Option<Web<'a>>,
+}
+
 /// What listens for connections.
 pub trait Network {
     /// The wires over which they come.
@@ -62,12 +91,13 @@ pub trait Network {
             IfSome (Self.Wired.log wires) (λ calls. calls ≡ [])) }
         ensures failed { IsErrOf result Unheard.Failed → may_break self.now };
 
-    /// Listens at a path of the machine itself, beside other wires: who rests over both is woken by
-    /// either. The new wires were not called.
+    /// Listens for callers, beside other wires: who rests over both is woken by either. The web front is
+    /// one of these institutions. The new wires were not called.
     fn listen_beside(
         &self,
         alloc: Global,
-        path: &str,
+        entrance: Entrance<'_>,
+        institutions: &[Institution],
         wires: &mut Self::Wired,
     ) -> Result<Self::Wired, Unheard>
         ensures beside { IfOk result (λ wires.
@@ -149,23 +179,73 @@ fn log_of(
     }
 }
 
+// Has those who say nothing let go.
+fn let_go_quiet(wires: &mut SocketWires) {
+    wires.set_limits(Limits {
+        artim: None,
+        quiet: Some(Duration::from_secs(CALLER_QUIET)),
+        peer_connections: None,
+    });
+}
+
 // The sockets of the console.
 fn console_at(alloc: Global, rt: &HostRuntime, path: &str) -> Result<SocketWires, Unheard> {
     match SocketWires::listen_at(alloc, rt, path) {
         Ok(mut wires) => {
-            wires.set_limits(Limits {
-                artim: None,
-                quiet: Some(Duration::from_secs(CONSOLE_QUIET)),
-                peer_connections: None,
-            });
+            let_go_quiet(&mut wires);
             Ok(wires)
         }
         Err(error) => Err(why_unheard(&error)),
     }
 }
 
+// The keys of a file.
+fn keys_of(alloc: Global, rt: &HostRuntime, path: &str) -> Result<Keys, Unheard> {
+    let octets = match fs::read(rt, path) {
+        Ok(octets) => octets,
+        Err(error) if error.kind() == io::ErrorKind::OutOfMemory => return Err(Unheard::NoMemory),
+        Err(_) => return Err(Unheard::Keys(0)),
+    };
+    let Ok(text) = str::from_utf8(octets.as_slice()) else {
+        return Err(Unheard::Keys(0));
+    };
+    match Keys::read(alloc, text) {
+        Ok(keys) => Ok(keys),
+        Err(fault) => Err(Unheard::from(fault)),
+    }
+}
+
+// The web front of institutions.
+fn front_at(
+    alloc: Global,
+    rt: &HostRuntime,
+    web: Web<'_>,
+    institutions: &[Institution],
+) -> Result<Front<SocketWires>, Unheard> {
+    let keys = keys_of(alloc, rt, web.keys)?;
+    let host = match web.host {
+        Some(host) => Some(Listed::copy_of(alloc, host.as_bytes())?),
+        None => None,
+    };
+    let site = Site::new(alloc, Guard { keys, host }, institutions)?;
+    let Ok(address) = web.address.parse::<IpAddr>() else {
+        return Err(Unheard::Failed);
+    };
+    let mut wires = sockets_at(alloc, rt, address, web.port)?;
+    let_go_quiet(&mut wires);
+    Ok(Front::new(rt, wires, site)?)
+}
+
+// Has a rest over sockets end where something may be done on others.
+fn watch(sockets: &mut AssociationSockets, others: &SocketWires) -> Result<(), Unheard> {
+    match sockets.logged.wires.watch(others) {
+        Ok(()) => Ok(()),
+        Err(error) => Err(why_unheard(&error)),
+    }
+}
+
 impl<H: Host> Network for H {
-    type Wired = LoggedSockets;
+    type Wired = ServerSockets;
 
     ghost may_break = { λ _. Unit {0} };
 
@@ -179,28 +259,46 @@ impl<H: Host> Network for H {
             Some(logging) => Some(log_of(alloc, self.runtime(), logging)?),
             None => None,
         };
-        Ok(LoggedSockets(LoggedWires { wires, log }))
+        Ok(ServerSockets::Associations(AssociationSockets {
+            logged: LoggedWires { wires, log },
+            counted: None,
+        }))
     }
 
     fn listen_beside(
         &self,
         alloc: Global,
-        path: &str,
+        entrance: Entrance<'_>,
+        institutions: &[Institution],
         wires: &mut Self::Wired,
     ) -> Result<Self::Wired, Unheard> {
-        let beside = console_at(alloc, self.runtime(), path)?;
-        match wires.0.wires.watch(&beside) {
-            Ok(()) => Ok(LoggedSockets(LoggedWires {
-                wires: beside,
-                log: None,
-            })),
-            Err(error) => Err(why_unheard(&error)),
+        let ServerSockets::Associations(sockets) = wires else {
+            return Err(Unheard::Failed);
+        };
+        let console = match entrance.console {
+            Some(path) => Some(console_at(alloc, self.runtime(), path)?),
+            None => None,
+        };
+        if let Some(console) = &console {
+            watch(sockets, console)?;
         }
+        let front = match entrance.web {
+            Some(web) => Some(front_at(alloc, self.runtime(), web, institutions)?),
+            None => None,
+        };
+        if let Some(front) = &front {
+            watch(sockets, &front.wires)?;
+            sockets.counted = Some(Counted::new(alloc));
+        }
+        Ok(ServerSockets::Callers(CallerSockets::new(console, front)))
     }
 
     fn rest(&self, wires: &mut Self::Wired, most: Duration) -> io::Result<()> {
-        let rested = wires.0.wires.rest(self.runtime(), most);
-        wires.0.read_clock(self.runtime());
+        let ServerSockets::Associations(sockets) = wires else {
+            return Ok(());
+        };
+        let rested = sockets.logged.wires.rest(self.runtime(), most);
+        sockets.logged.read_clock(self.runtime());
         rested
     }
 
@@ -210,29 +308,41 @@ impl<H: Host> Network for H {
         beside: &mut Self::Wired,
         most: Duration,
     ) -> io::Result<()> {
-        let rested = wires
-            .0
-            .wires
-            .rest_with(&mut beside.0.wires, self.runtime(), most);
-        wires.0.read_clock(self.runtime());
-        rested
+        let ServerSockets::Associations(sockets) = wires else {
+            return Ok(());
+        };
+        let ServerSockets::Callers(callers) = beside else {
+            return Ok(());
+        };
+        callers.attend(sockets, self.runtime());
+        let most = if callers.is_busy() { Duration::ZERO } else { most };
+        callers.begin_turn();
+        let rested = sockets.logged.wires.rest_beside(self.runtime(), most);
+        sockets.logged.read_clock(self.runtime());
+        callers.look(self.runtime(), rested?)?;
+        callers.attend(sockets, self.runtime());
+        Ok(())
     }
 
     fn tell<T: Tables>(&self, wires: &mut Self::Wired, turner: &mut Turner<T>) {
-        if let Some(log) = &mut wires.0.log {
-            log.tell(&turner.take_notes(), self.runtime());
+        if let ServerSockets::Associations(sockets) = wires {
+            sockets.tell(turner, self.runtime());
         }
     }
 
     fn note(&self, wires: &mut Self::Wired, notes: &str) {
-        if let Some(log) = &mut wires.0.log {
-            log.note(notes);
+        if let ServerSockets::Associations(sockets) = wires {
+            if let Some(log) = &mut sockets.logged.log {
+                log.note(notes);
+            }
         }
     }
 
     fn note_stop(&self, wires: &mut Self::Wired, fault: Option<u8>) {
-        if let Some(log) = &mut wires.0.log {
-            log.stop(fault);
+        if let ServerSockets::Associations(sockets) = wires {
+            if let Some(log) = &mut sockets.logged.log {
+                log.stop(fault);
+            }
         }
     }
 }

@@ -6,7 +6,7 @@ ghost use Rattle.dq_config.specs.declared.config.Institution.{Institution};
 ghost use Rattle.dq_core.specs.Standing.{StandsFor};
 ghost use Rattle.dq_wires.specs.Stepping.{Moves, Fails};
 ghost use Rattle.dq_wires.specs.Turns.{TurnsWent, TurnsCut};
-ghost use Rattle.dq_words.specs.Words.{place_asked, serving_in};
+ghost use Rattle.dq_words.specs.Words.{place_asked, callers_of, serving_in};
 ghost use Rattle.dq_captures.specs.Surroundings.{BreaksOff};
 ghost use Rattle.dq_program.specs.Program.{AreHonest, IsConfigured, rows_at, ClosesAt};
 ghost use Rattle.dq_program.specs.Rounds.{RoundsWent, RoundsCut, Beside, BesideCut};
@@ -14,7 +14,7 @@ ghost use Rattle.dq_program.specs.Serving.{ready_text, turn_count, IsUncalled, A
 
 use crate::backup::{Backups, OfFiles, OfMemory};
 use crate::desk::Desk;
-use crate::network::{Listening, Logging, Network};
+use crate::network::{Entrance, Listening, Logging, Network};
 use crate::reading::configured;
 use crate::reporting::names_of;
 use crate::stop::Stop;
@@ -36,11 +36,22 @@ struct Reception<W> {
     desk: Desk<W>,
 }
 
-/// The console at a path, beside other wires.
+/// The file by which callers come in that are no associations, if they do.
+fn callers_at<'a>(service: Service<'a>) -> Option<&'a str>
+    ensures { option_copied result ≡ callers_of (serving_in service.entry) }
+{
+    match (service.console, service.web) {
+        (Some(path), _) => Some(path),
+        (None, Some(web)) => Some(web.keys),
+        (None, None) => None,
+    }
+}
+
+/// The desk of the callers of a service, beside its wires.
 fn desk_beside<N: Network>(
     alloc: Global,
     network: &N,
-    path: &str,
+    service: Service<'_>,
     institutions: &[Institution],
     wires: &mut N::Wired,
 ) -> Result<Desk<N::Wired>, Stop>
@@ -49,7 +60,11 @@ fn desk_beside<N: Network>(
     ensures callers { IfOk result (λ desk. desk.callers.items ≡ []) }
     ensures stops { IfErr result (IsUnheard (N.may_break network.now)) }
 {
-    let beside = network.listen_beside(alloc, path, wires)?;
+    let entrance = Entrance {
+        console: service.console,
+        web: service.web,
+    };
+    let beside = network.listen_beside(alloc, entrance, institutions, wires)?;
     Ok(Desk::new(alloc, beside, names_of(alloc, institutions)?)?)
 }
 
@@ -345,27 +360,27 @@ pub fn serve_by<N: AllocGlobal + Network, T: Tables + Drop, B: Backups<T>, W: Si
     ensures flushed { OnOk result (W.is_flushed output.new) }
     ensures served { AreHonest T.state → OnOk result (Served N.Wired.log server.institutions
         (T.state server.tables).rows (turn_count service.entry.turns)
-        (option_copied service.entry.console)) }
+        (callers_of (serving_in service.entry))) }
     ensures ends { IfErr result (EndsService (N.may_break network.now) (W.may_fail output.old)
         (W.written output.old) (W.written output.new) service.entry.port (λ stop.
         AreHonest T.state → ServedUpTo N.Wired.log (N.may_break network.now)
         server.institutions (T.state server.tables).rows (turn_count service.entry.turns)
-        (option_copied service.entry.console) stop)) }
+        (callers_of (serving_in service.entry)) stop)) }
 {
     calls_are_a_serving::<T>();
     servings_are_answered::<T>();
     let alloc = network.alloc();
     let pace = Pace::of(service.turns);
     let mut wires = listen(alloc, network, service)?;
-    match service.console {
+    match callers_at(service) {
         None => {
             put_ready(service.port, output)?;
             let mut turner = Turner::new(alloc, server);
             serve_alone(network, &mut turner, &mut wires, pace)?;
             Ok(turner.into_server().into_tables())
         }
-        Some(path) => {
-            let desk = desk_beside(alloc, network, path, server.institutions(), &mut wires)?;
+        Some(_) => {
+            let desk = desk_beside(alloc, network, service, server.institutions(), &mut wires)?;
             put_ready(service.port, output)?;
             let mut reception = Reception { wires, desk };
             let mut turner = Turner::new(alloc, server);
@@ -389,7 +404,7 @@ pub fn serve<Rt: AllocGlobal + Folder + Stores + Network, W: Sink>(
         × IsConfigured (Rt.held rt.now) (option_copied service.entry.config) institutions
         × IfSome (rows_at (Rt.stored rt.now) (place_asked service.entry.keeper)) (λ rows.
         Served Rt.Wired.log institutions rows (turn_count service.entry.turns)
-        (option_copied service.entry.console))) }
+        (callers_of (serving_in service.entry)))) }
     ensures closed { OnOk result (ClosesAt (place_asked service.entry.keeper) (Rt.closed rt.now)
         (λ _. Unit {0})) }
     ensures stops { IfErr result (StopsService Rt.Wired.log (Rt.held rt.now) (Rt.stored rt.now)

@@ -33,6 +33,9 @@ pub enum Stop {
     Config(u8),
     /// A refused configuration that is checked, which is told in words too.
     Unfit(Misfit),
+    /// A bad line of the keys of the web front. 0 stands for a file that cannot be read, is no text, or
+    /// has no key.
+    Keys(u64),
     /// A bad line of the capture. 0 stands for one that cannot be read, is too long, or is no text.
     Capture(u64),
     /// A refused store, with the number of what is wrong with it. 5 stands for one that all was done
@@ -147,6 +150,7 @@ impl From<Unheard> for Stop {
     fn from(unheard: Unheard) -> Stop {
         match unheard {
             Unheard::Failed => Stop::Network,
+            Unheard::Keys(line) => Stop::Keys(line),
             Unheard::NoMemory => Stop::from(AllocError),
         }
     }
@@ -225,7 +229,7 @@ impl Stop {
     {
         match self {
             Stop::Usage => 1,
-            Stop::Config(_) | Stop::Unfit(_) => 2,
+            Stop::Config(_) | Stop::Unfit(_) | Stop::Keys(_) => 2,
             Stop::Capture(_) => 3,
             Stop::Store(_) | Stop::Fault(_) | Stop::Output => 4,
             Stop::Network => 5,
@@ -242,6 +246,7 @@ impl Stop {
         match self {
             Stop::Config(number) => put_numbered("config ", u64::from(number), errors),
             Stop::Unfit(misfit) => put_misfit(misfit, errors),
+            Stop::Keys(line) => put_numbered("keys line ", line, errors),
             Stop::Capture(number) => put_numbered("capture line ", number, errors),
             Stop::Store(number) => put_numbered("store ", u64::from(number), errors),
             Stop::Fault(number) => put_numbered("fault ", u64::from(number), errors),

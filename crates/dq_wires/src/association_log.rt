@@ -32,6 +32,8 @@ use std::time::Clock;
 /// - `4 given up 192.0.2.7:40112 artim`, and the same with `quiet`: the peer's address, and why;
 /// - `- given up 192.0.2.7:40112 peer-connections`: it was closed as it came;
 /// - `- console schedule NORTH done`: an order of the console, and what was answered;
+/// - `- web GET NORTH /rs/studies 200 ms 3`: a request of the web front: its method, the institution,
+///   the path below that, the status of the response, and how many milliseconds it took;
 /// - `- stopped fault 2`, `- stopped network`: the server stops;
 /// - `- 3 lines are lost`: so many could not be written before this one.
 ///
@@ -158,6 +160,13 @@ impl<L: Write + Drop> AssociationLog<L> {
     pub fn note(&mut self, notes: &str) {
         for note in notes.lines() {
             self.put(None, LineContent::Console(note));
+        }
+    }
+
+    /// Tells notes of the web front, a line each.
+    pub fn note_web(&mut self, notes: &str) {
+        for note in notes.lines() {
+            self.put(None, LineContent::Web(note));
         }
     }
 

@@ -31,6 +31,8 @@ pub(crate) enum LineContent<'a> {
     GivenUp(GivenUp),
     /// An order of the console, and what was answered.
     Console(&'a str),
+    /// A request of the web front, and what was answered.
+    Web(&'a str),
     /// The server stops by a fault of a number, or for want of connections.
     Stopped(Option<u8>),
     /// So many lines could not be written.
@@ -264,6 +266,7 @@ impl fmt::Display for LogLine<'_> {
             LineContent::Started(version) => write!(f, "started {version}"),
             LineContent::GivenUp(given_up) => write!(f, "{given_up}"),
             LineContent::Console(note) => write!(f, "console {note}"),
+            LineContent::Web(note) => write!(f, "web {note}"),
             LineContent::Stopped(Some(fault)) => write!(f, "stopped fault {fault}"),
             LineContent::Stopped(None) => f.write_str("stopped network"),
             LineContent::Lost(count) => write!(f, "{count} lines are lost"),

@@ -121,8 +121,8 @@ impl SocketWires {
         self.look(clock, if is_busy { Duration::ZERO } else { most })
     }
 
-    // Nothing was done in the next turn yet.
-    fn begin_turn(&mut self) {
+    /// Begins a turn: nothing was done in it yet.
+    pub fn begin_turn(&mut self) {
         self.is_busy = false;
         self.reading = Reading {
             was_short: self.reading.is_short,
@@ -181,22 +181,27 @@ impl SocketWires {
             .register(&mut SourceFd(&descriptor), OTHERS, Interest::READABLE)
     }
 
-    /// Rests until something may be done on these wires or on others, which it watches too. A
-    /// failure of the others is none of its own.
-    pub fn rest_with(
-        &mut self,
-        others: &mut Self,
-        clock: &impl Clock,
-        most: Duration,
-    ) -> io::Result<()> {
-        let most = if others.is_busy { Duration::ZERO } else { most };
-        others.begin_turn();
+    /// Rests until something may be done on these wires or on those that they watch. The answer is
+    /// whether something may be done on those.
+    pub fn rest_beside(&mut self, clock: &impl Clock, most: Duration) -> io::Result<bool> {
         self.rest(clock, most)?;
-        if self.is_called_beside || !others.is_fresh(Instant::now(clock)?) {
-            self.is_called_beside = false;
-            let _ = others.look(clock, Duration::ZERO);
+        let is_called = self.is_called_beside;
+        self.is_called_beside = false;
+        Ok(is_called)
+    }
+
+    /// Looks what may be done, after others that watch these wires rested: where they were called, or
+    /// these were not asked lately. A failure is none of the others'.
+    pub fn look_beside(&mut self, clock: &impl Clock, is_called: bool) -> io::Result<()> {
+        if is_called || !self.is_fresh(Instant::now(clock)?) {
+            let _ = self.look(clock, Duration::ZERO);
         }
         Ok(())
+    }
+
+    /// Whether calls did something in this turn.
+    pub fn is_busy(&self) -> bool {
+        self.is_busy
     }
 
     // Whether reads have taken long since the first one after a rest.

@@ -25,6 +25,8 @@ store, migrate and copy neither a capture nor a configuration):
   2  config 0         the configuration cannot be read, or is no text
   2  config 1 to 6    bad syntax, bad name, bad title, name taken, route taken, bad limit;
                       check tells it in words before
+  2  keys line N      line N of --web-keys is none of keys; 0: the file cannot be read, is no
+                      text, or has no key
   3  capture line N   line N is none of a capture; 0: it cannot be read, is too long, or no text
   4  store 2          the store failed, is not a store of rows, or is to be new and is not
   4  store 3          the store is of another version; that of migrate --from is not of version 1

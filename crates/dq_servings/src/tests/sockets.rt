@@ -144,7 +144,10 @@ fn a_rest_ends_for_other_wires(rt: HostRuntime) -> Result<(), Fail> {
     wires.watch(&others)?;
     assert_eq!(rt; others.accept(), Ok(None));
     let _peer = TcpStream::connect(&rt, others.address()?)?;
-    wires.rest_with(&mut others, &rt, Duration::from_secs(50))?;
+    others.begin_turn();
+    let is_called = wires.rest_beside(&rt, Duration::from_secs(50))?;
+    assert!(rt; is_called);
+    others.look_beside(&rt, is_called)?;
     assert_eq!(rt; others.accept(), Ok(Some(0)));
     Ok(())
 }

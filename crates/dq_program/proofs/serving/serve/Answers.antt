@@ -1,6 +1,5 @@
 use Rattle.std.proofs.Common.{IfSome, inr, refl}
-use Rattle.std.specs.Option.{option_copied}
-use Rattle.dq_words.specs.Words.{place_asked}
+use Rattle.dq_words.specs.Words.{place_asked, callers_of, serving_in}
 use Rattle.dq_program.specs.declared.stop.Stop.{Stop}
 use Rattle.dq_program.specs.Program.{unclosed_store, rows_at, AreHonest}
 use Rattle.dq_program.specs.Serving.{turn_count, ServedUpTo}
@@ -47,10 +46,10 @@ returns-in_err-serve_by-in-Memory-clause-stops g c =
     let state = g.Rt.Memory.Tables.state in
     let IsSo : Stop → Type 0 = λ (why : Stop). AreHonest state → ServedUpTo g.Rt.Wired.Wires.log (g.Rt.Network.may_break c.args.rt.now)
     c.in_ok-server-in-Memory.server.institutions (state c.in_ok-server-in-Memory.server.tables).rows (turn_count c.args.service.turns)
-    (option_copied c.args.service.console) why in
+    (callers_of (serving_in c.args.service)) why in
     let IsAlso : Stop → Type 0 = λ (why : Stop). IfSome (rows_at (g.Rt.Stores.stored c.args.rt.now) (place_asked c.args.service.keeper)) (λ rows.
     ServedUpTo g.Rt.Wired.Wires.log (g.Rt.Network.may_break c.args.rt.now) c.in_ok-config.config rows (turn_count c.args.service.turns)
-    (option_copied c.args.service.console) why) in
+    (callers_of (serving_in c.args.service)) why) in
     if_error _ c.from_residual-in_err-serve_by-in-Memory.result _ c.from_residual-in_err-serve_by-in-Memory.ensures.1
     (inr (
       _,
@@ -65,10 +64,10 @@ returns-in_err-filled-in-New-clause-stops g c =
     let state = g.Rt.File.Tables.state in
     let IsSo : Stop → Type 0 = λ (why : Stop). AreHonest state → ServedUpTo g.Rt.Wired.Wires.log (g.Rt.Network.may_break c.args.rt.now)
     c.in_ok-server-in-New.server.institutions (state c.in_ok-server-in-New.server.tables).rows (turn_count c.args.service.turns)
-    (option_copied c.args.service.console) why in
+    (callers_of (serving_in c.args.service)) why in
     let IsAlso : Stop → Type 0 = λ (why : Stop). IfSome (rows_at (g.Rt.Stores.stored c.args.rt.now) (place_asked c.args.service.keeper)) (λ rows.
     ServedUpTo g.Rt.Wired.Wires.log (g.Rt.Network.may_break c.args.rt.now) c.in_ok-config.config rows (turn_count c.args.service.turns)
-    (option_copied c.args.service.console) why) in
+    (callers_of (serving_in c.args.service)) why) in
     if_error _ c.from_residual-in_err-filled-in-New.result _ c.from_residual-in_err-filled-in-New.ensures.1
     (inr (
       _,
@@ -84,10 +83,10 @@ returns-in_err-kept-in-Found-clause-stops g c =
     let state = g.Rt.File.Tables.state in
     let IsSo : Stop → Type 0 = λ (why : Stop). AreHonest state → ServedUpTo g.Rt.Wired.Wires.log (g.Rt.Network.may_break c.args.rt.now)
     c.in_ok-server-in-Found.server.institutions (state c.in_ok-server-in-Found.server.tables).rows (turn_count c.args.service.turns)
-    (option_copied c.args.service.console) why in
+    (callers_of (serving_in c.args.service)) why in
     let IsAlso : Stop → Type 0 = λ (why : Stop). IfSome (rows_at (g.Rt.Stores.stored c.args.rt.now) (place_asked c.args.service.keeper)) (λ rows.
     ServedUpTo g.Rt.Wired.Wires.log (g.Rt.Network.may_break c.args.rt.now) c.in_ok-config.config rows (turn_count c.args.service.turns)
-    (option_copied c.args.service.console) why) in
+    (callers_of (serving_in c.args.service)) why) in
     if_error _ c.from_residual-in_err-kept-in-Found.result _ c.from_residual-in_err-kept-in-Found.ensures.1
     (inr (
       _,

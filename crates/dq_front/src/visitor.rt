@@ -1,0 +1,163 @@
+//! A connection of the web front.
+use dq_web::{Form, Question};
+use dq_wires::{ReadTurn, WireFault, Wires};
+use std::alloc::{AllocError, Global};
+use std::mem;
+use std::time::Instant;
+
+/// What becomes of the request of a connection.
+#[derive(Drop)]
+pub(crate) enum Stage {
+    /// It is read.
+    Reading,
+    /// It waits until the console takes it.
+    Waiting(Question),
+    /// The console takes it: so many octets of its line were given.
+    Asking(Question, usize),
+    /// A response is written: so many of its octets were.
+    Writing(Vec<u8>, usize),
+}
+
+/// A connection: its place among the wires, what came and is not taken, what becomes of its request,
+/// and whether the console holds its place, or nothing comes after the response.
+#[derive(Drop)]
+pub(crate) struct Visitor {
+    pub place: usize,
+    pub came: Vec<u8>,
+    pub stage: Stage,
+    pub is_called: bool,
+    pub is_last: bool,
+    /// What came has not been looked at since the last octet of it.
+    pub is_fresh: bool,
+    /// The client was told to go on with the body of its request.
+    pub is_continued: bool,
+    /// The number of its request among those that asked something of the console.
+    pub ticket: u64,
+    /// The words of its request in the log, and when that was whole.
+    pub words: String,
+    pub begun: Option<Instant>,
+}
+
+impl Visitor {
+    /// One that has just come.
+    pub fn new(alloc: Global, place: usize) -> Self {
+        Visitor {
+            place,
+            came: Vec::new(alloc),
+            stage: Stage::Reading,
+            is_called: false,
+            is_last: false,
+            is_fresh: false,
+            is_continued: false,
+            ticket: 0,
+            words: String::new(alloc),
+            begun: None,
+        }
+    }
+
+    /// Whether its request waits for the console.
+    pub fn is_waiting(&self) -> bool {
+        matches!(self.stage, Stage::Waiting(_))
+    }
+
+    /// Whether its request asks for metrics.
+    pub fn wants_counts(&self) -> bool {
+        match &self.stage {
+            Stage::Waiting(question) | Stage::Asking(question, _) => question.form == Form::Metrics,
+            Stage::Reading | Stage::Writing(..) => false,
+        }
+    }
+
+    /// Whether there is something to do that no octet has to come for.
+    pub fn is_busy(&self) -> bool {
+        match self.stage {
+            Stage::Reading => self.is_fresh,
+            Stage::Waiting(_) | Stage::Asking(..) => true,
+            Stage::Writing(..) => self.is_called,
+        }
+    }
+
+    /// Keeps a response to be written.
+    pub fn put(&mut self, response: Vec<u8>) {
+        self.stage = Stage::Writing(response, 0);
+    }
+
+    /// Takes its request to the console. The answer is whether it waited for that.
+    pub fn begin(&mut self) -> bool {
+        match mem::replace(&mut self.stage, Stage::Reading) {
+            Stage::Waiting(question) => {
+                self.stage = Stage::Asking(question, 0);
+                self.is_called = true;
+                true
+            }
+            other => {
+                self.stage = other;
+                false
+            }
+        }
+    }
+
+    /// Gives the console the next octets of its line, and that it ended once it is answered.
+    pub fn give(&mut self, buffer: &mut [u8]) -> ReadTurn {
+        let Stage::Asking(question, given) = &mut self.stage else {
+            return ReadTurn::Ended;
+        };
+        let line = question.line.as_slice();
+        let mut count = 0;
+        for (slot, octet) in buffer.iter_mut().zip(line.iter().skip(*given)) {
+            *slot = *octet;
+            count += 1;
+        }
+        *given = given.saturating_add(count);
+        if count == 0 {
+            return ReadTurn::Nothing;
+        }
+        ReadTurn::Got(count)
+    }
+
+    /// Writes what is left of its response. The answer is whether the connection is still there.
+    pub fn write<W: Wires>(&mut self, wires: &mut W) -> bool {
+        let Stage::Writing(response, written) = &mut self.stage else {
+            return true;
+        };
+        let Some(rest) = response.get(*written..) else {
+            return false;
+        };
+        match wires.write(self.place, rest) {
+            Ok(count) => {
+                *written = written.saturating_add(count);
+                if *written >= response.len() {
+                    self.stage = Stage::Reading;
+                    return !self.is_last;
+                }
+                true
+            }
+            Err(WireFault) => false,
+        }
+    }
+
+    /// Reads what came. The answer is whether the connection is still there.
+    pub fn read<W: Wires>(&mut self, wires: &mut W, buffer: &mut [u8]) -> bool {
+        match wires.read(self.place, buffer) {
+            Ok(ReadTurn::Got(count)) => {
+                let Some(came) = buffer.get(..count) else {
+                    return false;
+                };
+                self.is_fresh = true;
+                self.came.extend_from_slice(came).is_ok()
+            }
+            Ok(ReadTurn::Nothing) => true,
+            Ok(ReadTurn::Ended) | Err(WireFault) => false,
+        }
+    }
+
+    /// Takes off the octets of a request that is whole.
+    pub fn take_off(&mut self, extent: usize) -> Result<(), AllocError> {
+        let end = extent.min(self.came.len());
+        let rest = self.came.split_off(end)?;
+        self.came = rest;
+        self.is_fresh = !self.came.is_empty();
+        self.is_continued = false;
+        Ok(())
+    }
+}
