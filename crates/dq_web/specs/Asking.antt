@@ -6,7 +6,7 @@ use Rattle.percent_encoding.specs.Percent.{percent_decode}
 use Rattle.dq_web.specs.declared.cutting.Request.{Request}
 use Rattle.dq_web.specs.declared.guard.Guard.{Guard}
 use Rattle.dq_web.specs.declared.places.Place.{Place}
-use Rattle.dq_web.specs.declared.places.Place.TheVariants.{Page, Style, Script, Health, Metrics, Backup, Counts, Studies, Series, Images, Unsearched, Worklist, Entry, Steps, Nowhere}
+use Rattle.dq_web.specs.declared.places.Place.TheVariants.{Metrics, Backup, Counts, Studies, Series, Images, Unsearched, Worklist, Entry, Steps}
 use Rattle.dq_web.specs.declared.asking.Asked.{Asked}
 use Rattle.dq_web.specs.declared.asking.Asked.TheVariants as asked
 use Rattle.dq_web.specs.declared.asking.Form.{Form}

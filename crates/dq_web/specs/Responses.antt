@@ -58,22 +58,27 @@ abbrev pub has_content : Status → Bool
 has_content NoContent = false
 has_content status = true
 
--- what the body is and how many octets it has (RFC 9110 section 8.6)
-abbrev pub content_fields : Kind → ℕ → List ℕ
-content_fields what size = codes "Content-Type: " ++ content_type what
-    ++ LINE_END.now ++ codes "Content-Length: " ++ decimal size ++ LINE_END.now
+-- what the body is (RFC 9110 section 8.3)
+abbrev pub type_field : Kind → List ℕ
+type_field what = codes "Content-Type: " ++ content_type what ++ LINE_END.now
+
+-- how many octets it has (RFC 9110 section 8.6)
+abbrev pub length_field : ℕ → List ℕ
+length_field size = codes "Content-Length: " ++ decimal size ++ LINE_END.now
+
+-- a response without content says neither
+abbrev pub body_fields : Status → Kind → ℕ → List ℕ
+body_fields status what size =
+    if has_content status then type_field what ++ length_field size else []
 
 -- the status line and the fields that each response has
 abbrev pub head_text : Status → List ℕ
 head_text status = codes "HTTP/1.1 " ++ status_line status ++ LINE_END.now
     ++ GUARDING_FIELDS.now ++ extra_fields status
 
--- a response without content says neither what it is nor how long
 abbrev pub whole_head_text : Reply → List ℕ
-whole_head_text reply =
-    if has_content reply.status
-    then head_text reply.status ++ content_fields reply.kind (length reply.body) ++ LINE_END.now
-    else head_text reply.status ++ LINE_END.now
+whole_head_text reply = head_text reply.status
+    ++ body_fields reply.status reply.kind (length reply.body) ++ LINE_END.now
 
 abbrev pub response_text : Reply → List ℕ
 response_text reply = whole_head_text reply ++ reply.body

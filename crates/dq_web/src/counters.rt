@@ -112,7 +112,11 @@ impl Operations {
 fn within(count: u64, micros: u64, most: u64) -> u64
     ensures { result ≡ within count micros most }
 {
-    if micros <= most { one_more(count) } else { count }
+    if micros <= most {
+        one_more(count)
+    } else {
+        count
+    }
 }
 
 impl Turns {
@@ -137,8 +141,10 @@ impl Turns {
 impl Counters {
     /// Counts an association that is accepted.
     pub fn accept(&mut self)
-        ensures { self.new ≡ record self.old { current = one_more self.old.current;
-            accepted = one_more self.old.accepted } }
+        ensures { self.new ≡ record self.old {
+          current = one_more self.old.current;
+          accepted = one_more self.old.accepted;
+        } }
     {
         self.current = one_more(self.current);
         self.accepted = one_more(self.accepted);
@@ -153,8 +159,10 @@ impl Counters {
 
     /// Counts an association that is released.
     pub fn release(&mut self)
-        ensures { self.new ≡ record self.old { current = one_less self.old.current;
-            released = one_more self.old.released } }
+        ensures { self.new ≡ record self.old {
+          current = one_less self.old.current;
+          released = one_more self.old.released;
+        } }
     {
         self.current = one_less(self.current);
         self.released = one_more(self.released);
@@ -162,8 +170,10 @@ impl Counters {
 
     /// Counts an association that is aborted.
     pub fn abort(&mut self)
-        ensures { self.new ≡ record self.old { current = one_less self.old.current;
-            aborted = one_more self.old.aborted } }
+        ensures { self.new ≡ record self.old {
+          current = one_less self.old.current;
+          aborted = one_more self.old.aborted;
+        } }
     {
         self.current = one_less(self.current);
         self.aborted = one_more(self.aborted);
@@ -171,8 +181,10 @@ impl Counters {
 
     /// Counts an association that is lost with its connection.
     pub fn lose(&mut self)
-        ensures { self.new ≡ record self.old { current = one_less self.old.current;
-            lost = one_more self.old.lost } }
+        ensures { self.new ≡ record self.old {
+          current = one_less self.old.current;
+          lost = one_more self.old.lost;
+        } }
     {
         self.current = one_less(self.current);
         self.lost = one_more(self.lost);

@@ -1,7 +1,7 @@
 //! Responses as octets (RFC 9112 section 2.1).
-ghost use Rattle.std.specs.Prelude.{◌≡◌, ◌++◌, IfOk, OnOk};
+ghost use Rattle.std.specs.Prelude.{◌≡◌, ◌++◌, length, IfOk, OnOk};
 ghost use Rattle.std.specs.Fmt.{decimal};
-ghost use Rattle.dq_web.specs.Responses.{content_type, extra_fields, has_content, content_fields, head_text, whole_head_text, response_text};
+ghost use Rattle.dq_web.specs.Responses.{content_type, extra_fields, has_content, type_field, length_field, body_fields, head_text, whole_head_text, response_text};
 
 use crate::refusal::Allowed;
 use crate::status::Status;
@@ -94,21 +94,24 @@ fn has_content(status: Status) -> bool
     }
 }
 
-/// Adds what a body is and how many octets it has.
-fn put_content_fields(
-    alloc: Global,
-    octets: &mut Vec<u8>,
-    kind: Kind,
-    size: usize,
-) -> Result<(), AllocError>
-    ensures { OnOk result (octets.new.items ≡ octets.old.items ++ content_fields kind size) }
+/// Adds what a body is.
+fn put_type(octets: &mut Vec<u8>, kind: Kind) -> Result<(), AllocError>
+    ensures { OnOk result (octets.new.items ≡ octets.old.items ++ type_field kind) }
 {
     put(octets, "Content-Type: ")?;
     put(octets, kind.content_type())?;
     put(octets, LINE_END)?;
+    Ok(())
+}
+
+/// Adds how many octets a body has.
+fn put_length(alloc: Global, octets: &mut Vec<u8>, size: usize) -> Result<(), AllocError>
+    ensures { OnOk result (octets.new.items ≡ octets.old.items ++ length_field size) }
+{
     put(octets, "Content-Length: ")?;
     put_number(alloc, octets, size as u64)?;
-    put(octets, LINE_END)
+    put(octets, LINE_END)?;
+    Ok(())
 }
 
 /// The status line and the fields that each response has.
@@ -123,18 +126,27 @@ fn head_start(alloc: Global, status: Status) -> Result<Vec<u8>, AllocError>
     Ok(head)
 }
 
+/// Adds what the body is and how many octets it has. A response without content says neither.
+fn put_body_fields(alloc: Global, head: &mut Vec<u8>, reply: &Reply) -> Result<(), AllocError>
+    ensures { OnOk result (head.new.items ≡ head.old.items
+        ++ body_fields reply.now.status reply.now.kind (length reply.now.body)) }
+{
+    if !has_content(reply.status) {
+        return Ok(());
+    }
+    put_type(head, reply.kind)?;
+    put_length(alloc, head, reply.body.len())?;
+    Ok(())
+}
+
 /// The whole head of a response.
 fn head_of(alloc: Global, reply: &Reply) -> Result<Vec<u8>, AllocError>
     ensures { IfOk result (λ head. head.items ≡ whole_head_text reply.now) }
 {
-    let mut octets = head_start(alloc, reply.status)?;
-    if has_content(reply.status) {
-        put_content_fields(alloc, &mut octets, reply.kind, reply.body.len())?;
-        put(&mut octets, LINE_END)?;
-        return Ok(octets);
-    }
-    put(&mut octets, LINE_END)?;
-    Ok(octets)
+    let mut head = head_start(alloc, reply.status)?;
+    put_body_fields(alloc, &mut head, reply)?;
+    put(&mut head, LINE_END)?;
+    Ok(head)
 }
 
 /// The octets of a response.

@@ -1,4 +1,4 @@
-use Rattle.std.proofs.Common.{◌≡◌, ◌++◌, [], ◌∷◌, sym, ◌∙◌, inr}
+use Rattle.std.proofs.Common.{[], ◌∷◌, sym, ◌∙◌, inr}
 use Rattle.std.proofs.lemmas.Str.Pattern.{split_text_parts}
 use Rattle.dq_web.proofs.answering.answers_in.Goals as goal
 

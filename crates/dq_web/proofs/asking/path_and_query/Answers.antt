@@ -1,4 +1,4 @@
-use Rattle.std.proofs.Common.{◌≡◌, ◌++◌, codes, append_assoc, sym, ◌∙◌, inr, lit<}
+use Rattle.std.proofs.Common.{inr, lit<}
 use Rattle.std.proofs.lemmas.Str.Pattern.{split_parts}
 use Rattle.dq_web.proofs.asking.path_and_query.Goals as goal
 

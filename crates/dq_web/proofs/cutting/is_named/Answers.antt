@@ -1,6 +1,5 @@
-use Rattle.std.proofs.Common.{map, rules}
+use Rattle.std.proofs.Common.{rules}
 use Rattle.std.proofs.lemmas.Slice.Eq.{bytes_eq-Decides}
-use Rattle.dq_web.specs.Requests.{lowered}
 use Rattle.dq_web.proofs.cutting.is_named.Goals as goal
 
 pub returns : goal.returns

@@ -1,4 +1,4 @@
-use Rattle.std.proofs.Common.{◌≡◌, ℕ, zero, suc, ◌+◌, ◌<◌, List, [], ◌∷◌, ◌&&◌, Bool, true, false, length, take, get_or, nat_eq, refl, ap, arith}
+use Rattle.std.proofs.Common.{◌≡◌, ℕ, zero, suc, ◌<◌, List, [], ◌∷◌, ◌&&◌, Bool, true, false, length, take, get_or, nat_eq, refl, arith}
 use Rattle.std.specs.Str.{bytes_eq}
 use Rattle.dq_web.proofs.keys.is_same.Goals as goal
 

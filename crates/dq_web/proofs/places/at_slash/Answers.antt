@@ -1,4 +1,4 @@
-use Rattle.std.proofs.Common.{rules, ◌≡◌, ◌++◌, codes, append_assoc, sym, ◌∙◌, lit<}
+use Rattle.std.proofs.Common.{codes, append_assoc, sym, ◌∙◌, lit<}
 use Rattle.std.proofs.lemmas.Str.Pattern.{split_parts}
 use Rattle.dq_web.proofs.places.at_slash.Goals as goal
 

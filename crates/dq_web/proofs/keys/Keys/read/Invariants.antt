@@ -1,4 +1,3 @@
-use Rattle.std.proofs.Common.{map}
 use Rattle.dq_web.specs.KeyFiles.{AreSpelled}
 use Rattle.dq_web.proofs.keys.Keys.read.Given as goal
 
