@@ -1,0 +1,118 @@
+-- How what the console told becomes a response.
+use Rattle.std.specs.Prelude.{◌≡◌, ◌≢◌, ◌⊎◌, ℕ, ◌==◌, ◌++◌, Bool, true, false, IsUtf8, IsTrue, if◌then◌else◌, List, [], map, codes}
+use Rattle.std.specs.Char.{is_ascii_digit}
+use Rattle.std.specs.Fmt.{decimal}
+use Rattle.std.specs.List.{list_all}
+use Rattle.std.specs.Str.{bytes_eq}
+use Rattle.std.specs.Str.Lines.{lines}
+use Rattle.dq_list.specs.Among.{IsAmong}
+use Rattle.dq_config.specs.declared.config.Institution.{Institution}
+use Rattle.dq_web.specs.declared.asking.Document.{Document}
+use Rattle.dq_web.specs.declared.asking.Document.TheVariants as document
+use Rattle.dq_web.specs.declared.asking.Form.{Form}
+use Rattle.dq_web.specs.declared.asking.Form.TheVariants as form
+use Rattle.dq_web.specs.declared.answering.Counts.{Counts}
+use Rattle.dq_web.specs.declared.answering.TheConstants.{DONE, NONE_FOUND, END, STUDIES, SERIES, IMAGES, ENTRIES, STEPS, LIMIT, CLOSE}
+use Rattle.dq_web.specs.declared.page.TheConstants.{INDEX, STYLE, SCRIPT}
+use Rattle.dq_web.specs.declared.replies.Reply.{Reply}
+use Rattle.dq_web.specs.declared.replies.Kind.TheVariants as kind
+use Rattle.dq_web.specs.declared.status.Status.TheVariants as status
+use Rattle.dq_web.specs.Responses.{is_success, response_text}
+
+-- the order is done
+abbrev pub is_done : List ℕ → Bool
+is_done told = bytes_eq told DONE.now
+
+-- a comma in place of a line feed
+abbrev pub comma_for : ℕ → ℕ
+comma_for octet = if octet == 10 then 44 else octet
+
+-- what was told is answers, a line each, and then their number behind `end`
+abbrev pub SplitsAnswers : List ℕ → List ℕ → Type 0
+SplitsAnswers told front = (number : List ℕ) × (told ≡ front ++ (END.now ++ number))
+
+abbrev pub HasNoAnswers : List ℕ → Type 0
+HasNoAnswers told = (IsUtf8 told → ⊥)
+    ⊎ ((front number : List ℕ) → told ≢ front ++ (END.now ++ number))
+
+-- The response to a search: the array of the answers, in their order, where there are some; no content
+-- where none is found; and else no success (PS3.18 section 8.3.4.1).
+abbrev pub IsAnswersReply : List ℕ → Reply → Type 0
+IsAnswersReply told reply =
+    ((told ≡ NONE_FOUND.now) × (reply.status ≡ status.NoContent) × (reply.body ≡ []))
+    ⊎ (((front : List ℕ) × SplitsAnswers told front × (reply.status ≡ status.Done)
+    × (reply.kind ≡ kind.DicomJson) × (reply.body ≡ codes "[" ++ map comma_for front ++ codes "]"))
+    ⊎ (HasNoAnswers told × (is_success reply.status ≡ false)))
+
+-- a number in decimal digits
+abbrev pub IsNumber : List ℕ → Type 0
+IsNumber text = (text ≢ []) × IsTrue (list_all is_ascii_digit text)
+
+-- a word, a number, a space and the rest
+abbrev pub IsNumberBehind : List ℕ → List ℕ → List ℕ → List ℕ → Type 0
+IsNumberBehind word number rest text =
+    (text ≡ word ++ (number ++ (codes " " ++ rest))) × IsNumber number
+
+-- what the line of a report tells behind its name
+pub record AreCounts (text : List ℕ) (counts : Counts) : Type 0 where
+  pub line : text ≡ codes "studies " ++ (counts.studies.now ++ (codes " "
+      ++ (codes "series " ++ (counts.series.now ++ (codes " "
+      ++ (codes "images " ++ (counts.images.now ++ (codes " "
+      ++ (codes "entries " ++ (counts.entries.now ++ (codes " "
+      ++ (codes "steps " ++ counts.steps.now))))))))))))
+  pub studies : IsNumber counts.studies.now
+  pub series : IsNumber counts.series.now
+  pub images : IsNumber counts.images.now
+  pub entries : IsNumber counts.entries.now
+  pub steps : IsNumber counts.steps.now
+
+-- what a report tells of a name, in a line that begins with it and a space
+abbrev pub IsOwnLine : List ℕ → List ℕ → List ℕ → Type 0
+IsOwnLine told name rest = IsAmong (name ++ (codes " " ++ rest)) (lines told)
+
+abbrev pub limit_text : ℕ → List ℕ
+limit_text limit = LIMIT.now ++ decimal limit
+
+abbrev pub study_counts_text : Counts → Institution → List ℕ
+study_counts_text counts institution =
+    STUDIES.now ++ counts.studies.now ++ limit_text institution.studies
+    ++ SERIES.now ++ counts.series.now
+    ++ IMAGES.now ++ counts.images.now ++ limit_text institution.images
+
+abbrev pub step_counts_text : Counts → Institution → List ℕ
+step_counts_text counts institution =
+    ENTRIES.now ++ counts.entries.now ++ limit_text institution.entries
+    ++ STEPS.now ++ counts.steps.now ++ limit_text institution.steps ++ CLOSE.now
+
+-- the counts of an institution beside its limits
+abbrev pub counts_text : Counts → Institution → List ℕ
+counts_text counts institution =
+    study_counts_text counts institution ++ step_counts_text counts institution
+
+-- The response with what an institution keeps: the counts of its own line beside its own limits, and
+-- else no success. Nothing of another line enters it.
+abbrev pub IsCountsReply : List ℕ → List ℕ → Reply → Type 0
+IsCountsReply name told reply =
+    ((line : List ℕ) × (counts : Counts) × (institution : Institution)
+    × IsOwnLine told name line × AreCounts line counts × (bytes_eq institution.name name ≡ true)
+    × (reply.status ≡ status.Done) × (reply.body ≡ counts_text counts institution))
+    ⊎ (is_success reply.status ≡ false)
+
+-- the response to a question of a form about a name
+abbrev pub IsReplyTo : Form → List ℕ → List ℕ → Reply → Type 0
+IsReplyTo form.Answers name told reply = IsAnswersReply told reply
+IsReplyTo form.Counts name told reply = IsCountsReply name told reply
+IsReplyTo form.Scheduled name told reply = is_success reply.status ≡ is_done told
+IsReplyTo form.Withdrawn name told reply = is_success reply.status ≡ is_done told
+IsReplyTo form.BackedUp name told reply = is_success reply.status ≡ is_done told
+IsReplyTo form.Metrics name told reply = Unit {0}
+
+-- the octets of a response of which this holds
+abbrev pub IsResponse : (Reply → Type 0) → List ℕ → Type 0
+IsResponse Holds octets = (reply : Reply) × Holds reply × (octets ≡ response_text reply)
+
+-- a document of the page for people
+abbrev pub IsDocument : Document → Reply → Type 0
+IsDocument document.Page reply = (reply.status ≡ status.Done) × (reply.kind ≡ kind.Page) × (reply.body ≡ INDEX.now)
+IsDocument document.Style reply = (reply.status ≡ status.Done) × (reply.kind ≡ kind.Style) × (reply.body ≡ STYLE.now)
+IsDocument document.Script reply = (reply.status ≡ status.Done) × (reply.kind ≡ kind.Script) × (reply.body ≡ SCRIPT.now)

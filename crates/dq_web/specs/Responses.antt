@@ -1,0 +1,84 @@
+-- Responses, as octets (RFC 9112 section 2.1).
+use Rattle.std.specs.Prelude.{ℕ, ◌++◌, Bool, true, false, if◌then◌else◌, List, [], length, codes}
+use Rattle.std.specs.Fmt.{decimal}
+use Rattle.dq_web.specs.declared.refusal.Allowed.TheVariants as allowed
+use Rattle.dq_web.specs.declared.replies.Kind.{Kind}
+use Rattle.dq_web.specs.declared.replies.Kind.TheVariants as kind
+use Rattle.dq_web.specs.declared.replies.Reply.{Reply}
+use Rattle.dq_web.specs.declared.replies.TheConstants.{LINE_END, GUARDING_FIELDS}
+use Rattle.dq_web.specs.declared.status.Status.{Status}
+use Rattle.dq_web.specs.declared.status.Status.TheVariants.{Done, Created, NoContent, BadRequest, Unauthorized, Forbidden, NotFound, MethodNotAllowed, Conflict, TooLarge, Misdirected, HeadTooLarge, ServerError, NotImplemented, Unavailable, Full}
+
+-- the status code and the reason phrase (RFC 9110 section 15; of 507 RFC 4918 section 11.5)
+abbrev pub status_line : Status → List ℕ
+status_line Done = codes "200 OK"
+status_line Created = codes "201 Created"
+status_line NoContent = codes "204 No Content"
+status_line BadRequest = codes "400 Bad Request"
+status_line Unauthorized = codes "401 Unauthorized"
+status_line Forbidden = codes "403 Forbidden"
+status_line NotFound = codes "404 Not Found"
+status_line (MethodNotAllowed methods) = codes "405 Method Not Allowed"
+status_line Conflict = codes "409 Conflict"
+status_line TooLarge = codes "413 Content Too Large"
+status_line Misdirected = codes "421 Misdirected Request"
+status_line HeadTooLarge = codes "431 Request Header Fields Too Large"
+status_line ServerError = codes "500 Internal Server Error"
+status_line NotImplemented = codes "501 Not Implemented"
+status_line Unavailable = codes "503 Service Unavailable"
+status_line Full = codes "507 Insufficient Storage"
+
+-- 200, 201 and 204
+abbrev pub is_success : Status → Bool
+is_success Done = true
+is_success Created = true
+is_success NoContent = true
+is_success status = false
+
+abbrev pub content_type : Kind → List ℕ
+content_type kind.Page = codes "text/html; charset=utf-8"
+content_type kind.Style = codes "text/css; charset=utf-8"
+content_type kind.Script = codes "text/javascript; charset=utf-8"
+content_type kind.Text = codes "text/plain; charset=utf-8"
+content_type kind.Json = codes "application/json"
+content_type kind.DicomJson = codes "application/dicom+json"
+content_type kind.Metrics = codes "text/plain; version=0.0.4; charset=utf-8"
+
+-- the fields that a status asks for (RFC 9110 sections 11.6.1 and 10.2.1)
+abbrev pub extra_fields : Status → List ℕ
+extra_fields Unauthorized = codes "WWW-Authenticate: Bearer" ++ LINE_END.now
+extra_fields (MethodNotAllowed allowed.Get) = codes "Allow: GET" ++ LINE_END.now
+extra_fields (MethodNotAllowed allowed.Post) = codes "Allow: POST" ++ LINE_END.now
+extra_fields (MethodNotAllowed allowed.Delete) = codes "Allow: DELETE" ++ LINE_END.now
+extra_fields (MethodNotAllowed allowed.GetAndPost) = codes "Allow: GET, POST" ++ LINE_END.now
+extra_fields status = []
+
+-- a response of 204 has no content (RFC 9110 section 15.3.5)
+abbrev pub has_content : Status → Bool
+has_content NoContent = false
+has_content status = true
+
+-- what the body is (RFC 9110 section 8.3)
+abbrev pub type_field : Kind → List ℕ
+type_field what = codes "Content-Type: " ++ content_type what ++ LINE_END.now
+
+-- how many octets it has (RFC 9110 section 8.6)
+abbrev pub length_field : ℕ → List ℕ
+length_field size = codes "Content-Length: " ++ decimal size ++ LINE_END.now
+
+-- a response without content says neither
+abbrev pub body_fields : Status → Kind → ℕ → List ℕ
+body_fields status what size =
+    if has_content status then type_field what ++ length_field size else []
+
+-- the status line and the fields that each response has
+abbrev pub head_text : Status → List ℕ
+head_text status = codes "HTTP/1.1 " ++ status_line status ++ LINE_END.now
+    ++ GUARDING_FIELDS.now ++ extra_fields status
+
+abbrev pub whole_head_text : Reply → List ℕ
+whole_head_text reply = head_text reply.status
+    ++ body_fields reply.status reply.kind (length reply.body) ++ LINE_END.now
+
+abbrev pub response_text : Reply → List ℕ
+response_text reply = whole_head_text reply ++ reply.body

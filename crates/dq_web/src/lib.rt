@@ -1,0 +1,24 @@
+//! What requests of HTTP ask of the console, and how its answers are sent back: no sockets, no rows.
+#![tactic(auto)]
+
+mod answering;
+mod asking;
+mod counters;
+mod cutting;
+mod guard;
+mod keys;
+mod metrics;
+mod page;
+mod places;
+mod refusal;
+mod replies;
+mod status;
+
+pub use answering::{answered, document, healthy, refused};
+pub use asking::{Asked, Document, Form, Method, Question, ask};
+pub use counters::{Class, Counters, Operations, Service, Turns};
+pub use cutting::{BODY_MOST, Cut, Fields, HEAD_MOST, Request, cut_off};
+pub use guard::Guard;
+pub use keys::{KeyEntry, Keys, KeysFault, OPERATOR};
+pub use places::{Place, place_of};
+pub use refusal::{Allowed, Refusal};

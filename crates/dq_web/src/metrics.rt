@@ -1,0 +1,223 @@
+//! What the server counts, in the text format 0.0.4 of Prometheus.
+
+use crate::answering::{Counts, counts_in};
+use crate::counters::{Counters, Operations, Turns};
+use crate::keys::at_space;
+use crate::replies::{put, put_number};
+use dq_config::Institution;
+use std::alloc::{AllocError, Global};
+
+/// Adds a sample: a name with its labels, and a value.
+fn put_sample(
+    alloc: Global,
+    text: &mut Vec<u8>,
+    sample: &str,
+    value: u64,
+) -> Result<(), AllocError> {
+    put(text, sample)?;
+    put(text, " ")?;
+    put_number(alloc, text, value)?;
+    put(text, "\n")
+}
+
+/// Adds a sample of an institution and a kind.
+fn put_rows(
+    text: &mut Vec<u8>,
+    metric: &str,
+    name: &str,
+    kind: &str,
+    value: &str,
+) -> Result<(), AllocError> {
+    put(text, metric)?;
+    put(text, "{institution=\"")?;
+    put(text, name)?;
+    put(text, "\",kind=\"")?;
+    put(text, kind)?;
+    put(text, "\"} ")?;
+    put(text, value)?;
+    put(text, "\n")
+}
+
+/// Adds how many rows an institution keeps.
+fn put_counts(text: &mut Vec<u8>, name: &str, counts: Counts<'_>) -> Result<(), AllocError> {
+    put_rows(text, "newtiron_rows", name, "studies", counts.studies)?;
+    put_rows(text, "newtiron_rows", name, "series", counts.series)?;
+    put_rows(text, "newtiron_rows", name, "images", counts.images)?;
+    put_rows(text, "newtiron_rows", name, "entries", counts.entries)?;
+    put_rows(text, "newtiron_rows", name, "steps", counts.steps)
+}
+
+/// Adds how many rows each institution keeps, by the lines of a report.
+fn put_report(text: &mut Vec<u8>, told: &str) -> Result<(), AllocError> {
+    put(
+        text,
+        "# HELP newtiron_rows Rows that an institution keeps.\n",
+    )?;
+    put(text, "# TYPE newtiron_rows gauge\n")?;
+    for line in told.lines() {
+        if let Some((name, rest)) = at_space(line) {
+            if let Some(counts) = counts_in(rest) {
+                put_counts(text, name, counts)?;
+            }
+        }
+    }
+    Ok(())
+}
+
+/// Adds a limit of an institution.
+fn put_limit(
+    alloc: Global,
+    text: &mut Vec<u8>,
+    name: &str,
+    kind: &str,
+    limit: u32,
+) -> Result<(), AllocError> {
+    let limit = format!(in alloc; "{limit}")?;
+    put_rows(text, "newtiron_rows_limit", name, kind, limit.as_str())
+}
+
+/// Adds how many rows each institution may keep.
+fn put_limits(
+    alloc: Global,
+    text: &mut Vec<u8>,
+    institutions: &[Institution],
+) -> Result<(), AllocError> {
+    put(
+        text,
+        "# HELP newtiron_rows_limit Rows that an institution may keep.\n",
+    )?;
+    put(text, "# TYPE newtiron_rows_limit gauge\n")?;
+    for institution in institutions {
+        let name = str::from_utf8(institution.name.as_slice()).unwrap_or("");
+        put_limit(alloc, text, name, "studies", institution.studies)?;
+        put_limit(alloc, text, name, "images", institution.images)?;
+        put_limit(alloc, text, name, "entries", institution.entries)?;
+        put_limit(alloc, text, name, "steps", institution.steps)?;
+    }
+    Ok(())
+}
+
+/// Adds the associations.
+fn put_associations(
+    alloc: Global,
+    text: &mut Vec<u8>,
+    counters: &Counters,
+) -> Result<(), AllocError> {
+    put(
+        text,
+        "# HELP newtiron_associations_open Associations that are open.\n",
+    )?;
+    put(text, "# TYPE newtiron_associations_open gauge\n")?;
+    put_sample(alloc, text, "newtiron_associations_open", counters.current)?;
+    put(
+        text,
+        "# HELP newtiron_associations_total Associations, by what came of them.\n",
+    )?;
+    put(text, "# TYPE newtiron_associations_total counter\n")?;
+    put_outcome(alloc, text, "accepted", counters.accepted)?;
+    put_outcome(alloc, text, "rejected", counters.rejected)?;
+    put_outcome(alloc, text, "released", counters.released)?;
+    put_outcome(alloc, text, "aborted", counters.aborted)?;
+    put_outcome(alloc, text, "lost", counters.lost)
+}
+
+fn put_outcome(
+    alloc: Global,
+    text: &mut Vec<u8>,
+    outcome: &str,
+    value: u64,
+) -> Result<(), AllocError> {
+    put(text, "newtiron_associations_total{outcome=\"")?;
+    put(text, outcome)?;
+    put_sample(alloc, text, "\"}", value)
+}
+
+fn put_status(
+    alloc: Global,
+    text: &mut Vec<u8>,
+    service: &str,
+    status: &str,
+    value: u64,
+) -> Result<(), AllocError> {
+    put(text, "newtiron_operations_total{service=\"")?;
+    put(text, service)?;
+    put(text, "\",status=\"")?;
+    put(text, status)?;
+    put_sample(alloc, text, "\"}", value)
+}
+
+/// Adds the operations of a service.
+fn put_operations(
+    alloc: Global,
+    text: &mut Vec<u8>,
+    service: &str,
+    operations: Operations,
+) -> Result<(), AllocError> {
+    put_status(alloc, text, service, "success", operations.success)?;
+    put_status(alloc, text, service, "warning", operations.warning)?;
+    put_status(alloc, text, service, "refused", operations.refused)
+}
+
+/// Adds the operations of all services.
+fn put_services(alloc: Global, text: &mut Vec<u8>, counters: &Counters) -> Result<(), AllocError> {
+    put(
+        text,
+        "# HELP newtiron_operations_total Operations, by the class of their status.\n",
+    )?;
+    put(text, "# TYPE newtiron_operations_total counter\n")?;
+    put_operations(alloc, text, "echo", counters.echo)?;
+    put_operations(alloc, text, "store", counters.store)?;
+    put_operations(alloc, text, "find", counters.find)?;
+    put_operations(alloc, text, "worklist", counters.worklist)?;
+    put_operations(alloc, text, "step", counters.step)
+}
+
+fn put_bucket(alloc: Global, text: &mut Vec<u8>, most: &str, value: u64) -> Result<(), AllocError> {
+    put(text, "newtiron_turn_seconds_bucket{le=\"")?;
+    put(text, most)?;
+    put_sample(alloc, text, "\"}", value)
+}
+
+/// Adds the turns of the server, as a histogram in seconds.
+fn put_turns(alloc: Global, text: &mut Vec<u8>, turns: Turns) -> Result<(), AllocError> {
+    put(
+        text,
+        "# HELP newtiron_turn_seconds How long turns of the server took.\n",
+    )?;
+    put(text, "# TYPE newtiron_turn_seconds histogram\n")?;
+    put_bucket(alloc, text, "0.001", turns.within_1_ms)?;
+    put_bucket(alloc, text, "0.005", turns.within_5_ms)?;
+    put_bucket(alloc, text, "0.01", turns.within_10_ms)?;
+    put_bucket(alloc, text, "0.05", turns.within_50_ms)?;
+    put_bucket(alloc, text, "0.1", turns.within_100_ms)?;
+    put_bucket(alloc, text, "0.5", turns.within_500_ms)?;
+    put_bucket(alloc, text, "1", turns.within_1_s)?;
+    put_bucket(alloc, text, "+Inf", turns.all)?;
+    let seconds = turns.micros / 1_000_000;
+    let micros = turns.micros % 1_000_000;
+    let sum = format!(in alloc; "newtiron_turn_seconds_sum {seconds}.{micros:06}\n")?;
+    put(text, sum.as_str())?;
+    put_sample(alloc, text, "newtiron_turn_seconds_count", turns.all)
+}
+
+/// What a report tells of each institution, their limits, and what the server counts of itself.
+pub(crate) fn metrics_text(
+    alloc: Global,
+    told: &str,
+    institutions: &[Institution],
+    counters: &Counters,
+) -> Result<Vec<u8>, AllocError> {
+    let mut text = Vec::new(alloc);
+    put_report(&mut text, told)?;
+    put_limits(alloc, &mut text, institutions)?;
+    put_associations(alloc, &mut text, counters)?;
+    put_services(alloc, &mut text, counters)?;
+    put_turns(alloc, &mut text, counters.turns)?;
+    put(
+        &mut text,
+        "# HELP newtiron_memory_bytes Memory that the server holds.\n",
+    )?;
+    put(&mut text, "# TYPE newtiron_memory_bytes gauge\n")?;
+    put_sample(alloc, &mut text, "newtiron_memory_bytes", counters.memory)?;
+    Ok(text)
+}

@@ -1,0 +1,65 @@
+//! Why a request is refused.
+
+/// The methods of what stands at a path.
+#[derive(Clone, Copy, Debug, PartialEq, Eq)]
+pub enum Allowed {
+    Get,
+    Post,
+    Delete,
+    GetAndPost,
+}
+
+/// Why a request is refused before the console is asked.
+#[derive(Clone, Copy, Debug, PartialEq, Eq)]
+pub enum Refusal {
+    /// The request is none of the grammar, or no line of the console can tell it.
+    Request,
+    /// The head has too many octets or fields.
+    Head,
+    /// The body has too many octets.
+    Length,
+    /// The body comes in a transfer coding.
+    Coding,
+    /// The host is another server's.
+    Host,
+    /// A page of another origin sent it.
+    Origin,
+    /// Nothing stands at the path.
+    Path,
+    /// What stands at the path has other methods.
+    Method(Allowed),
+    /// The key does not open the path.
+    Key,
+    /// The search is not supported.
+    Unsupported,
+}
+
+impl Allowed {
+    /// Returns the methods as the field Allow lists them (RFC 9110 section 10.2.1).
+    pub fn list(self) -> &'static str {
+        match self {
+            Allowed::Get => "GET",
+            Allowed::Post => "POST",
+            Allowed::Delete => "DELETE",
+            Allowed::GetAndPost => "GET, POST",
+        }
+    }
+}
+
+impl Refusal {
+    /// Returns the one word for it in the body of a response.
+    pub fn word(self) -> &'static str {
+        match self {
+            Refusal::Request => "request",
+            Refusal::Head => "head",
+            Refusal::Length => "length",
+            Refusal::Coding => "coding",
+            Refusal::Host => "host",
+            Refusal::Origin => "origin",
+            Refusal::Path => "path",
+            Refusal::Method(_) => "method",
+            Refusal::Key => "key",
+            Refusal::Unsupported => "unsupported",
+        }
+    }
+}

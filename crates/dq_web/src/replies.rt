@@ -1,0 +1,159 @@
+//! Responses as octets (RFC 9112 section 2.1).
+ghost use Rattle.std.specs.Prelude.{◌≡◌, ◌++◌, length, IfOk, OnOk};
+ghost use Rattle.std.specs.Fmt.{decimal};
+ghost use Rattle.dq_web.specs.Responses.{content_type, extra_fields, has_content, type_field, length_field, body_fields, head_text, whole_head_text, response_text};
+
+use crate::refusal::Allowed;
+use crate::status::Status;
+use dq_list::Listed;
+use std::alloc::{AllocError, Global};
+
+/// What a body is.
+#[derive(Clone, Copy, Debug, PartialEq, Eq)]
+pub enum Kind {
+    Page,
+    Style,
+    Script,
+    Text,
+    Json,
+    DicomJson,
+    Metrics,
+}
+
+/// A response, before it is octets.
+#[derive(Drop)]
+pub struct Reply {
+    pub status: Status,
+    pub kind: Kind,
+    pub body: Listed<u8>,
+}
+
+pub(crate) const LINE_END: &str = "\r\n";
+
+/// The fields that each response has: nothing is kept, nothing is guessed of a body, and a page may
+/// load and call only what is of its own host.
+pub(crate) const GUARDING_FIELDS: &str = "Cache-Control: no-store\r\n\
+    X-Content-Type-Options: nosniff\r\n\
+    Referrer-Policy: no-referrer\r\n\
+    Content-Security-Policy: default-src 'none'; script-src 'self'; style-src 'self'; \
+    connect-src 'self'; base-uri 'none'; form-action 'none'; frame-ancestors 'none'\r\n";
+
+impl Kind {
+    /// Returns the value of Content-Type.
+    fn content_type(self) -> &'static str
+        ensures { result.now ≡ content_type self }
+    {
+        match self {
+            Kind::Page => "text/html; charset=utf-8",
+            Kind::Style => "text/css; charset=utf-8",
+            Kind::Script => "text/javascript; charset=utf-8",
+            Kind::Text => "text/plain; charset=utf-8",
+            Kind::Json => "application/json",
+            Kind::DicomJson => "application/dicom+json",
+            Kind::Metrics => "text/plain; version=0.0.4; charset=utf-8",
+        }
+    }
+}
+
+/// The fields that a status asks for (RFC 9110 sections 11.6.1 and 10.2.1).
+fn extra_fields(status: Status) -> &'static str
+    ensures { result.now ≡ extra_fields status }
+{
+    match status {
+        Status::Unauthorized => "WWW-Authenticate: Bearer\r\n",
+        Status::MethodNotAllowed(Allowed::Get) => "Allow: GET\r\n",
+        Status::MethodNotAllowed(Allowed::Post) => "Allow: POST\r\n",
+        Status::MethodNotAllowed(Allowed::Delete) => "Allow: DELETE\r\n",
+        Status::MethodNotAllowed(Allowed::GetAndPost) => "Allow: GET, POST\r\n",
+        _ => "",
+    }
+}
+
+/// Adds a text.
+pub(crate) fn put(octets: &mut Vec<u8>, text: &str) -> Result<(), AllocError>
+    ensures { OnOk result (octets.new.items ≡ octets.old.items ++ text.now) }
+{
+    octets.extend_from_slice(text.as_bytes())
+}
+
+/// Adds a number in decimal digits.
+pub(crate) fn put_number(alloc: Global, octets: &mut Vec<u8>, number: u64) -> Result<(), AllocError>
+    ensures { OnOk result (octets.new.items ≡ octets.old.items ++ decimal number) }
+{
+    let text = format!(in alloc; "{number}")?;
+    put(octets, text.as_str())
+}
+
+/// Whether a response of a status has content (RFC 9110 section 6.4).
+fn has_content(status: Status) -> bool
+    ensures { result ≡ has_content status }
+{
+    match status {
+        Status::NoContent => false,
+        _ => true,
+    }
+}
+
+/// Adds what a body is.
+fn put_type(octets: &mut Vec<u8>, kind: Kind) -> Result<(), AllocError>
+    ensures { OnOk result (octets.new.items ≡ octets.old.items ++ type_field kind) }
+{
+    put(octets, "Content-Type: ")?;
+    put(octets, kind.content_type())?;
+    put(octets, LINE_END)?;
+    Ok(())
+}
+
+/// Adds how many octets a body has.
+fn put_length(alloc: Global, octets: &mut Vec<u8>, size: usize) -> Result<(), AllocError>
+    ensures { OnOk result (octets.new.items ≡ octets.old.items ++ length_field size) }
+{
+    put(octets, "Content-Length: ")?;
+    put_number(alloc, octets, size as u64)?;
+    put(octets, LINE_END)?;
+    Ok(())
+}
+
+/// The status line and the fields that each response has.
+fn head_start(alloc: Global, status: Status) -> Result<Vec<u8>, AllocError>
+    ensures { IfOk result (λ head. head.items ≡ head_text status) }
+{
+    let mut head = Vec::from_slice(alloc, b"HTTP/1.1 ")?;
+    put(&mut head, status.line())?;
+    put(&mut head, LINE_END)?;
+    put(&mut head, GUARDING_FIELDS)?;
+    put(&mut head, extra_fields(status))?;
+    Ok(head)
+}
+
+/// Adds what the body is and how many octets it has. A response without content says neither.
+fn put_body_fields(alloc: Global, head: &mut Vec<u8>, reply: &Reply) -> Result<(), AllocError>
+    ensures { OnOk result (head.new.items ≡ head.old.items
+        ++ body_fields reply.now.status reply.now.kind (length reply.now.body)) }
+{
+    if !has_content(reply.status) {
+        return Ok(());
+    }
+    put_type(head, reply.kind)?;
+    put_length(alloc, head, reply.body.len())?;
+    Ok(())
+}
+
+/// The whole head of a response.
+fn head_of(alloc: Global, reply: &Reply) -> Result<Vec<u8>, AllocError>
+    ensures { IfOk result (λ head. head.items ≡ whole_head_text reply.now) }
+{
+    let mut head = head_start(alloc, reply.status)?;
+    put_body_fields(alloc, &mut head, reply)?;
+    put(&mut head, LINE_END)?;
+    Ok(head)
+}
+
+/// The octets of a response.
+pub(crate) fn printed(alloc: Global, reply: &Reply) -> Result<Vec<u8>, AllocError>
+    ensures { IfOk result (λ octets. octets.items ≡ response_text reply.now) }
+{
+    let mut octets = head_of(alloc, reply)?;
+    octets.extend_from_slice(reply.body.as_slice())?;
+    Ok(octets)
+}

@@ -1,0 +1,70 @@
+//! The statuses of responses (RFC 9110 section 15).
+ghost use Rattle.std.specs.Prelude.{◌≡◌, false};
+ghost use Rattle.dq_web.specs.Responses.{status_line, is_success};
+
+use crate::refusal::{Allowed, Refusal};
+
+/// What a response says of its request.
+#[derive(Clone, Copy, Debug, PartialEq, Eq)]
+pub enum Status {
+    Done,
+    Created,
+    NoContent,
+    BadRequest,
+    Unauthorized,
+    Forbidden,
+    NotFound,
+    MethodNotAllowed(Allowed),
+    Conflict,
+    TooLarge,
+    Misdirected,
+    HeadTooLarge,
+    ServerError,
+    NotImplemented,
+    Unavailable,
+    Full,
+}
+
+impl Status {
+    /// Returns the status code and the reason phrase.
+    pub(crate) fn line(self) -> &'static str
+        ensures { result.now ≡ status_line self }
+    {
+        match self {
+            Status::Done => "200 OK",
+            Status::Created => "201 Created",
+            Status::NoContent => "204 No Content",
+            Status::BadRequest => "400 Bad Request",
+            Status::Unauthorized => "401 Unauthorized",
+            Status::Forbidden => "403 Forbidden",
+            Status::NotFound => "404 Not Found",
+            Status::MethodNotAllowed(_) => "405 Method Not Allowed",
+            Status::Conflict => "409 Conflict",
+            Status::TooLarge => "413 Content Too Large",
+            Status::Misdirected => "421 Misdirected Request",
+            Status::HeadTooLarge => "431 Request Header Fields Too Large",
+            Status::ServerError => "500 Internal Server Error",
+            Status::NotImplemented => "501 Not Implemented",
+            Status::Unavailable => "503 Service Unavailable",
+            Status::Full => "507 Insufficient Storage",
+        }
+    }
+
+    /// Returns the status of a refusal of the front.
+    pub(crate) fn of(refusal: Refusal) -> Status
+        ensures { is_success result ≡ false }
+    {
+        match refusal {
+            Refusal::Request => Status::BadRequest,
+            Refusal::Head => Status::HeadTooLarge,
+            Refusal::Length => Status::TooLarge,
+            Refusal::Coding => Status::NotImplemented,
+            Refusal::Host => Status::Misdirected,
+            Refusal::Origin => Status::Forbidden,
+            Refusal::Path => Status::NotFound,
+            Refusal::Method(allowed) => Status::MethodNotAllowed(allowed),
+            Refusal::Key => Status::Unauthorized,
+            Refusal::Unsupported => Status::NotImplemented,
+        }
+    }
+}
