@@ -16,7 +16,7 @@ from upper_layer import EXPLICIT
 LEVELS = {"studies": b"STUDY", "series": b"SERIES", "images": b"IMAGE"}
 USUAL_PAGE, LONGEST_PAGE, LONGEST_VALUE = 100, 1000, 65534
 CHARACTER_SET, LEVEL, STEPS = (0x0008, 0x0005), (0x0008, 0x0052), (0x0040, 0x0100)
-LEFT_OUT = ("includefield", "fuzzymatching")
+LEFT_OUT = ("includefield=", "fuzzymatching=")
 JSON, DICOM_JSON, TEXT = "application/json", "application/dicom+json", "text/plain"
 UID = r"([^/]+)"
 # Each path below an institution, with its methods and what it asks for.
@@ -65,9 +65,9 @@ def words_of(text):
     """The values of attributes that the parts of a query give, the limit and the offset."""
     keys, page = {}, {"limit": USUAL_PAGE, "offset": 0}
     for part in filter(None, text.split("&")):
-        name, equals, value = part.partition("=")
-        if name in LEFT_OUT:
+        if part.startswith(LEFT_OUT):
             continue
+        name, equals, value = part.partition("=")
         if name in page and re.fullmatch(r"\+?[0-9]+", value) and int(value) < 2 ** 64:
             page[name] = int(value)
             continue
@@ -95,7 +95,7 @@ def searched(records, subject, text, above):
     keys |= above
     if subject == "steps":
         if keys:
-            raise BadWord(next(part for part in text.split("&") if part and part.split("=")[0] not in (*page, *LEFT_OUT)))
+            raise BadWord(next(part for part in text.split("&") if part and not part.startswith(("limit=", "offset=", *LEFT_OUT))))
         found, status = [step for _, step in sorted(records.steps.items())], 0
     else:
         asked = services.written(identifier(keys, LEVELS.get(subject, b""), subject == "worklist"), EXPLICIT)
