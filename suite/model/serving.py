@@ -278,8 +278,8 @@ def parser():
     words.add_argument("--peer-connections", type=number_in(0, 2 ** 32 - 1), default=0, metavar="<N>")
     words.add_argument("--web", type=number_in(1, 65535), metavar="<PORT>")
     words.add_argument("--web-keys", metavar="<FILE>")
-    words.add_argument("--web-listen", default=HOST, metavar="<ADDRESS>")
-    words.add_argument("--web-host", metavar="<NAME>")
+    words.add_argument("--web-listen", metavar="<ADDRESS>")
+    words.add_argument("--web-host", metavar="<HOST>")
     words.add_argument("--log", action="store_true")
     words.add_argument("--log-file", metavar="<FILE>")
     return replies.with_options(words)
@@ -289,7 +289,7 @@ def serve(words, service=Service):
     """Serves as the words say; the exit status."""
     parsed = parser()
     words = parsed.parse_args(words)
-    if (words.web is None) != (words.web_keys is None):
+    if (words.web is None) != (words.web_keys is None) or words.web is None and (words.web_listen or words.web_host):
         parsed.error("--web and --web-keys go together")
     institutions, store, status = replies.begun(words)
     if status:
@@ -303,7 +303,7 @@ def serve(words, service=Service):
         print("network", file=sys.stderr)
         return 5
     except web_serving.BadKeys as bad:
-        print("keys", bad.args[0], file=sys.stderr)
+        print("keys line", bad.args[0], file=sys.stderr)
         return 2
     try:
         print(f"ready {words.port}", flush=True)

@@ -14,7 +14,7 @@ import sqlite3
 import web
 from messages import C_ECHO, C_FIND, C_STORE, N_CREATE, N_SET
 
-MOST, READ_MOST, UNSENT_MOST = 64, 16384, 1 << 20
+HOST, MOST, READ_MOST = "127.0.0.1", 64, 16384
 HEAD_MOST, FIELDS_MOST, BODY_MOST = 16384, 64, 1048576
 TOP = pathlib.Path(__file__).resolve().parent.parent.parent
 FILES = {"/": "index.html", "/page.css": "page.css", "/page.js": "page.js"}
@@ -297,4 +297,4 @@ def begun(keeping, words):
     """The front that the words ask for; None where they ask for none."""
     if words.web is None:
         return None
-    return WebService(keeping, read_keys(words.web_keys), (words.web_listen, words.web), words.web_host)
+    return WebService(keeping, read_keys(words.web_keys), (words.web_listen or HOST, words.web), words.web_host)
