@@ -10,6 +10,7 @@ Use: replies.py [--config FILE] [--new FILE | --store FILE] [--report | --check]
 bad configuration with 2, and on a store that is not taken, or that fails, with 4.
 """
 import argparse
+import collections
 import os
 import re
 import sys
@@ -241,6 +242,8 @@ class Connection:
         service = CLASSES[sop_class]
 
         def reply(status, data=None, instance=b""):
+            if status not in (services.PENDING, services.PENDING_OPTIONAL):
+                self.server.served[command.field, "success" if status == services.SUCCESS else "other"] += 1
             return sent(context, response(command, sop_class, status, data is not None, instance), data,
                         self.request.maximum)
 
@@ -271,6 +274,8 @@ class Server:
     def __init__(self, institutions):
         self.institutions = institutions
         self.held = {}
+        # how many messages were answered, by their operation and whether that was a success
+        self.served = collections.Counter()
 
     def routed(self, request):
         pair = (request.called.strip(b" "), request.calling.strip(b" "))

@@ -17,6 +17,7 @@ import time
 
 import replies
 import stores
+import web_serving
 
 MOST, READ_MOST = 64, 16384
 HOST = "127.0.0.1"
@@ -54,17 +55,21 @@ class Keeping:
 
     def step(self, *event):
         line = self.server.reply(*event)
+        self.keep()
+        return line
+
+    def keep(self):
+        """Keeps in the store what has changed."""
         if self.store is not None:
             stores.keep(self.store, self.changes)
         self.changes.clear()
-        return line
 
 
 class Service:
     def __init__(self, keeping, listener, console, words):
         self.keeping, self.listener, self.console = keeping, listener, console
         self.quiet, self.artim, self.peer_connections = words.quiet, words.artim, words.peer_connections
-        self.newest, self.wires, self.callers = 0, [], []
+        self.newest, self.wires, self.callers, self.front = 0, [], [], None
         self.rest_most = 0.2 if self.quiet or self.artim < 5 else 1.0
 
     def wait(self):
@@ -78,6 +83,8 @@ class Service:
                 selector.register(self.console, selectors.EVENT_READ)
             for caller in self.callers:
                 selector.register(caller.stream, selectors.EVENT_WRITE if caller.unsent else selectors.EVENT_READ)
+            for stream, for_what in [] if self.front is None else self.front.watched():
+                selector.register(stream, for_what)
             rest = 0 if any(map(self.is_pending, self.wires)) else self.rest_most
             return {key.fileobj for key, _ in selector.select(rest)}
 
@@ -86,7 +93,7 @@ class Service:
         return not wire.unsent and self.keeping.server.is_pending(wire.number)
 
     def turn(self):
-        ready = self.wait()
+        ready, begun = self.wait(), time.monotonic()
         for stream, address in accepted(self.listener, ready):
             self.let_in(stream, address)
         pending = [one for one in self.wires if one.stream not in ready and self.is_pending(one)]
@@ -100,6 +107,8 @@ class Service:
             self.leave(wire)
         if self.console is not None:
             self.take_orders(ready)
+        if self.front is not None:
+            self.front.turn(ready, time.monotonic() - begun)
 
     def let_in(self, stream, address):
         wire = Wire(stream, address, self.newest + 1)
@@ -141,7 +150,10 @@ class Service:
 
     def take(self, wire, reply):
         words = reply.split(" ")
-        self.answer(wire, b"" if words[1] == "-" else bytes.fromhex(words[1]), words[2:] == ["close"])
+        octets = b"" if words[1] == "-" else bytes.fromhex(words[1])
+        if self.front is not None:
+            self.front.counters.count_sent(octets)
+        self.answer(wire, octets, words[2:] == ["close"])
 
     def answer(self, wire, octets, close):
         wire.unsent, wire.closed = octets, close
@@ -149,6 +161,9 @@ class Service:
     def leave(self, wire):
         """The connection has ended."""
         if not wire.closed:
+            held = self.keeping.server.held.get(wire.number)
+            if self.front is not None and held is not None and held.home is not None:
+                self.front.counters.outcomes["lost"] += 1
             self.keeping.step("end", wire.number, b"")
         self.drop(wire)
 
@@ -261,6 +276,10 @@ def parser():
     words.add_argument("--artim", type=number_in(0, 2 ** 32 - 1), default=30, metavar="<SECONDS>")
     words.add_argument("--quiet", type=number_in(1, 2 ** 32 - 1), metavar="<SECONDS>")
     words.add_argument("--peer-connections", type=number_in(0, 2 ** 32 - 1), default=0, metavar="<N>")
+    words.add_argument("--web", type=number_in(1, 65535), metavar="<PORT>")
+    words.add_argument("--web-keys", metavar="<FILE>")
+    words.add_argument("--web-listen", metavar="<ADDRESS>")
+    words.add_argument("--web-host", metavar="<HOST>")
     words.add_argument("--log", action="store_true")
     words.add_argument("--log-file", metavar="<FILE>")
     return replies.with_options(words)
@@ -268,16 +287,24 @@ def parser():
 
 def serve(words, service=Service):
     """Serves as the words say; the exit status."""
-    words = parser().parse_args(words)
+    parsed = parser()
+    words = parsed.parse_args(words)
+    if (words.web is None) != (words.web_keys is None) or words.web is None and (words.web_listen or words.web_host):
+        parsed.error("--web and --web-keys go together")
     institutions, store, status = replies.begun(words)
     if status:
         return status
+    keeping = Keeping(institutions, store)
     try:
         listener = listening(str(ipaddress.ip_address(words.listen)), words.port)
         console = None if words.console is None else console_at(words.console)
+        front = web_serving.begun(keeping, words)
     except (OSError, ValueError):
         print("network", file=sys.stderr)
         return 5
+    except web_serving.BadKeys as bad:
+        print("keys line", bad.args[0], file=sys.stderr)
+        return 2
     try:
         print(f"ready {words.port}", flush=True)
     except OSError:
@@ -287,7 +314,8 @@ def serve(words, service=Service):
         # nobody else may have it from now on
         store.execute("PRAGMA locking_mode = EXCLUSIVE")
         store.executescript("BEGIN IMMEDIATE; COMMIT")
-    serving = service(Keeping(institutions, store), listener, console, words)
+    serving = service(keeping, listener, console, words)
+    serving.front = front
     if words.turns is not None:
         serving.rest_most = 0.001
     while words.turns is None or words.turns > 0:

@@ -19,11 +19,11 @@ import time
 from client import free_port, until
 
 TOP = pathlib.Path(__file__).resolve().parent.parent.parent
-# The port that pages name, in whose place stands one that is free.
-PORT = "11112"
+# The ports that pages name, in whose places stand some that are free.
+PORTS = ("11112", "8042")
 # What takes too long, or asks for rights: it is counted, and not played.
 LEFT_OUT = ("./build", "./test", "apt ")
-OF_DCMTK = ("dump2dcm", "echoscu", "storescu", "findscu")
+TOOLS = ("dump2dcm", "echoscu", "storescu", "findscu", "curl")
 # The seconds that a command may take.
 LONGEST = 60
 TIME = re.compile(r"\d{4}-\d\d-\d\dT\d\d:\d\d:\d\d(\.\d+)?Z|(?<=127\.0\.0\.1:)\d+|\d+\.\d{3}(?= s )|(?<= ms )\d+$", re.M)
@@ -89,7 +89,7 @@ class Terminal:
     """A folder with what a page needs, and the server that runs in it."""
 
     def __init__(self, program, folder):
-        self.folder, self.server, self.port = pathlib.Path(folder), None, PORT
+        self.folder, self.server, self.ports = pathlib.Path(folder), None, dict(zip(PORTS, PORTS))
         for name in ("captures", "suite", "tools"):
             (self.folder / name).symlink_to(TOP / name)
         for name in ("run", "bin/dq_server"):
@@ -100,9 +100,15 @@ class Terminal:
         self.environment = {**os.environ, "PATH": f"{self.folder / 'bin'}:{os.environ['PATH']}"}
         self.told = self.folder / "bin/told"
 
+    def with_ports(self, text):
+        """A command or a line, with the ports that are free."""
+        for named, port in self.ports.items():
+            text = text.replace(named, port)
+        return text
+
     def run(self, command, **how):
         # (a suite that runs in the background has Ctrl-C ignored, and so would what it starts)
-        return subprocess.Popen(["bash", "-c", command.replace(PORT, self.port)], cwd=self.folder, env=self.environment,
+        return subprocess.Popen(["bash", "-c", self.with_ports(command)], cwd=self.folder, env=self.environment,
                                 stdin=subprocess.DEVNULL, stderr=subprocess.STDOUT, start_new_session=True,
                                 preexec_fn=lambda: signal.signal(signal.SIGINT, signal.SIG_DFL), **how)
 
@@ -152,17 +158,17 @@ class Terminal:
             shown = shown[:-1]
         elif " serve " in command:
             # (one that is free now: beside other suites it may not be for long)
-            self.port = str(free_port())
-            text, status = self.served(command, [line.replace(PORT, self.port) for line in shown])
+            self.ports = {named: str(free_port()) for named in PORTS}
+            text, status = self.served(command, list(map(self.with_ports, shown)))
         else:
             text, status = self.typed(command)
-        return text, [line.replace(PORT, self.port) for line in shown], status
+        return text, list(map(self.with_ports, shown)), status
 
 
 def missing_tool(command):
-    """The tool of DCMTK that a command calls and that is not installed."""
+    """The tool that a command calls and that is not installed."""
     name = (command or "").split(" ")[0]
-    return name if name in OF_DCMTK and not shutil.which(name) else None
+    return name if name in TOOLS and not shutil.which(name) else None
 
 
 def play(page, program, told):
