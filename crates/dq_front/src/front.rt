@@ -331,10 +331,13 @@ impl<W: Wires + Drop> Wires for Front<W> {
                 _ => first = Some(visitor),
             }
         }
-        match first {
-            Some(visitor) if visitor.begin() => Ok(Some(visitor.place)),
-            _ => Ok(None),
+        let Some(visitor) = first else {
+            return Ok(None);
+        };
+        if visitor.begin() {
+            return Ok(Some(visitor.place));
         }
+        Ok(None)
     }
 
     fn read(&mut self, place: usize, buffer: &mut [u8]) -> Result<ReadTurn, WireFault> {
