@@ -3,6 +3,7 @@ use Rattle.std.specs.Prelude.{◌≡◌, ◌⊎◌, ◌==◌, ℕ, ◌++◌, ◌
 use Rattle.std.specs.List.{list_all, list_any, flat_map, slice_split, starts_with}
 use Rattle.hex.specs.Hex.{encode_lower}
 use Rattle.percent_encoding.specs.Percent.{percent_decode}
+use Rattle.dq_list.specs.Among.{IsAmong}
 use Rattle.dq_web.specs.declared.cutting.Request.{Request}
 use Rattle.dq_web.specs.declared.guard.Guard.{Guard}
 use Rattle.dq_web.specs.declared.places.Place.{Place}
@@ -15,7 +16,7 @@ use Rattle.dq_web.specs.declared.asking.Method.{Method}
 use Rattle.dq_web.specs.declared.asking.Method.TheVariants.{Get, Post, Delete, Other}
 use Rattle.dq_web.specs.declared.asking.Question.{Question}
 use Rattle.dq_web.specs.Guards.{IsAdmitted, IsOpened}
-use Rattle.dq_web.specs.Places.{IsPath}
+use Rattle.dq_web.specs.Places.{IsPath, beneath}
 
 -- no space, no control and nothing past ASCII: 21H to 7EH
 abbrev pub is_visible : ℕ → Bool
@@ -140,3 +141,34 @@ IsAsked guard request (asked.Question question) = IsQuestion guard request quest
 IsAsked guard request (asked.Refused refusal) = Unit {0}
 IsAsked guard request (asked.Document document) = IsAdmitted guard.host request.fields
 IsAsked guard request asked.Health = IsAdmitted guard.host request.fields
+
+-- the words of the console that change nothing
+abbrev pub look_words : List (List ℕ)
+look_words = codes "studies " ∷ (codes "series " ∷ (codes "images " ∷ (codes "worklist "
+    ∷ (codes "steps " ∷ (codes "report" ∷ [])))))
+
+-- the line asks for a look
+abbrev pub IsLook : List ℕ → Type 0
+IsLook line = (word : List ℕ) × (rest : List ℕ) × IsAmong word look_words × (line ≡ word ++ rest)
+
+-- a request of this method at this path
+abbrev pub IsCall : Request → List ℕ → List ℕ → Type 0
+IsCall request method path = (query : List ℕ) × IsTarget request.target.now path query
+    × (request.method.now ≡ method)
+
+-- POST of a body at the worklist of the question's institution, and the order to schedule it there
+abbrev pub IsScheduling : Request → Question → Type 0
+IsScheduling request question =
+    IsCall request (codes "POST") (codes "/" ++ beneath question.name (codes "worklist"))
+    × (question.line ≡ codes "schedule " ++ question.name ++ codes " " ++ digits_of request.body.now)
+
+-- DELETE of an entry of that worklist, and the order to withdraw it there
+abbrev pub IsWithdrawing : Request → Question → Type 0
+IsWithdrawing request question = (id : List ℕ)
+    × IsCall request (codes "DELETE") (codes "/" ++ beneath question.name (codes "worklist/" ++ id))
+    × (question.line ≡ codes "withdraw " ++ question.name ++ codes " " ++ digits_of (percent_decode id))
+
+-- POST of a path by the operator, and the order to copy all rows to it
+abbrev pub IsBackingUp : Request → Question → Type 0
+IsBackingUp request question = IsCall request (codes "POST") (codes "/backup")
+    × (question.name ≡ codes "*") × (question.line ≡ codes "backup " ++ request.body.now)

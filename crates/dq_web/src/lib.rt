@@ -7,6 +7,7 @@ mod counters;
 mod cutting;
 mod guard;
 mod keys;
+pub mod laws;
 mod metrics;
 mod page;
 mod places;
