@@ -14,7 +14,7 @@ use Rattle.dq_tables.proofs.Order.{is_at, each_passed, filter_none, IsRising-spl
 use Rattle.dq_tables.proofs.Seen.{listed_own}
 use Rattle.dq_tables.proofs.There.{StandsAt, stands_there}
 use Rattle.dq_sql.specs.WholeRows.{SpareKind}
-use Rattle.dq_sql.proofs.Moved.{IsAtPlace, at_place}
+use Rattle.dq_sql.proofs.Moved.{at_place}
 
 pub elsewhere_kept : (kind : Kind) (inst : List ℕ) (change : Change) (rows : List Row) → institution_of change ≢ inst → IsRising rows
     → rows_of kind inst (after (operation_of change) rows) ≡ rows_of kind inst rows

@@ -1,4 +1,4 @@
-use Rattle.std.proofs.Common.{rules, ◌≡◌, ◌<◌, Bool, List, All, get_or, length, sym, subst}
+use Rattle.std.proofs.Common.{rules, ◌≡◌, Bool, List, All, sym, subst}
 use Rattle.std.specs.List.{items_where_true}
 use Rattle.std.proofs.lemmas.Fn.{All-from_retain}
 use Rattle.std.proofs.lemmas.Grind.{get_or_picked}

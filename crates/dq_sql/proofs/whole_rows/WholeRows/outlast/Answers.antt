@@ -1,4 +1,4 @@
-use Rattle.std.proofs.Common.{◌≡◌, ◌≢◌, sym, ◌∙◌, rules}
+use Rattle.std.proofs.Common.{◌≢◌, sym, ◌∙◌, rules}
 use Rattle.dq_tables.specs.Rows.{institution_of}
 use Rattle.dq_sql.proofs.WholeRows.{elsewhere_kept, spared_kept}
 use Rattle.dq_sql.proofs.whole_rows.WholeRows.outlast.Goals as goal
