@@ -7,6 +7,7 @@ mod Found
 mod Inserted
 mod KeysAbove
 mod RowsAbove
+mod WholeRows
 mod Judged
 mod Judgements
 mod Keeping

@@ -183,7 +183,7 @@ module _ (choice : Choice) (inst : List ℕ) (rows : List Row) (none : choice.ui
     every [] = refl
     every (row ∷ all) = ap (λ (l : List Row). row ∷ l) (every all)
 
-    chosen_of_all : choice.first_day ≡ None → choice.last_day ≡ None → rows_of Study inst rows ≡ studies_in choice inst rows
+    pub chosen_of_all : choice.first_day ≡ None → choice.last_day ≡ None → rows_of Study inst rows ≡ studies_in choice inst rows
     chosen_of_all early late =
         sym (every (rows_of Study inst rows))
         ∙ (λ i. filter (is_of_days (sym early i) (sym late i)) (rows_of Study inst rows))

@@ -13,6 +13,7 @@ pub mod Adopting
 pub mod Copying
 pub mod Counts
 pub mod CountsAbove
+pub mod WholeRows
 pub mod RowsAbove
 pub mod Filling
 pub mod Migrating

@@ -3,7 +3,7 @@
 //! A comparison never holds of a null, so no bounds of an index enclose the rows that have one. But
 //! nulls come first in its order: the rows are read in that order, ever more, up to one that has a
 //! value.
-ghost use Rattle.std.specs.Prelude.{◌≡◌, ◌++◌, IfOk, OnOk, IfSome, IsPermutation, IsSortedByKey, take, filter, map, option_to_list};
+ghost use Rattle.std.specs.Prelude.{◌≡◌, ◌++◌, ℕ, List, IfOk, OnOk, IfSome, IsTrue, IsPermutation, IsSortedByKey, take, filter, map, option_to_list};
 ghost use Rattle.sqlite_value.specs.Value.{owned};
 ghost use Rattle.sqlite_value.specs.Order.{column};
 ghost use Rattle.sqlite_sql.specs.Ops.{is_null};
@@ -312,6 +312,17 @@ fn by_days<S: Alter>(
     let said = of_days(conn, institution, choice.first_day, choice.last_day)?;
     let silent = without(conn, institution, Label::Day, silents)?;
     shown_in_order(alloc, institution, said, silent)
+}
+
+/// Whether a choice asks nothing of a study.
+pub(crate) fn takes_all(choice: &Choice) -> bool
+    ensures { IsTrue result → (institution : List ℕ) (rows : List Row)
+        → rows_of Study institution rows ≡ studies_in choice.now institution rows }
+{
+    choice.uid.is_none()
+        && choice.patient.is_none()
+        && choice.first_day.is_none()
+        && choice.last_day.is_none()
 }
 
 /// The institution's studies that a choice takes, in the order of their keys, by the first of its

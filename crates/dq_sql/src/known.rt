@@ -56,7 +56,7 @@ impl Known {
             counts: Counts::new(alloc),
             under: None,
             asked: 0,
-            rows: KnownRows::new(),
+            rows: KnownRows::new(alloc),
         }
     }
 
@@ -133,7 +133,7 @@ impl Known {
         self.counts.follow(change);
         self.under = None;
         self.asked = 0;
-        self.rows.forget();
+        self.rows.follow(change);
     }
 
     /// Where many numbers were asked since a change, learns more of what is asked of: how many rows
@@ -182,6 +182,27 @@ impl Known {
             → IfSome found (λ list. list ≡ rows_above kind institution.now above.now rows)) }
     {
         self.rows.get(alloc, kind, institution, above)
+    }
+
+    /// All rows of a kind that the institution has, where they are known.
+    pub(crate) fn get_whole(
+        &self,
+        alloc: Global,
+        kind: Kind,
+        institution: &[u8],
+    ) -> Result<Option<Listed<Row>>, AllocError>
+        ensures { IfOk result (λ found. (rows : List Row) → AreKnown rows self.now
+            → IfSome found (λ list. list ≡ rows_of kind institution.now rows)) }
+    {
+        self.rows.get_whole(alloc, kind, institution)
+    }
+
+    /// Remembers all rows of a kind that the institution has, where there is room for them.
+    pub(crate) fn note_whole(&mut self, alloc: Global, kind: Kind, institution: &[u8], rows: &[Row])
+        ensures { (all : List Row) → rows.now ≡ rows_of kind institution.now all
+            → AreKnown all self.old → AreKnown all self.new }
+    {
+        self.rows.note_whole(alloc, kind, institution, rows);
     }
 
     /// Where rows under many keys were asked for since a change, learns more of what is asked for:

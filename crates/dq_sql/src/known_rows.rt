@@ -1,16 +1,18 @@
-//! What is remembered of the rows under each key.
+//! What is remembered of rows: those under each key, and all of a kind.
 ghost use Rattle.std.specs.Prelude.{◌≡◌, List, IfOk, IfSome, IsTrue};
 ghost use Rattle.sqlite.specs.State.{HasCleanDisk};
 ghost use Rattle.sqlite.specs.Held.{state};
 ghost use Rattle.dq_tables.specs.declared.row.Row.{Row};
-ghost use Rattle.dq_tables.specs.Finding.{rows_above};
+ghost use Rattle.dq_tables.specs.Rows.{IsRising, after, operation_of};
+ghost use Rattle.dq_tables.specs.Finding.{rows_of, rows_above};
 ghost use Rattle.dq_sql.specs.Tie.{HasRows, Stays};
 ghost use Rattle.dq_sql.specs.RowsAbove.{HasRowsAbove, RowsAreKnown};
 
 use crate::reading;
 use crate::rows_above::RowsAbove;
+use crate::whole_rows::{WholeRows, room_of};
 use dq_list::Listed;
-use dq_tables::{Kind, Row, TableFault};
+use dq_tables::{Change, Kind, Row, TableFault};
 use sqlite::{Alter, Connection};
 use std::alloc::{AllocError, Global};
 
@@ -28,6 +30,12 @@ const MOST_ROWS: u64 = 65_536;
 /// row takes some 300 octets, so that some 40 MiB are kept at most.
 const MOST_OCTETS: usize = 16 << 20;
 
+/// A list of all rows of a kind with more rows is not kept.
+const MOST_LISTED: usize = 65_536;
+
+/// All such lists together take about so many octets of memory at most.
+const MOST_ROOM: usize = 32 << 20;
+
 /// The rows of a kind that an institution has, under each key.
 #[derive(Drop)]
 struct KindRows {
@@ -36,11 +44,13 @@ struct KindRows {
     each: RowsAbove,
 }
 
-/// Of one kind the rows under each key since the last change.
+/// Of one kind the rows under each key since the last change, and lists of all rows of a kind that an
+/// institution has, each until a change of such rows.
 #[derive(Drop)]
 pub(crate) struct KnownRows {
     under: Option<KindRows>,
     asked: u64,
+    whole: Vec<WholeRows>,
 }
 
 /// Whether rows have few enough octets to be kept.
@@ -54,12 +64,13 @@ fn are_small(rows: &[Row]) -> bool {
 
 impl KnownRows {
     /// Nothing is known. It takes no memory.
-    pub(crate) fn new() -> KnownRows
+    pub(crate) fn new(alloc: Global) -> KnownRows
         ensures { (rows : List Row) → RowsAreKnown rows result }
     {
         KnownRows {
             under: None,
             asked: 0,
+            whole: Vec::new(alloc),
         }
     }
 
@@ -99,12 +110,78 @@ impl KnownRows {
         Ok(())
     }
 
-    /// A change was made, or memory is to be freed.
-    pub(crate) fn forget(&mut self)
-        ensures { (rows : List Row) → RowsAreKnown rows self.new }
+    /// All rows of a kind that the institution has, where they are known.
+    pub(crate) fn get_whole(
+        &self,
+        alloc: Global,
+        kind: Kind,
+        institution: &[u8],
+    ) -> Result<Option<Listed<Row>>, AllocError>
+        ensures { IfOk result (λ found. (rows : List Row) → RowsAreKnown rows self.now
+            → IfSome found (λ list. list ≡ rows_of kind institution.now rows)) }
+    {
+        match self
+            .whole
+            .iter()
+            .find(|whole| whole.is_of(kind, institution))
+        {
+            Some(whole) => Ok(Some(whole.copied(alloc)?)),
+            None => Ok(None),
+        }
+    }
+
+    /// Whether a list of rows can be remembered beside the others.
+    fn has_room(&self, rows: &[Row]) -> bool {
+        let mut room = room_of(rows);
+        for whole in &self.whole {
+            room = room.saturating_add(whole.room());
+        }
+        rows.len() <= MOST_LISTED && room <= MOST_ROOM
+    }
+
+    /// Remembers all rows of a kind that the institution has.
+    fn add_whole(
+        &mut self,
+        alloc: Global,
+        kind: Kind,
+        institution: &[u8],
+        rows: &[Row],
+    ) -> Result<(), AllocError>
+        ensures { (all : List Row) → rows.now ≡ rows_of kind institution.now all
+            → RowsAreKnown all self.old → RowsAreKnown all self.new }
+    {
+        self.whole
+            .push(WholeRows::copy_of(alloc, kind, institution, rows)?)?;
+        Ok(())
+    }
+
+    /// Remembers all rows of a kind that the institution has, where there is room and memory for
+    /// them. What is remembered already stays.
+    pub(crate) fn note_whole(&mut self, alloc: Global, kind: Kind, institution: &[u8], rows: &[Row])
+        ensures { (all : List Row) → rows.now ≡ rows_of kind institution.now all
+            → RowsAreKnown all self.old → RowsAreKnown all self.new }
+    {
+        if self.has_room(rows) {
+            let _ = self.add_whole(alloc, kind, institution, rows);
+        }
+    }
+
+    /// Those under each key are forgotten.
+    fn forget(&mut self)
+        ensures { (rows : List Row) → RowsAreKnown rows self.old → RowsAreKnown rows self.new }
     {
         self.under = None;
         self.asked = 0;
+    }
+
+    /// A change was made.
+    pub(crate) fn follow(&mut self, change: &Change)
+        ensures { (rows : List Row) → IsRising rows → RowsAreKnown rows self.old
+            → RowsAreKnown (after (operation_of change.now) rows) self.new }
+    {
+        self.under = None;
+        self.asked = 0;
+        self.whole.retain(|whole| whole.outlast(change));
     }
 
     /// Rows under a key are asked for once more. Whether they were so often.

@@ -32,6 +32,7 @@ mod schema_test;
 mod silents;
 mod sql_tables;
 mod version;
+mod whole_rows;
 mod writing;
 
 pub use fault::StoreFault;

@@ -11,14 +11,14 @@ use std::alloc::{AllocError, Global};
 use std::collections::BTreeMap;
 
 /// Copies of rows.
-fn copies(alloc: Global, rows: &[Row]) -> Result<Listed<Row>, AllocError>
+pub(crate) fn copies(alloc: Global, rows: &[Row]) -> Result<Listed<Row>, AllocError>
     ensures { IfOk result (λ list. list ≡ rows.now) }
 {
-    let mut list = Listed::empty(alloc);
+    let mut list = Vec::with_capacity(alloc, rows.len())?;
     for row in rows {
         list.push(row.copied(alloc)?)?;
     }
-    Ok(list)
+    Ok(Listed::from_inner(list))
 }
 
 /// Rows by the key of the row above them.

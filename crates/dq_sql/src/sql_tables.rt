@@ -154,8 +154,14 @@ impl<S: Alter> Tables for SqlTables<S> {
     }
 
     fn rows_of(&mut self, kind: Kind, institution: &[u8]) -> Result<Listed<Row>, TableFault> {
+        if let Some(rows) = self.known.get_whole(self.alloc, kind, institution)? {
+            return Ok(rows);
+        }
         let answer = reading::rows_of(&mut self.conn, self.alloc, kind, institution);
-        noted(&mut self.failed, answer)
+        let rows = noted(&mut self.failed, answer)?;
+        self.known
+            .note_whole(self.alloc, kind, institution, rows.as_slice());
+        Ok(rows)
     }
 
     fn rows_above(
@@ -180,6 +186,9 @@ impl<S: Alter> Tables for SqlTables<S> {
         institution: &[u8],
         choice: &Choice,
     ) -> Result<Listed<Row>, TableFault> {
+        if choosing::takes_all(choice) {
+            return self.rows_of(Kind::Study, institution);
+        }
         let answer = choosing::studies_in(
             &mut self.conn,
             &mut self.silents,
