@@ -4,7 +4,8 @@ use crate::visitor::{Stage, Visitor};
 use dq_config::Institution;
 use dq_list::Listed;
 use dq_web::{
-    Asked, Counters, Cut, Guard, Question, Refusal, answered, ask, cut_off, document, healthy, refused,
+    Asked, Counters, Cut, Guard, Question, Refusal, answered, ask, cut_off, document, healthy,
+    refused,
 };
 use dq_wires::{READ_MOST, ReadTurn, WireFault, Wires};
 use std::alloc::{AllocError, Global};
@@ -175,20 +176,20 @@ impl<W: Wires + Drop> Front<W> {
     /// are read. A connection that fails, or for which there is no memory, is let go.
     pub fn attend(&mut self) {
         self.let_in();
-        let mut at = 0;
-        while at < self.visitors.len() {
+        let mut at: usize = 0;
+        for _visitor in 0..self.visitors.len() {
             if self.is_kept(at) {
-                at += 1;
-            } else {
+                at = at.saturating_add(1);
+            } else if at < self.visitors.len() {
                 let gone = self.visitors.remove(at);
                 let _ = self.wires.shut(gone.place);
             }
         }
     }
 
-    // Lets connections in, as long as there is room.
+    // Lets connections in that come, as long as there is room.
     fn let_in(&mut self) {
-        while self.visitors.len() < MOST_VISITORS {
+        for _visitor in self.visitors.len()..MOST_VISITORS {
             let Ok(Some(place)) = self.wires.accept() else {
                 return;
             };
@@ -200,10 +201,10 @@ impl<W: Wires + Drop> Front<W> {
     }
 
     // The turn of one connection. The answer is whether it is kept: it is while the console holds it.
-    fn is_kept(&mut self, at: usize) -> bool
-        requires { at < vec_len self.old.visitors }
-    {
-        let visitor = &mut self.visitors[at];
+    fn is_kept(&mut self, at: usize) -> bool {
+        let Some(visitor) = self.visitors.get_mut(at) else {
+            return true;
+        };
         let is_there = match visitor.stage {
             Stage::Writing(..) => visitor.write(&mut self.wires),
             Stage::Reading if visitor.is_fresh => true,
@@ -280,9 +281,31 @@ impl<W: Wires + Drop> Front<W> {
         };
         let response = self.site.response_to(question, told)?;
         let alloc = self.site.alloc;
-        note(alloc, &mut self.notes, visitor, response.as_slice(), &self.clock)?;
+        note(
+            alloc,
+            &mut self.notes,
+            visitor,
+            response.as_slice(),
+            &self.clock,
+        )?;
         visitor.put(response);
         Ok(())
+    }
+
+    // Which connection has waited longest for the console.
+    fn first_waiting(&self) -> Option<usize> {
+        let mut first: Option<(usize, u64)> = None;
+        for (at, visitor) in self.visitors.iter().enumerate() {
+            let is_before = match first {
+                Some((_, ticket)) => visitor.ticket < ticket,
+                None => true,
+            };
+            if visitor.is_waiting() && is_before {
+                first = Some((at, visitor.ticket));
+            }
+        }
+        let (at, _) = first?;
+        Some(at)
     }
 
     // The connection at a place that the console holds.
@@ -321,17 +344,10 @@ impl<W: Wires + Drop> Wires for Front<W> {
         if self.visitors.iter().any(|visitor| visitor.is_called) {
             return Ok(None);
         }
-        let mut first: Option<&mut Visitor> = None;
-        for visitor in self.visitors.iter_mut() {
-            if !visitor.is_waiting() {
-                continue;
-            }
-            match &first {
-                Some(other) if other.ticket <= visitor.ticket => {}
-                _ => first = Some(visitor),
-            }
-        }
-        let Some(visitor) = first else {
+        let Some(at) = self.first_waiting() else {
+            return Ok(None);
+        };
+        let Some(visitor) = self.visitors.get_mut(at) else {
             return Ok(None);
         };
         if visitor.begin() {
@@ -342,7 +358,7 @@ impl<W: Wires + Drop> Wires for Front<W> {
 
     fn read(&mut self, place: usize, buffer: &mut [u8]) -> Result<ReadTurn, WireFault> {
         match self.called_at(place) {
-            Some(visitor) => Ok(visitor.give(buffer)),
+            Some(visitor) => visitor.give(buffer),
             None => Err(WireFault),
         }
     }

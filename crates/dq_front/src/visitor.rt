@@ -1,4 +1,7 @@
 //! A connection of the web front.
+ghost use Rattle.std.specs.Prelude.{◌≤◌, length};
+ghost use Rattle.dq_wires.specs.Logs.{IfGot};
+
 use dq_web::{Form, Question};
 use dq_wires::{ReadTurn, WireFault, Wires};
 use std::alloc::{AllocError, Global};
@@ -98,21 +101,22 @@ impl Visitor {
     }
 
     /// Gives the console the next octets of its line, and that it ended once it is answered.
-    pub fn give(&mut self, buffer: &mut [u8]) -> ReadTurn {
+    pub fn give(&mut self, buffer: &mut [u8]) -> Result<ReadTurn, WireFault>
+        ensures { IfGot result (λ count. count ≤ length buffer.old) }
+    {
         let Stage::Asking(question, given) = &mut self.stage else {
-            return ReadTurn::Ended;
+            return Ok(ReadTurn::Ended);
         };
-        let line = question.line.as_slice();
-        let mut count = 0;
-        for (slot, octet) in buffer.iter_mut().zip(line.iter().skip(*given)) {
-            *slot = *octet;
-            count += 1;
-        }
-        *given = given.saturating_add(count);
+        let Some(rest) = question.line.as_slice().get(*given..) else {
+            return Ok(ReadTurn::Ended);
+        };
+        let count = rest.len().min(buffer.len());
         if count == 0 {
-            return ReadTurn::Nothing;
+            return Ok(ReadTurn::Nothing);
         }
-        ReadTurn::Got(count)
+        buffer[..count].copy_from_slice(&rest[..count]);
+        *given = given.saturating_add(count);
+        Ok(ReadTurn::Got(count))
     }
 
     /// Writes what is left of its response. The answer is whether the connection is still there.
