@@ -6,7 +6,7 @@ use Rattle.clap.specs.declared.error.kind.ErrorKind.TheVariants as kind
 use Rattle.dq_tables.specs.declared.row.Row.{Row}
 use Rattle.dq_wires.specs.declared.calls.Call.{Call}
 use Rattle.dq_wires.specs.Turns.{Cut}
-use Rattle.dq_words.specs.Words.{Errand, Plays, Serves, Loops, Migrates, Checks, Copies}
+use Rattle.dq_words.specs.Words.{Errand, Plays, Serves, Loops, Migrates, Checks, Copies, Exports}
 use Rattle.dq_program.specs.declared.network.Unheard.{Unheard}
 use Rattle.dq_program.specs.declared.network.Unheard.TheVariants as unheard
 use Rattle.dq_program.specs.declared.stop.Stop.{Stop}
@@ -64,6 +64,9 @@ module _ {Wired : Type 0} (log : Wired → Option (List Call)) (held : List ℕ 
   no-usage (Checks checking) (inr (institutions, by, cut)) = cut.1
   no-usage (Copies copying) (kept, inl refused) = refused
   no-usage (Copies copying) (kept, inr unclosed) = let is : Usage ≡ unclosed_store = unclosed in absurd (cc)
+  no-usage (Exports exporting) (inl refused) = refused.1
+  no-usage (Exports exporting) (inr (inl cut)) = cut.0
+  no-usage (Exports exporting) (inr (inr kept)) = let is : Usage ≡ unclosed_store = kept.0 in absurd (cc)
 
   -- words that are understood are not told as usage
   pub not_usage : (errand : Errand) (cause : Stop) → EndsEarly log held stored input before after unread unfed fails breaks errand cause
@@ -87,6 +90,7 @@ module _ {Wired : Type 0} (log : Wired → Option (List Call)) (held : List ℕ 
   unbegun (Migrates files) = inl (keeps written, refl)
   unbegun (Checks checking) = inl (keeps written, refl)
   unbegun (Copies copying) = (keeps written, inl refl)
+  unbegun (Exports exporting) = inl (keeps written, refl)
 
   -- Words that ask for something are not read only for want of memory.
   pub unread_words : (found : Option Errand) (errand : Errand) (Told : Stop → Type 0) (k : ErrorKind) (status : ℕ)

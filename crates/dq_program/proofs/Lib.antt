@@ -1,6 +1,7 @@
 pub mod Inputs
 pub mod Cutting
 pub mod Ends
+pub mod Exported
 pub mod Heeding
 pub mod Lines
 pub mod Listed

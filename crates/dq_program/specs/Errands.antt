@@ -3,10 +3,11 @@ use Rattle.std.specs.Prelude.{◌≡◌, ℕ, List, length, Option, IfSome}
 use Rattle.std.specs.Io.KnownBytes.{Appends}
 use Rattle.dq_tables.specs.declared.row.Row.{Row}
 use Rattle.dq_wires.specs.declared.calls.Call.{Call}
-use Rattle.dq_words.specs.Words.{Errand, Plays, Serves, Loops, Migrates, Checks, Copies}
+use Rattle.dq_words.specs.Words.{Errand, Plays, Serves, Loops, Migrates, Checks, Copies, Exports}
 use Rattle.dq_program.specs.declared.stop.Stop.{Stop}
 use Rattle.dq_program.specs.Checks.{IsChecked, StopsCheck}
 use Rattle.dq_program.specs.Copies.{copied_line, EndsCopy}
+use Rattle.dq_program.specs.Exports.{IsExported, StopsExport}
 use Rattle.dq_program.specs.Looping.{IsLooped, EndsLoop}
 use Rattle.dq_program.specs.Program.{IsReplayed, StopsPlay, migrated_line, EndsMigration}
 use Rattle.dq_program.specs.Serving.{IsServed, StopsService}
@@ -30,6 +31,7 @@ module _ {Wired : Type 0} (log : Wired → Option (List Call)) (held : List ℕ 
   IsDone (Copies copying) = (kept : List Row) × closed kept
       × IfSome (copied copying.from copying.only) (λ rows. kept ≡ rows)
       × Appends before after (copied_line (length kept))
+  IsDone (Exports exporting) = IsExported stored before after closed exporting
 
 -- It stopped short of its end, as far as files, the input, the output and the network may fail.
 module _ {Wired : Type 0} (log : Wired → Option (List Call)) (held : List ℕ → Option (List ℕ))
@@ -45,3 +47,4 @@ module _ {Wired : Type 0} (log : Wired → Option (List Call)) (held : List ℕ 
   EndsEarly (Checks checking) cause =
       StopsCheck held stored before after unread fails checking cause
   EndsEarly (Copies copying) cause = EndsCopy fails before after cause
+  EndsEarly (Exports exporting) cause = StopsExport stored before after fails exporting cause

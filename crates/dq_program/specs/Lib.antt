@@ -4,6 +4,7 @@ pub mod Console
 pub mod Copies
 pub mod Desk
 pub mod Errands
+pub mod Exports
 pub mod Heeding
 pub mod Looping
 pub mod Places

@@ -1,6 +1,13 @@
-//! A law of the parts of the program together.
-ghost use Rattle.std.specs.Prelude.{IfSome};
+//! Laws of the parts of the program together.
+ghost use Rattle.std.specs.Prelude.{◌≡◌, ◌≢◌, ℕ, List, IfSome};
+ghost use Rattle.dq_tables.specs.declared.row.Kind.{Kind};
+ghost use Rattle.dq_tables.specs.declared.row.Row.{Row};
+ghost use Rattle.dq_tables.specs.Finding.{records_of};
+ghost use Rattle.dq_tables.specs.Records.{AreInOrder};
+ghost use Rattle.dq_tables.specs.Rows.{Edit, IsRising, after, by, of};
 ghost use Rattle.dq_captures.specs.Captures.{lines_of};
+ghost use Rattle.dq_words.specs.Words.{Exporting};
+ghost use Rattle.dq_program.specs.Exports.{export_text};
 ghost use Rattle.dq_program.specs.Replays.{IsExactReplay};
 
 use crate::stores::Stores;
@@ -34,3 +41,17 @@ pub fn replays_of_stores_are_exact<Rt: AllocGlobal + Stores>(
         Err(_) => None,
     }
 }
+
+/// What an export prints depends on the institution's own records alone: changes of another one leave it
+/// as it is. Each of these records is exported once, in the order of the keys.
+#[tactic(auto, using(crate::proofs::Exported::own_alone, crate::proofs::Exported::others_stay, crate::proofs::Exported::in_order))]
+pub fn exports_are_of_own_records()
+    ensures own { (exporting : Exporting) (one other : List Row)
+        → of exporting.only one ≡ of exporting.only other
+        → export_text one exporting ≡ export_text other exporting }
+    ensures others { (exporting : Exporting) (name : List ℕ) → name ≢ exporting.only
+        → (edits : List Edit) (rows : List Row) → IsRising rows
+        → export_text (after (by name edits) rows) exporting ≡ export_text rows exporting }
+    ensures ordered { (exporting : Exporting) (kind : Kind) (rows : List Row) → IsRising rows
+        → AreInOrder (records_of kind (of exporting.only rows)) }
+{}

@@ -10,6 +10,7 @@ mod caller;
 mod checking;
 mod copying;
 mod desk;
+mod exporting;
 pub mod laws;
 mod looping;
 mod migrating;

@@ -14,6 +14,7 @@ ghost use Rattle.dq_program.specs.Errands.{IsDone, EndsEarly};
 use crate::answering::answer;
 use crate::checking::check;
 use crate::copying::copy;
+use crate::exporting::export_rows;
 use crate::looping::loop_over;
 use crate::migrating::migrate;
 use crate::network::Network;
@@ -144,6 +145,7 @@ fn do_job<Rt: AllocGlobal + Folder + Stores + Network, R: Source, W: Sink>(
         Job::Migrate(files) => migrate(rt, files, output),
         Job::Check(inspection) => check(rt, inspection, output),
         Job::Copy(copying) => copy(rt, &copying, output),
+        Job::Export(export) => export_rows(rt, export, output),
     }
 }
 

@@ -21,7 +21,8 @@ use dq_list::Listed;
 use dq_tables::{Kind, Tables};
 use std::alloc::{AllocError, Global};
 
-static KINDS: [Kind; 5] = [
+/// Every kind of rows, in its order.
+pub static KINDS: [Kind; 5] = [
     Kind::Study,
     Kind::Series,
     Kind::Image,

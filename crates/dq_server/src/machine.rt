@@ -25,7 +25,8 @@ use std::alloc::{AllocError, Global};
 use std::io::{IsTerminal, Write};
 use std::{fs, io};
 
-/// How many octets a store has at least, for a terminal to be told that it is read.
+/// How many octets a store has at least, for a terminal to be told that it is read, or that a new
+/// store is written of its rows.
 const LARGE_STORE: u64 = 10_000_000;
 
 /// The machine that the program runs on.
@@ -220,6 +221,14 @@ fn tell_reading(rt: &HostRuntime, path: &str, octets: u64) {
     }
 }
 
+/// Tells a terminal that a new store is written, of the rows of one of so many octets.
+fn tell_writing(rt: &HostRuntime, path: &str, octets: u64) {
+    let mut errors = rt.stderr();
+    if octets >= LARGE_STORE && errors.is_terminal() {
+        let _ = writeln!(errors, "writing {path}");
+    }
+}
+
 impl Machine<'_> {
     /// A connection to a file, which is made where it is not there. A crash is read without the
     /// hypothesis that a torn write leaves each octet old or new.
@@ -252,13 +261,13 @@ impl Machine<'_> {
         }
     }
 
-    /// Whether there is a plain file, which a connection would make. It is not opened: what is no plain
-    /// file may keep a program waiting that opens it.
-    fn is_there(&self, path: &str) -> Result<(), Unkept> {
+    /// How many octets a plain file has, which a connection would make. It is not opened: what is no
+    /// plain file may keep a program waiting that opens it.
+    fn octets_at(&self, path: &str) -> Result<u64, Unkept> {
         match fs::metadata(self.rt, path) {
             Ok(found) if found.is_file() => {
                 tell_reading(self.rt, path, found.len());
-                Ok(())
+                Ok(found.len())
             }
             Err(error) if error.kind() == io::ErrorKind::OutOfMemory => Err(Unkept::NoMemory),
             _ => Err(unkept(StoreFault::Store)),
@@ -309,15 +318,17 @@ impl Stores for Machine<'_> {
     }
 
     fn store(&self, alloc: Global, path: &str) -> Result<Self::File, Unkept> {
-        self.is_there(path)?;
+        self.octets_at(path)?;
         kept_at(self.rt, alloc, path, Wary)
     }
 
     fn migrate(&self, alloc: Global, from: &str, to: &str) -> Result<Self::File, Unkept> {
         // The old file is locked while the new one is opened, so that they cannot be one.
-        self.is_there(from)?;
+        let octets = self.octets_at(from)?;
         let mut old = self.found(from)?;
-        match SqlTables::migrate_lent(alloc, &mut old, self.found(to)?) {
+        let new = self.found(to)?;
+        tell_writing(self.rt, to, octets);
+        match SqlTables::migrate_lent(alloc, &mut old, new) {
             Ok(tables) => Ok(tables),
             Err((fault, _)) => Err(unmigrated(fault)),
         }
@@ -331,9 +342,11 @@ impl Stores for Machine<'_> {
         only: &[&str],
     ) -> Result<Result<u64, Unclosed>, Unkept> {
         // As at a migration, the old file is locked.
-        self.is_there(from)?;
+        let octets = self.octets_at(from)?;
         let mut old = self.found(from)?;
-        rows_copied(alloc, &mut old, self.found(to)?, only)
+        let new = self.found(to)?;
+        tell_writing(self.rt, to, octets);
+        rows_copied(alloc, &mut old, new, only)
     }
 
     fn backup(&self, alloc: Global, tables: &mut Self::File, path: &str) -> Result<(), Uncopied> {

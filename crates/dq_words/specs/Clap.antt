@@ -78,6 +78,13 @@ copy_app = with_rule
     (required_rule (codes "to")))
     (repeated_rule (codes "only"))
 
+-- the one that exports the rows of an institution
+abbrev pub export_app : App
+export_app = with_rule
+    (with_rule (with_rule (new_app (codes "export")) (required_rule (codes "store")))
+    (required_rule (codes "only")))
+    (value_rule (codes "kind"))
+
 -- a command that tells its version when it is asked for it
 abbrev pub with_version : App → App
 with_version app = record app { top = record app.top { has_version = true } }
@@ -97,8 +104,10 @@ serving_app = with_subcommand (with_subcommand tasks_app serve_app.top) loopback
 
 abbrev pub command : App
 command = with_subcommand
+    (with_subcommand
     (with_subcommand (with_subcommand serving_app migrate_app.top) check_app.top)
-    copy_app.top
+    copy_app.top)
+    export_app.top
 
 -- the value of an option of the subcommand
 abbrev pub value_in : Text → Option (Text × List Row) → Option Text

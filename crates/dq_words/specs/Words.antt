@@ -2,18 +2,21 @@
 use Rattle.std.specs.Prelude.{ℕ, Bool, ◌^◌, ◌&&◌, nat_lt, if◌then◌else◌, List, [], ◌∷◌, length, map, codes}
 use Rattle.std.specs.Prelude.{Option, Some, None, option_map, option_and_then, unwrap_or}
 use Rattle.std.specs.Option.{option_copied}
-use Rattle.std.specs.Str.{all_ascii_digits}
+use Rattle.std.specs.Str.{all_ascii_digits, bytes_eq}
 use Rattle.std.specs.Str.Parse.{digits_value}
 use Rattle.clap.specs.Words.{Kinds, Row, Text, fault_of, subcommand_of}
 use Rattle.dq_words.specs.Clap.{command, value_in, values_in, is_given, is_subcommand, task_in}
 use Rattle.dq_words.specs.declared.words.Asked.{Asked}
 use Rattle.dq_words.specs.declared.words.Copying.{Copying}
+use Rattle.dq_words.specs.declared.words.Export.{Export}
 use Rattle.dq_words.specs.declared.words.Inspection.{Inspection}
 use Rattle.dq_words.specs.declared.words.Job.{Job}
 use Rattle.dq_words.specs.declared.words.Job.TheVariants as job
 use Rattle.dq_words.specs.declared.words.Keeper.{Keeper}
 use Rattle.dq_words.specs.declared.words.Keeper.TheVariants as keeper
 use Rattle.dq_words.specs.declared.words.Migration.{Migration}
+use Rattle.dq_words.specs.declared.words.RowKind.{RowKind}
+use Rattle.dq_words.specs.declared.words.RowKind.TheVariants.{Studies, Series, Images, Worklist, Steps}
 use Rattle.dq_words.specs.declared.words.Service.{Service}
 use Rattle.dq_words.specs.declared.words.Task.{Task}
 use Rattle.dq_words.specs.declared.words.Web.{Web}
@@ -82,8 +85,16 @@ pub record Duplicating : Type 0 where
   pub to : List ℕ
   pub only : List (List ℕ)
 
+-- the file of a store, the name of the institution whose rows are exported, and their kind: every
+-- kind, where none is named
+pub record Exporting : Type 0 where
+  pub store : List ℕ
+  pub only : List ℕ
+  pub kind : Option RowKind
+
 -- what a command line asks for: a task over a capture, to serve, to play a capture over sockets
--- with a configuration, to migrate a store, to check a configuration, or to copy a store
+-- with a configuration, to migrate a store, to check a configuration, to copy a store, or to export
+-- the rows of an institution
 pub data Errand : Type 0 where
   Plays : Request → Errand
   Serves : Serving → Errand
@@ -91,6 +102,7 @@ pub data Errand : Type 0 where
   Migrates : Migrating → Errand
   Checks : Checking → Errand
   Copies : Duplicating → Errand
+  Exports : Exporting → Errand
 
 -- the place that `--new` and `--store` name, which exclude each other
 abbrev pub place_by_options : Option (List ℕ) → Option (List ℕ) → Option RowsPlace
@@ -129,7 +141,7 @@ abbrev pub number_told : List ℕ → Option ℕ
 number_told text = number_below (2 ^ 32) text
 
 -- What an option tells, if it is there. None where it is there and tells nothing.
-abbrev pub told_if_given : (List ℕ → Option ℕ) → Option (List ℕ) → Option (Option ℕ)
+abbrev pub told_if_given : {X : Type 0} → (List ℕ → Option X) → Option (List ℕ) → Option (Option X)
 told_if_given told None = Some None
 told_if_given told (Some text) = option_map Some (told text)
 
@@ -231,6 +243,27 @@ duplicating_of subcommand = option_map (λ (files : Migrating). record {
   only = values_in (codes "only") subcommand;
 }) (migration_of subcommand)
 
+-- the kind of rows that a word names, the same as an order of the console searches for
+abbrev pub kind_told : List ℕ → Option RowKind
+kind_told word =
+    if bytes_eq (codes "studies") word then Some Studies
+    else if bytes_eq (codes "series") word then Some Series
+    else if bytes_eq (codes "images") word then Some Images
+    else if bytes_eq (codes "worklist") word then Some Worklist
+    else if bytes_eq (codes "steps") word then Some Steps
+    else None
+
+-- both the store and the institution have to be named
+abbrev pub export_by : Option (List ℕ) → Option (List ℕ) → Option RowKind → Option Exporting
+export_by (Some store) (Some only) kind = Some (record { store = store; only = only; kind = kind })
+export_by (Some store) None kind = None
+export_by None only kind = None
+
+abbrev pub exporting_of : Option (Text × List Row) → Option Exporting
+exporting_of subcommand = option_and_then
+    (export_by (value_in (codes "store") subcommand) (value_in (codes "only") subcommand))
+    (told_if_given kind_told (value_in (codes "kind") subcommand))
+
 abbrev pub errand_of : Option (Text × List Row) → Option Errand
 errand_of subcommand =
     if is_subcommand (codes "serve") subcommand then option_map Serves (serving_of subcommand)
@@ -242,6 +275,8 @@ errand_of subcommand =
     then option_map Checks (checking_of subcommand)
     else if is_subcommand (codes "copy") subcommand
     then option_map Copies (duplicating_of subcommand)
+    else if is_subcommand (codes "export") subcommand
+    then option_map Exports (exporting_of subcommand)
     else option_map Plays (subcommand_request subcommand)
 
 abbrev pub errand_if : Kinds → Option Errand → Option Errand
@@ -301,6 +336,9 @@ duplicating_in copying = record {
   only = map (λ name. name.now) copying.only.items;
 }
 
+abbrev pub exporting_in : Export → Exporting
+exporting_in it = record { store = it.store.now; only = it.only.now; kind = it.kind }
+
 abbrev pub errand_in : Job → Errand
 errand_in (job.Play asked) = Plays (request_asked asked)
 errand_in (job.Serve service) = Serves (serving_in service)
@@ -308,3 +346,4 @@ errand_in (job.Loop config) = Loops (option_copied config)
 errand_in (job.Migrate files) = Migrates (migration_in files)
 errand_in (job.Check it) = Checks (checking_in it)
 errand_in (job.Copy copying) = Copies (duplicating_in copying)
+errand_in (job.Export it) = Exports (exporting_in it)

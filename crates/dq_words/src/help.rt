@@ -19,7 +19,7 @@ Each event has one reply: `N HEX` or `N -`, with `close` behind it where the con
 /// What is told on standard error, and the exit statuses.
 pub(crate) const STATUSES: &str = "\
 Exit status, and what is told on standard error (serve and check have no capture, loopback no
-store, migrate and copy neither a capture nor a configuration):
+store, migrate, copy and export neither a capture nor a configuration):
   0                   all was done
   1                   the words are not understood, or help or the version is asked for
   2  config 0         the configuration cannot be read, or is no text

@@ -5,5 +5,6 @@ mod help;
 mod words;
 
 pub use words::{
-    Asked, Copying, Inspection, Job, Keeper, Migration, Service, Task, VERSION, Web, line_of, parse,
+    Asked, Copying, Export, Inspection, Job, Keeper, Migration, RowKind, Service, Task, VERSION,
+    Web, line_of, parse,
 };

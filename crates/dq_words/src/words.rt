@@ -4,8 +4,8 @@ ghost use Rattle.std.specs.Option.{option_copied};
 ghost use Rattle.std.specs.Result.{result_ok};
 ghost use Rattle.clap.specs.declared.builder.command.Command.TheViews.{out-Command as fields_of};
 ghost use Rattle.clap.specs.Words.{app_of, rule_of, kind_of, subcommand_rows_of};
-ghost use Rattle.dq_words.specs.Words.{line_of, place_named, place_asked, port_told, number_told, seconds_told, told_if_given, artim_seconds, no_peer_limit, web_named, web_front_in, request_asked, subcommand_request, serving_in, serving_of, migration_in, migration_of, checking_in, checking_of, duplicating_in, duplicating_of, errand_in, errand_of, errand_asked};
-ghost use Rattle.dq_words.specs.Clap.{value_rule, task_app, listening_app, limiting_app, web_app, serve_app, loopback_app, migrate_app, check_app, copy_app, tasks_app, serving_app, command, value_in, values_in, is_given, is_subcommand};
+ghost use Rattle.dq_words.specs.Words.{line_of, place_named, place_asked, port_told, number_told, seconds_told, told_if_given, artim_seconds, no_peer_limit, web_named, web_front_in, request_asked, subcommand_request, serving_in, serving_of, migration_in, migration_of, checking_in, checking_of, duplicating_in, duplicating_of, kind_told, exporting_in, exporting_of, errand_in, errand_of, errand_asked};
+ghost use Rattle.dq_words.specs.Clap.{value_rule, task_app, listening_app, limiting_app, web_app, serve_app, loopback_app, migrate_app, check_app, copy_app, export_app, tasks_app, serving_app, command, value_in, values_in, is_given, is_subcommand};
 
 use crate::help::{CAPTURES, STATUSES};
 use clap::error::ErrorKind;
@@ -126,6 +126,25 @@ pub struct Copying<'a> {
     pub only: Vec<&'a str>,
 }
 
+/// Which rows of an institution are exported.
+#[derive(Clone, Copy, Debug, PartialEq, Eq)]
+pub enum RowKind {
+    Studies,
+    Series,
+    Images,
+    Worklist,
+    Steps,
+}
+
+/// The file of a store, the name of the institution whose rows are exported, and their kind: every
+/// kind, where none is named.
+#[derive(Clone, Copy)]
+pub struct Export<'a> {
+    pub store: &'a str,
+    pub only: &'a str,
+    pub kind: Option<RowKind>,
+}
+
 /// What a command line asks for.
 #[derive(Drop)]
 pub enum Job<'a> {
@@ -141,6 +160,8 @@ pub enum Job<'a> {
     Check(Inspection<'a>),
     /// To copy a store.
     Copy(Copying<'a>),
+    /// To export the rows of an institution.
+    Export(Export<'a>),
 }
 
 /// Why options are not taken.
@@ -164,6 +185,10 @@ enum Misuse {
     NoConfig,
     /// The port of the web front is none, or only one of its port and its keys is named.
     NoWeb,
+    /// The store or the institution of an export is not named.
+    NoInstitution,
+    /// The word for a kind of rows is none.
+    NoKind,
 }
 
 /// The whole command line: the program's own name, and the words.
@@ -268,6 +293,25 @@ fn seconds_told(text: &str) -> Option<u32>
     if seconds > 0 { Some(seconds) } else { None }
 }
 
+/// The kind of rows that a word names.
+fn kind_told(text: &str) -> Option<RowKind>
+    ensures { result ≡ kind_told text.now }
+{
+    if text == "studies" {
+        Some(RowKind::Studies)
+    } else if text == "series" {
+        Some(RowKind::Series)
+    } else if text == "images" {
+        Some(RowKind::Images)
+    } else if text == "worklist" {
+        Some(RowKind::Worklist)
+    } else if text == "steps" {
+        Some(RowKind::Steps)
+    } else {
+        None
+    }
+}
+
 /// The port that an option names.
 fn port_in(matches: &ArgMatches) -> Result<u16, Misuse>
     ensures { result_ok result
@@ -329,6 +373,20 @@ fn web_in<'a>(matches: &ArgMatches<'a>) -> Result<Option<Web<'a>>, Misuse>
             _ => Err(Misuse::NoWeb),
         },
         _ => Err(Misuse::NoWeb),
+    }
+}
+
+/// The kind of rows that an option names, if it is there.
+fn kind_in(matches: &ArgMatches) -> Result<Option<RowKind>, Misuse>
+    ensures { result_ok result
+        ≡ told_if_given kind_told (value_in (codes "kind") (subcommand_rows_of matches.now)) }
+{
+    match value_in(matches, "kind") {
+        None => Ok(None),
+        Some(text) => match kind_told(text) {
+            Some(kind) => Ok(Some(kind)),
+            None => Err(Misuse::NoKind),
+        },
     }
 }
 
@@ -416,6 +474,18 @@ fn copying_in<'a>(matches: &ArgMatches<'a>, only: Vec<&'a str>) -> Result<Copyin
     }
 }
 
+/// Which rows are exported, of which store.
+fn export_in<'a>(matches: &ArgMatches<'a>) -> Result<Export<'a>, Misuse>
+    ensures { option_map exporting_in (result_ok result)
+        ≡ exporting_of (subcommand_rows_of matches.now) }
+{
+    let kind = kind_in(matches)?;
+    match (value_in(matches, "store"), value_in(matches, "only")) {
+        (Some(store), Some(only)) => Ok(Export { store, only, kind }),
+        _ => Err(Misuse::NoInstitution),
+    }
+}
+
 /// What the subcommand asks for with its options, a replay where there is none.
 fn job_in<'a>(matches: &ArgMatches<'a>, only: Vec<&'a str>) -> Result<Job<'a>, Misuse>
     requires { map (λ name. name.now) only.items
@@ -433,6 +503,8 @@ fn job_in<'a>(matches: &ArgMatches<'a>, only: Vec<&'a str>) -> Result<Job<'a>, M
         Ok(Job::Check(inspection_in(matches)?))
     } else if is_named(matches, "copy") {
         Ok(Job::Copy(copying_in(matches, only)?))
+    } else if is_named(matches, "export") {
+        Ok(Job::Export(export_in(matches)?))
     } else {
         Ok(Job::Play(asked_in(matches)?))
     }
@@ -699,6 +771,36 @@ fn copy_command<'a>(alloc: Global) -> Result<Command<'a>, AllocError>
     Ok(command)
 }
 
+/// The subcommand that exports the rows of an institution.
+fn export_command<'a>(alloc: Global) -> Result<Command<'a>, AllocError>
+    ensures app { IfOk result (λ built. app_of built ≡ export_app) }
+    ensures local { IfOk result (λ built. (fields_of built).has_globals ≡ false) }
+{
+    let store = value_option(alloc, "store", "FILE", "The store, which stays as it is").required(
+        true,
+    );
+    let begun = Command::new(alloc, "export")
+        .about("Prints the rows of an institution as DICOM JSON; it reads no standard input")
+        .after_help(STATUSES)
+        .arg(store)?;
+    let only = value_option(
+        alloc,
+        "only",
+        "NAME",
+        "The institution; one without rows prints nothing",
+    )
+    .required(true);
+    let named = begun.arg(only)?;
+    let kind = value_option(
+        alloc,
+        "kind",
+        "KIND",
+        "studies, series, images, worklist or steps [default: all, in this order]",
+    );
+    let command = named.arg(kind)?;
+    Ok(command)
+}
+
 /// The program, with its tasks over a capture.
 fn tasks_command<'a>(alloc: Global) -> Result<Command<'a>, AllocError>
     ensures app { IfOk result (λ built. app_of built ≡ tasks_app) }
@@ -741,7 +843,8 @@ fn command<'a>(alloc: Global) -> Result<Command<'a>, AllocError>
     let serving = serving_command(alloc)?;
     let migrating = serving.subcommand(migrate_command(alloc)?)?;
     let checking = migrating.subcommand(check_command(alloc)?)?;
-    let command = checking.subcommand(copy_command(alloc)?)?;
+    let copying = checking.subcommand(copy_command(alloc)?)?;
+    let command = copying.subcommand(export_command(alloc)?)?;
     Ok(command)
 }
 
@@ -783,6 +886,14 @@ fn reproach(misuse: Misuse) -> (ErrorKind, &'static str) {
         Misuse::NoWeb => (
             ErrorKind::ValueValidation,
             "the arguments '--web <PORT>', from 1 to 65535, and '--web-keys <FILE>' go together",
+        ),
+        Misuse::NoInstitution => (
+            ErrorKind::MissingRequiredArgument,
+            "the arguments '--store <FILE>' and '--only <NAME>' are required",
+        ),
+        Misuse::NoKind => (
+            ErrorKind::ValueValidation,
+            "the argument '--kind <KIND>' takes studies, series, images, worklist or steps",
         ),
     }
 }

@@ -37,3 +37,9 @@ returns-in-Copy-clause-done g c = rw c.in-Copy.is c.copy.ensures.done
 
 pub returns-in-Copy-clause-stops : goal.returns-in-Copy-clause-stops
 returns-in-Copy-clause-stops g c = rw c.in-Copy.is c.copy.ensures.ends
+
+pub returns-in-Export-clause-done : goal.returns-in-Export-clause-done
+returns-in-Export-clause-done g c = rw c.in-Export.is c.export_rows.ensures.done
+
+pub returns-in-Export-clause-stops : goal.returns-in-Export-clause-stops
+returns-in-Export-clause-stops g c = rw c.in-Export.is c.export_rows.ensures.stops
