@@ -16,7 +16,8 @@ const EXAMPLE: &[u8] = b"GET /hello.txt HTTP/1.1\r\nUser-Agent: curl/7.64.1\r\n\
 const KEYS: &str = "# one key\r\n\
     NORTH ba7816bf8f01cfea414140de5dae2223b00361a396177a9cb410ff61f20015ad\r\n";
 
-const SEARCH: &[u8] = b"GET /NORTH/rs/studies?PatientName=ROE%2A&includefield=all&offset=2 HTTP/1.1\r\n\
+const SEARCH: &[u8] =
+    b"GET /NORTH/rs/studies?PatientName=ROE%2A&includefield=all&offset=2 HTTP/1.1\r\n\
     host: localhost:8080\r\nAuthorization: Bearer abc\r\n\r\n";
 
 const FOREIGN: &[u8] = b"GET /SOUTH/rs/studies HTTP/1.1\r\n\
@@ -51,10 +52,18 @@ fn requests_are_cut_off(rt: HostRuntime) -> Result<(), Fail> {
         return Err("no request")?;
     };
     assert_eq!(rt; request.target, b"/hello.txt".as_slice());
-    assert_eq!(rt; request.fields.host.unwrap_or(b""), b"www.example.com".as_slice());
+    assert_eq!(rt;
+        request.fields.host.unwrap_or(b""),
+        b"www.example.com".as_slice()
+    );
     assert_eq!(rt; request.extent, EXAMPLE.len());
     assert!(rt; !request.is_last);
-    assert!(rt; matches!(cut_off(b"GET /hello.txt HTTP/1.1\r\nUser-"), Cut::Unfinished));
+    assert!(rt;
+        matches!(
+            cut_off(b"GET /hello.txt HTTP/1.1\r\nUser-"),
+            Cut::Unfinished
+        )
+    );
     let waiting = b"PUT / HTTP/1.1\r\nExpect: 100-continue\r\nContent-Length: 9\r\n\r\n";
     assert!(rt; matches!(cut_off(waiting), Cut::Expecting));
     let chunked = b"POST / HTTP/1.1\r\nTransfer-Encoding: chunked\r\n\r\n";
@@ -114,8 +123,12 @@ fn entries_are_asked(rt: HostRuntime) -> Result<(), Fail> {
 fn answers_are_sent(rt: HostRuntime) -> Result<(), Fail> {
     let found = told_of(rt.alloc(), Form::Answers, b"{\"a\":1}\n{}\nend 2\n")?;
     assert!(rt; found.starts_with(b"HTTP/1.1 200 OK\r\nCache-Control: no-store\r\n"));
-    assert!(rt; found.ends_with(b"\r\nContent-Type: application/dicom+json\r\n\
-        Content-Length: 12\r\n\r\n[{\"a\":1},{}]"));
+    assert!(rt;
+        found.ends_with(
+            b"\r\nContent-Type: application/dicom+json\r\n\
+        Content-Length: 12\r\n\r\n[{\"a\":1},{}]"
+        )
+    );
     let none = told_of(rt.alloc(), Form::Answers, b"end 0\n")?;
     assert!(rt; none.starts_with(b"HTTP/1.1 204 No Content\r\n"));
     assert!(rt; none.ends_with(b"frame-ancestors 'none'\r\n\r\n"));
@@ -136,7 +149,9 @@ fn metrics_are_sent(rt: HostRuntime) -> Result<(), Fail> {
     let text = str::from_utf8(metrics.as_slice()).unwrap_or("");
     assert!(rt; text.contains("\nnewtiron_rows{institution=\"NORTH\",kind=\"images\"} 3\n"));
     assert!(rt; text.contains("\nnewtiron_associations_total{outcome=\"accepted\"} 1\n"));
-    assert!(rt; text.contains("\nnewtiron_operations_total{service=\"find\",status=\"refused\"} 1\n"));
+    assert!(rt;
+        text.contains("\nnewtiron_operations_total{service=\"find\",status=\"refused\"} 1\n")
+    );
     assert!(rt; text.contains("\nnewtiron_turn_seconds_bucket{le=\"1\"} 0\n"));
     assert!(rt; text.contains("\nnewtiron_turn_seconds_bucket{le=\"+Inf\"} 1\n"));
     assert!(rt; text.contains("\nnewtiron_turn_seconds_sum 2.500000\n"));
