@@ -1,6 +1,7 @@
 mod assemblers;
 mod data_sets;
 mod dictionary;
+mod fronts;
 mod matching;
 mod messages;
 mod sieves;
