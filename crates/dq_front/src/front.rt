@@ -123,7 +123,8 @@ impl Site {
         Ok(Deed::Answer(Answer {
             words: words_of(self.alloc, &request)?,
             extent: request.extent,
-            is_last: request.is_last,
+            // (no response to HEAD has a body, and a refusal has one: nothing is read behind it)
+            is_last: request.is_last || request.method == b"HEAD".as_slice(),
             given,
         }))
     }

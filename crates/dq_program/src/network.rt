@@ -11,10 +11,9 @@ use dq_web::{Guard, Keys, KeysFault};
 use dq_wires::{AssociationLog, Called, Limits, LogEnd, LoggedWires, SocketWires, Turner};
 use dq_words::{VERSION, Web};
 use std::alloc::{AllocError, Global};
-use std::fs;
-use std::io;
 use std::net::{IpAddr, SocketAddr};
 use std::time::Duration;
+use std::{fs, io};
 
 /// A caller of the console or of the web front that says nothing for so many seconds is let go.
 const CALLER_QUIET: u64 = 60;
@@ -315,7 +314,11 @@ impl<H: Host> Network for H {
             return Ok(());
         };
         callers.attend(sockets, self.runtime());
-        let most = if callers.is_busy() { Duration::ZERO } else { most };
+        let most = if callers.is_busy() {
+            Duration::ZERO
+        } else {
+            most
+        };
         callers.begin_turn();
         let rested = sockets.logged.wires.rest_beside(self.runtime(), most);
         sockets.logged.read_clock(self.runtime());

@@ -9,13 +9,12 @@ use dq_front::Front;
 use dq_tables::Tables;
 use dq_web::{Counters, Service as CountedService};
 use dq_wires::{
-    Called, LogEnd, LoggedWires, MOST_WIRES, ReadTurn, SocketClient, SocketWires, Turner, WireFault,
-    Wires,
+    Called, LogEnd, LoggedWires, MOST_WIRES, ReadTurn, SocketClient, SocketWires, Turner,
+    WireFault, Wires,
 };
 use std::alloc::Global;
-use std::fs;
-use std::io;
 use std::time::{Duration, Instant};
+use std::{fs, io};
 
 /// The most callers of the console while there is a web front, for which a place is left.
 const MOST_BESIDE_FRONT: usize = 7;
@@ -114,7 +113,9 @@ impl Counted {
             Noted::Ended if self.close(note.number) => self.counters.lose(),
             Noted::Aborted { .. } | Noted::Released | Noted::Ended => {}
             Noted::Served {
-                service, status, ..
+                service,
+                status,
+                ..
             } => self.counters.serve(counted_as(*service), *status),
         }
     }
@@ -128,7 +129,8 @@ impl Counted {
         match (self.begun.take(), now) {
             (Some(begun), Some(now)) if !notes.list.is_empty() => {
                 let passed = now.duration_since(begun).as_micros();
-                self.counters.turn(u64::try_from(passed).unwrap_or(u64::MAX));
+                self.counters
+                    .turn(u64::try_from(passed).unwrap_or(u64::MAX));
             }
             (Some(_), _) => {}
             (None, now) => self.begun = now,
@@ -248,7 +250,11 @@ impl Wires for CallerSockets {
     }
 
     fn read(&mut self, place: usize, buffer: &mut [u8]) -> Result<ReadTurn, WireFault> {
-        match (place.checked_sub(MOST_WIRES), &mut self.front, &mut self.console) {
+        match (
+            place.checked_sub(MOST_WIRES),
+            &mut self.front,
+            &mut self.console,
+        ) {
             (Some(place), Some(front), _) => front.read(place, buffer),
             (None, _, Some(console)) => console.read(place, buffer),
             _ => Err(WireFault),
@@ -256,7 +262,11 @@ impl Wires for CallerSockets {
     }
 
     fn write(&mut self, place: usize, octets: &[u8]) -> Result<usize, WireFault> {
-        match (place.checked_sub(MOST_WIRES), &mut self.front, &mut self.console) {
+        match (
+            place.checked_sub(MOST_WIRES),
+            &mut self.front,
+            &mut self.console,
+        ) {
             (Some(place), Some(front), _) => front.write(place, octets),
             (None, _, Some(console)) => console.write(place, octets),
             _ => Err(WireFault),
@@ -264,7 +274,11 @@ impl Wires for CallerSockets {
     }
 
     fn shut(&mut self, place: usize) -> Result<(), WireFault> {
-        match (place.checked_sub(MOST_WIRES), &mut self.front, &mut self.console) {
+        match (
+            place.checked_sub(MOST_WIRES),
+            &mut self.front,
+            &mut self.console,
+        ) {
             (Some(place), Some(front), _) => front.shut(place),
             (None, _, Some(console)) => {
                 self.calling = self.calling.saturating_sub(1);
