@@ -56,8 +56,6 @@ pub struct Listening<'a> {
 }
 
 impl From<KeysFault> for Unheard {
-    ghost use Rattle.std.specs.Prelude.{Unit};
-
     ghost from_gives = { λ _ _. Unit {0} };
 
     fn from(fault: KeysFault) -> Unheard {

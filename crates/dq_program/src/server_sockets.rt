@@ -1,5 +1,5 @@
 //! The sockets of the program: those of associations, with their log, and those of callers.
-ghost use Rattle.std.specs.Prelude.{◌≤◌, length, IfOk};
+ghost use Rattle.std.specs.Prelude.{◌≡◌, ◌≤◌, length, IfOk};
 ghost use Rattle.dq_wires.specs.Logs.{IfGot};
 
 use dq_assoc::Service;

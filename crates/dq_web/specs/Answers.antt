@@ -36,7 +36,7 @@ HasNoAnswers told = (IsUtf8 told → ⊥)
     ⊎ ((front number : List ℕ) → told ≢ front ++ (END.now ++ number))
 
 -- The response to a search: the array of the answers, in their order, where there are some; no content
--- where none is found; and else no success (PS3.18 section 8.3.4.1).
+-- where none is found; and else no success (PS3.18 section 10.6.3).
 abbrev pub IsAnswersReply : List ℕ → Reply → Type 0
 IsAnswersReply told reply =
     ((told ≡ NONE_FOUND.now) × (reply.status ≡ status.NoContent) × (reply.body ≡ []))
