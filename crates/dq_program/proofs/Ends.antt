@@ -10,7 +10,7 @@ use Rattle.dq_words.specs.Words.{Errand, Plays, Serves, Loops, Migrates, Checks,
 use Rattle.dq_program.specs.declared.network.Unheard.{Unheard}
 use Rattle.dq_program.specs.declared.network.Unheard.TheVariants as unheard
 use Rattle.dq_program.specs.declared.stop.Stop.{Stop}
-use Rattle.dq_program.specs.declared.stop.Stop.TheVariants.{Usage, Config, Unfit, Capture, Store, Fault, Output, Network}
+use Rattle.dq_program.specs.declared.stop.Stop.TheVariants.{Usage, Config, Unfit, Keys, Capture, Store, Fault, Output, Network}
 use Rattle.dq_program.specs.Errands.{EndsEarly}
 use Rattle.dq_program.specs.Program.{no_memory, unclosed_store, status_of, stop_of_listening, RefusesFile}
 use Rattle.dq_program.specs.Serving.{ready_text, IsUnheard, HasCause, EndsService}
@@ -74,6 +74,7 @@ module _ {Wired : Type 0} (log : Wired → Option (List Call)) (held : List ℕ 
   not_usage errand Usage ends one = no-usage errand ends
   not_usage errand (Config number) ends one = absurd (omega (arith, one))
   not_usage errand (Unfit misfit) ends one = absurd (omega (arith, one))
+  not_usage errand (Keys line) ends one = absurd (omega (arith, one))
   not_usage errand (Capture number) ends one = absurd (omega (arith, one))
   not_usage errand (Store number) ends one = absurd (omega (arith, one))
   not_usage errand (Fault number) ends one = absurd (omega (arith, one))
@@ -106,6 +107,7 @@ pub status_bounds : (cause : Stop) → (1 ≤ status_of cause) × (status_of cau
 status_bounds Usage = (omega arith, omega arith)
 status_bounds (Config number) = (omega arith, omega arith)
 status_bounds (Unfit misfit) = (omega arith, omega arith)
+status_bounds (Keys line) = (omega arith, omega arith)
 status_bounds (Capture number) = (omega arith, omega arith)
 status_bounds (Store number) = (omega arith, omega arith)
 status_bounds (Fault number) = (omega arith, omega arith)
@@ -130,6 +132,7 @@ all-ok A B C (Err e) a b c = tt
 -- nobody is listened for
 pub unheard-of : (breaks : Type 0) (u : Unheard) → (u ≡ unheard.Failed → breaks) → IsUnheard breaks (stop_of_listening u)
 unheard-of breaks unheard.Failed broke = broke refl
+unheard-of breaks (unheard.Keys line) broke = tt
 unheard-of breaks unheard.NoMemory broke = refl
 
 module _ (breaks fails : Type 0) (before after : Option (List ℕ)) (port : ℕ) where
@@ -139,6 +142,7 @@ module _ (breaks fails : Type 0) (before after : Option (List ℕ)) (port : ℕ)
   unheard-ends IsSo Usage kept is = is
   unheard-ends IsSo (Config number) kept is = is
   unheard-ends IsSo (Unfit misfit) kept is = is
+  unheard-ends IsSo (Keys line) kept is = kept
   unheard-ends IsSo (Capture number) kept is = is
   unheard-ends IsSo (Store number) kept is = absurd is
   unheard-ends IsSo Output kept is = absurd is
@@ -151,6 +155,7 @@ module _ (breaks fails : Type 0) (before after : Option (List ℕ)) (port : ℕ)
   cut-ends IsSo Usage cut ready is so = is
   cut-ends IsSo (Config number) cut ready is so = is
   cut-ends IsSo (Unfit misfit) cut ready is so = is
+  cut-ends IsSo (Keys line) cut ready is so = absurd is
   cut-ends IsSo (Capture number) cut ready is so = is
   cut-ends IsSo (Store number) cut ready is so = absurd is
   cut-ends IsSo Output cut ready is so = absurd is
@@ -165,6 +170,7 @@ module _ (breaks fails : Type 0) (before after : Option (List ℕ)) (port : ℕ)
   ends-so IsSo IsAlso also Usage ends = ends
   ends-so IsSo IsAlso also (Config number) ends = ends
   ends-so IsSo IsAlso also (Unfit misfit) ends = ends
+  ends-so IsSo IsAlso also (Keys line) ends = ends
   ends-so IsSo IsAlso also (Capture number) ends = ends
   ends-so IsSo IsAlso also (Store number) ends = ends
   ends-so IsSo IsAlso also Output ends = ends

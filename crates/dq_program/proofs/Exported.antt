@@ -48,6 +48,7 @@ row-cut before mid after rows at row stop.Output within is done part =
 row-cut before mid after rows at row stop.Usage within is done cut = cut
 row-cut before mid after rows at row (stop.Config number) within is done cut = cut
 row-cut before mid after rows at row (stop.Unfit misfit) within is done cut = cut
+row-cut before mid after rows at row (stop.Keys line) within is done cut = cut
 row-cut before mid after rows at row (stop.Capture number) within is done cut = cut
 row-cut before mid after rows at row (stop.Store number) within is done cut = cut
 row-cut before mid after rows at row stop.Network within is done cut = cut
@@ -87,6 +88,7 @@ module _ (records : List Record) (kinds : List Kind) (at : ℕ) (kind none : Kin
   kind-cut before mid after stop.Usage done cut = cut
   kind-cut before mid after (stop.Config number) done cut = cut
   kind-cut before mid after (stop.Unfit misfit) done cut = cut
+  kind-cut before mid after (stop.Keys line) done cut = cut
   kind-cut before mid after (stop.Capture number) done cut = cut
   kind-cut before mid after (stop.Store number) done cut = cut
   kind-cut before mid after stop.Network done cut = cut
