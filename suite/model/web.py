@@ -95,7 +95,10 @@ def searched(records, subject, text, above):
     keys |= above
     if subject == "steps":
         if keys:
-            raise BadWord(next(part for part in text.split("&") if part and not part.startswith(("limit=", "offset=", *LEFT_OUT))))
+            # (steps have no keys: all words of the console's line are told)
+            words = [part for part in text.split("&") if part and not part.startswith(LEFT_OUT)]
+            has_limit = any(word.startswith("limit=") for word in words)
+            raise BadWord(" ".join(words if has_limit else [*words, f"limit={USUAL_PAGE}"]))
         found, status = [step for _, step in sorted(records.steps.items())], 0
     else:
         asked = services.written(identifier(keys, LEVELS.get(subject, b""), subject == "worklist"), EXPLICIT)
@@ -185,6 +188,8 @@ class Front:
         if subject in ("schedule", "withdraw"):
             number = services.schedule(records, body) if subject == "schedule" else \
                 services.withdraw(records, urllib.parse.unquote_to_bytes(words[0]))
-            return refused(REFUSED_ORDERS[number], number) if number else Answer(201 if subject == "schedule" else 204)
+            if number:
+                return refused(REFUSED_ORDERS[number], number)
+            return Answer(201, JSON) if subject == "schedule" else Answer(204)
         uids = zip((services.STUDY, services.SERIES), words)
         return answered(records, subject, query, {tag: data_sets.padded("UI", uid.encode()) for tag, uid in uids})
