@@ -1,5 +1,5 @@
 //! One institution's part of the rows that tables keep.
-ghost use Rattle.std.specs.Prelude.{◌≡◌, is_some, length, map, option_map};
+ghost use Rattle.std.specs.Prelude.{◌≡◌, is_some, length, take, drop, map, option_map};
 ghost use Rattle.dq_tables.specs.Rows.{row_of};
 ghost use Rattle.dq_tables.specs.Finding.{record_at, records_of, records_above, waiting_among};
 ghost use Rattle.dq_tables.specs.Choosing.{studies_among};
@@ -61,6 +61,22 @@ impl<'a, T: Tables> Archive<'a, T> {
     {
         let name = self.institution.name.as_slice();
         self.tables.count(kind, name)
+    }
+
+    /// The institution's records of a kind from a place on, at most so many, as rows in the order of
+    /// their keys.
+    pub fn rows_from(
+        &mut self,
+        kind: Kind,
+        from: usize,
+        most: usize,
+    ) -> Result<Listed<Row>, TableFault>
+        ensures { Looks T.state self.old self.new (λ records.
+            map (row_of self.old.institution.now.name)
+            (take most (drop from (records_of kind records)))) result }
+    {
+        let name = self.institution.name.as_slice();
+        self.tables.rows_from(kind, name, from, most)
     }
 
     /// The records of a kind under the record with the key `above`, as rows in the order of their

@@ -1,10 +1,10 @@
 //! What an institution is shown of what it keeps, a page at a time.
-ghost use Rattle.std.specs.Prelude.{◌≡◌, List, map, drop, take, IfOk};
+ghost use Rattle.std.specs.Prelude.{◌≡◌, List, map, min, IfOk};
 ghost use Rattle.dq_tables.specs.Keeping.{Reads};
 ghost use Rattle.dq_tables.specs.Records.{data_set_of};
 ghost use Rattle.dq_tables.specs.Rows.{of};
 ghost use Rattle.dq_tables.specs.declared.row.Row.{Row as TheRow};
-ghost use Rattle.dq_core.specs.Showing.{found_in, steps_in, shown_page, found_page};
+ghost use Rattle.dq_core.specs.Showing.{found_in, page_most, steps_in, shown_page, found_page};
 
 use dq_config::Institution;
 use dq_dataset::DataSet;
@@ -35,15 +35,11 @@ pub struct ShownPage {
 }
 
 impl ShownPage {
-    /// The page of what there is.
-    fn of<A: Drop>(self, all: Listed<A>) -> Listed<A>
-        ensures { result ≡ shown_page self all }
+    /// The most that it shows.
+    fn most(self) -> usize
+        ensures { result ≡ min self.limit page_most }
     {
-        let mut all = all.into_inner();
-        let before = self.offset.min(all.len());
-        let _ = all.drain(..before);
-        all.truncate(self.limit.min(PAGE_MOST));
-        Listed::from_inner(all)
+        self.limit.min(PAGE_MOST)
     }
 }
 
@@ -60,15 +56,11 @@ pub(crate) fn search_page<T: Tables>(
         (found_in kind keys.now (of institution.now.name (T.state tables.old).rows))) }
     ensures reads { Reads (T.state tables.old) (T.state tables.new) result }
 {
-    let found = match kind {
-        SearchKind::StudyRoot => find_by_keys(tables, institution, &[], keys)?,
-        SearchKind::Worklist => query_by_keys(tables, institution, keys)?,
-    };
-    Ok(Found {
-        status: found.status,
-        optional: found.optional,
-        answers: page.of(found.answers),
-    })
+    let most = page.most();
+    match kind {
+        SearchKind::StudyRoot => find_by_keys(tables, institution, keys, page.offset, most),
+        SearchKind::Worklist => query_by_keys(tables, institution, keys, page.offset, most),
+    }
 }
 
 /// The data sets of rows, in their order.
@@ -93,7 +85,7 @@ pub(crate) fn steps_page<T: Tables>(
         ≡ shown_page page (steps_in (of institution.now.name (T.state tables.old).rows))) }
     ensures reads { Reads (T.state tables.old) (T.state tables.new) result }
 {
-    let rows = tables.rows_of(Kind::Step, institution.name.as_slice())?;
-    let rows = page.of(rows);
+    let name = institution.name.as_slice();
+    let rows = tables.rows_from(Kind::Step, name, page.offset, page.most())?;
     Ok(data_sets_of(tables.alloc(), rows.as_slice())?)
 }

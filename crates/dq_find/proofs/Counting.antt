@@ -9,7 +9,7 @@ use Rattle.dq_tables.specs.Finding.{records_above}
 use Rattle.dq_tables.proofs.Listing.{own_records}
 use Rattle.dq_find.specs.declared.level.Level.TheVariants.{Study}
 use Rattle.dq_find.specs.Computed.{images_below, modalities_in, backslash_joined, study_values, computed_keys}
-use Rattle.dq_find.proofs.FromPlace.{from_place}
+use Rattle.dq_match.proofs.Parts.{from_place}
 
 pub counted_more : (records : List Record) (item : Row) (key : List ℕ) (series : List Row) (at number images all : ℕ) → at < length series
     → item ≡ get_or series at item → key ≡ item.key → images ≡ length (records_above ImageKind key records)

@@ -1,7 +1,8 @@
 -- The first of some values in order.
 use Rattle.std.proofs.Common.{◌≡◌, ℕ, zero, suc, ◌+◌, ◌≤◌, List, [], ◌∷◌, ◌++◌, take, drop, length, get_or, ◌<◌, refl, sym, ap, ◌∙◌, arith, append_assoc, take-append-drop}
 use Rattle.std.proofs.lemmas.List.{take_more}
-use Rattle.dq_find.proofs.FromPlace.{from_place, past_all}
+use Rattle.dq_match.proofs.Parts.{from_place}
+use Rattle.dq_find.proofs.FromPlace.{past_all}
 use Rattle.std.specs.declared.cmp.Ordering.{Ordering}
 use Rattle.std.specs.declared.cmp.Ordering.TheVariants.{Less, Equal, Greater}
 use Rattle.dq_tables.specs.Rows.{octet_order}

@@ -8,6 +8,7 @@ mod LookedUp
 mod Completing
 mod Counting
 mod InOrder
+mod InParts
 mod InTurn
 mod FromPlace
 mod MetFirst

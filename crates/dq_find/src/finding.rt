@@ -1,22 +1,25 @@
 //! The answers to a query (PS3.4 sections C.4.1.3 and C.6.2).
-ghost use Rattle.std.specs.Prelude.{◌≡◌, false, [], IfOk, Some, map, filter, option_map};
+ghost use Rattle.std.specs.Prelude.{◌≡◌, true, false, [], IfOk, Some, map, filter, take, drop, option_map};
 ghost use Rattle.std.specs.List.{filter_map, list_all};
 ghost use Rattle.dq_list.specs.Octets.{octets_of_vectors};
 ghost use Rattle.dq_dataset.specs.View.{elements_of};
 ghost use Rattle.dq_dimse.specs.Holding.{plain_message};
+ghost use Rattle.dq_match.specs.Answers.{found_part};
+ghost use Rattle.dq_match.specs.Universal.{asks_nothing};
 ghost use Rattle.dq_match.specs.Identifiers.{HasKnownTags};
 ghost use Rattle.dq_tables.specs.Records.{data_set_of};
 ghost use Rattle.dq_tables.specs.Keeping.{Reads};
 ghost use Rattle.dq_tables.specs.Rows.{of, record_of, row_of};
 ghost use Rattle.dq_tables.specs.Serving.{Serves};
 ghost use Rattle.dq_archive.specs.Archives.{Looks, Decides};
+ghost use Rattle.dq_find.specs.declared.level.Level.TheVariants.{Study};
 ghost use Rattle.dq_find.specs.Choosing.{is_asked};
 ghost use Rattle.dq_find.specs.Candidates.{looks_up, query_candidates, is_under, named_record, named_rows, looked_up};
 ghost use Rattle.dq_find.specs.Kept.{is_key_met};
 ghost use Rattle.dq_find.specs.Computed.{computed_keys, all_in_order};
 ghost use Rattle.dq_value.specs.Parts.{element_values};
 ghost use Rattle.dq_vr.specs.declared.Vr.TheVariants.{UI};
-ghost use Rattle.dq_find.specs.Queries.{about_answers, key_above, asks_computed, asked_records, answer_if, record_answer, found_by, query_outcome, keys_outcome};
+ghost use Rattle.dq_find.specs.Queries.{about_answers, key_above, asks_computed, asked_records, answer_if, record_answer, answers_of_records, found_by, query_outcome, keys_outcome};
 ghost use Rattle.dq_tables.specs.declared.row.Row.{Row as TheRow};
 
 use crate::choosing::choice_in;
@@ -30,8 +33,8 @@ use dq_dataset::{DataSet, Syntax};
 use dq_dimse::Message;
 use dq_dimse::status::SUCCESS;
 use dq_list::Listed;
-use dq_match::laws::keys_are_met_alone_and_as_a_period;
-use dq_match::{Found, PreparedKeys, shown};
+use dq_match::laws::{keys_are_met_alone_and_as_a_period, universal_keys_are_met};
+use dq_match::{Found, PreparedKeys, asks_nothing, shown};
 use dq_tables::laws::{day_numbers_are_in_order, honest_rows_are_sound};
 use dq_tables::{Kind, Row, TableFault, Tables, uid_at};
 use dq_value::{stripped, values};
@@ -299,6 +302,67 @@ impl Search<'_> {
         }
         Ok(answers)
     }
+
+    /// The answers that some rows give, in their order, from a place on, at most so many. No row is
+    /// looked at behind the last of them.
+    #[tactic(auto, using(crate::proofs::InParts::in_parts))]
+    fn answers_from<T: Tables>(
+        &self,
+        archive: &mut Archive<'_, T>,
+        rows: &[Row],
+        from: usize,
+        most: usize,
+    ) -> Result<Listed<DataSet>, TableFault>
+        requires known { HasKnownTags self.now.query.now.keys }
+        requires prepared { self.now.prepared.now ≡ self.now.query.now.keys }
+        ensures { Looks T.state archive.old archive.new (λ records. take most (drop from (filter_map
+            (λ (row : TheRow). record_answer records self.now.called.now self.now.query.now
+            (record_of row)) rows.now))) result }
+    {
+        let about = about_answers(archive.alloc, self.called, self.query.level)?;
+        let mut before = from;
+        let mut answers = Listed::empty(archive.alloc);
+        for row in rows {
+            if answers.len() >= most {
+                return Ok(answers);
+            }
+            let answer = self.answer_of(archive, &about, row)?;
+            if let Some(answer) = answer {
+                if before == 0 {
+                    answers.push(answer)?;
+                } else {
+                    before -= 1;
+                }
+            }
+        }
+        Ok(answers)
+    }
+
+    /// The answers from a place on, at most so many. Where studies are asked nothing each of them
+    /// answers, so no other is read.
+    fn part<T: Tables>(
+        &self,
+        archive: &mut Archive<'_, T>,
+        from: usize,
+        most: usize,
+    ) -> Result<Listed<DataSet>, TableFault>
+        requires known { HasKnownTags self.now.query.now.keys }
+        requires prepared { self.now.prepared.now ≡ self.now.query.now.keys }
+        ensures { Looks T.state archive.old archive.new (λ records. take most (drop from
+            (answers_of_records records self.now.called.now self.now.query.now))) result }
+    {
+        universal_keys_are_met();
+        if takes_all_studies(self.query) {
+            let rows = archive.rows_from(Kind::Study, from, most)?;
+            return self.answers_of(archive, rows.as_slice());
+        }
+        self.query.keys.has_facts();
+        honest_rows_are_sound::<T>();
+        day_numbers_are_in_order();
+        keys_are_met_alone_and_as_a_period();
+        let rows = self.rows(archive)?;
+        self.answers_from(archive, rows.as_slice(), from, most)
+    }
 }
 
 /// Whether values of a level's own unique key are looked up: there are some, and the first is no
@@ -329,6 +393,16 @@ fn uids_in_order(alloc: Global, octets: &[u8]) -> Result<BTreeSet<Vec<u8>>, Allo
     Ok(uids)
 }
 
+/// Whether a query is for studies, and asks nothing of them.
+fn takes_all_studies(query: &Query) -> bool
+    ensures { result ≡ true → (query.now.level ≡ Study) × (asks_nothing query.now.keys ≡ true) }
+{
+    match query.level {
+        Level::Study => asks_nothing(&query.keys),
+        Level::Series | Level::Image => false,
+    }
+}
+
 fn asks_computed(query: &Query) -> bool
     ensures { result ≡ asks_computed query.now }
 {
@@ -356,21 +430,52 @@ pub fn find<T: Tables>(
 }
 
 /// Answers keys that no message brought, an identifier with its Query/Retrieve Level, as `find`
-/// answers the identifier of a message. Nothing is changed.
+/// answers the identifier of a message: the answers from a place on, at most so many. Nobody called a
+/// title, so they tell an empty one. Nothing is changed.
 #[tactic(auto, unfolding(crate::specs::Queries::keys_outcome))]
 pub fn find_by_keys<T: Tables>(
     tables: &mut T,
     institution: &Institution,
-    called: &[u8],
     identifier: &DataSet,
+    from: usize,
+    most: usize,
 ) -> Result<Found, TableFault>
-    ensures found { (T.state tables.new).honest → IfOk result (λ found. found
-        ≡ keys_outcome (of institution.now.name (T.state tables.old).rows) called.now identifier.now) }
+    ensures found { (T.state tables.new).honest → IfOk result (λ found. found ≡ found_part from most
+        (keys_outcome (of institution.now.name (T.state tables.old).rows) [] identifier.now)) }
     ensures reads { Reads (T.state tables.old) (T.state tables.new) result }
 {
     let mut kept = Archive::new(tables, institution);
     let asked = query_at(kept.alloc, identifier)?;
-    answers_to(&mut kept, called, asked)
+    part_of_answers(&mut kept, asked, from, most)
+}
+
+/// The answers to a query from a place on, at most so many, or the status that refuses it.
+fn part_of_answers<T: Tables>(
+    archive: &mut Archive<'_, T>,
+    asked: Result<Query, u16>,
+    from: usize,
+    most: usize,
+) -> Result<Found, TableFault>
+    requires { IfOk asked (λ query. HasKnownTags query.keys) }
+    ensures { Looks T.state archive.old archive.new
+        (λ records. found_part from most (found_by records [] asked)) result }
+{
+    let query = match asked {
+        Ok(query) => query,
+        Err(status) => return Ok(Found::refused(archive.alloc, status)),
+    };
+    let prepared = PreparedKeys::of(archive.alloc, &query.keys)?;
+    let search = Search {
+        called: &[],
+        query: &query,
+        prepared: &prepared,
+    };
+    let answers = search.part(archive, from, most)?;
+    Ok(Found {
+        status: SUCCESS,
+        optional: query.optional,
+        answers,
+    })
 }
 
 /// The answers to a Study Root C-FIND, which change nothing.

@@ -1,4 +1,8 @@
 //! Connections of the web front, whose requests call the console.
+ghost use Rattle.std.specs.Prelude.{IfOk};
+ghost use Rattle.dq_web.specs.Answers.{IsReplyTo, IsResponse};
+ghost use Rattle.dq_front.specs.Deeds.{IsDeed};
+
 use crate::noting::{status_of, words_of};
 use crate::visitor::{Stage, Visitor};
 use dq_config::Institution;
@@ -104,33 +108,40 @@ impl Site {
     }
 
     /// What is done for octets that came.
-    fn deed_for(&self, came: &[u8]) -> Result<Deed, AllocError> {
+    fn deed_for(&self, came: &[u8]) -> Result<Deed, AllocError>
+        ensures { IfOk result (IsDeed self.now.guard came.now) }
+    {
         let request = match cut_off(came) {
             Cut::Unfinished => return Ok(Deed::Wait),
             Cut::Expecting => return Ok(Deed::GoOn),
-            Cut::Refused(refusal) => return Ok(Deed::Refuse(refused(self.alloc, refusal)?)),
+            Cut::Refused(refusal) => return Ok(Deed::Refuse(refused(self.alloc, refusal, true)?)),
             Cut::Whole(request) => request,
         };
+        let is_last = request.is_last;
         let given = match ask(self.alloc, &self.guard, &request)? {
-            Asked::Refused(refusal) => Given::Response(refused(self.alloc, refusal)?),
-            Asked::Document(which) => Given::Response(document(self.alloc, which)?),
-            Asked::Health => Given::Response(healthy(self.alloc)?),
+            Asked::Refused(refusal) => Given::Response(refused(self.alloc, refusal, is_last)?),
+            Asked::Document(which) => Given::Response(document(self.alloc, which, is_last)?),
+            Asked::Health => Given::Response(healthy(self.alloc, is_last)?),
             Asked::Question(mut question) => {
                 question.line.push(b'\n')?;
+                question.is_last = is_last;
                 Given::Question(question)
             }
         };
         Ok(Deed::Answer(Answer {
             words: words_of(self.alloc, &request)?,
             extent: request.extent,
-            // (no response to HEAD has a body, and a refusal has one: nothing is read behind it)
-            is_last: request.is_last || request.method == b"HEAD".as_slice(),
+            is_last,
             given,
         }))
     }
 
     /// The response to a question that the console answered so.
-    fn response_to(&self, question: &Question, told: &[u8]) -> Result<Vec<u8>, AllocError> {
+    fn response_to(&self, question: &Question, told: &[u8]) -> Result<Vec<u8>, AllocError>
+        ensures { IfOk result (λ octets.
+            IsResponse (IsReplyTo question.now.form question.now.name told.now)
+            question.now.is_last octets.items) }
+    {
         let institutions = self.institutions.as_slice();
         answered(self.alloc, question, told, institutions, &self.counters)
     }

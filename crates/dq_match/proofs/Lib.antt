@@ -22,4 +22,5 @@ mod WordsInText
 pub mod Alone
 pub mod Answering
 pub mod OneValue
+pub mod Parts
 pub mod SeveralValues

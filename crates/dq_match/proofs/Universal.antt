@@ -1,5 +1,5 @@
 -- A universal key is met by every record.
-use Rattle.std.proofs.Common.{◌≡◌, ℕ, Bool, true, false, cond, nat_eq, ◌==◌, ◌||◌, ◌&&◌, List, [], ◌∷◌, Option, Some, None, length, map, refl, ap, ◌∙◌, arith}
+use Rattle.std.proofs.Common.{◌≡◌, ℕ, Bool, true, false, not, cond, nat_eq, ◌==◌, ◌||◌, ◌&&◌, List, [], ◌∷◌, Option, Some, None, length, map, refl, ap, ◌∙◌, arith}
 use Rattle.std.specs.List.{list_any}
 use Rattle.std.proofs.lemmas.Bool.Decides.{nat_tests}
 use Rattle.dq_list.specs.Lengths.{is_empty}
@@ -17,13 +17,14 @@ use Rattle.dq_dataset.specs.Tree.{ElementList, no_elements, element, sequence, I
 use Rattle.dq_dataset.specs.View.{list_of}
 use Rattle.dq_dataset.specs.Values.{element_at, value_octets, element_octets, values_of, values_in, sole_at}
 use Rattle.dq_match.specs.declared.keys.Place.{Place}
-use Rattle.dq_match.specs.declared.keys.Place.TheVariants.{Inner}
+use Rattle.dq_vr.specs.Tags.{scheduled_procedure_step_start_date}
+use Rattle.dq_match.specs.declared.keys.Place.TheVariants.{Outer, Inner}
 use Rattle.dq_match.specs.Wildcards.{any_run}
 use Rattle.dq_match.specs.Ranges.{Bounds, range_bounds}
 use Rattle.dq_match.specs.Values.{is_asterisk, is_universal, is_same, octets_meet}
-use Rattle.dq_match.specs.Keys.{items_in, is_tag}
-use Rattle.dq_match.specs.Matching.{asked_days, period, is_matched_elsewhere, with_period, each_met, items_meet, all_met}
-use Rattle.dq_match.specs.Universal.{all_universal, are_universal}
+use Rattle.dq_match.specs.Keys.{items_in, is_tag, is_key}
+use Rattle.dq_match.specs.Matching.{asked_days, period, is_start, is_matched_elsewhere, with_period, each_met, items_meet, all_met, fits}
+use Rattle.dq_match.specs.Universal.{all_universal, are_universal, has_nothing_to_meet, is_open_key, asks_nothing}
 use Rattle.dq_match.proofs.KnownKeys.{both}
 
 or_true : (a b : Bool) → b ≡ true → (a || b) ≡ true
@@ -147,4 +148,60 @@ pub universal_met : (place : Place) (keys held : ElementList) → all_universal 
 universal_met place keys held h =
     ap (λ (p : Option Bool). with_period p (each_met keys place held)) (no_period keys held h) ∙ each_universal keys place held h
 
-pub ruleset universal_keys = (universal_octets, universal_met)
+-- ---- what asks nothing
+
+nothing_to_meet : (vr : Vr) (value : Value) → has_nothing_to_meet vr value ≡ true → is_universal vr (value_octets value) ≡ true
+nothing_to_meet vr (Octets octets) h = h
+nothing_to_meet vr (Items items) h = nothing_universal vr
+
+start_is_key : (tag : Tag) → is_tag tag scheduled_procedure_step_start_date ≡ true → is_key Outer tag ≡ true
+start_is_key tag h = grind (arith, nat_tests)
+
+found_open : (b : Bool) (e : Element) (others : Option Element) → (b ≡ true → is_key Outer e.tag ≡ true) → is_open_key e ≡ true → IsUniversal others
+    → IsUniversal (cond b (Some e) others)
+found_open true e others is h k = nothing_to_meet e.vr e.value (of_key (is_key Outer e.tag) (is refl) h)
+  where
+    of_key : (key : Bool) → key ≡ true → (not key || has_nothing_to_meet e.vr e.value) ≡ true → has_nothing_to_meet e.vr e.value ≡ true
+    of_key true is h = h
+    of_key false is h = absurd cc
+found_open false e others is h k = k
+
+start_open : (keys : ElementList) → asks_nothing keys ≡ true → IsUniversal (element_at scheduled_procedure_step_start_date keys)
+start_open no_elements h = tt
+start_open (element t v o rest) h =
+    let e : Element = record { tag = t; vr = v; value = Octets o } in
+    let parts = both (is_open_key e) (asks_nothing rest) h in
+    found_open (is_tag t scheduled_procedure_step_start_date) e (element_at scheduled_procedure_step_start_date rest) (start_is_key t) parts.0 (start_open rest parts.1)
+start_open (sequence t v items rest) h =
+    let e : Element = record { tag = t; vr = v; value = Items (list_of items) } in
+    let parts = both (is_open_key e) (asks_nothing rest) h in
+    found_open (is_tag t scheduled_procedure_step_start_date) e (element_at scheduled_procedure_step_start_date rest) (start_is_key t) parts.0 (start_open rest parts.1)
+
+no_period_asked : (keys held : ElementList) → asks_nothing keys ≡ true → period keys held ≡ None
+unfolding period asked_days sole_at range_of_sole
+no_period_asked keys held h = rw (not_asked day (element_at _ keys) (start_open keys h)) refl
+
+met_or_open : (key start u met : Bool) → (u ≡ true → met ≡ true) → (not key || u) ≡ true → ((not key || (false && start)) || met) ≡ true
+met_or_open false start u met is h = refl
+met_or_open true start u met is h = is h
+
+no_items_met : (items : ItemList) (vr : Vr) (held : List ElementList) → has_nothing_to_meet vr (Items (list_of items)) ≡ true → items_meet items held ≡ true
+no_items_met no_items vr held h = refl
+no_items_met (item d rest) vr held h = absurd cc
+
+each_open : (keys held : ElementList) → asks_nothing keys ≡ true → each_met keys Outer held false ≡ true
+each_open no_elements held h = refl
+each_open (element t v o rest) held h =
+    let parts = both (is_open_key (record { tag = t; vr = v; value = Octets o })) (asks_nothing rest) h in
+    λ i. met_or_open (is_key Outer t) (is_start t) (is_universal v o) (octets_meet v o (element_octets (element_at t held))) (universal_octets v o (element_octets (element_at t held))) parts.0 i
+    && each_open rest held parts.1 i
+each_open (sequence t v items rest) held h =
+    let parts = both (is_open_key (record { tag = t; vr = v; value = Items (list_of items) })) (asks_nothing rest) h in
+    λ i. met_or_open (is_key Outer t) (is_start t) (has_nothing_to_meet v (Items (list_of items))) (items_meet items (items_in (element_at t held))) (no_items_met items v (items_in (element_at t held))) parts.0 i
+    && each_open rest held parts.1 i
+
+pub nothing_asked : (identifier held : ElementList) → asks_nothing identifier ≡ true → fits identifier held ≡ true
+nothing_asked identifier held h =
+    ap (λ (p : Option Bool). with_period p (each_met identifier Outer held)) (no_period_asked identifier held h) ∙ each_open identifier held h
+
+pub ruleset universal_keys = (universal_octets, universal_met, nothing_asked)

@@ -18,9 +18,9 @@ ghost use Rattle.dq_match.specs.declared.values.Matching.TheVariants.{Name, Wild
 ghost use Rattle.dq_match.specs.Ranges.{Bounds, has_day, has_time, date_meets, time_meets, is_from, is_until};
 ghost use Rattle.dq_match.specs.Values.{is_name_pad, compared_name, value_meets, is_universal, octets_meet};
 ghost use Rattle.dq_match.specs.Keys.{is_key};
-ghost use Rattle.dq_match.specs.Matching.{items_meet, all_met};
+ghost use Rattle.dq_match.specs.Matching.{fits, items_meet, all_met};
 ghost use Rattle.dq_match.specs.Fitting.{EachIsMet, PeriodIsMet, SomeItemFits};
-ghost use Rattle.dq_match.specs.Universal.{all_universal};
+ghost use Rattle.dq_match.specs.Universal.{all_universal, asks_nothing};
 ghost use Rattle.dq_match.specs.Supported.{is_supported, supported_part, supported_value, supported_element, has_unsupported};
 ghost use Rattle.dq_match.specs.Responses.{no_value, character_set, cut_keys, before, shown_element, shown_elements, shown_data_set};
 ghost use Rattle.dq_match.specs.ShownTags.{tags_of, set_tags};
@@ -56,14 +56,16 @@ pub fn a_value_meets_itself()
         → span value ≡ Some (first, last) → first ≤ last → time_meets value value ≡ true }
 {}
 
-/// A universal key is met by every record, and keys that are all universal are met together
-/// (PS3.4 section C.2.2.2.3).
+/// A universal key is met by every record, keys that are all universal are met together, and every
+/// record fits an identifier that asks nothing (PS3.4 section C.2.2.2.3).
 #[tactic(auto, using(crate::proofs::Universal::universal_keys))]
 pub fn universal_keys_are_met()
     ensures one { (vr : Vr) (key held : List ℕ)
         → is_universal vr key ≡ true → octets_meet vr key held ≡ true }
     ensures all { (place : Place) (keys held : ElementList)
         → all_universal keys ≡ true → all_met place keys held ≡ true }
+    ensures nothing { (identifier held : ElementList)
+        → asks_nothing identifier ≡ true → fits identifier held ≡ true }
 {}
 
 /// A range of dates takes the days from its first to its last, a date that is its own key is met,

@@ -14,6 +14,7 @@ ghost use Rattle.dq_core.specs.Soundness.{HoldSound};
 ghost use Rattle.dq_sql.specs.Restarting.{ImageHoldsRows};
 ghost use Rattle.dq_server.specs.Closing.{HaveAlone, IsClosed};
 
+use crate::file_rows::RowsInFile;
 use crate::memory::RowsInMemory;
 use dq_core::laws::rows_stay_sound;
 use dq_program::{Host, Stores, Unclosed, Uncopied, Unkept};
@@ -292,7 +293,7 @@ impl Stores for Machine<'_> {
 
     type Memory = RowsInMemory;
 
-    type File = SqlTables<FileStore<FileFrom<Wary>>>;
+    type File = RowsInFile;
 
     // No contract says what a file of the machine holds.
     ghost stored = { λ _ _. None };
@@ -312,14 +313,15 @@ impl Stores for Machine<'_> {
 
     fn new_store(&self, alloc: Global, path: &str) -> Result<Self::File, Unkept> {
         match SqlTables::open_lent(alloc, self.found(path)?) {
-            Ok(tables) => Ok(tables),
+            Ok(tables) => Ok(RowsInFile { tables }),
             Err((fault, _)) => Err(unkept(fault)),
         }
     }
 
     fn store(&self, alloc: Global, path: &str) -> Result<Self::File, Unkept> {
         self.octets_at(path)?;
-        kept_at(self.rt, alloc, path, Wary)
+        let tables = kept_at(self.rt, alloc, path, Wary)?;
+        Ok(RowsInFile { tables })
     }
 
     fn migrate(&self, alloc: Global, from: &str, to: &str) -> Result<Self::File, Unkept> {
@@ -329,7 +331,7 @@ impl Stores for Machine<'_> {
         let new = self.found(to)?;
         tell_writing(self.rt, to, octets);
         match SqlTables::migrate_lent(alloc, &mut old, new) {
-            Ok(tables) => Ok(tables),
+            Ok(tables) => Ok(RowsInFile { tables }),
             Err((fault, _)) => Err(unmigrated(fault)),
         }
     }
@@ -350,12 +352,12 @@ impl Stores for Machine<'_> {
     }
 
     fn backup(&self, alloc: Global, tables: &mut Self::File, path: &str) -> Result<(), Uncopied> {
-        let _files = copied_files(alloc, tables, self.made(alloc, path)?)?;
+        let _files = copied_files(alloc, &mut tables.tables, self.made(alloc, path)?)?;
         Ok(())
     }
 
     fn close(&self, tables: Self::File) -> Result<(), Unclosed> {
-        let _files = closed_files(tables)?;
+        let _files = closed_files(tables.tables)?;
         Ok(())
     }
 

@@ -1,6 +1,7 @@
 //! A DICOM server, over captures and over sockets: events in, the octets of its answers out.
 #![tactic(auto)]
 
+mod file_rows;
 pub mod laws;
 mod machine;
 mod memory;

@@ -65,6 +65,16 @@ impl Tables for RowsInMemory {
         without_failure(self.tables.rows_of(kind, institution))
     }
 
+    fn rows_from(
+        &mut self,
+        kind: Kind,
+        institution: &[u8],
+        from: usize,
+        most: usize,
+    ) -> Result<Listed<Row>, TableFault> {
+        without_failure(self.tables.rows_from(kind, institution, from, most))
+    }
+
     fn rows_above(
         &mut self,
         kind: Kind,

@@ -1,5 +1,5 @@
 -- From the clause of a call to the rows that it reads.
-use Rattle.std.proofs.Common.{◌≡◌, ℕ, min, slice_index_or, pos, Bool, true, false, not, ◌&&◌, List, [], ◌∷◌, None, map, filter, length, slice_get, refl, sym, ◌∙◌, ap, subst, arith}
+use Rattle.std.proofs.Common.{◌≡◌, ℕ, min, slice_index_or, pos, Bool, true, false, not, ◌&&◌, List, [], ◌∷◌, None, map, filter, take, drop, length, slice_get, refl, sym, ◌∙◌, ap, subst, arith}
 use Rattle.std.specs.List.{AllByRecursion}
 use Rattle.std.specs.List.Sorted.{IsPermutation}
 use Rattle.std.specs.Str.{bytes_eq}
@@ -9,6 +9,7 @@ use Rattle.std.proofs.lemmas.List.Sorted.{length_permutation}
 use Rattle.std.proofs.lemmas.Map.Text.{is_eq-slice_cmp}
 use Rattle.std.proofs.lemmas.Slice.Eq.{bytes_eq-Decides}
 use Rattle.std.proofs.lemmas.Bool.{and_parts}
+use Rattle.std.proofs.lemmas.List.{take-map, drop-map}
 use Rattle.sqlite_value.specs.declared.value.Value.{Value}
 use Rattle.sqlite_value.specs.declared.value.Value.TheVariants.{Int, Text, Blob, Null}
 use Rattle.sqlite_value.specs.Order.{Row as Values, column}
@@ -16,7 +17,7 @@ use Rattle.sqlite_schema.specs.declared.command.Command.TheVariants.{Select}
 use Rattle.sqlite_value.specs.declared.keys.Key.{Key}
 use Rattle.sqlite_sql.specs.Aggregate.{count as stored_count}
 use Rattle.sqlite_sql.specs.Term.{Term, col, eval_all}
-use Rattle.sqlite_sql.specs.Query.{Query, IsAnswer}
+use Rattle.sqlite_sql.specs.Query.{Query, Output, IsAnswer}
 use Rattle.sqlite_sql.specs.Program.{overlay}
 use Rattle.sqlite.specs.State.{State, Shown}
 use Rattle.sqlite.proofs.Callers.{reads_as, one_permutation}
@@ -34,13 +35,13 @@ use Rattle.dq_sql.specs.Schema.{schema_of}
 use Rattle.dq_sql.specs.Cells.{flag}
 use Rattle.dq_sql.specs.Tie.{row_of_cells, IsKeptRow, as_unstarted}
 use Rattle.dq_sql.specs.Reading.{ShowsNoWrite, HoldsOf, Shows, kept_shown, numbers_shown, IsCount, selected_columns, row_shown}
-use Rattle.dq_sql.proofs.Queries.{Means, selecting, of_tests, at_tests, above_tests, waiting_tests, shown_columns, by_id, row_text, of_text, above_text, waiting_text, row_means, of_means, above_means, waiting_means, count_text, count_above_text, count_means, count_above_means, all_text, all_columns, by_place, all_means, version_text, version_means}
+use Rattle.dq_sql.proofs.Queries.{Means, selecting, of_tests, at_tests, above_tests, waiting_tests, shown_columns, by_id, row_text, of_text, window_text, above_text, waiting_text, row_means, of_means, window_means, above_means, waiting_means, count_text, count_above_text, count_means, count_above_means, all_text, all_columns, by_place, all_means, version_text, version_means}
 use Rattle.dq_sql.proofs.Selecting.{with_row, passes, chosen, selection, selection_rows}
 use Rattle.dq_sql.proofs.Found.{found_rows, listed_rows}
 use Rattle.dq_sql.proofs.Counting.{count_answer, size_found}
 use Rattle.dq_sql.proofs.Selected.{first_kept}
 use Rattle.dq_sql.proofs.Placed.{equals, equals-Int, equals-Text, equals-Blob}
-use Rattle.dq_sql.proofs.Silent.{row_silent, of_silent, above_silent, waiting_silent, count_silent, count_above_silent, all_one_silent, all_two_silent, version_silent}
+use Rattle.dq_sql.proofs.Silent.{row_silent, of_silent, window_silent, above_silent, waiting_silent, count_silent, count_above_silent, all_one_silent, all_two_silent, version_silent}
 use Rattle.dq_sql.proofs.Staying.{shown_unchanged}
 
 pub answer_of : (version : Version) (text : List ℕ) (q : Query) → Means version text q → (params : Values) (old new : State) → old.now.schema ≡ schema_of version
@@ -156,6 +157,35 @@ module _ (old new : State) (kind : Kind) (inst : List ℕ) (answer : List Values
         let s = selection 0 of_tests shown_columns by_id old.now.trees params answer refl (answer_of Two of_text _ of_means params old new has.version_is.schema answer h) in
         listed_rows of_tests params kind inst (is_of_kind kind inst) (of_finds kind inst []) (of_own kind inst) old.now rows answer has s;
   }
+
+  -- what is answered stands in a window on all that pass
+  pub found_window : (from most : ℕ) → Shown window_text (of_params kind inst (Int (pos most) ∷ Int (pos from) ∷ [])) old new answer
+      → HoldsOf old (λ rows. map (row_shown kind inst) answer ≡ take most (drop from (rows_of kind inst rows)))
+  unfolding rows_of
+  found_window from most h =
+      let more : Values = Int (pos most) ∷ Int (pos from) ∷ [] in
+      let params : Values = of_params kind inst more in
+      record {
+        is_open = (shown_unchanged window_text params old new window_silent answer h).0.was_open;
+        of_rows = λ rows has.
+            let a = answer_of Two window_text _ window_means params old new has.version_is.schema answer h in
+            let all : List Values = map (λ (o : Output). o.1) a.ordered in
+            let whole : IsAnswer (selecting 0 of_tests None shown_columns by_id) (overlay old.now.trees []) params all = record {
+              staged = a.staged;
+              grouped = a.grouped;
+              kept = a.kept;
+              distinct = a.distinct;
+              ordered = a.ordered;
+              same = a.same;
+              sorted = a.sorted;
+              shown = refl;
+            } in
+            let s = selection 0 of_tests shown_columns by_id old.now.trees params all refl whole in
+            ap (map (row_shown kind inst)) a.shown
+            ∙ sym (take-map (row_shown kind inst) most (drop from all))
+            ∙ ap (take most) (sym (drop-map (row_shown kind inst) from all))
+            ∙ ap (λ (l : List Row). take most (drop from l)) (listed_rows of_tests params kind inst (is_of_kind kind inst) (of_finds kind inst more) (of_own kind inst) old.now rows all has s);
+      }
 
   pub found_above : (above : List ℕ) → Shown above_text (of_params kind inst (Blob above ∷ [])) old new answer
       → HoldsOf old (λ rows. map (row_shown kind inst) answer ≡ rows_above kind inst above rows)

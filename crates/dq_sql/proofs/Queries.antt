@@ -56,6 +56,10 @@ shown_columns = col 1 3 ∷ col 1 4 ∷ col 1 7 ∷ col 1 8 ∷ []
 abbrev pub by_id : List (Term × Key)
 by_id = (col 1 3, ascending Binary) ∷ []
 
+-- the rows of a kind and an institution by their keys: as many as the third parameter says, behind as many as the fourth says
+abbrev pub of_window : Query
+of_window = record (selecting 0 of_tests None shown_columns by_id) { limit = col 0 2; offset = col 0 3 }
+
 abbrev pub count_grouping : Grouping
 count_grouping = record {
   keys = [];
@@ -79,6 +83,9 @@ row_text = codes "SELECT id, above, octets, started FROM kept WHERE kind = ?1 AN
 
 abbrev pub of_text : List ℕ
 of_text = codes "SELECT id, above, octets, started FROM kept WHERE kind = ?1 AND inst = ?2 ORDER BY id"
+
+abbrev pub window_text : List ℕ
+window_text = codes "SELECT id, above, octets, started FROM kept WHERE kind = ?1 AND inst = ?2 ORDER BY id LIMIT ?3 OFFSET ?4"
 
 abbrev pub above_text : List ℕ
 above_text = codes "SELECT id, above, octets, started FROM kept WHERE kind = ?1 AND inst = ?2 AND above = ?3 ORDER BY id"
@@ -132,6 +139,10 @@ row_means = record { names = names; is = refl; plain = (refl, refl); unlisted = 
 pub of_means : Means Two of_text (selecting 0 of_tests None shown_columns by_id)
 unfolding understood everything schema_of
 of_means = record { names = names; is = refl; plain = (refl, refl); unlisted = refl }
+
+pub window_means : Means Two window_text of_window
+unfolding understood everything schema_of
+window_means = record { names = names; is = refl; plain = (refl, refl); unlisted = refl }
 
 pub above_means : Means Two above_text (selecting 0 above_tests None shown_columns by_id)
 unfolding understood everything schema_of

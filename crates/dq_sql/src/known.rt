@@ -1,5 +1,5 @@
 //! What is remembered of rows, and of how many there are.
-ghost use Rattle.std.specs.Prelude.{◌≡◌, List, length, IfOk, IfSome, OnOk, IsTrue};
+ghost use Rattle.std.specs.Prelude.{◌≡◌, List, length, take, drop, IfOk, IfSome, OnOk, IsTrue};
 ghost use Rattle.sqlite.specs.State.{HasCleanDisk};
 ghost use Rattle.sqlite.specs.Held.{state};
 ghost use Rattle.dq_tables.specs.declared.row.Row.{Row};
@@ -14,6 +14,7 @@ use crate::counts::Counts;
 use crate::counts_above::{CountsAbove, counts_above};
 use crate::known_rows::KnownRows;
 use crate::reading;
+use crate::window::Window;
 use dq_list::Listed;
 use dq_tables::{Change, Kind, Row, TableFault};
 use sqlite::{Alter, Connection};
@@ -195,6 +196,22 @@ impl Known {
             → IfSome found (λ list. list ≡ rows_of kind institution.now rows)) }
     {
         self.rows.get_whole(alloc, kind, institution)
+    }
+
+    /// Those of all rows of a kind that the institution has that stand in a window, where they are
+    /// known.
+    pub(crate) fn get_from(
+        &self,
+        alloc: Global,
+        kind: Kind,
+        institution: &[u8],
+        window: Window,
+    ) -> Result<Option<Listed<Row>>, AllocError>
+        ensures { IfOk result (λ found. (rows : List Row) → AreKnown rows self.now
+            → IfSome found (λ list.
+            list ≡ take window.most (drop window.from (rows_of kind institution.now rows)))) }
+    {
+        self.rows.get_from(alloc, kind, institution, window)
     }
 
     /// Remembers all rows of a kind that the institution has, where there is room for them.

@@ -1,5 +1,5 @@
 //! What is remembered of rows: those under each key, and all of a kind.
-ghost use Rattle.std.specs.Prelude.{◌≡◌, List, IfOk, IfSome, IsTrue};
+ghost use Rattle.std.specs.Prelude.{◌≡◌, List, take, drop, IfOk, IfSome, IsTrue};
 ghost use Rattle.sqlite.specs.State.{HasCleanDisk};
 ghost use Rattle.sqlite.specs.Held.{state};
 ghost use Rattle.dq_tables.specs.declared.row.Row.{Row};
@@ -11,6 +11,7 @@ ghost use Rattle.dq_sql.specs.RowsAbove.{HasRowsAbove, RowsAreKnown};
 use crate::reading;
 use crate::rows_above::RowsAbove;
 use crate::whole_rows::{WholeRows, room_of};
+use crate::window::Window;
 use dq_list::Listed;
 use dq_tables::{Change, Kind, Row, TableFault};
 use sqlite::{Alter, Connection};
@@ -126,6 +127,29 @@ impl KnownRows {
             .find(|whole| whole.is_of(kind, institution))
         {
             Some(whole) => Ok(Some(whole.copied(alloc)?)),
+            None => Ok(None),
+        }
+    }
+
+    /// Those of all rows of a kind that the institution has that stand in a window, where they are
+    /// known.
+    pub(crate) fn get_from(
+        &self,
+        alloc: Global,
+        kind: Kind,
+        institution: &[u8],
+        window: Window,
+    ) -> Result<Option<Listed<Row>>, AllocError>
+        ensures { IfOk result (λ found. (rows : List Row) → RowsAreKnown rows self.now
+            → IfSome found (λ list.
+            list ≡ take window.most (drop window.from (rows_of kind institution.now rows)))) }
+    {
+        match self
+            .whole
+            .iter()
+            .find(|whole| whole.is_of(kind, institution))
+        {
+            Some(whole) => Ok(Some(whole.copied_in(alloc, window)?)),
             None => Ok(None),
         }
     }

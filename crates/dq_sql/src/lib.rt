@@ -33,6 +33,7 @@ mod silents;
 mod sql_tables;
 mod version;
 mod whole_rows;
+mod window;
 mod writing;
 
 pub use fault::StoreFault;

@@ -1,5 +1,5 @@
 //! What the tables of a connection hold, read.
-ghost use Rattle.std.specs.Prelude.{◌≡◌, [], None, Some, List, IfOk, OnOk, map, length, slice_get};
+ghost use Rattle.std.specs.Prelude.{◌≡◌, [], None, Some, List, IfOk, OnOk, map, length, take, drop, slice_get};
 ghost use Rattle.sqlite_value.specs.Order.{Row as Values, column, bytes};
 ghost use Rattle.sqlite_value.specs.declared.value.Value.TheVariants.{Blob};
 ghost use Rattle.sqlite.specs.Values.{bound};
@@ -11,7 +11,9 @@ ghost use Rattle.dq_sql.specs.Adopting.{IsJudged};
 ghost use Rattle.dq_sql.specs.Reading.{ShowsNoWrite, ShowsSame, HoldsOf, Shows, kept_shown, numbers_shown, IsCount, row_shown};
 
 use crate::judgement::Judgement;
+use crate::rows_above::copies;
 use crate::version::Version;
+use crate::window::Window;
 use dq_list::Listed;
 use dq_tables::{Kind, Row, TableFault};
 use sqlite::types::{ToSql, ValueRef};
@@ -166,7 +168,39 @@ pub(crate) fn rows_of<S: Alter>(
     rows_shown(alloc, kind, institution, answer.as_slice())
 }
 
-/// Those among them under another record, in the order of their keys.
+/// Those among them that stand in a window. None behind it is read, but where SQL has no numbers as
+/// great as the window's.
+#[tactic(auto, using(crate::proofs::Silent::window_silent))]
+pub(crate) fn rows_from<S: Alter>(
+    conn: &mut Connection<S>,
+    alloc: Global,
+    kind: Kind,
+    institution: &[u8],
+    window: Window,
+) -> Result<Listed<Row>, TableFault>
+    ensures found { HasCleanDisk (state S.Store conn.new) → IfOk result (λ list.
+        HoldsOf (state S.Store conn.old) (λ rows.
+        list ≡ take window.most (drop window.from (rows_of kind institution.now rows)))) }
+    ensures stays { Stays (state S.Store conn.old) (state S.Store conn.new) }
+{
+    let Some((limit, offset)) = window.limit_and_offset() else {
+        let rows = rows_of(conn, alloc, kind, institution)?;
+        return Ok(copies(alloc, window.of(rows.as_slice()))?);
+    };
+    let answer = answered(
+        conn,
+        "SELECT id, above, octets, started FROM kept WHERE kind = ?1 AND inst = ?2 ORDER BY id LIMIT ?3 OFFSET ?4",
+        &[
+            u32::from(kind.number()).to_sql(),
+            ValueRef::Text(institution),
+            limit,
+            offset,
+        ],
+    )?;
+    rows_shown(alloc, kind, institution, answer.as_slice())
+}
+
+/// The rows of a kind and an institution under another record, in the order of their keys.
 #[tactic(auto, using(crate::proofs::Silent::above_silent))]
 pub(crate) fn rows_above<S: Alter>(
     conn: &mut Connection<S>,

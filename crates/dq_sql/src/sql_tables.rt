@@ -16,7 +16,9 @@ ghost use Rattle.sqlite_wal.specs.Recovery.{Image};
 use crate::fault::StoreFault;
 use crate::history::History;
 use crate::known::Known;
+use crate::rows_above::copies;
 use crate::silents::Silents;
+use crate::window::Window;
 use crate::{choosing, reading, writing};
 use dq_list::Listed;
 use dq_tables::{Change, Choice, Kind, Row, TableFault, Tables};
@@ -38,6 +40,17 @@ pub struct SqlTables<S: Alter> {
     ghost keeps: { ∥ (HasCleanDisk (state S.Store conn)
         → KeepsSoundRows (state S.Store conn) history.rows) ∥₁ },
     ghost counted: { ∥ (HasCleanDisk (state S.Store conn) → AreKnown history.rows known) ∥₁ },
+}
+
+/// A list of so many rows of 1 KiB is still remembered.
+const MOST_REMEMBERED: u64 = 32_768;
+
+/// Whether a list of so many rows, if that is known, is remembered once it is read.
+fn is_remembered(number: Option<u64>) -> bool {
+    match number {
+        Some(number) => number <= MOST_REMEMBERED,
+        None => false,
+    }
 }
 
 /// The answer, whose failure of the store is noted.
@@ -162,6 +175,26 @@ impl<S: Alter> Tables for SqlTables<S> {
         self.known
             .note_whole(self.alloc, kind, institution, rows.as_slice());
         Ok(rows)
+    }
+
+    fn rows_from(
+        &mut self,
+        kind: Kind,
+        institution: &[u8],
+        from: usize,
+        most: usize,
+    ) -> Result<Listed<Row>, TableFault> {
+        let window = Window { from, most };
+        if let Some(rows) = self.known.get_from(self.alloc, kind, institution, window)? {
+            return Ok(rows);
+        }
+        let number = self.known.get(kind, institution);
+        if window.is_far() && is_remembered(number) {
+            let rows = self.rows_of(kind, institution)?;
+            return Ok(copies(self.alloc, window.of(rows.as_slice()))?);
+        }
+        let answer = reading::rows_from(&mut self.conn, self.alloc, kind, institution, window);
+        noted(&mut self.failed, answer)
     }
 
     fn rows_above(

@@ -1,11 +1,12 @@
 //! All rows of a kind that an institution has, remembered.
-ghost use Rattle.std.specs.Prelude.{◌≡◌, List, IfOk, IsTrue, MatchBool};
+ghost use Rattle.std.specs.Prelude.{◌≡◌, List, take, drop, IfOk, IsTrue, MatchBool};
 ghost use Rattle.dq_tables.specs.declared.row.Row.{Row};
 ghost use Rattle.dq_tables.specs.Rows.{IsRising, after, operation_of, institution_of, edits_of, put_if};
 ghost use Rattle.dq_tables.specs.Finding.{rows_of};
 ghost use Rattle.dq_sql.specs.WholeRows.{AreWhole, SpareKind};
 
 use crate::rows_above::copies;
+use crate::window::Window;
 use dq_list::Listed;
 use dq_tables::{Change, Kind, Row};
 use std::alloc::{AllocError, Global};
@@ -107,6 +108,13 @@ impl WholeRows {
         ensures { IfOk result (λ list. list ≡ self.now.rows) }
     {
         copies(alloc, self.rows.as_slice())
+    }
+
+    /// Returns copies of those of the rows that stand in a window.
+    pub(crate) fn copied_in(&self, alloc: Global, window: Window) -> Result<Listed<Row>, AllocError>
+        ensures { IfOk result (λ list. list ≡ take window.most (drop window.from self.now.rows)) }
+    {
+        copies(alloc, window.of(self.rows.as_slice()))
     }
 
     /// Returns how many octets of memory they take, about.

@@ -1,10 +1,10 @@
 -- What is found among rows is what is found among the institution's records.
-use Rattle.std.proofs.Common.{◌≡◌, ℕ, Bool, true, false, not, List, [], ◌∷◌, map, length, Option, Some, None, refl, ◌∙◌, ap, arith}
+use Rattle.std.proofs.Common.{◌≡◌, ℕ, Bool, true, false, not, List, [], ◌∷◌, map, length, take, drop, Option, Some, None, refl, ◌∙◌, ap, arith}
 use Rattle.std.specs.List.{filter}
 use Rattle.std.specs.Option.{option_map}
 use Rattle.std.specs.Str.{bytes_eq}
 use Rattle.std.proofs.lemmas.Slice.Eq.{bytes_eq-Decides}
-use Rattle.std.proofs.lemmas.List.{length-map}
+use Rattle.std.proofs.lemmas.List.{length-map, take-map, drop-map}
 use Rattle.dq_tables.specs.declared.choice.Choice.{Choice}
 use Rattle.dq_tables.specs.declared.row.Kind.{Kind}
 use Rattle.dq_tables.specs.declared.row.Kind.TheVariants.{Study, Entry}
@@ -75,6 +75,12 @@ chosen_own choice h rows = ap (filter (λ (row : Row). is_chosen choice (record_
 pub waiting_own : (h : List ℕ) (rows : List Row) → waiting_entries h rows ≡ map (row_of h) (waiting_among (of h rows))
 waiting_own h rows = ap (filter (λ (row : Row). not row.started)) (listed_own Entry h rows)
     ∙ filter_map_row h (λ (row : Row). not row.started) (records_of Entry (of h rows))
+
+pub window_own : (kind : Kind) (h : List ℕ) (from most : ℕ) (rows : List Row)
+    → take most (drop from (rows_of kind h rows)) ≡ map (row_of h) (take most (drop from (records_of kind (of h rows))))
+window_own kind h from most rows = ap (λ (rs : List Row). take most (drop from rs)) (listed_own kind h rows)
+    ∙ ap (take most) (drop-map (row_of h) from (records_of kind (of h rows)))
+    ∙ take-map (row_of h) most (drop from (records_of kind (of h rows)))
 
 pub counted_own : (kind : Kind) (h : List ℕ) (rows : List Row) → length (rows_of kind h rows) ≡ length (records_of kind (of h rows))
 counted_own kind h rows = ap length (listed_own kind h rows) ∙ length-map (records_of kind (of h rows)) (row_of h)

@@ -40,6 +40,17 @@ impl Tables for PlainTables {
         Ok(scan::rows_of(self.alloc, self.kept(), kind, institution)?)
     }
 
+    fn rows_from(
+        &mut self,
+        kind: Kind,
+        institution: &[u8],
+        from: usize,
+        most: usize,
+    ) -> Result<Listed<Row>, TableFault> {
+        let rows = scan::rows_of(self.alloc, self.kept(), kind, institution)?;
+        Ok(scan::cut(rows, from, most))
+    }
+
     fn rows_above(
         &mut self,
         kind: Kind,

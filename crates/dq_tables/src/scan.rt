@@ -1,5 +1,5 @@
 //! Rows, scanned.
-ghost use Rattle.std.specs.Prelude.{◌≡◌, ◌&&◌, IfOk, length, option_copied};
+ghost use Rattle.std.specs.Prelude.{◌≡◌, ◌&&◌, IfOk, length, take, drop, option_copied};
 ghost use Rattle.std.specs.Str.{bytes_eq};
 ghost use Rattle.dq_tables.specs.Finding.{is_of_kind, row_at, rows_of, rows_above, waiting_entries};
 ghost use Rattle.dq_tables.specs.Choosing.{studies_in};
@@ -64,6 +64,17 @@ pub(crate) fn rows_of(
         }
     }
     Ok(copies)
+}
+
+/// The rows of a list from a place on, at most so many.
+pub(crate) fn cut(rows: Listed<Row>, from: usize, most: usize) -> Listed<Row>
+    ensures { result ≡ take most (drop from rows) }
+{
+    let mut rows = rows.into_inner();
+    let before = from.min(rows.len());
+    let _ = rows.drain(..before);
+    rows.truncate(most);
+    Listed::from_inner(rows)
 }
 
 /// Copies of the institution's rows of a kind under another row.

@@ -1,5 +1,5 @@
 //! What keeps rows.
-ghost use Rattle.std.specs.Prelude.{◌≡◌, List, length, IfOk};
+ghost use Rattle.std.specs.Prelude.{◌≡◌, List, length, take, drop, IfOk};
 ghost use Rattle.dq_tables.specs.declared.row.Kind.TheVariants.{Study, Series, Image, Entry, Step};
 ghost use Rattle.dq_tables.specs.declared.row.Row.{Row};
 ghost use Rattle.dq_tables.specs.Rows.{after, operation_of};
@@ -36,6 +36,19 @@ pub trait Tables {
     fn rows_of(&mut self, kind: Kind, institution: &[u8]) -> Result<Listed<Row>, TableFault>
         ensures found { (state self.new).honest → IfOk result
             (λ list. list ≡ rows_of kind institution.now (state self.old).rows) }
+        ensures reads { Reads (state self.old) (state self.new) result };
+
+    /// The institution's rows of a kind from a place on, at most so many.
+    fn rows_from(
+        &mut self,
+        kind: Kind,
+        institution: &[u8],
+        from: usize,
+        most: usize,
+    ) -> Result<Listed<Row>, TableFault>
+        ensures found { (state self.new).honest → IfOk result
+            (λ list. list ≡ take most (drop from
+            (rows_of kind institution.now (state self.old).rows))) }
         ensures reads { Reads (state self.old) (state self.new) result };
 
     /// The institution's rows of a kind under the row with the key `above`.

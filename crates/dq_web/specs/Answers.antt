@@ -12,7 +12,7 @@ use Rattle.dq_web.specs.declared.asking.Document.TheVariants as document
 use Rattle.dq_web.specs.declared.asking.Form.{Form}
 use Rattle.dq_web.specs.declared.asking.Form.TheVariants as form
 use Rattle.dq_web.specs.declared.answering.Counts.{Counts}
-use Rattle.dq_web.specs.declared.answering.TheConstants.{DONE, NONE_FOUND, END, STUDIES, SERIES, IMAGES, ENTRIES, STEPS, LIMIT, CLOSE}
+use Rattle.dq_web.specs.declared.answering.TheConstants.{STUDIES, SERIES, IMAGES, ENTRIES, STEPS, LIMIT, CLOSE}
 use Rattle.dq_web.specs.declared.page.TheConstants.{INDEX, STYLE, SCRIPT}
 use Rattle.dq_web.specs.declared.replies.Reply.{Reply}
 use Rattle.dq_web.specs.declared.replies.Kind.TheVariants as kind
@@ -21,7 +21,7 @@ use Rattle.dq_web.specs.Responses.{is_success, response_text}
 
 -- the order is done
 abbrev pub is_done : List ℕ → Bool
-is_done told = bytes_eq told DONE.now
+is_done told = bytes_eq told (codes "done\n")
 
 -- a comma in place of a line feed
 abbrev pub comma_for : ℕ → ℕ
@@ -29,17 +29,17 @@ comma_for octet = if octet == 10 then 44 else octet
 
 -- what was told is answers, a line each, and then their number behind `end`
 abbrev pub SplitsAnswers : List ℕ → List ℕ → Type 0
-SplitsAnswers told front = (number : List ℕ) × (told ≡ front ++ (END.now ++ number))
+SplitsAnswers told front = (number : List ℕ) × (told ≡ front ++ (codes "\nend " ++ number))
 
 abbrev pub HasNoAnswers : List ℕ → Type 0
 HasNoAnswers told = (IsUtf8 told → ⊥)
-    ⊎ ((front number : List ℕ) → told ≢ front ++ (END.now ++ number))
+    ⊎ ((front number : List ℕ) → told ≢ front ++ (codes "\nend " ++ number))
 
 -- The response to a search: the array of the answers, in their order, where there are some; no content
 -- where none is found; and else no success (PS3.18 section 10.6.3).
 abbrev pub IsAnswersReply : List ℕ → Reply → Type 0
 IsAnswersReply told reply =
-    ((told ≡ NONE_FOUND.now) × (reply.status ≡ status.NoContent) × (reply.body ≡ []))
+    ((told ≡ codes "end 0\n") × (reply.status ≡ status.NoContent) × (reply.body ≡ []))
     ⊎ (((front : List ℕ) × SplitsAnswers told front × (reply.status ≡ status.Done)
     × (reply.kind ≡ kind.DicomJson) × (reply.body ≡ codes "[" ++ map comma_for front ++ codes "]"))
     ⊎ (HasNoAnswers told × (is_success reply.status ≡ false)))
@@ -107,9 +107,10 @@ IsReplyTo form.Withdrawn name told reply = is_success reply.status ≡ is_done t
 IsReplyTo form.BackedUp name told reply = is_success reply.status ≡ is_done told
 IsReplyTo form.Metrics name told reply = Unit {0}
 
--- the octets of a response of which this holds
-abbrev pub IsResponse : (Reply → Type 0) → List ℕ → Type 0
-IsResponse Holds octets = (reply : Reply) × Holds reply × (octets ≡ response_text reply)
+-- the octets of a response of which this holds, the last one of its connection if that is said
+abbrev pub IsResponse : (Reply → Type 0) → Bool → List ℕ → Type 0
+IsResponse Holds is_last octets =
+    (reply : Reply) × Holds reply × (octets ≡ response_text reply is_last)
 
 -- a document of the page for people
 abbrev pub IsDocument : Document → Reply → Type 0

@@ -1,6 +1,7 @@
 -- Requests of HTTP, as they stand in the octets of a connection (RFC 9112).
 use Rattle.std.specs.Prelude.{◌≡◌, ℕ, ◌+◌, ◌≤◌, ◌++◌, ◌==◌, ◌||◌, Bool, false, List, length, map, filter, codes, Option, Some, None, option_to_list, option_copied}
 use Rattle.std.specs.Char.{to_ascii_lowercase}
+use Rattle.std.specs.List.{list_any, slice_split}
 use Rattle.std.specs.Str.{bytes_eq}
 use Rattle.std.specs.Str.Parse.{IsNumeral, digits_value}
 use Rattle.httparse.specs.Grammar.{RequestHead, ReadsRequest, print_request}
@@ -47,14 +48,24 @@ abbrev pub IsBodyLength : Option (List ℕ) → ℕ → Type 0
 IsBodyLength None number = number ≡ 0
 IsBodyLength (Some text) number = IsContentLength text number
 
--- a Connection says that no request follows (RFC 9112 section 9.6)
+-- a comma, or a blank beside one (RFC 9110 section 5.6.1)
+abbrev pub is_between : ℕ → Bool
+is_between octet = octet == 44 || (octet == 32 || octet == 9)
+
+-- one of the options of a Connection says that no request follows (RFC 9112 section 9.6)
+abbrev pub is_close : List ℕ → Bool
+is_close option = is_named option (codes "close")
+
+abbrev pub has_close : List ℕ → Bool
+has_close options = list_any is_close (slice_split is_between options)
+
 abbrev pub says_close : Option (List ℕ) → Bool
 says_close None = false
-says_close (Some value) = is_named value (codes "close")
+says_close (Some options) = has_close options
 
 -- A request stands at the front of octets: its head is one of the grammar, each field that counts
 -- stands once at most, the body comes in no coding and is as long as the head says, and the request
--- takes the octets of both. After one of HTTP/1.0, or with `close`, none follows.
+-- takes the octets of both. After one of HTTP/1.0, one with `close`, or one to HEAD, none follows.
 pub record IsRequest (octets : List ℕ) (request : Request) : Type 0 where
   pub head : RequestHead
   pub rest : List ℕ
@@ -64,7 +75,8 @@ pub record IsRequest (octets : List ℕ) (request : Request) : Type 0 where
   pub fields : AreFields (map name_and_value head.fields) request.fields
   pub coding : option_copied request.fields.transfer_encoding ≡ None
   pub body : IsBodyLength (option_copied request.fields.content_length) (length request.body.now)
-  pub last : request.is_last ≡ (head.minor == 0 || says_close (option_copied request.fields.connection))
+  pub last : request.is_last ≡ (head.minor == 0 || says_close (option_copied request.fields.connection)
+      || bytes_eq request.method.now (codes "HEAD"))
   pub extent : request.extent ≡ length (print_request head) + length request.body.now
 
 -- what was cut off octets

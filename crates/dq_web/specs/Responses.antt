@@ -5,7 +5,6 @@ use Rattle.dq_web.specs.declared.refusal.Allowed.TheVariants as allowed
 use Rattle.dq_web.specs.declared.replies.Kind.{Kind}
 use Rattle.dq_web.specs.declared.replies.Kind.TheVariants as kind
 use Rattle.dq_web.specs.declared.replies.Reply.{Reply}
-use Rattle.dq_web.specs.declared.replies.TheConstants.{LINE_END, GUARDING_FIELDS}
 use Rattle.dq_web.specs.declared.status.Status.{Status}
 use Rattle.dq_web.specs.declared.status.Status.TheVariants.{Done, Created, NoContent, BadRequest, Unauthorized, Forbidden, NotFound, MethodNotAllowed, Conflict, TooLarge, Misdirected, HeadTooLarge, ServerError, NotImplemented, Unavailable, Full}
 
@@ -44,13 +43,26 @@ content_type kind.Json = codes "application/json"
 content_type kind.DicomJson = codes "application/dicom+json"
 content_type kind.Metrics = codes "text/plain; version=0.0.4; charset=utf-8"
 
+-- the end of a line (RFC 9112 section 2.2)
+abbrev pub line_end : List ℕ
+line_end = codes "\r\n"
+
+-- What each response says: nothing is kept of it (RFC 9111 section 5.2.2.5), nothing is guessed of its
+-- body, a page tells no other site where it was, and it loads and calls only what is of its own host.
+unfoldable pub guarding_fields : List ℕ
+guarding_fields =
+    codes "Cache-Control: no-store\r\n" ++ codes "X-Content-Type-Options: nosniff\r\n"
+    ++ codes "Referrer-Policy: no-referrer\r\n"
+    ++ codes "Content-Security-Policy: default-src 'none'; script-src 'self'; style-src 'self'; "
+    ++ codes "connect-src 'self'; base-uri 'none'; form-action 'none'; frame-ancestors 'none'\r\n"
+
 -- the fields that a status asks for (RFC 9110 sections 11.6.1 and 10.2.1)
 abbrev pub extra_fields : Status → List ℕ
-extra_fields Unauthorized = codes "WWW-Authenticate: Bearer" ++ LINE_END.now
-extra_fields (MethodNotAllowed allowed.Get) = codes "Allow: GET" ++ LINE_END.now
-extra_fields (MethodNotAllowed allowed.Post) = codes "Allow: POST" ++ LINE_END.now
-extra_fields (MethodNotAllowed allowed.Delete) = codes "Allow: DELETE" ++ LINE_END.now
-extra_fields (MethodNotAllowed allowed.GetAndPost) = codes "Allow: GET, POST" ++ LINE_END.now
+extra_fields Unauthorized = codes "WWW-Authenticate: Bearer" ++ line_end
+extra_fields (MethodNotAllowed allowed.Get) = codes "Allow: GET" ++ line_end
+extra_fields (MethodNotAllowed allowed.Post) = codes "Allow: POST" ++ line_end
+extra_fields (MethodNotAllowed allowed.Delete) = codes "Allow: DELETE" ++ line_end
+extra_fields (MethodNotAllowed allowed.GetAndPost) = codes "Allow: GET, POST" ++ line_end
 extra_fields status = []
 
 -- a response of 204 has no content (RFC 9110 section 15.3.5)
@@ -60,11 +72,11 @@ has_content status = true
 
 -- what the body is (RFC 9110 section 8.3)
 abbrev pub type_field : Kind → List ℕ
-type_field what = codes "Content-Type: " ++ content_type what ++ LINE_END.now
+type_field what = codes "Content-Type: " ++ content_type what ++ line_end
 
 -- how many octets it has (RFC 9110 section 8.6)
 abbrev pub length_field : ℕ → List ℕ
-length_field size = codes "Content-Length: " ++ decimal size ++ LINE_END.now
+length_field size = codes "Content-Length: " ++ decimal size ++ line_end
 
 -- a response without content says neither
 abbrev pub body_fields : Status → Kind → ℕ → List ℕ
@@ -73,12 +85,18 @@ body_fields status what size =
 
 -- the status line and the fields that each response has
 abbrev pub head_text : Status → List ℕ
-head_text status = codes "HTTP/1.1 " ++ status_line status ++ LINE_END.now
-    ++ GUARDING_FIELDS.now ++ extra_fields status
+head_text status = codes "HTTP/1.1 " ++ status_line status ++ line_end
+    ++ guarding_fields ++ extra_fields status
 
-abbrev pub whole_head_text : Reply → List ℕ
-whole_head_text reply = head_text reply.status
-    ++ body_fields reply.status reply.kind (length reply.body) ++ LINE_END.now
+-- no request is read behind a response (RFC 9112 section 9.6)
+abbrev pub closing_field : Bool → List ℕ
+closing_field true = codes "Connection: close\r\n"
+closing_field false = []
 
-abbrev pub response_text : Reply → List ℕ
-response_text reply = whole_head_text reply ++ reply.body
+abbrev pub whole_head_text : Reply → Bool → List ℕ
+whole_head_text reply is_last = head_text reply.status ++ closing_field is_last
+    ++ body_fields reply.status reply.kind (length reply.body) ++ line_end
+
+-- the octets of a response, the last one of its connection if that is said
+abbrev pub response_text : Reply → Bool → List ℕ
+response_text reply is_last = whole_head_text reply is_last ++ reply.body

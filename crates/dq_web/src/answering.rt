@@ -19,17 +19,6 @@ use dq_config::Institution;
 use dq_list::Listed;
 use std::alloc::{AllocError, Global};
 
-/// What the console tells where an order is done.
-pub(crate) const DONE: &[u8] = b"done\n";
-
-/// What it tells where a search finds nothing.
-pub(crate) const NONE_FOUND: &[u8] = b"end 0\n";
-
-/// What stands between the answers of a search and their number.
-pub(crate) const END: &str = "\nend ";
-
-pub(crate) const HEALTHY: &[u8] = b"ok\n";
-
 pub(crate) const STUDIES: &str = "{\"studies\":{\"kept\":";
 
 pub(crate) const SERIES: &str = "},\"series\":{\"kept\":";
@@ -159,7 +148,7 @@ fn done_status(form: Form) -> Status
 fn order_reply(alloc: Global, form: Form, told: &[u8]) -> Result<Reply, AllocError>
     ensures { IfOk result (λ reply. is_success reply.status ≡ is_done told.now) }
 {
-    if told == DONE {
+    if told == b"done\n".as_slice() {
         return Ok(reply_of(done_status(form), Kind::Json, Vec::new(alloc)));
     }
     unanswered(alloc, told)
@@ -195,7 +184,7 @@ fn answers_in(told: &[u8]) -> Option<&[u8]>
     let Ok(text) = str::from_utf8(told) else {
         return None;
     };
-    match text.split_once(END) {
+    match text.split_once("\nend ") {
         Some((front, _)) => Some(front.as_bytes()),
         None => None,
     }
@@ -205,7 +194,7 @@ fn answers_in(told: &[u8]) -> Option<&[u8]>
 fn answers_reply(alloc: Global, told: &[u8]) -> Result<Reply, AllocError>
     ensures { IfOk result (IsAnswersReply told.now) }
 {
-    if told == NONE_FOUND {
+    if told == b"end 0\n".as_slice() {
         return Ok(reply_of(Status::NoContent, Kind::DicomJson, Vec::new(alloc)));
     }
     match answers_in(told) {
@@ -472,23 +461,20 @@ pub fn answered(
     counters: &Counters,
 ) -> Result<Vec<u8>, AllocError>
     ensures { IfOk result (λ octets.
-        IsResponse (IsReplyTo question.now.form question.now.name told.now) octets.items) }
+        IsResponse (IsReplyTo question.now.form question.now.name told.now) question.now.is_last
+        octets.items) }
 {
-    printed(
-        alloc,
-        &reply_to(alloc, question, told, institutions, counters)?,
-    )
+    let reply = reply_to(alloc, question, told, institutions, counters)?;
+    printed(alloc, &reply, question.is_last)
 }
 
-/// The response to a request that the front refuses, as octets.
-pub fn refused(alloc: Global, refusal: Refusal) -> Result<Vec<u8>, AllocError>
+/// The response to a request that the front refuses, as octets. The last one of its connection says so.
+pub fn refused(alloc: Global, refusal: Refusal, is_last: bool) -> Result<Vec<u8>, AllocError>
     ensures { IfOk result (λ octets.
-        IsResponse (λ reply. is_success reply.status ≡ false) octets.items) }
+        IsResponse (λ reply. is_success reply.status ≡ false) is_last octets.items) }
 {
-    printed(
-        alloc,
-        &refused_reply(alloc, Status::of(refusal), refusal.word())?,
-    )
+    let reply = refused_reply(alloc, Status::of(refusal), refusal.word())?;
+    printed(alloc, &reply, is_last)
 }
 
 /// A document of the page for people.
@@ -515,20 +501,20 @@ fn document_reply(alloc: Global, document: Document) -> Result<Reply, AllocError
 }
 
 /// A document of the page for people, as octets of a response.
-pub fn document(alloc: Global, document: Document) -> Result<Vec<u8>, AllocError>
-    ensures { IfOk result (λ octets.
-        IsResponse (IsDocument document) octets.items) }
+pub fn document(alloc: Global, document: Document, is_last: bool) -> Result<Vec<u8>, AllocError>
+    ensures { IfOk result (λ octets. IsResponse (IsDocument document) is_last octets.items) }
 {
-    printed(alloc, &document_reply(alloc, document)?)
+    printed(alloc, &document_reply(alloc, document)?, is_last)
 }
 
 /// The response that the front is there, as octets.
-pub fn healthy(alloc: Global) -> Result<Vec<u8>, AllocError>
+pub fn healthy(alloc: Global, is_last: bool) -> Result<Vec<u8>, AllocError>
     ensures { IfOk result (λ octets. octets.items
-        ≡ response_text (record { status = Status.Done; kind = Kind.Text; body = HEALTHY.now })) }
+        ≡ response_text (record { status = Status.Done; kind = Kind.Text; body = codes "ok\n" }) is_last) }
 {
     printed(
         alloc,
-        &reply_of(Status::Done, Kind::Text, Vec::from_slice(alloc, HEALTHY)?),
+        &reply_of(Status::Done, Kind::Text, Vec::from_slice(alloc, b"ok\n")?),
+        is_last,
     )
 }

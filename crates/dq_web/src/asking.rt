@@ -30,6 +30,8 @@ pub struct Question {
     pub line: Listed<u8>,
     pub form: Form,
     pub name: Listed<u8>,
+    /// Whether no request comes after it on its connection. Whoever holds the connection says so.
+    pub is_last: bool,
 }
 
 /// A document of the page for people.
@@ -235,6 +237,7 @@ fn make_question(
         line: Listed::from_inner(line),
         form,
         name: Listed::copy_of(alloc, name)?,
+        is_last: false,
     })
 }
 

@@ -1,7 +1,8 @@
 //! Requests, cut off the octets of a connection (RFC 9112).
-ghost use Rattle.std.specs.Prelude.{◌≡◌, ◌≤◌, length, map, All, IfOk, option_copied};
+ghost use Rattle.std.specs.Prelude.{◌≡◌, ◌≤◌, ◌||◌, length, map, codes, All, IfOk, option_copied};
+ghost use Rattle.std.specs.Str.{bytes_eq};
 ghost use Rattle.httparse.specs.Spans.{IsHeaderWithin, IsRequestWithin, IsRequestOf, header_bytes};
-ghost use Rattle.dq_web.specs.Requests.{is_named, IsSole, AreFields, IsBodyLength, IsCutOff, IsContentLength, says_close};
+ghost use Rattle.dq_web.specs.Requests.{is_named, IsSole, AreFields, IsBodyLength, IsCutOff, IsContentLength, is_between, is_close, has_close, says_close};
 
 use crate::refusal::Refusal;
 use httparse::spans::{EMPTY_HEADER_SPAN, HeaderSpan, RequestSpans, parse_request};
@@ -111,7 +112,7 @@ fn fields_of<'a>(octets: &'a [u8], headers: &[HeaderSpan]) -> Result<Fields<'a>,
 fn length_in(value: &[u8]) -> Result<usize, Refusal>
     ensures { IfOk result (IsContentLength value.now) }
 {
-    if !value.first().is_some_and(|octet| octet.is_ascii_digit()) {
+    if value.is_empty() || !value.iter().all(|octet| octet.is_ascii_digit()) {
         return Err(Refusal::Request);
     }
     let Ok(text) = str::from_utf8(value) else {
@@ -133,14 +134,46 @@ fn body_length(value: Option<&[u8]>) -> Result<usize, Refusal>
     }
 }
 
-/// Whether a Connection says that no request follows (RFC 9112 section 9.6).
+fn is_between(octet: u8) -> bool
+    ensures { result ≡ is_between octet }
+{
+    octet == b',' || octet == b' ' || octet == b'\t'
+}
+
+fn is_close(option: &[u8]) -> bool
+    ensures { result ≡ is_close option.now }
+{
+    is_named(option, b"close")
+}
+
+/// Whether one of the options of a Connection is this: no request follows (RFC 9112 section 9.6).
+fn has_close(options: &[u8]) -> bool
+    ensures { result ≡ has_close options.now }
+{
+    let mut is_said = false;
+    for option in options.split(|octet| is_between(*octet)) {
+        is_said = is_said || is_close(option);
+    }
+    is_said
+}
+
+/// Whether a Connection says that no request follows.
 fn says_close(value: Option<&[u8]>) -> bool
     ensures { result ≡ says_close (option_copied value.entry) }
 {
     match value {
-        Some(value) => is_named(value, b"close"),
+        Some(options) => has_close(options),
         None => false,
     }
+}
+
+/// Whether nothing is read behind a request: its Connection says so, or its method is HEAD. No
+/// response to HEAD has a body, and a refusal has one.
+fn ends_here(connection: Option<&[u8]>, method: &[u8]) -> bool
+    ensures { result ≡ (says_close (option_copied connection.entry)
+        || bytes_eq method.now (codes "HEAD")) }
+{
+    says_close(connection) || method == b"HEAD".as_slice()
 }
 
 /// Whether an Expect asks for leave to send the body.
@@ -175,9 +208,10 @@ fn request_at<'a>(
             Cut::Unfinished
         });
     };
-    let is_last = spans.version == 0 || says_close(fields.connection);
+    let method = spans.method.of(octets);
+    let is_last = spans.version == 0 || ends_here(fields.connection, method);
     Ok(Cut::Whole(Request {
-        method: spans.method.of(octets),
+        method,
         target: spans.path.of(octets),
         fields,
         body,

@@ -101,7 +101,8 @@ pub fn place_of(path: &str) -> Place<'_>
         return Place::Nowhere;
     };
     match at_slash(rest) {
+        // (the operator's name is no institution's)
+        Some(("*", _)) | None => Place::Nowhere,
         Some((institution, rest)) => place_of_institution(institution, rest),
-        None => Place::Nowhere,
     }
 }

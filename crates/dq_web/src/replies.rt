@@ -1,7 +1,7 @@
 //! Responses as octets (RFC 9112 section 2.1).
 ghost use Rattle.std.specs.Prelude.{◌≡◌, ◌++◌, length, IfOk, OnOk};
 ghost use Rattle.std.specs.Fmt.{decimal};
-ghost use Rattle.dq_web.specs.Responses.{content_type, extra_fields, has_content, type_field, length_field, body_fields, head_text, whole_head_text, response_text};
+ghost use Rattle.dq_web.specs.Responses.{content_type, extra_fields, has_content, guarding_fields, closing_field, type_field, length_field, body_fields, head_text, whole_head_text, response_text};
 
 use crate::refusal::Allowed;
 use crate::status::Status;
@@ -27,16 +27,6 @@ pub struct Reply {
     pub kind: Kind,
     pub body: Listed<u8>,
 }
-
-pub(crate) const LINE_END: &str = "\r\n";
-
-/// The fields that each response has: nothing is kept, nothing is guessed of a body, and a page may
-/// load and call only what is of its own host.
-pub(crate) const GUARDING_FIELDS: &str = "Cache-Control: no-store\r\n\
-    X-Content-Type-Options: nosniff\r\n\
-    Referrer-Policy: no-referrer\r\n\
-    Content-Security-Policy: default-src 'none'; script-src 'self'; style-src 'self'; \
-    connect-src 'self'; base-uri 'none'; form-action 'none'; frame-ancestors 'none'\r\n";
 
 impl Kind {
     /// Returns the value of Content-Type.
@@ -100,7 +90,7 @@ fn put_type(octets: &mut Vec<u8>, kind: Kind) -> Result<(), AllocError>
 {
     put(octets, "Content-Type: ")?;
     put(octets, kind.content_type())?;
-    put(octets, LINE_END)?;
+    put(octets, "\r\n")?;
     Ok(())
 }
 
@@ -110,8 +100,28 @@ fn put_length(alloc: Global, octets: &mut Vec<u8>, size: usize) -> Result<(), Al
 {
     put(octets, "Content-Length: ")?;
     put_number(alloc, octets, size as u64)?;
-    put(octets, LINE_END)?;
+    put(octets, "\r\n")?;
     Ok(())
+}
+
+/// The fields that each response has: nothing is kept, nothing is guessed of a body, and a page may
+/// load and call only what is of its own host.
+#[tactic(auto, unfolding(crate::specs::Responses::guarding_fields))]
+fn guarding_fields() -> &'static str
+    ensures { result.now ≡ guarding_fields }
+{
+    "Cache-Control: no-store\r\n\
+    X-Content-Type-Options: nosniff\r\n\
+    Referrer-Policy: no-referrer\r\n\
+    Content-Security-Policy: default-src 'none'; script-src 'self'; style-src 'self'; \
+    connect-src 'self'; base-uri 'none'; form-action 'none'; frame-ancestors 'none'\r\n"
+}
+
+/// The field that says that no request is read behind the response.
+fn closing_field(is_last: bool) -> &'static str
+    ensures { result.now ≡ closing_field is_last }
+{
+    if is_last { "Connection: close\r\n" } else { "" }
 }
 
 /// The status line and the fields that each response has.
@@ -120,8 +130,8 @@ fn head_start(alloc: Global, status: Status) -> Result<Vec<u8>, AllocError>
 {
     let mut head = Vec::from_slice(alloc, b"HTTP/1.1 ")?;
     put(&mut head, status.line())?;
-    put(&mut head, LINE_END)?;
-    put(&mut head, GUARDING_FIELDS)?;
+    put(&mut head, "\r\n")?;
+    put(&mut head, guarding_fields())?;
     put(&mut head, extra_fields(status))?;
     Ok(head)
 }
@@ -140,20 +150,21 @@ fn put_body_fields(alloc: Global, head: &mut Vec<u8>, reply: &Reply) -> Result<(
 }
 
 /// The whole head of a response.
-fn head_of(alloc: Global, reply: &Reply) -> Result<Vec<u8>, AllocError>
-    ensures { IfOk result (λ head. head.items ≡ whole_head_text reply.now) }
+fn head_of(alloc: Global, reply: &Reply, is_last: bool) -> Result<Vec<u8>, AllocError>
+    ensures { IfOk result (λ head. head.items ≡ whole_head_text reply.now is_last) }
 {
     let mut head = head_start(alloc, reply.status)?;
+    put(&mut head, closing_field(is_last))?;
     put_body_fields(alloc, &mut head, reply)?;
-    put(&mut head, LINE_END)?;
+    put(&mut head, "\r\n")?;
     Ok(head)
 }
 
-/// The octets of a response.
-pub(crate) fn printed(alloc: Global, reply: &Reply) -> Result<Vec<u8>, AllocError>
-    ensures { IfOk result (λ octets. octets.items ≡ response_text reply.now) }
+/// The octets of a response, the last one of its connection if that is said.
+pub(crate) fn printed(alloc: Global, reply: &Reply, is_last: bool) -> Result<Vec<u8>, AllocError>
+    ensures { IfOk result (λ octets. octets.items ≡ response_text reply.now is_last) }
 {
-    let mut octets = head_of(alloc, reply)?;
+    let mut octets = head_of(alloc, reply, is_last)?;
     octets.extend_from_slice(reply.body.as_slice())?;
     Ok(octets)
 }

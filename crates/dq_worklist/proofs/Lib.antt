@@ -1,3 +1,4 @@
+mod InParts
 mod Afterwards
 mod LookedUp
 mod Matching

@@ -1,8 +1,9 @@
 //! The answers to a worklist query (PS3.4 section K.4.1.3).
-ghost use Rattle.std.specs.Prelude.{◌≡◌, false, List, [], map, IfOk};
+ghost use Rattle.std.specs.Prelude.{◌≡◌, false, List, [], map, take, drop, IfOk};
 ghost use Rattle.std.specs.Option.{option_copied, option_to_list};
 ghost use Rattle.std.specs.List.{filter_map};
 ghost use Rattle.dq_dimse.specs.Holding.{plain_message};
+ghost use Rattle.dq_match.specs.Answers.{found_part};
 ghost use Rattle.dq_match.specs.Identifiers.{HasKnownTags};
 ghost use Rattle.dq_match.specs.Matching.{fits};
 ghost use Rattle.dq_tables.specs.Records.{data_set_of};
@@ -84,8 +85,29 @@ fn may_fit(keys: &PreparedKeys, row: &Row) -> bool
     keys.lent_meets(&MET_LATER, row.octets.as_slice())
 }
 
-/// The answers that rows give to the keys. An entry that a performed procedure step has started is
+/// The answer that a row gives to the keys. An entry that a performed procedure step has started is
 /// no longer listed (PS3.4 section K.6.1.2).
+fn answer_of(
+    alloc: Global,
+    keys: &DataSet,
+    prepared: &PreparedKeys,
+    row: &Row,
+) -> Result<Option<DataSet>, AllocError>
+    requires known { HasKnownTags keys.now }
+    requires prepared { prepared.now ≡ keys.now }
+    ensures { IfOk result (λ answer. answer ≡ entry_answer keys.now (record_of row.now)) }
+{
+    if row.started || !may_fit(prepared, row) {
+        return Ok(None);
+    }
+    let held = row.data_set(alloc)?;
+    if !prepared.fits(&held) {
+        return Ok(None);
+    }
+    Ok(Some(shown(alloc, keys, &held)?))
+}
+
+/// The answers that rows give to the keys.
 fn answers_of(alloc: Global, keys: &DataSet, rows: &[Row]) -> Result<Listed<DataSet>, AllocError>
     requires { HasKnownTags keys.now }
     ensures { IfOk result (λ answers. answers ≡ filter_map
@@ -94,13 +116,41 @@ fn answers_of(alloc: Global, keys: &DataSet, rows: &[Row]) -> Result<Listed<Data
     let prepared = PreparedKeys::of(alloc, keys)?;
     let mut answers = Listed::empty(alloc);
     for row in rows {
-        if row.started || !may_fit(&prepared, row) {
-            continue;
+        let answer = answer_of(alloc, keys, &prepared, row)?;
+        if let Some(answer) = answer {
+            answers.push(answer)?;
         }
-        let held = row.data_set(alloc)?;
-        if prepared.fits(&held) {
-            let given = shown(alloc, keys, &held)?;
-            answers.push(given)?;
+    }
+    Ok(answers)
+}
+
+/// Those answers from a place on, at most so many. No row is looked at behind the last of them.
+#[tactic(auto, using(crate::proofs::InParts::in_parts))]
+fn answers_from(
+    alloc: Global,
+    keys: &DataSet,
+    rows: &[Row],
+    from: usize,
+    most: usize,
+) -> Result<Listed<DataSet>, AllocError>
+    requires { HasKnownTags keys.now }
+    ensures { IfOk result (λ answers. answers ≡ take most (drop from (filter_map
+        (λ (row : TheRow). entry_answer keys.now (record_of row)) rows.now))) }
+{
+    let prepared = PreparedKeys::of(alloc, keys)?;
+    let mut before = from;
+    let mut answers = Listed::empty(alloc);
+    for row in rows {
+        if answers.len() >= most {
+            return Ok(answers);
+        }
+        let answer = answer_of(alloc, keys, &prepared, row)?;
+        if let Some(answer) = answer {
+            if before == 0 {
+                answers.push(answer)?;
+            } else {
+                before -= 1;
+            }
         }
     }
     Ok(answers)
@@ -124,21 +174,50 @@ pub fn query<T: Tables>(
     archive.carry_out(decision)
 }
 
-/// Answers keys that no message brought, as `query` answers the identifier of a message. Nothing is
-/// changed.
+/// Answers keys that no message brought, as `query` answers the identifier of a message: the answers
+/// from a place on, at most so many. Nothing is changed.
 #[tactic(auto, unfolding(crate::specs::Queries::keys_outcome))]
 pub fn query_by_keys<T: Tables>(
     tables: &mut T,
     institution: &Institution,
     identifier: &DataSet,
+    from: usize,
+    most: usize,
 ) -> Result<Found, TableFault>
-    ensures found { (T.state tables.new).honest → IfOk result (λ found. found
-        ≡ keys_outcome (of institution.now.name (T.state tables.old).rows) identifier.now) }
+    ensures found { (T.state tables.new).honest → IfOk result (λ found. found ≡ found_part from most
+        (keys_outcome (of institution.now.name (T.state tables.old).rows) identifier.now)) }
     ensures reads { Reads (T.state tables.old) (T.state tables.new) result }
 {
     let mut kept = Archive::new(tables, institution);
     let asked = query_at(kept.alloc, identifier)?;
-    answers_to(&mut kept, asked)
+    part_of_answers(&mut kept, asked, from, most)
+}
+
+/// The answers to a query from a place on, at most so many, or the status that refuses it.
+fn part_of_answers<T: Tables>(
+    archive: &mut Archive<'_, T>,
+    asked: Result<Query, u16>,
+    from: usize,
+    most: usize,
+) -> Result<Found, TableFault>
+    requires { IfOk asked (λ query. HasKnownTags query.keys) }
+    ensures { Looks T.state archive.old archive.new (λ (records : List Record).
+        found_part from most (listed_by records asked)) result }
+{
+    let query = match asked {
+        Ok(query) => query,
+        Err(status) => return Ok(Found::refused(archive.alloc, status)),
+    };
+    query.keys.has_facts();
+    honest_rows_are_sound::<T>();
+    keys_are_met_alone_and_as_a_period();
+    let rows = candidates(archive, &query.keys)?;
+    let answers = answers_from(archive.alloc, &query.keys, rows.as_slice(), from, most)?;
+    Ok(Found {
+        status: SUCCESS,
+        optional: query.optional,
+        answers,
+    })
 }
 
 /// The answers to a worklist C-FIND, which change nothing.

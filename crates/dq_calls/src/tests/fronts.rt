@@ -38,6 +38,7 @@ fn told_of(alloc: Global, form: Form, told: &[u8]) -> Result<Vec<u8>, Fail> {
         line: Listed::empty(alloc),
         form,
         name: Listed::copy_of(alloc, b"NORTH")?,
+        is_last: false,
     };
     let mut counters = Counters::default();
     counters.accept();
@@ -155,8 +156,9 @@ fn metrics_are_sent(rt: HostRuntime) -> Result<(), Fail> {
     assert!(rt; text.contains("\nnewtiron_turn_seconds_bucket{le=\"1\"} 0\n"));
     assert!(rt; text.contains("\nnewtiron_turn_seconds_bucket{le=\"+Inf\"} 1\n"));
     assert!(rt; text.contains("\nnewtiron_turn_seconds_sum 2.500000\n"));
-    let refused = refused(rt.alloc(), Refusal::Method(Allowed::GetAndPost))?;
+    let refused = refused(rt.alloc(), Refusal::Method(Allowed::GetAndPost), true)?;
     assert!(rt; refused.starts_with(b"HTTP/1.1 405 Method Not Allowed\r\n"));
+    assert!(rt; refused.windows(21).any(|octets| octets == b"\r\nConnection: close\r\n".as_slice()));
     assert!(rt; refused.ends_with(b"\r\n\r\n{\"refused\":\"method\"}"));
     Ok(())
 }

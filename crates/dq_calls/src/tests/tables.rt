@@ -75,3 +75,22 @@ fn a_fuse_blows(rt: HostRuntime) -> Result<(), Fail> {
     assert!(rt; is_blown(&mut tables));
     Ok(())
 }
+
+/// How many entries stand in a window on those of NORTH, if the tables answer.
+fn entries_in(tables: &mut PlainTables, from: usize, most: usize) -> Option<usize> {
+    let rows = tables.rows_from(Kind::Entry, NORTH, from, most).ok()?;
+    Some(rows.len())
+}
+
+/// The only entry stands in a window that begins at the first place and has room for one.
+#[test]
+fn a_window_shows_what_stands_in_it(rt: HostRuntime) -> Result<(), Fail> {
+    let change = added(rt.alloc())?;
+    let mut tables = PlainTables::new(rt.alloc());
+    assert!(rt; tables.apply(&change) == Ok(()));
+    assert!(rt; entries_in(&mut tables, 0, 1) == Some(1));
+    assert!(rt; entries_in(&mut tables, 0, usize::MAX) == Some(1));
+    assert!(rt; entries_in(&mut tables, 0, 0) == Some(0));
+    assert!(rt; entries_in(&mut tables, 1, 1) == Some(0));
+    Ok(())
+}

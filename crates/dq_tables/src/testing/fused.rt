@@ -1,5 +1,5 @@
 //! Tables that fail, for tests.
-ghost use Rattle.std.specs.Prelude.{◌≡◌, ◌||◌, false, true, length, OnOk, IfOk, IfErr, List};
+ghost use Rattle.std.specs.Prelude.{◌≡◌, ◌||◌, false, true, length, take, drop, OnOk, IfOk, IfErr, List};
 ghost use Rattle.dq_tables.specs.declared.fault.TableFault.TheVariants.{Store};
 ghost use Rattle.dq_tables.specs.declared.row.Row.{Row};
 ghost use Rattle.dq_tables.specs.Rows.{after, operation_of};
@@ -103,6 +103,25 @@ impl<T: Tables> Tables for Fused<T> {
     {
         self.check()?;
         self.tables.rows_of(kind, institution)
+    }
+
+    fn rows_from(
+        &mut self,
+        kind: Kind,
+        institution: &[u8],
+        from: usize,
+        most: usize,
+    ) -> Result<Listed<Row>, TableFault>
+        ensures found { (⟦<Fused<T> as Tables>⟧.state self.new).honest → IfOk result
+            (λ found. found ≡ take most (drop from
+            (rows_of kind institution.now (⟦<Fused<T> as Tables>⟧.state self.old).rows))) }
+        ensures reads { Reads (⟦<Fused<T> as Tables>⟧.state self.old)
+            (⟦<Fused<T> as Tables>⟧.state self.new) result }
+        ensures fuse { self.new.fuse ≡ self.old.fuse }
+        ensures blown { self.old.fuse.blown ≡ true → result ≡ Err Store }
+    {
+        self.check()?;
+        self.tables.rows_from(kind, institution, from, most)
     }
 
     fn rows_above(

@@ -33,7 +33,6 @@ pub returns-clause-found : goal.returns-clause-found
 returns-clause-found g c = λ honest.
     let rows = (g.T.Tables.state c.args.tables.now).rows in
     c.in_ok-data_sets_of.ensures
-    ∙ ap (λ (found : List Row). map of_row found) (c.as_slice-2.ensures ∙ c.of-rows.ensures
-    ∙ ap (λ (found : List Row). shown_page c.args.page found)
-    (c.in_ok-rows.ensures.found honest ∙ ap (λ (name : List ℕ). rows_of Step name rows) c.as_slice.ensures))
+    ∙ ap (λ (found : List Row). map of_row found) (c.as_slice.ensures ∙ c.in_ok-rows.ensures.found honest
+    ∙ (λ i. take (c.most.ensures i) (drop c.args.page.offset (rows_of Step (c.as_slice-name.ensures i) rows))))
     ∙ shown-steps c.args.page c.args.institution.now.name rows

@@ -6,7 +6,8 @@ use Rattle.dq_tables.specs.Rows.{Record, record_of}
 use Rattle.dq_tables.specs.Records.{data_set_of}
 use Rattle.dq_find.specs.Computed.{all_in_order, modalities_in}
 use Rattle.dq_find.specs.Modalities.{modality_limit, modalities_of}
-use Rattle.dq_find.proofs.FromPlace.{from_place, past_all}
+use Rattle.dq_match.proofs.Parts.{from_place}
+use Rattle.dq_find.proofs.FromPlace.{past_all}
 use Rattle.dq_find.proofs.InOrder.{all_more, few_stay}
 use Rattle.dq_find.proofs.computed.modalities_in.Goals as goal
 

@@ -59,3 +59,13 @@ returns-in_err-kept-in-Found-clause-stops g c =
           c.in_err-kept-in-Found.ensures.cut _ (λ rows known. g.met.Rt.Stores.known_is_honest c.args.rt.now _ rows known)
           c.in_ok-tables-in-Found.ensures.rows),
     )))
+
+pub returns-in_err-filled-in-New-clause-stops : goal.returns-in_err-filled-in-New-clause-stops
+returns-in_err-filled-in-New-clause-stops g c =
+    if_error _ c.from_residual-in_err-filled-in-New.result _ c.from_residual-in_err-filled-in-New.ensures.1
+    (inr (inl (
+      c.in_err-filled-in-New.ensures.ends,
+      rw c.in-New.is (of_new _ (g.Rt.File.Tables.state c.in_ok-tables-in-New.tables).rows
+          c.in_err-filled-in-New.ensures.cut _ (λ rows known. g.met.Rt.Stores.known_is_honest c.args.rt.now _ rows known)
+          c.in_ok-tables-in-New.ensures.rows),
+    )))

@@ -16,8 +16,8 @@ returns c =
       head = c.requires.head.0;
       rest = c.in-Some.field-0-1.now;
       reads = (at.reads.0, rw (some.1, some.2, take-append-drop, c.split_at.ensures.back) at.reads.1);
-      method = c.of.ensures ∙ at.method;
-      target = c.of-2.ensures ∙ at.path;
+      method = c.of-method.ensures ∙ at.method;
+      target = c.of.ensures ∙ at.path;
       fields = rw (← at.fields) c.in_ok-fields.ensures;
       coding = option_copied-none _ (sym c.is_some.ensures ∙ c.if-is_some.false);
       body = rw some.3 c.in_ok-length.ensures;
@@ -25,7 +25,7 @@ returns c =
         | then-spans-eq0 w ↦ rw (w.is_last-is, ← at.version, w.if-spans-eq0.true) refl
         | else-spans-eq0 w ↦
             let isnt : (c.args.spans.version == 0) ≡ false = grind (arith, nat_tests) in
-            rw (w.is_last-is, ← at.version, isnt) w.says_close-is_last.ensures
+            rw (w.is_last-is, ← at.version, isnt) w.ends_here-is_last.ensures
       ];
       extent = ap (λ n. n + length c.in-Some.body.now) at.len;
     }
