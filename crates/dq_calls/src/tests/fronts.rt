@@ -158,7 +158,11 @@ fn metrics_are_sent(rt: HostRuntime) -> Result<(), Fail> {
     assert!(rt; text.contains("\nnewtiron_turn_seconds_sum 2.500000\n"));
     let refused = refused(rt.alloc(), Refusal::Method(Allowed::GetAndPost), true)?;
     assert!(rt; refused.starts_with(b"HTTP/1.1 405 Method Not Allowed\r\n"));
-    assert!(rt; refused.windows(21).any(|octets| octets == b"\r\nConnection: close\r\n".as_slice()));
+    assert!(rt;
+        refused
+            .windows(21)
+            .any(|octets| octets == b"\r\nConnection: close\r\n".as_slice())
+    );
     assert!(rt; refused.ends_with(b"\r\n\r\n{\"refused\":\"method\"}"));
     Ok(())
 }
