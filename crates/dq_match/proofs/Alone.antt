@@ -1,5 +1,6 @@
 -- Which keys are met alone: those that are left when what tells how a query is answered, and the
 -- date and the time of a period, are passed over.
+use Rattle.std.proofs.lemmas.Bool.{or_parts}
 use Rattle.std.proofs.Common.{◌≡◌, Bool, true, false, ◌||◌, ◌&&◌, List, [], ◌∷◌, ◌++◌, inl, inr, refl, ◌∙◌, arith}
 use Rattle.std.specs.List.{list_any, list_all}
 use Rattle.dq_list.specs.Among.{IsAmong}
@@ -17,10 +18,6 @@ all_pass p (x ∷ xs) each = (λ i. each x (inl refl) i && list_all p xs) ∙ al
 pub not_passed : (joined : Bool) (place : Place) (tag : Tag) → is_key place tag ≡ true → is_start tag ≡ false → is_matched_elsewhere place joined tag ≡ false
 not_passed true place tag is none = rw (is, none) refl
 not_passed false place tag is none = rw (is) refl
-
-or_parts : (a b : Bool) → (a || b) ≡ false → (a ≡ false) × (b ≡ false)
-or_parts true b h = absurd cc
-or_parts false b h = (refl, h)
 
 none_of : (p : Tag → Bool) (first others : List Tag) → list_any p (first ++ others) ≡ false → (list_any p first ≡ false) × (list_any p others ≡ false)
 none_of p [] others h = (refl, h)

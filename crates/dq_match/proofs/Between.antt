@@ -1,113 +1,46 @@
--- What a date or a time, or a range of them, is met by.
-use Rattle.std.proofs.Common.{◌≡◌, ℕ, ℤ, ◌≤◌, ◌≤ℤ◌, Bool, true, false, ◌↔◌, List, [], ◌∷◌, Option, Some, None, refl, sym, subst, arith}
-use Rattle.std.specs.Prelude.{◌&&◌, int_le, nat_le}
-use Rattle.std.proofs.lemmas.Bool.Decides.{nat_tests}
-use Rattle.dq_value.specs.Day.{day}
-use Rattle.dq_value.specs.Time.{Span, span}
+-- What a key for a date or a time takes: what is between the ends that are read of it.
+use Rattle.std.proofs.Common.{◌≡◌, Bool, false, ℕ, List, [], ◌∷◌, Option, Some, None, refl}
+use Rattle.dq_value.specs.Day.{day, date_in}
+use Rattle.dq_value.specs.Time.{span}
 use Rattle.dq_value.specs.Range.{range_ends, end_of}
-use Rattle.dq_match.specs.Ranges.{Bounds, bounds, has_day, has_time, date_meets, time_meets, both as both_read}
-use Rattle.dq_match.proofs.KnownKeys.{both}
-use Rattle.dq_match.proofs.Moments.{le_true, true_le, nat_le_true, true_nat_le, has_day_between, day_some}
+use Rattle.dq_match.specs.Ranges.{Bounds, bounds, both}
 
-test_by : {A : Type 0} (b c : Bool) → b ≡ c → (c ≡ true) ↔ A → (b ≡ true) ↔ A
-test_by {A} b c same h = subst (λ (x : Bool). (x ≡ true) ↔ A) (sym same) h
+pub no_day : day [] ≡ None
+unfolding day date_in
+no_day = refl
 
-end_none : end_of [] ≡ None
-unfolding end_of
-end_none = refl
+pub no_time : span [] ≡ None
+unfolding span
+no_time = refl
 
-and_true : (a : Bool) {A : Type 0} → (a ≡ true) ↔ A → ((a && true) ≡ true) ↔ A
-and_true true h = h
-and_true false h = h
+pub unread : {A : Type 0} (has : Bounds A → A → Bool) (range : Option (Bounds A)) (found : Option A) → found ≡ None
+    → both has range found ≡ false
+unread has None found e = refl
+unread has (Some range) found e = rw e refl
 
--- ---- times
+module _ {A : Type 0} (read : List ℕ → Option A) (nothing : read [] ≡ None) (has : Bounds A → A → Bool) (key value : List ℕ)
+    (found : A) (is : read value ≡ Some found) where
+  some : (octets : List ℕ) (end : A) → read octets ≡ Some end → end_of octets ≡ Some octets
+  unfolding end_of
+  some [] end h = absurd cc
+  some (octet ∷ others) end h = refl
 
-between : (first last time : Span) → (has_time (Some first, Some last) time ≡ true) ↔ ((first.0 ≤ time.0) × (time.0 ≤ last.1))
-between first last time = grind (arith, nat_tests, both, nat_le_true, true_nat_le)
+  pub closed : (from to : List ℕ) (first last : A) → range_ends key ≡ Some (end_of from, end_of to) → read from ≡ Some first
+      → read to ≡ Some last → both has (bounds read key) (read value) ≡ has (Some first, Some last) found
+  unfolding bounds
+  closed from to first last split is_first is_last = rw (split, some from first is_first, some to last is_last, is_first, is_last, is) refl
 
-le_is : (a b : ℕ) → (nat_le a b ≡ true) ↔ (a ≤ b)
-le_is a b = (nat_le_true a b, true_nat_le a b)
+  pub from_on : (from : List ℕ) (first : A) → range_ends key ≡ Some (end_of from, end_of []) → read from ≡ Some first
+      → both has (bounds read key) (read value) ≡ has (Some first, None) found
+  unfolding bounds end_of
+  from_on from first split is_first = rw (split, some from first is_first, is_first, is) refl
 
-time_some : (octets : List ℕ) (time : Span) → span octets ≡ Some time → end_of octets ≡ Some octets
-unfolding span end_of
-time_some [] time h = absurd cc
-time_some (octet ∷ others) time h = refl
+  pub until : (to : List ℕ) (last : A) → range_ends key ≡ Some (end_of [], end_of to) → read to ≡ Some last
+      → both has (bounds read key) (read value) ≡ has (None, Some last) found
+  unfolding bounds end_of
+  until to last split is_last = rw (split, some to last is_last, is_last, is) refl
 
-pub time_closed : (key from to value : List ℕ) (first last time : Span) → range_ends key ≡ Some (end_of from, end_of to)
-    → span from ≡ Some first → span to ≡ Some last → span value ≡ Some time
-    → (time_meets key value ≡ true) ↔ ((first.0 ≤ time.0) × (time.0 ≤ last.1))
-unfolding time_meets bounds
-time_closed key from to value first last time split is_first is_last is_time =
-    test_by (time_meets key value) (has_time (Some first, Some last) time)
-    (rw (split, time_some from first is_first, time_some to last is_last, is_first, is_last, is_time) refl) (between first last time)
-
-pub time_from : (key from value : List ℕ) (first time : Span) → range_ends key ≡ Some (end_of from, end_of [])
-    → span from ≡ Some first → span value ≡ Some time → (time_meets key value ≡ true) ↔ (first.0 ≤ time.0)
-unfolding time_meets bounds
-time_from key from value first time split is_first is_time =
-    test_by (time_meets key value) (nat_le first.0 time.0 && true)
-    (rw (split, end_none, time_some from first is_first, is_first, is_time) refl)
-    (and_true (nat_le first.0 time.0) (le_is first.0 time.0))
-
-pub time_until : (key to value : List ℕ) (last time : Span) → range_ends key ≡ Some (end_of [], end_of to)
-    → span to ≡ Some last → span value ≡ Some time → (time_meets key value ≡ true) ↔ (time.0 ≤ last.1)
-unfolding time_meets bounds
-time_until key to value last time split is_last is_time =
-    test_by (time_meets key value) (nat_le time.0 last.1)
-    (rw (split, end_none, time_some to last is_last, is_last, is_time) refl) (le_is time.0 last.1)
-
-pub time_single : (key value : List ℕ) (asked time : Span) → range_ends key ≡ None → span key ≡ Some asked → span value ≡ Some time
-    → (time_meets key value ≡ true) ↔ ((asked.0 ≤ time.0) × (time.0 ≤ asked.1))
-unfolding time_meets bounds
-time_single key value asked time one is_asked is_time =
-    test_by (time_meets key value) (has_time (Some asked, Some asked) time) (rw (one, is_asked, is_time) refl) (between asked asked time)
-
-pub time_unread : (key value : List ℕ) → span value ≡ None → time_meets key value ≡ false
-unfolding time_meets
-time_unread key value h = unread_by (bounds span key) (span value) h
-  where
-    unread_by : (range : Option (Bounds Span)) (time : Option Span) → time ≡ None → both_read has_time range time ≡ false
-    unread_by None time e = refl
-    unread_by (Some range) time e = rw e refl
-
--- ---- dates
-
-day_le : (a b : ℤ) → (int_le a b ≡ true) ↔ (a ≤ℤ b)
-day_le a b = (le_true a b, true_le a b)
-
-pub date_closed : (key from to value : List ℕ) (first last date : ℤ) → range_ends key ≡ Some (end_of from, end_of to)
-    → day from ≡ Some first → day to ≡ Some last → day value ≡ Some date
-    → (date_meets key value ≡ true) ↔ ((first ≤ℤ date) × (date ≤ℤ last))
-unfolding date_meets bounds
-date_closed key from to value first last date split is_first is_last is_date =
-    test_by (date_meets key value) (has_day (Some first, Some last) date)
-    (rw (split, day_some from first is_first, day_some to last is_last, is_first, is_last, is_date) refl) (has_day_between first last date)
-
-pub date_from : (key from value : List ℕ) (first date : ℤ) → range_ends key ≡ Some (end_of from, end_of [])
-    → day from ≡ Some first → day value ≡ Some date → (date_meets key value ≡ true) ↔ (first ≤ℤ date)
-unfolding date_meets bounds
-date_from key from value first date split is_first is_date =
-    test_by (date_meets key value) (int_le first date && true)
-    (rw (split, end_none, day_some from first is_first, is_first, is_date) refl)
-    (and_true (int_le first date) (day_le first date))
-
-pub date_until : (key to value : List ℕ) (last date : ℤ) → range_ends key ≡ Some (end_of [], end_of to)
-    → day to ≡ Some last → day value ≡ Some date → (date_meets key value ≡ true) ↔ (date ≤ℤ last)
-unfolding date_meets bounds
-date_until key to value last date split is_last is_date =
-    test_by (date_meets key value) (int_le date last)
-    (rw (split, end_none, day_some to last is_last, is_last, is_date) refl) (day_le date last)
-
-pub date_single : (key value : List ℕ) (asked date : ℤ) → range_ends key ≡ None → day key ≡ Some asked → day value ≡ Some date
-    → (date_meets key value ≡ true) ↔ ((asked ≤ℤ date) × (date ≤ℤ asked))
-unfolding date_meets bounds
-date_single key value asked date one is_asked is_date =
-    test_by (date_meets key value) (has_day (Some asked, Some asked) date) (rw (one, is_asked, is_date) refl) (has_day_between asked asked date)
-
-pub date_unread : (key value : List ℕ) → day value ≡ None → date_meets key value ≡ false
-unfolding date_meets
-date_unread key value h = unread_by (bounds day key) (day value) h
-  where
-    unread_by : (range : Option (Bounds ℤ)) (date : Option ℤ) → date ≡ None → both_read has_day range date ≡ false
-    unread_by None date e = refl
-    unread_by (Some range) date e = rw e refl
+  pub single : (asked : A) → range_ends key ≡ None → read key ≡ Some asked
+      → both has (bounds read key) (read value) ≡ has (Some asked, Some asked) found
+  unfolding bounds
+  single asked one is_asked = rw (one, is_asked, is) refl

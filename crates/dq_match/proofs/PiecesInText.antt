@@ -1,11 +1,12 @@
 -- Where a piece of a pattern stands in a text.
+use Rattle.std.proofs.lemmas.Bool.{false_from_ne_true}
 use Rattle.std.proofs.Common.{◌≡◌, ◌≢◌, ℕ, ◌+◌, ◌<◌, ◌≤◌, zero, suc, Bool, true, false, List, [], ◌∷◌, length, take, drop, get_or, refl, sym, ◌∙◌, ap, arith}
 use Rattle.std.proofs.lemmas.List.{get_or-drop, get_or-take}
 use Rattle.dq_match.specs.declared.wildcards.Casing.{Casing}
 use Rattle.dq_match.specs.Wildcards.{wild, after_run, stands_for, any_run}
 use Rattle.dq_match.specs.Words.{IsWord}
 use Rattle.dq_match.specs.Pieces.{is_open, Differs}
-use Rattle.dq_match.proofs.WordsInText.{fits_at, refuted, passed_over, none_fits}
+use Rattle.dq_match.proofs.WordsInText.{fits_at, passed_over, none_fits}
 
 module _ (casing : Casing) (pattern piece text : List ℕ) (count : ℕ) (within : count ≤ length pattern)
     (free : (k : ℕ) → k < count → get_or pattern k 0 ≢ any_run) (front : piece ≡ take count pattern) (long : length piece ≡ count) where
@@ -13,7 +14,7 @@ module _ (casing : Casing) (pattern piece text : List ℕ) (count : ℕ) (within
   no_word = grind arith
 
   differs : (t : ℕ) → Differs casing piece text t → wild casing pattern (drop t text) ≡ false
-  differs t one = refuted (wild casing pattern (drop t text)) (λ fits.
+  differs t one = false_from_ne_true (wild casing pattern (drop t text)) (λ fits.
       let there = fits_at casing pattern (drop t text) count one.0 free within fits (omega (arith, one.1)) in
       let wanted : get_or piece one.0 0 ≡ get_or pattern one.0 0 = ap (λ (xs : List ℕ). get_or xs one.0 0) front ∙ get_or-take count pattern one.0 0 (omega (arith, one.1)) in
       let octet : get_or (drop t text) one.0 0 ≡ get_or text (t + one.0) 0 = get_or-drop t text one.0 0 in

@@ -1,6 +1,7 @@
 -- A pattern that goes along a text.
-use Rattle.std.proofs.Common.{◌≡◌, ℕ, zero, suc, ◌+◌, ◌≤◌, Bool, true, false, nat_eq, ◌||◌, ◌&&◌, List, [], ◌∷◌, length, drop, refl, sym, ap, ◌∙◌, subst, arith, length-drop}
-use Rattle.std.proofs.lemmas.Bool.Decides.{nat_tests}
+use Rattle.std.proofs.Common.{◌≡◌, ℕ, zero, suc, ◌+◌, ◌≤◌, Bool, true, false, ◌||◌, ◌&&◌, List, [], ◌∷◌, length, drop, refl, sym, ap, ◌∙◌, subst, arith, length-drop}
+use Rattle.std.proofs.lemmas.Bool.{and_parts, or_right}
+use Rattle.std.proofs.lemmas.Bool.Decides.{nat_tests, same_from_decides}
 use Rattle.dq_match.specs.declared.wildcards.Casing.{Casing}
 use Rattle.dq_match.specs.declared.wildcards.Scan.{Scan}
 use Rattle.dq_match.specs.declared.wildcards.Scan.TheVariants.{End, Mismatch, Star}
@@ -16,16 +17,9 @@ pub record IsAlong (casing : Casing) (pattern text wanted left : List ℕ) : Typ
   pub leads : (start : List ℕ) → wild casing pattern start ≡ true → wild casing wanted (drop count start) ≡ true
   pub as_well : wild casing pattern text ≡ wild casing wanted left
 
-and_right : (a b : Bool) → (a && b) ≡ true → b ≡ true
-and_right true b h = h
-and_right false b h = cc
-
-not_same : (a b : ℕ) → (a ≡ b → ⊥) → nat_eq a b ≡ false
-not_same a b differ = grind (arith, nat_tests)
-
 pub at_octet : (casing : Casing) (first : ℕ) (others text : List ℕ) → (first ≡ any_run → ⊥)
     → wild casing (first ∷ others) text ≡ after_one (stands_for casing first) (wild casing others) text
-at_octet casing first others text differ = grind (arith, nat_tests, not_same)
+at_octet casing first others text differ = grind (arith, nat_tests)
 
 drop_one : (count : ℕ) (xs : List ℕ) (x : ℕ) (rest : List ℕ) → drop count xs ≡ x ∷ rest → drop (count + 1) xs ≡ rest
 drop_one zero (y ∷ ys) x rest h = cc
@@ -39,7 +33,7 @@ after_one_rest first test text count h = by_rest (drop count text) refl h
   where
     by_rest : (left : List ℕ) → drop count text ≡ left → after_one first test left ≡ true → test (drop (count + 1) text) ≡ true
     by_rest [] e k = cc
-    by_rest (x ∷ xs) e k = ap test (drop_one count text x xs e) ∙ and_right (first x) (test xs) k
+    by_rest (x ∷ xs) e k = ap test (drop_one count text x xs e) ∙ (and_parts (first x) (test xs) k).1
 
 pub IsAlong-more : (casing : Casing) (pattern text wanted left : List ℕ) (first octet : ℕ) (others rest : List ℕ)
     → IsAlong casing pattern text wanted left → wanted ≡ first ∷ others → left ≡ octet ∷ rest → (first ≡ any_run → ⊥)
@@ -66,10 +60,6 @@ after_run-drop : (test : List ℕ → Bool) (count : ℕ) (text : List ℕ) → 
 after_run-drop test zero text h = h
 after_run-drop test (suc count) [] h = h
 after_run-drop test (suc count) (x ∷ xs) h = or_right (test (x ∷ xs)) (after_run test xs) (after_run-drop test count xs h)
-  where
-    or_right : (a b : Bool) → b ≡ true → (a || b) ≡ true
-    or_right true b k = refl
-    or_right false b k = k
 
 tail_of_drop : (count : ℕ) (x : ℕ) (xs : List ℕ) → drop 1 (drop count (x ∷ xs)) ≡ drop count xs
 tail_of_drop zero x xs = refl
@@ -92,17 +82,14 @@ pub after_run-here : (test : List ℕ → Bool) (text : List ℕ) → test text 
 after_run-here test [] h = h
 after_run-here test (x ∷ xs) h = ap (λ (b : Bool). b || after_run test xs) h
 
-same_truth : (a b : Bool) → (a ≡ true → b ≡ true) → (b ≡ true → a ≡ true) → a ≡ b
-same_truth true b to from = sym (to refl)
-same_truth false true to from = from refl
-same_truth false false to from = refl
-
 pub IsFit-from : (casing : Casing) (pattern text others rest : List ℕ) → IsPassed casing pattern text others rest → IsFit casing pattern text others rest
 IsFit-from casing pattern text others rest passed = record {
   shorter = passed.shorter;
-  as_well = same_truth (after_run (wild casing pattern) text) (after_run (wild casing others) rest)
-      (λ h. ap (after_run (wild casing others)) passed.behind ∙ leads_on (wild casing pattern) (wild casing others) passed.count text passed.leads h)
-      (λ h. after_run-here (wild casing pattern) text (passed.as_well ∙ h));
+  as_well = same_from_decides (after_run (wild casing pattern) text) (after_run (wild casing others) rest) (
+    λ h. ap (after_run (wild casing others)) passed.behind
+        ∙ leads_on (wild casing pattern) (wild casing others) passed.count text passed.leads h,
+    λ h. after_run-here (wild casing pattern) text (passed.as_well ∙ h),
+  ) (λ h. h, λ h. h);
 }
 
 -- what a scan tells of whether the pattern fits the text

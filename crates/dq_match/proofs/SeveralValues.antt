@@ -1,4 +1,5 @@
 -- Values that are met by equality, and values that are looked up in a set.
+use Rattle.std.proofs.lemmas.Bool.{and_parts}
 use Rattle.std.proofs.Common.{◌≡◌, ℕ, Bool, true, false, not, nat_eq, nat_cmp, cond, ◌&&◌, ◌||◌, List, [], ◌∷◌, refl, sym, ap, ◌∙◌, arith}
 use Rattle.std.specs.Global.{Vec}
 use Rattle.std.specs.BTreeSet.{insert_key}
@@ -33,10 +34,6 @@ plain_meets (wanted ∷ value) (octet ∷ others) plain =
     ap (λ (b : Bool). cond b (after_run (wild Exact value) (octet ∷ others)) (after_one (stands_for Exact wanted) (wild Exact value) (octet ∷ others))) parts.0
     ∙ (λ i. (parts.1 i || nat_eq wanted octet) && plain_meets value others parts.2 i)
 
-all_parts : (a b : Bool) → (a && b) ≡ true → (a ≡ true) × (b ≡ true)
-all_parts true b h = (refl, h)
-all_parts false b h = absurd cc
-
 same_back : (a b : List ℕ) → is_same a b ≡ is_same b a
 same_back [] [] = refl
 same_back [] (y ∷ ys) = refl
@@ -48,7 +45,7 @@ same_back (x ∷ xs) (y ∷ ys) =
 pub plain_by_equality : (keys : List (List ℕ)) → list_all is_plain keys ≡ true → AreMetByEquality WildCard keys
 plain_by_equality [] plain value = refl
 plain_by_equality (key ∷ keys) plain value =
-    let parts = all_parts (is_plain key) (list_all is_plain keys) plain in
+    let parts = and_parts (is_plain key) (list_all is_plain keys) plain in
     (λ i. (plain_meets key value parts.0 ∙ same_back key value) i || plain_by_equality keys parts.1 value i)
 
 pub equal_by_equality : (keys : List (List ℕ)) → AreMetByEquality Equality keys

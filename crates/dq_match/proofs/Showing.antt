@@ -1,5 +1,6 @@
 -- What is shown of a record is a data set, and is put together key by key.
-use Rattle.std.proofs.Common.{◌≡◌, ℕ, ◌-◌, ◌+◌, ◌<◌, Bool, true, false, cond, not, ◌||◌, List, [], ◌∷◌, ◌++◌, Option, Some, None, option_map, map, filter, length, get_or, drop, refl, sym, ap, ◌∙◌, subst, arith, is_some, append_assoc}
+use Rattle.std.proofs.lemmas.Bool.{and_parts, not-true, or_parts}
+use Rattle.std.proofs.Common.{◌≡◌, ℕ, ◌-◌, ◌+◌, ◌<◌, Bool, true, false, cond, List, [], ◌∷◌, ◌++◌, Option, Some, None, option_map, map, filter, length, get_or, drop, refl, sym, ap, ◌∙◌, subst, arith, is_some, append_assoc}
 use Rattle.std.specs.List.{list_all}
 use Rattle.dq_vr.specs.declared.Tag.{Tag}
 use Rattle.dq_vr.specs.declared.Vr.{Vr}
@@ -23,7 +24,7 @@ use Rattle.dq_match.specs.Keys.{is_tag, is_key}
 use Rattle.dq_match.specs.Identifiers.{HasKnownTags}
 use Rattle.dq_match.specs.Matching.{all_met}
 use Rattle.dq_match.specs.Responses.{put, or_empty, has_no_elements, cut_value, with_cut, shown_keys, shown_items, cut_keys, cut_by, shown_element, unless_empty, character_set, put_first, before, shown_elements, shown_data_set}
-use Rattle.dq_match.proofs.KnownKeys.{same_tag, both}
+use Rattle.dq_match.proofs.KnownKeys.{same_tag}
 use Rattle.dq_match.proofs.DataSets.{after_earlier, elements_by}
 use Rattle.dq_dataset.proofs.Places.{from_place}
 
@@ -153,7 +154,7 @@ above_all : (listed : List Entry) (tag : Tag) → list_all (λ entry. is_below s
 unfolding vr_in
 above_all [] tag h k = absurd cc
 above_all (entry ∷ others) tag h k =
-    let parts = both (is_below specific_character_set entry.0) (list_all (λ entry. is_below specific_character_set entry.0) others) h in
+    let parts = and_parts (is_below specific_character_set entry.0) (list_all (λ entry. is_below specific_character_set entry.0) others) h in
     above_by (is_tag entry.0 tag) entry.0 tag entry.1 (vr_in others tag) refl parts.0 (λ known. above_all others tag parts.1 known) k
 
 rest_above : list_all (λ entry. is_below specific_character_set entry.0) (others_of dictionary) ≡ true
@@ -164,14 +165,10 @@ first_of_dictionary : dictionary ≡ (specific_character_set, CS) ∷ others_of 
 unfolding dictionary
 first_of_dictionary = refl
 
-neither : (a b : Bool) → not (a || b) ≡ true → a ≡ false
-neither true b h = cc
-neither false b h = refl
-
 -- every other known tag is above that of the character set
 known_above : (tag : Tag) → is_some (known_vr tag) ≡ true → is_key Outer tag ≡ true → is_below specific_character_set tag ≡ true
 unfolding known_vr vr_in
-known_above tag known key = grind (arith, first_of_dictionary, neither, above_all, rest_above)
+known_above tag known key = grind (arith, first_of_dictionary, not-true, or_parts, above_all, rest_above)
 
 set_by : (b : Bool) (whole rest : ElementList) → (b ≡ true → AreElements 16 (Some specific_character_set) whole)
     → AreElements 16 (Some specific_character_set) rest → AreElements 16 (Some specific_character_set) (cond b whole rest)

@@ -1,4 +1,5 @@
 -- What is left of an identifier is supported.
+use Rattle.std.proofs.lemmas.Bool.{or_parts, not-false}
 use Rattle.std.proofs.Common.{◌≡◌, Bool, true, false, cond, not, ◌||◌, ◌↔◌, List, [], ◌∷◌, map, filter, refl, ap, ◌∙◌, sym, subst, arith}
 use Rattle.dq_dataset.specs.Tree.{ElementList, no_elements, element, sequence, ItemList, no_items, item}
 use Rattle.dq_dataset.specs.View.{elements_of, items_of, list_of}
@@ -7,14 +8,6 @@ use Rattle.dq_dataset.specs.declared.data_set.Value.TheVariants.{Octets, Items}
 use Rattle.dq_dataset.proofs.Views.{items_of-list_of}
 use Rattle.dq_match.specs.declared.supported.KeyScope.{KeyScope}
 use Rattle.dq_match.specs.Supported.{is_supported, below, supported_part, supported_items, supported_value, supported_element, has_unsupported, have_unsupported}
-
-neither : (a b : Bool) → (a || b) ≡ false → (a ≡ false) × (b ≡ false)
-neither true b h = absurd cc
-neither false b h = (refl, h)
-
-is_kept : (b : Bool) → not b ≡ false → b ≡ true
-is_kept true h = refl
-is_kept false h = cc
 
 none_by : (b : Bool) (scope : KeyScope) (whole rest : ElementList) → (b ≡ true → has_unsupported scope whole ≡ false) → has_unsupported scope rest ≡ false
     → has_unsupported scope (cond b whole rest) ≡ false
@@ -37,20 +30,20 @@ mutual
   untouched : (scope : KeyScope) (d : ElementList) → has_unsupported scope d ≡ false → supported_part scope d ≡ d
   untouched scope no_elements h = refl
   untouched scope (element t v o rest) h =
-      let parts = neither (not (is_supported scope t)) (has_unsupported scope rest) h in
-      ap (λ (b : Bool). cond b (element t v o (supported_part scope rest)) (supported_part scope rest)) (is_kept (is_supported scope t) parts.0)
+      let parts = or_parts (not (is_supported scope t)) (has_unsupported scope rest) h in
+      ap (λ (b : Bool). cond b (element t v o (supported_part scope rest)) (supported_part scope rest)) (not-false (is_supported scope t) parts.0)
       ∙ ap (element t v o) (untouched scope rest parts.1)
   untouched scope (sequence t v items rest) h =
-      let parts = neither (not (is_supported scope t) || have_unsupported (below scope t) items) (has_unsupported scope rest) h in
-      let here = neither (not (is_supported scope t)) (have_unsupported (below scope t) items) parts.0 in
+      let parts = or_parts (not (is_supported scope t) || have_unsupported (below scope t) items) (has_unsupported scope rest) h in
+      let here = or_parts (not (is_supported scope t)) (have_unsupported (below scope t) items) parts.0 in
       ap (λ (b : Bool). cond b (sequence t v (supported_items (below scope t) items) (supported_part scope rest)) (supported_part scope rest))
-      (is_kept (is_supported scope t) here.0)
+      (not-false (is_supported scope t) here.0)
       ∙ (λ i. sequence t v (untouched_inside (below scope t) items here.1 i) (untouched scope rest parts.1 i))
 
   untouched_inside : (scope : KeyScope) (items : ItemList) → have_unsupported scope items ≡ false → supported_items scope items ≡ items
   untouched_inside scope no_items h = refl
   untouched_inside scope (item d rest) h =
-      let parts = neither (has_unsupported scope d) (have_unsupported scope rest) h in
+      let parts = or_parts (has_unsupported scope d) (have_unsupported scope rest) h in
       λ i. item (untouched scope d parts.0 i) (untouched_inside scope rest parts.1 i)
 
 pub nothing_struck : (scope : KeyScope) (d : ElementList) → (has_unsupported scope d ≡ false) ↔ (supported_part scope d ≡ d)

@@ -1,6 +1,6 @@
 -- The word of a pattern, and where it stands in a text.
-use Rattle.std.proofs.Common.{◌≡◌, ◌≢◌, ◌⊎◌, inl, inr, ℕ, zero, suc, ◌+◌, ◌-◌, ◌<◌, ◌≤◌, Bool, true, false, nat_eq, ◌||◌, List, [], ◌∷◌, length, take, drop, get_or, refl, sym, ◌∙◌, ap, arith, rules, length-drop}
-use Rattle.std.proofs.lemmas.Bool.{and_parts}
+use Rattle.std.proofs.Common.{◌≡◌, ◌≢◌, ◌⊎◌, inl, inr, ℕ, zero, suc, ◌+◌, ◌-◌, ◌<◌, ◌≤◌, Bool, true, false, ◌||◌, List, [], ◌∷◌, length, take, drop, get_or, refl, sym, ◌∙◌, ap, arith, length-drop}
+use Rattle.std.proofs.lemmas.Bool.{and_parts, cases_lt, false_from_ne_true}
 use Rattle.std.proofs.lemmas.Bool.Decides.{nat_tests}
 use Rattle.std.proofs.lemmas.List.{get_or-drop, get_or-take}
 use Rattle.dq_match.specs.declared.wildcards.Casing.{Casing}
@@ -10,9 +10,6 @@ use Rattle.dq_match.specs.Wildcards.{wild, after_run, stands_for, compared_octet
 use Rattle.dq_match.specs.Scans.{IsScan, IsFirstFit}
 use Rattle.dq_match.specs.Words.{IsWord, IsStretch, StandsAtFront, compared_at}
 use Rattle.dq_match.proofs.Scanning.{at_octet}
-
-pub lt_or_le : (i j : ℕ) → (i < j) ⊎ (j ≤ i)
-lt_or_le i j = search (rules, arith)
 
 module _ (pattern others plain octets : List ℕ) (ones count start : ℕ)
     (others_is : others ≡ drop ones pattern) (plain_is : plain ≡ take count others) (octets_is : octets ≡ drop start plain)
@@ -33,7 +30,7 @@ module _ (pattern others plain octets : List ℕ) (ones count start : ℕ)
   pub word_is : IsWord pattern (ones + start) octets
   word_is = record {
     within = omega arith;
-    no_run = λ k h. no_run_by k (omega arith) (lt_or_le k ones);
+    no_run = λ k h. no_run_by k (omega arith) (cases_lt k ones);
     no_one = λ k h is. no_one (start + k) (omega arith) (plain_at ((ones + start) + k) (start + k) (omega arith) ∙ is);
     there = λ k h.
         ap (λ (xs : List ℕ). get_or xs k 0) octets_is ∙ get_or-drop start plain k 0
@@ -74,10 +71,6 @@ same_length casing (first ∷ others) (octet ∷ rest) free fits =
     let rec = same_length casing others rest (λ j h. free (suc j) (omega arith)) parts.1 in
     omega (arith, rec)
 
-pub refuted : (b : Bool) → (b ≡ true → ⊥) → b ≡ false
-refuted true h = absurd (h refl)
-refuted false h = refl
-
 -- ---- starts that are passed over
 
 none_here : (test : List ℕ → Bool) (text : List ℕ) → ((t : ℕ) → t ≤ length text → test (drop t text) ≡ false) → after_run test text ≡ false
@@ -93,20 +86,9 @@ passed_over test (octet ∷ rest) (suc count) h none =
     (λ i. none 0 (omega arith) i || after_run test rest)
     ∙ passed_over test rest count (omega arith) (λ t g. none (suc t) (omega arith))
 
-same_number : (a b : ℕ) → nat_eq a b ≡ true → a ≡ b
-same_number a b h = grind (arith, nat_tests)
-
-or_left : (a b : Bool) → (a || b) ≡ true → a ≡ false → b ≡ true
-or_left true b h e = absurd cc
-or_left false b h e = h
-
-not_same : (a b : ℕ) → a ≢ b → nat_eq a b ≡ false
-not_same a b differ = grind (arith, nat_tests)
-
 stands : (casing : Casing) (wanted octet : ℕ) → wanted ≢ any_one → stands_for casing wanted octet ≡ true
     → compared_octet casing wanted ≡ compared_octet casing octet
-stands casing wanted octet differ h =
-    same_number (compared_octet casing wanted) (compared_octet casing octet) (or_left (nat_eq wanted any_one) _ h (not_same wanted any_one differ))
+stands casing wanted octet differ h = grind (arith, nat_tests)
 
 module _ (casing : Casing) (pattern word text : List ℕ) (before : ℕ) (is : IsWord pattern before word) where
   -- where the pattern fits, its word is there
@@ -117,16 +99,16 @@ module _ (casing : Casing) (pattern word text : List ℕ) (before : ℕ) (is : I
       ∙ stands casing (get_or pattern (before + k) 0) (get_or text (before + k) 0) (is.no_one k h) there.1
 
   pub too_short : length text < before + length word → wild casing pattern text ≡ false
-  too_short short = refuted (wild casing pattern text) (λ fits.
+  too_short short = false_from_ne_true (wild casing pattern text) (λ fits.
       let there = fits_at casing pattern text (before + length word) (length text) is.no_run is.within fits short in
       omega (arith, there.0))
 
   pub differs_at : (k : ℕ) → k < length word → compared_at casing word k ≢ compared_at casing text (before + k) → wild casing pattern text ≡ false
-  differs_at k h differ = refuted (wild casing pattern text) (λ fits. differ (word_there fits k h))
+  differs_at k h differ = false_from_ne_true (wild casing pattern text) (λ fits. differ (word_there fits k h))
 
   pub not_all_stand : (result : Bool) → result ≡ false
       → (((k : ℕ) → k < before → stands_for casing (get_or pattern k 0) (get_or text k 0) ≡ true) → result ≡ true) → wild casing pattern text ≡ false
-  not_all_stand result failed all = refuted (wild casing pattern text) (λ fits.
+  not_all_stand result failed all = false_from_ne_true (wild casing pattern text) (λ fits.
       cc (sym failed ∙ all (λ k h. (fits_at casing pattern text (before + length word) k is.no_run is.within fits (omega arith)).1)))
 
 module _ (casing : Casing) (pattern word text : List ℕ) (before matched period : ℕ) (is : IsWord pattern before word)
@@ -143,8 +125,8 @@ module _ (casing : Casing) (pattern word text : List ℕ) (before matched period
   not_between : (t : ℕ) → 0 < t → t < period → wild casing pattern (drop t text) ≡ false
   not_between t some small =
       let lower = stretch.no_sooner t some small in
-      let enough = long t some small (lt_or_le 0 matched) in
-      refuted (wild casing pattern (drop t text)) (λ fits.
+      let enough = long t some small (cases_lt 0 matched) in
+      false_from_ne_true (wild casing pattern (drop t text)) (λ fits.
       let there = word_there casing pattern word (drop t text) before is fits lower.place (omega (arith, lower.within)) in
       let moved : t + (before + lower.place) ≡ before + (lower.place + t) = omega arith in
       let same : compared_at casing (drop t text) (before + lower.place) ≡ compared_at casing text (before + (lower.place + t)) =
@@ -173,7 +155,7 @@ none_fits casing pattern word text before is short =
 
 module _ (casing : Casing) (pattern text : List ℕ) (free : (k : ℕ) → k < length pattern → get_or pattern k 0 ≢ any_run) where
   other_length : (t : List ℕ) → length t ≢ length pattern → wild casing pattern t ≡ false
-  other_length t differ = refuted (wild casing pattern t) (λ fits. differ (same_length casing pattern t free fits))
+  other_length t differ = false_from_ne_true (wild casing pattern t) (λ fits. differ (same_length casing pattern t free fits))
 
   pub shorter : length text < length pattern → after_run (wild casing pattern) text ≡ false
   shorter short = none_here (wild casing pattern) text (λ t h. other_length (drop t text) (λ e. omega (arith, length-drop t text)))

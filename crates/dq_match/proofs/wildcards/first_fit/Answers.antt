@@ -1,8 +1,9 @@
 use Rattle.std.proofs.Common.{◌≡◌, ◌⊎◌, inl, inr, ℕ, ◌+◌, ◌<◌, ◌≤◌, List, drop, sym, ap, subst, ◌∙◌, arith}
+use Rattle.std.proofs.lemmas.Bool.{cases_lt}
 use Rattle.dq_match.specs.Wildcards.{wild, after_run}
 use Rattle.dq_match.specs.Words.{StandsAtFront}
 use Rattle.dq_match.proofs.Scanning.{after_run-here, IsFit-from}
-use Rattle.dq_match.proofs.WordsInText.{lt_or_le, gone_on, agrees_on, none_fits}
+use Rattle.dq_match.proofs.WordsInText.{gone_on, agrees_on, none_fits}
 use Rattle.dq_match.proofs.wildcards.first_fit.Goals as goal
 
 pub returns-in-End : goal.returns-in-End
@@ -32,7 +33,7 @@ loop-left-preserved c =
           ∙ gone_on casing pattern word left before along.matched along.period c.of-word.ensures c.along-along.ensures.stretch c.along-along.ensures.within agrees
           c.in-Mismatch.ensures c.if-left-along.false
           ∙ ap (after_run (wild casing pattern)) behind;
-      within = still_within _ _ _ c.shifted-stretch.result.matched c.shifted-stretch.ensures.less c.along-along.ensures.within (lt_or_le 0 c.shifted-stretch.result.matched);
+      within = still_within _ _ _ c.shifted-stretch.result.matched c.shifted-stretch.ensures.less c.along-along.ensures.within (cases_lt 0 c.shifted-stretch.result.matched);
       stretch = c.shifted-stretch.ensures.stretch;
       agrees = subst (λ (t : List ℕ). StandsAtFront casing word (drop before t) c.shifted-stretch.result.matched) behind
           (agrees_on casing pattern word left before along.matched along.period c.of-word.ensures c.along-along.ensures.stretch
