@@ -1,5 +1,6 @@
 -- What is put together of data sets is a data set.
-use Rattle.std.proofs.Common.{◌≡◌, ℕ, ◌-◌, Bool, true, false, cond, Option, Some, None, refl, arith}
+use Rattle.std.proofs.Common.{◌≡◌, ℕ, ◌-◌, true, Option, Some, None, refl, arith}
+use Rattle.std.proofs.lemmas.Bool.{cond_both}
 use Rattle.std.proofs.lemmas.Bool.Decides.{nat_tests}
 use Rattle.dq_vr.specs.declared.Tag.{Tag}
 use Rattle.dq_vr.specs.Tag.{is_below}
@@ -29,22 +30,20 @@ after_earlier levels last tag (sequence t v items rest) e h = (earlier last tag 
 
 -- ---- the supported part
 
-pub elements_by : (b : Bool) (levels : ℕ) (last : Option Tag) (whole rest : ElementList) → AreElements levels last whole → AreElements levels last rest
-    → AreElements levels last (cond b whole rest)
-elements_by true levels last whole rest h k = h
-elements_by false levels last whole rest h k = k
-
 mutual
   pub part_facts : (scope : KeyScope) (levels : ℕ) (last : Option Tag) (d : ElementList) → AreElements levels last d
       → AreElements levels last (supported_part scope d)
   part_facts scope levels last no_elements h = tt
   part_facts scope levels last (element t v o rest) h =
-      grind (arith, nat_tests, elements_by, after_earlier, part_facts scope levels (Some t) rest h.2)
+      let others = part_facts scope levels (Some t) rest h.2 in
+      cond_both (is_supported scope t) (element t v o (supported_part scope rest)) (supported_part scope rest) (λ d. AreElements levels last d)
+      (λ is. (h.0, h.1, others)) (λ none. after_earlier levels last t (supported_part scope rest) h.0.rises others)
   part_facts scope levels last (sequence t v items rest) h =
       let others = part_facts scope levels (Some t) rest h.4 in
-      elements_by (is_supported scope t) levels last (sequence t v (supported_items (below scope t) items) (supported_part scope rest))
-      (supported_part scope rest)
-      (h.0, h.1, h.2, items_facts (below scope t) (levels - 1) items h.3, others) (after_earlier levels last t (supported_part scope rest) h.0.rises others)
+      cond_both (is_supported scope t) (sequence t v (supported_items (below scope t) items) (supported_part scope rest)) (supported_part scope rest)
+      (λ d. AreElements levels last d)
+      (λ is. (h.0, h.1, h.2, items_facts (below scope t) (levels - 1) items h.3, others))
+      (λ none. after_earlier levels last t (supported_part scope rest) h.0.rises others)
 
   pub items_facts : (scope : KeyScope) (levels : ℕ) (items : ItemList) → AreItems levels items → AreItems levels (supported_items scope items)
   items_facts scope levels no_items h = tt

@@ -1,6 +1,6 @@
 -- The data dictionary has every tag that is supported.
-use Rattle.std.proofs.lemmas.Bool.{and_parts, or_cases}
-use Rattle.std.proofs.Common.{◌≡◌, Bool, true, false, cond, List, [], ◌∷◌, refl, subst, arith, is_some, inl, inr}
+use Rattle.std.proofs.lemmas.Bool.{cond_both, and_parts, or_cases}
+use Rattle.std.proofs.Common.{◌≡◌, Bool, true, List, [], ◌∷◌, refl, subst, arith, is_some, inl, inr}
 use Rattle.std.proofs.lemmas.Bool.Decides.{nat_tests}
 use Rattle.std.specs.List.{list_all}
 use Rattle.dq_vr.specs.declared.Tag.{Tag}
@@ -67,19 +67,16 @@ supported_known Code tag h = among_known tag code_keys code_known h
 supported_known Reference tag h = among_known tag reference_keys reference_known h
 supported_known Other tag h = cc
 
-known_by : (b : Bool) (tag : Tag) (whole rest : ElementList) → (b ≡ true → is_some (known_vr tag) ≡ true) → (is_some (known_vr tag) ≡ true → HasKnownTags whole)
-    → HasKnownTags rest → HasKnownTags (cond b whole rest)
-known_by true tag whole rest known h k = h (known refl)
-known_by false tag whole rest known h k = k
-
 mutual
   pub part_known : (scope : KeyScope) (d : ElementList) → HasKnownTags (supported_part scope d)
   part_known scope no_elements = tt
-  part_known scope (element t v o rest) = grind (arith, nat_tests, known_by, supported_known, part_known scope rest)
+  part_known scope (element t v o rest) =
+      cond_both (is_supported scope t) (element t v o (supported_part scope rest)) (supported_part scope rest) HasKnownTags
+      (λ h. (supported_known scope t h, part_known scope rest)) (λ none. part_known scope rest)
   part_known scope (sequence t v items rest) =
-      known_by (is_supported scope t) t (sequence t v (supported_items (below scope t) items) (supported_part scope rest)) (supported_part scope rest)
-      (supported_known scope t)
-      (λ h. (h, items_known (below scope t) items, part_known scope rest)) (part_known scope rest)
+      cond_both (is_supported scope t) (sequence t v (supported_items (below scope t) items) (supported_part scope rest)) (supported_part scope rest)
+      HasKnownTags
+      (λ h. (supported_known scope t h, items_known (below scope t) items, part_known scope rest)) (λ none. part_known scope rest)
 
   items_known : (scope : KeyScope) (items : ItemList) → HaveKnownTags (supported_items scope items)
   items_known scope no_items = tt

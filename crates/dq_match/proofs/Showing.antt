@@ -1,6 +1,6 @@
 -- What is shown of a record is a data set, and is put together key by key.
-use Rattle.std.proofs.lemmas.Bool.{and_parts, not-true, or_parts}
-use Rattle.std.proofs.Common.{◌≡◌, ℕ, ◌-◌, ◌+◌, ◌<◌, Bool, true, false, cond, List, [], ◌∷◌, ◌++◌, Option, Some, None, option_map, map, filter, length, get_or, drop, refl, sym, ap, ◌∙◌, subst, arith, is_some, append_assoc}
+use Rattle.std.proofs.lemmas.Bool.{cond_both, and_from, and_parts, not-true, or_parts}
+use Rattle.std.proofs.Common.{◌≡◌, ℕ, ◌-◌, ◌+◌, ◌<◌, Bool, true, false, cond, List, [], ◌∷◌, ◌++◌, Option, Some, None, option_map, map, filter, length, get_or, take, IfSome, refl, sym, ap, ◌∙◌, subst, arith, is_some}
 use Rattle.std.specs.List.{list_all}
 use Rattle.dq_vr.specs.declared.Tag.{Tag}
 use Rattle.dq_vr.specs.declared.Vr.{Vr}
@@ -15,7 +15,7 @@ use Rattle.dq_dataset.specs.Tree.{ElementList, no_elements, element, sequence, I
 use Rattle.dq_dataset.specs.View.{as_elements, elements_of, items_of, list_of, with_value}
 use Rattle.dq_dataset.specs.Facts.{IsElementTag, IsPlain, IsSequence, AreElements, AreItems, IsDataSet}
 use Rattle.dq_dataset.specs.Values.{element_at, element_octets}
-use Rattle.dq_dataset.proofs.Views.{elements_of-with_value, items_of-list_of}
+use Rattle.dq_dataset.proofs.Views.{as_elements-elements_of, elements_of-with_value, items_of-list_of}
 use Rattle.dq_match.specs.declared.keys.Place.{Place}
 use Rattle.dq_match.specs.declared.keys.Place.TheVariants.{Outer, Inner}
 use Rattle.dq_list.specs.Lengths.{is_empty}
@@ -25,8 +25,12 @@ use Rattle.dq_match.specs.Identifiers.{HasKnownTags}
 use Rattle.dq_match.specs.Matching.{all_met}
 use Rattle.dq_match.specs.Responses.{put, or_empty, has_no_elements, cut_value, with_cut, shown_keys, shown_items, cut_keys, cut_by, shown_element, unless_empty, character_set, put_first, before, shown_elements, shown_data_set}
 use Rattle.dq_match.proofs.KnownKeys.{same_tag}
-use Rattle.dq_match.proofs.DataSets.{after_earlier, elements_by}
-use Rattle.dq_dataset.proofs.Places.{from_place}
+use Rattle.dq_match.proofs.DataSets.{after_earlier}
+use Rattle.dq_match.specs.ShownTags.{tags_of}
+use Rattle.dq_match.proofs.ShownTags.{keys_shown}
+use Rattle.std.proofs.lemmas.List.{map-append}
+use Rattle.std.proofs.lemmas.List.Elements.{filter_more}
+use Rattle.std.proofs.lemmas.Grind.{common_steps}
 
 -- ---- the facts of one element
 
@@ -38,19 +42,16 @@ abbrev pub FoundFacts : ℕ → Tag → Element → Type 0
 FoundFacts levels tag e = (e.tag ≡ tag) × ValueFacts levels e.tag e.vr e.value
 
 abbrev IfFound : ℕ → Tag → Option Element → Type 0
-IfFound levels tag None = Unit {0}
-IfFound levels tag (Some e) = FoundFacts levels tag e
-
-found_by : (b : Bool) (levels : ℕ) (tag : Tag) (e : Element) (others : Option Element) → (b ≡ true → e.tag ≡ tag) → ValueFacts levels e.tag e.vr e.value
-    → IfFound levels tag others → IfFound levels tag (cond b (Some e) others)
-found_by true levels tag e others same facts h = (same refl, facts)
-found_by false levels tag e others same facts h = h
+IfFound levels tag found = IfSome found (FoundFacts levels tag)
 
 found_facts : (levels : ℕ) (last : Option Tag) (tag : Tag) (d : ElementList) → AreElements levels last d → IfFound levels tag (element_at tag d)
 found_facts levels last tag no_elements h = tt
-found_facts levels last tag (element t v o rest) h = grind (arith, found_by, same_tag, found_facts levels (Some t) tag rest h.2)
+found_facts levels last tag (element t v o rest) h =
+    cond_both (is_tag t tag) (Some (record { tag = t; vr = v; value = Octets o })) (element_at tag rest) (IfFound levels tag)
+    (λ is. (same_tag t tag is, h.1)) (λ none. found_facts levels (Some t) tag rest h.2)
 found_facts levels last tag (sequence t v items rest) h =
-    grind (arith, found_by, same_tag, items_of-list_of, found_facts levels (Some t) tag rest h.4)
+    cond_both (is_tag t tag) (Some (record { tag = t; vr = v; value = Items (list_of items) })) (element_at tag rest) (IfFound levels tag)
+    (λ is. (same_tag t tag is, (h.1, h.2, rw items_of-list_of h.3))) (λ none. found_facts levels (Some t) tag rest h.4)
 
 put_value : (levels : ℕ) (last : Option Tag) (t : Tag) (v : Vr) (x : Value) (rest : ElementList) → IsElementTag last t → ValueFacts levels t v x
     → AreElements levels (Some t) rest → AreElements levels last (with_value (record { tag = t; vr = v; value = x }) x rest)
@@ -66,25 +67,13 @@ put_facts levels last tag e rest placed facts h = grind (arith, put_value)
 abbrev KeepsFacts : ℕ → (ElementList → ElementList) → Type 0
 KeepsFacts levels f = (d : ElementList) → AreElements levels None d → AreElements levels None (f d)
 
-cut_by_test : (b : Bool) (levels : ℕ) (f : ElementList → ElementList) (d : ElementList) (cut : List ElementList) → AreElements levels None (f d)
-    → AreItems levels (items_of cut) → AreItems levels (items_of (cond b (f d ∷ cut) cut))
-cut_by_test true levels f d cut h k = (h, k)
-cut_by_test false levels f d cut h k = k
-
-map_cond : (b : Bool) (f : ElementList → ElementList) (d : ElementList) (ds : List ElementList)
-    → map f (cond b (d ∷ ds) ds) ≡ cond b (f d ∷ map f ds) (map f ds)
-map_cond true f d ds = refl
-map_cond false f d ds = refl
-
 cut_facts : (levels : ℕ) (f : ElementList → ElementList) (test : ElementList → Bool) (items : List ElementList) → KeepsFacts levels f
     → AreItems levels (items_of items) → AreItems levels (items_of (map f (filter test items)))
 cut_facts levels f test [] keeps h = tt
-cut_facts levels f test (d ∷ ds) keeps h = grind (arith, map_cond, cut_by_test, cut_facts levels f test ds keeps h.1)
-
-items_by : (b : Bool) (levels : ℕ) (whole cut : List ElementList) → AreItems levels (items_of whole) → AreItems levels (items_of cut)
-    → AreItems levels (items_of (cond b whole cut))
-items_by true levels whole cut h k = h
-items_by false levels whole cut h k = k
+cut_facts levels f test (d ∷ ds) keeps h =
+    let others = cut_facts levels f test ds keeps h.1 in
+    cond_both (test d) (d ∷ filter test ds) (filter test ds) (λ items. AreItems levels (items_of (map f items)))
+    (λ is. (keeps d h.0, others)) (λ none. others)
 
 plain_or_empty : (levels : ℕ) (tag : Tag) (vr : Vr) (octets : List ℕ) (held : Option Element) → IsPlain tag vr octets → IfFound levels tag held
     → FoundFacts levels tag (or_empty tag vr (Octets octets) held)
@@ -109,30 +98,28 @@ mutual
       → AreElements levels None held → AreElements levels last (shown_keys keys place held)
   shown_facts no_elements levels last place held h k = tt
   shown_facts (element t v o rest) levels last place held h k =
-      grind (
-        arith,
-        elements_by,
-        put_facts,
-        plain_or_empty,
-        found_facts,
-        after_earlier,
-        shown_facts rest levels (Some t) place held h.2 k,
-      )
+      let others = shown_facts rest levels (Some t) place held h.2 k in
+      let e : Element = or_empty t v (Octets o) (element_at t held) in
+      cond_both (is_key place t) (put e (shown_keys rest place held)) (shown_keys rest place held) (λ d. AreElements levels last d)
+      (λ is. put_facts levels last t e (shown_keys rest place held) h.0
+      (plain_or_empty levels t v o (element_at t held) h.1 (found_facts levels None t held k)) others)
+      (λ none. after_earlier levels last t (shown_keys rest place held) h.0.rises others)
   shown_facts (sequence t v items rest) levels last place held h k =
       let others = shown_facts rest levels (Some t) place held h.4 k in
       let e : Element = or_empty t v (Items []) (option_map (with_cut (shown_items items)) (element_at t held)) in
-      elements_by (is_key place t) levels last (put e (shown_keys rest place held)) (shown_keys rest place held)
-      (put_facts levels last t e (shown_keys rest place held) h.0
+      cond_both (is_key place t) (put e (shown_keys rest place held)) (shown_keys rest place held) (λ d. AreElements levels last d)
+      (λ is. put_facts levels last t e (shown_keys rest place held) h.0
       (sequence_or_empty levels t v (shown_items items) (element_at t held) h.1 h.2 (λ its. items_shown_facts items (levels - 1) its h.3)
       (found_facts levels None t held k)) others)
-      (after_earlier levels last t (shown_keys rest place held) h.0.rises others)
+      (λ none. after_earlier levels last t (shown_keys rest place held) h.0.rises others)
 
   items_shown_facts : (items : ItemList) (levels : ℕ) (held : List ElementList) → AreItems levels items
       → AreItems levels (items_of held) → AreItems levels (items_of (shown_items items held))
   items_shown_facts no_items levels held h k = k
   items_shown_facts (item keys others) levels held h k =
-      items_by (has_no_elements keys) levels held (map (λ d. shown_keys keys Inner d) (filter (λ d. all_met Inner keys d) held)) k
-      (cut_facts levels (λ d. shown_keys keys Inner d) (λ d. all_met Inner keys d) held (λ d. shown_facts keys levels None Inner d h.0) k)
+      cond_both (has_no_elements keys) held (map (λ d. shown_keys keys Inner d) (filter (λ d. all_met Inner keys d) held))
+      (λ its. AreItems levels (items_of its)) (λ none. k)
+      (λ some. cut_facts levels (λ d. shown_keys keys Inner d) (λ d. all_met Inner keys d) held (λ d. shown_facts keys levels None Inner d h.0) k)
 
 pub shown_is_data_set : (keys : ElementList) (place : Place) (held : ElementList) → IsDataSet keys → IsDataSet held → IsDataSet (shown_keys keys place held)
 shown_is_data_set keys place held h k = shown_facts keys 16 None place held h k
@@ -170,59 +157,44 @@ known_above : (tag : Tag) → is_some (known_vr tag) ≡ true → is_key Outer t
 unfolding known_vr vr_in
 known_above tag known key = grind (arith, first_of_dictionary, not-true, or_parts, above_all, rest_above)
 
-set_by : (b : Bool) (whole rest : ElementList) → (b ≡ true → AreElements 16 (Some specific_character_set) whole)
-    → AreElements 16 (Some specific_character_set) rest → AreElements 16 (Some specific_character_set) (cond b whole rest)
-set_by true whole rest h k = h refl
-set_by false whole rest h k = k
+tag_above : (tag : Tag) (others : List Tag) → is_some (known_vr tag) ≡ true → list_all (is_below specific_character_set) others ≡ true
+    → list_all (is_below specific_character_set) (cond (is_key Outer tag) (tag ∷ others) others) ≡ true
+tag_above tag others known h =
+    cond_both (is_key Outer tag) (tag ∷ others) others (λ tags. list_all (is_below specific_character_set) tags ≡ true)
+    (λ is. and_from (is_below specific_character_set tag) _ (known_above tag known is) h) (λ none. h)
 
 placed_above : (last : Option Tag) (tag : Tag) → IsElementTag last tag → is_below specific_character_set tag ≡ true
     → IsElementTag (Some specific_character_set) tag
 placed_above last tag placed above = grind arith
 
-shown_after_set : (keys : ElementList) (last : Option Tag) (held : ElementList) → AreElements 16 last keys → HasKnownTags keys → IsDataSet held
+keys_above : (keys : ElementList) → HasKnownTags keys → list_all (is_below specific_character_set) (filter (is_key Outer) (tags_of keys)) ≡ true
+keys_above no_elements known = refl
+keys_above (element t v o rest) known = tag_above t (filter (is_key Outer) (tags_of rest)) known.0 (keys_above rest known.1)
+keys_above (sequence t v items rest) known = tag_above t (filter (is_key Outer) (tags_of rest)) known.0 (keys_above rest known.2)
+
+-- elements are after a tag where their tags are above it
+after_set : (last : Option Tag) (d : ElementList) → AreElements 16 last d → list_all (is_below specific_character_set) (tags_of d) ≡ true
+    → AreElements 16 (Some specific_character_set) d
+after_set last no_elements h above = tt
+after_set last (element t v o rest) h above = (placed_above last t h.0 (and_parts _ (list_all (is_below specific_character_set) (tags_of rest)) above).0, h.1, h.2)
+after_set last (sequence t v items rest) h above =
+    (placed_above last t h.0 (and_parts _ (list_all (is_below specific_character_set) (tags_of rest)) above).0, h.1, h.2, h.3, h.4)
+
+shown_after_set : (keys held : ElementList) → IsDataSet keys → HasKnownTags keys → IsDataSet held
     → AreElements 16 (Some specific_character_set) (shown_keys keys Outer held)
-shown_after_set no_elements last held h known k = tt
-shown_after_set (element t v o rest) last held h known k =
-    grind (
-      arith,
-      set_by,
-      put_facts,
-      placed_above,
-      known_above,
-      plain_or_empty,
-      found_facts,
-      shown_facts,
-      shown_after_set rest (Some t) held h.2 known.1 k,
-    )
-shown_after_set (sequence t v items rest) last held h known k =
-    grind (
-      arith,
-      set_by,
-      put_facts,
-      placed_above,
-      known_above,
-      sequence_or_empty,
-      items_shown_facts,
-      found_facts,
-      shown_facts,
-      shown_after_set rest (Some t) held h.4 known.2 k,
-    )
+shown_after_set keys held h known k =
+    after_set None (shown_keys keys Outer held) (shown_is_data_set keys Outer held h k)
+    (ap (list_all (is_below specific_character_set)) (keys_shown keys Outer held) ∙ keys_above keys known)
 
 set_facts : (found : Option Element) → IfFound 16 specific_character_set found → IfFound 16 specific_character_set (unless_empty found)
 set_facts None h = tt
-set_facts (Some e) h = kept (is_empty (element_values e.vr (element_octets (Some e))))
-  where
-    kept : (b : Bool) → IfFound 16 specific_character_set (cond b None (Some e))
-    kept true = tt
-    kept false = h
-
-set_tag : IsElementTag None specific_character_set
-set_tag = grind arith
+set_facts (Some e) h =
+    cond_both (is_empty (element_values e.vr (element_octets (Some e)))) None (Some e) (IfFound 16 specific_character_set) (λ none. tt) (λ some. h)
 
 first_facts : (first : Option Element) (rest : ElementList) → IfFound 16 specific_character_set first → IsDataSet rest
     → AreElements 16 (Some specific_character_set) rest → IsDataSet (put_first first rest)
 first_facts None rest h k above = k
-first_facts (Some e) rest h k above = put_facts 16 None specific_character_set e rest set_tag h above
+first_facts (Some e) rest h k above = put_facts 16 None specific_character_set e rest (grind arith) h above
 
 pub shown_is_whole : (identifier held : ElementList) → IsDataSet identifier → HasKnownTags identifier → IsDataSet held
     → IsDataSet (put_first (character_set held) (shown_keys identifier Outer held))
@@ -230,24 +202,15 @@ shown_is_whole identifier held h known k = grind (arith, first_facts, set_facts,
 
 -- ---- key by key
 
-cut_by_first : (b : Bool) (keys : ElementList) (held : List ElementList)
-    → cond b held (map (λ d. shown_keys keys Inner d) (filter (λ d. all_met Inner keys d) held))
-    ≡ cut_by (cond b None (Some keys)) held
-cut_by_first true keys held = refl
-cut_by_first false keys held = refl
-
 shown_items-cut : (items held : List ElementList) → shown_items (items_of items) held ≡ cut_by (cut_keys (Items items)) held
 shown_items-cut [] held = refl
-shown_items-cut (keys ∷ others) held = cut_by_first (has_no_elements keys) keys held
+shown_items-cut (no_elements ∷ others) held = refl
+shown_items-cut (element t v o rest ∷ others) held = refl
+shown_items-cut (sequence t v items rest ∷ others) held = refl
 
 with_cut-whole : (t : Tag) (v : Vr) (x : Value) → with_cut (cut_by None) (record { tag = t; vr = v; value = x }) ≡ record { tag = t; vr = v; value = x }
 with_cut-whole t v (Octets o) = refl
 with_cut-whole t v (Items items) = refl
-
-with_cut-same : (t : Tag) (v : Vr) (x : Value) (f g : List ElementList → List ElementList) → ((items : List ElementList) → f items ≡ g items)
-    → with_cut f (record { tag = t; vr = v; value = x }) ≡ with_cut g (record { tag = t; vr = v; value = x })
-with_cut-same t v (Octets o) f g same = refl
-with_cut-same t v (Items items) f g same = ap (λ (its : List ElementList). record { tag = t; vr = v; value = Items its }) (same items)
 
 plain_shown : (t : Tag) (v : Vr) (o : List ℕ) (held : Option Element)
     → or_empty t v (Octets o) held ≡ shown_element (record { tag = t; vr = v; value = Octets o }) held
@@ -257,7 +220,7 @@ plain_shown t v o (Some e) = sym (with_cut-whole e.tag e.vr e.value)
 sequence_shown : (t : Tag) (v : Vr) (items : List ElementList) (held : Option Element)
     → or_empty t v (Items []) (option_map (with_cut (shown_items (items_of items))) held) ≡ shown_element (record { tag = t; vr = v; value = Items items }) held
 sequence_shown t v items None = refl
-sequence_shown t v items (Some e) = with_cut-same e.tag e.vr e.value (shown_items (items_of items)) (cut_by (cut_keys (Items items))) (shown_items-cut items)
+sequence_shown t v items (Some e) = λ i. with_cut (λ its. shown_items-cut items its i) e
 
 put_by : (b : Bool) (e : Element) (rest : ElementList) → elements_of (cond b (put e rest) rest) ≡ cond b (e ∷ elements_of rest) (elements_of rest)
 put_by true e rest = elements_of-with_value e.tag e.vr e.value rest
@@ -278,18 +241,13 @@ map_by true f e es shown h = ap (λ (xs : List Element). f e ∷ xs) h
 map_by false f e es shown h = h
 
 -- each key shows the record's element
-each_shown : (keys : ElementList) (place : Place) (held : ElementList) → elements_of (shown_keys keys place held)
-    ≡ map (λ key. shown_element key (element_at key.tag held)) (filter (λ key. is_key place key.tag) (elements_of keys))
-each_shown no_elements place held = refl
-each_shown (element t v o rest) place held =
-    shown_by t v (Octets o) place rest held
-    ∙ map_by (is_key place t) (λ key. shown_element key (element_at key.tag held)) (record { tag = t; vr = v; value = Octets o })
-    (filter (λ key. is_key place key.tag) (elements_of rest)) (elements_of (shown_keys rest place held)) (each_shown rest place held)
-each_shown (sequence t v items rest) place held =
-    ap (λ (its : ItemList). elements_of (shown_keys (sequence t v its rest) place held)) (sym (items_of-list_of items))
-    ∙ shown_by t v (Items (list_of items)) place rest held
-    ∙ map_by (is_key place t) (λ key. shown_element key (element_at key.tag held)) (record { tag = t; vr = v; value = Items (list_of items) })
-    (filter (λ key. is_key place key.tag) (elements_of rest)) (elements_of (shown_keys rest place held)) (each_shown rest place held)
+pub each_shown : (keys : List Element) (place : Place) (held : ElementList) → elements_of (shown_keys (as_elements keys) place held)
+    ≡ map (λ key. shown_element key (element_at key.tag held)) (filter (λ key. is_key place key.tag) keys)
+each_shown [] place held = refl
+each_shown (key ∷ keys) place held =
+    shown_by key.tag key.vr key.value place (as_elements keys) held
+    ∙ map_by (is_key place key.tag) (λ key. shown_element key (element_at key.tag held)) key (filter (λ key. is_key place key.tag) keys)
+    (elements_of (shown_keys (as_elements keys) place held)) (each_shown keys place held)
 
 first_shown : (first : Option Element) (rest : ElementList) → elements_of (put_first first rest) ≡ before first (elements_of rest)
 first_shown None rest = refl
@@ -299,39 +257,14 @@ pub keys_show : (identifier held : ElementList) → elements_of (shown_data_set 
     ≡ before (character_set held) (shown_elements (elements_of identifier) held)
 unfolding shown_data_set
 keys_show identifier held =
-    first_shown (character_set held) (shown_keys identifier Outer held) ∙ ap (before (character_set held)) (each_shown identifier Outer held)
+    first_shown (character_set held) (shown_keys identifier Outer held)
+    ∙ ap (λ (d : ElementList). before (character_set held) (elements_of (shown_keys d Outer held))) (sym (as_elements-elements_of identifier))
+    ∙ ap (before (character_set held)) (each_shown (elements_of identifier) Outer held)
 
 pub plain_whole : (key found : Element) → cut_keys key.value ≡ None → shown_element key (Some found) ≡ found
 plain_whole key found h = ap (λ (cut : Option ElementList). with_cut (cut_by cut) found) h ∙ with_cut-whole found.tag found.vr found.value
 
-module _ (keys : List Element) (place : Place) (held : ElementList) (done : List Element) (i : ℕ) (key : Element) (lt : i < length keys)
-    (is : key ≡ get_or keys i key)
-    (so_far : done ++ elements_of (shown_keys (as_elements (drop i keys)) place held) ≡ elements_of (shown_keys (as_elements keys) place held)) where
-  here : (b : Bool) → is_key place key.tag ≡ b
-      → elements_of (shown_keys (as_elements (drop i keys)) place held)
-      ≡ cond b (shown_element key (element_at key.tag held) ∷ elements_of (shown_keys (as_elements (drop (i + 1) keys)) place held))
-      (elements_of (shown_keys (as_elements (drop (i + 1) keys)) place held))
-  here b test = grind (arith, from_place, shown_by)
-
-  pub key_shown : (e : Element) (after : List Element) → is_key place key.tag ≡ true → e ≡ shown_element key (element_at key.tag held) → after ≡ done ++ e ∷ []
-      → after ++ elements_of (shown_keys (as_elements (drop (i + 1) keys)) place held) ≡ elements_of (shown_keys (as_elements keys) place held)
-  key_shown e after test same pushed =
-      let rest : List Element = elements_of (shown_keys (as_elements (drop (i + 1) keys)) place held) in
-      ap (λ (es : List Element). es ++ rest) pushed ∙ append_assoc done (e ∷ []) rest
-      ∙ ap (λ (x : Element). done ++ x ∷ rest) same ∙ ap (λ (es : List Element). done ++ es) (sym (here true test)) ∙ so_far
-
-module _ (keys : ElementList) (items done : List ElementList) (i : ℕ) (d : ElementList) (lt : i < length items) (is : d ≡ get_or items i d)
-    (so_far : done ++ map (λ d. shown_keys keys Inner d) (filter (λ d. all_met Inner keys d) (drop i items))
-    ≡ map (λ d. shown_keys keys Inner d) (filter (λ d. all_met Inner keys d) items)) where
-  item_here : (b : Bool) → all_met Inner keys d ≡ b → map (λ d. shown_keys keys Inner d) (filter (λ d. all_met Inner keys d) (drop i items))
-      ≡ map (λ d. shown_keys keys Inner d) (cond b (d ∷ filter (λ d. all_met Inner keys d) (drop (i + 1) items))
-      (filter (λ d. all_met Inner keys d) (drop (i + 1) items)))
-  item_here b test = grind (arith, from_place)
-
-  pub item_shown : (cut : ElementList) (after : List ElementList) → all_met Inner keys d ≡ true → cut ≡ shown_keys keys Inner d → after ≡ done ++ cut ∷ []
-      → after ++ map (λ d. shown_keys keys Inner d) (filter (λ d. all_met Inner keys d) (drop (i + 1) items))
-      ≡ map (λ d. shown_keys keys Inner d) (filter (λ d. all_met Inner keys d) items)
-  item_shown cut after test same pushed =
-      let rest : List ElementList = map (λ d. shown_keys keys Inner d) (filter (λ d. all_met Inner keys d) (drop (i + 1) items)) in
-      ap (λ (ds : List ElementList). ds ++ rest) pushed ∙ append_assoc done (cut ∷ []) rest
-      ∙ ap (λ (x : ElementList). done ++ x ∷ rest) same ∙ ap (λ (ds : List ElementList). done ++ ds) (sym (item_here true test)) ∙ so_far
+-- one more of those that are shown
+pub one_shown : {A B : Type 0} (p : A → Bool) (f : A → B) (xs : List A) (i : ℕ) (x : A) → i < length xs → x ≡ get_or xs i x → p x ≡ true
+    → map f (filter p (take (i + 1) xs)) ≡ map f (filter p (take i xs)) ++ f x ∷ []
+one_shown p f xs i x lt is test = grind (arith, common_steps, filter_more p xs i x lt, map-append)

@@ -1,6 +1,6 @@
 -- What is left of an identifier is supported.
-use Rattle.std.proofs.lemmas.Bool.{or_parts, not-false}
-use Rattle.std.proofs.Common.{◌≡◌, Bool, true, false, cond, not, ◌||◌, ◌↔◌, List, [], ◌∷◌, map, filter, refl, ap, ◌∙◌, sym, subst, arith}
+use Rattle.std.proofs.lemmas.Bool.{cond_both, or_parts, not-false}
+use Rattle.std.proofs.Common.{◌≡◌, Bool, true, false, cond, not, ◌||◌, ◌↔◌, List, [], ◌∷◌, map, filter, refl, ap, ◌∙◌, sym, subst}
 use Rattle.dq_dataset.specs.Tree.{ElementList, no_elements, element, sequence, ItemList, no_items, item}
 use Rattle.dq_dataset.specs.View.{elements_of, items_of, list_of}
 use Rattle.dq_dataset.specs.declared.data_set.Element.{Element}
@@ -9,18 +9,16 @@ use Rattle.dq_dataset.proofs.Views.{items_of-list_of}
 use Rattle.dq_match.specs.declared.supported.KeyScope.{KeyScope}
 use Rattle.dq_match.specs.Supported.{is_supported, below, supported_part, supported_items, supported_value, supported_element, has_unsupported, have_unsupported}
 
-none_by : (b : Bool) (scope : KeyScope) (whole rest : ElementList) → (b ≡ true → has_unsupported scope whole ≡ false) → has_unsupported scope rest ≡ false
-    → has_unsupported scope (cond b whole rest) ≡ false
-none_by true scope whole rest h k = h refl
-none_by false scope whole rest h k = k
-
 mutual
   pub nothing_left : (scope : KeyScope) (d : ElementList) → has_unsupported scope (supported_part scope d) ≡ false
   nothing_left scope no_elements = refl
-  nothing_left scope (element t v o rest) = grind (arith, none_by, nothing_left scope rest)
+  nothing_left scope (element t v o rest) =
+      cond_both (is_supported scope t) (element t v o (supported_part scope rest)) (supported_part scope rest) (λ d. has_unsupported scope d ≡ false)
+      (λ h. λ i. not (h i) || nothing_left scope rest i) (λ none. nothing_left scope rest)
   nothing_left scope (sequence t v items rest) =
-      none_by (is_supported scope t) scope (sequence t v (supported_items (below scope t) items) (supported_part scope rest)) (supported_part scope rest)
-      (λ h. λ i. (not (h i) || nothing_left_inside (below scope t) items i) || nothing_left scope rest i) (nothing_left scope rest)
+      cond_both (is_supported scope t) (sequence t v (supported_items (below scope t) items) (supported_part scope rest)) (supported_part scope rest)
+      (λ d. has_unsupported scope d ≡ false)
+      (λ h. λ i. (not (h i) || nothing_left_inside (below scope t) items i) || nothing_left scope rest i) (λ none. nothing_left scope rest)
 
   nothing_left_inside : (scope : KeyScope) (items : ItemList) → have_unsupported scope (supported_items scope items) ≡ false
   nothing_left_inside scope no_items = refl
