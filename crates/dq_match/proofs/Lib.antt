@@ -15,6 +15,7 @@ mod Showing
 mod ShownTags
 mod Stretches
 mod Takes
+mod Smaller
 mod Struck
 mod Universal
 mod WildFits

@@ -1,4 +1,6 @@
 //! Which identifiers are queries (PS3.4 sections C.2.2.2.5 and C.2.2.2.6).
+#![tactic(auto, using(crate::proofs::Smaller::smaller))]
+
 ghost use Rattle.std.specs.Prelude.{◌≡◌};
 ghost use Rattle.dq_dataset.specs.Tree.{no_elements};
 ghost use Rattle.dq_dataset.specs.View.{as_elements, items_of, with_value};

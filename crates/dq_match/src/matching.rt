@@ -1,4 +1,6 @@
 //! Whether a record meets the keys of an identifier (PS3.4 section C.2.2.2).
+#![tactic(auto, using(crate::proofs::Smaller::smaller))]
+
 ghost use Rattle.std.specs.Prelude.{◌≡◌, option_map};
 ghost use Rattle.std.specs.Option.{option_copied};
 ghost use Rattle.std.specs.List.{list_any};

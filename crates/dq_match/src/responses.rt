@@ -1,4 +1,6 @@
 //! What a response shows of a record (PS3.4 sections C.4.1.1.3.2 and K.4.1.1.3.2).
+#![tactic(auto, using(crate::proofs::Smaller::smaller))]
+
 ghost use Rattle.std.specs.Prelude.{◌≡◌, IfOk, map, filter};
 ghost use Rattle.std.specs.Option.{option_copied};
 ghost use Rattle.dq_dataset.specs.View.{as_elements, elements_of};

@@ -1,5 +1,7 @@
 //! The keys that are supported at each level, and what is left of an identifier without the others
 //! (PS3.4 sections C.6.2.1 and K.6.1.2).
+#![tactic(auto, using(crate::proofs::Smaller::smaller))]
+
 ghost use Rattle.std.specs.Prelude.{◌≡◌, ◌<◌, ◌++◌, IfOk, length, drop};
 ghost use Rattle.dq_dataset.specs.View.{as_elements, elements_of, items_of, list_of};
 ghost use Rattle.dq_match.specs.Identifiers.{HasKnownTags};

@@ -10,14 +10,6 @@ use Rattle.dq_match.specs.Responses.{shown_keys, shown_element}
 use Rattle.dq_match.proofs.Showing.{shown_is_data_set, each_shown, one_shown}
 use Rattle.dq_match.proofs.responses.+shown.Goals as goal
 
-pub shown_items-shown_keys-requires : goal.shown_items-shown_keys-requires
-shown_items-shown_keys-requires t c = rw (c.elements.ensures.elements, as_elements-elements_of) (omega arith, tt)
-
-pub shown_keys-shown_element-requires : goal.shown_keys-shown_element-requires
-shown_keys-shown_element-requires t c =
-    let fewer = value_count-element c.args.keys.now c.loop-key.key-index c.key-item.result (omega arith) c.key-item.is in
-    (omega (arith, fewer), tt)
-
 pub shown_items-from_elements-requires : goal.shown_items-from_elements-requires
 shown_items-from_elements-requires t c =
     simp (c.in_ok-elements.ensures, c.elements.ensures.elements, c.elements-in-loop-item.ensures.elements, as_elements-elements_of)

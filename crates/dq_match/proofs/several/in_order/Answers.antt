@@ -9,8 +9,3 @@ loop-value-preserved c = λ value.
     one_more value c.in-Some.value.now c.in_ok-from_slice.field-0 c.loop-value.set.keys c.insert.new.self.keys c.loop-value.all c.next.new.self
     (is_one_of_values value (element_values c.args.vr c.args.octets.now)) c.in_ok-insert.ensures.keys c.in_ok-from_slice.ensures.items c.in-Some.ensures.steps
     (c.loop-value.invariant value)
-
-pub returns : goal.returns
-returns c = λ value.
-    all_in (is_one_of_values value (octets_of_vectors c.loop-value.set.keys)) c.loop-value.all value (is_one_of_values value (element_values c.args.vr c.args.octets.now))
-    c.in_default.ensures.steps.0 (c.loop-value.invariant value)

@@ -4,9 +4,6 @@ use Rattle.dq_dataset.proofs.Copies.{value_count-element, item_count-item}
 use Rattle.dq_match.proofs.DataSets.{part_facts}
 use Rattle.dq_match.proofs.supported.+supported.Goals as goal
 
-pub supported_part-supported_elements-requires : goal.supported_part-supported_elements-requires
-supported_part-supported_elements-requires t c = rw (c.elements.ensures.elements, as_elements-elements_of) (omega arith, tt)
-
 pub supported_part-from_elements-requires : goal.supported_part-from_elements-requires
 supported_part-from_elements-requires t c =
     simp (c.in_ok-elements.ensures, c.elements.ensures.elements, as_elements-elements_of)
@@ -14,13 +11,3 @@ supported_part-from_elements-requires t c =
 
 pub supported_part-returns : goal.supported_part-returns
 supported_part-returns t c = simp (c.from_elements.ensures, c.in_ok-elements.ensures, c.elements.ensures.elements, as_elements-elements_of)
-
-pub supported_elements-supported_value-requires : goal.supported_elements-supported_value-requires
-supported_elements-supported_value-requires t c =
-    let fewer = value_count-element c.args.keys.now c.loop-key.key-index c.key-item.result (omega arith) c.key-item.is in
-    (omega (arith, fewer), tt)
-
-pub supported_items-supported_part-requires : goal.supported_items-supported_part-requires
-supported_items-supported_part-requires t c =
-    let fewer = item_count-item c.args.items.now c.loop-item.item-index c.item-item.result (omega arith) c.item-item.is in
-    (omega (arith, fewer), tt)

@@ -5,11 +5,6 @@ use Rattle.dq_match.specs.Values.{is_met_by_value}
 use Rattle.dq_match.proofs.SeveralValues.{plain_by_equality, equal_by_equality}
 use Rattle.dq_match.proofs.values.Matching.is_by_equality.Goals as goal
 
-pub returns-in-Equality : goal.returns-in-Equality
-returns-in-Equality c = λ h value.
-    let keys = element_values c.args.vr c.args.key.now in
-    ap (λ (m : Matching). is_met_by_value m keys value) c.in-Equality.is ∙ equal_by_equality keys value
-
 pub returns-in-WildCard : goal.returns-in-WildCard
 returns-in-WildCard c = λ h value.
     let keys = element_values c.args.vr c.args.key.now in
