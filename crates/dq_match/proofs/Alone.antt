@@ -1,7 +1,7 @@
 -- Which keys are met alone: those that are left when what tells how a query is answered, and the
 -- date and the time of a period, are passed over.
-use Rattle.std.proofs.lemmas.Bool.{or_parts}
-use Rattle.std.proofs.Common.{◌≡◌, Bool, true, false, ◌||◌, ◌&&◌, List, [], ◌∷◌, ◌++◌, inl, inr, refl, ◌∙◌, arith}
+use Rattle.std.proofs.lemmas.Bool.{and_parts, or_parts}
+use Rattle.std.proofs.Common.{◌≡◌, Bool, true, false, ◌||◌, ◌&&◌, List, [], ◌∷◌, ◌++◌, inl, inr, refl, sym, ap, ◌∙◌, arith}
 use Rattle.std.specs.List.{list_any, list_all}
 use Rattle.dq_list.specs.Among.{IsAmong}
 use Rattle.dq_vr.specs.declared.Tag.{Tag}
@@ -14,6 +14,11 @@ use Rattle.dq_match.specs.Matching.{is_matched_elsewhere, is_start}
 pub all_pass : {X : Type 0} (p : X → Bool) (xs : List X) → ((x : X) → IsAmong x xs → p x ≡ true) → list_all p xs ≡ true
 all_pass p [] each = refl
 all_pass p (x ∷ xs) each = (λ i. each x (inl refl) i && list_all p xs) ∙ all_pass p xs (λ y h. each y (inr h))
+
+pub each_of : {X : Type 0} (p : X → Bool) (xs : List X) → list_all p xs ≡ true → (x : X) → IsAmong x xs → p x ≡ true
+each_of p (y ∷ ys) h x (inl is) = ap p (sym is) ∙ (and_parts (p y) (list_all p ys) h).0
+each_of p (y ∷ ys) h x (inr a) = each_of p ys (and_parts (p y) (list_all p ys) h).1 x a
+each_of p [] h x a = absurd a
 
 pub not_passed : (joined : Bool) (place : Place) (tag : Tag) → is_key place tag ≡ true → is_start tag ≡ false → is_matched_elsewhere place joined tag ≡ false
 not_passed true place tag is none = rw (is, none) refl

@@ -36,35 +36,23 @@ keys_known Series = refl
 keys_known Image = refl
 keys_known Entry = refl
 
-others_known : are_known other_than_keys ≡ true
+parts_known : (are_known other_than_keys ≡ true) × (are_known step_keys ≡ true) × (are_known code_keys ≡ true) × (are_known reference_keys ≡ true)
 unfolding known_vr vr_in dictionary
-others_known = refl
-
-step_known : are_known step_keys ≡ true
-unfolding known_vr vr_in dictionary
-step_known = refl
-
-code_known : are_known code_keys ≡ true
-unfolding known_vr vr_in dictionary
-code_known = refl
-
-reference_known : are_known reference_keys ≡ true
-unfolding known_vr vr_in dictionary
-reference_known = refl
+parts_known = (refl, refl, refl, refl)
 
 left_known : (list : KeyList) (tag : Tag) → leaves list tag ≡ true → is_some (known_vr tag) ≡ true
 unfolding leaves
-left_known Study tag h = among_known tag other_than_keys others_known h
-left_known Series tag h = among_known tag other_than_keys others_known h
-left_known Image tag h = among_known tag other_than_keys others_known h
-left_known Entry tag h = grind (arith, nat_tests, among_known, others_known)
+left_known Study tag h = among_known tag other_than_keys parts_known.0 h
+left_known Series tag h = among_known tag other_than_keys parts_known.0 h
+left_known Image tag h = among_known tag other_than_keys parts_known.0 h
+left_known Entry tag h = grind (arith, nat_tests, among_known, parts_known.0)
 
 supported_known : (scope : KeyScope) (tag : Tag) → is_supported scope tag ≡ true → is_some (known_vr tag) ≡ true
 unfolding is_supported
 supported_known (Identifier list) tag h = grind (arith, nat_tests, or_cases, among_known, keys_known, left_known)
-supported_known Step tag h = among_known tag step_keys step_known h
-supported_known Code tag h = among_known tag code_keys code_known h
-supported_known Reference tag h = among_known tag reference_keys reference_known h
+supported_known Step tag h = among_known tag step_keys parts_known.1 h
+supported_known Code tag h = among_known tag code_keys parts_known.2 h
+supported_known Reference tag h = among_known tag reference_keys parts_known.3 h
 supported_known Other tag h = cc
 
 mutual

@@ -31,3 +31,5 @@ pub nothing_left : (test : ℕ → Bool) (kept octets : List ℕ) → length kep
 unfolding without_trailing
 nothing_left test [] octets none same = same
 nothing_left test (x ∷ kept) octets none same = absurd (omega arith)
+
+pub ruleset name_pads = (without_trailing-push, nothing_left)

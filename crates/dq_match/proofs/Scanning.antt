@@ -35,10 +35,10 @@ after_one_rest first test text count h = by_rest (drop count text) refl h
     by_rest [] e k = cc
     by_rest (x ∷ xs) e k = ap test (drop_one count text x xs e) ∙ (and_parts (first x) (test xs) k).1
 
-pub IsAlong-more : (casing : Casing) (pattern text wanted left : List ℕ) (first octet : ℕ) (others rest : List ℕ)
+pub along_more : (casing : Casing) (pattern text wanted left : List ℕ) (first octet : ℕ) (others rest : List ℕ)
     → IsAlong casing pattern text wanted left → wanted ≡ first ∷ others → left ≡ octet ∷ rest → (first ≡ any_run → ⊥)
     → stands_for casing first octet ≡ true → IsAlong casing pattern text others rest
-IsAlong-more casing pattern text wanted left first octet others rest along is_wanted is_left differ stands =
+along_more casing pattern text wanted left first octet others rest along is_wanted is_left differ stands =
     let front : drop along.count text ≡ octet ∷ rest = sym along.behind ∙ is_left in
     record {
       count = along.count + 1;

@@ -41,10 +41,10 @@ ValueFacts levels tag vr (Items items) = IsSequence tag vr × (0 < levels) × Ar
 abbrev pub FoundFacts : ℕ → Tag → Element → Type 0
 FoundFacts levels tag e = (e.tag ≡ tag) × ValueFacts levels e.tag e.vr e.value
 
-abbrev IfFound : ℕ → Tag → Option Element → Type 0
+abbrev pub IfFound : ℕ → Tag → Option Element → Type 0
 IfFound levels tag found = IfSome found (FoundFacts levels tag)
 
-found_facts : (levels : ℕ) (last : Option Tag) (tag : Tag) (d : ElementList) → AreElements levels last d → IfFound levels tag (element_at tag d)
+pub found_facts : (levels : ℕ) (last : Option Tag) (tag : Tag) (d : ElementList) → AreElements levels last d → IfFound levels tag (element_at tag d)
 found_facts levels last tag no_elements h = tt
 found_facts levels last tag (element t v o rest) h =
     cond_both (is_tag t tag) (Some (record { tag = t; vr = v; value = Octets o })) (element_at tag rest) (IfFound levels tag)

@@ -1,7 +1,10 @@
 -- A universal key is met by every record.
-use Rattle.std.proofs.lemmas.Bool.{and_parts, or_left, or_right}
-use Rattle.std.proofs.Common.{◌≡◌, ℕ, Bool, true, false, not, cond, nat_eq, ◌==◌, ◌||◌, ◌&&◌, List, [], ◌∷◌, Option, Some, None, length, map, refl, ap, ◌∙◌, arith}
-use Rattle.std.specs.List.{list_any}
+use Rattle.std.proofs.lemmas.Bool.{cond_both, and_parts, or_cases, or_left, or_right}
+use Rattle.std.proofs.lemmas.Slice.Eq.{bytes_eq-Decides}
+use Rattle.dq_match.proofs.Alone.{each_of}
+use Rattle.dq_match.proofs.Fitting.{each_is}
+use Rattle.std.proofs.Common.{◌≡◌, ℕ, Bool, true, false, not, cond, nat_eq, ◌==◌, ◌||◌, ◌&&◌, List, [], ◌∷◌, Option, Some, None, IfSome, find, length, map, refl, ap, ◌∙◌, arith}
+use Rattle.std.specs.List.{list_any, list_all}
 use Rattle.std.proofs.lemmas.Bool.Decides.{nat_tests}
 use Rattle.dq_list.specs.Lengths.{is_empty}
 use Rattle.dq_vr.specs.declared.Tag.{Tag}
@@ -15,16 +18,16 @@ use Rattle.dq_dataset.specs.declared.data_set.Element.{Element}
 use Rattle.dq_dataset.specs.declared.data_set.Value.{Value}
 use Rattle.dq_dataset.specs.declared.data_set.Value.TheVariants.{Octets, Items}
 use Rattle.dq_dataset.specs.Tree.{ElementList, no_elements, element, sequence, ItemList, no_items, item}
-use Rattle.dq_dataset.specs.View.{list_of}
+use Rattle.dq_dataset.specs.View.{elements_of, has_tag, list_of}
 use Rattle.dq_dataset.specs.Values.{element_at, value_octets, element_octets, values_of, values_in, sole_at}
 use Rattle.dq_match.specs.declared.keys.Place.{Place}
 use Rattle.dq_vr.specs.Tags.{scheduled_procedure_step_start_date}
 use Rattle.dq_match.specs.declared.keys.Place.TheVariants.{Outer, Inner}
 use Rattle.dq_match.specs.Wildcards.{any_run}
 use Rattle.dq_match.specs.Ranges.{Bounds, range_bounds}
-use Rattle.dq_match.specs.Values.{is_asterisk, is_universal, is_same, octets_meet}
+use Rattle.dq_match.specs.Values.{is_asterisk, is_universal, octets_meet}
 use Rattle.dq_match.specs.Keys.{items_in, is_tag, is_key}
-use Rattle.dq_match.specs.Matching.{asked_days, period, is_start, is_matched_elsewhere, with_period, each_met, items_meet, all_met, fits}
+use Rattle.dq_match.specs.Matching.{asked_days, period, is_matched_elsewhere, with_period, each_met, items_meet, all_met, fits, meets}
 use Rattle.dq_match.specs.Universal.{all_universal, are_universal, has_nothing_to_meet, is_open_key, asks_nothing}
 
 -- ---- one key
@@ -34,14 +37,6 @@ unfolding octets_meet
 universal_octets vr key held h = grind (arith, nat_tests, or_left)
 
 -- ---- no period
-
-same_octet : (octet : ℕ) (others : List ℕ) → is_same (octet ∷ others) (any_run ∷ []) ≡ true → octet ∷ others ≡ any_run ∷ []
-same_octet octet [] h = ap (λ x. x ∷ []) (grind (arith, nat_tests))
-same_octet octet (x ∷ xs) h = absurd (grind (arith, nat_tests))
-
-asterisk_value : (value : List ℕ) → is_same value (any_run ∷ []) ≡ true → value ≡ any_run ∷ []
-asterisk_value [] h = absurd cc
-asterisk_value (octet ∷ others) h = same_octet octet others h
 
 no_range : {A : Type 0} (read : List ℕ → Option A) → range_bounds read (any_run ∷ []) ≡ None
 unfolding range_bounds range_ends ends_of_halves halves behind
@@ -54,14 +49,13 @@ sole_no_range : {A : Type 0} (read : List ℕ → Option A) (padded : Bool) (val
     → range_of_sole read values ≡ None
 unfolding range_of_sole
 sole_no_range read padded [] h = refl
-sole_no_range read true (value ∷ []) h = ap (range_bounds read) (asterisk_value value h) ∙ no_range read
+sole_no_range read true (value ∷ []) h = ap (range_bounds read) ((bytes_eq-Decides value (any_run ∷ [])).0 h) ∙ no_range read
 sole_no_range read false (value ∷ []) h = absurd cc
 sole_no_range read true (value ∷ (next ∷ others)) h = refl
 sole_no_range read false (value ∷ (next ∷ others)) h = refl
 
 abbrev IsUniversal : Option Element → Type 0
-IsUniversal None = Unit {0}
-IsUniversal (Some e) = is_universal e.vr (value_octets e.value) ≡ true
+IsUniversal found = IfSome found (λ e. is_universal e.vr (value_octets e.value) ≡ true)
 
 trimmed_nothing : (vr : Vr) → trimmed_value vr [] ≡ []
 unfolding trimmed_value without_padding without_leading without_trailing
@@ -81,19 +75,15 @@ nothing_universal : (vr : Vr) → is_universal vr [] ≡ true
 unfolding is_universal
 nothing_universal vr = ap (λ (values : List (List ℕ)). is_empty values || (is_padded vr && is_asterisk values)) (no_parts vr)
 
-found_by : (b : Bool) (e : Element) (others : Option Element) → is_universal e.vr (value_octets e.value) ≡ true → IsUniversal others
-    → IsUniversal (cond b (Some e) others)
-found_by true e others h k = h
-found_by false e others h k = k
-
 found_universal : (tag : Tag) (keys : ElementList) → all_universal keys ≡ true → IsUniversal (element_at tag keys)
 found_universal tag no_elements h = tt
 found_universal tag (element t v o rest) h =
     let parts = and_parts (is_universal v o) (all_universal rest) h in
-    found_by (is_tag t tag) (record { tag = t; vr = v; value = Octets o }) (element_at tag rest) parts.0 (found_universal tag rest parts.1)
+    cond_both (is_tag t tag) (Some (record { tag = t; vr = v; value = Octets o })) (element_at tag rest) IsUniversal
+    (λ is. parts.0) (λ none. found_universal tag rest parts.1)
 found_universal tag (sequence t v items rest) h =
-    found_by (is_tag t tag) (record { tag = t; vr = v; value = Items (list_of items) }) (element_at tag rest) (nothing_universal v)
-    (found_universal tag rest (and_parts (are_universal items) (all_universal rest) h).1)
+    cond_both (is_tag t tag) (Some (record { tag = t; vr = v; value = Items (list_of items) })) (element_at tag rest) IsUniversal
+    (λ is. nothing_universal v) (λ none. found_universal tag rest (and_parts (are_universal items) (all_universal rest) h).1)
 
 not_asked_by : {A : Type 0} (read : List ℕ → Option A) (vr : Vr) (value : Value) → is_universal vr (value_octets value) ≡ true
     → range_of_sole read (values_of vr value) ≡ None
@@ -149,48 +139,33 @@ nothing_to_meet vr (Items items) h = nothing_universal vr
 start_is_key : (tag : Tag) → is_tag tag scheduled_procedure_step_start_date ≡ true → is_key Outer tag ≡ true
 start_is_key tag h = grind (arith, nat_tests)
 
-found_open : (b : Bool) (e : Element) (others : Option Element) → (b ≡ true → is_key Outer e.tag ≡ true) → is_open_key e ≡ true → IsUniversal others
-    → IsUniversal (cond b (Some e) others)
-found_open true e others is h k = nothing_to_meet e.vr e.value (of_key (is_key Outer e.tag) (is refl) h)
-  where
-    of_key : (key : Bool) → key ≡ true → (not key || has_nothing_to_meet e.vr e.value) ≡ true → has_nothing_to_meet e.vr e.value ≡ true
-    of_key true is h = h
-    of_key false is h = absurd cc
-found_open false e others is h k = k
+open_key : (key : Element) → is_key Outer key.tag ≡ true → is_open_key key ≡ true → has_nothing_to_meet key.vr key.value ≡ true
+open_key key is h = grind (arith, or_cases)
 
-start_open : (keys : ElementList) → asks_nothing keys ≡ true → IsUniversal (element_at scheduled_procedure_step_start_date keys)
-start_open no_elements h = tt
-start_open (element t v o rest) h =
-    let e : Element = record { tag = t; vr = v; value = Octets o } in
-    let parts = and_parts (is_open_key e) (asks_nothing rest) h in
-    found_open (is_tag t scheduled_procedure_step_start_date) e (element_at scheduled_procedure_step_start_date rest) (start_is_key t) parts.0 (start_open rest parts.1)
-start_open (sequence t v items rest) h =
-    let e : Element = record { tag = t; vr = v; value = Items (list_of items) } in
-    let parts = and_parts (is_open_key e) (asks_nothing rest) h in
-    found_open (is_tag t scheduled_procedure_step_start_date) e (element_at scheduled_procedure_step_start_date rest) (start_is_key t) parts.0 (start_open rest parts.1)
+start_open : (keys : List Element) → list_all is_open_key keys ≡ true → IsUniversal (find (has_tag scheduled_procedure_step_start_date) keys)
+start_open [] h = tt
+start_open (key ∷ keys) h =
+    let parts = and_parts (is_open_key key) (list_all is_open_key keys) h in
+    cond_both (is_tag key.tag scheduled_procedure_step_start_date) (Some key) (find (has_tag scheduled_procedure_step_start_date) keys) IsUniversal
+    (λ is. nothing_to_meet key.vr key.value (open_key key (start_is_key key.tag is) parts.0)) (λ none. start_open keys parts.1)
 
 no_period_asked : (keys held : ElementList) → asks_nothing keys ≡ true → period keys held ≡ None
 unfolding period asked_days sole_at range_of_sole
-no_period_asked keys held h = rw (not_asked day (element_at _ keys) (start_open keys h)) refl
+no_period_asked keys held h = rw (not_asked day (element_at _ keys) (start_open (elements_of keys) h)) refl
 
-met_or_open : (key start u met : Bool) → (u ≡ true → met ≡ true) → (not key || u) ≡ true → ((not key || (false && start)) || met) ≡ true
-met_or_open false start u met is h = refl
-met_or_open true start u met is h = is h
-
-no_items_met : (items : ItemList) (vr : Vr) (held : List ElementList) → has_nothing_to_meet vr (Items (list_of items)) ≡ true → items_meet items held ≡ true
-no_items_met no_items vr held h = refl
-no_items_met (item d rest) vr held h = absurd cc
+nothing_met : (t : Tag) (v : Vr) (x : Value) (held : Option Element) → has_nothing_to_meet v x ≡ true → meets (record { tag = t; vr = v; value = x }) held ≡ true
+nothing_met t v (Octets octets) held h = universal_octets v octets (element_octets held) h
+nothing_met t v (Items []) held h = refl
+nothing_met t v (Items (d ∷ others)) held h = absurd cc
 
 each_open : (keys held : ElementList) → asks_nothing keys ≡ true → each_met keys Outer held false ≡ true
-each_open no_elements held h = refl
-each_open (element t v o rest) held h =
-    let parts = and_parts (is_open_key (record { tag = t; vr = v; value = Octets o })) (asks_nothing rest) h in
-    λ i. met_or_open (is_key Outer t) (is_start t) (is_universal v o) (octets_meet v o (element_octets (element_at t held))) (universal_octets v o (element_octets (element_at t held))) parts.0 i
-    && each_open rest held parts.1 i
-each_open (sequence t v items rest) held h =
-    let parts = and_parts (is_open_key (record { tag = t; vr = v; value = Items (list_of items) })) (asks_nothing rest) h in
-    λ i. met_or_open (is_key Outer t) (is_start t) (has_nothing_to_meet v (Items (list_of items))) (items_meet items (items_in (element_at t held))) (no_items_met items v (items_in (element_at t held))) parts.0 i
-    && each_open rest held parts.1 i
+each_open keys held h =
+    (each_is Outer held false keys).1 (λ key among alone. nothing_met key.tag key.vr key.value (element_at key.tag held)
+    (open_key key (key_alone (is_key Outer key.tag) alone) (each_of is_open_key (elements_of keys) h key among)))
+  where
+    key_alone : (is : Bool) → (not is || false) ≡ false → is ≡ true
+    key_alone true h = refl
+    key_alone false h = absurd cc
 
 pub nothing_asked : (identifier held : ElementList) → asks_nothing identifier ≡ true → fits identifier held ≡ true
 nothing_asked identifier held h =

@@ -38,6 +38,7 @@ pub fn wild_cards_fit()
 /// with its tag, and the period, if there is one, is met too (PS3.4 section C.2.2.2 and table
 /// K.6-1). A sequence key is met where one item fits the keys of its item, and where there are no
 /// items (PS3.4 section C.2.2.2.6).
+#[tactic(auto, using(crate::proofs::Fitting::fits_each))]
 pub fn keys_are_met_alone_and_as_a_period()
     ensures each { (place : Place) (keys held : ElementList)
         → (all_met place keys held ≡ true) ↔ (EachIsMet place keys held × PeriodIsMet keys held) }

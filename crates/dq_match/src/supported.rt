@@ -302,6 +302,7 @@ fn have_unsupported(scope: KeyScope, items: &[DataSet]) -> bool
 
 /// The identifier without the elements that the list does not support, inside items too, and
 /// whether there were any. What is left has tags of the data dictionary alone.
+#[tactic(auto, using(crate::proofs::KnownKeys::part_known))]
 pub fn strike(
     alloc: Global,
     identifier: &DataSet,

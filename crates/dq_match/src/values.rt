@@ -84,6 +84,7 @@ fn is_name_pad(octet: u8) -> bool
 }
 
 /// A name without the spaces and delimiters at its end.
+#[tactic(auto, using(crate::proofs::NamePads::name_pads))]
 fn name_of(octets: &[u8]) -> &[u8]
     ensures { result.now ≡ without_trailing is_name_pad octets.now }
 {

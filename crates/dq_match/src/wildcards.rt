@@ -50,6 +50,7 @@ impl Casing {
 }
 
 /// Goes along the text up to the first asterisk of the pattern.
+#[tactic(auto, using(crate::proofs::Scanning::along_more))]
 pub(crate) fn scanned<'a>(casing: Casing, pattern: &'a [u8], text: &'a [u8]) -> Scan<'a>
     ensures { IsScan casing pattern.now text.now result }
 {
@@ -77,6 +78,7 @@ pub(crate) fn scanned<'a>(casing: Casing, pattern: &'a [u8], text: &'a [u8]) -> 
 
 /// Goes along the text from one start, of which so many octets of the pattern's word are known to be
 /// there. It does not go along where the word's next octet is not there, or what is before the word.
+#[tactic(auto, using(crate::proofs::WordsInText::differs_at))]
 fn tried<'a>(
     casing: Casing,
     pattern: &'a [u8],
@@ -133,6 +135,7 @@ fn has_asterisk(pattern: &[u8]) -> bool
 }
 
 /// A pattern without an asterisk fits the end of a text after some run, or none.
+#[tactic(auto, using(crate::proofs::WordsInText::fit_at_end))]
 fn at_end<'a>(casing: Casing, pattern: &'a [u8], text: &'a [u8]) -> Scan<'a>
     requires { (k : ℕ) → k < length pattern.now → slice_index pattern.now k ≢ any_run }
     ensures { IsFirstFit casing pattern.now text.now result }

@@ -75,6 +75,7 @@ fn greatest_end(casing: Casing, word: &[u8]) -> usize
 impl Word<'_> {
     /// The word of a pattern that is looked for: an end of its first octets that stand for
     /// themselves.
+    #[tactic(auto, using(crate::proofs::WordsInText::word_is))]
     pub(crate) fn of(casing: Casing, pattern: &[u8]) -> Word
         ensures { IsWord pattern.now result.before result.octets.now }
     {

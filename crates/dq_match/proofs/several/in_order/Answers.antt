@@ -1,7 +1,6 @@
-use Rattle.dq_list.specs.Octets.{octets_of_vectors}
 use Rattle.dq_value.specs.Parts.{element_values}
 use Rattle.dq_match.specs.Several.{is_one_of_values}
-use Rattle.dq_match.proofs.SeveralValues.{one_more, all_in}
+use Rattle.dq_match.proofs.SeveralValues.{one_more}
 use Rattle.dq_match.proofs.several.in_order.Goals as goal
 
 pub loop-value-preserved : goal.loop-value-preserved

@@ -1,6 +1,5 @@
-use Rattle.std.proofs.Common.{None, arith}
+use Rattle.std.proofs.Common.{None}
 use Rattle.dq_dataset.proofs.Views.{as_elements-elements_of}
-use Rattle.dq_dataset.proofs.Copies.{value_count-element, item_count-item}
 use Rattle.dq_match.proofs.DataSets.{part_facts}
 use Rattle.dq_match.proofs.supported.+supported.Goals as goal
 

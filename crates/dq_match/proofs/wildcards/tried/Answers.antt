@@ -1,11 +1,5 @@
-use Rattle.std.proofs.Common.{◌∙◌, sym, arith}
-use Rattle.dq_match.proofs.WordsInText.{differs_at, not_all_stand}
+use Rattle.dq_match.proofs.WordsInText.{not_all_stand}
 use Rattle.dq_match.proofs.wildcards.tried.Goals as goal
-
-pub returns-then-compared : goal.returns-then-compared
-returns-then-compared c =
-    differs_at c.args.casing c.args.pattern.now c.args.word.octets.now c.args.text.now c.args.word.before c.requires.word c.args.there
-    (omega arith) (λ e. c.if-compared.true (c.compared.ensures ∙ e ∙ sym c.compared-then-there-word.ensures))
 
 pub returns-then-not-all_stand : goal.returns-then-not-all_stand
 returns-then-not-all_stand c =
