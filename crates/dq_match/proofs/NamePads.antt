@@ -19,13 +19,6 @@ unfolding without_trailing kept_before
 without_trailing-push test last [] = refl
 without_trailing-push test last (x ∷ xs) = rw (without_trailing-push test last xs) (kept_before-cond test x last xs (test last))
 
-module _ (test : ℕ → Bool) (kept octets : List ℕ) (same : without_trailing test kept ≡ without_trailing test octets) where
-  pub pad_taken : (others : List ℕ) (last : ℕ) → kept ≡ others ++ last ∷ [] → test last ≡ true → without_trailing test others ≡ without_trailing test octets
-  pad_taken others last cut pad = grind (arith, without_trailing-push)
-
-  pub no_pad_left : (others : List ℕ) (last : ℕ) → kept ≡ others ++ last ∷ [] → test last ≡ false → kept ≡ without_trailing test octets
-  no_pad_left others last cut pad = grind (arith, without_trailing-push)
-
 pub nothing_left : (test : ℕ → Bool) (kept octets : List ℕ) → length kept ≡ 0 → without_trailing test kept ≡ without_trailing test octets
     → kept ≡ without_trailing test octets
 unfolding without_trailing

@@ -13,7 +13,7 @@ use Rattle.std.proofs.lemmas.Map.Text.{is_eq-slice_cmp}
 use Rattle.std.proofs.lemmas.Slice.Eq.{bytes_eq-Decides}
 use Rattle.dq_list.specs.Octets.{octets_of_vectors}
 use Rattle.dq_match.specs.declared.wildcards.Casing.TheVariants.{Exact}
-use Rattle.dq_match.specs.declared.values.Matching.TheVariants.{WildCard, Equality}
+use Rattle.dq_match.specs.declared.values.Matching.TheVariants.{WildCard}
 use Rattle.dq_match.specs.Wildcards.{wild, after_run, after_one, stands_for, any_run, any_one}
 use Rattle.dq_match.specs.Values.{is_same}
 use Rattle.dq_match.specs.Several.{is_one_of_values, AreMetByEquality, is_plain}
@@ -47,10 +47,6 @@ plain_by_equality [] plain value = refl
 plain_by_equality (key ∷ keys) plain value =
     let parts = and_parts (is_plain key) (list_all is_plain keys) plain in
     (λ i. (plain_meets key value parts.0 ∙ same_back key value) i || plain_by_equality keys parts.1 value i)
-
-pub equal_by_equality : (keys : List (List ℕ)) → AreMetByEquality Equality keys
-equal_by_equality [] value = refl
-equal_by_equality (key ∷ keys) value = (λ i. same_back key value i || equal_by_equality keys value i)
 
 -- ---- a value that is put into a set
 
@@ -100,13 +96,6 @@ one_more value octets new before after left others whole put is first so_far =
     regroup true true c = refl
     regroup true false c = refl
     regroup false b c = refl
-
-pub all_in : (inside : Bool) (left : List (List ℕ)) (value : List ℕ) (whole : Bool) → left ≡ [] → (inside || is_one_of_values value left) ≡ whole → inside ≡ whole
-all_in inside left value whole none h = or_none inside ∙ sym (ap (λ (vs : List (List ℕ)). inside || is_one_of_values value vs) none) ∙ h
-  where
-    or_none : (b : Bool) → b ≡ (b || false)
-    or_none true = refl
-    or_none false = refl
 
 -- a look-up in the set
 pub found_in : (value : List ℕ) (set : List (Vec ℕ)) → list_any (λ (v : Vec ℕ). is_eq (slice_cmp nat_cmp value v.items)) set ≡ is_one_of_values value (octets_of_vectors set)

@@ -1,6 +1,6 @@
 -- The wild card as it is computed, and the relation by its cases.
-use Rattle.std.proofs.lemmas.Bool.{and_parts, or_right, eqb-true, eqb-false, eq-eqb}
-use Rattle.std.proofs.Common.{◌≡◌, ◌≢◌, ℕ, Bool, true, false, cond, nat_eq, ◌||◌, List, [], ◌∷◌, ◌++◌, ◌↔◌, refl, sym, ap, subst, arith}
+use Rattle.std.proofs.lemmas.Bool.{and_parts, or_cases, or_right, eqb-true, eqb-false, eq-eqb}
+use Rattle.std.proofs.Common.{◌≡◌, ◌≢◌, ℕ, Bool, true, false, cond, nat_eq, ◌||◌, List, [], ◌∷◌, ◌++◌, ◌↔◌, inl, inr, refl, sym, ap, subst, arith}
 use Rattle.std.proofs.lemmas.Bool.Decides.{nat_tests}
 use Rattle.dq_match.specs.declared.wildcards.Casing.{Casing}
 use Rattle.dq_match.specs.Wildcards.{FitsPattern, ended, run, one, itself, wild, after_run, after_one, stands_for, same, compared_octet, any_run, any_one}
@@ -13,16 +13,14 @@ pub record Left (test : List ℕ → Bool) (text : List ℕ) : Type 0 where
   pub whole : text ≡ before ++ after
   pub passes : test after ≡ true
 
-left_by : (b : Bool) (test : List ℕ → Bool) (octet : ℕ) (others : List ℕ) → test (octet ∷ others) ≡ b → (after_run test others ≡ true → Left test others)
-    → (b || after_run test others) ≡ true → Left test (octet ∷ others)
-left_by true test octet others here later h = record { before = []; after = octet ∷ others; whole = refl; passes = here }
-left_by false test octet others here later h =
-    let rest = later h in
-    record { before = octet ∷ rest.before; after = rest.after; whole = ap (λ (xs : List ℕ). octet ∷ xs) rest.whole; passes = rest.passes }
-
 left_of : (test : List ℕ → Bool) (text : List ℕ) → after_run test text ≡ true → Left test text
 left_of test [] h = record { before = []; after = []; whole = refl; passes = h }
-left_of test (octet ∷ others) h = left_by (test (octet ∷ others)) test octet others refl (λ k. left_of test others k) h
+left_of test (octet ∷ others) h =
+    elim (or_cases (test (octet ∷ others)) (after_run test others) h) [
+      | inl here ↦ record { before = []; after = octet ∷ others; whole = refl; passes = here }
+      | inr later ↦ let rest = left_of test others later in
+          record { before = octet ∷ rest.before; after = rest.after; whole = ap (λ (xs : List ℕ). octet ∷ xs) rest.whole; passes = rest.passes }
+    ]
 
 run_from : (test : List ℕ → Bool) (before after : List ℕ) → test after ≡ true → after_run test (before ++ after) ≡ true
 run_from test [] after h = after_run-here test after h

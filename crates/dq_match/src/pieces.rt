@@ -15,12 +15,10 @@ fn piece_length(pattern: &[u8]) -> usize
     ensures within { result ≤ length pattern.now }
     ensures no_run { (k : ℕ) → k < result → slice_index pattern.now k ≢ any_run }
 {
-    for (at, octet) in pattern.iter().enumerate() {
-        if *octet == b'*' {
-            return at;
-        }
-    }
-    pattern.len()
+    pattern
+        .iter()
+        .position(|octet| *octet == b'*')
+        .unwrap_or(pattern.len())
 }
 
 /// Rules out the starts behind which an octet of a piece does not stand for the text's.
@@ -43,12 +41,7 @@ fn ruled_out(starts: &[bool]) -> usize
     ensures within { result ≤ length starts.now }
     ensures each { (t : ℕ) → t < result → is_open starts.now t ≡ false }
 {
-    for (at, open) in starts.iter().enumerate() {
-        if *open {
-            return at;
-        }
-    }
-    starts.len()
+    starts.iter().position(|open| *open).unwrap_or(starts.len())
 }
 
 /// How many starts of the text, of its first 128, are before the first at which the piece may stand.

@@ -56,6 +56,7 @@ impl Matching {
     }
 
     /// Whether each value of the key is met by equality.
+    #[tactic(auto, using(crate::proofs::SeveralValues::plain_by_equality))]
     pub(crate) fn is_by_equality(self, vr: Vr, key: &[u8]) -> bool
         ensures { result ≡ true → AreMetByEquality self (element_values vr key.now) }
     {

@@ -24,12 +24,10 @@ fn any_ones(pattern: &[u8]) -> usize
     ensures within { result ≤ length pattern.now }
     ensures each { (k : ℕ) → k < result → slice_index pattern.now k ≡ any_one }
 {
-    for (at, octet) in pattern.iter().enumerate() {
-        if *octet != b'?' {
-            return at;
-        }
-    }
-    pattern.len()
+    pattern
+        .iter()
+        .position(|octet| *octet != b'?')
+        .unwrap_or(pattern.len())
 }
 
 /// How many octets at a pattern's front stand for themselves.
@@ -38,15 +36,10 @@ fn plain_octets(pattern: &[u8]) -> usize
     ensures no_run { (k : ℕ) → k < result → slice_index pattern.now k ≢ any_run }
     ensures no_one { (k : ℕ) → k < result → slice_index pattern.now k ≢ any_one }
 {
-    for (at, octet) in pattern.iter().enumerate() {
-        if *octet == b'*' {
-            return at;
-        }
-        if *octet == b'?' {
-            return at;
-        }
-    }
-    pattern.len()
+    pattern
+        .iter()
+        .position(|octet| *octet == b'*' || *octet == b'?')
+        .unwrap_or(pattern.len())
 }
 
 /// Whether no `?` is behind the first octets that stand for themselves, up to the next asterisk.

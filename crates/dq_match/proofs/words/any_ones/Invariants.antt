@@ -1,6 +1,0 @@
-use Rattle.std.proofs.Common.{◌≡◌, ℕ, ◌<◌, get_or}
-use Rattle.dq_match.specs.Wildcards.{any_one}
-use Rattle.dq_match.proofs.words.any_ones.Given as goal
-
-abbrev pub invariant-loop-at : goal.invariant-loop-at
-invariant-loop-at l = (k : ℕ) → k < l.at → get_or l.pattern k 0 ≡ any_one
