@@ -36,11 +36,13 @@ mutual
   part_facts scope levels last no_elements h = tt
   part_facts scope levels last (element t v o rest) h =
       let others = part_facts scope levels (Some t) rest h.2 in
-      cond_both (is_supported scope t) (element t v o (supported_part scope rest)) (supported_part scope rest) (λ d. AreElements levels last d)
+      cond_both (is_supported scope t) (element t v o (supported_part scope rest)) (supported_part scope rest)
+      (λ d. AreElements levels last d)
       (λ is. (h.0, h.1, others)) (λ none. after_earlier levels last t (supported_part scope rest) h.0.rises others)
   part_facts scope levels last (sequence t v items rest) h =
       let others = part_facts scope levels (Some t) rest h.4 in
-      cond_both (is_supported scope t) (sequence t v (supported_items (below scope t) items) (supported_part scope rest)) (supported_part scope rest)
+      cond_both (is_supported scope t) (sequence t v (supported_items (below scope t) items) (supported_part scope rest))
+      (supported_part scope rest)
       (λ d. AreElements levels last d)
       (λ is. (h.0, h.1, h.2, items_facts (below scope t) (levels - 1) items h.3, others))
       (λ none. after_earlier levels last t (supported_part scope rest) h.0.rises others)

@@ -29,20 +29,24 @@ either_way true met h = refl
 either_way false met h = h refl
 
 module _ (place : Place) (held : ElementList) (joined : Bool) where
-  first_met : (key : Element) (rest : List Element) → (is_matched_elsewhere place joined key.tag || meets key (element_at key.tag held)) ≡ true
+  first_met : (key : Element) (rest : List Element)
+      → (is_matched_elsewhere place joined key.tag || meets key (element_at key.tag held)) ≡ true
       → AllAreMet place held joined rest → AllAreMet place held joined (key ∷ rest)
   first_met key rest here later wanted (inl is) = grind (arith, or_cases)
   first_met key rest here later wanted (inr h) = later wanted h
 
-  each_step : (t : Tag) (v : Vr) (x : Value) (rest : ElementList) → each_met (with_value (record { tag = t; vr = v; value = x }) x rest) place held joined
-      ≡ ((is_matched_elsewhere place joined t || meets (record { tag = t; vr = v; value = x }) (element_at t held)) && each_met rest place held joined)
+  each_step : (t : Tag) (v : Vr) (x : Value) (rest : ElementList)
+      → each_met (with_value (record { tag = t; vr = v; value = x }) x rest) place held joined
+      ≡ ((is_matched_elsewhere place joined t || meets (record { tag = t; vr = v; value = x })
+      (element_at t held)) && each_met rest place held joined)
   each_step t v (Octets octets) rest = refl
   each_step t v (Items items) rest = refl
 
   each_from : (keys : List Element) → each_met (as_elements keys) place held joined ≡ true → AllAreMet place held joined keys
   each_from [] h = λ key none. absurd none
   each_from (key ∷ keys) h =
-      let parts = and_parts (is_matched_elsewhere place joined key.tag || meets key (element_at key.tag held)) (each_met (as_elements keys) place held joined)
+      let parts = and_parts (is_matched_elsewhere place joined key.tag || meets key (element_at key.tag held))
+      (each_met (as_elements keys) place held joined)
       (sym (each_step key.tag key.vr key.value (as_elements keys)) ∙ h) in
       first_met key keys parts.0 (each_from keys parts.1)
 
@@ -50,13 +54,15 @@ module _ (place : Place) (held : ElementList) (joined : Bool) where
   each_to [] all = refl
   each_to (key ∷ keys) all =
       each_step key.tag key.vr key.value (as_elements keys)
-      ∙ and_from (is_matched_elsewhere place joined key.tag || meets key (element_at key.tag held)) (each_met (as_elements keys) place held joined)
+      ∙ and_from (is_matched_elsewhere place joined key.tag || meets key (element_at key.tag held))
+      (each_met (as_elements keys) place held joined)
       (either_way (is_matched_elsewhere place joined key.tag) (meets key (element_at key.tag held)) (all key (inl refl)))
       (each_to keys (λ other h. all other (inr h)))
 
   pub each_is : (keys : ElementList) → (each_met keys place held joined ≡ true) ↔ AllAreMet place held joined (elements_of keys)
   each_is keys =
-      subst (λ (d : ElementList). (each_met d place held joined ≡ true) ↔ AllAreMet place held joined (elements_of keys)) (as_elements-elements_of keys)
+      subst (λ (d : ElementList). (each_met d place held joined ≡ true) ↔ AllAreMet place held joined (elements_of keys))
+      (as_elements-elements_of keys)
       (each_from (elements_of keys), each_to (elements_of keys))
 
 -- ---- and the period
@@ -87,7 +93,8 @@ item_to test d [] h is = absurd h
 item_to test d (e ∷ es) (inl same) is = or_left (test e) (list_any test es) (ap test same ∙ is)
 item_to test d (e ∷ es) (inr h) is = or_right (test e) (list_any test es) (item_to test d es h is)
 
-pub fits_item : (keys : ElementList) (items : List ElementList) → ((is_empty items || list_any (all_met Inner keys) items) ≡ true) ↔ SomeItemFits keys items
+pub fits_item : (keys : ElementList) (items : List ElementList) → ((is_empty items || list_any (all_met Inner keys) items) ≡ true)
+    ↔ SomeItemFits keys items
 fits_item keys [] = (λ h. inl refl, λ some. refl)
 fits_item keys (d ∷ ds) = (λ h. inr (item_from (all_met Inner keys) (d ∷ ds) h), some_item)
   where

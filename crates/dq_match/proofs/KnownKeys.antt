@@ -36,7 +36,8 @@ keys_known Series = refl
 keys_known Image = refl
 keys_known Entry = refl
 
-parts_known : (are_known other_than_keys ≡ true) × (are_known step_keys ≡ true) × (are_known code_keys ≡ true) × (are_known reference_keys ≡ true)
+parts_known : (are_known other_than_keys ≡ true) × (are_known step_keys ≡ true) × (are_known code_keys ≡ true)
+    × (are_known reference_keys ≡ true)
 unfolding known_vr vr_in dictionary
 parts_known = (refl, refl, refl, refl)
 
@@ -62,7 +63,8 @@ mutual
       cond_both (is_supported scope t) (element t v o (supported_part scope rest)) (supported_part scope rest) HasKnownTags
       (λ h. (supported_known scope t h, part_known scope rest)) (λ none. part_known scope rest)
   part_known scope (sequence t v items rest) =
-      cond_both (is_supported scope t) (sequence t v (supported_items (below scope t) items) (supported_part scope rest)) (supported_part scope rest)
+      cond_both (is_supported scope t) (sequence t v (supported_items (below scope t) items) (supported_part scope rest))
+      (supported_part scope rest)
       HasKnownTags
       (λ h. (supported_known scope t h, items_known (below scope t) items, part_known scope rest)) (λ none. part_known scope rest)
 

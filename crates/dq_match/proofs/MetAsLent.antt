@@ -62,12 +62,14 @@ found : (levels : ℕ) (last : Option Tag) (d : ElementList) → AreElements lev
     → element_at e.tag d ≡ Some e
 found levels last no_elements h e a = absurd a
 found levels last (element t v o rest) h e (inl is) =
-    cond-true (is_tag t e.tag) _ (find (has_tag e.tag) (elements_of rest)) (subst (λ (k : Element). is_tag t k.tag ≡ true) is (itself t)) ∙ ap Some is
+    cond-true (is_tag t e.tag) _ (find (has_tag e.tag) (elements_of rest)) (subst (λ (k : Element). is_tag t k.tag ≡ true) is (itself t))
+    ∙ ap Some is
 found levels last (element t v o rest) h e (inr a) =
     cond-false (is_tag t e.tag) _ (find (has_tag e.tag) (elements_of rest)) (not_itself t e.tag (all_above levels (Some t) rest h.2 e a))
     ∙ found levels (Some t) rest h.2 e a
 found levels last (sequence t v items rest) h e (inl is) =
-    cond-true (is_tag t e.tag) _ (find (has_tag e.tag) (elements_of rest)) (subst (λ (k : Element). is_tag t k.tag ≡ true) is (itself t)) ∙ ap Some is
+    cond-true (is_tag t e.tag) _ (find (has_tag e.tag) (elements_of rest)) (subst (λ (k : Element). is_tag t k.tag ≡ true) is (itself t))
+    ∙ ap Some is
 found levels last (sequence t v items rest) h e (inr a) =
     cond-false (is_tag t e.tag) _ (find (has_tag e.tag) (elements_of rest)) (not_itself t e.tag (all_above levels (Some t) rest h.4 e a))
     ∙ found levels (Some t) rest h.4 e a
@@ -79,7 +81,8 @@ no_sequence vr octets seq plain =
     let none : false ≡ true = ap (λ (v : Vr). are_the_value v octets) (sym seq) ∙ plain in cc
 
 -- the value of an element that is no sequence, and even, is what is lent
-lent_value : (x : Spelled) (e : Element) (v : Value) → e.value ≡ v → IsLentValue x v → ValueFacts 16 e.tag x.vr v → are_the_value x.vr x.octets ≡ true
+lent_value : (x : Spelled) (e : Element) (v : Value) → e.value ≡ v → IsLentValue x v → ValueFacts 16 e.tag x.vr v
+    → are_the_value x.vr x.octets ≡ true
     → element_octets (Some e) ≡ x.octets
 lent_value x e (Octets held) is lent seq plain = grind (arith, nat_tests, and_parts, cond-true)
 lent_value x e (Items items) is lent seq plain = absurd (no_sequence x.vr x.octets seq.0.is_sq plain)
@@ -103,13 +106,15 @@ module _ (later : List Tag) (d : ElementList) (facts : IsDataSet d) where
       let meets_it : meets key (Some e) ≡ true = ap (meets key) (sym at) ∙ sym (ap (λ (b : Bool). b || meets key (element_at key.tag d)) left) ∙ met in
       (λ i. not (tag i && not (left i)) || value_asked key.value key.vr x.octets)
       ∙ asked later x key key.value e
-      (lent_value x e e.value refl lent.value (subst (λ (vr : Vr). ValueFacts 16 e.tag vr e.value) (sym lent.vr) (facts_at e among)) plain) meets_it
+      (lent_value x e e.value refl lent.value (subst (λ (vr : Vr). ValueFacts 16 e.tag vr e.value) (sym lent.vr)
+      (facts_at e among)) plain) meets_it
 
   one_by : (x : Spelled) (e : Element) (keys : List Element) → IsLent x e → IsAmong e (elements_of d) → list_all (is_met_at_once later d) keys ≡ true
       → (b : Bool) → are_the_value x.vr x.octets ≡ b → meets_keys later keys x ≡ true
   one_by x e keys lent among met true plain =
       (λ i. not (plain i) || list_all (is_met_by later x) keys)
-      ∙ all_pass (is_met_by later x) keys (λ key a. met_by x e key lent among plain (each_of (is_met_at_once later d) keys met key a) _ _ refl refl)
+      ∙ all_pass (is_met_by later x) keys (λ key a. met_by x e key lent among plain
+      (each_of (is_met_at_once later d) keys met key a) _ _ refl refl)
   one_by x e keys lent among met false plain = (λ i. not (plain i) || list_all (is_met_by later x) keys)
 
   each_by : (keys : List Element) → list_all (is_met_at_once later d) keys ≡ true → (xs : List (Result Spelled ReadFault)) (es : List Element) → Lends xs es []

@@ -44,7 +44,8 @@ FoundFacts levels tag e = (e.tag ≡ tag) × ValueFacts levels e.tag e.vr e.valu
 abbrev pub IfFound : ℕ → Tag → Option Element → Type 0
 IfFound levels tag found = IfSome found (FoundFacts levels tag)
 
-pub found_facts : (levels : ℕ) (last : Option Tag) (tag : Tag) (d : ElementList) → AreElements levels last d → IfFound levels tag (element_at tag d)
+pub found_facts : (levels : ℕ) (last : Option Tag) (tag : Tag) (d : ElementList) → AreElements levels last d
+    → IfFound levels tag (element_at tag d)
 found_facts levels last tag no_elements h = tt
 found_facts levels last tag (element t v o rest) h =
     cond_both (is_tag t tag) (Some (record { tag = t; vr = v; value = Octets o })) (element_at tag rest) (IfFound levels tag)
@@ -119,7 +120,8 @@ mutual
   items_shown_facts (item keys others) levels held h k =
       cond_both (has_no_elements keys) held (map (λ d. shown_keys keys Inner d) (filter (λ d. all_met Inner keys d) held))
       (λ its. AreItems levels (items_of its)) (λ none. k)
-      (λ some. cut_facts levels (λ d. shown_keys keys Inner d) (λ d. all_met Inner keys d) held (λ d. shown_facts keys levels None Inner d h.0) k)
+      (λ some. cut_facts levels (λ d. shown_keys keys Inner d) (λ d. all_met Inner keys d) held
+      (λ d. shown_facts keys levels None Inner d h.0) k)
 
 pub shown_is_data_set : (keys : ElementList) (place : Place) (held : ElementList) → IsDataSet keys → IsDataSet held → IsDataSet (shown_keys keys place held)
 shown_is_data_set keys place held h k = shown_facts keys 16 None place held h k
@@ -141,7 +143,8 @@ above_all : (listed : List Entry) (tag : Tag) → list_all (λ entry. is_below s
 unfolding vr_in
 above_all [] tag h k = absurd cc
 above_all (entry ∷ others) tag h k =
-    let parts = and_parts (is_below specific_character_set entry.0) (list_all (λ entry. is_below specific_character_set entry.0) others) h in
+    let parts = and_parts (is_below specific_character_set entry.0)
+    (list_all (λ entry. is_below specific_character_set entry.0) others) h in
     above_by (is_tag entry.0 tag) entry.0 tag entry.1 (vr_in others tag) refl parts.0 (λ known. above_all others tag parts.1 known) k
 
 rest_above : list_all (λ entry. is_below specific_character_set entry.0) (others_of dictionary) ≡ true
@@ -167,7 +170,8 @@ placed_above : (last : Option Tag) (tag : Tag) → IsElementTag last tag → is_
     → IsElementTag (Some specific_character_set) tag
 placed_above last tag placed above = grind arith
 
-keys_above : (keys : ElementList) → HasKnownTags keys → list_all (is_below specific_character_set) (filter (is_key Outer) (tags_of keys)) ≡ true
+keys_above : (keys : ElementList) → HasKnownTags keys
+    → list_all (is_below specific_character_set) (filter (is_key Outer) (tags_of keys)) ≡ true
 keys_above no_elements known = refl
 keys_above (element t v o rest) known = tag_above t (filter (is_key Outer) (tags_of rest)) known.0 (keys_above rest known.1)
 keys_above (sequence t v items rest) known = tag_above t (filter (is_key Outer) (tags_of rest)) known.0 (keys_above rest known.2)
@@ -176,7 +180,12 @@ keys_above (sequence t v items rest) known = tag_above t (filter (is_key Outer) 
 after_set : (last : Option Tag) (d : ElementList) → AreElements 16 last d → list_all (is_below specific_character_set) (tags_of d) ≡ true
     → AreElements 16 (Some specific_character_set) d
 after_set last no_elements h above = tt
-after_set last (element t v o rest) h above = (placed_above last t h.0 (and_parts _ (list_all (is_below specific_character_set) (tags_of rest)) above).0, h.1, h.2)
+after_set last (element t v o rest) h above = (
+  placed_above last t h.0
+      (and_parts _ (list_all (is_below specific_character_set) (tags_of rest)) above).0,
+  h.1,
+  h.2,
+)
 after_set last (sequence t v items rest) h above =
     (placed_above last t h.0 (and_parts _ (list_all (is_below specific_character_set) (tags_of rest)) above).0, h.1, h.2, h.3, h.4)
 
@@ -189,7 +198,8 @@ shown_after_set keys held h known k =
 set_facts : (found : Option Element) → IfFound 16 specific_character_set found → IfFound 16 specific_character_set (unless_empty found)
 set_facts None h = tt
 set_facts (Some e) h =
-    cond_both (is_empty (element_values e.vr (element_octets (Some e)))) None (Some e) (IfFound 16 specific_character_set) (λ none. tt) (λ some. h)
+    cond_both (is_empty (element_values e.vr (element_octets (Some e)))) None (Some e) (IfFound 16 specific_character_set) (λ none. tt)
+    (λ some. h)
 
 first_facts : (first : Option Element) (rest : ElementList) → IfFound 16 specific_character_set first → IsDataSet rest
     → AreElements 16 (Some specific_character_set) rest → IsDataSet (put_first first rest)
@@ -258,7 +268,8 @@ pub keys_show : (identifier held : ElementList) → elements_of (shown_data_set 
 unfolding shown_data_set
 keys_show identifier held =
     first_shown (character_set held) (shown_keys identifier Outer held)
-    ∙ ap (λ (d : ElementList). before (character_set held) (elements_of (shown_keys d Outer held))) (sym (as_elements-elements_of identifier))
+    ∙ ap (λ (d : ElementList). before (character_set held) (elements_of (shown_keys d Outer held)))
+    (sym (as_elements-elements_of identifier))
     ∙ ap (before (character_set held)) (each_shown (elements_of identifier) Outer held)
 
 pub plain_whole : (key found : Element) → cut_keys key.value ≡ None → shown_element key (Some found) ≡ found

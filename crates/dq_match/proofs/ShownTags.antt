@@ -24,7 +24,8 @@ HasTag tag found = IfSome found (λ e. e.tag ≡ tag)
 
 found_tag : (tag : Tag) (es : List Element) → HasTag tag (find (has_tag tag) es)
 found_tag tag [] = tt
-found_tag tag (e ∷ es) = cond_both (is_tag e.tag tag) (Some e) (find (has_tag tag) es) (HasTag tag) (same_tag e.tag tag) (λ none. found_tag tag es)
+found_tag tag (e ∷ es) = cond_both (is_tag e.tag tag) (Some e) (find (has_tag tag) es) (HasTag tag) (same_tag e.tag tag)
+    (λ none. found_tag tag es)
 
 put_tag : (t : Tag) (v : Vr) (x : Value) (rest : ElementList) → tags_of (with_value (record { tag = t; vr = v; value = x }) x rest) ≡ t ∷ tags_of rest
 put_tag t v (Octets o) rest = refl
@@ -43,7 +44,8 @@ tags_by : (b : Bool) (tag : Tag) (e : Element) (rest : ElementList) (tags : List
 tags_by true tag e rest tags same h = put_tag e.tag e.vr e.value rest ∙ (λ i. same i ∷ h i)
 tags_by false tag e rest tags same h = h
 
-pub keys_shown : (keys : ElementList) (place : Place) (held : ElementList) → tags_of (shown_keys keys place held) ≡ filter (is_key place) (tags_of keys)
+pub keys_shown : (keys : ElementList) (place : Place) (held : ElementList)
+    → tags_of (shown_keys keys place held) ≡ filter (is_key place) (tags_of keys)
 keys_shown no_elements place held = refl
 keys_shown (element t v o rest) place held = grind (arith, tags_by, empty_tag, found_tag, keys_shown rest place held)
 keys_shown (sequence t v items rest) place held =
@@ -52,7 +54,8 @@ keys_shown (sequence t v items rest) place held =
 set_tag : (found : Option Element) → HasTag specific_character_set found → HasTag specific_character_set (unless_empty found)
 set_tag None h = tt
 set_tag (Some e) h =
-    cond_both (is_empty (element_values e.vr (element_octets (Some e)))) None (Some e) (HasTag specific_character_set) (λ none. tt) (λ some. h)
+    cond_both (is_empty (element_values e.vr (element_octets (Some e)))) None (Some e) (HasTag specific_character_set) (λ none. tt)
+    (λ some. h)
 
 first_tags : (first : Option Element) (rest : ElementList) → HasTag specific_character_set first
     → tags_of (put_first first rest) ≡ set_tags first (tags_of rest)

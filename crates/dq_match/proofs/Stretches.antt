@@ -16,7 +16,8 @@ module _ (s : ℕ → ℕ) (matched period repeated : ℕ) (stretch : IsStretch 
             let one : k + (shift + period) ≡ (k + shift) + period = omega arith in
             ap s one ∙ stretch.repeats (k + shift) (omega arith)
 
-        by_place : (less.place + (shift + period) ≡ matched) ⊎ ((less.place + (shift + period) < matched) ⊎ (matched < less.place + (shift + period)))
+        by_place : (less.place + (shift + period) ≡ matched) ⊎
+            ((less.place + (shift + period) < matched) ⊎ (matched < less.place + (shift + period)))
             → IsLower s (shift + period) (matched + 1)
         by_place (inr (inl sooner)) = record {
           place = less.place;

@@ -13,10 +13,12 @@ mutual
   pub nothing_left : (scope : KeyScope) (d : ElementList) → has_unsupported scope (supported_part scope d) ≡ false
   nothing_left scope no_elements = refl
   nothing_left scope (element t v o rest) =
-      cond_both (is_supported scope t) (element t v o (supported_part scope rest)) (supported_part scope rest) (λ d. has_unsupported scope d ≡ false)
+      cond_both (is_supported scope t) (element t v o (supported_part scope rest)) (supported_part scope rest)
+      (λ d. has_unsupported scope d ≡ false)
       (λ h. λ i. not (h i) || nothing_left scope rest i) (λ none. nothing_left scope rest)
   nothing_left scope (sequence t v items rest) =
-      cond_both (is_supported scope t) (sequence t v (supported_items (below scope t) items) (supported_part scope rest)) (supported_part scope rest)
+      cond_both (is_supported scope t) (sequence t v (supported_items (below scope t) items) (supported_part scope rest))
+      (supported_part scope rest)
       (λ d. has_unsupported scope d ≡ false)
       (λ h. λ i. (not (h i) || nothing_left_inside (below scope t) items i) || nothing_left scope rest i) (λ none. nothing_left scope rest)
 

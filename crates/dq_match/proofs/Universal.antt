@@ -142,18 +142,21 @@ start_is_key tag h = grind (arith, nat_tests)
 open_key : (key : Element) → is_key Outer key.tag ≡ true → is_open_key key ≡ true → has_nothing_to_meet key.vr key.value ≡ true
 open_key key is h = grind (arith, or_cases)
 
-start_open : (keys : List Element) → list_all is_open_key keys ≡ true → IsUniversal (find (has_tag scheduled_procedure_step_start_date) keys)
+start_open : (keys : List Element) → list_all is_open_key keys ≡ true
+    → IsUniversal (find (has_tag scheduled_procedure_step_start_date) keys)
 start_open [] h = tt
 start_open (key ∷ keys) h =
     let parts = and_parts (is_open_key key) (list_all is_open_key keys) h in
-    cond_both (is_tag key.tag scheduled_procedure_step_start_date) (Some key) (find (has_tag scheduled_procedure_step_start_date) keys) IsUniversal
+    cond_both (is_tag key.tag scheduled_procedure_step_start_date) (Some key)
+    (find (has_tag scheduled_procedure_step_start_date) keys) IsUniversal
     (λ is. nothing_to_meet key.vr key.value (open_key key (start_is_key key.tag is) parts.0)) (λ none. start_open keys parts.1)
 
 no_period_asked : (keys held : ElementList) → asks_nothing keys ≡ true → period keys held ≡ None
 unfolding period asked_days sole_at range_of_sole
 no_period_asked keys held h = rw (not_asked day (element_at _ keys) (start_open (elements_of keys) h)) refl
 
-nothing_met : (t : Tag) (v : Vr) (x : Value) (held : Option Element) → has_nothing_to_meet v x ≡ true → meets (record { tag = t; vr = v; value = x }) held ≡ true
+nothing_met : (t : Tag) (v : Vr) (x : Value) (held : Option Element) → has_nothing_to_meet v x ≡ true
+    → meets (record { tag = t; vr = v; value = x }) held ≡ true
 nothing_met t v (Octets octets) held h = universal_octets v octets (element_octets held) h
 nothing_met t v (Items []) held h = refl
 nothing_met t v (Items (d ∷ others)) held h = absurd cc

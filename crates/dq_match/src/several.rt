@@ -20,12 +20,7 @@ fn is_plain_octet(octet: u8) -> bool
 pub fn is_plain(value: &[u8]) -> bool
     ensures { result ≡ is_plain value.now }
 {
-    for octet in value {
-        if !is_plain_octet(*octet) {
-            return false;
-        }
-    }
-    true
+    value.iter().all(|octet| is_plain_octet(*octet))
 }
 
 /// Whether no value has a wild card.

@@ -22,7 +22,8 @@ decreases-shown_items l = 4 * item_count l.keys.now + 3
 
 abbrev pub invariant-shown_keys-loop-key : goal.invariant-shown_keys-loop-key
 invariant-shown_keys-loop-key l =
-    l.shown.items ≡ map (λ key. shown_element key (find (has_tag key.tag) l.held)) (filter (λ key. is_key l.place key.tag) (take l.key-index l.keys))
+    l.shown.items ≡ map (λ key. shown_element key (find (has_tag key.tag) l.held))
+    (filter (λ key. is_key l.place key.tag) (take l.key-index l.keys))
 
 abbrev pub invariant-shown_items-loop-item : goal.invariant-shown_items-loop-item
 invariant-shown_items-loop-item l =
