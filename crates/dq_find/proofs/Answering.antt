@@ -1,24 +1,23 @@
 -- The answers of one row after the other, and what is not computed where no key asks for it.
-use Rattle.std.proofs.Common.{◌≡◌, ℕ, Bool, true, false, cond, ◌||◌, List, [], ◌∷◌, Option, Some, None, option_map, is_some, Result, refl, sym, ap, ◌∙◌, arith}
-use Rattle.std.specs.List.{list_any}
+use Rattle.std.proofs.Common.{◌≡◌, ℕ, Bool, true, false, cond, ◌||◌, List, [], ◌∷◌, Option, Some, None, option_map, is_some, refl, sym, ◌∙◌, arith}
+use Rattle.std.specs.List.{list_any, filter_map}
 use Rattle.std.proofs.lemmas.Bool.Decides.{nat_tests}
 use Rattle.dq_vr.specs.declared.Tag.{Tag}
 use Rattle.dq_vr.specs.Tags as tags
 use Rattle.dq_dataset.specs.declared.data_set.Element.{Element}
-use Rattle.dq_dataset.specs.declared.header.Syntax.{Syntax}
 use Rattle.dq_dataset.specs.declared.data_set.Value.TheVariants.{Octets, Items}
 use Rattle.dq_dataset.specs.Tree.{ElementList, no_elements, element, sequence}
 use Rattle.dq_dataset.specs.View.{elements_of, has_tag, list_of}
 use Rattle.dq_dataset.specs.Editing.{merged_data_set}
 use Rattle.dq_dataset.specs.Values.{element_at}
 use Rattle.dq_match.specs.Keys.{is_tag}
-use Rattle.dq_dimse.specs.Received.{Message}
-use Rattle.dq_tables.specs.Rows.{Record}
+use Rattle.dq_tables.specs.declared.row.Row.{Row}
+use Rattle.dq_tables.specs.Rows.{Record, record_of}
 use Rattle.dq_find.specs.declared.level.Level.{Level}
 use Rattle.dq_find.specs.declared.level.Level.TheVariants.{Study, Series, Image}
 use Rattle.dq_find.specs.declared.query.Query.{Query}
 use Rattle.dq_find.specs.Computed.{study_values, series_values, computed_keys}
-use Rattle.dq_find.specs.Queries.{answer_elements, answer_if, asks_computed, message_query, found_by, query_outcome}
+use Rattle.dq_find.specs.Queries.{answer_elements, answer_if, record_answer, asks_computed}
 use Rattle.dq_find.proofs.Completing.{element_stays}
 use Rattle.dq_find.proofs.Agreeing.{Agree, fits_alike, shown_alike}
 
@@ -104,9 +103,6 @@ answered_alike records called key query held h =
     let show = shown_alike query.keys (merged_data_set held sent) held agree (stays records query.level key held tags.specific_character_set refl) in
     sym (λ i. option_map (answer_elements called query) (cond (fit i) (Some (show i)) None))
 
--- ---- what is found
-
-pub outcome_of : (records : List Record) (called : List ℕ) (message : Message) (syntax : Syntax) (asked : Result Query ℕ) → asked ≡ message_query message syntax
-    → query_outcome records called message syntax ≡ found_by records called asked
-unfolding query_outcome
-outcome_of records called message syntax asked is = ap (found_by records called) (sym is)
+-- the answers of some rows
+abbrev pub row_answers : List Record → List ℕ → Query → List Row → List ElementList
+row_answers records called query rows = filter_map (λ (row : Row). record_answer records called query (record_of row)) rows

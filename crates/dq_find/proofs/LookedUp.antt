@@ -46,7 +46,7 @@ use Rattle.dq_find.specs.Computed.{with_computed, computed_keys, value_inserted,
 use Rattle.dq_find.specs.Queries.{key_above, answer_elements, record_answer, answers_of_records, asked_records}
 use Rattle.dq_find.specs.Candidates.{own_values, names_records, looks_up, has_one_of, query_candidates, is_under, under, looked_up, named_record, named_rows}
 use Rattle.dq_find.proofs.Answered.{IsUnder, asked_from, asked_to, asked_in_order}
-use Rattle.dq_find.proofs.Answering.{stays}
+use Rattle.dq_find.proofs.Answering.{row_answers, stays}
 use Rattle.dq_find.proofs.Asked.{has_own, EachAlone}
 use Rattle.dq_find.proofs.Naming.{unique_keys_are_uids, sole_of_uid, named_among}
 use Rattle.dq_tables.proofs.Taken.{DaysAreInOrder}
@@ -435,15 +435,11 @@ module _ (institution : List ℕ) (rows : List Row) (called : List ℕ) (query :
   skipped = grind (arith, given_skipped, not_looked_at)
 
 -- what is answered of the rows that are looked at
-pub answered_of_candidates : (institution : List ℕ) (rows : List Row) (called : List ℕ) (query : Query) (found seen : List Row) (answered : List ElementList)
-    → IsSound rows → IsDataSet query.keys → EachAlone query.keys → DaysAreInOrder
-    → found ≡ map (row_of institution) (query_candidates (of institution rows) query) → seen ≡ found
-    → answered ≡ filter_map (λ (row : Row). record_answer (of institution rows) called query (record_of row)) seen
-    → answered ≡ answers_of_records (of institution rows) called query
-answered_of_candidates institution rows called query found seen answered sound facts alone days found_is seen_is answered_is =
-    let each = λ (row : Row). record_answer (of institution rows) called query (record_of row) in
-    answered_is ∙ ap (filter_map each) (seen_is ∙ found_is)
-    ∙ given_of_each each (row_of institution) (query_candidates (of institution rows) query)
+pub answered_of_candidates : (institution : List ℕ) (rows : List Row) (called : List ℕ) (query : Query) → IsSound rows → IsDataSet query.keys → EachAlone query.keys
+    → DaysAreInOrder → row_answers (of institution rows) called query (map (row_of institution) (query_candidates (of institution rows) query))
+    ≡ answers_of_records (of institution rows) called query
+answered_of_candidates institution rows called query sound facts alone days =
+    given_of_each (λ (row : Row). record_answer (of institution rows) called query (record_of row)) (row_of institution) (query_candidates (of institution rows) query)
     ∙ sym (skipped institution rows called query sound (facts_give_known_vrs 16 None query.keys facts) alone days)
 
 -- where none are looked up, all that are asked for are looked at

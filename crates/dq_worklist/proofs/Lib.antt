@@ -1,4 +1,3 @@
-mod InParts
 mod Afterwards
 mod LookedUp
 mod Matching

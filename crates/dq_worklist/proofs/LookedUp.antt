@@ -198,11 +198,8 @@ module _ (each_alone : EachAlone) (items_met : ItemsMet) (institution : List ℕ
       (λ r h other. none_of keys r r.started (other_gives_none id is r h other))
 
   -- the answers of the entries that are looked at
-  pub answered_of_candidates : (listed_rows : List Row) (found : List ElementList)
-      → listed_rows ≡ map (row_of institution) (entry_candidates (of institution rows) keys) → found ≡ row_answers keys listed_rows
-      → found ≡ answers_of_entries (of institution rows) keys
+  pub answered_of_candidates : row_answers keys (map (row_of institution) (entry_candidates (of institution rows) keys)) ≡ answers_of_entries (of institution rows) keys
   unfolding answers_of_entries
-  answered_of_candidates listed_rows found is_listed is_found =
-      is_found ∙ ap (row_answers keys) is_listed
-      ∙ given_of_each (λ (row : Row). entry_answer keys (record_of row)) (row_of institution) (entry_candidates (of institution rows) keys)
+  answered_of_candidates =
+      given_of_each (λ (row : Row). entry_answer keys (record_of row)) (row_of institution) (entry_candidates (of institution rows) keys)
       ∙ by_asked (id_asked keys) refl ∙ sym (waiting_give keys (records_of Entry (of institution rows)))
