@@ -1,6 +1,6 @@
 -- The answers of one row after the other, and what is not computed where no key asks for it.
-use Rattle.std.proofs.Common.{◌≡◌, ℕ, Bool, true, false, cond, ◌||◌, List, [], ◌∷◌, Option, Some, None, option_map, is_some, refl, sym, ◌∙◌, arith}
-use Rattle.std.specs.List.{list_any, filter_map}
+use Rattle.std.proofs.Common.{◌≡◌, ℕ, Bool, true, false, cond, ◌||◌, List, [], ◌∷◌, ◌++◌, Option, Some, None, option_map, is_some, refl, sym, ap, ◌∙◌, arith}
+use Rattle.std.specs.List.{list_any, list_all, filter_map}
 use Rattle.std.proofs.lemmas.Bool.Decides.{nat_tests}
 use Rattle.dq_vr.specs.declared.Tag.{Tag}
 use Rattle.dq_vr.specs.Tags as tags
@@ -10,14 +10,20 @@ use Rattle.dq_dataset.specs.Tree.{ElementList, no_elements, element, sequence}
 use Rattle.dq_dataset.specs.View.{elements_of, has_tag, list_of}
 use Rattle.dq_dataset.specs.Editing.{merged_data_set}
 use Rattle.dq_dataset.specs.Values.{element_at}
-use Rattle.dq_match.specs.Keys.{is_tag}
+use Rattle.dq_match.specs.declared.keys.Place.TheVariants.{Outer}
+use Rattle.dq_match.specs.AsLent.{is_met_at_once}
+use Rattle.dq_match.specs.Fitting.{EachIsMet}
+use Rattle.dq_match.specs.Keys.{is_tag, other_than_keys}
+use Rattle.dq_match.specs.Matching.{fits}
+use Rattle.dq_match.specs.Responses.{shown_data_set}
+use Rattle.dq_match.proofs.Alone.{starts, unfit}
 use Rattle.dq_tables.specs.declared.row.Row.{Row}
 use Rattle.dq_tables.specs.Rows.{Record, record_of}
 use Rattle.dq_find.specs.declared.level.Level.{Level}
 use Rattle.dq_find.specs.declared.level.Level.TheVariants.{Study, Series, Image}
 use Rattle.dq_find.specs.declared.query.Query.{Query}
 use Rattle.dq_find.specs.Computed.{study_values, series_values, computed_keys}
-use Rattle.dq_find.specs.Queries.{answer_elements, answer_if, record_answer, asks_computed}
+use Rattle.dq_find.specs.Queries.{answer_elements, answer_if, record_answer, computed_tags, asks_computed}
 use Rattle.dq_find.proofs.Completing.{element_stays}
 use Rattle.dq_find.proofs.Agreeing.{Agree, fits_alike, shown_alike}
 
@@ -61,10 +67,6 @@ module _ (listed : List Tag) (sent : ElementList) (within : (tag : Tag) → list
       let parts = none_here listed (record { tag = t; vr = v; value = Items (list_of items) }) rest h in
       (element_stays t held sent (within t parts.0), agree_unasked rest parts.1)
 
-abbrev pub all_computed : List Tag
-all_computed = tags.modalities_in_study ∷ tags.number_of_study_related_series ∷ tags.number_of_study_related_instances
-    ∷ tags.number_of_series_related_instances ∷ []
-
 last_of : (a b c d : Bool) → (a || (b || (c || (d || false)))) ≡ false → d ≡ false
 last_of false false false d h = or_nothing d h
   where
@@ -81,14 +83,14 @@ first_three true b c d h = absurd cc
 first_three false true c d h = absurd cc
 first_three false false true d h = absurd cc
 
-computed_tags_alone : (records : List Record) (level : Level) (key : List ℕ) (tag : Tag) → list_any (λ one. is_tag one tag) all_computed ≡ false
+computed_tags_alone : (records : List Record) (level : Level) (key : List ℕ) (tag : Tag) → list_any (λ one. is_tag one tag) computed_tags ≡ false
     → list_any (has_tag tag) (elements_of (computed_keys records level key)) ≡ false
 unfolding computed_keys study_values series_values
 computed_tags_alone records Study key tag h = grind (arith, nat_tests, first_three)
 computed_tags_alone records Series key tag h = grind (arith, nat_tests, last_of)
 computed_tags_alone records Image key tag h = refl
 
-pub stays : (records : List Record) (level : Level) (key : List ℕ) (held : ElementList) (tag : Tag) → list_any (λ one. is_tag one tag) all_computed ≡ false
+pub stays : (records : List Record) (level : Level) (key : List ℕ) (held : ElementList) (tag : Tag) → list_any (λ one. is_tag one tag) computed_tags ≡ false
     → element_at tag (merged_data_set held (computed_keys records level key)) ≡ element_at tag held
 stays records level key held tag other = element_stays tag held (computed_keys records level key) (computed_tags_alone records level key tag other)
 
@@ -97,11 +99,25 @@ pub answered_alike : (records : List Record) (called key : List ℕ) (query : Qu
     → answer_if called query held ≡ answer_if called query (merged_data_set held (computed_keys records query.level key))
 answered_alike records called key query held h =
     let sent : ElementList = computed_keys records query.level key in
-    let agree = agree_unasked all_computed sent (λ tag other. computed_tags_alone records query.level key tag other) held query.keys h in
+    let agree = agree_unasked computed_tags sent (λ tag other. computed_tags_alone records query.level key tag other) held query.keys h in
     let fit = fits_alike query.keys (merged_data_set held sent) held agree (stays records query.level key held tags.scheduled_procedure_step_start_date refl)
     (stays records query.level key held tags.scheduled_procedure_step_start_time refl) in
     let show = shown_alike query.keys (merged_data_set held sent) held agree (stays records query.level key held tags.specific_character_set refl) in
     sym (λ i. option_map (answer_elements called query) (cond (fit i) (Some (show i)) None))
+
+-- what a kept element does not meet alone
+abbrev pub met_later : List Tag
+met_later = other_than_keys ++ (computed_tags ++ starts)
+
+-- a record that does not meet the keys that are kept does not answer, whatever is computed of it
+pub not_met : (records : List Record) (called key : List ℕ) (query : Query) (held : ElementList)
+    → ((whole : ElementList) → fits query.keys whole ≡ true → EachIsMet Outer query.keys whole)
+    → list_all (is_met_at_once met_later held) (elements_of query.keys) ≡ false
+    → answer_if called query (merged_data_set held (computed_keys records query.level key)) ≡ None
+not_met records called key query held alone unmet =
+    let whole : ElementList = merged_data_set held (computed_keys records query.level key) in
+    ap (λ b. option_map (answer_elements called query) (cond b (Some (shown_data_set query.keys whole)) None))
+    (unfit computed_tags query.keys held whole (stays records query.level key held) (alone whole) unmet)
 
 -- the answers of some rows
 abbrev pub row_answers : List Record → List ℕ → Query → List Row → List ElementList

@@ -1,6 +1,6 @@
 -- A record that is looked up by its unique key is the only one that is asked for with that key, and
 -- the answers of the records that are looked at are those of all.
-use Rattle.std.proofs.Common.{◌≡◌, ℕ, Bool, true, false, ◌&&◌, ◌||◌, ◌⊎◌, List, [], ◌∷◌, map, find, filter, Option, Some, None, option_map, inl, inr, refl, sym, ap, subst, ◌∙◌, cond, if◌then◌else◌, arith}
+use Rattle.std.proofs.Common.{◌≡◌, ℕ, Bool, true, false, ◌||◌, ◌⊎◌, List, [], ◌∷◌, map, filter, Option, Some, None, option_map, inl, inr, refl, sym, ap, subst, ◌∙◌, if◌then◌else◌, arith}
 use Rattle.std.specs.Global.{Vec}
 use Rattle.std.specs.BTreeSet.{insert_key}
 use Rattle.std.specs.Option.{option_to_list}
@@ -10,8 +10,6 @@ use Rattle.std.specs.List.Sorted.{IsStrictlySortedBy}
 use Rattle.std.specs.declared.cmp.Ordering.{Ordering}
 use Rattle.std.specs.Str.{bytes_eq}
 use Rattle.std.specs.declared.cmp.Ordering.TheVariants.{Less, Equal, Greater}
-use Rattle.std.proofs.lemmas.Bool.{and_parts}
-use Rattle.std.proofs.lemmas.Cmp.{nat_list_cmp_total, tied_itself}
 use Rattle.std.proofs.lemmas.Slice.Eq.{bytes_eq-Decides}
 use Rattle.dq_list.specs.Octets.{octets_of_vectors}
 use Rattle.dq_list.specs.Among.{IsAmong}
@@ -30,12 +28,13 @@ use Rattle.dq_tables.specs.declared.row.Kind.{Kind}
 use Rattle.dq_tables.specs.declared.row.Kind.TheVariants as kind
 use Rattle.dq_tables.specs.declared.row.Row.{Row}
 use Rattle.dq_tables.specs.Rows.{Record, IsRising, octet_order, record_of, row_of, of}
-use Rattle.dq_tables.specs.Finding.{same_kind, record_at, records_of}
+use Rattle.dq_tables.specs.Finding.{record_at, records_of, records_above}
 use Rattle.dq_tables.specs.Records.{AreInOrder, data_set_of}
 use Rattle.dq_tables.specs.Keys.{uid_at}
 use Rattle.dq_tables.specs.Sound.{IsSound, has_key}
-use Rattle.dq_tables.proofs.Listing.{its_kind, one_kind, of_kind_to, listed_in_order, in_order_filter}
-use Rattle.dq_tables.proofs.Rising.{each_among, one_list}
+use Rattle.dq_tables.proofs.Listing.{listed_in_order, in_order_filter}
+use Rattle.dq_tables.proofs.Rising.{one_list}
+use Rattle.dq_archive.proofs.Named.{only_named}
 use Rattle.dq_archive.proofs.OwnRecords.{value_from}
 use Rattle.dq_find.specs.declared.level.Level.{Level}
 use Rattle.dq_find.specs.declared.level.Level.TheVariants.{Study, Series, Image}
@@ -43,11 +42,12 @@ use Rattle.dq_find.specs.declared.query.Query.{Query}
 use Rattle.dq_find.specs.Levels.{kind_of, unique_key}
 use Rattle.dq_find.specs.Choosing.{is_asked}
 use Rattle.dq_find.specs.Computed.{with_computed, computed_keys, value_inserted, put_in_order, all_in_order}
-use Rattle.dq_find.specs.Queries.{key_above, answer_elements, record_answer, answers_of_records, asked_records}
+use Rattle.dq_find.specs.Queries.{answer_elements, record_answer, answers_of_records, records_asked, asked_records}
 use Rattle.dq_find.specs.Candidates.{own_values, names_records, looks_up, has_one_of, query_candidates, is_under, under, looked_up, named_record, named_rows}
-use Rattle.dq_find.proofs.Answered.{IsUnder, asked_from, asked_to, asked_in_order}
+use Rattle.dq_find.proofs.Answered.{asked_from, asked_in_order}
 use Rattle.dq_find.proofs.Answering.{row_answers, stays}
 use Rattle.dq_find.proofs.Asked.{has_own, EachAlone}
+use Rattle.dq_find.proofs.Asking.{kept_all}
 use Rattle.dq_find.proofs.Naming.{unique_keys_are_uids, sole_of_uid, named_among}
 use Rattle.dq_tables.proofs.Taken.{DaysAreInOrder}
 use Rattle.dq_find.proofs.Chosen.{Stay, fit_is_chosen}
@@ -55,64 +55,28 @@ use Rattle.dq_find.proofs.Modalities.{IsInOrder, IsBefore, all_stays, all_from, 
 
 -- ---- the record that has a key
 
--- of records in order, two with one key are one
-one_key : (r s : Record) (records : List Record) → AreInOrder records → IsAmong r records → IsAmong s records → r.key ≡ s.key → r ≡ s
-one_key r s [] ordered a b same = absurd a
-one_key r s (x ∷ records) ordered (inl e) (inl f) same = sym e ∙ f
-one_key r s (x ∷ records) ordered (inl e) (inr b) same =
-    let less = each_among (λ (t : Record). octet_order x.key t.key ≡ Less) s records ordered.0 b in
-    let itself = (λ i. octet_order (ap (λ (t : Record). t.key) e i) s.key) ∙ ap (λ (k : List ℕ). octet_order k s.key) same
-    ∙ tied_itself nat_list_cmp_total s.key in
-    absurd (cc (sym less ∙ itself))
-one_key r s (x ∷ records) ordered (inr a) (inl f) same =
-    let less = each_among (λ (t : Record). octet_order x.key t.key ≡ Less) r records ordered.0 a in
-    let itself = (λ i. octet_order (ap (λ (t : Record). t.key) f i) r.key) ∙ ap (λ (k : List ℕ). octet_order k r.key) (sym same)
-    ∙ tied_itself nat_list_cmp_total r.key in
-    absurd (cc (sym less ∙ itself))
-one_key r s (x ∷ records) ordered (inr a) (inr b) same = one_key r s records ordered.1 a b same
+-- one test and then another
+swapped : (p q : Record → Bool) (rs : List Record) → filter p (filter q rs) ≡ filter q (filter p rs)
+swapped p q [] = refl
+swapped p q (r ∷ rs) = grind (arith, swapped p q rs)
 
--- what is found is one that passes, and one that passes is found
-found_step : (p : Record → Bool) (x : Record) (xs : List Record) (b : Bool) → p x ≡ b → (o : Option Record) → find p xs ≡ o → (r : Record)
-    → cond b (Some x) (find p xs) ≡ Some r → ((find p xs ≡ Some r) → IsAmong r xs × (p r ≡ true)) → IsAmong r (x ∷ xs) × (p r ≡ true)
-found_step p x xs true is o e r h rest = (let same : x ≡ r = cc in (inl same, ap p (sym same) ∙ is))
-found_step p x xs false is o e r h rest = let found = rest h in (inr found.0, found.1)
+all_under : (level : Level) (keys : ElementList) (records : List Record)
+    → records_asked records level keys ≡ filter (is_under level keys) (records_of (kind_of level) records)
+unfolding records_asked records_above
+all_under Study keys records = sym (kept_all (records_of kind.Study records))
+all_under Series keys records = refl
+all_under Image keys records = refl
 
-found_from : (p : Record → Bool) (xs : List Record) (r : Record) → find p xs ≡ Some r → IsAmong r xs × (p r ≡ true)
-found_from p [] r h = absurd cc
-found_from p (x ∷ xs) r h = found_step p x xs (p x) refl (find p xs) refl r h (found_from p xs r)
-
-none_step : (p : Record → Bool) (x r : Record) (xs : List Record) (b : Bool) → p x ≡ b → cond b (Some x) (find p xs) ≡ None → IsAmong r (x ∷ xs)
-    → (find p xs ≡ None → IsAmong r xs → p r ≡ false) → p r ≡ false
-none_step p x r xs true is h a rest = absurd cc
-none_step p x r xs false is h (inl e) rest = ap p (sym e) ∙ is
-none_step p x r xs false is h (inr a) rest = rest h a
-
-none_passes : (p : Record → Bool) (xs : List Record) (r : Record) → find p xs ≡ None → IsAmong r xs → p r ≡ false
-none_passes p [] r h a = absurd a
-none_passes p (x ∷ xs) r h a = none_step p x r xs (p x) refl h a (λ e b. none_passes p xs r e b)
-
--- ---- under the keys above
-
-under_is : (level : Level) (keys : ElementList) (r : Record) → is_under level keys r ≡ true → IsUnder level keys r
-under_is Study keys r h = tt
-under_is Series keys r h = (bytes_eq-Decides r.above (key_above tags.study_instance_uid keys)).0 h
-under_is Image keys r h = (bytes_eq-Decides r.above (key_above tags.series_instance_uid keys)).0 h
-
-is_under_to : (level : Level) (keys : ElementList) (r : Record) → IsUnder level keys r → is_under level keys r ≡ true
-is_under_to Study keys r h = refl
-is_under_to Series keys r h = (bytes_eq-Decides r.above (key_above tags.study_instance_uid keys)).1 h
-is_under_to Image keys r h = (bytes_eq-Decides r.above (key_above tags.series_instance_uid keys)).1 h
-
-and_true : (a b : Bool) → a ≡ true → b ≡ true → (a && b) ≡ true
-and_true true b x y = y
-and_true false b x y = cc
+one_under : (level : Level) (keys : ElementList) (o : Option Record) → filter (is_under level keys) (option_to_list o) ≡ option_to_list (under level keys o)
+one_under level keys None = refl
+one_under level keys (Some r) = by_test (is_under level keys r)
+  where
+    by_test : (b : Bool) → (if b then r ∷ [] else []) ≡ option_to_list (if b then Some r else None)
+    by_test true = refl
+    by_test false = refl
 
 abbrev keyed : List ℕ → Record → Bool
 keyed uid r = bytes_eq r.key uid
-
-both_ways : (r : Record) (b : Bool) → (if b then r ∷ [] else []) ≡ option_to_list (if b then Some r else None)
-both_ways r true = refl
-both_ways r false = refl
 
 module _ (institution : List ℕ) (rows : List Row) (query : Query) (rising : IsRising rows) where
   abbrev own : List Record
@@ -122,82 +86,11 @@ module _ (institution : List ℕ) (rows : List Row) (query : Query) (rising : Is
   asked = asked_records own query
 
   module _ (uid : List ℕ) where
-    abbrev has_uid : Record → Bool
-    has_uid r = same_kind r.kind (kind_of query.level) && bytes_eq r.key uid
-
-    asked_has : (r : Record) → IsAmong r (filter (keyed uid) asked)
-        → IsAmong r own × (r.kind ≡ kind_of query.level) × IsUnder query.level query.keys r × (r.key ≡ uid)
-    asked_has r h =
-        let kept = filtered_from (keyed uid) r asked h in
-        let from = asked_from query.level query.keys r own kept.0 in
-        (from.0, from.1, from.2, (bytes_eq-Decides r.key uid).0 kept.1)
-
-    asked_gets : (r : Record) → IsAmong r own → r.kind ≡ kind_of query.level → IsUnder query.level query.keys r → r.key ≡ uid
-        → IsAmong r (filter (keyed uid) asked)
-    asked_gets r a k under key =
-        among_filter (keyed uid) r asked (asked_to query.level query.keys r own a k under) ((bytes_eq-Decides r.key uid).1 key)
-
-    passes : (r : Record) → r.kind ≡ kind_of query.level → r.key ≡ uid → has_uid r ≡ true
-    passes r k key = and_true (same_kind r.kind (kind_of query.level)) (bytes_eq r.key uid) (its_kind r.kind (kind_of query.level) k) ((bytes_eq-Decides r.key uid).1 key)
-
-    found_has : (r : Record) → record_at (kind_of query.level) uid own ≡ Some r → IsAmong r own × (r.kind ≡ kind_of query.level) × (r.key ≡ uid)
-    unfolding record_at
-    found_has r h =
-        let found = found_from has_uid own r h in
-        let parts = and_parts (same_kind r.kind (kind_of query.level)) (bytes_eq r.key uid) found.1 in
-        (found.0, one_kind r.kind (kind_of query.level) parts.0, (bytes_eq-Decides r.key uid).0 parts.1)
-
-    -- an asked record with the key is the one that is found
-    same_found : (r s : Record) → IsAmong r own × (r.kind ≡ kind_of query.level) × (r.key ≡ uid) → IsAmong s (filter (keyed uid) asked) → r ≡ s
-    same_found r s found h =
-        let asked_one = asked_has s h in
-        one_key r s (records_of (kind_of query.level) own) (listed_in_order (kind_of query.level) institution rows rising)
-        (of_kind_to (kind_of query.level) r own found.0 found.1) (of_kind_to (kind_of query.level) s own asked_one.0 asked_one.1)
-        (found.2 ∙ sym asked_one.3)
-
-    listed_in : AreInOrder (filter (keyed uid) asked)
-    listed_in = in_order_filter (keyed uid) asked (asked_in_order institution rows query rising)
-
-    none_asked : record_at (kind_of query.level) uid own ≡ None → (r : Record) → IsAmong r (filter (keyed uid) asked) → ⊥
-    unfolding record_at
-    none_asked none r h =
-        let one = asked_has r h in
-        absurd (cc (sym (none_passes has_uid own r none one.0) ∙ passes r one.1 one.3))
-
-    one_asked : (r : Record) → record_at (kind_of query.level) uid own ≡ Some r → (b : Bool) → is_under query.level query.keys r ≡ b
-        → filter (keyed uid) asked ≡ (if b then r ∷ [] else [])
-    one_asked r is true under =
-        let found = found_has r is in
-        one_list (filter (keyed uid) asked) (r ∷ []) listed_in (tt, tt)
-        (λ s. (λ h. inl (same_found r s found h), λ h. here s h))
-      where
-        here : (s : Record) → IsAmong s (r ∷ []) → IsAmong s (filter (keyed uid) asked)
-        here s (inl e) =
-            let found = found_has r is in
-            subst (λ (t : Record). IsAmong t (filter (keyed uid) asked)) e
-            (asked_gets r found.0 found.1 (under_is query.level query.keys r under) found.2)
-        here s (inr h) = absurd h
-    one_asked r is false under =
-        let found = found_has r is in
-        one_list (filter (keyed uid) asked) [] listed_in tt
-        (λ s. (λ h. not_under s h, λ h. absurd h))
-      where
-        not_under : (s : Record) → IsAmong s (filter (keyed uid) asked) → ⊥
-        not_under s h =
-            let found = found_has r is in
-            let same = same_found r s found h in
-            let one = asked_has s h in
-            absurd (cc (sym under ∙ ap (is_under query.level query.keys) same ∙ is_under_to query.level query.keys s one.2))
-
-    asked_by_found : (o : Option Record) → record_at (kind_of query.level) uid own ≡ o
-        → filter (keyed uid) asked ≡ option_to_list (under query.level query.keys o)
-    asked_by_found None is =
-        one_list (filter (keyed uid) asked) [] listed_in tt (λ r. (λ h. absurd (none_asked is r h), λ h. absurd h))
-    asked_by_found (Some r) is =
-        one_asked r is (is_under query.level query.keys r) refl ∙ both_ways r (is_under query.level query.keys r)
-
     named_alone : filter (keyed uid) asked ≡ option_to_list (named_record own query uid)
-    named_alone = asked_by_found (record_at (kind_of query.level) uid own) refl
+    named_alone =
+        ap (filter (keyed uid)) (all_under query.level query.keys own) ∙ swapped (keyed uid) (is_under query.level query.keys) (records_of (kind_of query.level) own)
+        ∙ ap (filter (is_under query.level query.keys)) (only_named (kind_of query.level) uid own (listed_in_order (kind_of query.level) institution rows rising))
+        ∙ one_under query.level query.keys (record_at (kind_of query.level) uid own)
 
     named_gives : (r : Record) → named_record own query uid ≡ Some r → IsAmong r asked × (r.key ≡ uid)
     named_gives r is =

@@ -1,22 +1,19 @@
 //! The answers to a query (PS3.4 sections C.4.1.3 and C.6.2).
-ghost use Rattle.std.specs.Prelude.{◌≡◌, true, false, [], IfOk, Some, map, filter, option_map};
-ghost use Rattle.std.specs.List.{filter_map, list_all};
+ghost use Rattle.std.specs.Prelude.{◌≡◌, true, false, [], IfOk, List, Some, None, map, filter, option_map};
+ghost use Rattle.std.specs.List.{filter_map};
 ghost use Rattle.dq_list.specs.Octets.{octets_of_vectors};
-ghost use Rattle.dq_dataset.specs.View.{elements_of};
 ghost use Rattle.dq_dimse.specs.Holding.{plain_message};
 ghost use Rattle.dq_match.specs.Answers.{found_part};
 ghost use Rattle.dq_match.specs.Parts.{part_of, found_of};
 ghost use Rattle.dq_match.specs.Universal.{asks_nothing};
 ghost use Rattle.dq_match.specs.Identifiers.{HasKnownTags};
-ghost use Rattle.dq_tables.specs.Records.{data_set_of};
 ghost use Rattle.dq_tables.specs.Keeping.{Reads};
-ghost use Rattle.dq_tables.specs.Rows.{of, record_of, row_of};
+ghost use Rattle.dq_tables.specs.Rows.{Record, of, record_of, row_of};
 ghost use Rattle.dq_tables.specs.Serving.{Serves};
 ghost use Rattle.dq_archive.specs.Archives.{Looks};
 ghost use Rattle.dq_find.specs.declared.level.Level.TheVariants.{Study};
 ghost use Rattle.dq_find.specs.Choosing.{is_asked};
 ghost use Rattle.dq_find.specs.Candidates.{looks_up, query_candidates, is_under, named_record, named_rows, looked_up};
-ghost use Rattle.dq_find.specs.Kept.{is_key_met};
 ghost use Rattle.dq_find.specs.Computed.{computed_keys, all_in_order};
 ghost use Rattle.dq_value.specs.Parts.{element_values};
 ghost use Rattle.dq_vr.specs.declared.Vr.TheVariants.{UI};
@@ -245,9 +242,10 @@ impl Search<'_> {
     /// are read.
     fn may_fit(&self, row: &Row) -> bool
         requires { self.now.prepared.now ≡ self.now.query.now.keys }
-        ensures { result ≡ false → list_all (is_key_met (data_set_of row.now.octets))
-            (elements_of self.now.query.now.keys) ≡ false }
+        ensures { result ≡ false → (records : List Record)
+            → record_answer records self.now.called.now self.now.query.now (record_of row.now) ≡ None }
     {
+        keys_are_met_alone_and_as_a_period();
         self.prepared.lent_meets(&MET_LATER, row.octets.as_slice())
     }
 

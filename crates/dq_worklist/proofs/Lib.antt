@@ -1,7 +1,6 @@
 mod Afterwards
 mod LookedUp
 mod Matching
-mod MetFirst
 mod Orders
 mod Queries
 mod Records

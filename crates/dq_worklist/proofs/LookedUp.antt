@@ -1,12 +1,10 @@
 -- Where a query asks for one step's id, no entry with another id matches, and the entry that is
 -- looked up gives the answers of all. Else those give them that wait.
-use Rattle.std.proofs.Common.{◌≡◌, ◌≢◌, ℕ, Bool, true, false, not, ◌&&◌, List, [], ◌∷◌, map, find, filter, Option, Some, None, option_map, Result, Ok, Err, inl, inr, refl, sym, ap, ◌∙◌, cond, if◌then◌else◌}
+use Rattle.std.proofs.Common.{◌≡◌, ◌≢◌, ℕ, Bool, true, false, not, ◌&&◌, List, [], ◌∷◌, map, filter, Option, Some, None, option_map, Result, Ok, Err, refl, sym, ap, ◌∙◌, if◌then◌else◌}
 use Rattle.std.specs.List.{filter_map, cons_option}
 use Rattle.std.specs.Option.{option_to_list}
 use Rattle.std.specs.Str.{bytes_eq}
-use Rattle.std.specs.declared.cmp.Ordering.TheVariants.{Less}
 use Rattle.std.proofs.lemmas.Bool.{and_parts}
-use Rattle.std.proofs.lemmas.Cmp.{nat_list_cmp_total, tied_itself}
 use Rattle.std.proofs.lemmas.Slice.Eq.{bytes_eq-Decides}
 use Rattle.dq_list.specs.Among.{IsAmong}
 use Rattle.dq_vr.specs.Tags.{scheduled_procedure_step_sequence, scheduled_procedure_step_id}
@@ -26,13 +24,13 @@ use Rattle.dq_match.proofs.Answering.{given_of_each, given_skipped}
 use Rattle.dq_tables.specs.declared.row.Kind.{Kind}
 use Rattle.dq_tables.specs.declared.row.Kind.TheVariants.{Entry}
 use Rattle.dq_tables.specs.declared.row.Row.{Row}
-use Rattle.dq_tables.specs.Rows.{Record, octet_order, record_of, row_of, of}
-use Rattle.dq_tables.specs.Finding.{same_kind, record_at, records_of, waiting_among}
-use Rattle.dq_tables.specs.Records.{AreInOrder, data_set_of}
+use Rattle.dq_tables.specs.Rows.{Record, record_of, row_of, of}
+use Rattle.dq_tables.specs.Finding.{record_at, records_of, waiting_among}
+use Rattle.dq_tables.specs.Records.{data_set_of}
 use Rattle.dq_tables.specs.Keys.{is_id, sole_item_at, id_of, id_in, entry_id}
 use Rattle.dq_tables.specs.Sound.{IsSound, is_own_row, is_record_of, may_be_started, has_key, has_above, is_within_limits}
 use Rattle.dq_tables.proofs.Listing.{of_kind_from, listed_in_order}
-use Rattle.dq_tables.proofs.Rising.{each_among}
+use Rattle.dq_archive.proofs.Named.{only_named}
 use Rattle.dq_archive.proofs.OwnRecords.{of_each, passed, value_from}
 use Rattle.dq_worklist.specs.Candidates.{id_asked_in, id_asked, entries_with, entry_candidates, entry_answer}
 use Rattle.dq_worklist.specs.Queries.{answers_of_entries}
@@ -89,44 +87,6 @@ entry_step r is own =
 none_by : (keys d : ElementList) (b : Bool) → fits keys d ≡ b → (fits keys d ≡ true → ⊥) → (if b then Some (shown_data_set keys d) else None) ≡ None
 none_by keys d true is other = absurd (other is)
 none_by keys d false is other = refl
-
-module _ (Given : Type 0) (f : Record → Option Given) (id : List ℕ) where
-  abbrev has_id : Record → Bool
-  has_id r = same_kind r.kind Entry && bytes_eq r.key id
-
-  nothing : (xs : List Record) → ((r : Record) → IsAmong r xs → f r ≡ None) → filter_map f xs ≡ []
-  nothing [] none = refl
-  nothing (x ∷ xs) none = ap (λ (o : Option Given). cons_option o (filter_map f xs)) (none x (inl refl)) ∙ nothing xs (λ r h. none r (inr h))
-
-  one_step : (x : Record) (xs : List Record) (kind named : Bool) → same_kind x.kind Entry ≡ kind → bytes_eq x.key id ≡ named
-      → AreInOrder (if kind then x ∷ filter (λ (r : Record). same_kind r.kind Entry) xs else filter (λ (r : Record). same_kind r.kind Entry) xs)
-      → ((r : Record) → IsAmong r (if kind then x ∷ filter (λ (s : Record). same_kind s.kind Entry) xs else filter (λ (s : Record). same_kind s.kind Entry) xs)
-      → r.key ≢ id → f r ≡ None)
-      → (AreInOrder (filter (λ (r : Record). same_kind r.kind Entry) xs)
-      → ((r : Record) → IsAmong r (filter (λ (s : Record). same_kind s.kind Entry) xs) → r.key ≢ id → f r ≡ None)
-      → filter_map f (option_to_list (find has_id xs)) ≡ filter_map f (filter (λ (r : Record). same_kind r.kind Entry) xs))
-      → filter_map f (option_to_list (cond (kind && named) (Some x) (find has_id xs)))
-      ≡ filter_map f (if kind then x ∷ filter (λ (r : Record). same_kind r.kind Entry) xs else filter (λ (r : Record). same_kind r.kind Entry) xs)
-  one_step x xs false named is_kind is_named ordered none rest = rest ordered none
-  one_step x xs true false is_kind is_named ordered none rest =
-      let entries = filter (λ (r : Record). same_kind r.kind Entry) xs in
-      let other : x.key ≢ id = λ e. cc (sym is_named ∙ (bytes_eq-Decides x.key id).1 e) in
-      rest ordered.1 (λ r h. none r (inr h)) ∙ ap (λ (o : Option Given). cons_option o (filter_map f entries)) (sym (none x (inl refl) other))
-  one_step x xs true true is_kind is_named ordered none rest =
-      let entries = filter (λ (r : Record). same_kind r.kind Entry) xs in
-      let same : x.key ≡ id = (bytes_eq-Decides x.key id).0 is_named in
-      ap (cons_option (f x)) (sym (nothing entries (λ r h. none r (inr h) (λ e.
-      let less = each_among (λ (s : Record). octet_order x.key s.key ≡ Less) r entries ordered.0 h in
-      let itself = ap (octet_order x.key) (e ∙ sym same) ∙ tied_itself nat_list_cmp_total x.key in
-      cc (sym less ∙ itself)))))
-
-  one_gives_all : (records : List Record) → AreInOrder (records_of Entry records)
-      → ((r : Record) → IsAmong r (records_of Entry records) → r.key ≢ id → f r ≡ None)
-      → filter_map f (option_to_list (record_at Entry id records)) ≡ filter_map f (records_of Entry records)
-  unfolding records_of record_at
-  one_gives_all [] ordered none = refl
-  one_gives_all (x ∷ xs) ordered none =
-      one_step x xs (same_kind x.kind Entry) (bytes_eq x.key id) refl refl ordered none (one_gives_all xs)
 
 -- ---- the rows of those that are looked at
 
@@ -194,8 +154,9 @@ module _ (each_alone : EachAlone) (items_met : ItemsMet) (institution : List ℕ
       ≡ filter_map (entry_answer keys) (records_of Entry (of institution rows))
   by_asked None is = by_waiting
   by_asked (Some id) is =
-      one_gives_all _ (entry_answer keys) id (of institution rows) (listed_in_order Entry institution rows sound.rising)
-      (λ r h other. none_of keys r r.started (other_gives_none id is r h other))
+      ap (filter_map (entry_answer keys)) (sym (only_named Entry id (of institution rows) (listed_in_order Entry institution rows sound.rising)))
+      ∙ given_skipped (entry_answer keys) (λ (r : Record). bytes_eq r.key id) (records_of Entry (of institution rows))
+      (λ r h other. none_of keys r r.started (other_gives_none id is r h (λ same. cc (sym other ∙ (bytes_eq-Decides r.key id).1 same))))
 
   -- the answers of the entries that are looked at
   pub answered_of_candidates : row_answers keys (map (row_of institution) (entry_candidates (of institution rows) keys)) ≡ answers_of_entries (of institution rows) keys
