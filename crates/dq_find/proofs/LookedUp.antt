@@ -2,14 +2,11 @@
 -- the answers of the records that are looked at are those of all.
 use Rattle.std.proofs.Common.{◌≡◌, ℕ, Bool, true, false, ◌||◌, ◌⊎◌, List, [], ◌∷◌, map, filter, Option, Some, None, option_map, inl, inr, refl, sym, ap, subst, ◌∙◌, if◌then◌else◌, arith}
 use Rattle.std.specs.Global.{Vec}
-use Rattle.std.specs.BTreeSet.{insert_key}
 use Rattle.std.specs.Option.{option_to_list}
-use Rattle.std.specs.Ordering.{match_ordering}
 use Rattle.std.specs.List.{AllByRecursion, list_any, filter_map, cons_option}
 use Rattle.std.specs.List.Sorted.{IsStrictlySortedBy}
-use Rattle.std.specs.declared.cmp.Ordering.{Ordering}
 use Rattle.std.specs.Str.{bytes_eq}
-use Rattle.std.specs.declared.cmp.Ordering.TheVariants.{Less, Equal, Greater}
+use Rattle.std.specs.declared.cmp.Ordering.TheVariants.{Less}
 use Rattle.std.proofs.lemmas.Slice.Eq.{bytes_eq-Decides}
 use Rattle.dq_list.specs.Octets.{octets_of_vectors}
 use Rattle.dq_list.specs.Among.{IsAmong}
@@ -23,6 +20,7 @@ use Rattle.dq_dataset.specs.Values.{element_at}
 use Rattle.dq_dataset.proofs.KnownVrs.{HasKnownVr, facts_give_known_vrs}
 use Rattle.dq_match.specs.Matching.{fits}
 use Rattle.dq_match.specs.Responses.{shown_data_set}
+use Rattle.dq_match.specs.Several.{is_one_of_values}
 use Rattle.dq_match.proofs.Answering.{given_of_each, given_skipped}
 use Rattle.dq_tables.specs.declared.row.Kind.{Kind}
 use Rattle.dq_tables.specs.declared.row.Kind.TheVariants as kind
@@ -41,7 +39,7 @@ use Rattle.dq_find.specs.declared.level.Level.TheVariants.{Study, Series, Image}
 use Rattle.dq_find.specs.declared.query.Query.{Query}
 use Rattle.dq_find.specs.Levels.{kind_of, unique_key}
 use Rattle.dq_find.specs.Choosing.{is_asked}
-use Rattle.dq_find.specs.Computed.{with_computed, computed_keys, value_inserted, put_in_order, all_in_order}
+use Rattle.dq_find.specs.Computed.{with_computed, computed_keys}
 use Rattle.dq_find.specs.Queries.{answer_elements, record_answer, answers_of_records, records_asked, asked_records}
 use Rattle.dq_find.specs.Candidates.{own_values, names_records, looks_up, has_one_of, query_candidates, is_under, under, looked_up, named_record, named_rows}
 use Rattle.dq_find.proofs.Answered.{asked_from, asked_in_order}
@@ -51,7 +49,7 @@ use Rattle.dq_find.proofs.Asking.{kept_all}
 use Rattle.dq_find.proofs.Naming.{unique_keys_are_uids, sole_of_uid, named_among}
 use Rattle.dq_tables.proofs.Taken.{DaysAreInOrder}
 use Rattle.dq_find.proofs.Chosen.{Stay, fit_is_chosen}
-use Rattle.dq_find.proofs.Modalities.{IsInOrder, IsBefore, all_stays, all_from, all_to}
+use Rattle.dq_find.proofs.Modalities.{IsInOrder, IsBefore}
 
 -- ---- the record that has a key
 
@@ -69,11 +67,7 @@ all_under Image keys records = refl
 
 one_under : (level : Level) (keys : ElementList) (o : Option Record) → filter (is_under level keys) (option_to_list o) ≡ option_to_list (under level keys o)
 one_under level keys None = refl
-one_under level keys (Some r) = by_test (is_under level keys r)
-  where
-    by_test : (b : Bool) → (if b then r ∷ [] else []) ≡ option_to_list (if b then Some r else None)
-    by_test true = refl
-    by_test false = refl
+one_under level keys (Some r) = grind arith
 
 abbrev keyed : List ℕ → Record → Bool
 keyed uid r = bytes_eq r.key uid
@@ -187,22 +181,14 @@ module _ (institution : List ℕ) (rows : List Row) (query : Query) (rising : Is
   one_of_to key (uid ∷ uids) (inr h) = or_right (bytes_eq key uid) _ (one_of_to key uids h)
 
   -- the keys in their order name the records that have one of them
-  named_have_one : (values : List (List ℕ)) → all_named (all_in_order values []) ≡ filter (has_one_of values) asked
-  unfolding IsStrictlySortedBy
-  named_have_one values =
-      one_list (all_named (all_in_order values [])) (filter (has_one_of values) asked)
-      (named_in_order (all_in_order values []) (all_stays values [] tt))
-      (in_order_filter (has_one_of values) asked (asked_in_order institution rows query rising))
+  named_have_one : (uids : List (List ℕ)) → IsInOrder uids → all_named uids ≡ filter (has_one_of uids) asked
+  named_have_one uids ordered =
+      one_list (all_named uids) (filter (has_one_of uids) asked) (named_in_order uids ordered)
+      (in_order_filter (has_one_of uids) asked (asked_in_order institution rows query rising))
       (λ r. (
-        λ h. (let found = from_named r (all_in_order values []) h in
-            among_filter (has_one_of values) r asked found.0 (one_of_to r.key values (only_left r.key values (all_from r.key values [] found.1)))),
-        λ h. (let kept = filtered_from (has_one_of values) r asked h in
-            to_named r (all_in_order values []) kept.0 (all_to r.key values [] (inl (one_of_from r.key values kept.1)))),
+        λ h. (let found = from_named r uids h in among_filter (has_one_of uids) r asked found.0 (one_of_to r.key uids found.1)),
+        λ h. (let kept = filtered_from (has_one_of uids) r asked h in to_named r uids kept.0 (one_of_from r.key uids kept.1)),
       ))
-    where
-      only_left : (key : List ℕ) (values : List (List ℕ)) → IsAmong key values ⊎ IsAmong key [] → IsAmong key values
-      only_left key values (inl h) = h
-      only_left key values (inr h) = absurd h
 
 -- the same of rows
 rows_step : (institution : List ℕ) (o : Option Record) (later : List Record)
@@ -222,10 +208,26 @@ looks_named Study (uid ∷ (next ∷ others)) h = h
 looks_named Series values h = h
 looks_named Image values h = h
 
-pub named_candidates : (institution : List ℕ) (rows : List Row) (query : Query) (uids : List (List ℕ)) → IsRising rows
-    → uids ≡ all_in_order (own_values query) [] → looks_up query.level (own_values query) ≡ true
-    → named_rows institution (of institution rows) query uids ≡ map (row_of institution) (query_candidates (of institution rows) query)
-named_candidates institution rows query uids rising is looked = grind (arith, rows_are, named_have_one)
+each_octets : (uid : List ℕ) (uids : List (Vec ℕ)) → AllByRecursion (λ (v : Vec ℕ). IsBefore uid v.items) uids → AllByRecursion (IsBefore uid) (octets_of_vectors uids)
+each_octets uid [] before = tt
+each_octets uid (next ∷ uids) before = (before.0, each_octets uid uids before.1)
+
+in_octets : (uids : List (Vec ℕ)) → IsStrictlySortedBy (λ (a b : Vec ℕ). octet_order a.items b.items) uids → IsInOrder (octets_of_vectors uids)
+unfolding IsStrictlySortedBy
+in_octets [] ordered = tt
+in_octets (uid ∷ uids) ordered = (each_octets uid.items uids ordered.0, in_octets uids ordered.1)
+
+pub named_candidates : (institution : List ℕ) (rows : List Row) (query : Query) (uids : List (Vec ℕ)) → IsRising rows
+    → IsStrictlySortedBy (λ (a b : Vec ℕ). octet_order a.items b.items) uids
+    → ((value : List ℕ) → is_one_of_values value (octets_of_vectors uids) ≡ is_one_of_values value (own_values query))
+    → looks_up query.level (own_values query) ≡ true
+    → named_rows institution (of institution rows) query (octets_of_vectors uids) ≡ map (row_of institution) (query_candidates (of institution rows) query)
+named_candidates institution rows query uids rising ordered same looked =
+    let records = asked_records (of institution rows) query in
+    rows_are institution (of institution rows) query (octets_of_vectors uids)
+    ∙ ap (map (row_of institution)) (named_have_one institution rows query rising (octets_of_vectors uids) (in_octets uids ordered)
+    ∙ (λ i. filter (λ (r : Record). same r.key i) records)
+    ∙ ap (λ (b : Bool). filter (λ (r : Record). if b then has_one_of (own_values query) r else is_asked query.level query.keys r) records) (sym looked))
 
 -- a row that was looked up
 under_by : (institution : List ℕ) (r : Record) (b : Bool) → (if b then Some (row_of institution r) else None) ≡ option_map (row_of institution) (if b then Some r else None)
@@ -243,26 +245,6 @@ pub looked_up_is : (institution : List ℕ) (records : List Record) (query : Que
 looked_up_is institution records query uid kind found given is found_is given_is =
     given_is ∙ ap (looked_up query.level query.keys) (found_is ∙ ap (λ (k : Kind). option_map (row_of institution) (record_at k uid records)) is)
     ∙ row_under institution query.level query.keys (record_at (kind_of query.level) uid records)
-
--- a value that is put in its place
-placed_octets : (o : Ordering) (value first : Vec ℕ) (others put : List (Vec ℕ))
-    → octets_of_vectors (match_ordering o (value ∷ (first ∷ others)) (first ∷ others) (first ∷ put))
-    ≡ value_inserted o value.items first.items (octets_of_vectors others) (octets_of_vectors put)
-placed_octets Less value first others put = refl
-placed_octets Equal value first others put = refl
-placed_octets Greater value first others put = refl
-
-put_octets : (value : Vec ℕ) (values : List (Vec ℕ))
-    → octets_of_vectors (insert_key (λ (a b : Vec ℕ). octet_order a.items b.items) values value) ≡ put_in_order value.items (octets_of_vectors values)
-unfolding put_in_order
-put_octets value [] = refl
-put_octets value (first ∷ others) = grind (arith, placed_octets, put_octets value others)
-
-pub one_more : (value : Vec ℕ) (before after : List (Vec ℕ)) (octets : List ℕ) (others left whole : List (List ℕ))
-    → after ≡ insert_key (λ (a b : Vec ℕ). octet_order a.items b.items) before value → value.items ≡ octets → left ≡ octets ∷ others
-    → all_in_order left (octets_of_vectors before) ≡ whole → all_in_order others (octets_of_vectors after) ≡ whole
-unfolding all_in_order
-one_more value before after octets others left whole put is first so_far = grind (arith, put_octets)
 
 -- ---- no other matches
 

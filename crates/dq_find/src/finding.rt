@@ -14,7 +14,7 @@ ghost use Rattle.dq_archive.specs.Archives.{Looks};
 ghost use Rattle.dq_find.specs.declared.level.Level.TheVariants.{Study};
 ghost use Rattle.dq_find.specs.Choosing.{is_asked};
 ghost use Rattle.dq_find.specs.Candidates.{looks_up, query_candidates, is_under, named_record, named_rows, looked_up};
-ghost use Rattle.dq_find.specs.Computed.{computed_keys, all_in_order};
+ghost use Rattle.dq_find.specs.Computed.{computed_keys};
 ghost use Rattle.dq_value.specs.Parts.{element_values};
 ghost use Rattle.dq_vr.specs.declared.Vr.TheVariants.{UI};
 ghost use Rattle.dq_find.specs.Queries.{about_answers, key_above, asks_computed, asked_records, answer_if, record_answer, answers_of_records, found_by, query_outcome, keys_outcome};
@@ -32,7 +32,7 @@ use dq_dimse::Message;
 use dq_dimse::status::SUCCESS;
 use dq_list::Listed;
 use dq_match::laws::{keys_are_met_alone_and_as_a_period, universal_keys_are_met};
-use dq_match::{Found, Part, PreparedKeys, asks_nothing, shown};
+use dq_match::{Found, Part, PreparedKeys, asks_nothing, in_order, shown};
 use dq_tables::laws::{day_numbers_are_in_order, honest_rows_are_sound};
 use dq_tables::{Kind, Row, TableFault, Tables, uid_at};
 use dq_value::{stripped, values};
@@ -198,7 +198,7 @@ impl Search<'_> {
         if !looks_up(self.query.level, values) {
             return self.asked_rows(archive);
         }
-        let uids = uids_in_order(archive.alloc, values)?;
+        let uids = in_order(archive.alloc, Vr::UI, values)?;
         self.rows_named(archive, uids)
     }
 
@@ -350,19 +350,6 @@ fn looks_up(level: Level, octets: &[u8]) -> bool
         return false;
     }
     first != b"*".as_slice()
-}
-
-/// The values of a unique key in the order of their octets, each once.
-fn uids_in_order(alloc: Global, octets: &[u8]) -> Result<BTreeSet<Vec<u8>>, AllocError>
-    ensures { IfOk result (λ uids. octets_of_vectors uids.keys
-        ≡ all_in_order (element_values UI octets.now) []) }
-{
-    let mut uids = BTreeSet::new(alloc);
-    let mut parts = values(Vr::UI, octets);
-    while let Some(part) = parts.next() {
-        uids.insert(Vec::from_slice(alloc, part)?)?;
-    }
-    Ok(uids)
 }
 
 /// Whether a query is for studies, and asks nothing of them.

@@ -28,7 +28,7 @@ pub use matching::{fits, meets};
 pub use open_keys::asks_nothing;
 pub use prepared::PreparedKeys;
 pub use responses::{Found, shown};
-pub use several::is_plain;
+pub use several::{in_order, is_plain};
 pub use supported::{KeyList, strike};
 pub use taking::Part;
 pub use wildcards::wild;
